@@ -1,0 +1,296 @@
+-- What a set of compartments contains, and that its words are those that it came from.
+use Rattle.std.proofs.Common.{◌≡◌, ℕ, ◌+◌, ◌-◌, ◌*◌, ◌/◌, ◌%◌, ◌^◌, ◌<◌, ◌≤◌, Bool, true, false, cond, not, eqb, ltb, ◌&&◌, ◌||◌, List, [], ◌∷◌, length, get_or, set as set_at, bit_or, bit_and, min, length-set, ◌⊎◌, ◌≢◌, w64, refl, sym, ap, ◌∙◌, subst, arith, rules, suc, zero, inl, inr, lit<, add-one}
+use Rattle.std.proofs.lemmas.Bool.{cases_lt, cases_eq, ltb-true, eqb-true}
+use Rattle.std.proofs.lemmas.Nat.{or_lt, and_le_l}
+use Rattle.std.proofs.lemmas.Grind.{common_steps, same_number_lists}
+use Rattle.std.specs.Int.{bit_at}
+use Rattle.std.specs.Ordering.{nat_cmp}
+use Rattle.std.specs.FinSet as set
+use Rattle.std.specs.FinSet.{FinSet, members, contains-empty, contains-is_subset, is_subset-contains, same_set, nat_cmp-IsAntisymmetric}
+use Rattle.std.specs.Cmp.{nat_cmp_total}
+use Rattle.std.proofs.lemmas.Nat.Bits.{same_from_bits_below, bit_at-lt, bit_at_cat_low, bit_at_cat_high, bit_at-zero, bit_at_set_same, bit_at_set_other, bit_at_and}
+use Rattle.std.proofs.lemmas.List.{get_or-set_same, get_or-set_other}
+use Rattle.mf_elem.specs.Comps.{is_bit, numbers_below, numbers_of, number_with, word_of, words_of, AreWords}
+
+with_new : (f : ℕ → Bool) (i j : ℕ) (s : FinSet nat_cmp) → set.contains s (suc j) ≡ (ltb j i && f j) → f i ≡ true
+    → set.contains (set.insert s (suc i)) (suc j) ≡ (ltb j (suc i) && f j)
+with_new f i j s below here = grind (arith, common_steps, members, below, here)
+
+without_new : (f : ℕ → Bool) (i j : ℕ) (b : Bool) → b ≡ (ltb j i && f j) → f i ≡ false → b ≡ (ltb j (suc i) && f j)
+without_new f i j b below here = grind (arith, common_steps, below, here)
+
+none_below : (j : ℕ) (b : Bool) → set.contains (set.empty {K = ℕ} {R = nat_cmp}) (suc j) ≡ (ltb j 0 && b)
+none_below j b = grind (arith, common_steps, members)
+
+-- what the set below k contains
+pub contains_below : (f : ℕ → Bool) (k j : ℕ) → set.contains (numbers_below f k) (suc j) ≡ (ltb j k && f j)
+unfolding numbers_below
+contains_below f zero j = none_below j (f j)
+contains_below f (suc i) j =
+    elim (f i) as (λ b. f i ≡ b → set.contains (cond b (set.insert (numbers_below f i) (suc i)) (numbers_below f i)) (suc j) ≡ (ltb j (suc i) && f j)) [
+      | true ↦ λ h. with_new f i j (numbers_below f i) (contains_below f i j) h
+      | false ↦ λ h. without_new f i j (set.contains (numbers_below f i) (suc j)) (contains_below f i j) h
+    ] refl
+
+zero_not_new : (i : ℕ) (s : FinSet nat_cmp) → set.contains s 0 ≡ false → set.contains (set.insert s (suc i)) 0 ≡ false
+zero_not_new i s h = grind (arith, common_steps, members, h)
+
+zero_not_empty : set.contains (set.empty {K = ℕ} {R = nat_cmp}) 0 ≡ false
+zero_not_empty = grind (arith, members)
+
+pub no_zero_below : (f : ℕ → Bool) (k : ℕ) → set.contains (numbers_below f k) 0 ≡ false
+unfolding numbers_below
+no_zero_below f zero = zero_not_empty
+no_zero_below f (suc i) =
+    elim (f i) as (λ b. set.contains (cond b (set.insert (numbers_below f i) (suc i)) (numbers_below f i)) 0 ≡ false) [
+      | true ↦ zero_not_new i (numbers_below f i) (no_zero_below f i)
+      | false ↦ no_zero_below f i
+    ]
+
+-- the number fits
+one_more_bit : (n i c : ℕ) → n < 2 ^ i → c ≤ 2 ^ i → n + c < 2 ^ suc i
+one_more_bit n i c h l = let e : 2 ^ suc i ≡ 2 ^ i + 2 ^ i = grind arith in omega (arith, e)
+
+cond_le : (b : Bool) (n : ℕ) → cond b n 0 ≤ n
+cond_le true n = omega arith
+cond_le false n = omega arith
+
+pub bits_with : (f : ℕ → Bool) (k : ℕ) → number_with f k < 2 ^ k
+unfolding number_with
+bits_with f zero = lit< tt
+bits_with f (suc i) = one_more_bit (number_with f i) i (cond (f i) (2 ^ i) 0) (bits_with f i) (cond_le (f i) (2 ^ i))
+
+-- the bits of the number
+high_part : (b : Bool) (n i : ℕ) → n + cond b (2 ^ i) 0 ≡ cond b 1 0 * 2 ^ i + n
+high_part true n i = omega arith
+high_part false n i = omega arith
+
+lowest_of : (b : Bool) → bit_at (cond b 1 0) 0 ≡ cond b 1 0
+lowest_of true = refl
+lowest_of false = refl
+
+pub bit_at_with : (f : ℕ → Bool) (k j : ℕ) → j < k → bit_at (number_with f k) j ≡ cond (f j) 1 0
+unfolding number_with
+bit_at_with f zero j h = absurd (omega arith)
+bit_at_with f (suc i) j h =
+    let N : ℕ = number_with f i in
+    let whole : bit_at (N + cond (f i) (2 ^ i) 0) j ≡ bit_at (cond (f i) 1 0 * 2 ^ i + N) j = ap (λ n. bit_at n j) (high_part (f i) N i) in
+    whole ∙ (elim (cases_lt j i) [
+      | inl l ↦ bit_at_cat_low (cond (f i) 1 0) i N j l ∙ bit_at_with f i j l
+      | inr g ↦
+          let e : j ≡ i = omega arith in
+          let d : j - i ≡ 0 = omega arith in
+          bit_at_cat_high (cond (f i) 1 0) i N j (bits_with f i) g
+          ∙ ap (bit_at (cond (f i) 1 0)) d ∙ lowest_of (f i) ∙ ap (λ k. cond (f k) 1 0) (sym e)
+    ])
+
+-- a place in a word, counted through the words
+place_word : (k i : ℕ) → i < 64 → (64 * k + i) / 64 ≡ k
+place_word k i h = omega arith
+
+place_bit : (k i : ℕ) → i < 64 → (64 * k + i) % 64 ≡ i
+place_bit k i h = omega arith
+
+is_bit_at : (words : List ℕ) (k i : ℕ) → i < 64 → is_bit words (64 * k + i) ≡ eqb (bit_at (get_or words k 0) i) 1
+is_bit_at words k i h =
+    ap (λ w. eqb (bit_at (get_or words w 0) ((64 * k + i) % 64)) 1) (place_word k i h)
+    ∙ ap (λ b. eqb (bit_at (get_or words k 0) b) 1) (place_bit k i h)
+
+within_all : (m : ℕ) (b : Bool) → m < 256 → (ltb m 256 && b) ≡ b
+within_all m b h = grind (arith, common_steps)
+
+-- whether the set has the number of a place
+pub contains_at : (words : List ℕ) (k i : ℕ) → k < 4 → i < 64 → set.contains (numbers_of words) (64 * k + i + 1) ≡ eqb (bit_at (get_or words k 0) i) 1
+unfolding numbers_of
+contains_at words k i hk hi =
+    let m : ℕ = 64 * k + i in
+    ap (set.contains (numbers_below (is_bit words) 256)) (add-one m)
+    ∙ contains_below (is_bit words) 256 m
+    ∙ within_all m (is_bit words m) (omega arith)
+    ∙ is_bit_at words k i hi
+
+bit_again : (b : ℕ) → b < 2 → cond (eqb b 1) 1 0 ≡ b
+bit_again zero h = refl
+bit_again (suc zero) h = refl
+bit_again (suc (suc b)) h = absurd (omega arith)
+
+-- a word comes back
+word_again : (words : List ℕ) → AreWords words → (k : ℕ) → k < 4 → word_of (numbers_of words) k ≡ get_or words k 0
+word_again words are k hk =
+    let s : FinSet nat_cmp = numbers_of words in
+    let f : ℕ → Bool = λ i. set.contains s (64 * k + i + 1) in
+    same_from_bits_below 64 (number_with f 64) (get_or words k 0) (bits_with f 64) (are.fit k) (λ i hi.
+    bit_at_with f 64 i hi
+    ∙ ap (λ b. cond b 1 0) (contains_at words k i hk hi)
+    ∙ bit_again (bit_at (get_or words k 0) i) (bit_at-lt (get_or words k 0) i))
+
+four_words : (s : FinSet nat_cmp) (k : ℕ) → k < 4 → get_or (words_of s) k 0 ≡ word_of s k
+four_words s zero h = refl
+four_words s (suc zero) h = refl
+four_words s (suc (suc zero)) h = refl
+four_words s (suc (suc (suc zero))) h = refl
+four_words s (suc (suc (suc (suc k)))) h = absurd (omega arith)
+
+pub words_again : (words : List ℕ) → AreWords words → words_of (numbers_of words) ≡ words
+words_again words are =
+    let s : FinSet nat_cmp = numbers_of words in
+    same_number_lists (words_of s) words (sym are.four) (λ k h. four_words s k h ∙ word_again words are k h)
+
+-- ---- what the set contains, number by number
+pub contains_suc : (words : List ℕ) (m : ℕ) → set.contains (numbers_of words) (suc m) ≡ (ltb m 256 && is_bit words m)
+unfolding numbers_of
+contains_suc words m = contains_below (is_bit words) 256 m
+
+pub contains_zero : (words : List ℕ) → set.contains (numbers_of words) 0 ≡ false
+unfolding numbers_of
+contains_zero words = no_zero_below (is_bit words) 256
+
+pub contains_number : (words : List ℕ) (m : ℕ) → m < 256 → set.contains (numbers_of words) (m + 1) ≡ is_bit words m
+contains_number words m h = ap (set.contains (numbers_of words)) (add-one m) ∙ contains_suc words m ∙ within_all m (is_bit words m) h
+
+-- ---- no bit set: no number
+abbrev zeros : List ℕ
+zeros = 0 ∷ 0 ∷ 0 ∷ 0 ∷ []
+
+zero_words : (k : ℕ) → get_or zeros k 0 ≡ 0
+zero_words zero = refl
+zero_words (suc zero) = refl
+zero_words (suc (suc zero)) = refl
+zero_words (suc (suc (suc zero))) = refl
+zero_words (suc (suc (suc (suc k)))) = refl
+
+and_false : (a b : Bool) → b ≡ false → (a && b) ≡ false
+and_false true b h = h
+and_false false b h = refl
+
+no_bit : (m : ℕ) → is_bit zeros m ≡ false
+no_bit m =
+    ap (λ w. eqb (bit_at w (m % 64)) 1) (zero_words (m / 64))
+    ∙ ap (λ b. eqb b 1) (bit_at-zero (m % 64))
+
+none_at : (q : ℕ) → set.contains (numbers_of zeros) q ≡ set.contains (set.empty {K = ℕ} {R = nat_cmp}) q
+none_at zero = contains_zero zeros ∙ sym (contains-empty nat_cmp 0)
+none_at (suc m) =
+    contains_suc zeros m
+    ∙ and_false (ltb m 256) (is_bit zeros m) (no_bit m)
+    ∙ sym (contains-empty nat_cmp (suc m))
+
+pub none_of : numbers_of zeros ≡ set.empty
+none_of = same_set nat_cmp_total nat_cmp-IsAntisymmetric (numbers_of zeros) (set.empty {K = ℕ} {R = nat_cmp}) none_at
+
+-- ---- one bit more: one number more
+-- the word at k with the bit j set
+pub record SetsBit (words : List ℕ) (m w : ℕ) : Type 0 where
+  pub within : m < 256
+  pub four : length words ≡ 4
+  pub is : w ≡ bit_or (get_or words (m / 64) 0) (1 * 2 ^ (m % 64) % 2 ^ 64)
+
+set_here : (words : List ℕ) (m w : ℕ) → SetsBit words m w → is_bit (set_at words (m / 64) w) m ≡ true
+set_here words m w h =
+    let k : m / 64 < length words = omega (arith, h.within, h.four) in
+    ap (λ v. eqb (bit_at v (m % 64)) 1) (get_or-set_same words (m / 64) w 0 k)
+    ∙ ap (λ v. eqb (bit_at v (m % 64)) 1) h.is
+    ∙ ap (λ b. eqb b 1) (bit_at_set_same w64 (get_or words (m / 64) 0) (m % 64) (omega arith))
+
+set_elsewhere : (words : List ℕ) (m w j : ℕ) → SetsBit words m w → j ≢ m → is_bit (set_at words (m / 64) w) j ≡ is_bit words j
+set_elsewhere words m w j h ne =
+    elim (cases_eq (j / 64) (m / 64)) [
+      | inl same ↦
+          let k : m / 64 < length words = omega (arith, h.within, h.four) in
+          let other : j % 64 ≢ m % 64 = λ e. ne (omega (arith, e, same)) in
+          let read : get_or (set_at words (m / 64) w) (j / 64) 0 ≡ bit_or (get_or words (m / 64) 0) (1 * 2 ^ (m % 64) % 2 ^ 64) =
+          ap (λ i. get_or (set_at words (m / 64) w) i 0) same ∙ get_or-set_same words (m / 64) w 0 k ∙ h.is in
+          ap (λ v. eqb (bit_at v (j % 64)) 1) read
+          ∙ ap (λ b. eqb b 1) (bit_at_set_other w64 (get_or words (m / 64) 0) (m % 64) (omega arith) (j % 64) other)
+          ∙ ap (λ i. eqb (bit_at (get_or words i 0) (j % 64)) 1) (sym same)
+      | inr differ ↦ ap (λ v. eqb (bit_at v (j % 64)) 1) (get_or-set_other words (m / 64) (j / 64) w 0 differ)
+    ]
+
+insert_here : (s : FinSet nat_cmp) (m : ℕ) → set.contains (set.insert s (m + 1)) (suc m) ≡ true
+insert_here s m = grind (arith, common_steps, members)
+
+insert_elsewhere : (s : FinSet nat_cmp) (m j : ℕ) → j ≢ m → set.contains (set.insert s (m + 1)) (suc j) ≡ set.contains s (suc j)
+insert_elsewhere s m j ne = grind (arith, common_steps, members)
+
+insert_zero : (s : FinSet nat_cmp) (m : ℕ) → set.contains (set.insert s (m + 1)) 0 ≡ set.contains s 0
+insert_zero s m = grind (arith, common_steps, members)
+
+with_at : (words : List ℕ) (m w : ℕ) → SetsBit words m w → (q : ℕ) → set.contains (numbers_of (set_at words (m / 64) w)) q ≡ set.contains (set.insert (numbers_of words) (m + 1)) q
+with_at words m w h zero = contains_zero (set_at words (m / 64) w) ∙ sym (contains_zero words) ∙ sym (insert_zero (numbers_of words) m)
+with_at words m w h (suc j) =
+    contains_suc (set_at words (m / 64) w) j
+    ∙ (elim (cases_eq j m) [
+      | inl same ↦
+          ap (λ i. ltb i 256 && is_bit (set_at words (m / 64) w) i) same
+          ∙ within_all m (is_bit (set_at words (m / 64) w) m) h.within
+          ∙ set_here words m w h
+          ∙ sym (insert_here (numbers_of words) m)
+          ∙ ap (λ i. set.contains (set.insert (numbers_of words) (m + 1)) (suc i)) (sym same)
+      | inr differ ↦
+          ap (λ b. ltb j 256 && b) (set_elsewhere words m w j h differ)
+          ∙ sym (contains_suc words j)
+          ∙ sym (insert_elsewhere (numbers_of words) m j differ)
+    ])
+
+pub numbers_with : (words : List ℕ) (m w : ℕ) → SetsBit words m w → numbers_of (set_at words (m / 64) w) ≡ set.insert (numbers_of words) (m + 1)
+numbers_with words m w h = same_set nat_cmp_total nat_cmp-IsAntisymmetric (numbers_of (set_at words (m / 64) w)) (set.insert (numbers_of words) (m + 1)) (with_at words m w h)
+
+pub words_with : (words : List ℕ) (m w : ℕ) → SetsBit words m w → AreWords words → AreWords (set_at words (m / 64) w)
+words_with words m w h are =
+    record {
+      four = length-set words (m / 64) w ∙ are.four;
+      fit = λ k. elim (cases_eq k (m / 64)) [
+        | inl same ↦
+            let within : m / 64 < length words = omega (arith, h.within, h.four) in
+            let bound : w < 2 ^ 64 = subst (λ v. v < 2 ^ 64) (sym h.is) (or_lt 64 (get_or words (m / 64) 0) (1 * 2 ^ (m % 64) % 2 ^ 64) (are.fit (m / 64)) (omega arith)) in
+            subst (λ v. v < 2 ^ 64) (sym (ap (λ i. get_or (set_at words (m / 64) w) i 0) same ∙ get_or-set_same words (m / 64) w 0 within)) bound
+        | inr differ ↦ subst (λ v. v < 2 ^ 64) (sym (get_or-set_other words (m / 64) k w 0 differ)) (are.fit k)
+      ];
+    }
+
+-- ---- one set in another, word by word
+both_true : (a b : Bool) → (a && b) ≡ true → (a ≡ true) × (b ≡ true)
+both_true true b h = (refl, h)
+both_true false b h = cc
+
+bit_is_one : (b c : ℕ) → c < 2 → b ≡ 1 → min b c ≡ b → c ≡ 1
+bit_is_one b c l e h = omega arith
+
+covered_at : (c d : List ℕ) → ((j : ℕ) → j < 4 → bit_and (get_or d j 0) (get_or c j 0) ≡ get_or d j 0)
+    → (q : ℕ) → set.contains (numbers_of d) q ≡ true → set.contains (numbers_of c) q ≡ true
+covered_at c d each zero h = let e = sym (contains_zero d) ∙ h in cc
+covered_at c d each (suc m) h =
+    let split = both_true (ltb m 256) (is_bit d m) (sym (contains_suc d m) ∙ h) in
+    let small : m < 256 = ltb-true m 256 split.0 in
+    let k : ℕ = m / 64 in
+    let i : ℕ = m % 64 in
+    let one : bit_at (get_or d k 0) i ≡ 1 = eqb-true (bit_at (get_or d k 0) i) 1 split.1 in
+    let kept : min (bit_at (get_or d k 0) i) (bit_at (get_or c k 0) i) ≡ bit_at (get_or d k 0) i =
+    sym (bit_at_and (get_or d k 0) (get_or c k 0) i) ∙ ap (λ v. bit_at v i) (each k (omega arith)) in
+    let also : bit_at (get_or c k 0) i ≡ 1 = bit_is_one (bit_at (get_or d k 0) i) (bit_at (get_or c k 0) i) (bit_at-lt (get_or c k 0) i) one kept in
+    contains_suc c m ∙ within_all m (is_bit c m) small ∙ ap (λ b. eqb b 1) also
+
+pub covers_all : (c d : List ℕ) → ((j : ℕ) → j < 4 → bit_and (get_or d j 0) (get_or c j 0) ≡ get_or d j 0) → set.is_subset (numbers_of d) (numbers_of c) ≡ true
+covers_all c d each = contains-is_subset nat_cmp_total (numbers_of d) (numbers_of c) (covered_at c d each)
+
+zero_or_one : (b : ℕ) → b < 2 → (b ≡ 0) ⊎ (b ≡ 1)
+zero_or_one zero h = inl refl
+zero_or_one (suc zero) h = inr refl
+zero_or_one (suc (suc b)) h = absurd (omega arith)
+
+-- where the set is in the other, each word is
+pub covered_word : (c d : List ℕ) → AreWords d → set.is_subset (numbers_of d) (numbers_of c) ≡ true → (j : ℕ) → j < 4 → bit_and (get_or d j 0) (get_or c j 0) ≡ get_or d j 0
+covered_word c d are within j hj =
+    same_from_bits_below 64 (bit_and (get_or d j 0) (get_or c j 0)) (get_or d j 0)
+    (omega (arith, and_le_l (get_or d j 0) (get_or c j 0), are.fit j))
+    (are.fit j)
+    (λ i hi.
+    bit_at_and (get_or d j 0) (get_or c j 0) i
+    ∙ (elim (zero_or_one (bit_at (get_or d j 0) i) (bit_at-lt (get_or d j 0) i)) [
+      | inl none ↦ omega (arith, none)
+      | inr one ↦
+          let inside : set.contains (numbers_of d) (64 * j + i + 1) ≡ true = contains_at d j i hj hi ∙ ap (λ b. eqb b 1) one in
+          let outside : set.contains (numbers_of c) (64 * j + i + 1) ≡ true = is_subset-contains nat_cmp_total (numbers_of d) (numbers_of c) within (64 * j + i + 1) inside in
+          let also : bit_at (get_or c j 0) i ≡ 1 = eqb-true (bit_at (get_or c j 0) i) 1 (sym (contains_at c j i hj hi) ∙ outside) in
+          omega (arith, one, also)
+    ]))

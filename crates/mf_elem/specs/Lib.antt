@@ -1,0 +1,3 @@
+pub mod Comps
+pub mod CompsLaws
+pub mod Elem

@@ -1,0 +1,84 @@
+//! Compartments: a set of numbers from 1 to 256.
+ghost use Rattle.std.specs.Prelude.{◌≡◌, ◌≤◌, ◌↔◌, IsTrue, length};
+ghost use Rattle.std.specs.FinSet as set;
+ghost use Rattle.mf_elem.specs.Comps.{numbers_of};
+
+/// A set of numbers from 1 to 256.
+#[derive(Clone, Copy, PartialEq, Eq, Debug)]
+pub struct Comps {
+    words: [u64; 4],
+}
+
+impl Comps {
+    /// No compartments.
+    pub fn empty() -> Comps
+        ensures { numbers_of result.words ≡ set.empty }
+    {
+        Comps { words: [0; 4] }
+    }
+
+    /// With one compartment more.
+    pub fn with(mut self, n: u16) -> Comps
+        requires least { 1 ≤ n }
+        requires greatest { n ≤ 256 }
+        ensures { numbers_of result.words ≡ set.insert (numbers_of self.words) n }
+    {
+        let place = (n - 1) as usize;
+        self.words[place / 64] |= 1 << (place % 64);
+        self
+    }
+
+    /// Whether the compartment is in the set.
+    pub fn has(&self, n: u16) -> bool
+        requires least { 1 ≤ n }
+        requires greatest { n ≤ 256 }
+        ensures { result ≡ set.contains (numbers_of self.now.words) n }
+    {
+        let place = (n - 1) as usize;
+        (self.words[place / 64] >> (place % 64)) & 1 == 1
+    }
+
+    /// Whether all of the other's compartments are in the set.
+    pub fn contains(&self, other: &Comps) -> bool
+        ensures { result ≡ set.is_subset (numbers_of other.now.words) (numbers_of self.now.words) }
+    {
+        is_covered(&other.words, &self.words)
+    }
+
+    /// Whether the two are one set.
+    pub fn same(&self, other: &Comps) -> bool
+        ensures equal { IsTrue result ↔ (self.now ≡ other.now) }
+        ensures same_set { IsTrue result ↔ (numbers_of self.now.words ≡ numbers_of other.now.words) }
+    {
+        are_same(&self.words, &other.words)
+    }
+}
+
+/// Whether each bit of one is a bit of the other.
+fn is_covered(theirs: &[u64], mine: &[u64]) -> bool
+    requires four { length theirs.now ≡ 4 }
+    requires four_too { length mine.now ≡ 4 }
+    ensures { result ≡ set.is_subset (numbers_of theirs.now) (numbers_of mine.now) }
+{
+    for k in 0..4 {
+        if theirs[k] & mine[k] != theirs[k] {
+            return false;
+        }
+    }
+    true
+}
+
+/// Whether the words are the same, and so the sets.
+fn are_same(mine: &[u64], theirs: &[u64]) -> bool
+    requires four { length mine.now ≡ 4 }
+    requires four_too { length theirs.now ≡ 4 }
+    ensures equal { IsTrue result ↔ (mine.now ≡ theirs.now) }
+    ensures same_set { IsTrue result ↔ (numbers_of mine.now ≡ numbers_of theirs.now) }
+{
+    for k in 0..4 {
+        if mine[k] != theirs[k] {
+            return false;
+        }
+    }
+    true
+}

@@ -1,0 +1,10 @@
+//! Elements of Biba and MLS labels, their order, and the labels that are made of them.
+#![tactic(auto)]
+
+mod comps;
+mod elem;
+mod label;
+
+pub use comps::Comps;
+pub use elem::{Elem, dominates, same_level};
+pub use label::{LabelValue, RangeLabel, Request};

@@ -1,0 +1,4 @@
+pub mod Errno
+pub mod Module
+pub mod Privilege
+pub mod Selection

@@ -1,0 +1,77 @@
+//! The error numbers of errno(2) that the framework, its policies and its calls answer.
+ghost use Rattle.std.specs.Prelude.{◌≡◌};
+ghost use Rattle.mf_errno.specs.Errno.{number_of, text_of};
+
+/// What a policy or a call answers: success, or the error.
+#[derive(Clone, Copy, Debug, PartialEq, Eq)]
+pub enum Errno {
+    Success,
+    Eperm,
+    Enoent,
+    Esrch,
+    Edeadlk,
+    Enomem,
+    Eacces,
+    Ebusy,
+    Eexist,
+    Enotdir,
+    Eisdir,
+    Einval,
+    Enfile,
+    Efbig,
+    Eagain,
+    Enobufs,
+    Enotempty,
+}
+
+impl Errno {
+    /// The number that errno(2) gives the error, and 0 for success.
+    pub fn number(self) -> u32
+        ensures { result ≡ number_of self }
+    {
+        match self {
+            Errno::Success => 0,
+            Errno::Eperm => 1,
+            Errno::Enoent => 2,
+            Errno::Esrch => 3,
+            Errno::Edeadlk => 11,
+            Errno::Enomem => 12,
+            Errno::Eacces => 13,
+            Errno::Ebusy => 16,
+            Errno::Eexist => 17,
+            Errno::Enotdir => 20,
+            Errno::Eisdir => 21,
+            Errno::Einval => 22,
+            Errno::Enfile => 23,
+            Errno::Efbig => 27,
+            Errno::Eagain => 35,
+            Errno::Enobufs => 55,
+            Errno::Enotempty => 66,
+        }
+    }
+
+    /// The name as a history prints it: that of errno(2), and `ok` for success.
+    pub fn name(self) -> &'static str
+        ensures { result.now ≡ text_of self }
+    {
+        match self {
+            Errno::Success => "ok",
+            Errno::Eperm => "EPERM",
+            Errno::Enoent => "ENOENT",
+            Errno::Esrch => "ESRCH",
+            Errno::Edeadlk => "EDEADLK",
+            Errno::Enomem => "ENOMEM",
+            Errno::Eacces => "EACCES",
+            Errno::Ebusy => "EBUSY",
+            Errno::Eexist => "EEXIST",
+            Errno::Enotdir => "ENOTDIR",
+            Errno::Eisdir => "EISDIR",
+            Errno::Einval => "EINVAL",
+            Errno::Enfile => "ENFILE",
+            Errno::Efbig => "EFBIG",
+            Errno::Eagain => "EAGAIN",
+            Errno::Enobufs => "ENOBUFS",
+            Errno::Enotempty => "ENOTEMPTY",
+        }
+    }
+}

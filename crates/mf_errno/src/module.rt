@@ -1,0 +1,48 @@
+//! The policy modules of mac(4) that there are here.
+ghost use Rattle.std.specs.Prelude.{◌≡◌};
+ghost use Rattle.mf_errno.specs.Module.{IsModuleNamed, module_text};
+
+/// A policy module.
+#[derive(Clone, Copy, Debug, PartialEq, Eq)]
+pub enum Module {
+    Biba,
+    Mls,
+    Partition,
+    Bsdextended,
+    Priority,
+}
+
+impl Module {
+    /// The name of the module's manual page, as kldload(8) takes it.
+    pub fn name(self) -> &'static str
+        ensures { result.now ≡ module_text self }
+    {
+        match self {
+            Module::Biba => "mac_biba",
+            Module::Mls => "mac_mls",
+            Module::Partition => "mac_partition",
+            Module::Bsdextended => "mac_bsdextended",
+            Module::Priority => "mac_priority",
+        }
+    }
+
+    /// The module of that name. None for every other text.
+    pub fn from_name(name: &str) -> Option<Module>
+        ensures { IsModuleNamed name.now result }
+    {
+        match name {
+            "mac_biba" => Some(Module::Biba),
+            "mac_mls" => Some(Module::Mls),
+            "mac_partition" => Some(Module::Partition),
+            "mac_bsdextended" => Some(Module::Bsdextended),
+            "mac_priority" => Some(Module::Priority),
+            _ => None,
+        }
+    }
+}
+
+impl Default for Module {
+    fn default() -> Module {
+        Module::Biba
+    }
+}

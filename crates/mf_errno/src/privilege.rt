@@ -1,0 +1,42 @@
+//! The privileges of priv(9) that policies are asked to grant.
+ghost use Rattle.std.specs.Prelude.{◌≡◌};
+ghost use Rattle.mf_errno.specs.Privilege.{IsPrivilegeNamed, privilege_text};
+
+/// A privilege.
+#[derive(Clone, Copy, Debug, PartialEq, Eq)]
+pub enum Priv {
+    KldLoad,
+    KldUnload,
+    MacPartition,
+    SchedRtprio,
+    SchedIdprio,
+}
+
+impl Priv {
+    /// The name of the privilege in priv(9), without its `PRIV_`.
+    pub fn name(self) -> &'static str
+        ensures { result.now ≡ privilege_text self }
+    {
+        match self {
+            Priv::KldLoad => "KLD_LOAD",
+            Priv::KldUnload => "KLD_UNLOAD",
+            Priv::MacPartition => "MAC_PARTITION",
+            Priv::SchedRtprio => "SCHED_RTPRIO",
+            Priv::SchedIdprio => "SCHED_IDPRIO",
+        }
+    }
+
+    /// The privilege of that name. None for every other text.
+    pub fn from_name(name: &str) -> Option<Priv>
+        ensures { IsPrivilegeNamed name.now result }
+    {
+        match name {
+            "KLD_LOAD" => Some(Priv::KldLoad),
+            "KLD_UNLOAD" => Some(Priv::KldUnload),
+            "MAC_PARTITION" => Some(Priv::MacPartition),
+            "SCHED_RTPRIO" => Some(Priv::SchedRtprio),
+            "SCHED_IDPRIO" => Some(Priv::SchedIdprio),
+            _ => None,
+        }
+    }
+}

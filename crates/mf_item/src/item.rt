@@ -1,0 +1,70 @@
+//! One question to the policies.
+ghost use Rattle.std.specs.Prelude.{◌≡◌, ◌↔◌, IsTrue};
+
+use crate::{CheckOp, ObjectView, SubjectView};
+use mf_cred::Duplicate;
+use mf_elem::Request;
+
+/// One question: whether the subject may do the operation on the object. A request is there exactly for relabels; an
+/// object for all operations but `CredRelabel`, `KldLoad`, `KldUnload` and `Priv`.
+#[derive(Drop)]
+pub struct Item {
+    pub op: CheckOp,
+    pub subject: SubjectView,
+    pub object: Option<ObjectView>,
+    pub request: Option<Request>,
+}
+
+impl Item {
+    /// Whether the two are one question.
+    pub fn same(&self, other: &Item) -> bool
+        ensures { IsTrue result ↔ (self.now ≡ other.now) }
+    {
+        self.op == other.op
+            && self.subject.same(&other.subject)
+            && same_object(&self.object, &other.object)
+            && same_request(&self.request, &other.request)
+    }
+}
+
+fn same_object(object: &Option<ObjectView>, other: &Option<ObjectView>) -> bool
+    ensures { IsTrue result ↔ (object.now ≡ other.now) }
+{
+    match (object, other) {
+        (None, None) => true,
+        (Some(object), Some(theirs)) => object.same(theirs),
+        _ => false,
+    }
+}
+
+fn same_request(request: &Option<Request>, other: &Option<Request>) -> bool
+    ensures { IsTrue result ↔ (request.now ≡ other.now) }
+{
+    match (request, other) {
+        (None, None) => true,
+        (Some(request), Some(theirs)) => request.same(theirs),
+        _ => false,
+    }
+}
+
+impl Default for Item {
+    fn default() -> Item {
+        Item {
+            op: CheckOp::VnodeLookup,
+            subject: Default::default(),
+            object: None,
+            request: None,
+        }
+    }
+}
+
+impl Duplicate for Item {
+    fn copy(&self) -> Item {
+        Item {
+            op: self.op,
+            subject: self.subject.copy(),
+            object: self.object,
+            request: self.request,
+        }
+    }
+}
