@@ -1,0 +1,5 @@
+pub mod Grammar
+pub mod Gives
+pub mod Ends
+pub mod Labels
+pub mod WellFormed

@@ -1,0 +1,56 @@
+//! The content of a file.
+ghost use Rattle.std.specs.Prelude.{◌≡◌, ◌≤◌, ◌+◌, [], ◌++◌, length, OnOk, OnErr, IfOk};
+
+use std::alloc::{AllocError, Global};
+use std::marker::Model;
+
+/// What a file holds, at most 65,536 bytes. Contracts see the bytes.
+#[derive(Drop)]
+pub struct Content {
+    bytes: Vec<u8>,
+}
+
+impl Model for Content {
+    ghost use Rattle.std.specs.Prelude.{List, ℕ, ◌≤◌, vec_len};
+
+    ghost Value = { List ℕ };
+
+    ghost view = { λ a. a.bytes.items };
+
+    ghost invariant = { λ a. vec_len a.bytes ≤ 65536 };
+}
+
+impl Content {
+    pub fn new(alloc: Global) -> Self
+        ensures { result ≡ [] }
+    {
+        Content {
+            bytes: Vec::new(alloc),
+        }
+    }
+
+    pub fn copy_of(alloc: Global, text: &[u8]) -> Result<Self, AllocError>
+        requires { length text.now ≤ 65536 }
+        ensures { IfOk result (λ content. content ≡ text.now) }
+    {
+        let bytes = Vec::from_slice(alloc, text)?;
+        Ok(Content { bytes })
+    }
+
+    pub fn as_slice(&self) -> &[u8]
+        ensures value { result.now ≡ self.now }
+        ensures most { length self.now ≤ 65536 }
+    {
+        self.bytes.as_slice()
+    }
+
+    /// Appends the text. After want of memory the content is as before.
+    pub fn append(&mut self, text: &[u8]) -> Result<(), AllocError>
+        requires { length self.old + length text.now ≤ 65536 }
+        ensures ok { OnOk result (self.new ≡ self.old ++ text.now) }
+        ensures err { OnErr result (self.new ≡ self.old) }
+    {
+        self.bytes.extend_from_slice(text)?;
+        Ok(())
+    }
+}

@@ -1,0 +1,18 @@
+//! Scripts: what they say, and the reader of their text.
+#![tactic(auto)]
+
+mod content;
+mod error;
+mod labels;
+mod listing;
+mod parts;
+mod reading;
+mod script;
+mod words;
+
+pub use content::Content;
+pub use error::ScriptError;
+pub use labels::{file_label, task_label};
+pub use listing::{Bytes, Listing, Name, Path};
+pub use reading::read_script;
+pub use script::{Call, FileLine, Line, Script, Task};

@@ -1,0 +1,82 @@
+//! A script, as it was read.
+ghost use Rattle.std.specs.Prelude.{◌≡◌, ◌<◌, length};
+ghost use Rattle.std.specs.Option.{option_copied};
+
+use crate::content::Content;
+use crate::listing::{Bytes, Listing, Name, Path};
+use mf_cred::{Cred, FileView};
+use mf_elem::Request;
+use mf_errno::Module;
+
+/// A call of a task.
+#[derive(Drop)]
+pub enum Call {
+    Read(Path),
+    Write(Path, Bytes),
+}
+
+/// A line of a task.
+#[derive(Drop)]
+pub struct Line {
+    pub call: Call,
+}
+
+/// A task: the name, the credential and the label request of its process, and its lines.
+#[derive(Drop)]
+pub struct Task {
+    pub name: Name,
+    pub cred: Cred,
+    pub label: Request,
+    pub lines: Listing<Line>,
+}
+
+/// A file that is there at boot.
+#[derive(Drop)]
+pub struct FileLine {
+    pub path: Path,
+    pub file: FileView,
+    pub label: Request,
+    pub text: Content,
+}
+
+/// A script: the modules that are booted, in order, the files, and the tasks.
+#[derive(Drop)]
+pub struct Script {
+    pub boots: Listing<Module>,
+    pub files: Listing<FileLine>,
+    pub tasks: Listing<Task>,
+}
+
+impl Script {
+    ghost use Rattle.std.specs.Prelude.{slice_get, Some};
+    ghost use Rattle.mf_script.specs.WellFormed.{lines_of, name_of};
+
+    /// The name of the task. Tasks count from 0.
+    pub fn name_of(&self, task: u32) -> &str
+        requires { task < length self.now.tasks }
+        ensures { result.now ≡ name_of self.now task }
+    {
+        let tasks = self.tasks.as_slice();
+        tasks[task as usize].name.as_str()
+    }
+
+    /// The line of the task that stands after `lines` of its lines.
+    pub fn line_at(&self, task: u32, lines: u32) -> &Line
+        requires task { task < length self.now.tasks }
+        requires line { lines < length (lines_of self.now task) }
+        ensures { slice_get (lines_of self.now task) lines ≡ Some result.now }
+    {
+        let tasks = self.tasks.as_slice();
+        let lines_of_task = tasks[task as usize].lines.as_slice();
+        &lines_of_task[lines as usize]
+    }
+
+    /// The line of the task that stands after `lines` of its lines, where there is one.
+    pub fn next_line(&self, task: u32, lines: u32) -> Option<&Line>
+        requires { task < length self.now.tasks }
+        ensures { option_copied result ≡ slice_get (lines_of self.now task) lines }
+    {
+        let tasks = self.tasks.as_slice();
+        tasks[task as usize].lines.as_slice().get(lines as usize)
+    }
+}

@@ -1,0 +1,188 @@
+//! Rows of words, one after another.
+ghost use Rattle.std.specs.Prelude.{◌≡◌, ◌≢◌, ◌≤◌, ◌<◌, ◌+◌, [], ◌∷◌, length, take, drop, MatchOption, IfSome, false, true, Some, None};
+ghost use Rattle.mf_script.specs.Grammar.{is_blank, lines_in, words_in, rows_in, is_row, goes_on, behind, StartsWith};
+ghost use Rattle.mf_script.specs.Ends.{word_end, line_end};
+
+use std::marker::Model;
+
+/// The words of a line that are left. Contracts see their list.
+#[derive(Drop)]
+pub struct Words<'a> {
+    rest: &'a [u8],
+}
+
+impl<'a> Model for Words<'a> {
+    ghost use Rattle.std.specs.Prelude.{List, ℕ};
+    ghost use Rattle.mf_script.specs.Grammar.{words_in};
+
+    ghost Value = { List (List ℕ) };
+
+    ghost view = { λ w. words_in w.rest.now };
+}
+
+impl<'a> Words<'a> {
+    pub fn of(line: &'a [u8]) -> Self
+        ensures { result ≡ words_in line.now }
+    {
+        Words { rest: line }
+    }
+
+    /// The words behind the first, where that is the text.
+    pub fn behind(&self, text: &[u8]) -> Option<Words<'a>>
+        ensures { result ≡ behind text.now self.now }
+    {
+        let mut ahead = Words { rest: self.rest };
+        let word = ahead.next()?;
+        if word == text { Some(ahead) } else { None }
+    }
+
+    /// The next word, where there is one.
+    pub fn next(&mut self) -> Option<&'a [u8]>
+        ensures { MatchOption result ((self.old ≡ []) × (self.new ≡ [])) (λ word. self.old ≡ word.now ∷ self.new) }
+    {
+        let (word, after) = split_word(skip_blanks(self.rest));
+        self.rest = after;
+        if word.is_empty() { None } else { Some(word) }
+    }
+}
+
+fn is_blank(byte: u8) -> bool
+    ensures { result ≡ is_blank byte }
+{
+    byte == 32 || byte == 9
+}
+
+/// The bytes from the first that is no blank.
+fn skip_blanks(bytes: &[u8]) -> &[u8]
+    ensures words { words_in result.now ≡ words_in bytes.now }
+    ensures start { result.now ≢ [] → goes_on result.now ≡ true }
+{
+    let mut rest = bytes;
+    while let [first, after @ ..] = rest {
+        if !is_blank(*first) {
+            return rest;
+        }
+        rest = after;
+    }
+    rest
+}
+
+/// The word in front, and the bytes after it.
+fn split_word(bytes: &[u8]) -> (&[u8], &[u8])
+    requires { bytes.now ≢ [] → goes_on bytes.now ≡ true }
+    ensures none { result.0.now ≡ [] → words_in bytes.now ≡ [] × (words_in result.1.now ≡ []) }
+    ensures some { result.0.now ≢ [] → words_in bytes.now ≡ result.0.now ∷ words_in result.1.now }
+{
+    bytes.split_at(word_len(bytes))
+}
+
+fn word_len(bytes: &[u8]) -> usize
+    ensures value { result ≡ word_end bytes.now }
+    ensures within { result ≤ length bytes.now }
+{
+    for (i, byte) in bytes.iter().enumerate() {
+        if is_blank(*byte) {
+            return i;
+        }
+    }
+    bytes.len()
+}
+
+fn line_len(bytes: &[u8]) -> usize
+    ensures value { result ≡ line_end bytes.now }
+    ensures within { result ≤ length bytes.now }
+{
+    for (i, byte) in bytes.iter().enumerate() {
+        if *byte == 10 {
+            return i;
+        }
+    }
+    bytes.len()
+}
+
+/// The line in front, and the bytes behind its newline.
+fn split_line(bytes: &[u8]) -> (&[u8], &[u8])
+    requires { bytes.now ≢ [] }
+    ensures lines { lines_in bytes.now ≡ result.0.now ∷ lines_in result.1.now }
+    ensures less { length result.1.now < length bytes.now }
+{
+    let end = line_len(bytes);
+    (&bytes[..end], behind_newline(bytes, end))
+}
+
+fn behind_newline(bytes: &[u8], end: usize) -> &[u8]
+    requires some { bytes.now ≢ [] }
+    requires within { end ≤ length bytes.now }
+    ensures value { result.now ≡ drop (end + 1) bytes.now }
+    ensures less { length result.now < length bytes.now }
+{
+    if end < bytes.len() {
+        &bytes[end + 1..]
+    } else {
+        &[]
+    }
+}
+
+/// The rows of a script that are left. Contracts see them as lists of words.
+#[derive(Drop)]
+pub struct Rows<'a> {
+    rest: &'a [u8],
+}
+
+impl<'a> Model for Rows<'a> {
+    ghost use Rattle.std.specs.Prelude.{List, ℕ};
+    ghost use Rattle.mf_script.specs.Grammar.{rows_in};
+
+    ghost Value = { List (List (List ℕ)) };
+
+    ghost view = { λ r. rows_in r.rest.now };
+}
+
+impl<'a> Rows<'a> {
+    pub fn of(bytes: &'a [u8]) -> Self
+        ensures { result ≡ rows_in bytes.now }
+    {
+        Rows { rest: bytes }
+    }
+
+    /// The next row, where there is one. It stays at the row.
+    pub fn peek(&self) -> Option<Words<'a>>
+        ensures { MatchOption result (self.now ≡ []) (λ row. StartsWith row self.now) }
+    {
+        let (row, _after) = split_row(self.rest);
+        row
+    }
+
+    /// The next row, where there is one.
+    pub fn next(&mut self) -> Option<Words<'a>>
+        ensures { MatchOption result ((self.old ≡ []) × (self.new ≡ [])) (λ row. self.old ≡ row ∷ self.new) }
+    {
+        let (row, after) = split_row(self.rest);
+        self.rest = after;
+        row
+    }
+}
+
+/// The first row, where there is one, and the bytes after it.
+fn split_row(bytes: &[u8]) -> (Option<Words<'_>>, &[u8])
+    ensures { MatchOption result.0 ((rows_in bytes.now ≡ []) × (rows_in result.1.now ≡ [])) (λ row. rows_in bytes.now ≡ row ∷ rows_in result.1.now) }
+{
+    let mut rest = bytes;
+    while !rest.is_empty() {
+        let (line, after) = split_line(rest);
+        rest = after;
+        if is_row(line) {
+            return (Some(Words::of(line)), rest);
+        }
+    }
+    (None, rest)
+}
+
+fn is_row(line: &[u8]) -> bool
+    ensures { result ≡ is_row (words_in line.now) }
+{
+    match skip_blanks(line).first() {
+        None => false,
+        Some(byte) => *byte != 35,
+    }
+}
