@@ -1,3 +1,4 @@
 pub mod Splits
 pub mod Values
 pub mod Rows
+pub mod Formed

@@ -7,7 +7,7 @@ use Rattle.std.specs.Option.{MatchOption}
 use Rattle.mf_script.specs.declared.script.Call.{Call}
 use Rattle.mf_script.specs.declared.script.Line.{Line}
 use Rattle.mf_script.specs.declared.script.FileLine.{FileLine}
-use Rattle.mf_script.specs.Grammar.{◌>>=◌, Words, Rows, or_else, files_in, file_at, calls_in, call_at}
+use Rattle.mf_script.specs.Grammar.{◌>>=◌, and_then, Words, Rows, or_else, files_in, file_at, calls_in, call_at}
 
 pub files_none : (files : List FileLine) (rows : Rows) → rows ≡ [] → files_in files rows ≡ Ok (files, rows)
 unfolding files_in
@@ -16,16 +16,19 @@ files_none files (row ∷ rows) e = cc
 
 files_at : (files : List FileLine) (row : Words) (rows : Rows) (r : Result (Option FileLine) ScriptError) → file_at files row ≡ r
     → files_in files (row ∷ rows) ≡ (r >>= λ f. or_else f (Ok (files, row ∷ rows)) (λ f. files_in (files ++ f ∷ []) rows))
-unfolding files_in
+unfolding files_in and_then
 files_at files row rows r e = ap (λ r. r >>= λ f. or_else f (Ok (files, row ∷ rows)) (λ f. files_in (files ++ f ∷ []) rows)) e
 
 pub files_stop : (files : List FileLine) (all : Rows) (row : Words) (rows : Rows) → all ≡ row ∷ rows → file_at files row ≡ Ok None → files_in files all ≡ Ok (files, all)
+unfolding and_then
 files_stop files all row rows is e = let P : Rows → Type 0 = λ all. files_in files all ≡ Ok (files, all) in subst P (sym is) (files_at files row rows (Ok None) e)
 
 pub files_more : (files : List FileLine) (all : Rows) (row : Words) (rows : Rows) (f : FileLine) → all ≡ row ∷ rows → file_at files row ≡ Ok (Some f) → files_in files all ≡ files_in (files ++ f ∷ []) rows
+unfolding and_then
 files_more files all row rows f is e = ap (files_in files) is ∙ files_at files row rows (Ok (Some f)) e
 
 pub files_wrong : (files : List FileLine) (all : Rows) (row : Words) (rows : Rows) (x : ScriptError) → all ≡ row ∷ rows → file_at files row ≡ Err x → files_in files all ≡ Err x
+unfolding and_then
 files_wrong files all row rows x is e = ap (files_in files) is ∙ files_at files row rows (Err x) e
 
 pub calls_none : (lines : List Line) (rows : Rows) → rows ≡ [] → calls_in lines rows ≡ Err NotYet
@@ -35,17 +38,20 @@ calls_none lines (row ∷ rows) e = cc
 
 calls_at : (lines : List Line) (row : Words) (rows : Rows) (r : Result (Option Call) ScriptError) → call_at (length lines) row ≡ r
     → calls_in lines (row ∷ rows) ≡ (r >>= λ c. or_else c (Ok (lines, rows)) (λ call. calls_in (lines ++ (record { call = call }) ∷ []) rows))
-unfolding calls_in
+unfolding calls_in and_then
 calls_at lines row rows r e = ap (λ r. r >>= λ c. or_else c (Ok (lines, rows)) (λ call. calls_in (lines ++ (record { call = call }) ∷ []) rows)) e
 
 pub calls_stop : (lines : List Line) (all : Rows) (row : Words) (rows : Rows) → all ≡ row ∷ rows → call_at (length lines) row ≡ Ok None → calls_in lines all ≡ Ok (lines, rows)
+unfolding and_then
 calls_stop lines all row rows is e = ap (calls_in lines) is ∙ calls_at lines row rows (Ok None) e
 
 pub calls_more : (lines : List Line) (all : Rows) (row : Words) (rows : Rows) (call : Call) → all ≡ row ∷ rows → call_at (length lines) row ≡ Ok (Some call)
     → calls_in lines all ≡ calls_in (lines ++ (record { call = call }) ∷ []) rows
+unfolding and_then
 calls_more lines all row rows call is e = ap (calls_in lines) is ∙ calls_at lines row rows (Ok (Some call)) e
 
 pub calls_wrong : (lines : List Line) (all : Rows) (row : Words) (rows : Rows) (x : ScriptError) → all ≡ row ∷ rows → call_at (length lines) row ≡ Err x → calls_in lines all ≡ Err x
+unfolding and_then
 calls_wrong lines all row rows x is e = ap (calls_in lines) is ∙ calls_at lines row rows (Err x) e
 
 -- how a loop over rows goes on, and ends, where all is what is to be read

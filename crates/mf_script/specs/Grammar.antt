@@ -15,10 +15,14 @@ use Rattle.mf_script.specs.declared.script.Task.{Task}
 use Rattle.mf_script.specs.declared.script.FileLine.{FileLine}
 use Rattle.mf_script.specs.declared.script.Script.{Script}
 
+-- the second reads on with what the first read
+unfoldable pub and_then : {A B : Type 0} → Result A ScriptError → (A → Result B ScriptError) → Result B ScriptError
+and_then (Ok x) more = more x
+and_then (Err e) more = Err e
+
 infixl 10 ◌>>=◌
 abbrev pub ◌>>=◌ : {A B : Type 0} → Result A ScriptError → (A → Result B ScriptError) → Result B ScriptError
-(Ok x) >>= f = f x
-(Err e) >>= f = Err e
+read >>= more = and_then read more
 
 -- what is so, or no script
 abbrev pub only_if : Bool → Result (Unit {0}) ScriptError

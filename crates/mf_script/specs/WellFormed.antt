@@ -19,3 +19,5 @@ pub record IsWellFormed (s : Script) : Type 0 where
   pub files : length s.files ≤ 256
   pub tasks : length s.tasks ≤ 16
   pub lines : (t : ℕ) → length (lines_of s t) ≤ 4096
+  pub names : (t : ℕ) → t < length s.tasks → is_name (name_of s t) ≡ true
+  pub differ : (t u : ℕ) → t < length s.tasks → u < length s.tasks → name_of s t ≡ name_of s u → t ≡ u

@@ -1,4 +1,6 @@
 //! The parts of a row, each one word or more.
+#![tactic(auto, unfolding(crate::specs::Grammar::and_then))]
+
 ghost use Rattle.std.specs.Prelude.{◌≡◌, ◌≤◌, ◌<◌, ◌^◌, ◌+◌, ◌*◌, ◌-◌, [], ◌∷◌, length, Ok, MatchOption, MatchResult, IfOk, string_bytes, All};
 ghost use Rattle.std.specs.List.{list_all, fold};
 ghost use Rattle.mf_script.specs.Gives.{Gives};
@@ -73,7 +75,7 @@ fn value_below(digits: &[u8], base: u64, limit: u64) -> Option<u64>
     Some(value)
 }
 
-#[tactic(auto, unfolding(crate::specs::Grammar::number_of))]
+#[tactic(auto, unfolding(crate::specs::Grammar::number_of, crate::specs::Grammar::and_then))]
 fn number_of(word: &[u8]) -> Result<u32, ScriptError>
     ensures { Gives (λ n. n) result (number_of word.now) }
 {
@@ -86,7 +88,7 @@ fn number_of(word: &[u8]) -> Result<u32, ScriptError>
     }
 }
 
-#[tactic(auto, unfolding(crate::specs::Grammar::octal_of))]
+#[tactic(auto, unfolding(crate::specs::Grammar::octal_of, crate::specs::Grammar::and_then))]
 fn octal_of(word: &[u8]) -> Result<u16, ScriptError>
     ensures { Gives (λ n. n) result (octal_of word.now) }
 {
@@ -129,7 +131,7 @@ fn request_for(element: Elem) -> Request
     }
 }
 
-#[tactic(auto, unfolding(crate::specs::Grammar::label_in))]
+#[tactic(auto, unfolding(crate::specs::Grammar::label_in, crate::specs::Grammar::and_then))]
 fn label_of(word: &[u8]) -> Result<Request, ScriptError>
     ensures { Gives (λ l. l) result (label_in word.now) }
 {
@@ -204,7 +206,7 @@ fn is_name(word: &[u8]) -> bool
     !word.is_empty() && word.len() <= 32 && are_name_bytes(word)
 }
 
-#[tactic(auto, unfolding(crate::specs::Grammar::name_in))]
+#[tactic(auto, unfolding(crate::specs::Grammar::name_in, crate::specs::Grammar::and_then))]
 fn name_of(alloc: Global, word: &[u8]) -> Result<Name, ScriptError>
     ensures { Gives (λ n. n) result (name_in word.now) }
 {
@@ -233,7 +235,7 @@ fn is_component(word: &[u8]) -> bool
         && word != b"..".as_slice()
 }
 
-#[tactic(auto, unfolding(crate::specs::Grammar::path_in))]
+#[tactic(auto, unfolding(crate::specs::Grammar::path_in, crate::specs::Grammar::and_then))]
 fn path_of(alloc: Global, word: &[u8]) -> Result<Path, ScriptError>
     ensures { Gives (λ p. p) result (path_in word.now) }
 {
@@ -258,7 +260,7 @@ pub fn path(alloc: Global, words: &mut Words) -> Result<Path, ScriptError>
     Ok(path)
 }
 
-#[tactic(auto, unfolding(crate::specs::Grammar::text_in))]
+#[tactic(auto, unfolding(crate::specs::Grammar::text_in, crate::specs::Grammar::and_then))]
 fn text_of(word: &[u8], most: usize) -> Result<&[u8], ScriptError>
     ensures gives { Gives (λ t. t.now) result (text_in most word.now) }
     ensures most { IfOk result (λ t. length t.now ≤ most) }

@@ -1,4 +1,6 @@
 //! The reader of a script.
+#![tactic(auto, unfolding(crate::specs::Grammar::and_then))]
+
 ghost use Rattle.std.specs.Prelude.{◌≡◌, ◌≤◌, ◌<◌, ◌++◌, [], ◌∷◌, length, IfOk, IfSome, MatchOption, Some, None, map};
 ghost use Rattle.std.specs.List.{list_all, list_any};
 ghost use Rattle.mf_script.specs.Gives.{Gives};
@@ -16,7 +18,7 @@ use mf_errno::Module;
 use std::alloc::Global;
 
 /// The script that the bytes are.
-#[tactic(auto, unfolding(crate::specs::Grammar::script_of))]
+#[tactic(auto, unfolding(crate::specs::Grammar::script_of, crate::specs::Grammar::and_then))]
 pub fn read_script(alloc: Global, bytes: &[u8]) -> Result<Script, ScriptError>
     ensures exact { Gives (λ s. s) result (script_of bytes.now) }
     ensures formed { IfOk result (λ s. IsWellFormed s) }
@@ -41,7 +43,7 @@ fn are_plain(bytes: &[u8]) -> bool
 }
 
 /// What stands behind the word `file`.
-#[tactic(auto, unfolding(crate::specs::Grammar::file_in))]
+#[tactic(auto, unfolding(crate::specs::Grammar::file_in, crate::specs::Grammar::and_then))]
 fn file_of(alloc: Global, words: &mut Words) -> Result<FileLine, ScriptError>
     ensures { Gives (λ f. f) result (file_in words.old) }
 {
@@ -71,7 +73,7 @@ fn file_of(alloc: Global, words: &mut Words) -> Result<FileLine, ScriptError>
 }
 
 /// The text of a file line, where there is one.
-#[tactic(auto, unfolding(crate::specs::Grammar::file_text))]
+#[tactic(auto, unfolding(crate::specs::Grammar::file_text, crate::specs::Grammar::and_then))]
 fn file_text(alloc: Global, words: &mut Words) -> Result<Content, ScriptError>
     ensures { Gives (λ t. (t, words.new)) result (file_text words.old) }
 {
@@ -88,7 +90,7 @@ fn file_text(alloc: Global, words: &mut Words) -> Result<Content, ScriptError>
     }
 }
 
-#[tactic(auto, unfolding(crate::specs::Grammar::read_call))]
+#[tactic(auto, unfolding(crate::specs::Grammar::read_call, crate::specs::Grammar::and_then))]
 fn read_call(alloc: Global, words: &mut Words) -> Result<Call, ScriptError>
     ensures { Gives (λ c. c) result (read_call words.old) }
 {
@@ -97,7 +99,7 @@ fn read_call(alloc: Global, words: &mut Words) -> Result<Call, ScriptError>
     Ok(Call::Read(path))
 }
 
-#[tactic(auto, unfolding(crate::specs::Grammar::write_call))]
+#[tactic(auto, unfolding(crate::specs::Grammar::write_call, crate::specs::Grammar::and_then))]
 fn write_call(alloc: Global, words: &mut Words) -> Result<Call, ScriptError>
     ensures { Gives (λ c. c) result (write_call words.old) }
 {
@@ -109,7 +111,7 @@ fn write_call(alloc: Global, words: &mut Words) -> Result<Call, ScriptError>
 }
 
 /// The call of a line.
-#[tactic(auto, unfolding(crate::specs::Grammar::call_in))]
+#[tactic(auto, unfolding(crate::specs::Grammar::call_in, crate::specs::Grammar::and_then))]
 fn call_of(alloc: Global, words: &mut Words) -> Result<Call, ScriptError>
     ensures { Gives (λ c. c) result (call_in words.old) }
 {
@@ -126,7 +128,7 @@ fn call_of(alloc: Global, words: &mut Words) -> Result<Call, ScriptError>
 }
 
 /// The head of a task.
-#[tactic(auto, unfolding(crate::specs::Grammar::task_head))]
+#[tactic(auto, unfolding(crate::specs::Grammar::task_head, crate::specs::Grammar::and_then))]
 fn task_head(alloc: Global, words: &mut Words) -> Result<Task, ScriptError>
     ensures { Gives (λ t. t) result (task_head words.old) }
 {
@@ -192,7 +194,7 @@ fn may_stand(files: &[FileLine], file: &FileLine) -> bool
 }
 
 /// A row that is a file line behind these, or begins with another word.
-#[tactic(auto, unfolding(crate::specs::Grammar::file_at))]
+#[tactic(auto, unfolding(crate::specs::Grammar::file_at, crate::specs::Grammar::and_then))]
 fn file_at(alloc: Global, files: &[FileLine], row: &Words) -> Result<Option<FileLine>, ScriptError>
     ensures gives { Gives (λ f. f) result (file_at files.now row.now) }
     ensures room { IfOk result (λ found. IfSome found (λ file. length files.now < 256)) }
@@ -230,7 +232,7 @@ fn files(alloc: Global, rows: &mut Rows) -> Result<Listing<FileLine>, ScriptErro
 }
 
 /// A row that is a call, or the end.
-#[tactic(auto, unfolding(crate::specs::Grammar::call_at))]
+#[tactic(auto, unfolding(crate::specs::Grammar::call_at, crate::specs::Grammar::and_then))]
 fn call_at(alloc: Global, count: usize, row: &mut Words) -> Result<Option<Call>, ScriptError>
     ensures gives { Gives (λ c. c) result (call_at count row.old) }
     ensures room { IfOk result (λ found. IfSome found (λ call. count < 4096)) }
@@ -267,7 +269,7 @@ fn calls(alloc: Global, rows: &mut Rows) -> Result<Listing<Line>, ScriptError>
 }
 
 /// A task.
-#[tactic(auto, unfolding(crate::specs::Grammar::task_in))]
+#[tactic(auto, unfolding(crate::specs::Grammar::task_in, crate::specs::Grammar::and_then))]
 fn task(alloc: Global, rows: &mut Rows) -> Result<Task, ScriptError>
     ensures gives { Gives (λ task. (task, rows.new)) result (task_in rows.old) }
     ensures most { IfOk result (λ task. length task.lines ≤ 4096) }
@@ -292,7 +294,7 @@ fn no_more_rows(rows: &mut Rows) -> Result<(), ScriptError>
     }
 }
 
-#[tactic(auto, unfolding(crate::specs::Grammar::script_in))]
+#[tactic(auto, unfolding(crate::specs::Grammar::script_in, crate::specs::Grammar::and_then))]
 fn script(alloc: Global, rows: &mut Rows) -> Result<Script, ScriptError>
     ensures gives { Gives (λ s. s) result (script_in rows.old) }
     ensures formed { IfOk result (λ s. IsWellFormed s) }
