@@ -1,19 +1,43 @@
--- Dominance of elements, and ranges.
+-- Dominance of elements, and ranges, as mac_biba(4) and mac_mls(4) have them.
 use Rattle.std.specs.Prelude.{◌≡◌, Bool, true, false, nat_le, ◌&&◌, ◌⊎◌}
 use Rattle.std.specs.FinSet as set
-use Rattle.mf_elem.specs.Comps.{numbers_of}
+use Rattle.mf_elem.specs.Comps.{compartments_of}
 use Rattle.mf_elem.specs.declared.elem.Elem.{Elem}
 use Rattle.mf_elem.specs.declared.elem.Elem.TheVariants.{Low, High, Equal, Grade}
 
--- the first case that fits: one is equal; the second is low; the first is high; two grades
+-- Whether the first element dominates the second:
+--
+--             low   grade                                            high   equal
+--     low     yes   no                                               no     yes
+--     grade   yes   grade at least, and compartments a superset      no     yes
+--     high    yes   yes                                              yes    yes
+--     equal   yes   yes                                              yes    yes
 abbrev pub dominates : Elem → Elem → Bool
-dominates Equal b = true
-dominates a Equal = true
-dominates a Low = true
-dominates High b = true
-dominates (Grade g c) (Grade h d) = nat_le h g && set.is_subset (numbers_of d.words) (numbers_of c.words)
-dominates a b = false
+dominates Low Low = true
+dominates Low (Grade other others) = false
+dominates Low High = false
+dominates Low Equal = true
+dominates (Grade grade comps) Low = true
+dominates (Grade grade comps) (Grade other others) = nat_le other grade && set.is_subset (compartments_of others) (compartments_of comps)
+dominates (Grade grade comps) High = false
+dominates (Grade grade comps) Equal = true
+dominates High Low = true
+dominates High (Grade other others) = true
+dominates High High = true
+dominates High Equal = true
+dominates Equal Low = true
+dominates Equal (Grade other others) = true
+dominates Equal High = true
+dominates Equal Equal = true
 
 -- one is equal, or they are the same element
 abbrev pub IsSameLevel : Elem → Elem → Type 0
 IsSameLevel a b = (a ≡ Equal) ⊎ (b ≡ Equal) ⊎ (a ≡ b)
+
+-- the high end dominates the element, and the element the low end
+abbrev pub in_range : Elem → Elem → Elem → Bool
+in_range element low high = dominates high element && dominates element low
+
+-- The range from low to high holds the range from inner_low to inner_high.
+abbrev pub range_in_range : Elem → Elem → Elem → Elem → Bool
+range_in_range inner_low inner_high low high = dominates high inner_high && dominates inner_low low

@@ -1,3 +1,3 @@
 pub mod Comps
-pub mod CompsLaws
 pub mod Elem
+pub mod Label

@@ -1,9 +1,10 @@
 //! Compartments: a set of numbers from 1 to 256.
-ghost use Rattle.std.specs.Prelude.{◌≡◌, ◌≤◌, ◌↔◌, IsTrue, length};
+ghost use Rattle.std.specs.Prelude.{◌≡◌, ◌+◌, ◌<◌, ◌≤◌, ◌↔◌, IsTrue, length};
 ghost use Rattle.std.specs.FinSet as set;
-ghost use Rattle.mf_elem.specs.Comps.{numbers_of};
+ghost use Rattle.mf_elem.specs.Comps.{numbers_of, words_of, compartments_of, comps_of};
 
-/// A set of numbers from 1 to 256.
+/// The compartments of a grade: a set of numbers from 1 to 256. The number n is the bit n - 1, counted through the words, so
+/// two values with the same set are equal.
 #[derive(Clone, Copy, PartialEq, Eq, Debug)]
 pub struct Comps {
     words: [u64; 4],
@@ -12,7 +13,8 @@ pub struct Comps {
 impl Comps {
     /// No compartments.
     pub fn empty() -> Comps
-        ensures { numbers_of result.words ≡ set.empty }
+        ensures set { compartments_of result ≡ set.empty }
+        ensures value { result ≡ comps_of set.empty }
     {
         Comps { words: [0; 4] }
     }
@@ -21,10 +23,10 @@ impl Comps {
     pub fn with(mut self, n: u16) -> Comps
         requires least { 1 ≤ n }
         requires greatest { n ≤ 256 }
-        ensures { numbers_of result.words ≡ set.insert (numbers_of self.words) n }
+        ensures set { compartments_of result ≡ set.insert (compartments_of self) n }
+        ensures value { result ≡ comps_of (set.insert (compartments_of self) n) }
     {
-        let place = (n - 1) as usize;
-        self.words[place / 64] |= 1 << (place % 64);
+        set_bit(&mut self.words, (n - 1) as usize);
         self
     }
 
@@ -32,7 +34,7 @@ impl Comps {
     pub fn has(&self, n: u16) -> bool
         requires least { 1 ≤ n }
         requires greatest { n ≤ 256 }
-        ensures { result ≡ set.contains (numbers_of self.now.words) n }
+        ensures { result ≡ set.contains (compartments_of self.now) n }
     {
         let place = (n - 1) as usize;
         (self.words[place / 64] >> (place % 64)) & 1 == 1
@@ -40,18 +42,28 @@ impl Comps {
 
     /// Whether all of the other's compartments are in the set.
     pub fn contains(&self, other: &Comps) -> bool
-        ensures { result ≡ set.is_subset (numbers_of other.now.words) (numbers_of self.now.words) }
+        ensures { result ≡ set.is_subset (compartments_of other.now) (compartments_of self.now) }
     {
         is_covered(&other.words, &self.words)
     }
 
-    /// Whether the two are one set.
+    /// Whether the two are one set, and so one value.
     pub fn same(&self, other: &Comps) -> bool
         ensures equal { IsTrue result ↔ (self.now ≡ other.now) }
-        ensures same_set { IsTrue result ↔ (numbers_of self.now.words ≡ numbers_of other.now.words) }
+        ensures same_set { IsTrue result ↔ (compartments_of self.now ≡ compartments_of other.now) }
     {
         are_same(&self.words, &other.words)
     }
+}
+
+/// Sets the bit of a place.
+fn set_bit(words: &mut [u64], place: usize)
+    requires four { length words.old ≡ 4 }
+    requires within { place < 256 }
+    ensures set { numbers_of words.new ≡ set.insert (numbers_of words.old) (place + 1) }
+    ensures value { words.new ≡ words_of (set.insert (numbers_of words.old) (place + 1)) }
+{
+    words[place / 64] |= 1 << (place % 64);
 }
 
 /// Whether each bit of one is a bit of the other.

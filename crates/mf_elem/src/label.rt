@@ -1,16 +1,18 @@
 //! Labels as policies keep them, and as users ask for them.
 ghost use Rattle.std.specs.Prelude.{◌≡◌, ◌↔◌, IsTrue, false};
+ghost use Rattle.mf_elem.specs.Label as spec;
 
-use crate::Elem;
+use crate::{Elem, in_range};
 
-/// A Biba or MLS label: an effective element, and a range of a low and a high end.
+/// A Biba or MLS label: the effective element, and the range of elements that a subject may take, low end first. A label that
+/// is asked for may have one of the two alone.
 #[derive(Clone, Copy, PartialEq, Eq, Debug)]
 pub struct RangeLabel {
     pub effective: Option<Elem>,
     pub range: Option<(Elem, Elem)>,
 }
 
-/// The value of one label slot: of Biba or MLS a range label, of mac_partition a partition number.
+/// The value of one label slot: of Biba or MLS a range label, of mac_partition a partition number, or not yet initialised.
 #[derive(Clone, Copy, PartialEq, Eq, Debug)]
 pub enum LabelValue {
     Unset,
@@ -24,12 +26,14 @@ impl Default for LabelValue {
     }
 }
 
-/// What a label text asks for, policy by policy. `other` says that it names some other policy.
+/// What a label text asks for, policy by policy.
 #[derive(Clone, Copy, PartialEq, Eq, Debug)]
 pub struct Request {
     pub biba: Option<RangeLabel>,
     pub mls: Option<RangeLabel>,
+    /// A partition number; 0 asks for no partition.
     pub partition: Option<u32>,
+    /// Whether the text names a policy beside these three.
     pub other: bool,
 }
 
@@ -57,7 +61,65 @@ impl Request {
     }
 }
 
+/// Whether some part of the label that is there is `equal`.
+pub fn has_equal(l: &RangeLabel) -> bool
+    ensures { result ≡ spec.has_equal l.now }
+{
+    is_equal_effective(&l.effective) || has_equal_end(&l.range)
+}
+
+/// Whether a subject of this label is exempt from its policy's protections: some part is `equal`, or its range is exactly
+/// low to high.
+pub fn privileged(l: &RangeLabel) -> bool
+    ensures { result ≡ spec.is_privileged l.now }
+{
+    has_equal(l) || matches!(&l.range, Some((Elem::Low, Elem::High)))
+}
+
+/// Whether an entity may have this label: the effective element is there, and lies in the range where there is one.
+pub fn is_valid(l: &RangeLabel) -> bool
+    ensures { result ≡ spec.is_valid l.now }
+{
+    match (&l.effective, &l.range) {
+        (None, _) => false,
+        (Some(_), None) => true,
+        (Some(effective), Some((low, high))) => in_range(effective, low, high),
+    }
+}
+
+fn is_equal_effective(effective: &Option<Elem>) -> bool
+    ensures { result ≡ spec.has_equal_effective effective.now }
+{
+    matches!(effective, Some(Elem::Equal))
+}
+
+fn has_equal_end(range: &Option<(Elem, Elem)>) -> bool
+    ensures { result ≡ spec.has_equal_end range.now }
+{
+    matches!(range, Some((Elem::Equal, _)) | Some((_, Elem::Equal)))
+}
+
 impl RangeLabel {
+    /// A label with an effective element alone, as objects have it.
+    pub fn effective(element: Elem) -> RangeLabel
+        ensures { result ≡ record { effective = Some element; range = None } }
+    {
+        RangeLabel {
+            effective: Some(element),
+            range: None,
+        }
+    }
+
+    /// A label with a range, as subjects have it.
+    pub fn ranged(element: Elem, low: Elem, high: Elem) -> RangeLabel
+        ensures { result ≡ record { effective = Some element; range = Some (low, high) } }
+    {
+        RangeLabel {
+            effective: Some(element),
+            range: Some((low, high)),
+        }
+    }
+
     /// Whether the two are one label.
     pub fn same(&self, other: &RangeLabel) -> bool
         ensures { IsTrue result ↔ (self.now ≡ other.now) }

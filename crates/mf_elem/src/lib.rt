@@ -6,5 +6,5 @@ mod elem;
 mod label;
 
 pub use comps::Comps;
-pub use elem::{Elem, dominates, same_level};
-pub use label::{LabelValue, RangeLabel, Request};
+pub use elem::{Elem, dominates, in_range, range_in_range, same_level};
+pub use label::{LabelValue, RangeLabel, Request, has_equal, is_valid, privileged};

@@ -1,7 +1,7 @@
-use Rattle.std.proofs.Common.{◌≡◌, ℕ, ap, sym, ◌∙◌, arith, refl, get_or}
+use Rattle.std.proofs.Common.{◌≡◌, ap, sym, ◌∙◌, arith, refl, get_or}
 use Rattle.std.proofs.lemmas.Grind.{same_number_lists}
 use Rattle.mf_elem.specs.Comps.{numbers_of, words_of, AreWords}
-use Rattle.mf_elem.specs.CompsLaws.{words_again}
+use Rattle.mf_elem.proofs.CompsLaws.{words_again}
 use Rattle.mf_elem.proofs.comps.are_same.Goals as goal
 
 pub returns-then-mine-k-clause-same_set : goal.returns-then-mine-k-clause-same_set

@@ -1,5 +1,8 @@
-use Rattle.mf_elem.specs.CompsLaws.{none_of}
+use Rattle.mf_elem.proofs.CompsLaws.{none_of, no_comps}
 use Rattle.mf_elem.proofs.comps.Comps.empty.Goals as goal
 
-pub returns : goal.returns
-returns c = none_of
+pub returns-clause-set : goal.returns-clause-set
+returns-clause-set c = none_of
+
+pub returns-clause-value : goal.returns-clause-value
+returns-clause-value c = no_comps

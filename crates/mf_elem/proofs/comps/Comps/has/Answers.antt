@@ -2,7 +2,7 @@ use Rattle.std.proofs.Common.{◌≡◌, ℕ, ◌+◌, ◌-◌, ◌/◌, ◌%◌
 use Rattle.std.proofs.lemmas.Nat.Bits.{shr_and_one}
 use Rattle.std.specs.FinSet as set
 use Rattle.mf_elem.specs.Comps.{numbers_of}
-use Rattle.mf_elem.specs.CompsLaws.{contains_number}
+use Rattle.mf_elem.proofs.CompsLaws.{contains_number}
 use Rattle.mf_elem.proofs.comps.Comps.has.Goals as goal
 
 pub returns : goal.returns

@@ -1,5 +1,5 @@
 -- What a set of compartments contains, and that its words are those that it came from.
-use Rattle.std.proofs.Common.{◌≡◌, ℕ, ◌+◌, ◌-◌, ◌*◌, ◌/◌, ◌%◌, ◌^◌, ◌<◌, ◌≤◌, Bool, true, false, cond, not, eqb, ltb, ◌&&◌, ◌||◌, List, [], ◌∷◌, length, get_or, set as set_at, bit_or, bit_and, min, length-set, ◌⊎◌, ◌≢◌, w64, refl, sym, ap, ◌∙◌, subst, arith, rules, suc, zero, inl, inr, lit<, add-one}
+use Rattle.std.proofs.Common.{◌≡◌, ℕ, ◌+◌, ◌-◌, ◌*◌, ◌/◌, ◌%◌, ◌^◌, ◌<◌, ◌≤◌, Bool, true, false, cond, eqb, ltb, ◌&&◌, List, [], ◌∷◌, length, get_or, set as set_at, bit_or, bit_and, min, length-set, ◌⊎◌, ◌≢◌, w64, refl, sym, ap, ◌∙◌, subst, arith, suc, zero, inl, inr, lit<, add-one}
 use Rattle.std.proofs.lemmas.Bool.{cases_lt, cases_eq, ltb-true, eqb-true}
 use Rattle.std.proofs.lemmas.Nat.{or_lt, and_le_l}
 use Rattle.std.proofs.lemmas.Grind.{common_steps, same_number_lists}
@@ -10,7 +10,7 @@ use Rattle.std.specs.FinSet.{FinSet, members, contains-empty, contains-is_subset
 use Rattle.std.specs.Cmp.{nat_cmp_total}
 use Rattle.std.proofs.lemmas.Nat.Bits.{same_from_bits_below, bit_at-lt, bit_at_cat_low, bit_at_cat_high, bit_at-zero, bit_at_set_same, bit_at_set_other, bit_at_and}
 use Rattle.std.proofs.lemmas.List.{get_or-set_same, get_or-set_other}
-use Rattle.mf_elem.specs.Comps.{is_bit, numbers_below, numbers_of, number_with, word_of, words_of, AreWords}
+use Rattle.mf_elem.specs.Comps.{is_bit, numbers_below, numbers_of, number_with, word_of, words_of, AreWords, comps_of}
 
 with_new : (f : ℕ → Bool) (i j : ℕ) (s : FinSet nat_cmp) → set.contains s (suc j) ≡ (ltb j i && f j) → f i ≡ true
     → set.contains (set.insert s (suc i)) (suc j) ≡ (ltb j (suc i) && f j)
@@ -294,3 +294,18 @@ covered_word c d are within j hj =
           let also : bit_at (get_or c j 0) i ≡ 1 = eqb-true (bit_at (get_or c j 0) i) 1 (sym (contains_at c j i hj hi) ∙ outside) in
           omega (arith, one, also)
     ]))
+
+-- the words with the bit set are those of the set with the number
+pub words_set : (words : List ℕ) (m w : ℕ) → SetsBit words m w → AreWords words → set_at words (m / 64) w ≡ words_of (set.insert (numbers_of words) (m + 1))
+words_set words m w h are = sym (words_again (set_at words (m / 64) w) (words_with words m w h are)) ∙ ap words_of (numbers_with words m w h)
+
+-- ---- a value is the one that its set determines
+pub comps_again : (words : List ℕ) → AreWords words → (s : FinSet nat_cmp) → numbers_of words ≡ s → record { words = words } ≡ comps_of s
+unfolding comps_of
+comps_again words are s is = ap (λ ws. record { words = ws }) (sym (words_again words are) ∙ ap words_of is)
+
+zeros_are : AreWords zeros
+zeros_are = record { four = refl; fit = λ k. subst (λ w. w < 2 ^ 64) (sym (zero_words k)) (lit< tt) }
+
+pub no_comps : record { words = zeros } ≡ comps_of set.empty
+no_comps = comps_again zeros zeros_are (set.empty {K = ℕ} {R = nat_cmp}) none_of
