@@ -1,0 +1,111 @@
+-- Which histories are legal for a script, and the state that a history determines.
+use Rattle.std.specs.Prelude.{◌≡◌, ◌⊎◌, ℕ, ◌+◌, ◌<◌, List, [], ◌∷◌, ◌++◌, length, map, Option, Some, None, slice_get}
+use Rattle.mf_script.specs.declared.script.Line.{Line}
+use Rattle.mf_script.specs.declared.script.Script.{Script}
+use Rattle.mf_script.specs.WellFormed.{lines_of, name_of, IsWellFormed}
+use Rattle.mf_core.specs.declared.state.State.{State}
+use Rattle.mf_core.specs.declared.reply.Reply.{Reply}
+use Rattle.mf_core.specs.declared.progress.Phase.{Phase}
+use Rattle.mf_core.specs.declared.progress.Phase.TheVariants as phase
+use Rattle.mf_core.specs.declared.progress.Progress.{Progress}
+use Rattle.mf_core.specs.declared.progress.Turn.{Turn}
+use Rattle.mf_core.specs.declared.progress.Turn.TheVariants as turn
+use Rattle.mf_core.specs.declared.history.Event.{Event}
+use Rattle.mf_core.specs.declared.history.Event.TheVariants as event
+use Rattle.mf_core.specs.declared.history.History.{History}
+use Rattle.mf_core.specs.Reply.{step_reply}
+use Rattle.mf_core.specs.Effect.{step_state}
+use Rattle.mf_core.specs.Opening.{opening_entities, boots_of}
+use Rattle.mf_core.specs.Progress.{first_progress, progress_at, with_phase, with_line, with_left, NoneOpen}
+
+-- the state of the framework, and how far each task is
+pub record RunState : Type 0 where
+  pub state : State
+  pub progress : List Progress
+
+abbrev pub opening : Script → RunState
+opening s = record { state = record { entities = opening_entities s }; progress = map (λ t. first_progress) s.tasks }
+
+-- Turns
+
+-- the line after those that the task has done
+abbrev pub next_line : Script → List Progress → ℕ → Option Line
+next_line s list t = slice_get (lines_of s t) (progress_at list t).lines
+
+abbrev pub turn_at_line : Option Line → Turn
+turn_at_line None = turn.Finished
+turn_at_line (Some line) = turn.Entry
+
+abbrev pub turn_in : Phase → Option Line → Turn
+turn_in phase.Idle next = turn_at_line next
+turn_in phase.Entered next = turn.Entered
+turn_in phase.Done next = turn.Done
+turn_in phase.Stopped next = turn.Stopped
+
+-- what the task may do next
+abbrev pub turn_of : Script → List Progress → ℕ → Turn
+turn_of s list t = turn_in (progress_at list t).phase (next_line s list t)
+
+-- The reply to the call of a task's next line, and the state after it
+
+abbrev pub reply_at : Script → RunState → ℕ → Option Line → Option Reply
+reply_at s r t None = None
+reply_at s r t (Some line) = Some (step_reply r.state (name_of s t) line.call)
+
+abbrev pub next_reply : Script → RunState → ℕ → Option Reply
+next_reply s r t = reply_at s r t (next_line s r.progress t)
+
+abbrev pub state_at : Script → RunState → ℕ → Option Line → State
+state_at s r t None = r.state
+state_at s r t (Some line) = step_state r.state (name_of s t) line.call
+
+abbrev pub next_state : Script → RunState → ℕ → State
+next_state s r t = state_at s r t (next_line s r.progress t)
+
+-- Events
+
+abbrev pub next_number : RunState → ℕ → ℕ
+next_number r t = (progress_at r.progress t).lines + 1
+
+-- the event may come in this state of the run
+abbrev pub MayCome : Script → RunState → Event → Type 0
+MayCome s r (event.Enter t) = turn_of s r.progress t ≡ turn.Entry
+MayCome s r (event.Done t line reply) = (turn_of s r.progress t ≡ turn.Entered) × (line ≡ next_number r t) × (next_reply s r t ≡ Some reply)
+MayCome s r (event.Leave t) = (turn_of s r.progress t ≡ turn.Done) ⊎ (turn_of s r.progress t ≡ turn.Entered)
+MayCome s r (event.Changed t line reply) = NoneOpen r.progress × (turn_of s r.progress t ≡ turn.Change) × (line ≡ next_number r t) × (next_reply s r t ≡ Some reply)
+
+-- the state of the run after the event
+abbrev pub after : Script → RunState → Event → RunState
+after s r (event.Enter t) = record r { progress = with_phase r.progress t phase.Entered }
+after s r (event.Done t line reply) = record { state = next_state s r t; progress = with_phase r.progress t phase.Done }
+after s r (event.Leave t) = record r { progress = with_left r.progress t }
+after s r (event.Changed t line reply) = record { state = next_state s r t; progress = with_line r.progress t }
+
+-- each event may come after those before it
+abbrev pub AllMayCome : Script → RunState → List Event → Type 0
+AllMayCome s r [] = Unit {0}
+AllMayCome s r (e ∷ es) = MayCome s r e × AllMayCome s (after s r e) es
+
+abbrev pub run_state_after : Script → RunState → List Event → RunState
+run_state_after s r [] = r
+run_state_after s r (e ∷ es) = run_state_after s (after s r e) es
+
+-- the state of the run that its events determine
+abbrev pub run_state_of : Script → List Event → RunState
+run_state_of s es = run_state_after s (opening s) es
+
+-- Histories
+
+-- The script is well formed, the boot registrations are the script's, and each event may come after those before it.
+pub record IsLegal (s : Script) (h : History) : Type 0 where
+  pub formed : IsWellFormed s
+  pub boots : h.boots ≡ boots_of s
+  pub events : AllMayCome s (opening s) h.events.list
+
+-- every task is idle and has no next line
+abbrev pub IsComplete : Script → History → Type 0
+IsComplete s h = (t : ℕ) → t < length s.tasks → turn_of s (run_state_of s h.events.list).progress t ≡ turn.Finished
+
+-- the history with one more event
+abbrev pub appended : History → Event → History
+appended h e = record h { events = record h.events { list = h.events.list ++ e ∷ [] } }

@@ -1,0 +1,11 @@
+pub mod Log
+pub mod State
+pub mod Plan
+pub mod Answer
+pub mod Reply
+pub mod Effect
+pub mod Opening
+pub mod Progress
+pub mod LegalHistory
+pub mod Run
+pub mod Laws

@@ -1,0 +1,93 @@
+-- What contracts see of a core, and what a core keeps true.
+use Rattle.std.specs.Prelude.{◌≡◌, ◌≢◌, ℕ, ◌+◌, ◌*◌, ◌-◌, ◌<◌, ◌≤◌, List, [], ◌∷◌, length, Option, Some, None}
+use Rattle.mf_script.specs.declared.script.Line.{Line}
+use Rattle.mf_script.specs.declared.script.Task.{Task}
+use Rattle.mf_script.specs.declared.script.Script.{Script}
+use Rattle.mf_script.specs.WellFormed.{lines_of, name_of}
+use Rattle.mf_core.specs.declared.state.State.{State}
+use Rattle.mf_core.specs.declared.plan.Plan.{Plan}
+use Rattle.mf_core.specs.declared.reply.Reply.{Reply}
+use Rattle.mf_core.specs.declared.progress.Phase.{Phase}
+use Rattle.mf_core.specs.declared.progress.Phase.TheVariants as phase
+use Rattle.mf_core.specs.declared.progress.Progress.{Progress}
+use Rattle.mf_core.specs.declared.progress.Turn.{Turn}
+use Rattle.mf_core.specs.declared.progress.Commit.{Commit}
+use Rattle.mf_core.specs.declared.progress.Commit.TheVariants as commit
+use Rattle.mf_core.specs.declared.history.Event.TheVariants as event
+use Rattle.mf_core.specs.declared.history.History.{History}
+use Rattle.mf_core.specs.Plan.{plan_of}
+use Rattle.mf_core.specs.Progress.{progress_at, Moves}
+use Rattle.mf_core.specs.LegalHistory.{RunState, run_state_of, turn_of, next_line, next_reply, next_number, appended, IsLegal}
+
+-- a script, and the history of its run so far
+pub record Run : Type 0 where
+  pub script : Script
+  pub history : History
+
+-- the state that its history determines
+abbrev pub run_state : Run → RunState
+run_state run = run_state_of run.script run.history.events.list
+
+-- how far each task is
+abbrev pub progress_of : Run → List Progress
+progress_of run = (run_state run).progress
+
+-- what a task may do next
+abbrev pub turn_at : Run → ℕ → Turn
+turn_at run t = turn_of run.script (run_state run).progress t
+
+abbrev pub plan_at : Run → ℕ → Option Line → Option Plan
+plan_at run t None = None
+plan_at run t (Some line) = Some (plan_of (run_state run).state (name_of run.script t) line.call)
+
+-- the plan, in the state of now, of the call of the task's next line
+abbrev pub next_plan : Run → ℕ → Option Plan
+next_plan run t = plan_at run t (next_line run.script (run_state run).progress t)
+
+-- the task's call is done: its reply is the last event
+abbrev pub IsDone : Run → ℕ → Run → Type 0
+IsDone old t new = (reply : Reply) × (next_reply old.script (run_state old) t ≡ Some reply)
+    × (new ≡ record old { history = appended old.history (event.Done t (next_number (run_state old) t) reply) })
+
+-- The plan is that of the task's call and the call is done; or it isn't, and nothing changes.
+abbrev pub Commits : Run → ℕ → Plan → Commit → Run → Type 0
+Commits old t plan commit.Done new = (next_plan old t ≡ Some plan) × IsDone old t new
+Commits old t plan commit.Stale new = (next_plan old t ≢ Some plan) × (new ≡ old)
+
+abbrev pub MovesOn : Commit → List Progress → ℕ → List Progress → Type 0
+MovesOn commit.Done old t new = Moves old new t (record (progress_at old t) { phase = phase.Done })
+MovesOn commit.Stale old t new = new ≡ old
+
+-- how many events of the line that a task is at have come
+abbrev pub events_in : Phase → ℕ
+events_in phase.Idle = 0
+events_in phase.Entered = 1
+events_in phase.Done = 2
+events_in phase.Stopped = 2
+
+abbrev pub events_by : Progress → ℕ
+events_by progress = 3 * progress.lines + events_in progress.phase
+
+abbrev pub lines_in : Task → ℕ
+lines_in t = length t.lines
+
+-- how many events the tasks may still bring
+abbrev pub events_left : List Task → List Progress → ℕ
+events_left [] list = 0
+events_left (t ∷ ts) [] = 0
+events_left (t ∷ ts) (x ∷ xs) = (3 * length t.lines - events_by x) + events_left ts xs
+
+-- a task that isn't between its lines has a next line
+abbrev pub HasLine : Phase → ℕ → ℕ → Type 0
+HasLine phase.Idle lines n = lines ≤ n
+HasLine phase.Entered lines n = lines < n
+HasLine phase.Done lines n = lines < n
+HasLine phase.Stopped lines n = lines < n
+
+-- The history is legal, it determines the state and the progress, and there is room for all events that may come.
+pub record IsConsistent (script : Script) (history : History) (state : State) (progress : List Progress) : Type 0 where
+  pub legal : IsLegal script history
+  pub here : run_state_of script history.events.list ≡ record { state = state; progress = progress }
+  pub places : length progress ≡ length script.tasks
+  pub lines : (t : ℕ) → t < length script.tasks → HasLine (progress_at progress t).phase (progress_at progress t).lines (length (lines_of script t))
+  pub room : length history.events.list + events_left script.tasks progress ≤ history.events.room

@@ -1,0 +1,71 @@
+//! Histories: the registrations at boot, and the events of the tasks in the order in which they came.
+ghost use Rattle.std.specs.Prelude.{◌≡◌, ◌<◌, [], ◌∷◌, ◌++◌, length, IfOk};
+
+use crate::registration::Registration;
+use crate::reply::Reply;
+use mf_script::Listing;
+use std::alloc::{AllocError, Global};
+use std::marker::Model;
+
+/// An event of a task. Tasks count from 0, and the lines of a task from 1. `Enter` and `Leave` begin and end an entry, which
+/// spans a whole call; `Done` is its call; `Changed` is the call of a line that changes the policies.
+#[derive(Drop)]
+pub enum Event {
+    Enter(u32),
+    Done(u32, u32, Reply),
+    Leave(u32),
+    Changed(u32, u32, Reply),
+}
+
+/// Events in order, with room for a number of them. Contracts see the list and the room.
+#[derive(Drop)]
+pub struct EventList {
+    items: Vec<Event>,
+    room: usize,
+}
+
+impl Model for EventList {
+    ghost use Rattle.std.specs.Prelude.{◌≤◌, vec_capacity};
+    ghost use Rattle.mf_core.specs.Log.{Log};
+
+    ghost Value = { Log };
+
+    ghost view = { λ a. record { list = a.items.items; room = a.room } };
+
+    ghost invariant = { λ a. a.room ≤ vec_capacity a.items };
+}
+
+impl EventList {
+    /// No events, with room for that many.
+    pub fn with_room(alloc: Global, room: usize) -> Result<Self, AllocError>
+        ensures { IfOk result (λ events. events ≡ record { list = []; room = room }) }
+    {
+        let items = Vec::with_capacity(alloc, room)?;
+        Ok(EventList { items, room })
+    }
+
+    /// Appends the event. There must be room, so that it takes no memory.
+    pub fn push(&mut self, event: Event)
+        requires { length self.old.list < self.old.room }
+        ensures { self.new ≡ record self.old { list = self.old.list ++ event ∷ [] } }
+    {
+        self.items.push(event).unwrap();
+    }
+
+    /// The events in order.
+    pub fn as_slice(&self) -> &[Event]
+        ensures { result.now ≡ self.now.list }
+    {
+        self.items.as_slice()
+    }
+}
+
+/// The registrations at boot, in the order in which they were made.
+pub type BootList = Listing<Registration>;
+
+/// What has come so far.
+#[derive(Drop)]
+pub struct History {
+    pub boots: BootList,
+    pub events: EventList,
+}

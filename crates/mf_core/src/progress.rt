@@ -1,0 +1,119 @@
+//! How far each task of a script is.
+ghost use Rattle.std.specs.Prelude.{◌≡◌, ◌<◌, ◌+◌, ◌^◌, length, map, IfOk};
+ghost use Rattle.mf_core.specs.Progress.{left};
+
+use mf_script::{Listing, Task};
+use std::alloc::{AllocError, Global};
+use std::marker::Model;
+
+/// What a task is at: between its lines, in an entry that isn't done, in an entry that is done, or stopped for good.
+#[derive(Clone, Copy, Debug, PartialEq, Eq)]
+pub enum Phase {
+    Idle,
+    Entered,
+    Done,
+    Stopped,
+}
+
+/// How many lines of a task are done, and what it is at.
+#[derive(Clone, Copy, Debug, PartialEq, Eq)]
+pub struct Progress {
+    pub lines: u32,
+    pub phase: Phase,
+}
+
+/// What a task may do next: begin an entry, make a change, do the call of its entry, leave its entry, or nothing, where it
+/// has no more lines or is stopped.
+#[derive(Clone, Copy, Debug, PartialEq, Eq)]
+pub enum Turn {
+    Entry,
+    Change,
+    Entered,
+    Done,
+    Finished,
+    Stopped,
+}
+
+/// How a commit went: the call is done, or its plan is out of date.
+#[derive(Clone, Copy, Debug, PartialEq, Eq)]
+pub enum Commit {
+    Done,
+    Stale,
+}
+
+/// The progress of each task of a script, in their order. Contracts see the list.
+#[derive(Drop)]
+pub struct ProgressList {
+    items: Vec<Progress>,
+}
+
+impl Model for ProgressList {
+    ghost use Rattle.std.specs.Prelude.{List};
+    ghost use Rattle.mf_core.specs.declared.progress.Progress.{Progress};
+
+    ghost Value = { List Progress };
+
+    ghost view = { λ a. a.items.items };
+}
+
+impl ProgressList {
+    ghost use Rattle.mf_core.specs.Progress.{progress_at, first_progress, with_phase, with_left};
+
+    /// Each task before its first line.
+    pub fn for_tasks(alloc: Global, tasks: &Listing<Task>) -> Result<Self, AllocError>
+        ensures { IfOk result (λ list. list ≡ map (λ t. first_progress) tasks.now) }
+    {
+        let mut items = Vec::new(alloc);
+        for _task in tasks.as_slice() {
+            items.push(Progress {
+                lines: 0,
+                phase: Phase::Idle,
+            })?;
+        }
+        Ok(ProgressList { items })
+    }
+
+    /// The task's progress.
+    pub fn at(&self, task: usize) -> Progress
+        requires { task < length self.now }
+        ensures { result ≡ progress_at self.now task }
+    {
+        self.items[task]
+    }
+
+    /// Puts the task into another phase.
+    pub fn set_phase(&mut self, task: usize, phase: Phase)
+        requires { task < length self.old }
+        ensures { self.new ≡ with_phase self.old task phase }
+    {
+        let lines = self.items[task].lines;
+        self.items[task] = Progress { lines, phase };
+    }
+
+    /// The task leaves its entry. Where its call is done it has one more line, else it stops.
+    pub fn leave(&mut self, task: usize)
+        requires task { task < length self.old }
+        requires room { (progress_at self.old task).lines + 1 < 2 ^ 32 }
+        ensures { self.new ≡ with_left self.old task }
+    {
+        let progress = self.at(task);
+        self.items[task] = left(progress);
+    }
+}
+
+fn left(progress: Progress) -> Progress
+    requires { progress.lines + 1 < 2 ^ 32 }
+    ensures { result ≡ left progress }
+{
+    match progress.phase {
+        Phase::Done => Progress {
+            lines: progress.lines + 1,
+            phase: Phase::Idle,
+        },
+        Phase::Entered => Progress {
+            lines: progress.lines,
+            phase: Phase::Stopped,
+        },
+        Phase::Idle | Phase::Stopped => progress,
+    }
+}
