@@ -6,6 +6,7 @@ ghost use Rattle.mf_core.specs.declared.progress.Turn.TheVariants as turn;
 ghost use Rattle.mf_core.specs.declared.progress.Phase.TheVariants as phase;
 ghost use Rattle.mf_script.specs.WellFormed.{IsWellFormed};
 ghost use Rattle.mf_core.specs.Answer.{verdict_of};
+ghost use Rattle.mf_core.specs.Opening.{boots_of};
 ghost use Rattle.mf_core.specs.Progress.{progress_at, first_progress, left, Moves};
 ghost use Rattle.mf_core.specs.LegalHistory as spec;
 ghost use Rattle.mf_core.specs.LegalHistory.{appended, IsLegal};
@@ -45,6 +46,7 @@ impl<'s> Core<'s> {
     pub fn new(alloc: Global, script: &'s Script) -> Result<Core<'s>, AllocError>
         requires { IsWellFormed script.now }
         ensures script { IfOk result (λ core. core.script ≡ script.now) }
+        ensures boots { IfOk result (λ core. core.history.boots ≡ boots_of script.now) }
         ensures history { IfOk result (λ core. core.history.events.list ≡ []) }
         ensures progress { IfOk result (λ core. (t : ℕ) → progress_at (progress_of core) t ≡ first_progress) }
     {

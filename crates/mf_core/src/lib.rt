@@ -21,3 +21,6 @@ pub use progress::{Commit, Phase, Progress, ProgressList, Turn};
 pub use registration::Registration;
 pub use reply::{Head, Payload, Reply};
 pub use state::{Entities, Entity, State};
+
+#[cfg(test)]
+mod tests;
