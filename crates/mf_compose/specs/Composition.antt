@@ -1,0 +1,20 @@
+-- How the answers of several policies make one, and which policy decides it.
+use Rattle.std.specs.Prelude.{ℕ, cond, List, [], ◌∷◌, Option, Some, None, position}
+use Rattle.mf_errno.specs.declared.errno.Errno.{Errno}
+use Rattle.mf_errno.specs.declared.errno.Errno.TheVariants.{Success}
+use Rattle.mf_errno.specs.Errno.{is_same}
+use Rattle.mf_errno.specs.Selection.{precedence, first_standing}
+
+-- the last answer that is no success; success where all are
+abbrev pub last_failure : List Errno → Errno
+last_failure [] = Success
+last_failure (answer ∷ later) = cond (is_same Success (last_failure later)) answer (last_failure later)
+
+-- the first error of the precedence that stands among the answers; where none does, the last answer that is no success; else success
+unfoldable pub composition : List Errno → Errno
+composition answers = first_standing precedence answers (last_failure answers)
+
+-- the first place whose answer is the composition; none where that is success
+unfoldable pub decider : List Errno → Option ℕ
+decider answers =
+    cond (is_same Success (composition answers)) None (position (is_same (composition answers)) answers)

@@ -1,0 +1,77 @@
+//! The composition of the policies' answers, and the policy that decides it.
+ghost use Rattle.std.specs.Prelude.{◌≡◌, position};
+ghost use Rattle.mf_errno.specs.Errno as errors;
+ghost use Rattle.mf_compose.specs.Composition as spec;
+
+use mf_errno::{Errno, select};
+
+/// The one answer that several policies give together, as mac(9) composes them; success where none answers.
+#[tactic(auto, using(crate::proofs::Composed::composition_more, crate::proofs::Composed::composition_of_none))]
+pub fn fold(answers: &[Errno]) -> Errno
+    ensures { result ≡ spec.composition answers.now }
+{
+    let mut selected = Errno::Success;
+    for answer in answers {
+        selected = select(*answer, selected);
+    }
+    selected
+}
+
+/// The place, from 0, of the policy that decides: the first one in walk order whose answer is the composition. None
+/// where that is success.
+#[tactic(auto, using(crate::proofs::Composed::decider_by_place))]
+pub fn decider(answers: &[Errno]) -> Option<usize>
+    ensures { result ≡ spec.decider answers.now }
+{
+    match fold(answers) {
+        Errno::Success => None,
+        selected => first_place(answers, selected),
+    }
+}
+
+fn first_place(answers: &[Errno], errno: Errno) -> Option<usize>
+    ensures { result ≡ position (errors.is_same errno) answers.now }
+{
+    answers.iter().position(|answer| is_same(errno, *answer))
+}
+
+fn is_same(errno: Errno, other: Errno) -> bool
+    ensures { result ≡ errors.is_same errno other }
+{
+    errno == other
+}
+
+#[cfg(test)]
+mod tests {
+    use super::*;
+
+    #[test]
+    fn precedence_against_walk_order(rt: HostRuntime) {
+        let table: [(&[Errno], Errno, Option<usize>); 8] = [
+            (&[], Errno::Success, None),
+            (&[Errno::Success, Errno::Success], Errno::Success, None),
+            (&[Errno::Eacces, Errno::Esrch], Errno::Esrch, Some(1)),
+            (&[Errno::Eacces, Errno::Eacces], Errno::Eacces, Some(0)),
+            (
+                &[Errno::Eperm, Errno::Einval, Errno::Edeadlk],
+                Errno::Edeadlk,
+                Some(2),
+            ),
+            (
+                &[Errno::Success, Errno::Enoent, Errno::Eacces],
+                Errno::Enoent,
+                Some(1),
+            ),
+            (&[Errno::Eperm, Errno::Ebusy], Errno::Eperm, Some(0)),
+            (
+                &[Errno::Enomem, Errno::Ebusy, Errno::Enomem],
+                Errno::Enomem,
+                Some(0),
+            ),
+        ];
+        for (answers, errno, place) in table {
+            assert_eq!(rt; fold(answers), errno);
+            assert_eq!(rt; decider(answers), place);
+        }
+    }
+}

@@ -1,0 +1,20 @@
+//! The composition of grants.
+ghost use Rattle.std.specs.Prelude.{◌↔◌, IsTrue, Contains, true};
+
+/// Whether a privilege is granted: one policy that grants it is enough, as mac_priv_grant(9) has it.
+pub fn granted(grants: &[bool]) -> bool
+    ensures { IsTrue result ↔ Contains grants.now true }
+{
+    grants.contains(&true)
+}
+
+#[cfg(test)]
+mod tests {
+    use super::*;
+
+    #[test]
+    fn one_grant_is_enough(rt: HostRuntime) {
+        assert!(rt; granted(&[false, true]));
+        assert!(rt; !granted(&[]));
+    }
+}
