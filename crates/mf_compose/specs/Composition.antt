@@ -1,5 +1,5 @@
 -- How the answers of several policies make one, and which policy decides it.
-use Rattle.std.specs.Prelude.{ℕ, cond, List, [], ◌∷◌, Option, Some, None, position}
+use Rattle.std.specs.Prelude.{ℕ, cond, List, [], ◌∷◌, Option, None, position}
 use Rattle.mf_errno.specs.declared.errno.Errno.{Errno}
 use Rattle.mf_errno.specs.declared.errno.Errno.TheVariants.{Success}
 use Rattle.mf_errno.specs.Errno.{is_same}

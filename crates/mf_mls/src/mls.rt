@@ -1,0 +1,142 @@
+//! MLS: a subject may observe what it dominates, and modify what dominates it.
+ghost use Rattle.std.specs.Prelude.{◌≡◌};
+ghost use Rattle.mf_policy.specs.Answer.{mls, labels_answer, part_of, plain_answer};
+ghost use Rattle.mf_policy.specs.Operations.{test_of};
+ghost use Rattle.mf_policy.specs.declared.spec.Spec.TheVariants as means;
+
+use mf_cred::Cred;
+use mf_elem::{Elem, RangeLabel, Request, dominates};
+use mf_errno::{Errno, Module, Priv};
+use mf_item::{CheckOp, Item};
+use mf_policy::{
+    Change, Changed, LoadFlags, Policy, Spec, asked, credential_relabel, errno_unless,
+    object_label, object_relabel, slot_label,
+};
+use std::alloc::{AllocError, Global};
+
+/// The confidentiality policy of mac_mls(4): no information flows down, from a subject or object to one of lesser
+/// sensitivity. It has no settings.
+#[derive(Debug, Drop)]
+pub struct Mls;
+
+impl Mls {
+    /// The policy as it is loaded.
+    pub fn new() -> Mls {
+        Mls
+    }
+}
+
+impl Policy for Mls {
+    ghost spec = { λ _. means.Mls };
+
+    fn module(&self) -> Module {
+        Module::Mls
+    }
+
+    fn flags(&self) -> LoadFlags {
+        LoadFlags::NOTLATE
+    }
+
+    fn wants_slot(&self) -> bool {
+        true
+    }
+
+    fn same(&self, other: &Spec) -> bool {
+        matches!(other, Spec::Mls)
+    }
+
+    fn check(&self, slot: u8, item: &Item) -> Errno {
+        let subject = slot_label(&item.subject.label[slot as usize]);
+        let object = object_label(&item.object, slot);
+        let part = part(&item.request);
+        match &subject.effective {
+            Some(element) => check_labelled(item.op, &subject, &part, element, &object.effective),
+            None => Errno::Success,
+        }
+    }
+
+    fn grant(&self, _cred: &Cred, _privilege: Priv) -> bool {
+        false
+    }
+
+    fn change(&mut self, _alloc: Global, _change: &Change) -> Result<Changed, AllocError> {
+        Ok(Changed {
+            errno: Errno::Enoent,
+            number: None,
+        })
+    }
+
+    fn reset(&mut self) {}
+}
+
+fn part(request: &Option<Request>) -> RangeLabel
+    ensures { result ≡ part_of mls request.now }
+{
+    match request {
+        Some(request) => asked(&request.mls),
+        None => asked(&None),
+    }
+}
+
+fn check_labelled(
+    op: CheckOp,
+    subject: &RangeLabel,
+    part: &RangeLabel,
+    element: &Elem,
+    object: &Option<Elem>,
+) -> Errno
+    ensures { result ≡ labels_answer mls (test_of op) subject.now part.now (Some element.now) object.now }
+{
+    match (op, object) {
+        (CheckOp::CredRelabel, _) => credential_relabel(subject, part),
+        (CheckOp::KldLoad | CheckOp::KldUnload, _) => Errno::Success,
+        (_, None) => Errno::Success,
+        (CheckOp::VnodeRelabel | CheckOp::PipeRelabel | CheckOp::SocketRelabel, Some(object)) => {
+            object_relabel(subject, object, part)
+        }
+        (_, Some(object)) => check_elements(op, element, object),
+    }
+}
+
+fn check_elements(op: CheckOp, subject: &Elem, object: &Elem) -> Errno
+    ensures { result ≡ plain_answer mls (test_of op) subject.now object.now }
+{
+    let may_observe = dominates(subject, object);
+    let may_modify = dominates(object, subject);
+    match op {
+        CheckOp::VnodeLookup
+        | CheckOp::VnodeOpenRead
+        | CheckOp::VnodeRead
+        | CheckOp::VnodeExec
+        | CheckOp::VnodeStat
+        | CheckOp::VnodeReaddir
+        | CheckOp::PipeRead
+        | CheckOp::PipeStat
+        | CheckOp::SocketReceive => errno_unless(may_observe, Errno::Eacces),
+        CheckOp::VnodeOpenWrite
+        | CheckOp::VnodeWrite
+        | CheckOp::VnodeCreate
+        | CheckOp::VnodeUnlinkDir
+        | CheckOp::VnodeUnlink
+        | CheckOp::VnodeSetmode
+        | CheckOp::PipeWrite
+        | CheckOp::SocketSend => errno_unless(may_modify, Errno::Eacces),
+        CheckOp::SocketDeliver => errno_unless(may_observe && may_modify, Errno::Eacces),
+        CheckOp::ProcVisible => errno_unless(may_observe, Errno::Esrch),
+        CheckOp::SocketVisible => errno_unless(may_observe, Errno::Enoent),
+        CheckOp::ProcSignal | CheckOp::ProcDebug | CheckOp::ProcSched => {
+            if may_observe {
+                errno_unless(may_modify, Errno::Eacces)
+            } else {
+                Errno::Esrch
+            }
+        }
+        CheckOp::VnodeRelabel
+        | CheckOp::PipeRelabel
+        | CheckOp::SocketRelabel
+        | CheckOp::CredRelabel
+        | CheckOp::KldLoad
+        | CheckOp::KldUnload
+        | CheckOp::Priv => Errno::Success,
+    }
+}

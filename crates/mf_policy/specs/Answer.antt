@@ -1,0 +1,116 @@
+-- What a policy answers to an item, by its meaning and the table of operations.
+use Rattle.std.specs.Prelude.{ℕ, Bool, true, false, cond, ◌&&◌, Option, Some, None, unwrap_or, slice_index_or}
+use Rattle.mf_errno.specs.declared.errno.Errno.{Errno}
+use Rattle.mf_errno.specs.declared.errno.Errno.TheVariants.{Success, Esrch, Eacces, Eperm}
+use Rattle.mf_errno.specs.declared.privilege.Priv.{Priv}
+use Rattle.mf_elem.specs.declared.elem.Elem.{Elem}
+use Rattle.mf_elem.specs.declared.label.RangeLabel.{RangeLabel}
+use Rattle.mf_elem.specs.declared.label.LabelValue.{LabelValue}
+use Rattle.mf_elem.specs.declared.label.LabelValue.TheVariants.{Unset, Range, Number}
+use Rattle.mf_elem.specs.declared.label.Request.{Request}
+use Rattle.mf_elem.specs.Elem.{dominates}
+use Rattle.mf_elem.specs.Label.{is_privileged}
+use Rattle.mf_cred.specs.declared.cred.Cred.{Cred}
+use Rattle.mf_item.specs.declared.item.Item.{Item}
+use Rattle.mf_item.specs.declared.view.ObjectView.{ObjectView}
+use Rattle.mf_policy.specs.declared.spec.Spec.{Spec}
+use Rattle.mf_policy.specs.declared.spec.Spec.TheVariants as means
+use Rattle.mf_policy.specs.Operations.{Test, test_of}
+use Rattle.mf_policy.specs.Operations.Test.{Observe, Modify, ObserveAndModify, SameLevel, RelabelObject, RelabelCredential, GuardModules, Pass}
+use Rattle.mf_policy.specs.Relabel.{credential_relabel, object_relabel}
+
+-- A policy of ranges: whether a subject of one element may observe and may modify an object of another, which part of a request
+-- is the policy's, and whether the policy guards the kernel's modules.
+pub record RangePolicy : Type 0 where
+  pub may_observe : Elem → Elem → Bool
+  pub may_modify : Elem → Elem → Bool
+  pub part : Request → Option RangeLabel
+  pub guards_modules : Bool
+
+-- integrity: one reads up and writes down
+abbrev pub biba : RangePolicy
+biba =
+    record {
+      may_observe = λ subject object. dominates object subject;
+      may_modify = λ subject object. dominates subject object;
+      part = λ request. request.biba;
+      guards_modules = true;
+    }
+
+-- confidentiality: one reads down and writes up
+abbrev pub mls : RangePolicy
+mls =
+    record {
+      may_observe = λ subject object. dominates subject object;
+      may_modify = λ subject object. dominates object subject;
+      part = λ request. request.mls;
+      guards_modules = false;
+    }
+
+-- a label with nothing in it
+abbrev pub nothing : RangeLabel
+nothing = record { effective = None; range = None }
+
+-- the label that a slot is read as; without an effective element it counts as unset
+abbrev pub label_of : LabelValue → RangeLabel
+label_of Unset = nothing
+label_of (Range label) = label
+label_of (Number partition) = nothing
+
+-- a slot of the object; unset where there is no object
+abbrev pub object_slot : Option ObjectView → ℕ → LabelValue
+object_slot None slot = Unset
+object_slot (Some object) slot = slice_index_or object.label slot Unset
+
+-- the part of a request; nothing where there is no request, or no part
+abbrev pub asked_of : Option RangeLabel → RangeLabel
+asked_of part = unwrap_or part nothing
+
+abbrev pub part_of : RangePolicy → Option Request → RangeLabel
+part_of policy None = nothing
+part_of policy (Some request) = asked_of (policy.part request)
+
+-- success where the test holds, else the error
+abbrev pub errno_unless : Bool → Errno → Errno
+errno_unless true errno = Success
+errno_unless false errno = errno
+
+-- the answer about two elements; the tests that look at more than these ask nothing here
+abbrev pub plain_answer : RangePolicy → Test → Elem → Elem → Errno
+plain_answer policy (Observe errno) subject object = errno_unless (policy.may_observe subject object) errno
+plain_answer policy Modify subject object = errno_unless (policy.may_modify subject object) Eacces
+plain_answer policy ObserveAndModify subject object =
+    cond (policy.may_observe subject object) (errno_unless (policy.may_modify subject object) Eacces) Esrch
+plain_answer policy SameLevel subject object =
+    errno_unless (policy.may_observe subject object && policy.may_modify subject object) Eacces
+plain_answer policy RelabelObject subject object = Success
+plain_answer policy RelabelCredential subject object = Success
+plain_answer policy GuardModules subject object = Success
+plain_answer policy Pass subject object = Success
+
+-- the answer to a subject of this label that asks for that one, by the elements of subject and object, each of which may be unset
+abbrev pub labels_answer : RangePolicy → Test → RangeLabel → RangeLabel → Option Elem → Option Elem → Errno
+labels_answer policy test label asked None object = Success
+labels_answer policy RelabelCredential label asked (Some subject) object = credential_relabel label asked
+labels_answer policy GuardModules label asked (Some subject) object =
+    cond policy.guards_modules (errno_unless (is_privileged label) Eperm) Success
+labels_answer policy test label asked (Some subject) None = Success
+labels_answer policy RelabelObject label asked (Some subject) (Some object) = object_relabel label object asked
+labels_answer policy test label asked (Some subject) (Some object) = plain_answer policy test subject object
+
+-- what a policy of ranges in this slot answers to an item
+abbrev pub range_answer : RangePolicy → ℕ → Item → Errno
+range_answer policy slot item =
+    let subject = label_of (slice_index_or item.subject.label slot Unset) in
+    let object = label_of (object_slot item.object slot) in
+    labels_answer policy (test_of item.op) subject (part_of policy item.request) subject.effective object.effective
+
+-- what a policy of this meaning, which holds this slot, answers to an item
+abbrev pub answer : Spec → ℕ → Item → Errno
+answer means.Biba slot item = range_answer biba slot item
+answer means.Mls slot item = range_answer mls slot item
+
+-- whether a policy of this meaning grants the privilege to a process of that credential
+abbrev pub grants : Spec → Cred → Priv → Bool
+grants means.Biba cred privilege = false
+grants means.Mls cred privilege = false

@@ -1,0 +1,41 @@
+-- The fixed facts of each module, and what a fresh one means.
+use Rattle.std.specs.Prelude.{Bool, true, false}
+use Rattle.mf_errno.specs.declared.module.Module.{Module}
+use Rattle.mf_errno.specs.declared.module.Module.TheVariants as modules
+use Rattle.mf_policy.specs.declared.spec.Spec.{Spec}
+use Rattle.mf_policy.specs.declared.spec.Spec.TheVariants as means
+use Rattle.mf_policy.specs.declared.load_flags.LoadFlags.{LoadFlags}
+use Rattle.mf_policy.specs.LoadFlags.{notlate, unloadok}
+
+-- the module that a meaning is of
+abbrev pub module_of : Spec → Module
+module_of means.Biba = modules.Biba
+module_of means.Mls = modules.Mls
+
+-- whether a meaning of the module is there
+abbrev pub has_spec : Module → Bool
+has_spec modules.Biba = true
+has_spec modules.Mls = true
+has_spec other = false
+
+-- the meaning of a module as it is loaded
+abbrev pub fresh_of : Module → Spec
+fresh_of modules.Biba = means.Biba
+fresh_of modules.Mls = means.Mls
+fresh_of other = means.Biba
+
+-- when a module may be loaded and unloaded
+abbrev pub flags_of : Module → LoadFlags
+flags_of modules.Biba = notlate
+flags_of modules.Mls = notlate
+flags_of modules.Partition = unloadok
+flags_of modules.Bsdextended = unloadok
+flags_of modules.Priority = unloadok
+
+-- whether a module labels entities, and so has a label slot
+abbrev pub wants_slot : Module → Bool
+wants_slot modules.Biba = true
+wants_slot modules.Mls = true
+wants_slot modules.Partition = true
+wants_slot modules.Bsdextended = false
+wants_slot modules.Priority = false

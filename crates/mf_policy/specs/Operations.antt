@@ -1,0 +1,99 @@
+-- The table of operations: what Biba and MLS test, the letters that rules about files look at, and which way information moves.
+use Rattle.std.specs.Prelude.{ℕ, ◌+◌, Option, Some, None}
+use Rattle.mf_errno.specs.declared.errno.Errno.{Errno}
+use Rattle.mf_errno.specs.declared.errno.Errno.TheVariants.{Enoent, Esrch, Eacces}
+use Rattle.mf_item.specs.declared.operation.CheckOp.{CheckOp}
+use Rattle.mf_item.specs.declared.operation.CheckOp.TheVariants as op
+
+-- what Biba and MLS test
+pub data Test : Type 0 where
+  -- the subject may observe the object, else this error
+  Observe : (errno : Errno) → Test
+  -- the subject may modify the object, else EACCES
+  Modify : Test
+  -- ESRCH where the subject may not observe the object, else EACCES where it may not modify it
+  ObserveAndModify : Test
+  -- subject and object are of one level, else EACCES
+  SameLevel : Test
+  -- the rules for a relabel of an object, and of the subject's own credential
+  RelabelObject : Test
+  RelabelCredential : Test
+  -- for a policy that guards the kernel's modules: the subject is privileged, else EPERM
+  GuardModules : Test
+  -- nothing
+  Pass : Test
+
+-- which way information moves where the operation is allowed
+pub data Movement : Type 0 where
+  Still : Movement
+  ToSubject : Movement
+  ToObject : Movement
+  BothWays : Movement
+
+-- the letters of ugidfw(8), as bits of a set
+abbrev pub administer : ℕ
+administer = 1
+
+abbrev pub read : ℕ
+read = 2
+
+abbrev pub stat : ℕ
+stat = 4
+
+abbrev pub write : ℕ
+write = 8
+
+abbrev pub execute : ℕ
+execute = 16
+
+-- the letters that a rule must give; for some operations none, and for some no rule is asked
+abbrev pub wants : ℕ → Option ℕ
+wants letters = Some letters
+
+abbrev pub not_asked : Option ℕ
+not_asked = None
+
+pub record Row : Type 0 where
+  pub test : Test
+  pub letters : Option ℕ
+  pub movement : Movement
+
+abbrev pub row : Test → Option ℕ → Movement → Row
+row test letters movement = record { test = test; letters = letters; movement = movement }
+
+-- The table: operation, test, letters, movement.
+abbrev pub row_of : CheckOp → Row
+row_of op.VnodeLookup = row (Observe Eacces) (wants execute) ToSubject
+row_of op.VnodeOpenRead = row (Observe Eacces) (wants read) ToSubject
+row_of op.VnodeOpenWrite = row Modify (wants write) ToObject
+row_of op.VnodeRead = row (Observe Eacces) (wants 0) ToSubject
+row_of op.VnodeWrite = row Modify (wants 0) ToObject
+row_of op.VnodeExec = row (Observe Eacces) (wants (read + execute)) ToSubject
+row_of op.VnodeStat = row (Observe Eacces) (wants stat) ToSubject
+row_of op.VnodeReaddir = row (Observe Eacces) (wants read) ToSubject
+row_of op.VnodeCreate = row Modify (wants write) ToObject
+row_of op.VnodeUnlinkDir = row Modify (wants write) ToObject
+row_of op.VnodeUnlink = row Modify (wants write) ToObject
+row_of op.VnodeSetmode = row Modify (wants administer) ToObject
+row_of op.VnodeRelabel = row RelabelObject not_asked Still
+row_of op.PipeRead = row (Observe Eacces) not_asked ToSubject
+row_of op.PipeWrite = row Modify not_asked ToObject
+row_of op.PipeStat = row (Observe Eacces) not_asked ToSubject
+row_of op.PipeRelabel = row RelabelObject not_asked Still
+row_of op.SocketSend = row Modify not_asked ToObject
+row_of op.SocketDeliver = row SameLevel not_asked ToObject
+row_of op.SocketReceive = row (Observe Eacces) not_asked ToSubject
+row_of op.SocketVisible = row (Observe Enoent) not_asked Still
+row_of op.SocketRelabel = row RelabelObject not_asked Still
+row_of op.CredRelabel = row RelabelCredential not_asked Still
+row_of op.ProcVisible = row (Observe Esrch) not_asked Still
+row_of op.ProcSignal = row ObserveAndModify not_asked ToObject
+row_of op.ProcDebug = row ObserveAndModify not_asked BothWays
+row_of op.ProcSched = row ObserveAndModify not_asked ToObject
+row_of op.KldLoad = row GuardModules not_asked Still
+row_of op.KldUnload = row GuardModules not_asked Still
+row_of op.Priv = row Pass not_asked Still
+
+-- what Biba and MLS test for an operation
+abbrev pub test_of : CheckOp → Test
+test_of operation = (row_of operation).test

@@ -1,0 +1,48 @@
+-- The rules for relabels, which Biba and MLS share: the tests in order, of which the first that fits answers.
+use Rattle.std.specs.Prelude.{Bool, true, false, cond, not, ◌&&◌, Option, Some, None, is_some, is_none, List, [], ◌∷◌}
+use Rattle.mf_errno.specs.declared.errno.Errno.{Errno}
+use Rattle.mf_errno.specs.declared.errno.Errno.TheVariants.{Success, Einval, Eperm}
+use Rattle.mf_elem.specs.declared.elem.Elem.{Elem}
+use Rattle.mf_elem.specs.declared.label.RangeLabel.{RangeLabel}
+use Rattle.mf_elem.specs.Elem.{in_range, range_in_range}
+use Rattle.mf_elem.specs.Label.{has_equal, has_equal_effective, is_privileged}
+
+-- the error of the first test that fits; success where none does
+abbrev pub first_fitting : List (Bool × Errno) → Errno
+first_fitting [] = Success
+first_fitting (test ∷ tests) = cond test.0 test.1 (first_fitting tests)
+
+-- an element that is there lies outside the range; all lie outside where there is no range
+abbrev pub is_outside : Option Elem → Option (Elem × Elem) → Bool
+is_outside None range = false
+is_outside (Some element) None = true
+is_outside (Some element) (Some ends) = not (in_range element ends.0 ends.1)
+
+-- a range that is there reaches out of the other
+abbrev pub reaches_out : Option (Elem × Elem) → Option (Elem × Elem) → Bool
+reaches_out None range = false
+reaches_out (Some inner) None = true
+reaches_out (Some inner) (Some ends) = not (range_in_range inner.0 inner.1 ends.0 ends.1)
+
+-- the answer to a subject that asks for this label of its own
+abbrev pub credential_relabel : RangeLabel → RangeLabel → Errno
+credential_relabel subject asked =
+    first_fitting (
+    (is_some asked.range && is_outside asked.effective asked.range, Einval)
+    ∷ (is_some asked.range && is_none asked.effective && is_outside subject.effective asked.range, Einval)
+    ∷ (is_outside asked.effective subject.range, Eperm)
+    ∷ (reaches_out asked.range subject.range, Eperm)
+    ∷ (has_equal asked && not (is_privileged subject), Eperm)
+    ∷ []
+    )
+
+-- the answer to a subject that asks for this label of an object, whose element is the old one so far
+abbrev pub object_relabel : RangeLabel → Elem → RangeLabel → Errno
+object_relabel subject old asked =
+    first_fitting (
+    (is_some asked.range, Einval)
+    ∷ (is_outside (Some old) subject.range, Eperm)
+    ∷ (is_outside asked.effective subject.range, Eperm)
+    ∷ (has_equal_effective asked.effective && not (is_privileged subject), Eperm)
+    ∷ []
+    )

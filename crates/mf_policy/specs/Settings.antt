@@ -1,0 +1,14 @@
+-- What a change of a setting does.
+use Rattle.std.specs.Prelude.{None}
+use Rattle.mf_errno.specs.declared.errno.Errno.TheVariants.{Enoent}
+use Rattle.mf_policy.specs.declared.spec.Spec.{Spec}
+use Rattle.mf_policy.specs.declared.spec.Change.{Change}
+use Rattle.mf_policy.specs.declared.spec.Changed.{Changed}
+
+-- the answer of a policy that has no such setting
+abbrev pub no_setting : Changed
+no_setting = record { errno = Enoent; number = None }
+
+-- the answer to a change, and the meaning after it; neither Biba nor MLS has a setting
+abbrev pub change_of : Spec → Change → Changed × Spec
+change_of meaning change = (no_setting, meaning)

@@ -1,0 +1,18 @@
+//! The interface of a policy module, what policies mean, and what Biba and MLS share.
+#![tactic(auto)]
+
+mod labels;
+mod load_flags;
+mod policy;
+mod registration;
+mod relabel;
+mod spec;
+mod spec_list;
+
+pub use labels::{asked, errno_unless, object_label, slot_label};
+pub use load_flags::LoadFlags;
+pub use policy::Policy;
+pub use registration::Registration;
+pub use relabel::{credential_relabel, object_relabel};
+pub use spec::{Change, Changed, Spec};
+pub use spec_list::SpecList;

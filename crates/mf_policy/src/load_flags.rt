@@ -1,0 +1,55 @@
+//! When a module may be loaded and unloaded.
+ghost use Rattle.std.specs.Prelude.{⊤, ◌≡◌, [], ◌∷◌, codes};
+ghost use Rattle.mf_policy.specs.LoadFlags.{is_notlate, is_unloadok};
+
+use bitflags::{Flag, Flags, bitflag_items};
+
+/// The flags that a module is registered with, as in MAC_POLICY_SET(9): NOTLATE, that it can't be loaded once boot has
+/// ended, and UNLOADOK, that it may be unloaded.
+#[derive(Clone, Copy, Debug, PartialEq, Eq)]
+pub struct LoadFlags(u8);
+
+bitflag_items! {
+    impl LoadFlags: u8 {
+        const NOTLATE = 1;
+        const UNLOADOK = 2;
+    }
+}
+
+impl Flags for LoadFlags {
+    type Bits = u8;
+
+    ghost exact = { ⊤ };
+
+    ghost table = { (codes "NOTLATE", 1) ∷ (codes "UNLOADOK", 2) ∷ [] };
+
+    ghost set_of = { λ flags. flags.0 };
+
+    fn flags<'a>() -> &'a [Flag<LoadFlags>] {
+        LoadFlags::FLAGS
+    }
+
+    fn bits(&self) -> u8 {
+        self.0
+    }
+
+    fn from_bits_retain(bits: u8) -> LoadFlags {
+        LoadFlags(bits)
+    }
+}
+
+impl LoadFlags {
+    /// Whether the module can't be loaded once boot has ended.
+    pub fn is_notlate(self) -> bool
+        ensures { result ≡ is_notlate self }
+    {
+        self.contains(LoadFlags::NOTLATE)
+    }
+
+    /// Whether the module may be unloaded.
+    pub fn is_unloadok(self) -> bool
+        ensures { result ≡ is_unloadok self }
+    {
+        self.contains(LoadFlags::UNLOADOK)
+    }
+}

@@ -1,0 +1,28 @@
+//! How a listed policy is registered.
+use mf_cred::Duplicate;
+use mf_errno::Module;
+
+/// How a policy is registered: its module, the number of its label slot, in 0..=3, where it has one, and whether it is in
+/// the static list, which it can't leave.
+#[derive(Clone, Copy, Debug, PartialEq, Eq)]
+pub struct Registration {
+    pub module: Module,
+    pub slot: Option<u8>,
+    pub fixed: bool,
+}
+
+impl Default for Registration {
+    fn default() -> Registration {
+        Registration {
+            module: Module::default(),
+            slot: None,
+            fixed: false,
+        }
+    }
+}
+
+impl Duplicate for Registration {
+    fn copy(&self) -> Registration {
+        *self
+    }
+}

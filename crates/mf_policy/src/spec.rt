@@ -1,0 +1,73 @@
+//! What a policy means, and the settings that change it.
+ghost use Rattle.std.specs.Prelude.{◌≡◌, ◌↔◌, IsTrue, IfOk, OnErr};
+ghost use Rattle.mf_policy.specs.Modules as facts;
+ghost use Rattle.mf_policy.specs.Settings.{change_of};
+
+use mf_errno::{Errno, Module};
+use std::alloc::{AllocError, Global};
+
+/// The meaning of a policy: its module, with the settings that decide its answers.
+#[derive(Debug, Drop)]
+pub enum Spec {
+    Biba,
+    Mls,
+}
+
+/// A change of a setting.
+#[derive(Clone, Copy, Debug, PartialEq, Eq)]
+pub enum Change {
+    /// Whether the file system firewall stops at the first rule that matches, as ugidfw(8) has it.
+    FirstMatch(bool),
+}
+
+/// The answer to a change: its errno, and for a rule that was added its number.
+#[derive(Clone, Copy, Debug, PartialEq, Eq)]
+pub struct Changed {
+    pub errno: Errno,
+    pub number: Option<u32>,
+}
+
+impl Spec {
+    /// The meaning of the module as it is loaded. The module must be one that has a meaning here.
+    pub fn fresh(_alloc: Global, module: Module) -> Result<Spec, AllocError>
+        requires { IsTrue (facts.has_spec «module») }
+        ensures { IfOk result (λ meaning. meaning ≡ facts.fresh_of «module») }
+    {
+        match module {
+            Module::Biba => Ok(Spec::Biba),
+            Module::Mls => Ok(Spec::Mls),
+            _ => unreachable!(),
+        }
+    }
+
+    /// An equal meaning.
+    pub fn copy(&self, _alloc: Global) -> Result<Spec, AllocError>
+        ensures { IfOk result (λ meaning. meaning ≡ self.now) }
+    {
+        match self {
+            Spec::Biba => Ok(Spec::Biba),
+            Spec::Mls => Ok(Spec::Mls),
+        }
+    }
+
+    /// Whether the two are equal.
+    pub fn same(&self, other: &Spec) -> bool
+        ensures { IsTrue result ↔ (self.now ≡ other.now) }
+    {
+        match (self, other) {
+            (Spec::Biba, Spec::Biba) | (Spec::Mls, Spec::Mls) => true,
+            _ => false,
+        }
+    }
+
+    /// Changes a setting, as `Policy::change` does.
+    pub fn change(&mut self, _alloc: Global, _change: &Change) -> Result<Changed, AllocError>
+        ensures ok { IfOk result (λ changed. (changed, self.new) ≡ change_of self.old _change.now) }
+        ensures err { OnErr result (self.new ≡ self.old) }
+    {
+        Ok(Changed {
+            errno: Errno::Enoent,
+            number: None,
+        })
+    }
+}
