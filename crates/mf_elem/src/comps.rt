@@ -94,3 +94,17 @@ fn are_same(mine: &[u64], theirs: &[u64]) -> bool
     }
     true
 }
+
+#[cfg(test)]
+mod tests {
+    use super::*;
+
+    #[test]
+    fn first_and_last_compartment(rt: HostRuntime) {
+        let none = Comps::empty();
+        let ends = none.with(256).with(1);
+        assert!(rt; ends.has(1) && ends.has(256) && !ends.has(2));
+        assert!(rt; ends.contains(&none) && !none.contains(&ends));
+        assert!(rt; ends.same(&none.with(1).with(256)));
+    }
+}

@@ -1,6 +1,7 @@
 //! Labels as policies keep them, and as users ask for them.
 ghost use Rattle.std.specs.Prelude.{◌≡◌, ◌↔◌, IsTrue, false};
 ghost use Rattle.mf_elem.specs.Label as spec;
+ghost use Rattle.mf_elem.specs.declared.label.LabelValue.TheVariants.{Unset};
 
 use crate::{Elem, in_range};
 
@@ -21,6 +22,8 @@ pub enum LabelValue {
 }
 
 impl Default for LabelValue {
+    ghost is_default = { λ value. value ≡ Unset };
+
     fn default() -> LabelValue {
         LabelValue::Unset
     }

@@ -1,0 +1,47 @@
+-- Texts that stand for bytes, with escapes.
+use Rattle.std.specs.Prelude.{◌≡◌, ℕ, ◌+◌, ◌*◌, ◌/◌, ◌%◌, ◌<◌, List, [], ◌∷◌, Result, Ok, Err, Bool, nat_le, ◌==◌, ◌&&◌, not, if◌then◌else◌}
+use Rattle.std.specs.List.{flat_map, AllByRecursion}
+use Rattle.std.specs.Char.{is_digit, digit_value, digit_char}
+use Rattle.mf_text.specs.declared.escapes.TextFault.{TextFault}
+use Rattle.mf_text.specs.declared.escapes.TextFault.TheVariants.{BadEscape, Memory}
+
+-- the printable bytes of ASCII from `!` to `~` stand for themselves, but for the backslash
+abbrev pub is_plain : ℕ → Bool
+is_plain byte = nat_le 33 byte && nat_le byte 126 && not (byte == 92)
+
+-- the canonical text of one byte: itself, or a backslash and two hexadecimal digits in lower case
+abbrev pub canonical_byte : ℕ → List ℕ
+canonical_byte byte = if is_plain byte then byte ∷ [] else 92 ∷ digit_char (byte / 16) ∷ digit_char (byte % 16) ∷ []
+
+-- the canonical text of bytes
+unfoldable pub canonical : List ℕ → List ℕ
+canonical bytes = flat_map canonical_byte bytes
+
+-- the byte in front of those that the rest stands for
+abbrev pub with_first : ℕ → Result (List ℕ) ℕ → Result (List ℕ) ℕ
+with_first byte (Ok bytes) = Ok (byte ∷ bytes)
+with_first byte (Err place) = Err place
+
+-- The bytes that a text stands for, or the place of the first backslash without two hexadecimal digits after it, of either
+-- case. The text begins at a place of a longer one.
+unfoldable pub bytes_from : ℕ → List ℕ → Result (List ℕ) ℕ
+bytes_from place [] = Ok []
+bytes_from place (c ∷ []) = if c == 92 then Err place else Ok (c ∷ [])
+bytes_from place (c ∷ d ∷ []) = if c == 92 then Err place else with_first c (bytes_from (place + 1) (d ∷ []))
+bytes_from place (c ∷ d ∷ e ∷ rest) =
+    if c == 92
+    then (if is_digit d 16 && is_digit e 16 then with_first (digit_value d * 16 + digit_value e) (bytes_from (place + 3) rest) else Err place)
+    else with_first c (bytes_from (place + 1) (d ∷ e ∷ rest))
+
+-- the bytes that a whole text stands for
+abbrev pub bytes_of : List ℕ → Result (List ℕ) ℕ
+bytes_of text = bytes_from 0 text
+
+-- a fault other than want of memory, at the place that reading gives
+abbrev pub IsFaultOf : TextFault → Result (List ℕ) ℕ → Type 0
+IsFaultOf (BadEscape place) read = read ≡ Err place
+IsFaultOf Memory read = Unit {0}
+
+-- What is read of the canonical text of bytes are these bytes.
+abbrev pub CanonicalTextStandsForItsBytes : Type 0
+CanonicalTextStandsForItsBytes = (bytes : List ℕ) → AllByRecursion (λ byte. byte < 256) bytes → bytes_of (canonical bytes) ≡ Ok bytes

@@ -1,0 +1,21 @@
+-- What a text of digits stands for, and the first fault of a text that isn't one.
+use Rattle.std.specs.Prelude.{ℕ, List, [], ◌∷◌, Option, Some, None, Result, Ok, Err, nat_le, ◌&&◌, not, if◌then◌else◌}
+use Rattle.std.specs.List.{position}
+use Rattle.std.specs.Char.{is_digit}
+use Rattle.std.specs.Str.Parse.{digits_value}
+use Rattle.mf_text.specs.declared.number.NumberFault.{NumberFault}
+use Rattle.mf_text.specs.declared.number.NumberFault.TheVariants.{Empty, NotDigit, OutOfRange}
+
+-- the value, where it lies from the least to the greatest
+abbrev pub within : ℕ → ℕ → ℕ → Result ℕ NumberFault
+within least greatest value = if nat_le least value && nat_le value greatest then Ok value else Err OutOfRange
+
+-- the place of the first byte that is no digit counts before anything of the value
+abbrev pub unless_other : Option ℕ → Result ℕ NumberFault → Result ℕ NumberFault
+unless_other (Some place) number = Err (NotDigit place)
+unless_other None number = number
+
+-- the number that the bytes write in a base, from the least to the greatest
+unfoldable pub number_in : ℕ → ℕ → ℕ → List ℕ → Result ℕ NumberFault
+number_in base least greatest [] = Err Empty
+number_in base least greatest (c ∷ cs) = unless_other (position (λ byte. not (is_digit byte base)) (c ∷ cs)) (within least greatest (digits_value base (c ∷ cs)))

@@ -1,0 +1,166 @@
+//! Texts that stand for bytes, with an escape for each byte that isn't printable.
+ghost use Rattle.std.specs.Prelude.{◌≡◌, ◌≢◌, ℕ, ◌+◌, ◌-◌, ◌<◌, ◌++◌, [], ◌∷◌, length, Ok, Err, MatchOption, MatchResult, IfOk, IfErr, IfSome, OnOk, OnErr, string_bytes};
+ghost use Rattle.std.specs.Char.{digit_char};
+ghost use Rattle.mf_text.specs.Escape.{canonical, canonical_byte, is_plain, bytes_of, bytes_from, with_first, IsFaultOf, CanonicalTextStandsForItsBytes};
+ghost use Rattle.mf_text.specs.declared.escapes.TextFault.TheVariants.{Memory};
+
+use std::alloc::{AllocError, AllocFailed, Global};
+
+/// Why the bytes of a text could not be read.
+#[derive(Debug, Drop, PartialEq, Eq)]
+pub enum TextFault {
+    /// The place of the first backslash without two hexadecimal digits after it, from 0.
+    BadEscape(usize),
+    Memory,
+}
+
+impl From<AllocError> for TextFault {
+    ghost from_gives = { λ _ fault. fault ≡ Memory };
+
+    fn from(_error: AllocError) -> TextFault {
+        TextFault::Memory
+    }
+}
+
+impl<T: Drop> From<AllocFailed<T>> for TextFault {
+    ghost from_gives = { λ _ fault. fault ≡ Memory };
+
+    fn from(_error: AllocFailed<T>) -> TextFault {
+        TextFault::Memory
+    }
+}
+
+/// The bytes that a text stands for. A backslash and two hexadecimal digits of either case stand for one byte, every other
+/// byte for itself.
+pub fn unescape(alloc: Global, text: &str) -> Result<Vec<u8>, TextFault>
+    ensures ok { IfOk result (λ bytes. bytes_of text.now ≡ Ok bytes.items) }
+    ensures err { IfErr result (λ fault. IsFaultOf fault (bytes_of text.now)) }
+{
+    unescape_bytes(alloc, text.as_bytes())
+}
+
+/// The same as `unescape` for the bytes of a text.
+pub fn unescape_bytes(alloc: Global, text: &[u8]) -> Result<Vec<u8>, TextFault>
+    ensures ok { IfOk result (λ bytes. bytes_of text.now ≡ Ok bytes.items) }
+    ensures err { IfErr result (λ fault. IsFaultOf fault (bytes_of text.now)) }
+{
+    let mut bytes = Vec::new(alloc);
+    let mut rest = text;
+    while !rest.is_empty() {
+        match split_byte(rest) {
+            None => return Err(TextFault::BadEscape(text.len() - rest.len())),
+            Some((byte, after)) => {
+                bytes.push(byte)?;
+                rest = after;
+            }
+        }
+    }
+    Ok(bytes)
+}
+
+/// The first byte that the text stands for, and the text after it. None where its first escape is bad.
+fn split_byte(text: &[u8]) -> Option<(u8, &[u8])>
+    requires { text.now ≢ [] }
+    ensures reads { (place : ℕ) → MatchOption result (bytes_from place text.now ≡ Err place) (λ split. bytes_from place text.now ≡ with_first split.0 (bytes_from (place + (length text.now - length split.1.now)) split.1.now)) }
+    ensures less { IfSome result (λ split. length split.1.now < length text.now) }
+{
+    let (first, rest) = text.split_first()?;
+    if *first == b'\\' {
+        return split_escape(rest);
+    }
+    Some((*first, rest))
+}
+
+/// The byte of two hexadecimal digits behind a backslash, and the text after them.
+#[tactic(auto, unfolding(crate::specs::Escape::bytes_from))]
+fn split_escape(text: &[u8]) -> Option<(u8, &[u8])>
+    ensures reads { (place : ℕ) → MatchOption result (bytes_from place (92 ∷ text.now) ≡ Err place) (λ split. bytes_from place (92 ∷ text.now) ≡ with_first split.0 (bytes_from (place + 3) split.1.now)) }
+    ensures less { IfSome result (λ split. length split.1.now + 2 ≡ length text.now) }
+{
+    let (high, rest) = text.split_first()?;
+    let (low, rest) = rest.split_first()?;
+    let high = char::from(*high).to_digit(16)?;
+    let low = char::from(*low).to_digit(16)?;
+    Some(((high * 16 + low) as u8, rest))
+}
+
+/// Appends the canonical text of the bytes: the printable bytes of ASCII but the backslash as themselves, each other byte, the
+/// blank too, as a backslash and two hexadecimal digits in lower case. Without memory `out` is as before.
+pub fn escape(alloc: Global, bytes: &[u8], out: &mut String) -> Result<(), AllocError>
+    ensures ok { OnOk result (string_bytes out.new ≡ string_bytes out.old ++ canonical bytes.now) }
+    ensures err { OnErr result (string_bytes out.new ≡ string_bytes out.old) }
+{
+    let text = escaped(alloc, bytes)?;
+    out.push_str(text.as_str())
+}
+
+#[tactic(auto, unfolding(crate::specs::Escape::canonical))]
+fn escaped(alloc: Global, bytes: &[u8]) -> Result<String, AllocError>
+    ensures { IfOk result (λ text. string_bytes text ≡ canonical bytes.now) }
+{
+    let mut text = String::new(alloc);
+    for byte in bytes {
+        push_escaped(*byte, &mut text)?;
+    }
+    Ok(text)
+}
+
+fn push_escaped(byte: u8, out: &mut String) -> Result<(), AllocError>
+    ensures { OnOk result (string_bytes out.new ≡ string_bytes out.old ++ canonical_byte byte) }
+{
+    if is_plain(byte) {
+        return out.push(char::from(byte));
+    }
+    out.push('\\')?;
+    out.push(hexadecimal_digit(byte / 16))?;
+    out.push(hexadecimal_digit(byte % 16))
+}
+
+fn is_plain(byte: u8) -> bool
+    ensures { result ≡ is_plain byte }
+{
+    33 <= byte && byte <= 126 && byte != b'\\'
+}
+
+fn hexadecimal_digit(value: u8) -> char
+    requires { value < 16 }
+    ensures digit { result ≡ digit_char value }
+    ensures ascii { result < 128 }
+{
+    char::from(if value < 10 {
+        b'0' + value
+    } else {
+        b'a' + value - 10
+    })
+}
+
+/// What `unescape` reads of the text that `escape` writes are the bytes that it was written from.
+pub fn escape_and_back()
+    ensures { CanonicalTextStandsForItsBytes }
+{}
+
+#[cfg(test)]
+mod tests {
+    use super::*;
+
+    #[test]
+    fn bytes_and_their_canonical_text(rt: HostRuntime) -> Result<(), TextFault> {
+        let bytes = [97, 32, 92, 0, 255];
+        let mut text = String::from_str(rt.alloc(), "text ")?;
+        escape(rt.alloc(), &bytes, &mut text)?;
+        assert!(rt; text.as_str() == "text a\\20\\5c\\00\\ff");
+        let read = unescape(rt.alloc(), "a\\20\\5C\\00\\fF")?;
+        assert!(rt; read.as_slice() == bytes.as_slice());
+        Ok(())
+    }
+
+    #[test]
+    fn bad_escapes(rt: HostRuntime) {
+        for (text, place) in [("a\\2", 1), ("\\", 0), ("\\5c\\5g", 3), ("é\\", 2)] {
+            match unescape_bytes(rt.alloc(), text.as_bytes()) {
+                Err(TextFault::BadEscape(found)) => assert_eq!(rt; found, place),
+                _ => panic!(rt; "no bad escape"),
+            }
+        }
+    }
+}
