@@ -1,71 +1,133 @@
--- What the grammar reads is well formed.
-use Rattle.std.proofs.Common.{◌≡◌, ℕ, zero, suc, ◌<◌, ◌≤◌, ◌+◌, Bool, true, false, List, [], ◌∷◌, ◌++◌, length, Option, Some, None, Result, Ok, Err, refl, ap, subst, sym, ◌∙◌, arith}
-use Rattle.mf_script.specs.declared.error.ScriptError.{ScriptError}
-use Rattle.mf_script.specs.declared.error.ScriptError.TheVariants.{NotYet, Memory}
-use Rattle.mf_errno.specs.declared.module.Module.{Module}
-use Rattle.mf_script.specs.declared.script.Task.{Task}
-use Rattle.mf_script.specs.declared.script.FileLine.{FileLine}
-use Rattle.mf_script.specs.WellFormed.{name_of, lines_of, IsWellFormed}
+-- The scripts that the grammar reads are well formed.
+use Rattle.std.proofs.Common.{◌≡◌, ◌≢◌, ℕ, zero, suc, ◌<◌, ◌≤◌, Bool, true, false, not, ◌&&◌, ◌||◌, List, [], ◌∷◌, ◌++◌, length, Option, Some, None, Result, Ok, Err, refl, ap, sym, ◌∙◌, arith, length-append, lit≤}
+use Rattle.std.proofs.lemmas.Bool.{ltb-true}
+use Rattle.std.proofs.lemmas.Slice.Eq.{bytes_eq-Decides}
+use Rattle.std.proofs.lemmas.List.Elements.{All-nil, All-cons, All-push}
+use Rattle.std.proofs.lemmas.List.Quantifiers.{all_pairs_push}
+use Rattle.std.specs.Prelude.{nat_lt, All, AllPairs, IfSome, codes}
+use Rattle.std.specs.List.{list_any}
+use Rattle.std.specs.Str.{bytes_eq}
 use Rattle.mf_errno.specs.declared.module.Module.TheVariants.{Biba}
-use Rattle.mf_script.specs.Grammar.{◌>>=◌, and_then, Words, Rows, only_if, task_head, task_in, fixed, word_by, name_in, is_name}
+use Rattle.mf_script.specs.declared.script.Call.{Call}
+use Rattle.mf_script.specs.declared.script.FileLine.{FileLine}
+use Rattle.mf_script.specs.declared.script.Line.{Line}
+use Rattle.mf_script.specs.declared.script.Task.{Task}
+use Rattle.mf_script.specs.Readers.{◌>>=◌, and_then, or_else}
+use Rattle.mf_script.specs.Limits.{file_limit, line_limit}
+use Rattle.mf_script.specs.Words.{Words, Rows}
+use Rattle.mf_script.specs.Parts.{is_name, behind}
+use Rattle.mf_script.specs.Grammar.{is_same_path, has_path, may_stand, file_at, files_in, call_at, calls_in, task_in, script_in}
+use Rattle.mf_script.specs.WellFormed.{IsFormedFile, IsFormedCall, IsFormedTask, IsWellFormed, lines_of, name_of}
+use Rattle.mf_script.proofs.Yields.{Yields, done, refused, chain, skip, checked, chosen}
+use Rattle.mf_script.proofs.FormedParts.{both, file_formed, call_formed, task_formed}
 
--- what is read, if anything is, is so
-pub record Yields {A : Type 0} (P : A → Type 0) (read : Result A ScriptError) : Type 0 where
-  pub of : (x : A) → read ≡ Ok x → P x
+-- Files
 
-done : {A : Type 0} {Q : A → Type 0} {x : A} → Q x → Yields Q (Ok x)
-done {Q = Q} q = record { of = λ y e. let same : _ ≡ y = cc in subst Q same q }
+record AreFiles (files : List FileLine) : Type 0 where
+  few : length files ≤ file_limit
+  paths : AllPairs (λ f g. f.path ≢ g.path) files
+  each : All IsFormedFile files
 
-chain : {A B : Type 0} {P : A → Type 0} {Q : B → Type 0} (read : Result A ScriptError) (more : A → Result B ScriptError)
-    → Yields P read → ((x : A) → P x → Yields Q (more x)) → Yields Q (and_then read more)
-unfolding and_then
-chain (Ok x) more first rest = rest x (first.of x refl)
-chain (Err e) more first rest = record { of = λ y e. cc }
+same_path : (p : List (List ℕ)) → is_same_path p p ≡ true
+same_path [] = refl
+same_path (w ∷ ws) = let here : bytes_eq w w ≡ true = (bytes_eq-Decides w w).1 refl in rw here (same_path ws)
 
-skip : {A B : Type 0} {Q : B → Type 0} (read : Result A ScriptError) (more : A → Result B ScriptError)
-    → ((x : A) → Yields Q (more x)) → Yields Q (and_then read more)
-unfolding and_then
-skip (Ok x) more rest = rest x
-skip (Err e) more rest = record { of = λ y e. cc }
+other_path : (f : FileLine) (path : List (List ℕ)) → has_path path f ≡ false → f.path ≢ path
+other_path f path e same = let here : is_same_path f.path f.path ≡ true = same_path f.path in let there : is_same_path f.path path ≡ true = rw (← same) here in cc
 
-checked : {B : Type 0} {Q : B → Type 0} (test : Bool) (more : Unit {0} → Result B ScriptError)
-    → (test ≡ true → Yields Q (more tt)) → Yields Q (and_then (only_if test) more)
-unfolding and_then
-checked true more rest = rest refl
-checked false more rest = record { of = λ y e. cc }
+all_others : (path : List (List ℕ)) (files : List FileLine) → list_any (has_path path) files ≡ false → All (λ f. f.path ≢ path) files
+all_others path [] e = All-nil _
+all_others path (f ∷ files) e = All-cons (λ (f : FileLine). f.path ≢ path) f files (other_path f path (neither _ _ e).0) (all_others path files (neither (has_path path f) _ e).1) where
+  neither : (a b : Bool) → (a || b) ≡ false → (a ≡ false) × (b ≡ false)
+  neither true b e = cc
+  neither false b e = (refl, e)
 
-name_formed : (w : List ℕ) → Yields (λ name. is_name name ≡ true) (name_in w)
-unfolding name_in
-name_formed w = checked _ _ (λ e. done e)
+flipped : (b : Bool) → not b ≡ true → b ≡ false
+flipped true e = cc
+flipped false e = refl
 
-by_word : {A : Type 0} {P : A → Type 0} (read : List ℕ → Result A ScriptError) → ((w : List ℕ) → Yields P (read w)) → (ws : Words) → Yields (λ x. P x.0) (word_by read ws)
-by_word read each [] = record { of = λ y e. cc }
-by_word read each (w ∷ ws) = chain _ _ (each w) (λ x p. done p)
+one_more : (files : List FileLine) (f : FileLine) → AreFiles files → IsFormedFile f → may_stand files f ≡ true → AreFiles (files ++ f ∷ [])
+one_more files f are formed e =
+    let room = both (nat_lt (length files) file_limit) (not (list_any (has_path f.path) files)) e in
+    record {
+      few = omega (arith, ltb-true _ _ room.0, length-append files (f ∷ []));
+      paths = all_pairs_push (λ (f g : FileLine). f.path ≢ g.path) files f are.paths (all_others f.path files (flipped _ room.1));
+      each = All-push IsFormedFile files f are.each formed;
+    }
 
-head_formed : (row : Words) → Yields (λ task. is_name task.name ≡ true) (task_head row)
-unfolding task_head
-head_formed row = skip _ _ (λ ws. chain _ _ (by_word _ name_formed ws) (λ name p. skip _ _ (λ ws. skip _ _ (λ uid. skip _ _ (λ ws. skip _ _ (λ gid. skip _ _ (λ ws. skip _ _ (λ label. skip _ _ (λ u. done p)))))))))
+file_at_formed : (files : List FileLine) (row : Words) → AreFiles files → Yields (λ found. IfSome found (λ f. AreFiles (files ++ f ∷ []))) (file_at files row)
+unfolding file_at
+file_at_formed files row are = chosen (behind (codes "file") row) _ _ (done tt) (λ ws. chain _ _ (file_formed ws) (λ f formed. checked _ _ (λ e. done (one_more files f are formed e))))
 
-pub task_named : (rows : Rows) → Yields (λ read. is_name read.0.name ≡ true) (task_in rows)
+files_formed : (files : List FileLine) (rows : Rows) → AreFiles files → Yields (λ read. AreFiles read.0) (files_in files rows)
+unfolding files_in
+files_formed files [] are = done are
+files_formed files (row ∷ rows) are = chain _ _ (file_at_formed files row are) (λ found.
+    elim found as (λ found. IfSome found (λ f. AreFiles (files ++ f ∷ [])) → Yields (λ read. AreFiles read.0) (or_else found (Ok (files, row ∷ rows)) (λ f. files_in (files ++ f ∷ []) rows)))
+    [ None ↦ λ _. done are | Some f ↦ λ more. files_formed (files ++ f ∷ []) rows more ])
+
+-- The lines of a task
+
+record AreLines (lines : List Line) : Type 0 where
+  few : length lines ≤ line_limit
+  each : All (λ line. IsFormedCall line.call) lines
+
+call_at_formed : (lines : List Line) (row : Words) → AreLines lines → Yields (λ found. IfSome found (λ call. AreLines (lines ++ (record { call = call }) ∷ []))) (call_at (length lines) row)
+unfolding call_at
+call_at_formed lines row are =
+    chosen (behind (codes "end") row) _ _
+    (checked _ _ (λ e. chain _ _ (call_formed row) (λ call formed. done (record {
+      few = omega (arith, ltb-true _ _ e, length-append lines ((record { call = call }) ∷ []));
+      each = All-push (λ (line : Line). IsFormedCall line.call) lines (record { call = call }) are.each formed;
+    }))))
+    (λ ws. skip _ _ (λ u. done tt))
+
+calls_formed : (lines : List Line) (rows : Rows) → AreLines lines → Yields (λ read. AreLines read.0) (calls_in lines rows)
+unfolding calls_in
+calls_formed lines [] are = refused
+calls_formed lines (row ∷ rows) are = chain _ _ (call_at_formed lines row are) (λ found.
+    elim found as (λ found. IfSome found (λ call. AreLines (lines ++ (record { call = call }) ∷ [])) → Yields (λ read. AreLines read.0) (or_else found (Ok (lines, rows)) (λ call. calls_in (lines ++ (record { call = call }) ∷ []) rows)))
+    [ None ↦ λ _. done are | Some call ↦ λ more. calls_formed (lines ++ (record { call = call }) ∷ []) rows more ])
+
+-- Tasks and scripts
+
+record IsWholeTask (task : Task) : Type 0 where
+  name : is_name task.name ≡ true
+  few : length task.lines ≤ line_limit
+  formed : IsFormedTask task
+
+task_in_formed : (rows : Rows) → Yields (λ read. IsWholeTask read.0) (task_in rows)
 unfolding task_in
-task_named [] = record { of = λ y e. cc }
-task_named (row ∷ rows) = chain _ _ (head_formed row) (λ task p. skip _ _ (λ lines. done p))
+task_in_formed [] = refused
+task_in_formed (row ∷ rows) =
+    chain _ _ (task_formed row) (λ task head.
+    chain _ _ (calls_formed [] rows (record { few = lit≤ tt; each = All-nil _ })) (λ lines are.
+    done (record { name = head.name; few = are.few; formed = record { cred = head.formed.cred; label = head.formed.label; calls = are.each } })))
 
--- a script of one task
-pub one_task : (files : List FileLine) (task : Task) → length files ≤ 256 → length task.lines ≤ 4096 → is_name task.name ≡ true
-    → IsWellFormed (record { boots = Biba ∷ []; files = files; tasks = task ∷ [] })
-one_task files task few short name = record {
+one_task : (files : List FileLine) (task : Task) → AreFiles files → IsWholeTask task → IsWellFormed (record { boots = Biba ∷ []; files = files; tasks = task ∷ [] })
+one_task files task are whole = record {
   boots = refl;
-  files = few;
-  tasks = omega arith;
-  lines = lines;
+  files = are.few;
+  paths = are.paths;
+  each_file = are.each;
+  tasks = lit≤ tt;
   names = names;
   differ = λ t u t_in u_in e. omega arith;
+  lines = lines;
+  each_task = All-cons IsFormedTask task [] whole.formed (All-nil _);
 } where
-  lines : (t : ℕ) → length (lines_of (record { boots = Biba ∷ []; files = files; tasks = task ∷ [] }) t) ≤ 4096
-  lines zero = short
-  lines (suc t) = omega arith
-
   names : (t : ℕ) → t < 1 → is_name (name_of (record { boots = Biba ∷ []; files = files; tasks = task ∷ [] }) t) ≡ true
-  names zero t_in = name
+  names zero t_in = whole.name
   names (suc t) t_in = absurd (omega arith)
+
+  lines : (t : ℕ) → length (lines_of (record { boots = Biba ∷ []; files = files; tasks = task ∷ [] }) t) ≤ line_limit
+  lines zero = whole.few
+  lines (suc t) = lit≤ tt
+
+pub script_formed : (rows : Rows) → Yields IsWellFormed (script_in rows)
+unfolding script_in
+script_formed rows =
+    skip _ _ (λ rows.
+    chain _ _ (files_formed [] rows (record { few = lit≤ tt; paths = λ i j d less within. absurd (omega arith); each = All-nil _ })) (λ files are.
+    chain _ _ (task_in_formed files.1) (λ task whole.
+    skip _ _ (λ u. done (one_task files.0 task.0 are whole)))))

@@ -2,12 +2,12 @@
 use Rattle.std.proofs.Common.{◌≡◌, ℕ, List, [], ◌∷◌, ◌++◌, length, Option, Some, None, Result, Ok, Err, refl, ap, subst, sym, ◌∙◌}
 use Rattle.mf_script.specs.declared.error.ScriptError.{ScriptError}
 use Rattle.mf_script.specs.declared.error.ScriptError.TheVariants.{NotYet, Memory}
-use Rattle.mf_script.specs.Gives.{Fails}
-use Rattle.std.specs.Option.{MatchOption}
+use Rattle.mf_script.specs.Readers.{Fails, ◌>>=◌, and_then, or_else}
+use Rattle.mf_script.specs.Words.{Words, Rows}
 use Rattle.mf_script.specs.declared.script.Call.{Call}
 use Rattle.mf_script.specs.declared.script.Line.{Line}
 use Rattle.mf_script.specs.declared.script.FileLine.{FileLine}
-use Rattle.mf_script.specs.Grammar.{◌>>=◌, and_then, Words, Rows, or_else, files_in, file_at, calls_in, call_at}
+use Rattle.mf_script.specs.Grammar.{files_in, file_at, calls_in, call_at}
 
 pub files_none : (files : List FileLine) (rows : Rows) → rows ≡ [] → files_in files rows ≡ Ok (files, rows)
 unfolding files_in
@@ -75,15 +75,18 @@ pub files_fail : (files : List FileLine) (all : Rows) (row : Words) (rows : Rows
 files_fail files all row rows Memory first is so_far h = tt
 files_fail files all row rows NotYet first is so_far h = sym so_far ∙ files_wrong files all row rows NotYet is h
 
-pub same_rest : (all : Rows) (row other : Words) (rows rest : Rows) → all ≡ row ∷ rows → all ≡ other ∷ rest → rows ≡ rest
-same_rest all row other rows rest e h = let k = sym e ∙ h in cc
+-- the cursor that stays is at the row that is no file line, or at the end
 
--- the rows after the next are those after the one in front
-pub next_rest : (r : Option Words) (all new : Rows) (row : Words) (rest : Rows) → MatchOption r ((all ≡ []) × (new ≡ [])) (λ other. all ≡ other ∷ new) → all ≡ row ∷ rest → new ≡ rest
-next_rest None all new row rest h is = let k = sym h.0 ∙ is in cc
-next_rest (Some other) all new row rest h is = let k = sym h ∙ is in cc
+pub files_stopped : (files now : List FileLine) (left all : Rows) (row : Words) (rows : Rows) (first : Result (List FileLine × Rows) ScriptError)
+    → left ≡ all → now ≡ files → all ≡ row ∷ rows → files_in files all ≡ first → file_at now row ≡ Ok None → first ≡ Ok (files, left)
+files_stopped files now left all row rows first here same is so_far h =
+    sym so_far ∙ (files_stop files all row rows is (ap (λ (l : List FileLine). file_at l row) (sym same) ∙ h) ∙ ap (λ (r : Rows). Ok (files, r)) (sym here))
 
-pub files_on : (files now : List FileLine) (all : Rows) (row : Words) (rows rest : Rows) (f : FileLine) (new : List FileLine) (first : Result (List FileLine × Rows) ScriptError)
-    → now ≡ files → all ≡ row ∷ rows → rest ≡ rows → files_in files all ≡ first → file_at now row ≡ Ok (Some f) → new ≡ files ++ f ∷ [] → files_in new rest ≡ first
-files_on files now all row rows rest f new first same is left so_far h more =
-    ap (λ (l : List FileLine). files_in l rest) more ∙ (ap (files_in (files ++ f ∷ [])) left ∙ (sym (files_more files all row rows f is (ap (λ (l : List FileLine). file_at l row) (sym same) ∙ h)) ∙ so_far))
+pub files_ended : (files : List FileLine) (left all : Rows) (first : Result (List FileLine × Rows) ScriptError)
+    → left ≡ all → all ≡ [] → files_in files all ≡ first → first ≡ Ok (files, left)
+files_ended files left all first here is so_far = sym so_far ∙ (files_none files all is ∙ ap (λ (r : Rows). Ok (files, r)) (sym here))
+
+pub files_on : (files now : List FileLine) (all : Rows) (row : Words) (rows : Rows) (f : FileLine) (new : List FileLine) (first : Result (List FileLine × Rows) ScriptError)
+    → now ≡ files → all ≡ row ∷ rows → files_in files all ≡ first → file_at now row ≡ Ok (Some f) → new ≡ files ++ f ∷ [] → files_in new rows ≡ first
+files_on files now all row rows f new first same is so_far h more =
+    ap (λ (l : List FileLine). files_in l rows) more ∙ (sym (files_more files all row rows f is (ap (λ (l : List FileLine). file_at l row) (sym same) ∙ h)) ∙ so_far)

@@ -1,7 +1,6 @@
 -- The first word and the first line.
 use Rattle.std.proofs.Common.{◌≡◌, ◌≢◌, ℕ, suc, ◌+◌, Bool, true, false, not, ◌==◌, List, [], ◌∷◌, take, drop, refl, ap, sym, ◌∙◌, cond, add-one}
-use Rattle.mf_script.specs.Grammar.{is_blank, words_in, goes_on, onto_first, lines_in, is_row}
-use Rattle.mf_script.specs.Ends.{word_end, line_end}
+use Rattle.mf_script.specs.Words.{is_blank, words_in, goes_on, onto_first, lines_in, is_row, word_end, line_end}
 
 goes_on_word : (b : ℕ) (bs : List ℕ) → goes_on (b ∷ bs) ≡ true → is_blank b ≡ false
 goes_on_word b bs g = flip (is_blank b) g where

@@ -2,7 +2,7 @@
 use Rattle.std.proofs.Common.{◌≡◌, ℕ, suc, ◌+◌, ◌*◌, ◌-◌, ◌<◌, ◌≤◌, List, [], ◌∷◌, length, get_or, drop, ◌∙◌, ap, arith, drop-cons}
 use Rattle.std.proofs.Math.Nat.{mul-le-mul_left}
 use Rattle.std.specs.List.{fold}
-use Rattle.mf_script.specs.Grammar.{value_in}
+use Rattle.mf_script.specs.Parts.{value_in}
 
 grows : (base v : ℕ) (xs : List ℕ) → 0 < base → v ≤ fold (λ n b. base * n + (b - 48)) v xs
 grows base v [] pos = omega arith

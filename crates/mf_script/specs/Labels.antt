@@ -1,8 +1,9 @@
 -- The labels that files and processes have at boot.
-use Rattle.std.specs.Prelude.{Option, Some, None}
+use Rattle.std.specs.Prelude.{◌≡◌, ◌⊎◌, Option, Some, None}
 use Rattle.mf_elem.specs.declared.elem.Elem.TheVariants.{Low, High}
 use Rattle.mf_elem.specs.declared.label.RangeLabel.{RangeLabel}
 use Rattle.mf_elem.specs.declared.label.Request.{Request}
+use Rattle.mf_script.specs.Parts.{no_request, request_for}
 
 -- what is given, or else one's own
 abbrev pub given_or : {A : Type 0} → Option A → Option A → Option A
@@ -21,3 +22,11 @@ task_label request = replaced (record { effective = Some High; range = Some (Low
 -- biba/high, with the parts of the request
 abbrev pub file_label : Request → RangeLabel
 file_label request = replaced (record { effective = Some High; range = None }) request.biba
+
+-- the requests that a file line may make: none, biba/low or biba/high
+abbrev pub IsFileRequest : Request → Type 0
+IsFileRequest request = (request ≡ no_request) ⊎ (request ≡ request_for Low) ⊎ (request ≡ request_for High)
+
+-- the requests that a task line may make: the same
+abbrev pub IsTaskRequest : Request → Type 0
+IsTaskRequest request = IsFileRequest request

@@ -1,5 +1,8 @@
+pub mod Limits
+pub mod Words
+pub mod Readers
+pub mod Parts
+pub mod Lines
 pub mod Grammar
-pub mod Gives
-pub mod Ends
 pub mod Labels
 pub mod WellFormed

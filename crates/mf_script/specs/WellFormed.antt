@@ -1,9 +1,16 @@
--- Which scripts are well formed, and what a script says of a task.
-use Rattle.std.specs.Prelude.{◌≡◌, ℕ, ◌<◌, ◌≤◌, List, [], ◌∷◌, length, unwrap_or, option_map, slice_get, true}
+-- Which scripts are well formed, and what a script says of its files and tasks.
+use Rattle.std.specs.Prelude.{◌≡◌, ◌≢◌, ℕ, ◌<◌, ◌≤◌, List, [], ◌∷◌, length, unwrap_or, option_map, slice_get, true, false, All, AllPairs}
 use Rattle.mf_errno.specs.declared.module.Module.TheVariants.{Biba}
+use Rattle.mf_cred.specs.declared.cred.Cred.{Cred}
+use Rattle.mf_script.specs.declared.script.Call.{Call}
+use Rattle.mf_script.specs.declared.script.Call.TheVariants.{Read, Write}
+use Rattle.mf_script.specs.declared.script.FileLine.{FileLine}
 use Rattle.mf_script.specs.declared.script.Line.{Line}
+use Rattle.mf_script.specs.declared.script.Task.{Task}
 use Rattle.mf_script.specs.declared.script.Script.{Script}
-use Rattle.mf_script.specs.Grammar.{is_name}
+use Rattle.mf_script.specs.Parts.{is_name, is_component}
+use Rattle.mf_script.specs.Labels.{IsFileRequest, IsTaskRequest}
+use Rattle.mf_script.specs.Limits.{file_limit, task_limit, line_limit, content_limit, text_limit}
 
 -- the lines of a task, where there is one of that number
 abbrev pub lines_of : Script → ℕ → List Line
@@ -13,11 +20,45 @@ lines_of s t = unwrap_or (option_map (λ task. task.lines) (slice_get s.tasks t)
 abbrev pub name_of : Script → ℕ → List ℕ
 name_of s t = unwrap_or (option_map (λ task. task.name) (slice_get s.tasks t)) []
 
--- The script boots what the grammar lets it boot and is within the limits; the names of its tasks are words, and differ.
+-- a path in the root directory: one component, which is a word of a path
+abbrev pub IsPathInRoot : List (List ℕ) → Type 0
+IsPathInRoot [] = ⊥
+IsPathInRoot (w ∷ []) = is_component w ≡ true
+IsPathInRoot (w ∷ v ∷ ws) = ⊥
+
+-- a regular file in the root directory
+pub record IsFormedFile (f : FileLine) : Type 0 where
+  pub path : IsPathInRoot f.path
+  pub regular : f.file.dir ≡ false
+  pub mode : f.file.mode < 4096
+  pub label : IsFileRequest f.label
+  pub text : length f.text ≤ content_limit
+
+-- one uid is the effective, the real and the saved one, and there is one group
+pub record IsFormedCred (cred : Cred) : Type 0 where
+  pub real : cred.ruid ≡ cred.uid
+  pub saved : cred.svuid ≡ cred.uid
+  pub group : length cred.groups ≡ 1
+
+abbrev pub IsFormedCall : Call → Type 0
+IsFormedCall (Read path) = IsPathInRoot path
+IsFormedCall (Write path text) = IsPathInRoot path × (length text ≤ text_limit)
+
+-- what a task says beside its name and the number of its lines
+pub record IsFormedTask (task : Task) : Type 0 where
+  pub cred : IsFormedCred task.cred
+  pub label : IsTaskRequest task.label
+  pub calls : All (λ line. IsFormedCall line.call) task.lines
+
+-- The script boots what the grammar lets it boot and is within the limits; paths of files differ, and so do names of tasks, which are
+-- words; each file and each task is one that a line may say.
 pub record IsWellFormed (s : Script) : Type 0 where
   pub boots : s.boots ≡ Biba ∷ []
-  pub files : length s.files ≤ 256
-  pub tasks : length s.tasks ≤ 16
-  pub lines : (t : ℕ) → length (lines_of s t) ≤ 4096
+  pub files : length s.files ≤ file_limit
+  pub paths : AllPairs (λ f g. f.path ≢ g.path) s.files
+  pub each_file : All IsFormedFile s.files
+  pub tasks : length s.tasks ≤ task_limit
   pub names : (t : ℕ) → t < length s.tasks → is_name (name_of s t) ≡ true
   pub differ : (t u : ℕ) → t < length s.tasks → u < length s.tasks → name_of s t ≡ name_of s u → t ≡ u
+  pub lines : (t : ℕ) → length (lines_of s t) ≤ line_limit
+  pub each_task : All IsFormedTask s.tasks

@@ -21,6 +21,10 @@ impl Model for Content {
 }
 
 impl Content {
+    /// The most bytes that a file holds.
+    pub const LIMIT: usize = 65536;
+
+    /// No bytes.
     pub fn new(alloc: Global) -> Self
         ensures { result ≡ [] }
     {
@@ -29,6 +33,7 @@ impl Content {
         }
     }
 
+    /// The bytes of the text.
     pub fn copy_of(alloc: Global, text: &[u8]) -> Result<Self, AllocError>
         requires { length text.now ≤ 65536 }
         ensures { IfOk result (λ content. content ≡ text.now) }
@@ -37,6 +42,7 @@ impl Content {
         Ok(Content { bytes })
     }
 
+    /// The bytes in order.
     pub fn as_slice(&self) -> &[u8]
         ensures value { result.now ≡ self.now }
         ensures most { length self.now ≤ 65536 }

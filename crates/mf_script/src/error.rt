@@ -3,11 +3,15 @@ ghost use Rattle.std.specs.Prelude.{◌≡◌};
 ghost use Rattle.mf_script.specs.declared.error.ScriptError.TheVariants.{Memory};
 
 use std::alloc::{AllocError, AllocFailed};
+use thiserror::Error;
 
-/// Why the bytes are not read.
-#[derive(Clone, Copy, Debug, PartialEq, Eq)]
+/// Why bytes are not read as a script.
+#[derive(Clone, Copy, Debug, PartialEq, Eq, Error)]
 pub enum ScriptError {
+    /// The grammar doesn't read them as a script.
+    #[error("script not yet")]
     NotYet,
+    #[error("no memory")]
     Memory,
 }
 

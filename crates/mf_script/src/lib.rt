@@ -4,6 +4,7 @@
 mod content;
 mod error;
 mod labels;
+mod lines;
 mod listing;
 mod parts;
 mod reading;

@@ -1,19 +1,20 @@
-//! The parts of a row, each one word or more.
-#![tactic(auto, unfolding(crate::specs::Grammar::and_then))]
+//! The parts of a row, each one word.
+#![tactic(auto, unfolding(crate::specs::Readers::and_then))]
 
-ghost use Rattle.std.specs.Prelude.{◌≡◌, ◌≤◌, ◌<◌, ◌^◌, ◌+◌, ◌*◌, ◌-◌, [], ◌∷◌, length, Ok, MatchOption, MatchResult, IfOk, string_bytes, All};
-ghost use Rattle.std.specs.List.{list_all, fold};
-ghost use Rattle.mf_script.specs.Gives.{Gives};
-ghost use Rattle.mf_script.specs.Grammar.{fixed, word_by, number_of, octal_of, name_in, path_in, label_in, request_for, text_in, is_name, no_more, is_digit, is_octal_digit, is_name_byte, is_component_byte, is_component, is_text_byte, value_in};
+ghost use Rattle.std.specs.Prelude.{◌≡◌, ◌≢◌, ◌≤◌, ◌<◌, ◌^◌, ◌+◌, ◌*◌, ◌-◌, [], ◌∷◌, length, Ok, MatchOption, MatchResult, IfOk, List, ℕ};
+ghost use Rattle.std.specs.List.{list_all};
+ghost use Rattle.std.specs.Char.{is_ascii_digit};
+ghost use Rattle.mf_script.specs.Readers.{Gives};
+ghost use Rattle.mf_script.specs.Parts.{fixed, word_by, number_of, mode_of, name_of, path_of, label_of, request_for, text_of, is_name, no_more, is_octal_digit, is_name_byte, is_component_byte, is_component, is_text_byte, value_in};
 
 use crate::error::ScriptError;
 use crate::listing::{Listing, Name, Path};
 use crate::words::Words;
 use mf_elem::{Elem, RangeLabel, Request};
-use std::alloc::{AllocError, Global};
+use std::alloc::Global;
 
 /// The word that has to stand there.
-pub fn fixed(words: &mut Words, text: &[u8]) -> Result<(), ScriptError>
+pub fn fixed(words: &mut Words, text: &str) -> Result<(), ScriptError>
     ensures { Gives (λ u. words.new) result (fixed text.now words.old) }
 {
     let word = words.next().ok_or(ScriptError::NotYet)?;
@@ -24,6 +25,7 @@ pub fn fixed(words: &mut Words, text: &[u8]) -> Result<(), ScriptError>
     }
 }
 
+/// The end of the row.
 pub fn no_more(words: &mut Words) -> Result<(), ScriptError>
     ensures { Gives (λ u. u) result (no_more words.old) }
 {
@@ -33,22 +35,16 @@ pub fn no_more(words: &mut Words) -> Result<(), ScriptError>
     }
 }
 
-fn is_digit(byte: u8) -> bool
-    ensures { result ≡ is_digit byte }
+fn are_digits(word: &[u8]) -> bool
+    ensures { result ≡ list_all is_ascii_digit word.now }
 {
-    48 <= byte && byte <= 57
+    word.iter().all(|byte| byte.is_ascii_digit())
 }
 
 fn is_octal_digit(byte: u8) -> bool
     ensures { result ≡ is_octal_digit byte }
 {
-    48 <= byte && byte <= 55
-}
-
-fn are_digits(word: &[u8]) -> bool
-    ensures { result ≡ list_all is_digit word.now }
-{
-    word.iter().all(|byte| is_digit(*byte))
+    b'0' <= byte && byte <= b'7'
 }
 
 fn are_octal_digits(word: &[u8]) -> bool
@@ -75,32 +71,35 @@ fn value_below(digits: &[u8], base: u64, limit: u64) -> Option<u64>
     Some(value)
 }
 
-#[tactic(auto, unfolding(crate::specs::Grammar::number_of, crate::specs::Grammar::and_then))]
-fn number_of(word: &[u8]) -> Result<u32, ScriptError>
+#[tactic(auto, unfolding(crate::specs::Parts::number_of, crate::specs::Readers::and_then))]
+fn number_of(word: &str) -> Result<u32, ScriptError>
     ensures { Gives (λ n. n) result (number_of word.now) }
 {
-    if word.is_empty() || !are_digits(word) {
+    let digits = word.as_bytes();
+    if digits.is_empty() || !are_digits(digits) {
         return Err(ScriptError::NotYet);
     }
-    match value_below(word, 10, 4294967296) {
+    match value_below(digits, 10, 4294967296) {
         None => Err(ScriptError::NotYet),
         Some(value) => Ok(value as u32),
     }
 }
 
-#[tactic(auto, unfolding(crate::specs::Grammar::octal_of, crate::specs::Grammar::and_then))]
-fn octal_of(word: &[u8]) -> Result<u16, ScriptError>
-    ensures { Gives (λ n. n) result (octal_of word.now) }
+#[tactic(auto, unfolding(crate::specs::Parts::mode_of, crate::specs::Readers::and_then))]
+fn mode_of(word: &str) -> Result<u16, ScriptError>
+    ensures { Gives (λ n. n) result (mode_of word.now) }
 {
-    if word.is_empty() || !are_octal_digits(word) {
+    let digits = word.as_bytes();
+    if digits.is_empty() || !are_octal_digits(digits) {
         return Err(ScriptError::NotYet);
     }
-    match value_below(word, 8, 4096) {
+    match value_below(digits, 8, 4096) {
         None => Err(ScriptError::NotYet),
         Some(value) => Ok(value as u16),
     }
 }
 
+/// A uid or gid.
 pub fn number(words: &mut Words) -> Result<u32, ScriptError>
     ensures { Gives (λ n. (n, words.new)) result (word_by number_of words.old) }
 {
@@ -109,11 +108,12 @@ pub fn number(words: &mut Words) -> Result<u32, ScriptError>
     Ok(value)
 }
 
-pub fn octal(words: &mut Words) -> Result<u16, ScriptError>
-    ensures { Gives (λ n. (n, words.new)) result (word_by octal_of words.old) }
+/// A file mode, in octal.
+pub fn mode(words: &mut Words) -> Result<u16, ScriptError>
+    ensures { Gives (λ n. (n, words.new)) result (word_by mode_of words.old) }
 {
     let word = words.next().ok_or(ScriptError::NotYet)?;
-    let value = octal_of(word)?;
+    let value = mode_of(word)?;
     Ok(value)
 }
 
@@ -131,23 +131,24 @@ fn request_for(element: Elem) -> Request
     }
 }
 
-#[tactic(auto, unfolding(crate::specs::Grammar::label_in, crate::specs::Grammar::and_then))]
-fn label_of(word: &[u8]) -> Result<Request, ScriptError>
-    ensures { Gives (λ l. l) result (label_in word.now) }
+#[tactic(auto, unfolding(crate::specs::Parts::label_of))]
+fn label_of(word: &str) -> Result<Request, ScriptError>
+    ensures { Gives (λ l. l) result (label_of word.now) }
 {
-    if word == b"-".as_slice() {
+    if word == "-" {
         Ok(Request::none())
-    } else if word == b"biba/low".as_slice() {
+    } else if word == "biba/low" {
         Ok(request_for(Elem::Low))
-    } else if word == b"biba/high".as_slice() {
+    } else if word == "biba/high" {
         Ok(request_for(Elem::High))
     } else {
         Err(ScriptError::NotYet)
     }
 }
 
+/// A label request, `-` for none.
 pub fn label(words: &mut Words) -> Result<Request, ScriptError>
-    ensures { Gives (λ l. (l, words.new)) result (word_by label_in words.old) }
+    ensures { Gives (λ l. (l, words.new)) result (word_by label_of words.old) }
 {
     let word = words.next().ok_or(ScriptError::NotYet)?;
     let label = label_of(word)?;
@@ -157,17 +158,13 @@ pub fn label(words: &mut Words) -> Result<Request, ScriptError>
 fn is_name_byte(byte: u8) -> bool
     ensures { result ≡ is_name_byte byte }
 {
-    is_digit(byte)
-        || (65 <= byte && byte <= 90)
-        || (97 <= byte && byte <= 122)
-        || byte == 95
-        || byte == 45
+    byte.is_ascii_alphanumeric() || byte == b'_' || byte == b'-'
 }
 
 fn is_component_byte(byte: u8) -> bool
     ensures { result ≡ is_component_byte byte }
 {
-    is_name_byte(byte) || byte == 46
+    is_name_byte(byte) || byte == b'.'
 }
 
 fn are_name_bytes(word: &[u8]) -> bool
@@ -185,19 +182,7 @@ fn are_component_bytes(word: &[u8]) -> bool
 fn are_text_bytes(word: &[u8]) -> bool
     ensures { result ≡ list_all is_text_byte word.now }
 {
-    word.iter().all(|byte| *byte != 92)
-}
-
-/// A name of bytes that are text.
-fn name_from(alloc: Global, bytes: &[u8]) -> Result<Name, AllocError>
-    requires { All (λ b. b < 128) bytes.now }
-    ensures { IfOk result (λ name. name ≡ bytes.now) }
-{
-    let mut text = String::new(alloc);
-    for byte in bytes {
-        text.push(*byte as char)?;
-    }
-    Ok(Name::from_string(text))
+    word.iter().all(|byte| *byte != b'\\')
 }
 
 fn is_name(word: &[u8]) -> bool
@@ -206,74 +191,84 @@ fn is_name(word: &[u8]) -> bool
     !word.is_empty() && word.len() <= 32 && are_name_bytes(word)
 }
 
-#[tactic(auto, unfolding(crate::specs::Grammar::name_in, crate::specs::Grammar::and_then))]
-fn name_of(alloc: Global, word: &[u8]) -> Result<Name, ScriptError>
-    ensures { Gives (λ n. n) result (name_in word.now) }
+#[tactic(auto, unfolding(crate::specs::Parts::name_of, crate::specs::Readers::and_then))]
+fn name_of(alloc: Global, word: &str) -> Result<Name, ScriptError>
+    ensures { Gives (λ n. n) result (name_of word.now) }
 {
-    if !is_name(word) {
+    if !is_name(word.as_bytes()) {
         return Err(ScriptError::NotYet);
     }
-    let name = name_from(alloc, word)?;
-    Ok(name)
+    let text = String::from_str(alloc, word)?;
+    Ok(Name::from_string(text))
 }
 
+/// The name of a task.
 pub fn name(alloc: Global, words: &mut Words) -> Result<Name, ScriptError>
-    ensures { Gives (λ n. (n, words.new)) result (word_by name_in words.old) }
+    ensures { Gives (λ n. (n, words.new)) result (word_by name_of words.old) }
 {
     let word = words.next().ok_or(ScriptError::NotYet)?;
     let name = name_of(alloc, word)?;
     Ok(name)
 }
 
-fn is_component(word: &[u8]) -> bool
+fn is_component(word: &str) -> bool
     ensures { result ≡ is_component word.now }
 {
-    !word.is_empty()
-        && word.len() <= 32
-        && are_component_bytes(word)
-        && word != b".".as_slice()
-        && word != b"..".as_slice()
+    let bytes = word.as_bytes();
+    !bytes.is_empty()
+        && bytes.len() <= 32
+        && are_component_bytes(bytes)
+        && word != "."
+        && word != ".."
 }
 
-#[tactic(auto, unfolding(crate::specs::Grammar::path_in, crate::specs::Grammar::and_then))]
-fn path_of(alloc: Global, word: &[u8]) -> Result<Path, ScriptError>
-    ensures { Gives (λ p. p) result (path_in word.now) }
+fn behind_slash(word: &str) -> Option<&str>
+    ensures { MatchOption result ((rest : List ℕ) → word.now ≢ 47 ∷ rest) (λ rest. word.now ≡ 47 ∷ rest.now) }
 {
-    match word {
-        [47, rest @ ..] => {
-            if !is_component(rest) {
+    word.strip_prefix('/')
+}
+
+#[tactic(auto, unfolding(crate::specs::Parts::path_of, crate::specs::Readers::and_then))]
+fn path_of(alloc: Global, word: &str) -> Result<Path, ScriptError>
+    ensures { Gives (λ p. p) result (path_of word.now) }
+{
+    match behind_slash(word) {
+        None => Err(ScriptError::NotYet),
+        Some(component) => {
+            if !is_component(component) {
                 return Err(ScriptError::NotYet);
             }
-            let component = name_from(alloc, rest)?;
-            let components = Listing::one(alloc, component)?;
+            let text = String::from_str(alloc, component)?;
+            let components = Listing::one(alloc, Name::from_string(text))?;
             Ok(Path::from_components(components))
         }
-        _ => Err(ScriptError::NotYet),
     }
 }
 
+/// A path of one component.
 pub fn path(alloc: Global, words: &mut Words) -> Result<Path, ScriptError>
-    ensures { Gives (λ n. (n, words.new)) result (word_by path_in words.old) }
+    ensures { Gives (λ p. (p, words.new)) result (word_by path_of words.old) }
 {
     let word = words.next().ok_or(ScriptError::NotYet)?;
     let path = path_of(alloc, word)?;
     Ok(path)
 }
 
-#[tactic(auto, unfolding(crate::specs::Grammar::text_in, crate::specs::Grammar::and_then))]
-fn text_of(word: &[u8], most: usize) -> Result<&[u8], ScriptError>
-    ensures gives { Gives (λ t. t.now) result (text_in most word.now) }
+#[tactic(auto, unfolding(crate::specs::Parts::text_of, crate::specs::Readers::and_then))]
+fn text_of(word: &str, most: usize) -> Result<&[u8], ScriptError>
+    ensures gives { Gives (λ t. t.now) result (text_of most word.now) }
     ensures most { IfOk result (λ t. length t.now ≤ most) }
 {
-    if word.len() > most || !are_text_bytes(word) {
+    let text = word.as_bytes();
+    if text.len() > most || !are_text_bytes(text) {
         return Err(ScriptError::NotYet);
     }
-    Ok(word)
+    Ok(text)
 }
 
-/// A text of a word.
+/// A text of at most so many bytes.
 pub fn text<'a>(words: &mut Words<'a>, most: usize) -> Result<&'a [u8], ScriptError>
-    ensures gives { Gives (λ t. (t.now, words.new)) result (word_by (text_in most) words.old) }
+    ensures gives { Gives (λ t. (t.now, words.new)) result (word_by (text_of most) words.old) }
     ensures most { IfOk result (λ t. length t.now ≤ most) }
 {
     let word = words.next().ok_or(ScriptError::NotYet)?;

@@ -1,7 +1,8 @@
-//! Rows of words, one after another.
+//! The words of a line and the rows of a script, one after another.
 ghost use Rattle.std.specs.Prelude.{◌≡◌, ◌≢◌, ◌≤◌, ◌<◌, ◌+◌, [], ◌∷◌, length, take, drop, MatchOption, IfSome, false, true, Some, None};
-ghost use Rattle.mf_script.specs.Grammar.{is_blank, lines_in, words_in, rows_in, is_row, goes_on, behind, StartsWith};
-ghost use Rattle.mf_script.specs.Ends.{word_end, line_end};
+ghost use Rattle.std.specs.Str.{IsAscii};
+ghost use Rattle.mf_script.specs.Words.{is_blank, lines_in, words_in, rows_in, is_row, goes_on, word_end, line_end};
+ghost use Rattle.mf_script.specs.Parts.{behind};
 
 use std::marker::Model;
 
@@ -13,22 +14,26 @@ pub struct Words<'a> {
 
 impl<'a> Model for Words<'a> {
     ghost use Rattle.std.specs.Prelude.{List, ℕ};
-    ghost use Rattle.mf_script.specs.Grammar.{words_in};
+    ghost use Rattle.std.specs.Str.{IsAscii};
+    ghost use Rattle.mf_script.specs.Words.{words_in};
 
     ghost Value = { List (List ℕ) };
 
     ghost view = { λ w. words_in w.rest.now };
+
+    ghost invariant = { λ w. IsAscii w.rest.now };
 }
 
 impl<'a> Words<'a> {
     pub fn of(line: &'a [u8]) -> Self
+        requires { IsAscii line.now }
         ensures { result ≡ words_in line.now }
     {
         Words { rest: line }
     }
 
     /// The words behind the first, where that is the text.
-    pub fn behind(&self, text: &[u8]) -> Option<Words<'a>>
+    pub fn behind(&self, text: &str) -> Option<Words<'a>>
         ensures { result ≡ behind text.now self.now }
     {
         let mut ahead = Words { rest: self.rest };
@@ -37,25 +42,41 @@ impl<'a> Words<'a> {
     }
 
     /// The next word, where there is one.
-    pub fn next(&mut self) -> Option<&'a [u8]>
+    pub fn next(&mut self) -> Option<&'a str>
         ensures { MatchOption result ((self.old ≡ []) × (self.new ≡ [])) (λ word. self.old ≡ word.now ∷ self.new) }
     {
         let (word, after) = split_word(skip_blanks(self.rest));
         self.rest = after;
-        if word.is_empty() { None } else { Some(word) }
+        if word.is_empty() {
+            None
+        } else {
+            Some(ascii_text(word))
+        }
+    }
+}
+
+/// The text that ASCII bytes are.
+fn ascii_text(bytes: &[u8]) -> &str
+    requires { IsAscii bytes.now }
+    ensures { result.now ≡ bytes.now }
+{
+    match str::from_utf8(bytes) {
+        Ok(text) => text,
+        Err(_) => unreachable!(),
     }
 }
 
 fn is_blank(byte: u8) -> bool
     ensures { result ≡ is_blank byte }
 {
-    byte == 32 || byte == 9
+    byte == b' ' || byte == b'\t'
 }
 
 /// The bytes from the first that is no blank.
 fn skip_blanks(bytes: &[u8]) -> &[u8]
     ensures words { words_in result.now ≡ words_in bytes.now }
     ensures start { result.now ≢ [] → goes_on result.now ≡ true }
+    ensures ascii { IsAscii bytes.now → IsAscii result.now }
 {
     let mut rest = bytes;
     while let [first, after @ ..] = rest {
@@ -72,6 +93,7 @@ fn split_word(bytes: &[u8]) -> (&[u8], &[u8])
     requires { bytes.now ≢ [] → goes_on bytes.now ≡ true }
     ensures none { result.0.now ≡ [] → words_in bytes.now ≡ [] × (words_in result.1.now ≡ []) }
     ensures some { result.0.now ≢ [] → words_in bytes.now ≡ result.0.now ∷ words_in result.1.now }
+    ensures ascii { IsAscii bytes.now → IsAscii result.0.now × IsAscii result.1.now }
 {
     bytes.split_at(word_len(bytes))
 }
@@ -93,7 +115,7 @@ fn line_len(bytes: &[u8]) -> usize
     ensures within { result ≤ length bytes.now }
 {
     for (i, byte) in bytes.iter().enumerate() {
-        if *byte == 10 {
+        if *byte == b'\n' {
             return i;
         }
     }
@@ -105,6 +127,7 @@ fn split_line(bytes: &[u8]) -> (&[u8], &[u8])
     requires { bytes.now ≢ [] }
     ensures lines { lines_in bytes.now ≡ result.0.now ∷ lines_in result.1.now }
     ensures less { length result.1.now < length bytes.now }
+    ensures ascii { IsAscii bytes.now → IsAscii result.0.now × IsAscii result.1.now }
 {
     let end = line_len(bytes);
     (&bytes[..end], behind_newline(bytes, end))
@@ -131,26 +154,29 @@ pub struct Rows<'a> {
 
 impl<'a> Model for Rows<'a> {
     ghost use Rattle.std.specs.Prelude.{List, ℕ};
-    ghost use Rattle.mf_script.specs.Grammar.{rows_in};
+    ghost use Rattle.std.specs.Str.{IsAscii};
+    ghost use Rattle.mf_script.specs.Words.{rows_in};
 
     ghost Value = { List (List (List ℕ)) };
 
     ghost view = { λ r. rows_in r.rest.now };
+
+    ghost invariant = { λ r. IsAscii r.rest.now };
 }
 
 impl<'a> Rows<'a> {
     pub fn of(bytes: &'a [u8]) -> Self
+        requires { IsAscii bytes.now }
         ensures { result ≡ rows_in bytes.now }
     {
         Rows { rest: bytes }
     }
 
-    /// The next row, where there is one. It stays at the row.
-    pub fn peek(&self) -> Option<Words<'a>>
-        ensures { MatchOption result (self.now ≡ []) (λ row. StartsWith row self.now) }
+    /// The same rows once more, to look ahead.
+    pub fn ahead(&self) -> Rows<'a>
+        ensures { result ≡ self.now }
     {
-        let (row, _after) = split_row(self.rest);
-        row
+        Rows { rest: self.rest }
     }
 
     /// The next row, where there is one.
@@ -165,7 +191,9 @@ impl<'a> Rows<'a> {
 
 /// The first row, where there is one, and the bytes after it.
 fn split_row(bytes: &[u8]) -> (Option<Words<'_>>, &[u8])
-    ensures { MatchOption result.0 ((rows_in bytes.now ≡ []) × (rows_in result.1.now ≡ [])) (λ row. rows_in bytes.now ≡ row ∷ rows_in result.1.now) }
+    requires { IsAscii bytes.now }
+    ensures row { MatchOption result.0 ((rows_in bytes.now ≡ []) × (rows_in result.1.now ≡ [])) (λ row. rows_in bytes.now ≡ row ∷ rows_in result.1.now) }
+    ensures ascii { IsAscii result.1.now }
 {
     let mut rest = bytes;
     while !rest.is_empty() {
@@ -183,6 +211,6 @@ fn is_row(line: &[u8]) -> bool
 {
     match skip_blanks(line).first() {
         None => false,
-        Some(byte) => *byte != 35,
+        Some(byte) => *byte != b'#',
     }
 }

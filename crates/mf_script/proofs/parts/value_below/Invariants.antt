@@ -1,6 +1,6 @@
 use Rattle.std.proofs.Common.{◌≡◌, ◌<◌, ◌+◌, ◌*◌, ◌-◌, drop}
 use Rattle.std.specs.List.{fold}
-use Rattle.mf_script.specs.Grammar.{value_in}
+use Rattle.mf_script.specs.Parts.{value_in}
 use Rattle.mf_script.proofs.parts.value_below.Given as goal
 
 abbrev pub invariant-loop-byte : goal.invariant-loop-byte

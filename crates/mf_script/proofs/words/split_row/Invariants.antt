@@ -1,9 +1,13 @@
 use Rattle.std.proofs.Common.{◌≡◌, length}
-use Rattle.mf_script.specs.Grammar.{rows_in}
+use Rattle.std.specs.Str.{IsAscii}
+use Rattle.mf_script.specs.Words.{rows_in}
 use Rattle.mf_script.proofs.words.split_row.Given as goal
 
 abbrev pub invariant-loop-rest : goal.invariant-loop-rest
-invariant-loop-rest l = rows_in l.rest ≡ rows_in l.bytes
+invariant-loop-rest l = record {
+  rows : rows_in l.rest ≡ rows_in l.bytes;
+  ascii : IsAscii l.rest;
+}
 
 abbrev pub decreases-loop-rest : goal.decreases-loop-rest
 decreases-loop-rest l = length l.rest

@@ -1,5 +1,5 @@
 use Rattle.std.proofs.Common.{◌≡◌, ◌+◌, drop}
-use Rattle.mf_script.specs.Ends.{word_end}
+use Rattle.mf_script.specs.Words.{word_end}
 use Rattle.mf_script.proofs.words.word_len.Given as goal
 
 abbrev pub invariant-loop-i : goal.invariant-loop-i

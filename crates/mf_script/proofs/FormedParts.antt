@@ -1,0 +1,100 @@
+-- What the grammar reads of a word and of a row is well formed.
+use Rattle.std.proofs.Common.{◌≡◌, ◌⊎◌, ℕ, ◌==◌, if◌then◌else◌, ◌<◌, ◌≤◌, Bool, true, false, ◌&&◌, List, [], ◌∷◌, length, Option, Some, None, Result, Ok, Err, refl, inl, inr, lit≤, codes}
+use Rattle.std.proofs.lemmas.Bool.{leb-true, ltb-true}
+use Rattle.std.specs.Str.{bytes_eq}
+use Rattle.std.specs.List.{list_all}
+use Rattle.std.specs.Prelude.{nat_le, nat_lt, All}
+use Rattle.std.proofs.lemmas.List.Elements.{All-nil}
+use Rattle.mf_elem.specs.declared.elem.Elem.TheVariants.{Low, High}
+use Rattle.mf_script.specs.declared.error.ScriptError.TheVariants.{NotYet}
+use Rattle.mf_script.specs.declared.script.Call.{Call}
+use Rattle.mf_script.specs.declared.script.FileLine.{FileLine}
+use Rattle.mf_script.specs.declared.script.Task.{Task}
+use Rattle.mf_script.specs.Readers.{◌>>=◌, and_then, only_if}
+use Rattle.mf_script.specs.Limits.{content_limit, text_limit}
+use Rattle.mf_script.specs.Words.{Words}
+use Rattle.mf_script.specs.Parts.{is_name, is_octal_digit, is_text_byte, is_some_text, is_component, slash, value_in, word_by, name_of, mode_of, path_of, label_of, text_of, no_request, request_for}
+use Rattle.mf_script.specs.Lines.{file_line, file_text, task_line, call_line, read_call, write_call}
+use Rattle.mf_script.specs.Labels.{IsFileRequest}
+use Rattle.mf_script.specs.WellFormed.{IsPathInRoot, IsFormedFile, IsFormedCred, IsFormedCall, IsFormedTask}
+use Rattle.mf_script.proofs.Yields.{Yields, done, refused, chain, skip, checked, by_word}
+
+pub both : (a b : Bool) → (a && b) ≡ true → (a ≡ true) × (b ≡ true)
+both true b e = (refl, e)
+both false b e = cc
+
+name_formed : (w : List ℕ) → Yields (λ name. is_name name ≡ true) (name_of w)
+unfolding name_of
+name_formed w = checked _ _ (λ e. done e)
+
+mode_formed : (w : List ℕ) → Yields (λ mode. mode < 4096) (mode_of w)
+unfolding mode_of
+mode_formed w = checked _ _ (λ e. done (ltb-true _ _ (both (is_some_text w && list_all is_octal_digit w) (nat_lt (value_in 8 w) 4096) e).1))
+
+path_formed : (w : List ℕ) → Yields IsPathInRoot (path_of w)
+unfolding path_of
+path_formed [] = refused
+path_formed (b ∷ w) = checked _ _ (λ e. done (both (b == slash) (is_component w) e).1)
+
+label_formed : (w : List ℕ) → Yields IsFileRequest (label_of w)
+unfolding label_of
+label_formed w = by_text (bytes_eq w (codes "-")) (bytes_eq w (codes "biba/low")) (bytes_eq w (codes "biba/high")) where
+  by_text : (none low high : Bool) → Yields IsFileRequest (if none then Ok no_request else if low then Ok (request_for Low) else if high then Ok (request_for High) else Err NotYet)
+  by_text true low high = done (inl refl)
+  by_text false true high = done (inr (inl refl))
+  by_text false false true = done (inr (inr refl))
+  by_text false false false = refused
+
+text_formed : (most : ℕ) (w : List ℕ) → Yields (λ text. length text ≤ most) (text_of most w)
+unfolding text_of
+text_formed most w = checked _ _ (λ e. done (leb-true _ _ (both (nat_le (length w) most) (list_all is_text_byte w) e).0))
+
+content_formed : (ws : Words) → Yields (λ text. length text.0 ≤ content_limit) (file_text ws)
+unfolding file_text
+content_formed [] = done (lit≤ tt)
+content_formed (w ∷ ws) = skip _ _ (λ ws. by_word _ (text_formed content_limit) ws)
+
+pub file_formed : (ws : Words) → Yields IsFormedFile (file_line ws)
+unfolding file_line
+file_formed ws =
+    chain _ _ (by_word _ path_formed ws) (λ path path_ok.
+    skip _ _ (λ ws. skip _ _ (λ ws. skip _ _ (λ uid. skip _ _ (λ ws. skip _ _ (λ gid. skip _ _ (λ ws.
+    chain _ _ (by_word _ mode_formed ws) (λ mode mode_ok.
+    skip _ _ (λ ws.
+    chain _ _ (by_word _ label_formed ws) (λ label label_ok.
+    chain _ _ (content_formed label.1) (λ text text_ok.
+    skip _ _ (λ u. done (record { path = path_ok; regular = refl; mode = mode_ok; label = label_ok; text = text_ok })))))))))))))
+
+read_formed : (ws : Words) → Yields IsFormedCall (read_call ws)
+unfolding read_call
+read_formed ws = chain _ _ (by_word _ path_formed ws) (λ path path_ok. skip _ _ (λ u. done path_ok))
+
+write_formed : (ws : Words) → Yields IsFormedCall (write_call ws)
+unfolding write_call
+write_formed ws =
+    chain _ _ (by_word _ path_formed ws) (λ path path_ok.
+    chain _ _ (by_word _ (text_formed text_limit) path.1) (λ text text_ok.
+    skip _ _ (λ u. done (path_ok, text_ok))))
+
+pub call_formed : (row : Words) → Yields IsFormedCall (call_line row)
+unfolding call_line
+call_formed [] = refused
+call_formed (w ∷ ws) = by_text (bytes_eq w (codes "read")) (bytes_eq w (codes "write")) where
+  by_text : (reads writes : Bool) → Yields IsFormedCall (if reads then read_call ws else if writes then write_call ws else Err NotYet)
+  by_text true writes = read_formed ws
+  by_text false true = write_formed ws
+  by_text false false = refused
+
+-- a task before its lines
+pub record IsFormedHead (task : Task) : Type 0 where
+  pub name : is_name task.name ≡ true
+  pub formed : IsFormedTask task
+
+pub task_formed : (row : Words) → Yields IsFormedHead (task_line row)
+unfolding task_line
+task_formed row =
+    skip _ _ (λ ws.
+    chain _ _ (by_word _ name_formed ws) (λ name name_ok.
+    skip _ _ (λ ws. skip _ _ (λ uid. skip _ _ (λ ws. skip _ _ (λ gid. skip _ _ (λ ws.
+    chain _ _ (by_word _ label_formed ws) (λ label label_ok.
+    skip _ _ (λ u. done (record { name = name_ok; formed = record { cred = record { real = refl; saved = refl; group = refl }; label = label_ok; calls = All-nil _ } }))))))))))
