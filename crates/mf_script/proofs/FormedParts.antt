@@ -1,22 +1,21 @@
 -- What the grammar reads of a word and of a row is well formed.
-use Rattle.std.proofs.Common.{◌≡◌, ◌⊎◌, ℕ, ◌==◌, if◌then◌else◌, ◌<◌, ◌≤◌, Bool, true, false, ◌&&◌, List, [], ◌∷◌, length, Option, Some, None, Result, Ok, Err, refl, inl, inr, lit≤, codes}
-use Rattle.std.proofs.lemmas.Bool.{leb-true, ltb-true}
+use Rattle.std.proofs.Common.{◌≡◌, ℕ, ◌==◌, if◌then◌else◌, ◌≤◌, Bool, true, false, ◌&&◌, List, [], ◌∷◌, length, Result, Ok, Err, refl, inl, inr, lit≤, codes}
+use Rattle.std.proofs.lemmas.Bool.{leb-true}
 use Rattle.std.specs.Str.{bytes_eq}
-use Rattle.std.specs.List.{list_all}
-use Rattle.std.specs.Prelude.{nat_le, nat_lt, All}
 use Rattle.std.proofs.lemmas.List.Elements.{All-nil}
 use Rattle.mf_elem.specs.declared.elem.Elem.TheVariants.{Low, High}
 use Rattle.mf_script.specs.declared.error.ScriptError.TheVariants.{NotYet}
-use Rattle.mf_script.specs.declared.script.Call.{Call}
-use Rattle.mf_script.specs.declared.script.FileLine.{FileLine}
 use Rattle.mf_script.specs.declared.script.Task.{Task}
-use Rattle.mf_script.specs.Readers.{◌>>=◌, and_then, only_if}
-use Rattle.mf_script.specs.Limits.{content_limit, text_limit}
+use Rattle.mf_script.specs.Readers.{or_not_yet}
+use Rattle.mf_script.specs.Limits.{content_limit, text_limit, mode_limit}
 use Rattle.mf_script.specs.Words.{Words}
-use Rattle.mf_script.specs.Parts.{is_name, is_octal_digit, is_text_byte, is_some_text, is_component, slash, value_in, word_by, name_of, mode_of, path_of, label_of, text_of, no_request, request_for}
+use Rattle.mf_script.specs.Parts.{is_name, is_component, slash, name_of, mode_of, path_of, label_of, text_of, no_request, request_for}
 use Rattle.mf_script.specs.Lines.{file_line, file_text, task_line, call_line, read_call, write_call}
 use Rattle.mf_script.specs.Labels.{IsFileRequest}
-use Rattle.mf_script.specs.WellFormed.{IsPathInRoot, IsFormedFile, IsFormedCred, IsFormedCall, IsFormedTask}
+use Rattle.mf_script.specs.WellFormed.{IsPathInRoot, IsFormedFile, IsFormedCall, IsFormedTask}
+use Rattle.mf_text.specs.Number.{number_in}
+use Rattle.mf_text.specs.declared.number.NumberFault.{NumberFault}
+use Rattle.mf_script.proofs.Numbers.{number_most}
 use Rattle.mf_script.proofs.Yields.{Yields, done, refused, chain, skip, checked, by_word}
 
 pub both : (a b : Bool) → (a && b) ≡ true → (a ≡ true) × (b ≡ true)
@@ -27,9 +26,12 @@ name_formed : (w : List ℕ) → Yields (λ name. is_name name ≡ true) (name_o
 unfolding name_of
 name_formed w = checked _ _ (λ e. done e)
 
-mode_formed : (w : List ℕ) → Yields (λ mode. mode < 4096) (mode_of w)
+mode_formed : (w : List ℕ) → Yields (λ mode. mode ≤ mode_limit) (mode_of w)
 unfolding mode_of
-mode_formed w = checked _ _ (λ e. done (ltb-true _ _ (both (is_some_text w && list_all is_octal_digit w) (nat_lt (value_in 8 w) 4096) e).1))
+mode_formed w = by_number (number_in 8 0 mode_limit w) refl where
+  by_number : (read : Result ℕ NumberFault) → number_in 8 0 mode_limit w ≡ read → Yields (λ mode. mode ≤ mode_limit) (or_not_yet read)
+  by_number (Ok mode) e = done (number_most 8 0 mode_limit w mode e)
+  by_number (Err fault) e = refused
 
 path_formed : (w : List ℕ) → Yields IsPathInRoot (path_of w)
 unfolding path_of
@@ -47,7 +49,7 @@ label_formed w = by_text (bytes_eq w (codes "-")) (bytes_eq w (codes "biba/low")
 
 text_formed : (most : ℕ) (w : List ℕ) → Yields (λ text. length text ≤ most) (text_of most w)
 unfolding text_of
-text_formed most w = checked _ _ (λ e. done (leb-true _ _ (both (nat_le (length w) most) (list_all is_text_byte w) e).0))
+text_formed most w = skip _ _ (λ bytes. checked _ _ (λ e. done (leb-true _ _ e)))
 
 content_formed : (ws : Words) → Yields (λ text. length text.0 ≤ content_limit) (file_text ws)
 unfolding file_text

@@ -1,5 +1,5 @@
 pub mod Splits
-pub mod Values
+pub mod Numbers
 pub mod Rows
 pub mod Yields
 pub mod FormedParts

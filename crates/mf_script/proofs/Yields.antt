@@ -1,7 +1,7 @@
 -- What a reader of the grammar reads, where it reads anything, is so.
 use Rattle.std.proofs.Common.{◌≡◌, ℕ, Bool, true, false, List, [], ◌∷◌, Option, Some, None, Result, Ok, Err, refl, subst}
 use Rattle.mf_script.specs.declared.error.ScriptError.{ScriptError}
-use Rattle.mf_script.specs.Readers.{◌>>=◌, and_then, only_if, or_else}
+use Rattle.mf_script.specs.Readers.{and_then, only_if, or_else}
 use Rattle.mf_script.specs.Words.{Words}
 use Rattle.mf_script.specs.Parts.{word_by}
 

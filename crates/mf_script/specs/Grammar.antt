@@ -1,5 +1,5 @@
 -- Which bytes are a script, and which script they are.
-use Rattle.std.specs.Prelude.{◌≡◌, ℕ, Bool, true, false, not, ◌&&◌, nat_lt, List, [], ◌∷◌, ◌++◌, length, Option, Some, None, Result, Ok, Err, codes}
+use Rattle.std.specs.Prelude.{ℕ, Bool, true, false, not, ◌&&◌, nat_lt, List, [], ◌∷◌, ◌++◌, length, Option, Some, None, Result, Ok, Err, codes}
 use Rattle.std.specs.List.{list_all, list_any}
 use Rattle.std.specs.Str.{bytes_eq}
 use Rattle.mf_errno.specs.declared.module.Module.TheVariants.{Biba}
@@ -10,7 +10,7 @@ use Rattle.mf_script.specs.declared.script.Line.{Line}
 use Rattle.mf_script.specs.declared.script.Task.{Task}
 use Rattle.mf_script.specs.declared.script.FileLine.{FileLine}
 use Rattle.mf_script.specs.declared.script.Script.{Script}
-use Rattle.mf_script.specs.Readers.{and_then, ◌>>=◌, only_if, or_else}
+use Rattle.mf_script.specs.Readers.{◌>>=◌, only_if, or_else}
 use Rattle.mf_script.specs.Limits.{file_limit, line_limit}
 use Rattle.mf_script.specs.Words.{Words, Rows, rows_in, is_plain}
 use Rattle.mf_script.specs.Parts.{fixed, behind, no_more}

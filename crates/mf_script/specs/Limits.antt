@@ -20,3 +20,7 @@ content_limit = 65536
 -- bytes that a call writes
 abbrev pub text_limit : ℕ
 text_limit = 1048576
+
+-- the mode of a file, which is 7777 in octal
+abbrev pub mode_limit : ℕ
+mode_limit = 4095

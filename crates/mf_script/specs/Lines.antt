@@ -1,5 +1,5 @@
 -- What the lines of a script say, row by row.
-use Rattle.std.specs.Prelude.{ℕ, Bool, false, if◌then◌else◌, List, [], ◌∷◌, Option, Some, None, Result, Ok, Err, codes}
+use Rattle.std.specs.Prelude.{ℕ, false, if◌then◌else◌, List, [], ◌∷◌, Result, Ok, Err, codes}
 use Rattle.std.specs.Str.{bytes_eq}
 use Rattle.mf_script.specs.declared.error.ScriptError.{ScriptError}
 use Rattle.mf_script.specs.declared.error.ScriptError.TheVariants.{NotYet}
@@ -7,7 +7,7 @@ use Rattle.mf_script.specs.declared.script.Call.{Call}
 use Rattle.mf_script.specs.declared.script.Call.TheVariants.{Read, Write}
 use Rattle.mf_script.specs.declared.script.Task.{Task}
 use Rattle.mf_script.specs.declared.script.FileLine.{FileLine}
-use Rattle.mf_script.specs.Readers.{and_then, ◌>>=◌}
+use Rattle.mf_script.specs.Readers.{◌>>=◌}
 use Rattle.mf_script.specs.Limits.{content_limit, text_limit}
 use Rattle.mf_script.specs.Words.{Words}
 use Rattle.mf_script.specs.Parts.{word_by, fixed, no_more, number_of, mode_of, name_of, path_of, label_of, text_of}

@@ -1,14 +1,17 @@
 -- The parts of a row. Each reader takes words from the front, and answers what it read and the words after it.
-use Rattle.std.specs.Prelude.{◌≡◌, ℕ, ◌+◌, ◌*◌, ◌-◌, Bool, true, false, not, ◌&&◌, ◌||◌, ◌==◌, nat_lt, nat_le, if◌then◌else◌, List, [], ◌∷◌, length, Option, Some, None, Result, Ok, Err, codes}
-use Rattle.std.specs.List.{list_all, fold}
+use Rattle.std.specs.Prelude.{ℕ, Bool, true, false, not, ◌&&◌, ◌||◌, ◌==◌, nat_le, if◌then◌else◌, List, [], ◌∷◌, length, Option, Some, None, Result, Ok, Err, codes}
+use Rattle.std.specs.List.{list_all}
 use Rattle.std.specs.Str.{bytes_eq}
-use Rattle.std.specs.Char.{is_ascii_digit, is_ascii_alphanumeric}
+use Rattle.std.specs.Char.{is_ascii_alphanumeric}
 use Rattle.mf_elem.specs.declared.elem.Elem.{Elem}
 use Rattle.mf_elem.specs.declared.elem.Elem.TheVariants.{Low, High}
 use Rattle.mf_elem.specs.declared.label.Request.{Request}
 use Rattle.mf_script.specs.declared.error.ScriptError.{ScriptError}
 use Rattle.mf_script.specs.declared.error.ScriptError.TheVariants.{NotYet}
-use Rattle.mf_script.specs.Readers.{and_then, ◌>>=◌, only_if}
+use Rattle.mf_text.specs.Number.{number_in}
+use Rattle.mf_text.specs.Escape.{bytes_of}
+use Rattle.mf_script.specs.Readers.{◌>>=◌, only_if, or_not_yet}
+use Rattle.mf_script.specs.Limits.{mode_limit}
 use Rattle.mf_script.specs.Words.{Words}
 
 -- one word, read by a function of it
@@ -37,23 +40,13 @@ is_some_text (b ∷ bs) = true
 
 -- Numbers
 
-abbrev pub zero_digit : ℕ
-zero_digit = 48
-
-abbrev pub is_octal_digit : ℕ → Bool
-is_octal_digit b = nat_le zero_digit b && nat_le b 55
-
--- the value of the digits in a base
-abbrev pub value_in : ℕ → List ℕ → ℕ
-value_in base digits = fold (λ n b. base * n + (b - zero_digit)) 0 digits
-
--- a decimal number of 32 bits
+-- a uid or gid: a decimal number of 32 bits
 unfoldable pub number_of : List ℕ → Result ℕ ScriptError
-number_of w = only_if (is_some_text w && list_all is_ascii_digit w && nat_lt (value_in 10 w) 4294967296) >>= λ u. Ok (value_in 10 w)
+number_of w = or_not_yet (number_in 10 0 4294967295 w)
 
--- a file mode, in octal up to 7777
+-- a file mode: an octal number up to 7777
 unfoldable pub mode_of : List ℕ → Result ℕ ScriptError
-mode_of w = only_if (is_some_text w && list_all is_octal_digit w && nat_lt (value_in 8 w) 4096) >>= λ u. Ok (value_in 8 w)
+mode_of w = or_not_yet (number_in 8 0 mode_limit w)
 
 -- Names and paths
 
@@ -104,12 +97,9 @@ request_for e = record no_request { biba = Some (record { effective = Some e; ra
 unfoldable pub label_of : List ℕ → Result Request ScriptError
 label_of w = if bytes_eq w (codes "-") then Ok no_request else if bytes_eq w (codes "biba/low") then Ok (request_for Low) else if bytes_eq w (codes "biba/high") then Ok (request_for High) else Err NotYet
 
-abbrev pub backslash : ℕ
-backslash = 92
-
-abbrev pub is_text_byte : ℕ → Bool
-is_text_byte b = not (b == backslash)
-
--- a text of at most so many bytes
+-- the bytes that a text with escapes stands for, at most so many
 unfoldable pub text_of : ℕ → List ℕ → Result (List ℕ) ScriptError
-text_of most w = only_if (nat_le (length w) most && list_all is_text_byte w) >>= λ u. Ok w
+text_of most w = do
+  bytes ← or_not_yet (bytes_of w)
+  u ← only_if (nat_le (length bytes) most)
+  Ok bytes

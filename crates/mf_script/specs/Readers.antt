@@ -17,6 +17,11 @@ abbrev pub only_if : Bool → Result (Unit {0}) ScriptError
 only_if true = Ok tt
 only_if false = Err NotYet
 
+-- what another reader reads, whose faults the grammar doesn't tell apart yet
+abbrev pub or_not_yet : {A E : Type 0} → Result A E → Result A ScriptError
+or_not_yet (Ok x) = Ok x
+or_not_yet (Err e) = Err NotYet
+
 -- one of two, by whether there is something
 abbrev pub or_else : {A B : Type 0} → Option A → B → (A → B) → B
 or_else None stop more = stop

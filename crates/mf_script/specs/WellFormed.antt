@@ -10,7 +10,7 @@ use Rattle.mf_script.specs.declared.script.Task.{Task}
 use Rattle.mf_script.specs.declared.script.Script.{Script}
 use Rattle.mf_script.specs.Parts.{is_name, is_component}
 use Rattle.mf_script.specs.Labels.{IsFileRequest, IsTaskRequest}
-use Rattle.mf_script.specs.Limits.{file_limit, task_limit, line_limit, content_limit, text_limit}
+use Rattle.mf_script.specs.Limits.{file_limit, task_limit, line_limit, content_limit, text_limit, mode_limit}
 
 -- the lines of a task, where there is one of that number
 abbrev pub lines_of : Script → ℕ → List Line
@@ -30,7 +30,7 @@ IsPathInRoot (w ∷ v ∷ ws) = ⊥
 pub record IsFormedFile (f : FileLine) : Type 0 where
   pub path : IsPathInRoot f.path
   pub regular : f.file.dir ≡ false
-  pub mode : f.file.mode < 4096
+  pub mode : f.file.mode ≤ mode_limit
   pub label : IsFileRequest f.label
   pub text : length f.text ≤ content_limit
 

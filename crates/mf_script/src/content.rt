@@ -1,5 +1,5 @@
 //! The content of a file.
-ghost use Rattle.std.specs.Prelude.{◌≡◌, ◌≤◌, ◌+◌, [], ◌++◌, length, OnOk, OnErr, IfOk};
+ghost use Rattle.std.specs.Prelude.{◌≡◌, ◌≤◌, ◌+◌, [], ◌++◌, length, OnOk, OnErr, IfOk, vec_len};
 
 use std::alloc::{AllocError, Global};
 use std::marker::Model;
@@ -31,6 +31,14 @@ impl Content {
         Content {
             bytes: Vec::new(alloc),
         }
+    }
+
+    /// The content that holds these bytes.
+    pub fn from_vec(bytes: Vec<u8>) -> Self
+        requires { vec_len bytes ≤ 65536 }
+        ensures { result ≡ bytes.items }
+    {
+        Content { bytes }
     }
 
     /// The bytes of the text.

@@ -9,10 +9,7 @@ use mf_elem::{Elem, RangeLabel, Request};
 pub fn task_label(request: &Request) -> RangeLabel
     ensures { result ≡ spec.task_label request.now }
 {
-    let default = RangeLabel {
-        effective: Some(Elem::High),
-        range: Some((Elem::Low, Elem::High)),
-    };
+    let default = RangeLabel::ranged(Elem::High, Elem::Low, Elem::High);
     replaced(default, &request.biba)
 }
 
@@ -20,10 +17,7 @@ pub fn task_label(request: &Request) -> RangeLabel
 pub fn file_label(request: &Request) -> RangeLabel
     ensures { result ≡ spec.file_label request.now }
 {
-    let default = RangeLabel {
-        effective: Some(Elem::High),
-        range: None,
-    };
+    let default = RangeLabel::effective(Elem::High);
     replaced(default, &request.biba)
 }
 

@@ -9,6 +9,8 @@ mod listing;
 mod parts;
 mod reading;
 mod script;
+#[cfg(test)]
+mod tests;
 mod words;
 
 pub use content::Content;

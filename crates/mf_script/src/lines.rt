@@ -58,9 +58,8 @@ fn file_text(alloc: Global, words: &mut Words) -> Result<Content, ScriptError>
             if word != "text" {
                 return Err(ScriptError::NotYet);
             }
-            let text = parts::text(words, Content::LIMIT)?;
-            let content = Content::copy_of(alloc, text)?;
-            Ok(content)
+            let text = parts::text(alloc, words, Content::LIMIT)?;
+            Ok(Content::from_vec(text))
         }
     }
 }
@@ -79,10 +78,9 @@ fn write_call(alloc: Global, words: &mut Words) -> Result<Call, ScriptError>
     ensures { Gives (λ c. c) result (write_call words.old) }
 {
     let path = parts::path(alloc, words)?;
-    let text = parts::text(words, TEXT_LIMIT)?;
+    let text = parts::text(alloc, words, TEXT_LIMIT)?;
     parts::no_more(words)?;
-    let bytes = Vec::from_slice(alloc, text)?;
-    Ok(Call::Write(path, Bytes::from_vec(bytes)))
+    Ok(Call::Write(path, Bytes::from_vec(text)))
 }
 
 /// The call of a task's line.

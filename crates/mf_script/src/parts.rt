@@ -1,17 +1,20 @@
 //! The parts of a row, each one word.
 #![tactic(auto, unfolding(crate::specs::Readers::and_then))]
 
-ghost use Rattle.std.specs.Prelude.{◌≡◌, ◌≢◌, ◌≤◌, ◌<◌, ◌^◌, ◌+◌, ◌*◌, ◌-◌, [], ◌∷◌, length, Ok, MatchOption, MatchResult, IfOk, List, ℕ};
+ghost use Rattle.std.specs.Prelude.{◌≡◌, ◌≢◌, ◌≤◌, ◌∷◌, MatchOption, IfOk, List, ℕ, vec_len};
 ghost use Rattle.std.specs.List.{list_all};
-ghost use Rattle.std.specs.Char.{is_ascii_digit};
 ghost use Rattle.mf_script.specs.Readers.{Gives};
-ghost use Rattle.mf_script.specs.Parts.{fixed, word_by, number_of, mode_of, name_of, path_of, label_of, request_for, text_of, is_name, no_more, is_octal_digit, is_name_byte, is_component_byte, is_component, is_text_byte, value_in};
+ghost use Rattle.mf_script.specs.Parts.{fixed, word_by, number_of, mode_of, name_of, path_of, label_of, request_for, text_of, is_name, no_more, is_name_byte, is_component_byte, is_component};
 
 use crate::error::ScriptError;
 use crate::listing::{Listing, Name, Path};
 use crate::words::Words;
 use mf_elem::{Elem, RangeLabel, Request};
+use mf_text::{TextFault, read_number, read_octal, unescape};
 use std::alloc::Global;
+
+/// The greatest mode of a file, as chmod(2) has it.
+const MODE_LIMIT: u32 = 0o7777;
 
 /// The word that has to stand there.
 pub fn fixed(words: &mut Words, text: &str) -> Result<(), ScriptError>
@@ -35,67 +38,23 @@ pub fn no_more(words: &mut Words) -> Result<(), ScriptError>
     }
 }
 
-fn are_digits(word: &[u8]) -> bool
-    ensures { result ≡ list_all is_ascii_digit word.now }
-{
-    word.iter().all(|byte| byte.is_ascii_digit())
-}
-
-fn is_octal_digit(byte: u8) -> bool
-    ensures { result ≡ is_octal_digit byte }
-{
-    b'0' <= byte && byte <= b'7'
-}
-
-fn are_octal_digits(word: &[u8]) -> bool
-    ensures { result ≡ list_all is_octal_digit word.now }
-{
-    word.iter().all(|byte| is_octal_digit(*byte))
-}
-
-/// The value of digits, where it is below a limit.
-fn value_below(digits: &[u8], base: u64, limit: u64) -> Option<u64>
-    requires base { base ≤ 10 }
-    requires some { 0 < base }
-    requires limit { limit ≤ 4294967296 }
-    requires low { 0 < limit }
-    ensures { MatchOption result (limit ≤ value_in base digits.now) (λ v. (v ≡ value_in base digits.now) × (v < limit)) }
-{
-    let mut value = 0;
-    for byte in digits {
-        value = base * value + u64::from(byte.saturating_sub(48));
-        if value >= limit {
-            return None;
-        }
-    }
-    Some(value)
-}
-
-#[tactic(auto, unfolding(crate::specs::Parts::number_of, crate::specs::Readers::and_then))]
+#[tactic(auto, unfolding(crate::specs::Parts::number_of))]
 fn number_of(word: &str) -> Result<u32, ScriptError>
     ensures { Gives (λ n. n) result (number_of word.now) }
 {
-    let digits = word.as_bytes();
-    if digits.is_empty() || !are_digits(digits) {
-        return Err(ScriptError::NotYet);
-    }
-    match value_below(digits, 10, 4294967296) {
-        None => Err(ScriptError::NotYet),
-        Some(value) => Ok(value as u32),
+    match read_number(word, 0, u32::MAX) {
+        Ok(number) => Ok(number),
+        Err(_) => Err(ScriptError::NotYet),
     }
 }
 
-#[tactic(auto, unfolding(crate::specs::Parts::mode_of, crate::specs::Readers::and_then))]
+#[tactic(auto, unfolding(crate::specs::Parts::mode_of))]
 fn mode_of(word: &str) -> Result<u16, ScriptError>
     ensures { Gives (λ n. n) result (mode_of word.now) }
 {
-    let digits = word.as_bytes();
-    if digits.is_empty() || !are_octal_digits(digits) {
-        return Err(ScriptError::NotYet);
-    }
-    match value_below(digits, 8, 4096) {
-        None => Err(ScriptError::NotYet),
-        Some(value) => Ok(value as u16),
+    match read_octal(word, MODE_LIMIT) {
+        Ok(mode) => Ok(mode as u16),
+        Err(_) => Err(ScriptError::NotYet),
     }
 }
 
@@ -179,12 +138,6 @@ fn are_component_bytes(word: &[u8]) -> bool
     word.iter().all(|byte| is_component_byte(*byte))
 }
 
-fn are_text_bytes(word: &[u8]) -> bool
-    ensures { result ≡ list_all is_text_byte word.now }
-{
-    word.iter().all(|byte| *byte != b'\\')
-}
-
 fn is_name(word: &[u8]) -> bool
     ensures { result ≡ is_name word.now }
 {
@@ -255,23 +208,23 @@ pub fn path(alloc: Global, words: &mut Words) -> Result<Path, ScriptError>
 }
 
 #[tactic(auto, unfolding(crate::specs::Parts::text_of, crate::specs::Readers::and_then))]
-fn text_of(word: &str, most: usize) -> Result<&[u8], ScriptError>
-    ensures gives { Gives (λ t. t.now) result (text_of most word.now) }
-    ensures most { IfOk result (λ t. length t.now ≤ most) }
+fn text_of(alloc: Global, word: &str, most: usize) -> Result<Vec<u8>, ScriptError>
+    ensures gives { Gives (λ t. t.items) result (text_of most word.now) }
+    ensures most { IfOk result (λ t. vec_len t ≤ most) }
 {
-    let text = word.as_bytes();
-    if text.len() > most || !are_text_bytes(text) {
-        return Err(ScriptError::NotYet);
+    match unescape(alloc, word) {
+        Ok(bytes) if bytes.len() <= most => Ok(bytes),
+        Ok(_) | Err(TextFault::BadEscape(_)) => Err(ScriptError::NotYet),
+        Err(TextFault::Memory) => Err(ScriptError::Memory),
     }
-    Ok(text)
 }
 
-/// A text of at most so many bytes.
-pub fn text<'a>(words: &mut Words<'a>, most: usize) -> Result<&'a [u8], ScriptError>
-    ensures gives { Gives (λ t. (t.now, words.new)) result (word_by (text_of most) words.old) }
-    ensures most { IfOk result (λ t. length t.now ≤ most) }
+/// The bytes that a text stands for, at most so many.
+pub fn text(alloc: Global, words: &mut Words, most: usize) -> Result<Vec<u8>, ScriptError>
+    ensures gives { Gives (λ t. (t.items, words.new)) result (word_by (text_of most) words.old) }
+    ensures most { IfOk result (λ t. vec_len t ≤ most) }
 {
     let word = words.next().ok_or(ScriptError::NotYet)?;
-    let text = text_of(word, most)?;
+    let text = text_of(alloc, word, most)?;
     Ok(text)
 }

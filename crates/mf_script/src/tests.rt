@@ -1,0 +1,78 @@
+//! Small scripts, good and bad.
+use crate::{Call, ScriptError, read_script};
+
+const ONE_TASK: &str = "boot mac_biba\ntask t uid 0 gid 0 label -\nend\n";
+
+#[test]
+fn reads_what_the_lines_say(rt: HostRuntime) -> Result<(), ScriptError> {
+    let text =
+        "# a mail\n\n boot\tmac_biba \nfile /m reg uid 1 gid 2 mode 0644 label biba/high text a\\0a#\ntask www uid 80 gid 007 label biba/low\n\n\t# not yet\n read /m\nwrite /... \\41b\n\tend";
+    let script = read_script(rt.alloc(), text.as_bytes())?;
+    let files = script.files.as_slice();
+    assert_eq!(rt; files.len(), 1);
+    assert_eq!(rt; files[0].file.mode, 0o644);
+    assert_eq!(rt; files[0].text.as_slice(), b"a\n#".as_slice());
+    let tasks = script.tasks.as_slice();
+    assert_eq!(rt; tasks.len(), 1);
+    assert_eq!(rt; tasks[0].name.as_str(), "www");
+    assert_eq!(rt; tasks[0].cred.groups.as_slice(), [7].as_slice());
+    let lines = tasks[0].lines.as_slice();
+    assert_eq!(rt; lines.len(), 2);
+    match &lines[1].call {
+        Call::Write(_, text) => assert_eq!(rt; text.as_slice(), b"Ab".as_slice()),
+        Call::Read(_) => panic!(rt; "the second line writes"),
+    }
+    Ok(())
+}
+
+#[test]
+fn takes_good_scripts(rt: HostRuntime) {
+    let scripts = [
+        ONE_TASK,
+        "\t boot \t mac_biba \ntask a-b_C9 uid 4294967295 gid 0 label biba/high\nend",
+        "boot mac_biba\nfile /a reg uid 0 gid 0 mode 7777 label -\nfile /b reg uid 0 gid 0 mode 00000 label - text x\ntask t uid 0 gid 0 label -\nend",
+    ];
+    for script in scripts {
+        assert!(rt;
+            read_script(rt.alloc(), script.as_bytes()).is_ok(),
+            "{script}"
+        );
+    }
+}
+
+#[test]
+fn refuses_bad_scripts(rt: HostRuntime) {
+    let scripts = [
+        "",
+        "task t uid 0 gid 0 label -\nend",
+        "boot mac_biba\nboot mac_biba\ntask t uid 0 gid 0 label -\nend",
+        "boot mac_biba\r\ntask t uid 0 gid 0 label -\nend",
+        "boot mac_biba\n# \u{e9}\ntask t uid 0 gid 0 label -\nend",
+        "boot mac_biba\ntask t uid 0 gid 0 label -\n",
+        "boot mac_biba\ntask t uid 0 gid 0 label -\nend now",
+        "boot mac_biba\ntask t uid 0 gid 0 label -\nend\nend",
+        "boot mac_biba\ntask t uid 0 gid 0 label -\nread\nend",
+        "boot mac_biba\ntask t uid 0 gid 0 label -\nread /a b\nend",
+        "boot mac_biba\ntask t uid 0 gid 0 label -\nread a\nend",
+        "boot mac_biba\ntask t uid 0 gid 0 label -\nread /a/\nend",
+        "boot mac_biba\ntask t uid 0 gid 0 label -\nread /..\nend",
+        "boot mac_biba\ntask t uid 0 gid 0 label -\nopen /a\nend",
+        "boot mac_biba\ntask t uid 0 gid 0 label -\nwrite /a \\4\nend",
+        "boot mac_biba\ntask t.c uid 0 gid 0 label -\nend",
+        "boot mac_biba\ntask a23456789b123456789c123456789d123 uid 0 gid 0 label -\nend",
+        "boot mac_biba\ntask t uid 4294967296 gid 0 label -\nend",
+        "boot mac_biba\ntask t uid -1 gid 0 label -\nend",
+        "boot mac_biba\ntask t gid 0 uid 0 label -\nend",
+        "boot mac_biba\nfile /a reg uid 0 gid 0 mode 08 label -\ntask t uid 0 gid 0 label -\nend",
+        "boot mac_biba\nfile /a reg uid 0 gid 0 mode 10000 label -\ntask t uid 0 gid 0 label -\nend",
+        "boot mac_biba\nfile /a reg uid 0 gid 0 mode 0 label - text\ntask t uid 0 gid 0 label -\nend",
+        "boot mac_biba\nfile /a reg uid 0 gid 0 mode 0 label -\nfile /a reg uid 0 gid 0 mode 0 label -\ntask t uid 0 gid 0 label -\nend",
+    ];
+    for script in scripts {
+        assert_eq!(rt;
+            read_script(rt.alloc(), script.as_bytes()).err(),
+            Some(ScriptError::NotYet),
+            "{script}"
+        );
+    }
+}
