@@ -1,5 +1,5 @@
 //! Numbers in decimal or octal digits.
-ghost use Rattle.std.specs.Prelude.{◌≡◌, ◌<◌, ◌≤◌, true, not, min};
+ghost use Rattle.std.specs.Prelude.{◌≡◌, ◌<◌, ◌≤◌, true, not, min, IfOk};
 ghost use Rattle.std.specs.List.{position};
 ghost use Rattle.std.specs.Char.{is_digit, digit_value};
 ghost use Rattle.std.specs.Str.Parse.{digits_value};
@@ -21,28 +21,32 @@ pub enum NumberFault {
 
 /// The value of a text of decimal digits, from `least` to `greatest`. Leading zeros are accepted, a sign isn't.
 pub fn read_number(text: &str, least: u32, greatest: u32) -> Result<u32, NumberFault>
-    ensures { result ≡ number_in 10 least greatest text.now }
+    ensures value { result ≡ number_in 10 least greatest text.now }
+    ensures within { IfOk result (λ value. (least ≤ value) × (value ≤ greatest)) }
 {
     read_in_base(text.as_bytes(), 10, least, greatest)
 }
 
 /// The same as `read_number` for the bytes of a text.
 pub fn read_number_bytes(text: &[u8], least: u32, greatest: u32) -> Result<u32, NumberFault>
-    ensures { result ≡ number_in 10 least greatest text.now }
+    ensures value { result ≡ number_in 10 least greatest text.now }
+    ensures within { IfOk result (λ value. (least ≤ value) × (value ≤ greatest)) }
 {
     read_in_base(text, 10, least, greatest)
 }
 
 /// The value of a text of octal digits, up to `greatest`. Leading zeros are accepted; 8 and 9 are no digits here.
 pub fn read_octal(text: &str, greatest: u32) -> Result<u32, NumberFault>
-    ensures { result ≡ number_in 8 0 greatest text.now }
+    ensures value { result ≡ number_in 8 0 greatest text.now }
+    ensures within { IfOk result (λ value. value ≤ greatest) }
 {
     read_in_base(text.as_bytes(), 8, 0, greatest)
 }
 
 /// The same as `read_octal` for the bytes of a text.
 pub fn read_octal_bytes(text: &[u8], greatest: u32) -> Result<u32, NumberFault>
-    ensures { result ≡ number_in 8 0 greatest text.now }
+    ensures value { result ≡ number_in 8 0 greatest text.now }
+    ensures within { IfOk result (λ value. value ≤ greatest) }
 {
     read_in_base(text, 8, 0, greatest)
 }
@@ -51,7 +55,8 @@ pub fn read_octal_bytes(text: &[u8], greatest: u32) -> Result<u32, NumberFault>
 fn read_in_base(text: &[u8], base: u32, least: u32, greatest: u32) -> Result<u32, NumberFault>
     requires lower { 2 ≤ base }
     requires upper { base ≤ 10 }
-    ensures { result ≡ number_in base least greatest text.now }
+    ensures value { result ≡ number_in base least greatest text.now }
+    ensures within { IfOk result (λ value. (least ≤ value) × (value ≤ greatest)) }
 {
     if text.is_empty() {
         return Err(NumberFault::Empty);
@@ -103,7 +108,8 @@ fn digit_value(byte: u8, base: u32) -> u64
 }
 
 fn value_within(value: u64, least: u32, greatest: u32) -> Result<u32, NumberFault>
-    ensures { result ≡ within least greatest value }
+    ensures value { result ≡ within least greatest value }
+    ensures within { IfOk result (λ value. (least ≤ value) × (value ≤ greatest)) }
 {
     if u64::from(least) <= value && value <= u64::from(greatest) {
         Ok(value as u32)

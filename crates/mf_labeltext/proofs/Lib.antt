@@ -1,0 +1,5 @@
+pub mod Cutting
+pub mod CompsReading
+pub mod ElementsReading
+pub mod Numbers
+pub mod Spelling

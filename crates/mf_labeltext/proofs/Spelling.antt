@@ -1,0 +1,1 @@
+-- Elements and whole texts: what is read is spelled, and what is spelled is read.

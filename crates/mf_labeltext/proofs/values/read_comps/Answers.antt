@@ -1,0 +1,45 @@
+use Rattle.std.proofs.Common.{◌≡◌, ℕ, Some, ap, sym, ◌∙◌}
+use Rattle.mf_elem.specs.Comps.{compartments_of, comps_of}
+use Rattle.mf_labeltext.specs.Reading.{cut, parts, comps_from, comps_in}
+use Rattle.mf_labeltext.proofs.CompsReading.{comps_behind, comps_more, comps_last, comps_end}
+use Rattle.mf_labeltext.proofs.values.read_comps.Goals as goal
+
+pub returns-in_err-read_compartment : goal.returns-in_err-read_compartment
+returns-in_err-read_compartment c =
+    let comps = compartments_of c.loop-first.comps in
+    let split = c.in-Some.ensures in
+    let read = c.in_err-read_compartment.ensures in
+    c.from_residual.ensures
+    ∙ ap (comps_behind comps c.in-Some.after.now) read.value
+    ∙ sym (comps_more comps c.loop-first.rest.now c.in-Some.first.now c.in-Some.after.now split.cut)
+    ∙ c.loop-first.invariant
+
+pub loop-first-preserved : goal.loop-first-preserved
+loop-first-preserved c =
+    let comps = compartments_of c.loop-first.comps in
+    let split = c.in-Some.ensures in
+    let read = c.in_ok-read_compartment.ensures in
+    ap (λ s. comps_from s (parts 43 c.in-Some.after.now)) c.with-comps.ensures.set
+    ∙ ap (comps_behind comps c.in-Some.after.now) read.value
+    ∙ sym (comps_more comps c.loop-first.rest.now c.in-Some.first.now c.in-Some.after.now split.cut)
+    ∙ c.loop-first.invariant
+
+pub returns-in_err-read_compartment-2 : goal.returns-in_err-read_compartment-2
+returns-in_err-read_compartment-2 c =
+    let comps = compartments_of c.loop-first.comps in
+    let split = c.in_default.ensures in
+    let read = c.in_err-read_compartment-2.ensures in
+    c.from_residual-in_err-read_compartment-2.ensures
+    ∙ ap (comps_last comps) read.value
+    ∙ sym (comps_end comps c.loop-first.rest.now split.cut)
+    ∙ c.loop-first.invariant
+
+pub returns : goal.returns
+returns c =
+    let comps = compartments_of c.loop-first.comps in
+    let split = c.in_default.ensures in
+    let read = c.in_ok-read_compartment-2.ensures in
+    ap Some c.with.ensures.value
+    ∙ ap (comps_last comps) read.value
+    ∙ sym (comps_end comps c.loop-first.rest.now split.cut)
+    ∙ c.loop-first.invariant

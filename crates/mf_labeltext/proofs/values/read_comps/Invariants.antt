@@ -1,0 +1,10 @@
+use Rattle.std.proofs.Common.{◌≡◌, length}
+use Rattle.mf_elem.specs.Comps.{compartments_of, comps_of}
+use Rattle.mf_labeltext.specs.Reading.{parts, comps_from, comps_in}
+use Rattle.mf_labeltext.proofs.values.read_comps.Given as goal
+
+abbrev pub invariant-loop-first : goal.invariant-loop-first
+invariant-loop-first l = comps_from (compartments_of l.comps) (parts 43 l.rest) ≡ comps_in l.text
+
+abbrev pub decreases-loop-first : goal.decreases-loop-first
+decreases-loop-first l = length l.rest

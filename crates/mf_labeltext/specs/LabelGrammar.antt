@@ -1,0 +1,111 @@
+-- The label texts of maclabel(7), and what each of them asks for.
+--
+-- A text is label elements, parted by commas. An element is the name of a policy, a slash and a value. The value of biba and
+-- mls is an effective element, a range "(low end-high end)", or both, one behind the other; that of partition is a number, or
+-- "none", which is 0. Of several elements of one policy the last one counts.
+use Rattle.std.specs.Prelude.{◌≡◌, ◌≢◌, ℕ, ◌≤◌, ◌⊎◌, List, [], ◌∷◌, ◌++◌, Option, Some, None, codes, true, false}
+use Rattle.std.specs.List.{join_with_byte, AllByRecursion}
+use Rattle.std.specs.Int.{IsInRange}
+use Rattle.std.specs.Str.Parse.{IsNumeral, digits_value}
+use Rattle.std.specs.FinSet as set
+use Rattle.mf_elem.specs.Comps.{comps_of}
+use Rattle.mf_elem.specs.declared.comps.Comps.{Comps}
+use Rattle.mf_elem.specs.declared.elem.Elem.{Elem}
+use Rattle.mf_elem.specs.declared.elem.Elem.TheVariants.{Low, High, Equal, Grade}
+use Rattle.mf_elem.specs.declared.label.RangeLabel.{RangeLabel}
+use Rattle.mf_elem.specs.declared.label.Request.{Request}
+
+-- decimal digits of a number from the least to the greatest; leading zeros are accepted
+pub record SpellsNumber (least greatest : ℕ) (text : List ℕ) (n : ℕ) : Type 0 where
+  pub numeral : IsNumeral 10 text
+  pub value : digits_value 10 text ≡ n
+  pub above : least ≤ n
+  pub below : n ≤ greatest
+
+-- each text spells the compartment that stands in its place
+abbrev pub SpellEach : List (List ℕ) → List ℕ → Type 0
+SpellEach [] [] = Unit {0}
+SpellEach [] (n ∷ ns) = ⊥
+SpellEach (text ∷ texts) [] = ⊥
+SpellEach (text ∷ texts) (n ∷ ns) = SpellsNumber 1 256 text n × SpellEach texts ns
+
+-- one or more compartments with a plus between them, in any order and repeated: they are a set
+pub record SpellsComps (text : List ℕ) (comps : Comps) : Type 0 where
+  pub texts : List (List ℕ)
+  pub some : texts ≢ []
+  pub parted : text ≡ join_with_byte 43 texts
+  pub numbers : List ℕ
+  pub each : SpellEach texts numbers
+  pub set : comps ≡ comps_of (set.from_list numbers)
+
+-- a grade alone, or a grade, a colon and compartments
+abbrev pub SpellsGrade : List ℕ → ℕ → Comps → Type 0
+SpellsGrade text grade comps =
+    (SpellsNumber 0 65535 text grade × (comps ≡ comps_of set.empty))
+    ⊎ ((digits : List ℕ) × (others : List ℕ) × (text ≡ digits ++ 58 ∷ others) × SpellsNumber 0 65535 digits grade × SpellsComps others comps)
+
+abbrev pub SpellsElem : List ℕ → Elem → Type 0
+SpellsElem text Low = (text ≡ codes "low") ⊎ (text ≡ codes "lo")
+SpellsElem text High = (text ≡ codes "high") ⊎ (text ≡ codes "hi")
+SpellsElem text Equal = (text ≡ codes "equal") ⊎ (text ≡ codes "eq")
+SpellsElem text (Grade grade comps) = SpellsGrade text grade comps
+
+-- "(", the low end, "-", the high end, ")"
+abbrev pub SpellsRange : List ℕ → Elem × Elem → Type 0
+SpellsRange text ends = (low : List ℕ) × (high : List ℕ) × (text ≡ 40 ∷ low ++ 45 ∷ high ++ 41 ∷ []) × SpellsElem low ends.0 × SpellsElem high ends.1
+
+abbrev pub SpellsParts : List ℕ → Option Elem → Option (Elem × Elem) → Type 0
+SpellsParts text None None = ⊥
+SpellsParts text (Some element) None = SpellsElem text element
+SpellsParts text None (Some ends) = SpellsRange text ends
+SpellsParts text (Some element) (Some ends) = (effective : List ℕ) × (range : List ℕ) × (text ≡ effective ++ range) × SpellsElem effective element × SpellsRange range ends
+
+-- the value of biba and of mls
+abbrev pub SpellsLabel : List ℕ → RangeLabel → Type 0
+SpellsLabel text label = SpellsParts text label.effective label.range
+
+-- the value of partition
+abbrev pub SpellsPartition : List ℕ → ℕ → Type 0
+SpellsPartition text n = ((text ≡ codes "none") × (n ≡ 0)) ⊎ SpellsNumber 0 2147483647 text n
+
+-- a lower-case letter, a digit or an underscore
+abbrev pub IsNameByte : ℕ → Type 0
+IsNameByte byte = IsInRange 97 122 byte ⊎ IsInRange 48 57 byte ⊎ (byte ≡ 95)
+
+abbrev pub IsName : List ℕ → Type 0
+IsName name = (name ≢ []) × AllByRecursion IsNameByte name
+
+abbrev pub IsOtherName : List ℕ → Type 0
+IsOtherName name = (name ≢ codes "biba") × (name ≢ codes "mls") × (name ≢ codes "partition")
+
+-- The element of this name and value asks for its policy's part, and leaves the others: with it, before becomes after. The value
+-- of any other policy may be anything.
+abbrev pub Asks : List ℕ → List ℕ → Request → Request → Type 0
+Asks name value before after =
+    ((name ≡ codes "biba") × (label : RangeLabel) × SpellsLabel value label × (after ≡ record before { biba = Some label }))
+    ⊎ ((name ≡ codes "mls") × (label : RangeLabel) × SpellsLabel value label × (after ≡ record before { mls = Some label }))
+    ⊎ ((name ≡ codes "partition") × (n : ℕ) × SpellsPartition value n × (after ≡ record before { partition = Some n }))
+    ⊎ (IsOtherName name × (after ≡ record before { other = true }))
+
+abbrev pub SpellsElement : List ℕ → Request → Request → Type 0
+SpellsElement element before after = (name : List ℕ) × (value : List ℕ) × (element ≡ name ++ 47 ∷ value) × IsName name × Asks name value before after
+
+-- the elements ask one after another
+abbrev pub SpellElements : List (List ℕ) → Request → Request → Type 0
+SpellElements [] before after = before ≡ after
+SpellElements (element ∷ elements) before after = (next : Request) × SpellsElement element before next × SpellElements elements next after
+
+-- nothing is asked for
+abbrev pub nothing : Request
+nothing = record { biba = None; mls = None; partition = None; other = false }
+
+abbrev pub HasNoComma : List ℕ → Type 0
+HasNoComma element = AllByRecursion (λ byte. byte ≢ 44) element
+
+-- the text asks for this request
+pub record Spells (text : List ℕ) (request : Request) : Type 0 where
+  pub elements : List (List ℕ)
+  pub some : elements ≢ []
+  pub parted : text ≡ join_with_byte 44 elements
+  pub whole : AllByRecursion HasNoComma elements
+  pub each : SpellElements elements nothing request

@@ -1,0 +1,134 @@
+-- Reading a label text from left to right: what it asks for, or its first fault.
+use Rattle.std.specs.Prelude.{◌≡◌, ℕ, ◌+◌, List, [], ◌∷◌, length, Option, Some, None, Result, Ok, Err, Bool, true, false, nat_le, ◌==◌, ◌&&◌, ◌||◌, if◌then◌else◌, codes}
+use Rattle.std.specs.List.{slice_split, list_all}
+use Rattle.std.specs.Option.{option_map, ok_or}
+use Rattle.std.specs.Result.{result_ok}
+use Rattle.std.specs.Str.{bytes_eq}
+use Rattle.std.specs.FinSet as set
+use Rattle.std.specs.FinSet.{FinSet}
+use Rattle.std.specs.Ordering.{nat_cmp}
+use Rattle.mf_text.specs.Number.{number_in}
+use Rattle.mf_elem.specs.Comps.{comps_of}
+use Rattle.mf_elem.specs.declared.comps.Comps.{Comps}
+use Rattle.mf_elem.specs.declared.elem.Elem.{Elem}
+use Rattle.mf_elem.specs.declared.elem.Elem.TheVariants.{Low, High, Equal, Grade}
+use Rattle.mf_elem.specs.declared.label.RangeLabel.{RangeLabel}
+use Rattle.mf_elem.specs.declared.label.Request.{Request}
+use Rattle.mf_labeltext.specs.LabelGrammar.{nothing}
+use Rattle.mf_labeltext.specs.declared.fault.LabelFault.{LabelFault}
+use Rattle.mf_labeltext.specs.declared.fault.LabelFault.TheVariants.{NoSlash, BadValue, EmptyElement}
+
+infixl 10 ◌>>=◌
+abbrev pub ◌>>=◌ : {A B : Type 0} → Option A → (A → Option B) → Option B
+(Some x) >>= f = f x
+None >>= f = None
+
+-- the text in front of the first such byte, and the text behind it
+abbrev pub with_first : ℕ → Option (List ℕ × List ℕ) → Option (List ℕ × List ℕ)
+with_first c None = None
+with_first c (Some halves) = Some (c ∷ halves.0, halves.1)
+
+unfoldable pub cut : ℕ → List ℕ → Option (List ℕ × List ℕ)
+cut byte [] = None
+cut byte (c ∷ cs) = if c == byte then Some ([], cs) else with_first c (cut byte cs)
+
+-- the texts between such bytes
+unfoldable pub parts : ℕ → List ℕ → List (List ℕ)
+parts byte text = slice_split (λ c. c == byte) text
+
+unfoldable pub number : ℕ → ℕ → List ℕ → Option ℕ
+number least greatest text = result_ok (number_in 10 least greatest text)
+
+-- the compartments so far, and those that the texts spell
+unfoldable pub comps_from : FinSet nat_cmp → List (List ℕ) → Option Comps
+comps_from comps [] = Some (comps_of comps)
+comps_from comps (text ∷ texts) = number 1 256 text >>= λ n. comps_from (set.insert comps n) texts
+
+unfoldable pub comps_in : List ℕ → Option Comps
+comps_in text = comps_from set.empty (parts 43 text)
+
+abbrev pub grade_of : List ℕ → Option (List ℕ × List ℕ) → Option Elem
+grade_of text None = number 0 65535 text >>= λ grade. Some (Grade grade (comps_of set.empty))
+grade_of text (Some halves) = do
+  grade ← number 0 65535 halves.0
+  comps ← comps_in halves.1
+  Some (Grade grade comps)
+
+unfoldable pub grade_in : List ℕ → Option Elem
+grade_in text = grade_of text (cut 58 text)
+
+unfoldable pub elem_in : List ℕ → Option Elem
+elem_in text =
+    if bytes_eq text (codes "low") || bytes_eq text (codes "lo") then Some Low
+    else if bytes_eq text (codes "high") || bytes_eq text (codes "hi") then Some High
+    else if bytes_eq text (codes "equal") || bytes_eq text (codes "eq") then Some Equal
+    else grade_in text
+
+-- the text in front of a last ")", which is the only one
+abbrev pub without_close : Option (List ℕ × List ℕ) → Option (List ℕ)
+without_close None = None
+without_close (Some halves) = if length halves.1 == 0 then Some halves.0 else None
+
+-- a range behind its "("
+unfoldable pub range_in : List ℕ → Option (Elem × Elem)
+range_in text = do
+  halves ← cut 45 text
+  high ← without_close (cut 41 halves.1)
+  low_end ← elem_in halves.0
+  high_end ← elem_in high
+  Some (low_end, high_end)
+
+-- the effective element in front of a range, where there is one
+abbrev pub effective_in : List ℕ → Option (Option Elem)
+effective_in [] = Some None
+effective_in (c ∷ cs) = elem_in (c ∷ cs) >>= λ element. Some (Some element)
+
+abbrev pub label_of : List ℕ → Option (List ℕ × List ℕ) → Option RangeLabel
+label_of text None = elem_in text >>= λ element. Some (record { effective = Some element; range = None })
+label_of text (Some halves) = do
+  effective ← effective_in halves.0
+  ends ← range_in halves.1
+  Some (record { effective = effective; range = Some ends })
+
+unfoldable pub label_in : List ℕ → Option RangeLabel
+label_in text = label_of text (cut 40 text)
+
+unfoldable pub partition_in : List ℕ → Option ℕ
+partition_in text = if bytes_eq text (codes "none") then Some 0 else number 0 2147483647 text
+
+-- what is asked for with the element of this name and value
+unfoldable pub asked : List ℕ → List ℕ → Request → Option Request
+asked name value request =
+    if bytes_eq name (codes "biba") then (label_in value >>= λ label. Some (record request { biba = Some label }))
+    else if bytes_eq name (codes "mls") then (label_in value >>= λ label. Some (record request { mls = Some label }))
+    else if bytes_eq name (codes "partition") then (partition_in value >>= λ n. Some (record request { partition = Some n }))
+    else Some (record request { other = true })
+
+abbrev pub is_name_byte : ℕ → Bool
+is_name_byte byte = (nat_le 97 byte && nat_le byte 122) || (nat_le 48 byte && nat_le byte 57) || byte == 95
+
+abbrev pub is_name : List ℕ → Bool
+is_name [] = false
+is_name (c ∷ cs) = list_all is_name_byte (c ∷ cs)
+
+abbrev pub element_of : ℕ → Request → Option (List ℕ × List ℕ) → Result Request LabelFault
+element_of place request None = Err (NoSlash place)
+element_of place request (Some halves) =
+    if is_name halves.0 then ok_or (asked halves.0 halves.1 request) (BadValue (place + length halves.0 + 1)) else Err (NoSlash place)
+
+-- what is asked for with the element at a place
+unfoldable pub element_in : ℕ → Request → List ℕ → Result Request LabelFault
+element_in place request [] = Err (EmptyElement place)
+element_in place request (c ∷ cs) = element_of place request (cut 47 (c ∷ cs))
+
+abbrev pub and_then : {A : Type 0} → Result A LabelFault → (A → Result A LabelFault) → Result A LabelFault
+and_then (Ok x) f = f x
+and_then (Err fault) f = Err fault
+
+-- what is asked for with the elements, of which the first stands at a place
+unfoldable pub elements_in : ℕ → Request → List (List ℕ) → Result Request LabelFault
+elements_in place request [] = Ok request
+elements_in place request (element ∷ elements) = and_then (element_in place request element) (λ next. elements_in (place + length element + 1) next elements)
+
+unfoldable pub request_in : List ℕ → Result Request LabelFault
+request_in text = elements_in 0 nothing (parts 44 text)

@@ -1,0 +1,10 @@
+//! Label texts of maclabel(7): reading what a text asks for, and printing labels in their canonical text.
+#![tactic(auto)]
+
+mod fault;
+mod reading;
+mod splitting;
+mod values;
+
+pub use fault::LabelFault;
+pub use reading::{read_request, read_request_bytes};

@@ -1,0 +1,117 @@
+//! The values of label elements: elements with grades and compartments, ranges, and partition numbers.
+ghost use Rattle.std.specs.Prelude.{◌≡◌, ◌≤◌, IfSome};
+ghost use Rattle.mf_labeltext.specs.Reading.{number, comps_in, grade_in, elem_in, effective_in, range_in, label_in, partition_in};
+
+use crate::splitting::split_once;
+use mf_elem::{Comps, Elem, RangeLabel};
+use mf_text::read_number_bytes;
+
+#[tactic(auto, unfolding(crate::specs::Reading::number))]
+fn read_grade_number(text: &[u8]) -> Option<u16>
+    ensures { result ≡ number 0 65535 text.now }
+{
+    match read_number_bytes(text, 0, 65535) {
+        Ok(grade) => Some(grade as u16),
+        Err(_) => None,
+    }
+}
+
+#[tactic(auto, unfolding(crate::specs::Reading::number))]
+fn read_compartment(text: &[u8]) -> Option<u16>
+    ensures value { result ≡ number 1 256 text.now }
+    ensures within { IfSome result (λ n. (1 ≤ n) × (n ≤ 256)) }
+{
+    match read_number_bytes(text, 1, 256) {
+        Ok(n) => Some(n as u16),
+        Err(_) => None,
+    }
+}
+
+/// The compartments of a list with a plus between each two.
+#[tactic(auto, unfolding(crate::specs::Reading::comps_in))]
+fn read_comps(text: &[u8]) -> Option<Comps>
+    ensures { result ≡ comps_in text.now }
+{
+    let mut comps = Comps::empty();
+    let mut rest = text;
+    while let Some((first, after)) = split_once(rest, b'+') {
+        comps = comps.with(read_compartment(first)?);
+        rest = after;
+    }
+    Some(comps.with(read_compartment(rest)?))
+}
+
+#[tactic(auto, unfolding(crate::specs::Reading::grade_in))]
+fn read_grade(text: &[u8]) -> Option<Elem>
+    ensures { result ≡ grade_in text.now }
+{
+    match split_once(text, b':') {
+        None => Some(Elem::Grade(read_grade_number(text)?, Comps::empty())),
+        Some((grade, comps)) => Some(Elem::Grade(read_grade_number(grade)?, read_comps(comps)?)),
+    }
+}
+
+#[tactic(auto, unfolding(crate::specs::Reading::elem_in))]
+fn read_elem(text: &[u8]) -> Option<Elem>
+    ensures { result ≡ elem_in text.now }
+{
+    if text == b"low".as_slice() || text == b"lo".as_slice() {
+        Some(Elem::Low)
+    } else if text == b"high".as_slice() || text == b"hi".as_slice() {
+        Some(Elem::High)
+    } else if text == b"equal".as_slice() || text == b"eq".as_slice() {
+        Some(Elem::Equal)
+    } else {
+        read_grade(text)
+    }
+}
+
+/// The ends of a range, of which the text is what stands behind its opening parenthesis.
+#[tactic(auto, unfolding(crate::specs::Reading::range_in))]
+fn read_range(text: &[u8]) -> Option<(Elem, Elem)>
+    ensures { result ≡ range_in text.now }
+{
+    let (low, rest) = split_once(text, b'-')?;
+    let (high, rest) = split_once(rest, b')')?;
+    if !rest.is_empty() {
+        return None;
+    }
+    Some((read_elem(low)?, read_elem(high)?))
+}
+
+fn read_effective(text: &[u8]) -> Option<Option<Elem>>
+    ensures { result ≡ effective_in text.now }
+{
+    if text.is_empty() {
+        return Some(None);
+    }
+    Some(Some(read_elem(text)?))
+}
+
+/// The value of a Biba or MLS element.
+#[tactic(auto, unfolding(crate::specs::Reading::label_in))]
+pub fn read_label(text: &[u8]) -> Option<RangeLabel>
+    ensures { result ≡ label_in text.now }
+{
+    match split_once(text, b'(') {
+        None => Some(RangeLabel::effective(read_elem(text)?)),
+        Some((effective, range)) => Some(RangeLabel {
+            effective: read_effective(effective)?,
+            range: Some(read_range(range)?),
+        }),
+    }
+}
+
+/// The value of a partition element.
+#[tactic(auto, unfolding(crate::specs::Reading::partition_in, crate::specs::Reading::number))]
+pub fn read_partition(text: &[u8]) -> Option<u32>
+    ensures { result ≡ partition_in text.now }
+{
+    if text == b"none".as_slice() {
+        return Some(0);
+    }
+    match read_number_bytes(text, 0, 2147483647) {
+        Ok(number) => Some(number),
+        Err(_) => None,
+    }
+}
