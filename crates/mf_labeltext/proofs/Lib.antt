@@ -3,3 +3,5 @@ pub mod CompsReading
 pub mod ElementsReading
 pub mod Numbers
 pub mod Spelling
+pub mod Requests
+pub mod Faults

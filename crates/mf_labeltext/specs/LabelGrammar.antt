@@ -52,7 +52,7 @@ SpellsElem text (Grade grade comps) = SpellsGrade text grade comps
 
 -- "(", the low end, "-", the high end, ")"
 abbrev pub SpellsRange : List ℕ → Elem × Elem → Type 0
-SpellsRange text ends = (low : List ℕ) × (high : List ℕ) × (text ≡ 40 ∷ low ++ 45 ∷ high ++ 41 ∷ []) × SpellsElem low ends.0 × SpellsElem high ends.1
+SpellsRange text ends = (low : List ℕ) × (high : List ℕ) × (text ≡ 40 ∷ low ++ (45 ∷ high ++ 41 ∷ [])) × SpellsElem low ends.0 × SpellsElem high ends.1
 
 abbrev pub SpellsParts : List ℕ → Option Elem → Option (Elem × Elem) → Type 0
 SpellsParts text None None = ⊥

@@ -105,7 +105,7 @@ asked name value request =
     else Some (record request { other = true })
 
 abbrev pub is_name_byte : ℕ → Bool
-is_name_byte byte = (nat_le 97 byte && nat_le byte 122) || (nat_le 48 byte && nat_le byte 57) || byte == 95
+is_name_byte byte = (nat_le 97 byte && nat_le byte 122) || ((nat_le 48 byte && nat_le byte 57) || byte == 95)
 
 abbrev pub is_name : List ℕ → Bool
 is_name [] = false

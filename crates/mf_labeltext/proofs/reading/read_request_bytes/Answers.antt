@@ -1,0 +1,11 @@
+use Rattle.std.proofs.Common.{sym, ◌∙◌}
+use Rattle.mf_labeltext.proofs.Requests.{request_spells, spells_request}
+use Rattle.mf_labeltext.proofs.Faults.{faults_are}
+use Rattle.mf_labeltext.proofs.reading.read_request_bytes.Goals as goal
+
+pub returns-clause-spells : goal.returns-clause-spells
+returns-clause-spells c = λ request.
+    (λ is. request_spells c.args.text.now request (sym c.read_elements.ensures ∙ is), λ spells. c.read_elements.ensures ∙ spells_request c.args.text.now request spells)
+
+pub returns-clause-fault : goal.returns-clause-fault
+returns-clause-fault c = faults_are c.args.text.now c.read_elements.result c.read_elements.ensures
