@@ -1,0 +1,6 @@
+pub mod Outside
+pub mod Calls
+pub mod Held
+pub mod Memory
+pub mod Sure
+pub mod Reading

@@ -1,0 +1,28 @@
+-- What a source has left, what a sink has taken, and how often each has failed.
+use Rattle.std.specs.Prelude.{◌≡◌, ◌⊎◌, ℕ, ◌<◌, ◌≤◌, List, [], ◌++◌, length, take, Option, Some, None, IfSome, IsSomeAnd, ◌↔◌, Result, OnErr}
+use Rattle.mf_top.specs.declared.io.source.Failed.{Failed}
+
+-- the count of faults rose, or stands at its last value
+abbrev pub HasRisen : ℕ → ℕ → Type 0
+HasRisen before now = (before < now) ⊎ (now ≡ 18446744073709551615)
+
+-- A count of faults that doesn't fall, and has risen where the call failed.
+pub record HasCause {T : Type 0} (before now : ℕ) (result : Result T Failed) : Type 0 where
+  pub later : before ≤ now
+  pub failed : OnErr result (HasRisen before now)
+
+-- Where the source tells its bytes: n of them went to the front of the buffer, and none only at the end.
+pub record Gave (before : Option (List ℕ)) (now : Option (List ℕ)) (room n : ℕ) (buffer : List ℕ) : Type 0 where
+  pub fits : n ≤ room
+  pub bytes : IfSome before (λ all. IsSomeAnd now (λ rest. all ≡ take n buffer ++ rest))
+  pub last : IfSome before (λ all. 0 < room → (n ≡ 0) ↔ (all ≡ []))
+
+-- Where the sink tells its bytes before and now: the piece came behind them. One that tells none tells none from then on.
+abbrev pub Took : Option (List ℕ) → Option (List ℕ) → List ℕ → Type 0
+Took None now piece = now ≡ None
+Took (Some all) None piece = Unit {0}
+Took (Some all) (Some more) piece = more ≡ all ++ piece
+
+-- a beginning of the text came behind them
+abbrev pub TookPart : Option (List ℕ) → Option (List ℕ) → List ℕ → Type 0
+TookPart before now text = (n : ℕ) × Took before now (take n text)

@@ -1,0 +1,14 @@
+-- What the reader of a whole source has read.
+use Rattle.std.specs.Prelude.{◌≡◌, ℕ, ◌<◌, List, [], ◌++◌, length, Option, Some, IfSome, IsSomeAnd}
+
+-- where the source tells its bytes: they are these, and all of them are taken
+abbrev pub IsWhole : Option (List ℕ) → Option (List ℕ) → List ℕ → Type 0
+IsWhole before now bytes = IfSome before (λ all. (bytes ≡ all) × (now ≡ Some []))
+
+-- where the source tells its bytes: they are more than a script may have, and one more than that was taken
+abbrev pub IsTooLong : Option (List ℕ) → Option (List ℕ) → Type 0
+IsTooLong before now = IfSome before (λ all. (1048576 < length all) × IsSomeAnd now (λ rest. (taken : List ℕ) × (length taken ≡ 1048577) × (all ≡ taken ++ rest)))
+
+-- where the source tells its bytes: n of them came behind those so far, and none only at the end
+abbrev pub GaveOn : Option (List ℕ) → Option (List ℕ) → List ℕ → List ℕ → ℕ → Type 0
+GaveOn before now old new n = IfSome before (λ all. (piece : List ℕ) × (new ≡ old ++ piece) × IsSomeAnd now (λ rest. all ≡ piece ++ rest) × ((n ≡ 0) → (all ≡ []) × (piece ≡ [])))

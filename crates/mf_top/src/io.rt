@@ -1,0 +1,17 @@
+//! What the program reads from and writes to: sources and sinks, over memory and over the process's own streams.
+
+mod calls;
+mod memory;
+mod sink;
+mod source;
+mod standard;
+mod sure;
+
+
+
+pub use calls::Calls;
+pub use memory::{MemSink, MemSource};
+pub use sink::Sink;
+pub use standard::{StdSink, StdSource};
+pub use sure::{SureSink, SureSource};
+pub use source::{Failed, Source};

@@ -1,0 +1,65 @@
+//! The trusted edge: readers and writers of the outside, which tell no bytes.
+ghost use Rattle.std.specs.Prelude.{None};
+
+use crate::io::sink::Sink;
+use crate::io::source::{Failed, Source};
+use std::io::{Read, Write};
+
+/// A source over a reader, as standard input. It counts the reader's errors.
+#[derive(Drop)]
+pub struct StdSource<R: Read + Drop> {
+    reader: R,
+    faults: u64,
+}
+
+impl<R: Read + Drop> StdSource<R> {
+    pub fn new(reader: R) -> Self {
+        StdSource { reader, faults: 0 }
+    }
+}
+
+impl<R: Read + Drop> Source for StdSource<R> {
+    ghost left = { λ s. None };
+
+    ghost faults = { λ s. s.faults };
+
+    fn read(&mut self, buffer: &mut [u8]) -> Result<usize, Failed> {
+        match self.reader.read(buffer) {
+            Ok(count) => Ok(count),
+            Err(_) => {
+                self.faults = self.faults.saturating_add(1);
+                Err(Failed)
+            }
+        }
+    }
+}
+
+/// A sink over a writer, as standard output. It counts the writer's errors, and as one a write that takes nothing of a
+/// piece that isn't empty.
+#[derive(Drop)]
+pub struct StdSink<W: Write + Drop> {
+    writer: W,
+    faults: u64,
+}
+
+impl<W: Write + Drop> StdSink<W> {
+    pub fn new(writer: W) -> Self {
+        StdSink { writer, faults: 0 }
+    }
+}
+
+impl<W: Write + Drop> Sink for StdSink<W> {
+    ghost taken = { λ s. None };
+
+    ghost faults = { λ s. s.faults };
+
+    fn write(&mut self, piece: &[u8]) -> Result<usize, Failed> {
+        if let Ok(count) = self.writer.write(piece)
+            && (count > 0 || piece.is_empty())
+        {
+            return Ok(count);
+        }
+        self.faults = self.faults.saturating_add(1);
+        Err(Failed)
+    }
+}

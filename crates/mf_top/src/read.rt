@@ -1,0 +1,78 @@
+//! The reader of a whole source.
+ghost use Rattle.std.specs.Prelude.{◌≡◌, ◌<◌, ◌≤◌, ◌+◌, length, IfOk, IsErrOf};
+ghost use Rattle.mf_top.specs.declared.read.ReadError.TheVariants.{Memory, Failed as ReadFailed};
+ghost use Rattle.mf_top.specs.Outside.{HasRisen, Gave};
+ghost use Rattle.mf_top.specs.Reading.{IsWhole, IsTooLong, GaveOn};
+
+use crate::io::{Failed, Source};
+use std::alloc::{AllocError, Global};
+
+/// The most bytes of a script.
+pub const MOST_SCRIPT: usize = 1048576;
+
+/// Why a source was not read to its end.
+#[derive(Clone, Copy, Debug, PartialEq, Eq)]
+pub enum ReadError {
+    /// A read failed.
+    Failed,
+    /// The source holds more than a script may have.
+    TooLong,
+    /// Want of memory.
+    Memory,
+}
+
+impl From<AllocError> for ReadError {
+    ghost from_gives = { λ _ e. e ≡ Memory };
+
+    fn from(_: AllocError) -> Self {
+        ReadError::Memory
+    }
+}
+
+impl From<Failed> for ReadError {
+    ghost from_gives = { λ _ e. e ≡ ReadFailed };
+
+    fn from(_: Failed) -> Self {
+        ReadError::Failed
+    }
+}
+
+/// All that the source holds, to its end. It asks for at most one byte more than a script may have.
+pub fn read_all<S: Source>(alloc: Global, source: &mut S) -> Result<Vec<u8>, ReadError>
+    ensures whole { IfOk result (λ bytes. IsWhole (S.left source.old) (S.left source.new) bytes.items) }
+    ensures most { IfOk result (λ bytes. length bytes.items ≤ 1048576) }
+    ensures later { S.faults source.old ≤ S.faults source.new }
+    ensures failed { IsErrOf result ReadError.Failed → HasRisen (S.faults source.old) (S.faults source.new) }
+    ensures too_long { IsErrOf result ReadError.TooLong → IsTooLong (S.left source.old) (S.left source.new) }
+{
+    let mut bytes = Vec::new(alloc);
+    while bytes.len() <= MOST_SCRIPT {
+        let room = MOST_SCRIPT + 1 - bytes.len();
+        if read_some(source, &mut bytes, room)? == 0 {
+            return Ok(bytes);
+        }
+    }
+    Err(ReadError::TooLong)
+}
+
+/// Appends at most `room` bytes more, and answers how many.
+fn read_some<S: Source>(
+    source: &mut S,
+    bytes: &mut Vec<u8>,
+    room: usize,
+) -> Result<usize, ReadError>
+    requires { 0 < room }
+    ensures bytes { IfOk result (λ n. GaveOn (S.left source.old) (S.left source.new) bytes.old.items bytes.new.items n) }
+    ensures fits { IfOk result (λ n. n ≤ room) }
+    ensures count { IfOk result (λ n. length bytes.new.items ≡ length bytes.old.items + n) }
+    ensures later { S.faults source.old ≤ S.faults source.new }
+    ensures failed { IsErrOf result ReadError.Failed → HasRisen (S.faults source.old) (S.faults source.new) }
+    ensures long { IsErrOf result ReadError.TooLong → ⊥ }
+{
+    let mut buffer = [0u8; 4096];
+    let end = room.min(4096);
+    let piece = &mut buffer[..end];
+    let n = source.read(piece)?;
+    bytes.extend_from_slice(&piece[..n])?;
+    Ok(n)
+}
