@@ -1,0 +1,47 @@
+//! The line of an event.
+ghost use Rattle.std.specs.Prelude.{◌≡◌, ◌++◌, OnOk, string_bytes};
+ghost use Rattle.mf_script.specs.WellFormed.{name_of};
+ghost use Rattle.mf_top.specs.HistoryText.{event_text};
+
+use crate::print::reply::push_reply;
+use mf_core::Event;
+use mf_script::Script;
+use std::alloc::AllocError;
+
+/// Appends the line of the event of a history of the script.
+pub fn push_event(script: &Script, event: &Event, out: &mut String) -> Result<(), AllocError>
+    ensures { OnOk result (string_bytes out.new ≡ string_bytes out.old ++ event_text script.now event.now) }
+{
+    match event {
+        Event::Enter(task) => {
+            let name = task_name(script, *task);
+            write!(out, "enter {name}\n")
+        }
+        Event::Done(task, line, reply) => {
+            let name = task_name(script, *task);
+            write!(out, "done {name} {line} ")?;
+            push_reply(reply, out)?;
+            out.push_str("\n")
+        }
+        Event::Leave(task) => {
+            let name = task_name(script, *task);
+            write!(out, "leave {name}\n")
+        }
+        Event::Changed(task, line, reply) => {
+            let name = task_name(script, *task);
+            write!(out, "changed {name} {line} ")?;
+            push_reply(reply, out)?;
+            out.push_str("\n")
+        }
+    }
+}
+
+/// The name of the task of that number, from 0. No text where the script has no such task.
+fn task_name(script: &Script, task: u32) -> &str
+    ensures { result.now ≡ name_of script.now task }
+{
+    match script.tasks.as_slice().get(task as usize) {
+        None => "",
+        Some(found) => found.name.as_str(),
+    }
+}
