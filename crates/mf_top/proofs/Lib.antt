@@ -1,3 +1,5 @@
 pub mod Fronts
 pub mod Told
 pub mod Pieces
+pub mod Words
+pub mod OneHistory

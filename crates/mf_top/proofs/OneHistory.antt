@@ -1,5 +1,5 @@
 -- A text tells its legal history: the kind and the task of a line tell the event, since all else is determined.
-use Rattle.std.proofs.Common.{◌≡◌, ◌≢◌, ◌⊎◌, ℕ, zero, suc, ◌+◌, ◌<◌, ◌≤◌, List, [], ◌∷◌, ◌++◌, length, map, set, get_or, slice_get, Option, Some, None, refl, sym, ◌∙◌, ap, subst, arith, codes, append_assoc, length-set, unwrap_or, option_map}
+use Rattle.std.proofs.Common.{◌≡◌, ◌≢◌, ◌⊎◌, Bool, true, false, ◌&&◌, nat_le, ℕ, zero, suc, ◌+◌, ◌<◌, ◌≤◌, List, [], ◌∷◌, ◌++◌, length, map, set, get_or, slice_get, Option, Some, None, refl, sym, ◌∙◌, ap, subst, arith, codes, append_assoc, length-set, unwrap_or, option_map}
 use Rattle.std.specs.List.{flat_map}
 use Rattle.std.specs.Fmt.{decimal}
 use Rattle.std.proofs.lemmas.List.Concat.{flat_map-cons}
@@ -7,7 +7,7 @@ use Rattle.mf_script.specs.declared.script.Script.{Script}
 use Rattle.mf_script.specs.declared.script.Task.{Task}
 use Rattle.mf_script.specs.declared.script.Line.{Line}
 use Rattle.mf_script.specs.WellFormed.{lines_of, name_of, IsWellFormed}
-use Rattle.mf_script.specs.Grammar.{is_name, is_name_byte}
+use Rattle.mf_script.specs.Grammar.{is_name, is_name_byte, is_some_text}
 use Rattle.std.specs.List.{list_all}
 use Rattle.mf_core.specs.declared.reply.Reply.{Reply}
 use Rattle.mf_core.specs.declared.progress.Progress.{Progress}
@@ -30,15 +30,19 @@ abbrev pub Lacks : ℕ → List ℕ → Type 0
 Lacks c [] = Unit {0}
 Lacks c (b ∷ bs) = (b ≢ c) × Lacks c bs
 
+both_true : (a b : Bool) → (a && b) ≡ true → (a ≡ true) × (b ≡ true)
+both_true true b e = (refl, e)
+both_true false b e = absurd (cc)
+
 -- a byte that isn't one of names isn't in a name
 lacks_all : (c : ℕ) (w : List ℕ) → is_name_byte c ≡ false → list_all is_name_byte w ≡ true → Lacks c w
 lacks_all c [] out all = tt
 lacks_all c (b ∷ w) out all =
-    (λ e. let t : is_name_byte b ≡ true = and-true_left (is_name_byte b) (list_all is_name_byte w) all in cc (e, t, out),
-    lacks_all c w out (and-true_right (is_name_byte b) (list_all is_name_byte w) all))
+    (λ e. let t : is_name_byte b ≡ true = (both_true (is_name_byte b) (list_all is_name_byte w) all).0 in cc (e, t, out),
+    lacks_all c w out (both_true (is_name_byte b) (list_all is_name_byte w) all).1)
 
 pub name_lacks : (c : ℕ) (w : List ℕ) → is_name_byte c ≡ false → is_name w ≡ true → Lacks c w
-name_lacks c w out name = lacks_all c w out (and-true_right (is_some_text w && nat_le (length w) 32) (list_all is_name_byte w) name)
+name_lacks c w out name = lacks_all c w out (both_true (is_some_text w && nat_le (length w) 32) (list_all is_name_byte w) name).1
 
 -- up to the first such byte the lists are one
 pub cut : (x y a b : List ℕ) (c : ℕ) → Lacks c x → Lacks c y → x ++ c ∷ a ≡ y ++ c ∷ b → (x ≡ y) × (a ≡ b)

@@ -6,6 +6,19 @@ use Rattle.mf_top.specs.declared.io.source.Failed.{Failed}
 abbrev pub HasRisen : ℕ → ℕ → Type 0
 HasRisen before now = (before < now) ⊎ (now ≡ 18446744073709551615)
 
+-- What is seen of a source or a sink around a call: the bytes that it tells, and its count of faults.
+pub record Seen : Type 0 where
+  pub before : Option (List ℕ)
+  pub after : Option (List ℕ)
+  pub faults_before : ℕ
+  pub faults_after : ℕ
+
+abbrev pub seen : {A : Type 0} → (A → Option (List ℕ)) → (A → ℕ) → A → A → Seen
+seen told faults old new = record { before = told old; after = told new; faults_before = faults old; faults_after = faults new }
+
+abbrev pub FaultsRose : Seen → Type 0
+FaultsRose s = HasRisen s.faults_before s.faults_after
+
 -- A count of faults that doesn't fall, and has risen where the call failed.
 pub record HasCause {T : Type 0} (before now : ℕ) (result : Result T Failed) : Type 0 where
   pub later : before ≤ now

@@ -2,5 +2,13 @@
 #![tactic(auto)]
 
 pub mod io;
-pub mod read;
-pub mod write;
+pub mod law;
+pub mod print;
+mod read;
+mod refusal;
+mod run;
+mod top;
+mod write;
+
+pub use refusal::Refusal;
+pub use top::macsim;

@@ -1,0 +1,12 @@
+use Rattle.std.proofs.Common.{◌≡◌, ℕ, ◌<◌, ◌≤◌}
+use Rattle.mf_core.specs.declared.progress.Turn.TheVariants as turn
+use Rattle.mf_core.specs.Progress.{progress_at, first_progress}
+use Rattle.mf_core.specs.Run.{progress_of, turn_at}
+use Rattle.mf_top.proofs.run.run_tasks.Given as goal
+
+abbrev pub invariant-loop-task : goal.invariant-loop-task
+invariant-loop-task l = record {
+  script : l.core.script ≡ l.fn.core.script;
+  finished : (t : ℕ) → t < l.task → turn_at l.core t ≡ turn.Finished;
+  first : (t : ℕ) → l.task ≤ t → progress_at (progress_of l.core) t ≡ first_progress;
+}

@@ -1,0 +1,16 @@
+-- Which refusal an error becomes.
+use Rattle.mf_script.specs.declared.error.ScriptError.{ScriptError}
+use Rattle.mf_script.specs.declared.error.ScriptError.TheVariants as script_error
+use Rattle.mf_top.specs.declared.read.ReadError.{ReadError}
+use Rattle.mf_top.specs.declared.read.ReadError.TheVariants as read_error
+use Rattle.mf_top.specs.declared.refusal.Refusal.{Refusal}
+use Rattle.mf_top.specs.declared.refusal.Refusal.TheVariants as refusal
+
+abbrev pub read_refusal : ReadError → Refusal
+read_refusal read_error.Failed = refusal.ReadFault
+read_refusal read_error.TooLong = refusal.TooLong
+read_refusal read_error.Memory = refusal.Memory
+
+abbrev pub script_refusal : ScriptError → Refusal
+script_refusal script_error.NotYet = refusal.NotYet
+script_refusal script_error.Memory = refusal.Memory

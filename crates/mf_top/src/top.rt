@@ -1,0 +1,94 @@
+//! The program's call.
+ghost use Rattle.std.specs.Prelude.{◌≡◌, ◌⊎◌, ◌∷◌, [], List, ℕ, map, codes, Result, string_bytes, IsTrue, ◌↔◌};
+ghost use Rattle.mf_top.specs.declared.refusal.Refusal.{Refusal};
+ghost use Rattle.mf_top.specs.Outside.{seen};
+ghost use Rattle.mf_top.specs.Answers.{WroteHistory, IsRunWords, IsOutcome, IsTold, IsFaultless, status_of, text_of};
+ghost use Rattle.mf_top.specs.Told.{told};
+
+use crate::io::{Failed, Sink, Source};
+use crate::refusal::Refusal;
+use crate::{read, run, write};
+use mf_script::read_script;
+use std::alloc::Global;
+use std::sync::Wait;
+use std::thread::Threads;
+
+const RUN: &str = "run";
+
+/// Runs the script that the source holds, and writes its history to the sink. The answer is the program's exit status: 0, the
+/// status of a `Refusal`, or 5 where a write failed. `words` are those after the program's name. Nothing is written before the
+/// whole source is read and the run has ended.
+pub fn macsim<S: Source, K: Sink, R: Threads + Wait + Sync>(
+    rt: &R,
+    alloc: Global,
+    words: &[String],
+    source: &mut S,
+    sink: &mut K,
+) -> u8
+    // With 0 the source held a script to its end, and the sink took the text of one history that is legal and
+    // complete for it, and nothing else.
+    ensures headline { result ≡ 0 → WroteHistory (seen S.left S.faults source.old source.new) (seen K.taken K.faults sink.old sink.new) }
+
+    // Each status has its cause, and what was taken is its text, or with 5 a beginning of another's.
+    ensures cause { (outcome : Result (List ℕ) Refusal)
+        × IsOutcome (map string_bytes words.now) (seen S.left S.faults source.old source.new) outcome
+        × IsTold (seen K.taken K.faults sink.old sink.new) outcome result }
+
+    // A script in the right words, over a source and a sink that don't fail, gives 0, or 9 for want of memory.
+    ensures complete { IsFaultless (map string_bytes words.now) (seen S.left S.faults source.old source.new) (seen K.taken K.faults sink.old sink.new)
+        → (result ≡ 0) ⊎ (result ≡ 9) }
+{
+    let outcome = outcome_of(alloc, words, source);
+    match write::write_all(sink, text_of(&outcome).as_bytes()) {
+        Ok(()) => status_of(&outcome),
+        Err(Failed) => 5,
+    }
+}
+
+/// What is to be written: the text of the run's history, or why there is none.
+fn outcome_of<S: Source>(alloc: Global, words: &[String], source: &mut S) -> Result<String, Refusal>
+    ensures { IsOutcome (map string_bytes words.now) (seen S.left S.faults source.old source.new) (told result) }
+{
+    if is_run(words) {
+        run_source(alloc, source)
+    } else {
+        Err(Refusal::Usage)
+    }
+}
+
+fn is_run(words: &[String]) -> bool
+    ensures { IsTrue result ↔ IsRunWords (map string_bytes words.now) }
+{
+    match words {
+        [word] => word.as_str() == RUN,
+        _ => false,
+    }
+}
+
+/// The text of the history of what the source holds.
+fn run_source<S: Source>(alloc: Global, source: &mut S) -> Result<String, Refusal>
+    ensures { IsOutcome (codes "run" ∷ []) (seen S.left S.faults source.old source.new) (told result) }
+{
+    let bytes = read::read_all(alloc, source)?;
+    let script = read_script(alloc, &bytes)?;
+    let text = run::run_script(alloc, &script)?;
+    Ok(text)
+}
+
+fn status_of(outcome: &Result<String, Refusal>) -> u8
+    ensures { result ≡ status_of (told outcome.now) }
+{
+    match outcome {
+        Ok(_) => 0,
+        Err(refusal) => refusal.status(),
+    }
+}
+
+fn text_of(outcome: &Result<String, Refusal>) -> &str
+    ensures { result.now ≡ text_of (told outcome.now) }
+{
+    match outcome {
+        Ok(text) => text.as_str(),
+        Err(refusal) => refusal.text(),
+    }
+}
