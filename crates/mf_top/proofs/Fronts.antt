@@ -21,8 +21,8 @@ gave_front left rest buffer most n some count leaves = record {
       let fits : n ≤ length left = omega arith in
       sym (ap (λ k. k ++ rest) (take_front n left (drop n buffer) fits) ∙ (ap (λ r. take n left ++ r) leaves ∙ take-append-drop n left));
   last = λ room. (
-      λ z. none_long left (omega (arith, room, z)),
-      λ e. let z : length left ≡ 0 = ap length e in omega (arith, z),
+    λ z. none_long left (omega (arith, room, z)),
+    λ e. let z : length left ≡ 0 = ap length e in omega (arith, z),
   );
 }
 
@@ -41,7 +41,7 @@ gave_from bytes lent start left buffer after most limit n from same limits some 
     let front : take (length lent - start) (drop start lent) ≡ left = rest_whole start lent ∙ (ap (drop start) same ∙ from) in
     let leaves : drop (start + n) bytes ≡ drop n left = sym (drop-drop n start bytes) ∙ ap (drop n) from in
     let counts : n ≡ min (min most (length buffer)) (length left) =
-        count ∙ (ap (λ xs. min (min limit (length buffer)) (length xs)) front ∙ ap (λ m. min (min m (length buffer)) (length left)) limits) in
+    count ∙ (ap (λ xs. min (min limit (length buffer)) (length xs)) front ∙ ap (λ m. min (min m (length buffer)) (length left)) limits) in
     let copies : after ≡ take n left ++ drop n buffer = copied ∙ ap (λ xs. take n xs ++ drop n buffer) front in
     let Q : List ℕ → Type 0 = λ a. Gave (Some left) (Some (drop (start + n) bytes)) (length buffer) n a in
     subst Q (sym copies) (gave_front left (drop (start + n) bytes) buffer most n some counts leaves)

@@ -1,11 +1,10 @@
 -- A text tells its legal history: the kind and the task of a line tell the event, since all else is determined.
-use Rattle.std.proofs.Common.{◌≡◌, ◌≢◌, ◌⊎◌, Bool, true, false, ◌&&◌, nat_le, ℕ, zero, suc, ◌+◌, ◌<◌, ◌≤◌, List, [], ◌∷◌, ◌++◌, length, map, set, get_or, slice_get, Option, Some, None, refl, sym, ◌∙◌, ap, subst, arith, codes, append_assoc, length-set, unwrap_or, option_map}
+use Rattle.std.proofs.Common.{◌≡◌, ◌≢◌, ◌⊎◌, Bool, true, false, ◌&&◌, nat_le, ℕ, suc, ◌+◌, ◌<◌, ◌≤◌, List, [], ◌∷◌, ◌++◌, length, map, slice_get, Option, Some, None, refl, sym, ◌∙◌, ap, subst, arith, codes, append_assoc, length-set, unwrap_or, option_map}
 use Rattle.std.specs.List.{flat_map}
 use Rattle.std.specs.Fmt.{decimal}
 use Rattle.std.proofs.lemmas.List.Concat.{flat_map-cons}
 use Rattle.mf_script.specs.declared.script.Script.{Script}
 use Rattle.mf_script.specs.declared.script.Task.{Task}
-use Rattle.mf_script.specs.declared.script.Line.{Line}
 use Rattle.mf_script.specs.WellFormed.{lines_of, name_of, IsWellFormed}
 use Rattle.mf_script.specs.Grammar.{is_name, is_name_byte, is_some_text}
 use Rattle.std.specs.List.{list_all}
@@ -15,13 +14,12 @@ use Rattle.mf_core.specs.declared.progress.Turn.{Turn}
 use Rattle.mf_core.specs.declared.progress.Turn.TheVariants as turn
 use Rattle.mf_core.specs.declared.history.Event.{Event}
 use Rattle.mf_core.specs.declared.history.Event.TheVariants as event
-use Rattle.mf_core.specs.declared.history.History.{History}
 use Rattle.std.proofs.Math.ListN.{get_or-eq_default}
 use Rattle.std.proofs.lemmas.Option.{slice_get_past}
 use Rattle.std.proofs.Common.{inl, inr}
 use Rattle.mf_core.specs.declared.progress.Phase.TheVariants as phase
 use Rattle.mf_core.specs.Progress.{first_progress, progress_at}
-use Rattle.mf_core.specs.LegalHistory.{RunState, turn_in, turn_of, MayCome, AllMayCome, after, opening, next_reply, next_number, IsLegal}
+use Rattle.mf_core.specs.LegalHistory.{RunState, turn_in, turn_of, MayCome, AllMayCome, after, opening, next_reply}
 use Rattle.mf_top.specs.HistoryText.{event_text, reply_text, boot_text}
 use Rattle.mf_top.specs.OneText.{TextTellsHistory}
 
@@ -37,9 +35,10 @@ both_true false b e = absurd (cc)
 -- a byte that isn't one of names isn't in a name
 lacks_all : (c : ℕ) (w : List ℕ) → is_name_byte c ≡ false → list_all is_name_byte w ≡ true → Lacks c w
 lacks_all c [] out all = tt
-lacks_all c (b ∷ w) out all =
-    (λ e. let t : is_name_byte b ≡ true = (both_true (is_name_byte b) (list_all is_name_byte w) all).0 in cc (e, t, out),
-    lacks_all c w out (both_true (is_name_byte b) (list_all is_name_byte w) all).1)
+lacks_all c (b ∷ w) out all = (
+  λ e. let t : is_name_byte b ≡ true = (both_true (is_name_byte b) (list_all is_name_byte w) all).0 in cc (e, t, out),
+  lacks_all c w out (both_true (is_name_byte b) (list_all is_name_byte w) all).1,
+)
 
 pub name_lacks : (c : ℕ) (w : List ℕ) → is_name_byte c ≡ false → is_name w ≡ true → Lacks c w
 name_lacks c w out name = lacks_all c w out (both_true (is_some_text w && nat_le (length w) 32) (list_all is_name_byte w) name).1
@@ -177,5 +176,5 @@ pub one_history : TextTellsHistory
 one_history s h g lh lg eq =
     let boots = lh.boots ∙ sym lg.boots in
     let same : flat_map boot_text h.boots ++ flat_map (event_text s) h.events.list ≡ flat_map boot_text h.boots ++ flat_map (event_text s) g.events.list =
-        eq ∙ ap (λ bs. flat_map boot_text bs ++ flat_map (event_text s) g.events.list) (sym boots) in
+    eq ∙ ap (λ bs. flat_map boot_text bs ++ flat_map (event_text s) g.events.list) (sym boots) in
     (boots, same_events s (opening s) h.events.list g.events.list lh.formed (first_places s.tasks) lh.events lg.events (same_end (flat_map boot_text h.boots) _ _ same))

@@ -1,5 +1,5 @@
 -- What the program may answer, and why.
-use Rattle.std.specs.Prelude.{◌≡◌, ◌⊎◌, ℕ, ◌≤◌, List, [], ◌∷◌, length, Option, Some, IfSome, IsSomeAnd, Result, Ok, Err, codes}
+use Rattle.std.specs.Prelude.{◌≡◌, ◌⊎◌, ℕ, ◌≤◌, List, [], ◌∷◌, length, Some, IfSome, IsSomeAnd, Result, Ok, Err, codes}
 use Rattle.mf_script.specs.declared.script.Script.{Script}
 use Rattle.mf_script.specs.declared.error.ScriptError.TheVariants as script_error
 use Rattle.mf_script.specs.Grammar.{script_of}

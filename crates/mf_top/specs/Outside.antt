@@ -1,5 +1,5 @@
 -- What a source has left, what a sink has taken, and how often each has failed.
-use Rattle.std.specs.Prelude.{◌≡◌, ◌⊎◌, ℕ, ◌<◌, ◌≤◌, List, [], ◌++◌, length, take, Option, Some, None, IfSome, IsSomeAnd, ◌↔◌, Result, OnErr}
+use Rattle.std.specs.Prelude.{◌≡◌, ◌⊎◌, ℕ, ◌<◌, ◌≤◌, List, [], ◌++◌, take, Option, Some, None, IfSome, IsSomeAnd, ◌↔◌, Result, OnErr}
 use Rattle.mf_top.specs.declared.io.source.Failed.{Failed}
 
 -- the count of faults rose, or stands at its last value

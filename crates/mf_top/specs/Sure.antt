@@ -1,5 +1,5 @@
 -- What a call of a source or a sink over memory that never fails does.
-use Rattle.std.specs.Prelude.{◌≡◌, ℕ, ◌+◌, List, ◌++◌, length, take, drop, min, nat_le, if◌then◌else◌, Option, Some, None, Result, Ok}
+use Rattle.std.specs.Prelude.{◌≡◌, ℕ, List, ◌++◌, length, take, drop, min, nat_le, if◌then◌else◌, Option, Some, None, Result, Ok}
 use Rattle.mf_top.specs.declared.io.source.Failed.{Failed}
 use Rattle.mf_top.specs.Held.{SureStore}
 

@@ -7,11 +7,9 @@ mod source;
 mod standard;
 mod sure;
 
-
-
 pub use calls::Calls;
 pub use memory::{MemSink, MemSource};
 pub use sink::Sink;
+pub use source::{Failed, Source};
 pub use standard::{StdSink, StdSource};
 pub use sure::{SureSink, SureSource};
-pub use source::{Failed, Source};

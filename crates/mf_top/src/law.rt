@@ -4,5 +4,4 @@ ghost use Rattle.mf_top.specs.OneText.{TextTellsHistory};
 /// Two different legal histories of one script have different texts.
 pub fn text_tells_history()
     ensures { TextTellsHistory }
-{
-}
+{}
