@@ -142,3 +142,96 @@ fn check_elements(op: CheckOp, subject: &Elem, object: &Elem) -> Errno
         | CheckOp::Priv => Errno::Success,
     }
 }
+
+#[cfg(test)]
+mod tests {
+    use super::*;
+    use mf_cred::FileView;
+    use mf_elem::{Comps, LabelValue};
+    use mf_item::{Kind, ObjectView, SubjectView};
+
+    fn grade(grade: u16) -> Elem {
+        Elem::Grade(grade, Comps::empty())
+    }
+
+    fn item(op: CheckOp, subject: Elem, object: Elem) -> Item {
+        let own = LabelValue::Range(RangeLabel::ranged(subject, Elem::Low, grade(20)));
+        let other = LabelValue::Range(RangeLabel::effective(object));
+        Item {
+            op,
+            subject: SubjectView {
+                id: 0,
+                cred: Cred::default(),
+                label: [own; 4],
+            },
+            object: Some(ObjectView {
+                id: 1,
+                kind: Kind::Vnode,
+                file: FileView::default(),
+                label: [other; 4],
+            }),
+            request: None,
+        }
+    }
+
+    /// The four rules that mac_biba(4) gives, in its order: the same level, a higher subject, a lower one, and levels that can't be
+    /// compared.
+    #[test]
+    fn rules_of_mac_biba_4(rt: HostRuntime) {
+        let policy = Biba::new();
+        let five = Elem::Grade(5, Comps::empty().with(1));
+        let nine = Elem::Grade(9, Comps::empty().with(2));
+        let table = [
+            (grade(10), grade(10), Errno::Success, Errno::Success),
+            (grade(10), grade(5), Errno::Eacces, Errno::Success),
+            (grade(5), grade(10), Errno::Success, Errno::Eacces),
+            (five, nine, Errno::Eacces, Errno::Eacces),
+        ];
+        for (subject, object, read, write) in table {
+            assert_eq!(rt;
+                policy.check(0, &item(CheckOp::VnodeOpenRead, subject, object)),
+                read
+            );
+            assert_eq!(rt;
+                policy.check(0, &item(CheckOp::VnodeOpenWrite, subject, object)),
+                write
+            );
+        }
+    }
+
+    /// mac_biba(4): a subject with `equal` is exempt, and only a privileged subject loads a module.
+    #[test]
+    fn equal_is_exempt_and_loads_modules(rt: HostRuntime) {
+        let policy = Biba::new();
+        assert_eq!(rt;
+            policy.check(0, &item(CheckOp::VnodeOpenWrite, Elem::Equal, Elem::High)),
+            Errno::Success
+        );
+        assert_eq!(rt;
+            policy.check(0, &item(CheckOp::KldLoad, Elem::Equal, Elem::High)),
+            Errno::Success
+        );
+        assert_eq!(rt;
+            policy.check(0, &item(CheckOp::KldLoad, grade(10), Elem::High)),
+            Errno::Eperm
+        );
+    }
+
+    fn answer_of<P: Policy>(
+        policy: &mut P,
+        alloc: Global,
+        item: &Item,
+    ) -> Result<(Errno, Errno), AllocError> {
+        let changed = policy.change(alloc, &Change::FirstMatch(true))?;
+        Ok((policy.check(0, item), changed.errno))
+    }
+
+    #[test]
+    fn a_box_answers_as_the_policy_in_it(rt: HostRuntime) -> Result<(), AllocError> {
+        let mut policy: Box<dyn Policy + Send + Sync> = Box::new(rt.alloc(), Biba::new())?;
+        let item = item(CheckOp::ProcSignal, grade(5), grade(3));
+        let (answer, changed) = answer_of(&mut policy, rt.alloc(), &item)?;
+        assert_eq!(rt; (answer, changed), (Errno::Esrch, Errno::Enoent));
+        Ok(())
+    }
+}

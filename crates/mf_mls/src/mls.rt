@@ -140,3 +140,78 @@ fn check_elements(op: CheckOp, subject: &Elem, object: &Elem) -> Errno
         | CheckOp::Priv => Errno::Success,
     }
 }
+
+#[cfg(test)]
+mod tests {
+    use super::*;
+    use mf_cred::FileView;
+    use mf_elem::{Comps, LabelValue};
+    use mf_item::{Kind, ObjectView, SubjectView};
+
+    fn grade(grade: u16) -> Elem {
+        Elem::Grade(grade, Comps::empty())
+    }
+
+    fn item(op: CheckOp, subject: Elem, object: Elem) -> Item {
+        let own = LabelValue::Range(RangeLabel::ranged(subject, Elem::Low, grade(20)));
+        let other = LabelValue::Range(RangeLabel::effective(object));
+        Item {
+            op,
+            subject: SubjectView {
+                id: 0,
+                cred: Cred::default(),
+                label: [own; 4],
+            },
+            object: Some(ObjectView {
+                id: 1,
+                kind: Kind::Vnode,
+                file: FileView::default(),
+                label: [other; 4],
+            }),
+            request: None,
+        }
+    }
+
+    /// The four rules that mac_mls(4) gives, in its order: the same level, a higher subject, a lower one, and levels that can't be
+    /// compared.
+    #[test]
+    fn rules_of_mac_mls_4(rt: HostRuntime) {
+        let policy = Mls::new();
+        let five = Elem::Grade(5, Comps::empty().with(1));
+        let nine = Elem::Grade(9, Comps::empty().with(2));
+        let table = [
+            (grade(10), grade(10), Errno::Success, Errno::Success),
+            (grade(10), grade(5), Errno::Success, Errno::Eacces),
+            (grade(5), grade(10), Errno::Eacces, Errno::Success),
+            (five, nine, Errno::Eacces, Errno::Eacces),
+        ];
+        for (subject, object, read, write) in table {
+            assert_eq!(rt;
+                policy.check(0, &item(CheckOp::VnodeOpenRead, subject, object)),
+                read
+            );
+            assert_eq!(rt;
+                policy.check(0, &item(CheckOp::VnodeOpenWrite, subject, object)),
+                write
+            );
+        }
+    }
+
+    /// mac_mls(4): a subject with `equal` is exempt, and the policy doesn't guard modules.
+    #[test]
+    fn equal_is_exempt_and_anybody_loads_modules(rt: HostRuntime) {
+        let policy = Mls::new();
+        assert_eq!(rt;
+            policy.check(0, &item(CheckOp::VnodeOpenWrite, Elem::Equal, Elem::High)),
+            Errno::Success
+        );
+        assert_eq!(rt;
+            policy.check(0, &item(CheckOp::KldLoad, Elem::Equal, Elem::High)),
+            Errno::Success
+        );
+        assert_eq!(rt;
+            policy.check(0, &item(CheckOp::KldLoad, grade(10), Elem::High)),
+            Errno::Success
+        );
+    }
+}

@@ -68,3 +68,62 @@ fn reaches_out(inner: &Option<(Elem, Elem)>, range: &Option<(Elem, Elem)>) -> bo
         }
     }
 }
+
+#[cfg(test)]
+mod tests {
+    use super::*;
+    use mf_elem::Comps;
+
+    fn grade(grade: u16) -> Elem {
+        Elem::Grade(grade, Comps::empty())
+    }
+
+    fn label(effective: Option<Elem>, range: Option<(Elem, Elem)>) -> RangeLabel {
+        RangeLabel { effective, range }
+    }
+
+    #[test]
+    fn order_of_relabel_refusals(rt: HostRuntime) {
+        let subject = RangeLabel::ranged(grade(10), grade(5), grade(20));
+        let table = [
+            (
+                label(Some(grade(4)), Some((grade(5), grade(20)))),
+                Errno::Einval,
+            ),
+            (label(None, Some((grade(11), grade(20)))), Errno::Einval),
+            (label(Some(grade(25)), None), Errno::Eperm),
+            (
+                label(Some(grade(10)), Some((grade(5), grade(30)))),
+                Errno::Eperm,
+            ),
+            (label(Some(Elem::Equal), None), Errno::Eperm),
+            (
+                label(Some(grade(12)), Some((grade(6), grade(18)))),
+                Errno::Success,
+            ),
+            (label(None, None), Errno::Success),
+        ];
+        for (asked, errno) in table {
+            assert_eq!(rt; credential_relabel(&subject, &asked), errno);
+        }
+    }
+
+    #[test]
+    fn relabels_of_an_object(rt: HostRuntime) {
+        let subject = RangeLabel::ranged(Elem::Low, Elem::Low, Elem::Low);
+        let table = [
+            (Elem::Low, label(Some(grade(7)), None), Errno::Eperm),
+            (grade(7), label(None, None), Errno::Eperm),
+            (
+                Elem::Low,
+                label(Some(Elem::Low), Some((Elem::Low, Elem::Low))),
+                Errno::Einval,
+            ),
+            (Elem::Low, label(Some(Elem::Equal), None), Errno::Eperm),
+            (Elem::Low, label(Some(Elem::Low), None), Errno::Success),
+        ];
+        for (old, asked, errno) in table {
+            assert_eq!(rt; object_relabel(&subject, &old, &asked), errno);
+        }
+    }
+}

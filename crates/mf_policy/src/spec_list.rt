@@ -65,7 +65,8 @@ impl SpecList {
     /// Puts a meaning in the place of the one there.
     pub fn put(&mut self, place: usize, spec: Spec)
         requires { place < length self.old }
-        ensures { (other : Entry) → self.new ≡ slice_set self.old place ((slice_index_or self.old place other).0, spec) }
+        ensures len { length self.new ≡ length self.old }
+        ensures entries { (other : Entry) → self.new ≡ slice_set self.old place ((slice_index_or self.old place other).0, spec) }
     {
         self.entries[place].1 = spec;
     }
@@ -91,5 +92,28 @@ impl SpecList {
         ensures { self.new ≡ remove self.old place }
     {
         self.entries.remove(place);
+    }
+}
+
+#[cfg(test)]
+mod tests {
+    use super::*;
+    use mf_errno::Module;
+
+    #[test]
+    fn entries_come_and_go(rt: HostRuntime) -> Result<(), AllocError> {
+        let mut list = SpecList::new(rt.alloc());
+        let biba = Registration {
+            module: Module::Biba,
+            slot: Some(0),
+            fixed: true,
+        };
+        list.insert(0, biba, Spec::fresh(rt.alloc(), Module::Biba)?)?;
+        list.put(0, list.spec(0).copy(rt.alloc())?);
+        assert!(rt; list.spec(0).same(&Spec::Biba));
+        assert_eq!(rt; list.registration(0), biba);
+        list.remove(0);
+        assert!(rt; list.is_empty());
+        Ok(())
     }
 }
