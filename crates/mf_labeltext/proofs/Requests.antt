@@ -34,7 +34,7 @@ or_right : (a b : Bool) → b ≡ true → (a || b) ≡ true
 or_right true b is = refl
 or_right false b is = is
 
-is_name_byte_for : (byte : ℕ) → IsNameByte byte → is_name_byte byte ≡ true
+pub is_name_byte_for : (byte : ℕ) → IsNameByte byte → is_name_byte byte ≡ true
 is_name_byte_for byte (inl letter) =
     or_left (leb 97 byte && leb byte 122) ((leb 48 byte && leb byte 57) || eqb byte 95) (both_true (leb 97 byte) (leb byte 122) (le-leb 97 byte letter.0) (le-leb byte 122 letter.1))
 is_name_byte_for byte (inr (inl digit)) =
@@ -44,7 +44,7 @@ is_name_byte_for byte (inr (inr underscore)) =
     or_right (leb 97 byte && leb byte 122) ((leb 48 byte && leb byte 57) || eqb byte 95)
     (or_right (leb 48 byte && leb byte 57) (eqb byte 95) (eq-eqb byte 95 underscore))
 
-name_bytes_are : (text : List ℕ) → list_all is_name_byte text ≡ true → AllByRecursion IsNameByte text
+pub name_bytes_are : (text : List ℕ) → list_all is_name_byte text ≡ true → AllByRecursion IsNameByte text
 name_bytes_are [] all = tt
 name_bytes_are (c ∷ cs) all = let parts = each_true (is_name_byte c) (list_all is_name_byte cs) all in (name_byte_is c parts.0, name_bytes_are cs parts.1)
 

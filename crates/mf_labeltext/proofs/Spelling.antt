@@ -302,3 +302,7 @@ pub spells_partition : (text : List ℕ) (n : ℕ) → SpellsPartition text n �
 unfolding partition_in
 spells_partition text n (inl none) = ap partition_in none.0 ∙ ap Some (sym none.1)
 spells_partition text n (inr spells) = no_none text spells.numeral.1 spells.numeral.0 ∙ spells_number 0 2147483647 text n spells
+
+pub partition_inner : (text : List ℕ) (n : ℕ) → SpellsPartition text n → IsInner text
+partition_inner text n (inl none) = ap (list_all is_inner) none.0
+partition_inner text n (inr spells) = digits_inner text spells.numeral.1

@@ -1,3 +1,5 @@
+pub mod Canonical
 pub mod FirstFault
 pub mod LabelGrammar
 pub mod Reading
+pub mod RoundTrip

@@ -2,9 +2,11 @@
 #![tactic(auto)]
 
 mod fault;
+mod printing;
 mod reading;
 mod splitting;
 mod values;
 
 pub use fault::LabelFault;
+pub use printing::{canonical_text_spells_its_parts, print_elem, print_label};
 pub use reading::{read_request, read_request_bytes};

@@ -1,0 +1,117 @@
+-- The canonical text of parts spells them.
+use Rattle.std.proofs.Common.{◌≡◌, ◌≢◌, ℕ, ◌+◌, ◌^◌, ◌<◌, ◌≤◌, Bool, true, false, cond, eqb, List, [], ◌∷◌, ◌++◌, length, map, filter, Option, Some, None, refl, sym, ap, ◌∙◌, subst, arith, ◌⊎◌, inl, inr, append-nil, append_assoc, lit<, lit≤, codes}
+use Rattle.std.proofs.lemmas.Bool.{eqb-true}
+use Rattle.std.proofs.lemmas.Fmt.{decimal_is_IsNumeral}
+use Rattle.std.specs.List.{list_all, AllByRecursion, join_with_byte}
+use Rattle.std.specs.Fmt.{decimal}
+use Rattle.std.specs.FinSet as set
+use Rattle.mf_errno.specs.declared.module.Module.{Module}
+use Rattle.mf_errno.specs.declared.module.Module.TheVariants.{Biba, Mls, Partition, Bsdextended, Priority}
+use Rattle.mf_elem.specs.Comps.{compartments_of, comps_of}
+use Rattle.mf_elem.specs.declared.comps.Comps.{Comps}
+use Rattle.mf_elem.specs.declared.elem.Elem.{Elem}
+use Rattle.mf_elem.specs.declared.elem.Elem.TheVariants.{Low, High, Equal, Grade}
+use Rattle.mf_elem.specs.declared.label.RangeLabel.{RangeLabel}
+use Rattle.mf_elem.specs.declared.label.LabelValue.{LabelValue}
+use Rattle.mf_elem.specs.declared.label.LabelValue.TheVariants.{Unset, Range, Number}
+use Rattle.mf_elem.specs.declared.label.Request.{Request}
+use Rattle.mf_labeltext.specs.LabelGrammar.{SpellsNumber, SpellEach, SpellsComps, SpellsGrade, SpellsElem, SpellsRange, SpellsParts, SpellsPartition, IsName, IsNameByte, Asks, SpellsElement, SpellElements, HasNoComma, Spells, nothing}
+use Rattle.mf_labeltext.specs.Reading.{is_name_byte}
+use Rattle.mf_labeltext.specs.Canonical.{rising, comps_text, elem_text, effective_text, range_text, label_text, partition_text, value_text, policy_text, element_text, is_same_policy, parts_of, in_order, elements_text, canonical}
+use Rattle.mf_labeltext.specs.RoundTrip.{value_of, range_of, number_of, request_of, IsElem, AreLabelParts, IsValueOf, IsPart, AreParts}
+use Rattle.mf_labeltext.proofs.Cutting.{IsFree}
+use Rattle.mf_labeltext.proofs.Spelling.{elem_inner, inner_free}
+use Rattle.mf_labeltext.proofs.Requests.{name_bytes_are}
+use Rattle.mf_labeltext.proofs.Rising.{IsCompartment, rising_again, rising_are}
+
+-- ---- numbers
+decimal_spells : (least greatest n : ℕ) → greatest < 2 ^ 64 → least ≤ n → n ≤ greatest → SpellsNumber least greatest (decimal n) n
+decimal_spells least greatest n small above below =
+    let numeral = decimal_is_IsNumeral n (omega arith) in
+    record { numeral = numeral.0; value = numeral.1; above = above; below = below }
+
+each_decimal : (ns : List ℕ) → AllByRecursion IsCompartment ns → SpellEach (map decimal ns) ns
+each_decimal [] all = tt
+each_decimal (n ∷ ns) all = (decimal_spells 1 256 n (lit< tt) all.0.0 all.0.1, each_decimal ns all.1)
+
+-- ---- elements
+grade_text_spells : (grade : ℕ) (comps : Comps) (ns : List ℕ) → grade ≤ 65535 → comps ≡ comps_of (set.from_list ns) → AllByRecursion IsCompartment ns → SpellsGrade (decimal grade ++ comps_text ns) grade comps
+grade_text_spells grade comps [] fits is all =
+    subst (λ text. SpellsGrade text grade comps) (sym (append-nil (decimal grade))) (inl (decimal_spells 0 65535 grade (lit< tt) (omega arith) fits, is))
+grade_text_spells grade comps (n ∷ ns) fits is all =
+    inr (
+      decimal grade,
+      join_with_byte 43 (map decimal (n ∷ ns)),
+      refl,
+      decimal_spells 0 65535 grade (lit< tt) (omega arith) fits,
+      record { texts = map decimal (n ∷ ns); some = λ e. cc; parted = refl; numbers = n ∷ ns; each = each_decimal (n ∷ ns) all; set = is },
+    )
+
+elem_text_spells : (element : Elem) → IsElem element → SpellsElem (elem_text element) element
+elem_text_spells Low is = inl refl
+elem_text_spells High is = inl refl
+elem_text_spells Equal is = inl refl
+elem_text_spells (Grade grade comps) is = grade_text_spells grade comps (rising comps) is.0 (rising_again comps is.1) (rising_are comps)
+
+-- ---- the value of biba and mls
+parts_spell : (effective : Option Elem) (range : Option (Elem × Elem)) → AreLabelParts effective range → SpellsParts (effective_text effective ++ range_text range) effective range
+parts_spell None None are = absurd are
+parts_spell (Some element) None are = subst (λ text. SpellsElem text element) (sym (append-nil (elem_text element))) (elem_text_spells element are)
+parts_spell None (Some ends) are = (elem_text ends.0, elem_text ends.1, refl, elem_text_spells ends.0 are.0, elem_text_spells ends.1 are.1)
+parts_spell (Some element) (Some ends) are =
+    (elem_text element, range_text (Some ends), refl, elem_text_spells element are.0, (elem_text ends.0, elem_text ends.1, refl, elem_text_spells ends.0 are.1, elem_text_spells ends.1 are.2))
+
+-- ---- the value of partition
+pub partition_spells : (n : ℕ) → n ≤ 2147483647 → SpellsPartition (partition_text n) n
+partition_spells n fits =
+    elim (eqb n 0) as (λ b. eqb n 0 ≡ b → SpellsPartition (cond b (codes "none") (decimal n)) n) [
+      | true ↦ λ none. inl (refl, eqb-true n 0 none)
+      | false ↦ λ some. inr (decimal_spells 0 2147483647 n (lit< tt) (omega arith) fits)
+    ] refl
+
+-- ---- an element
+unfoldable pub with_value : Request → Module → LabelValue → Request
+with_value before Biba value = record before { biba = range_of (Some value) }
+with_value before Mls value = record before { mls = range_of (Some value) }
+with_value before Partition value = record before { partition = number_of (Some value) }
+with_value before policy value = before
+
+name_is : (c : ℕ) (cs : List ℕ) → list_all is_name_byte (c ∷ cs) ≡ true → IsName (c ∷ cs)
+name_is c cs all = (λ e. cc, name_bytes_are (c ∷ cs) all)
+
+pub element_spells : (policy : Module) (value : LabelValue) (before : Request) → IsValueOf policy value → SpellsElement (element_text (policy, value)) before (with_value before policy value)
+unfolding with_value
+element_spells Biba Unset before is = absurd is
+element_spells Biba (Range label) before is =
+    (codes "biba", label_text label, refl, name_is 98 (105 ∷ 98 ∷ 97 ∷ []) refl, inl (refl, label, parts_spell label.effective label.range is, refl))
+element_spells Biba (Number n) before is = absurd is
+element_spells Mls Unset before is = absurd is
+element_spells Mls (Range label) before is =
+    (codes "mls", label_text label, refl, name_is 109 (108 ∷ 115 ∷ []) refl, inr (inl (refl, label, parts_spell label.effective label.range is, refl)))
+element_spells Mls (Number n) before is = absurd is
+element_spells Partition Unset before is =
+    (codes "partition", codes "none", refl, name_is 112 (97 ∷ 114 ∷ 116 ∷ 105 ∷ 116 ∷ 105 ∷ 111 ∷ 110 ∷ []) refl, inr (inr (inl (refl, 0, inl (refl, refl), refl))))
+element_spells Partition (Range label) before is = absurd is
+element_spells Partition (Number n) before is =
+    (codes "partition", partition_text n, refl, name_is 112 (97 ∷ 114 ∷ 116 ∷ 105 ∷ 116 ∷ 105 ∷ 111 ∷ 110 ∷ []) refl, inr (inr (inl (refl, n, partition_spells n is, refl))))
+element_spells Bsdextended value before is = absurd is
+element_spells Priority value before is = absurd is
+
+-- ---- no comma stands in an element
+pub free_both : (front back : List ℕ) → IsFree 44 front → IsFree 44 back → IsFree 44 (front ++ back)
+free_both [] back one other = other
+free_both (c ∷ front) back one other = (one.0, free_both front back one.1 other)
+
+elem_free : (element : Elem) → IsElem element → IsFree 44 (elem_text element)
+elem_free element is = inner_free 44 (elem_text element) refl (elem_inner (elem_text element) element (elem_text_spells element is))
+
+range_free : (ends : Elem × Elem) → IsElem ends.0 → IsElem ends.1 → IsFree 44 (range_text (Some ends))
+range_free ends low high =
+    (λ e. omega arith, free_both (elem_text ends.0) (45 ∷ elem_text ends.1 ++ 41 ∷ []) (elem_free ends.0 low)
+      (λ e. omega arith, free_both (elem_text ends.1) (41 ∷ []) (elem_free ends.1 high) (λ e. omega arith, tt)))
+
+pub label_free : (effective : Option Elem) (range : Option (Elem × Elem)) → AreLabelParts effective range → IsFree 44 (effective_text effective ++ range_text range)
+label_free None None are = absurd are
+label_free (Some element) None are = free_both (elem_text element) [] (elem_free element are) tt
+label_free None (Some ends) are = range_free ends are.0 are.1
+label_free (Some element) (Some ends) are = free_both (elem_text element) (range_text (Some ends)) (elem_free element are.0) (range_free ends are.1 are.2)

@@ -1,0 +1,204 @@
+-- The elements of parts in order spell what the parts ask for.
+use Rattle.std.proofs.Common.{◌≡◌, ◌≢◌, ℕ, ◌+◌, ◌<◌, ◌≤◌, Bool, true, false, cond, List, [], ◌∷◌, ◌++◌, length, map, filter, Option, Some, None, refl, sym, ap, ◌∙◌, subst, arith, codes}
+use Rattle.std.specs.List.{list_all, AllByRecursion, join_with_byte}
+use Rattle.mf_errno.specs.declared.module.Module.{Module}
+use Rattle.mf_errno.specs.declared.module.Module.TheVariants.{Biba, Mls, Partition, Bsdextended, Priority}
+use Rattle.mf_elem.specs.declared.label.RangeLabel.{RangeLabel}
+use Rattle.mf_elem.specs.declared.label.LabelValue.{LabelValue}
+use Rattle.mf_elem.specs.declared.label.LabelValue.TheVariants.{Unset, Range, Number}
+use Rattle.mf_elem.specs.declared.label.Request.{Request}
+use Rattle.mf_labeltext.specs.LabelGrammar.{SpellElements, HasNoComma, Spells, nothing}
+use Rattle.mf_labeltext.specs.Canonical.{label_text, partition_text, value_text, policy_text, element_text, is_same_policy, parts_of, in_order, elements_text, canonical}
+use Rattle.mf_labeltext.specs.RoundTrip.{value_of, range_of, number_of, request_of, IsValueOf, IsPart, AreParts}
+use Rattle.mf_labeltext.proofs.Cutting.{IsFree}
+use Rattle.mf_labeltext.proofs.Spelling.{digits_inner, inner_free, partition_inner}
+use Rattle.mf_labeltext.proofs.CanonicalSpelling.{with_value, element_spells, free_both, label_free, partition_spells}
+
+abbrev Part : Type 0
+Part = Module × LabelValue
+
+abbrev Parts : Type 0
+Parts = List (Module × LabelValue)
+
+-- ---- no comma stands in an element
+partition_free : (n : ℕ) → n ≤ 2147483647 → IsFree 44 (partition_text n)
+partition_free n fits = inner_free 44 (partition_text n) refl (partition_inner (partition_text n) n (partition_spells n fits))
+
+element_free : (policy : Module) (value : LabelValue) → IsValueOf policy value → HasNoComma (element_text (policy, value))
+element_free Biba Unset is = absurd is
+element_free Biba (Range label) is = free_both (codes "biba/") (label_text label) (inner_free 44 (codes "biba/") refl refl) (label_free label.effective label.range is)
+element_free Biba (Number n) is = absurd is
+element_free Mls Unset is = absurd is
+element_free Mls (Range label) is = free_both (codes "mls/") (label_text label) (inner_free 44 (codes "mls/") refl refl) (label_free label.effective label.range is)
+element_free Mls (Number n) is = absurd is
+element_free Partition Unset is = inner_free 44 (codes "partition/none") refl refl
+element_free Partition (Range label) is = absurd is
+element_free Partition (Number n) is = free_both (codes "partition/") (partition_text n) (inner_free 44 (codes "partition/") refl refl) (partition_free n is)
+element_free Bsdextended value is = absurd is
+element_free Priority value is = absurd is
+
+-- ---- one part after another
+asked_after : Request → Parts → Request
+asked_after before [] = before
+asked_after before (part ∷ parts) = asked_after (with_value before part.0 part.1) parts
+
+all_spell : (before : Request) (parts : Parts) → AllByRecursion IsPart parts → SpellElements (map element_text parts) before (asked_after before parts)
+unfolding asked_after
+all_spell before [] all = refl
+all_spell before (part ∷ parts) all =
+    (with_value before part.0 part.1, element_spells part.0 part.1 before all.0, all_spell (with_value before part.0 part.1) parts all.1)
+
+all_free : (parts : Parts) → AllByRecursion IsPart parts → AllByRecursion HasNoComma (map element_text parts)
+all_free [] all = tt
+all_free (part ∷ parts) all = (element_free part.0 part.1 all.0, all_free parts all.1)
+
+after_append : (before : Request) (front back : Parts) → asked_after before (front ++ back) ≡ asked_after (asked_after before front) back
+unfolding asked_after
+after_append before [] back = refl
+after_append before (part ∷ front) back = after_append (with_value before part.0 part.1) front back
+
+-- ---- the parts of one policy
+-- parts of the policy, as a label may have them
+abbrev AreOf : Module → Parts → Type 0
+AreOf policy parts = AllByRecursion (λ part. (is_same_policy policy part.0 ≡ true) × IsPart part) parts
+
+are_of : (policy : Module) (parts : Parts) → AllByRecursion IsPart parts → AreOf policy (parts_of policy parts)
+are_of policy [] all = tt
+are_of policy (part ∷ parts) all =
+    elim (is_same_policy policy part.0) as (λ b. is_same_policy policy part.0 ≡ b → AreOf policy (cond b (part ∷ parts_of policy parts) (parts_of policy parts))) [
+      | true ↦ λ same. ((same, all.0), are_of policy parts all.1)
+      | false ↦ λ other. are_of policy parts all.1
+    ] refl
+
+forget : (policy : Module) (parts : Parts) → AreOf policy parts → AllByRecursion IsPart parts
+forget policy [] all = tt
+forget policy (part ∷ parts) all = (all.0.1, forget policy parts all.1)
+
+abbrev first_value : Parts → Option LabelValue
+first_value [] = None
+first_value (part ∷ parts) = Some part.1
+
+first_of : (policy : Module) (parts : Parts) → first_value (parts_of policy parts) ≡ value_of policy parts
+first_of policy [] = refl
+first_of policy (part ∷ parts) =
+    elim (is_same_policy policy part.0) as (λ b. first_value (cond b (part ∷ parts_of policy parts) (parts_of policy parts)) ≡ cond b (Some part.1) (value_of policy parts)) [
+      | true ↦ refl
+      | false ↦ first_of policy parts
+    ]
+
+-- what was asked for of the three policies
+abbrev asking : Option RangeLabel → Option RangeLabel → Option ℕ → Request
+asking biba mls partition = record { biba = biba; mls = mls; partition = partition; other = false }
+
+with_biba : (policy : Module) (value : LabelValue) → is_same_policy Biba policy ≡ true → with_value nothing policy value ≡ asking (range_of (Some value)) None None
+unfolding with_value
+with_biba Biba value same = refl
+with_biba Mls value same = absurd cc
+with_biba Partition value same = absurd cc
+with_biba Bsdextended value same = absurd cc
+with_biba Priority value same = absurd cc
+
+with_mls : (biba : Option RangeLabel) (policy : Module) (value : LabelValue) → is_same_policy Mls policy ≡ true → with_value (asking biba None None) policy value ≡ asking biba (range_of (Some value)) None
+unfolding with_value
+with_mls biba Biba value same = absurd cc
+with_mls biba Mls value same = refl
+with_mls biba Partition value same = absurd cc
+with_mls biba Bsdextended value same = absurd cc
+with_mls biba Priority value same = absurd cc
+
+with_partition : (biba mls : Option RangeLabel) (policy : Module) (value : LabelValue) → is_same_policy Partition policy ≡ true
+    → with_value (asking biba mls None) policy value ≡ asking biba mls (number_of (Some value))
+unfolding with_value
+with_partition biba mls Biba value same = absurd cc
+with_partition biba mls Mls value same = absurd cc
+with_partition biba mls Partition value same = refl
+with_partition biba mls Bsdextended value same = absurd cc
+with_partition biba mls Priority value same = absurd cc
+
+after_biba : (parts : Parts) → AreOf Biba parts → length parts ≤ 1 → asked_after nothing parts ≡ asking (range_of (first_value parts)) None None
+unfolding asked_after
+after_biba [] are once = refl
+after_biba (part ∷ []) are once = with_biba part.0 part.1 are.0.0
+after_biba (part ∷ next ∷ parts) are once = absurd (omega arith)
+
+after_mls : (biba : Option RangeLabel) (parts : Parts) → AreOf Mls parts → length parts ≤ 1 → asked_after (asking biba None None) parts ≡ asking biba (range_of (first_value parts)) None
+unfolding asked_after
+after_mls biba [] are once = refl
+after_mls biba (part ∷ []) are once = with_mls biba part.0 part.1 are.0.0
+after_mls biba (part ∷ next ∷ parts) are once = absurd (omega arith)
+
+after_partition : (biba mls : Option RangeLabel) (parts : Parts) → AreOf Partition parts → length parts ≤ 1 → asked_after (asking biba mls None) parts ≡ asking biba mls (number_of (first_value parts))
+unfolding asked_after
+after_partition biba mls [] are once = refl
+after_partition biba mls (part ∷ []) are once = with_partition biba mls part.0 part.1 are.0.0
+after_partition biba mls (part ∷ next ∷ parts) are once = absurd (omega arith)
+
+asked_in_order : (parts : Parts) → AreParts parts → asked_after nothing (in_order parts) ≡ request_of parts
+unfolding in_order
+asked_in_order parts are =
+    let biba = parts_of Biba parts in
+    let mls = parts_of Mls parts in
+    let partition = parts_of Partition parts in
+    after_append nothing (biba ++ mls) partition
+    ∙ ap (λ before. asked_after before partition) (after_append nothing biba mls)
+    ∙ ap (λ before. asked_after (asked_after before mls) partition) (after_biba biba (are_of Biba parts are.each) (are.once Biba))
+    ∙ ap (λ before. asked_after before partition) (after_mls (range_of (first_value biba)) mls (are_of Mls parts are.each) (are.once Mls))
+    ∙ after_partition (range_of (first_value biba)) (range_of (first_value mls)) partition (are_of Partition parts are.each) (are.once Partition)
+    ∙ ap (λ value. asking (range_of value) (range_of (first_value mls)) (number_of (first_value partition))) (first_of Biba parts)
+    ∙ ap (λ value. asking (range_of (value_of Biba parts)) (range_of value) (number_of (first_value partition))) (first_of Mls parts)
+    ∙ ap (λ value. asking (range_of (value_of Biba parts)) (range_of (value_of Mls parts)) (number_of value)) (first_of Partition parts)
+
+-- ---- all parts stand in order
+append_parts : (front back : Parts) → AllByRecursion IsPart front → AllByRecursion IsPart back → AllByRecursion IsPart (front ++ back)
+append_parts [] back one other = other
+append_parts (part ∷ front) back one other = (one.0, append_parts front back one.1 other)
+
+ordered_parts : (parts : Parts) → AllByRecursion IsPart parts → AllByRecursion IsPart (in_order parts)
+unfolding in_order
+ordered_parts parts all =
+    append_parts (parts_of Biba parts ++ parts_of Mls parts) (parts_of Partition parts)
+    (append_parts (parts_of Biba parts) (parts_of Mls parts) (forget Biba (parts_of Biba parts) (are_of Biba parts all)) (forget Mls (parts_of Mls parts) (are_of Mls parts all)))
+    (forget Partition (parts_of Partition parts) (are_of Partition parts all))
+
+some_behind : (front : Parts) (part : Part) (back : Parts) → front ++ part ∷ back ≢ []
+some_behind [] part back none = cc
+some_behind (first ∷ front) part back none = cc
+
+some_within : (front : Parts) (part : Part) (middle back : Parts) → (front ++ part ∷ middle) ++ back ≢ []
+some_within [] part middle back none = cc
+some_within (first ∷ front) part middle back none = cc
+
+some_with : (policy : Module) (value : LabelValue) (parts : Parts) → IsValueOf policy value → in_order ((policy, value) ∷ parts) ≢ []
+unfolding in_order
+some_with Biba value parts is none = cc
+some_with Mls value parts is none = some_within (parts_of Biba parts) (Mls, value) (parts_of Mls parts) (parts_of Partition parts) none
+some_with Partition value parts is none = some_behind (parts_of Biba parts ++ parts_of Mls parts) (Partition, value) (parts_of Partition parts) none
+some_with Bsdextended value parts is none = is
+some_with Priority value parts is none = is
+
+some_in_order : (parts : Parts) → AllByRecursion IsPart parts → parts ≢ [] → in_order parts ≢ []
+some_in_order [] all some = absurd (some refl)
+some_in_order (part ∷ parts) all some = some_with part.0 part.1 parts all.0
+
+-- ---- the whole text
+text_is : (ordered : Parts) → ordered ≢ [] → elements_text (map element_text ordered) ≡ join_with_byte 44 (map element_text ordered)
+text_is [] some = absurd (some refl)
+text_is (part ∷ ordered) some = refl
+
+some_elements : (ordered : Parts) → ordered ≢ [] → map element_text ordered ≢ []
+some_elements [] some none = some refl
+some_elements (part ∷ ordered) some none = cc
+
+pub canonical_spells : (parts : Parts) → AreParts parts → parts ≢ [] → Spells (canonical parts) (request_of parts)
+unfolding canonical
+canonical_spells parts are some =
+    let ordered = in_order parts in
+    let here = some_in_order parts are.each some in
+    let all = ordered_parts parts are.each in
+    record {
+      elements = map element_text ordered;
+      some = some_elements ordered here;
+      parted = text_is ordered here;
+      whole = all_free ordered all;
+      each = subst (SpellElements (map element_text ordered) nothing) (asked_in_order parts are) (all_spell nothing ordered all);
+    }

@@ -1,0 +1,93 @@
+-- The canonical text of labels.
+use Rattle.std.specs.Prelude.{◌≡◌, ℕ, List, [], ◌∷◌, ◌++◌, Option, Some, None, Bool, true, false, map, filter, codes, ◌==◌, if◌then◌else◌}
+use Rattle.std.specs.List.{join_with_byte}
+use Rattle.std.specs.Fmt.{decimal}
+use Rattle.std.specs.FinSet as set
+use Rattle.mf_errno.specs.declared.module.Module.{Module}
+use Rattle.mf_errno.specs.declared.module.Module.TheVariants.{Biba, Mls, Partition, Bsdextended, Priority}
+use Rattle.mf_elem.specs.Comps.{compartments_of}
+use Rattle.mf_elem.specs.declared.comps.Comps.{Comps}
+use Rattle.mf_elem.specs.declared.elem.Elem.{Elem}
+use Rattle.mf_elem.specs.declared.elem.Elem.TheVariants.{Low, High, Equal, Grade}
+use Rattle.mf_elem.specs.declared.label.RangeLabel.{RangeLabel}
+use Rattle.mf_elem.specs.declared.label.LabelValue.{LabelValue}
+use Rattle.mf_elem.specs.declared.label.LabelValue.TheVariants.{Unset, Range, Number}
+use Prim.Native.Nat.{suc, zero}
+
+-- the numbers from 1 up to n
+abbrev pub numbers_to : ℕ → List ℕ
+numbers_to zero = []
+numbers_to (suc n) = numbers_to n ++ suc n ∷ []
+
+-- the compartments of a set, rising
+unfoldable pub rising : Comps → List ℕ
+rising comps = filter (set.contains (compartments_of comps)) (numbers_to 256)
+
+-- a colon and the compartments with a plus between each two; nothing where there are none
+abbrev pub comps_text : List ℕ → List ℕ
+comps_text [] = []
+comps_text (n ∷ ns) = 58 ∷ join_with_byte 43 (map decimal (n ∷ ns))
+
+abbrev pub elem_text : Elem → List ℕ
+elem_text Low = codes "low"
+elem_text High = codes "high"
+elem_text Equal = codes "equal"
+elem_text (Grade grade comps) = decimal grade ++ comps_text (rising comps)
+
+abbrev pub effective_text : Option Elem → List ℕ
+effective_text None = []
+effective_text (Some element) = elem_text element
+
+abbrev pub range_text : Option (Elem × Elem) → List ℕ
+range_text None = []
+range_text (Some ends) = 40 ∷ elem_text ends.0 ++ (45 ∷ elem_text ends.1 ++ 41 ∷ [])
+
+abbrev pub label_text : RangeLabel → List ℕ
+label_text label = effective_text label.effective ++ range_text label.range
+
+abbrev pub partition_text : ℕ → List ℕ
+partition_text n = if n == 0 then codes "none" else decimal n
+
+-- an Unset partition is none
+abbrev pub value_text : LabelValue → List ℕ
+value_text Unset = partition_text 0
+value_text (Range label) = label_text label
+value_text (Number n) = partition_text n
+
+abbrev pub policy_text : Module → List ℕ
+policy_text Biba = codes "biba"
+policy_text Mls = codes "mls"
+policy_text Partition = codes "partition"
+policy_text Bsdextended = codes "bsdextended"
+policy_text Priority = codes "priority"
+
+-- the policy, a slash and the value
+abbrev pub element_text : Module × LabelValue → List ℕ
+element_text part = policy_text part.0 ++ 47 ∷ value_text part.1
+
+-- the policies that label anything
+abbrev pub is_same_policy : Module → Module → Bool
+is_same_policy Biba Biba = true
+is_same_policy Mls Mls = true
+is_same_policy Partition Partition = true
+is_same_policy a b = false
+
+-- the parts of one of these policies
+abbrev pub parts_of : Module → List (Module × LabelValue) → List (Module × LabelValue)
+parts_of policy parts = filter (λ part. is_same_policy policy part.0) parts
+
+unfoldable pub in_order : List (Module × LabelValue) → List (Module × LabelValue)
+in_order parts = parts_of Biba parts ++ parts_of Mls parts ++ parts_of Partition parts
+
+-- the elements with a comma between each two; where there are none, a dash
+abbrev pub elements_text : List (List ℕ) → List ℕ
+elements_text [] = codes "-"
+elements_text (element ∷ elements) = join_with_byte 44 (element ∷ elements)
+
+-- what stands in front of an element behind so many others
+abbrev pub comma_behind : ℕ → List ℕ
+comma_behind elements = if elements == 0 then [] else 44 ∷ []
+
+-- the canonical text of the parts of a label
+unfoldable pub canonical : List (Module × LabelValue) → List ℕ
+canonical parts = elements_text (map element_text (in_order parts))
