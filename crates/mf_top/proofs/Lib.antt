@@ -3,3 +3,4 @@ pub mod Told
 pub mod Pieces
 pub mod Words
 pub mod OneHistory
+pub mod NoFaults

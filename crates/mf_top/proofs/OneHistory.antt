@@ -6,7 +6,7 @@ use Rattle.std.proofs.lemmas.List.Concat.{flat_map-cons}
 use Rattle.mf_script.specs.declared.script.Script.{Script}
 use Rattle.mf_script.specs.declared.script.Task.{Task}
 use Rattle.mf_script.specs.WellFormed.{lines_of, name_of, IsWellFormed}
-use Rattle.mf_script.specs.Grammar.{is_name, is_name_byte, is_some_text}
+use Rattle.mf_script.specs.Parts.{is_name, is_name_byte, is_some_text}
 use Rattle.std.specs.List.{list_all}
 use Rattle.mf_core.specs.declared.reply.Reply.{Reply}
 use Rattle.mf_core.specs.declared.progress.Progress.{Progress}

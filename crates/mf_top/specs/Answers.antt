@@ -8,7 +8,7 @@ use Rattle.mf_core.specs.LegalHistory.{IsLegal, IsComplete}
 use Rattle.mf_top.specs.declared.refusal.Refusal.{Refusal}
 use Rattle.mf_top.specs.declared.refusal.Refusal.TheVariants as refusal
 use Rattle.mf_top.specs.Outside.{Seen, FaultsRose, Took, TookPart}
-use Rattle.mf_top.specs.Reading.{IsTooLong}
+use Rattle.mf_top.specs.Reading.{IsTooLong, most_script}
 use Rattle.mf_top.specs.HistoryText.{history_text}
 
 -- the text is that of a history which is legal and complete for the script
@@ -34,7 +34,7 @@ abbrev pub IsOutcome : List (List ℕ) → Seen → Result (List ℕ) Refusal �
 IsOutcome words source (Ok text) = IsRunWords words × IfSome source.before (λ bytes. IsRunText bytes text × (source.after ≡ Some []))
 IsOutcome words source (Err refusal.Usage) = ¬ IsRunWords words
 IsOutcome words source (Err refusal.NotYet) = IsRunWords words
-    × IfSome source.before (λ bytes. (length bytes ≤ 1048576) × (script_of bytes ≡ Err script_error.NotYet) × (source.after ≡ Some []))
+    × IfSome source.before (λ bytes. (length bytes ≤ most_script) × (script_of bytes ≡ Err script_error.NotYet) × (source.after ≡ Some []))
 IsOutcome words source (Err refusal.ReadFault) = IsRunWords words × FaultsRose source
 IsOutcome words source (Err refusal.TooLong) = IsRunWords words × IsTooLong source.before source.after
 IsOutcome words source (Err refusal.Memory) = IsRunWords words
@@ -70,6 +70,6 @@ IsTold sink outcome status =
 -- The right words, told bytes of a script, and no fault of source or sink.
 pub record IsFaultless (words : List (List ℕ)) (source sink : Seen) : Type 0 where
   pub run : IsRunWords words
-  pub script : IsSomeAnd source.before (λ bytes. (length bytes ≤ 1048576) × ((s : Script) × (script_of bytes ≡ Ok s)))
+  pub script : IsSomeAnd source.before (λ bytes. (length bytes ≤ most_script) × ((s : Script) × (script_of bytes ≡ Ok s)))
   pub source_stays : ¬ FaultsRose source
   pub sink_stays : ¬ FaultsRose sink

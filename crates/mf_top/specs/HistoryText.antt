@@ -1,10 +1,11 @@
 -- The text of a history: one line for each registration at boot, and one for each event.
-use Rattle.std.specs.Prelude.{ℕ, ◌+◌, ◌-◌, ◌/◌, ◌%◌, Bool, not, ◌&&◌, ◌==◌, nat_lt, nat_le, if◌then◌else◌, List, [], ◌∷◌, ◌++◌, Option, Some, None, codes}
+use Rattle.std.specs.Prelude.{ℕ, List, [], ◌++◌, Option, Some, None, codes}
 use Rattle.std.specs.List.{flat_map}
 use Rattle.std.specs.Fmt.{decimal}
 use Rattle.mf_errno.specs.Errno.{text_of}
 use Rattle.mf_errno.specs.Module.{module_text}
 use Rattle.mf_errno.specs.declared.module.Module.{Module}
+use Rattle.mf_text.specs.Escape.{canonical}
 use Rattle.mf_item.specs.Operation.{operation_text}
 use Rattle.mf_script.specs.declared.script.Script.{Script}
 use Rattle.mf_script.specs.WellFormed.{name_of}
@@ -16,25 +17,6 @@ use Rattle.mf_core.specs.declared.history.Event.{Event}
 use Rattle.mf_core.specs.declared.history.Event.TheVariants as event
 use Rattle.mf_core.specs.declared.history.History.{History}
 use Rattle.mf_core.specs.declared.registration.Registration.{Registration}
-
--- Bytes in canonical text
-
-abbrev pub backslash : ℕ
-backslash = 92
-
--- a digit of base 16, in lower case
-abbrev pub hex_digit : ℕ → ℕ
-hex_digit n = if nat_lt n 10 then 48 + n else 97 + (n - 10)
-
--- the byte stands for itself: it is visible, and not the backslash
-abbrev pub is_shown : ℕ → Bool
-is_shown b = nat_le 33 b && nat_le b 126 && not (b == backslash)
-
-abbrev pub escaped : ℕ → List ℕ
-escaped b = if is_shown b then b ∷ [] else backslash ∷ hex_digit (b / 16) ∷ hex_digit (b % 16) ∷ []
-
-abbrev pub canonical : List ℕ → List ℕ
-canonical bytes = flat_map escaped bytes
 
 -- Replies
 

@@ -2,9 +2,13 @@
 use Rattle.std.specs.Prelude.{◌≡◌, ◌⊎◌, ℕ, ◌<◌, ◌≤◌, List, [], ◌++◌, take, Option, Some, None, IfSome, IsSomeAnd, ◌↔◌, Result, OnErr}
 use Rattle.mf_top.specs.declared.io.source.Failed.{Failed}
 
+-- the last value of a count of 64 bits
+abbrev pub last_count : ℕ
+last_count = 18446744073709551615
+
 -- the count of faults rose, or stands at its last value
 abbrev pub HasRisen : ℕ → ℕ → Type 0
-HasRisen before now = (before < now) ⊎ (now ≡ 18446744073709551615)
+HasRisen before now = (before < now) ⊎ (now ≡ last_count)
 
 -- What is seen of a source or a sink around a call: the bytes that it tells, and its count of faults.
 pub record Seen : Type 0 where

@@ -1,7 +1,28 @@
-//! What the text of a history tells.
+//! Laws of the program: what its texts tell, and which of its answers never come where nothing fails.
+ghost use Rattle.std.specs.Prelude.{◌≢◌};
 ghost use Rattle.mf_top.specs.OneText.{TextTellsHistory};
+
+use crate::io::{SureSink, SureSource};
+use crate::top::macsim;
+use std::alloc::Global;
+use std::sync::Wait;
+use std::thread::Threads;
 
 /// Two different legal histories of one script have different texts.
 pub fn text_tells_history()
     ensures { TextTellsHistory }
 {}
+
+/// The program over a source and a sink that never fail: it answers neither 4 nor 5.
+pub fn run_surely<R: Threads + Wait + Sync>(
+    rt: &R,
+    alloc: Global,
+    words: &[String],
+    source: &mut SureSource,
+    sink: &mut SureSink,
+) -> u8
+    ensures no_read_fault { result ≢ 4 }
+    ensures no_write_fault { result ≢ 5 }
+{
+    macsim(rt, alloc, words, source, sink)
+}

@@ -1,9 +1,7 @@
 //! The text of a history.
 
-mod bytes;
 mod event;
 mod history;
 mod reply;
 
-pub use event::push_event;
 pub use history::history_text;

@@ -2,7 +2,7 @@
 ghost use Rattle.std.specs.Prelude.{◌≡◌, ◌<◌, ◌≤◌, ◌+◌, length, IfOk, IsErrOf};
 ghost use Rattle.mf_top.specs.declared.read.ReadError.TheVariants.{Memory, Failed as ReadFailed};
 ghost use Rattle.mf_top.specs.Outside.{HasRisen, Gave};
-ghost use Rattle.mf_top.specs.Reading.{IsWhole, IsTooLong, GaveOn};
+ghost use Rattle.mf_top.specs.Reading.{IsWhole, IsTooLong, GaveOn, most_script};
 
 use crate::io::{Failed, Source};
 use std::alloc::{AllocError, Global};
@@ -40,7 +40,7 @@ impl From<Failed> for ReadError {
 /// All that the source holds, to its end. It asks for at most one byte more than a script may have.
 pub fn read_all<S: Source>(alloc: Global, source: &mut S) -> Result<Vec<u8>, ReadError>
     ensures whole { IfOk result (λ bytes. IsWhole (S.left source.old) (S.left source.new) bytes.items) }
-    ensures most { IfOk result (λ bytes. length bytes.items ≤ 1048576) }
+    ensures most { IfOk result (λ bytes. length bytes.items ≤ most_script) }
     ensures later { S.faults source.old ≤ S.faults source.new }
     ensures failed { IsErrOf result ReadError.Failed → HasRisen (S.faults source.old) (S.faults source.new) }
     ensures too_long { IsErrOf result ReadError.TooLong → IsTooLong (S.left source.old) (S.left source.new) }

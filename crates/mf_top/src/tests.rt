@@ -1,6 +1,7 @@
 //! Runs of the whole program, over memory and over standard streams.
 
 use crate::io::{MemSink, MemSource, StdSink, StdSource, SureSink, SureSource};
+use crate::law::run_surely;
 use crate::top::macsim;
 use std::alloc::{AllocError, Global};
 use std::process::Abort;
@@ -149,7 +150,7 @@ fn sure_and_standard_streams(rt: HostRuntime) -> Result<(), Fail> {
     let words = words_of(rt.alloc(), "run")?;
     let mut source = SureSource::new(DENIAL.as_bytes().to_vec(rt.alloc())?);
     let mut sink = SureSink::new(rt.alloc(), 40)?;
-    let status = macsim(&rt, rt.alloc(), &words, &mut source, &mut sink);
+    let status = run_surely(&rt, rt.alloc(), &words, &mut source, &mut sink);
     assert_eq!(rt; status, 0);
     let mut written = Vec::new(rt.alloc());
     let mut source = StdSource::new(DENIAL.as_bytes());

@@ -6,10 +6,15 @@ ghost use Rattle.mf_top.specs.HistoryText.{event_text};
 use crate::print::reply::push_reply;
 use mf_core::Event;
 use mf_script::Script;
-use std::alloc::AllocError;
+use std::alloc::{AllocError, Global};
 
 /// Appends the line of the event of a history of the script.
-pub fn push_event(script: &Script, event: &Event, out: &mut String) -> Result<(), AllocError>
+pub(crate) fn push_event(
+    alloc: Global,
+    script: &Script,
+    event: &Event,
+    out: &mut String,
+) -> Result<(), AllocError>
     ensures { OnOk result (string_bytes out.new ≡ string_bytes out.old ++ event_text script.now event.now) }
 {
     match event {
@@ -20,7 +25,7 @@ pub fn push_event(script: &Script, event: &Event, out: &mut String) -> Result<()
         Event::Done(task, line, reply) => {
             let name = task_name(script, *task);
             write!(out, "done {name} {line} ")?;
-            push_reply(reply, out)?;
+            push_reply(alloc, reply, out)?;
             out.push_str("\n")
         }
         Event::Leave(task) => {
@@ -30,7 +35,7 @@ pub fn push_event(script: &Script, event: &Event, out: &mut String) -> Result<()
         Event::Changed(task, line, reply) => {
             let name = task_name(script, *task);
             write!(out, "changed {name} {line} ")?;
-            push_reply(reply, out)?;
+            push_reply(alloc, reply, out)?;
             out.push_str("\n")
         }
     }

@@ -14,7 +14,7 @@ pub fn history_text(alloc: Global, script: &Script, history: &History) -> Result
 {
     let mut out = String::new(alloc);
     push_boots(history.boots.as_slice(), &mut out)?;
-    push_events(script, history.events.as_slice(), &mut out)?;
+    push_events(alloc, script, history.events.as_slice(), &mut out)?;
     Ok(out)
 }
 
@@ -46,11 +46,16 @@ fn push_slot(slot: Option<u8>, out: &mut String) -> Result<(), AllocError>
     }
 }
 
-fn push_events(script: &Script, events: &[Event], out: &mut String) -> Result<(), AllocError>
+fn push_events(
+    alloc: Global,
+    script: &Script,
+    events: &[Event],
+    out: &mut String,
+) -> Result<(), AllocError>
     ensures { OnOk result (string_bytes out.new ≡ string_bytes out.old ++ flat_map (event_text script.now) events.now) }
 {
     for event in events {
-        push_event(script, event, out)?;
+        push_event(alloc, script, event, out)?;
     }
     Ok(())
 }

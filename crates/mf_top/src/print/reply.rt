@@ -2,19 +2,19 @@
 ghost use Rattle.std.specs.Prelude.{◌≡◌, ◌++◌, OnOk, string_bytes};
 ghost use Rattle.mf_top.specs.HistoryText.{payload_text, decider_text, reply_text};
 
-use crate::print::bytes::push_canonical;
 use mf_core::{Payload, Reply};
 use mf_errno::Module;
-use std::alloc::AllocError;
+use mf_text::escape;
+use std::alloc::{AllocError, Global};
 
 /// Appends the reply: `ok` and its payload, or `no` with the errno, the operation, the decider and the number of the check.
-pub(crate) fn push_reply(reply: &Reply, out: &mut String) -> Result<(), AllocError>
+pub(crate) fn push_reply(alloc: Global, reply: &Reply, out: &mut String) -> Result<(), AllocError>
     ensures { OnOk result (string_bytes out.new ≡ string_bytes out.old ++ reply_text reply.now) }
 {
     match reply {
         Reply::Ok(payload) => {
             out.push_str("ok")?;
-            push_payload(payload, out)
+            push_payload(alloc, payload, out)
         }
         Reply::Denied {
             errno,
@@ -43,7 +43,7 @@ fn decider_name(by: Option<Module>) -> &'static str
     }
 }
 
-fn push_payload(payload: &Payload, out: &mut String) -> Result<(), AllocError>
+fn push_payload(alloc: Global, payload: &Payload, out: &mut String) -> Result<(), AllocError>
     ensures { OnOk result (string_bytes out.new ≡ string_bytes out.old ++ payload_text payload.now) }
 {
     match payload {
@@ -51,7 +51,7 @@ fn push_payload(payload: &Payload, out: &mut String) -> Result<(), AllocError>
         Payload::Head(head) => {
             let len = head.len;
             write!(out, " bytes {len} =")?;
-            push_canonical(head.first.as_slice(), out)
+            escape(alloc, head.first.as_slice(), out)
         }
     }
 }
