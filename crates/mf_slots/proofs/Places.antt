@@ -1,0 +1,109 @@
+-- A zone that is replaced, seen slot by slot.
+use Rattle.std.proofs.Common.{◌≡◌, ℕ, ◌<◌, List, [], ◌∷◌, Option, Some, None, length, get_or, set, map, refl, ap, sym, ◌∙◌, subst, arith, inl, inr, zero, suc, IsSome, ◌+◌}
+use Rattle.std.proofs.lemmas.List.{get_or-set_same, get_or-set_other, get_or-map, length-map}
+use Rattle.std.proofs.lemmas.Bool.{cases_eq}
+use Rattle.slab.specs.Slab.{Slab, get, Updates, with_value}
+use Rattle.mf_elem.specs.declared.label.LabelValue.{LabelValue}
+use Rattle.mf_slots.specs.Zones.{Contents, Handles, handle, under, Writes, IsKept, Makes, Frees, GivesUpBelow}
+
+-- what contracts see of the slabs
+abbrev pub seen : List (Slab LabelValue) → Contents
+seen slabs = map (λ (s : Slab LabelValue). s.slots) slabs
+
+seen_at : (slabs : List (Slab LabelValue)) (i : ℕ) (d : Slab LabelValue) → i < length slabs → get_or (seen slabs) i [] ≡ (get_or slabs i d).slots
+seen_at slabs i d h = get_or-map (λ (s : Slab LabelValue). s.slots) slabs i d [] h
+
+seen_set : (slabs : List (Slab LabelValue)) (i : ℕ) (s : Slab LabelValue) → seen (set slabs i s) ≡ set (seen slabs) i s.slots
+seen_set [] i s = refl
+seen_set (x ∷ slabs) zero s = refl
+seen_set (x ∷ slabs) (suc i) s = ap (λ (zs : Contents). x.slots ∷ zs) (seen_set slabs i s)
+
+-- one zone that was updated under a key
+pub writes_zone : (slabs : List (Slab LabelValue)) (i : ℕ) (old new : Slab LabelValue) (k : ℕ) (v : Option LabelValue)
+    → i < length slabs → get_or slabs i old ≡ old → Updates old new k v
+    → Writes (seen slabs) (seen (set slabs i new)) i k v
+writes_zone slabs i old new k v within is up =
+    let zone : get_or (seen slabs) i [] ≡ old.slots = seen_at slabs i old within ∙ ap (λ (s : Slab LabelValue). s.slots) is in
+    let long : i < length (seen slabs) = subst (λ n. i < n) (sym (length-map slabs (λ (s : Slab LabelValue). s.slots))) within in
+    record {
+      changed = rw (seen_set slabs i new) (ap (λ (z : List (Option LabelValue)). get_or z k None) (get_or-set_same (seen slabs) i new.slots [] long) ∙ up.changed);
+      others = λ s j apart. elim (cases_eq s i) [
+        | inl same ↦
+            let there : under (seen (set slabs i new)) i j ≡ under (seen slabs) i j =
+            rw (seen_set slabs i new) (ap (λ (z : List (Option LabelValue)). get_or z j None) (get_or-set_same (seen slabs) i new.slots [] long)
+            ∙ up.others j (λ e. apart same e)
+            ∙ ap (λ (z : List (Option LabelValue)). get_or z j None) (sym zone)) in
+            subst (λ n. under (seen (set slabs i new)) n j ≡ under (seen slabs) n j) (sym same) there
+        | inr differ ↦ rw (seen_set slabs i new) (ap (λ (z : List (Option LabelValue)). get_or z j None) (get_or-set_other (seen slabs) i s new.slots [] differ))
+      ];
+    }
+
+at_zone : (slabs : List (Slab LabelValue)) (i : ℕ) (zone : Slab LabelValue) (k : ℕ) → i < length slabs → get_or slabs i zone ≡ zone → under (seen slabs) i k ≡ get zone k
+at_zone slabs i zone k within is =
+    ap (λ (z : List (Option LabelValue)). get_or z k None) (seen_at slabs i zone within ∙ ap (λ (s : Slab LabelValue). s.slots) is)
+
+-- a slot of a label is made
+pub made : (slabs : List (Slab LabelValue)) (i : ℕ) (old new : Slab LabelValue) (k : ℕ) (v : LabelValue) (keys : Handles)
+    → i < length slabs → get_or slabs i old ≡ old → IsKept old new k v
+    → Makes (seen slabs) (seen (set slabs i new)) keys (set keys i (Some k)) i v
+made slabs i old new k v keys within is kept =
+    record {
+      new = k;
+      was_free = at_zone slabs i old k within is ∙ kept.was_free;
+      writes = writes_zone slabs i old new k (Some v) within is kept.updates;
+      label_is = refl;
+    }
+
+-- a write under a key that has a value
+updates_at : (zone : Slab LabelValue) (k : ℕ) (v : LabelValue) → k < length zone.slots → Updates zone (with_value zone k v) k (Some v)
+updates_at zone k v within =
+    record {
+      changed = get_or-set_same zone.slots k (Some v) None within;
+      others = λ j ne. get_or-set_other zone.slots k j (Some v) None ne;
+    }
+
+has_place : (xs : List (Option LabelValue)) (k : ℕ) → IsSome (get_or xs k None) → k < length xs
+has_place [] k h = cc
+has_place (x ∷ xs) zero h = omega arith
+has_place (x ∷ xs) (suc k) h = let l : k < length xs = has_place xs k h in omega arith
+
+pub written : (slabs : List (Slab LabelValue)) (i : ℕ) (zone : Slab LabelValue) (k : ℕ) (v : LabelValue)
+    → i < length slabs → get_or slabs i zone ≡ zone → IsSome (under (seen slabs) i k)
+    → Writes (seen slabs) (seen (set slabs i (with_value zone k v))) i k (Some v)
+written slabs i zone k v within is some =
+    writes_zone slabs i zone (with_value zone k v) k (Some v) within is
+    (updates_at zone k v (has_place zone.slots k (subst (λ (o : Option LabelValue). IsSome o) (at_zone slabs i zone k within is) some)))
+
+pub gives_up_none : (zones : Contents) (label : Handles) → GivesUpBelow 0 zones zones label
+gives_up_none zones label = record { freed = λ slot h l e. absurd (omega arith); others = λ s k no. refl }
+
+-- one slot more
+pub gives_up_more : (n : ℕ) (zones zones1 zones2 : Contents) (label : Handles)
+    → GivesUpBelow n zones zones1 label → Frees zones1 zones2 n (handle label n) → GivesUpBelow (n + 1) zones zones2 label
+gives_up_more n zones zones1 zones2 label before frees =
+    record {
+      freed = λ slot h l e. elim (cases_eq slot n) [
+        | inl same ↦
+            let here : handle label n ≡ Some h = ap (handle label) (sym same) ∙ e in
+            subst (λ m. under zones2 m h ≡ None) (sym same) (frees.freed h here)
+        | inr differ ↦
+            frees.others slot h (λ same _. differ same) ∙ before.freed slot h (omega (arith, differ)) e
+      ];
+      others = λ s k no.
+          frees.others s k (λ same e. no (omega (arith, same)) (ap (handle label) same ∙ e))
+          ∙ before.others s k (λ l e. no (omega (arith, l)) e);
+    }
+
+-- a zone that lost a key
+pub frees_zone : (slabs : List (Slab LabelValue)) (i : ℕ) (old new : Slab LabelValue) (k : ℕ)
+    → i < length slabs → get_or slabs i old ≡ old → Updates old new k None
+    → Frees (seen slabs) (seen (set slabs i new)) i (Some k)
+frees_zone slabs i old new k within is up =
+    let w = writes_zone slabs i old new k None within is up in
+    record {
+      freed = λ h e. let same : k ≡ h = cc in subst (λ j. under (seen (set slabs i new)) i j ≡ None) same w.changed;
+      others = λ s j no. w.others s j (λ si jk. no si (ap (λ (n : ℕ). Some n) (sym jk)));
+    }
+
+pub frees_none : (zones : Contents) (slot : ℕ) → Frees zones zones slot None
+frees_none zones slot = record { freed = λ h e. cc; others = λ s k no. refl }

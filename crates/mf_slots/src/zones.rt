@@ -1,0 +1,207 @@
+//! Zones of label values over slabs, whose keys are the handles that labels hold.
+ghost use Rattle.std.specs.Prelude.{◌≡◌, ◌≢◌, ◌<◌, ◌↔◌, [], ◌∷◌, Some, None, OnOk, OnErr, IfOk, IsTrue, IsSome, replicate};
+ghost use Rattle.mf_slots.specs.Zones.{IsHeld, IsMadeAt, IsHeldAt, IsSame, Makes, MakesLabel, MakesUnlessUnset, SetsAt, Frees, GivesUp, handle, value_at, value_of, IsKept};
+ghost use Rattle.mf_elem.specs.declared.label.LabelValue.TheVariants.{Unset};
+
+use mf_elem::LabelValue;
+use slab::Slab;
+use std::alloc::{AllocError, Global};
+use std::marker::Model;
+
+/// The zones of uma(9) from which label values come: one for each slot number.
+#[derive(Drop)]
+pub struct Zones {
+    zones: Vec<Slab<LabelValue>>,
+}
+
+impl Model for Zones {
+    ghost use Rattle.std.specs.Prelude.{◌≡◌, map, length};
+    ghost use Rattle.mf_slots.specs.Zones.{Contents};
+
+    ghost Value = { Contents };
+
+    ghost view = { λ a. map (λ zone. zone.slots) a.zones.items };
+
+    ghost invariant = { λ a. length a.zones.items ≡ 4 };
+}
+
+/// The label of an entity: for each slot that is made, the handle of its value in the zones.
+#[derive(Drop)]
+pub struct Label {
+    handles: [Option<usize>; 4],
+}
+
+impl Model for Label {
+    ghost use Rattle.mf_slots.specs.Zones.{Handles};
+
+    ghost Value = { Handles };
+
+    ghost view = { λ a. a.handles };
+}
+
+impl Label {
+    /// No slot is made: each is Unset.
+    pub fn new() -> Label
+        ensures { result ≡ replicate 4 None }
+    {
+        Label { handles: [None; 4] }
+    }
+
+    /// Whether the slot is made.
+    pub fn is_made(&self, slot: u8) -> bool
+        requires { slot < 4 }
+        ensures { IsTrue result ↔ IsSome (handle self.now slot) }
+    {
+        self.handles[slot as usize].is_some()
+    }
+}
+
+impl Zones {
+    /// Empty zones.
+    pub fn new(alloc: Global) -> Result<Zones, AllocError>
+        ensures { IfOk result (λ zones. zones ≡ replicate 4 []) }
+    {
+        let mut zones = Vec::with_capacity(alloc, 4)?;
+        zones.push(Slab::new(alloc))?;
+        zones.push(Slab::new(alloc))?;
+        zones.push(Slab::new(alloc))?;
+        zones.push(Slab::new(alloc))?;
+        Ok(Zones { zones })
+    }
+
+    /// Makes a slot of the label that is Unset. After want of memory nothing is changed.
+    pub fn make(&mut self, label: &mut Label, slot: u8, value: LabelValue) -> Result<(), AllocError>
+        requires slot { slot < 4 }
+        requires unset { handle label.old slot ≡ None }
+        requires value { value ≢ Unset }
+        requires held { IsHeld self.old label.old }
+        ensures ok { OnOk result (Makes self.old self.new label.old label.new slot value) }
+        ensures err { OnErr result ((self.new ≡ self.old) × (label.new ≡ label.old)) }
+    {
+        let zone = &mut self.zones[slot as usize];
+        let key = keep(zone, value)?;
+        label.handles[slot as usize] = Some(key);
+        Ok(())
+    }
+
+    /// Makes a label with these values; a slot that is to be Unset isn't made. After want of memory every handle has what
+    /// it had.
+    pub fn make_label(&mut self, values: &[LabelValue; 4]) -> Result<Label, AllocError>
+        ensures ok { IfOk result (λ label. MakesLabel self.old self.new label values.now) }
+        ensures err { OnErr result (IsSame self.old self.new) }
+    {
+        let mut label = Label::new();
+        for slot in 0..4 {
+            let value = values[slot as usize];
+            match self.make_unless_unset(&mut label, slot, value) {
+                Ok(()) => {}
+                Err(error) => {
+                    self.give_up(label);
+                    return Err(error);
+                }
+            }
+        }
+        Ok(label)
+    }
+
+    fn make_unless_unset(
+        &mut self,
+        label: &mut Label,
+        slot: u8,
+        value: LabelValue,
+    ) -> Result<(), AllocError>
+        requires slot { slot < 4 }
+        requires unset { handle label.old slot ≡ None }
+        requires held { IsHeld self.old label.old }
+        ensures ok { OnOk result (MakesUnlessUnset self.old self.new label.old label.new slot value) }
+        ensures err { OnErr result ((self.new ≡ self.old) × (label.new ≡ label.old)) }
+    {
+        match value {
+            LabelValue::Unset => Ok(()),
+            LabelValue::Range(_) | LabelValue::Number(_) => self.make(label, slot, value),
+        }
+    }
+
+    /// Writes a slot that is made.
+    pub fn set(&mut self, label: &Label, slot: u8, value: LabelValue)
+        requires slot { slot < 4 }
+        requires made { IsMadeAt self.old slot (handle label.now slot) }
+        requires value { value ≢ Unset }
+        ensures { SetsAt self.old self.new slot (handle label.now slot) value }
+    {
+        if let Some(key) = label.handles[slot as usize] {
+            let zone = &mut self.zones[slot as usize];
+            if let Some(place) = zone.get_mut(key) {
+                *place = value;
+            }
+        }
+    }
+
+    /// What a slot holds.
+    pub fn value(&self, label: &Label, slot: u8) -> LabelValue
+        requires slot { slot < 4 }
+        requires held { IsHeldAt self.now slot (handle label.now slot) }
+        ensures { result ≡ value_of self.now label.now slot }
+    {
+        match label.handles[slot as usize] {
+            Some(key) => self.under(slot, key),
+            None => LabelValue::Unset,
+        }
+    }
+
+    fn under(&self, slot: u8, key: usize) -> LabelValue
+        requires { slot < 4 }
+        ensures { result ≡ value_at self.now slot (Some key) }
+    {
+        let found = self.zones[slot as usize].get(key);
+        found.copied().unwrap_or(LabelValue::Unset)
+    }
+
+    /// Gives up every made slot of the label.
+    pub fn give_up(&mut self, label: Label)
+        requires { IsHeld self.old label }
+        ensures { GivesUp self.old self.new label }
+    {
+        let Label { handles } = label;
+        for slot in 0..4 {
+            self.free(slot, handles[slot]);
+        }
+    }
+
+    /// Gives up what is under the key, if there is one.
+    fn free(&mut self, slot: usize, key: Option<usize>)
+        requires { slot < 4 }
+        ensures { Frees self.old self.new slot key }
+    {
+        if let Some(key) = key {
+            let zone = &mut self.zones[slot];
+            let _ = zone.try_remove(key);
+        }
+    }
+}
+
+/// Puts the value under a free key.
+fn keep<T: Drop>(zone: &mut Slab<T>, value: T) -> Result<usize, AllocError>
+    ensures ok { IfOk result (λ key. IsKept zone.old zone.new key value) }
+    ensures err { OnErr result (zone.new.slots ≡ zone.old.slots) }
+{
+    zone.reserve(1)?;
+    Ok(zone.insert_reserved(value))
+}
+
+#[cfg(test)]
+mod tests {
+    use super::*;
+    use std::test::Fail;
+
+    #[test]
+    fn two_labels_share_a_zone(rt: HostRuntime) -> Result<(), Fail> {
+        let mut zones = Zones::new(rt.alloc())?;
+        let one = LabelValue::Number(1);
+        let two = LabelValue::Number(2);
+        let first = zones.make_label(&[one, LabelValue::Unset, LabelValue::Unset, one])?;
+        let second = zones.make_label(&[two, two, LabelValue::Unset, LabelValue::Unset])?;
+        assert!(rt; first.is_made(3) && !first.is_made(1));
+        Ok(())
+    }
+}
