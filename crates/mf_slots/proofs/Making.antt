@@ -1,11 +1,10 @@
 -- A label that is made slot by slot, and one that is given up again.
-use Rattle.std.proofs.Common.{◌≡◌, ◌≢◌, ℕ, ◌<◌, ◌≤◌, ◌+◌, List, Option, Some, None, length, get_or, refl, ap, sym, ◌∙◌, subst, arith, inl, inr, IsSome, ◌⊎◌}
-use Rattle.std.proofs.lemmas.List.{get_or-set_same, get_or-set_other, length-set}
+use Rattle.std.proofs.Common.{◌≡◌, ◌≢◌, ℕ, ◌<◌, ◌≤◌, ◌+◌, List, Option, Some, None, get_or, refl, ap, sym, ◌∙◌, subst, arith, inl, inr, IsSome}
 use Rattle.std.proofs.lemmas.Bool.{cases_eq, cases_lt}
 use Rattle.mf_elem.specs.declared.label.LabelValue.{LabelValue}
 use Rattle.mf_elem.specs.declared.label.LabelValue.TheVariants.{Unset, Range, Number}
 use Rattle.mf_slots.specs.Zones.{Contents, Handles, handle, under, value_at, value_of, value_or_unset, Makes, MakesBelow, MakesUnlessUnset, GivesUp, IsHeld, IsHeldAt, IsSame}
-use Rattle.mf_slots.specs.ZonesLaws.{value_of-same}
+use Rattle.mf_slots.proofs.ZonesLaws.{value_of-same, has_handle}
 
 held_at : (zones : Contents) (slot : ℕ) (key : Option ℕ) → ((h : ℕ) → key ≡ Some h → IsSome (under zones slot h)) → IsHeldAt zones slot key
 held_at zones slot None some = tt
@@ -13,11 +12,6 @@ held_at zones slot (Some h) some = some h refl
 
 pub is_held : (n : ℕ) (zones zones' : Contents) (label : Handles) (values : List LabelValue) → MakesBelow n zones zones' label values → IsHeld zones' label
 is_held n zones zones' label values below = record { each = λ slot h. held_at zones' slot (handle label slot) (below.held slot) }
-
--- whether a label's slot has this handle
-has_handle : (key : Option ℕ) (h : ℕ) → (key ≡ Some h) ⊎ (key ≡ Some h → ⊥)
-has_handle None h = inr (λ e. cc)
-has_handle (Some k) h = elim (cases_eq k h) [ inl same ↦ inl (ap (λ (n : ℕ). Some n) same) | inr differ ↦ inr (λ e. differ cc) ]
 
 inside_some : (a b : ℕ) → Some a ≡ Some b → a ≡ b
 inside_some a b e = cc
@@ -34,12 +28,9 @@ made_more : (n : ℕ) (start zones zones' : Contents) (label label' : Handles) (
 made_more n start zones zones' label label' values v within is below makes =
     let new : ℕ = makes.new in
     let free_slot : handle label n ≡ None = below.later n (omega arith) in
-    let long : n < length label = omega (arith, below.four) in
-    let here : handle label' n ≡ Some new = ap (λ (l : Handles). handle l n) makes.label_is ∙ get_or-set_same label n (Some new) None long in
-    let there : (slot : ℕ) → slot ≢ n → handle label' slot ≡ handle label slot =
-    λ slot ne. ap (λ (l : Handles). handle l slot) makes.label_is ∙ get_or-set_other label n slot (Some new) None ne in
+    let here : handle label' n ≡ Some new = makes.here in
+    let there : (slot : ℕ) → slot ≢ n → handle label' slot ≡ handle label slot = makes.elsewhere in
     record {
-      four = ap (λ (l : Handles). length l) makes.label_is ∙ length-set label n (Some new) ∙ below.four;
       made = λ slot l. elim (cases_eq slot n) [
         | inl same ↦
             let at_n : value_of zones' label' n ≡ get_or values n Unset =
@@ -80,7 +71,6 @@ unset_more : (n : ℕ) (start zones : Contents) (label : Handles) (values : List
     → MakesBelow n start zones label values → MakesBelow (n + 1) start zones label values
 unset_more n start zones label values is below =
     record {
-      four = below.four;
       made = λ slot l. elim (cases_eq slot n) [
         | inl same ↦
             let none : handle label slot ≡ None = below.later slot (omega (arith, same)) in

@@ -44,14 +44,15 @@ at_zone slabs i zone k within is =
 
 -- a slot of a label is made
 pub made : (slabs : List (Slab LabelValue)) (i : ℕ) (old new : Slab LabelValue) (k : ℕ) (v : LabelValue) (keys : Handles)
-    → i < length slabs → get_or slabs i old ≡ old → IsKept old new k v
+    → i < length slabs → i < length keys → get_or slabs i old ≡ old → IsKept old new k v
     → Makes (seen slabs) (seen (set slabs i new)) keys (set keys i (Some k)) i v
-made slabs i old new k v keys within is kept =
+made slabs i old new k v keys within long is kept =
     record {
       new = k;
       was_free = at_zone slabs i old k within is ∙ kept.was_free;
       writes = writes_zone slabs i old new k (Some v) within is kept.updates;
-      label_is = refl;
+      here = get_or-set_same keys i (Some k) None long;
+      elsewhere = λ s ne. get_or-set_other keys i s (Some k) None ne;
     }
 
 -- a write under a key that has a value

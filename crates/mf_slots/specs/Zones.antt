@@ -1,5 +1,5 @@
 -- Label values in zones: one zone for each slot number, in which each value lies under a handle.
-use Rattle.std.specs.Prelude.{◌≡◌, ℕ, ◌<◌, ◌≤◌, List, [], Option, Some, None, IsSome, slice_index_or, slice_set, length}
+use Rattle.std.specs.Prelude.{◌≡◌, ◌≢◌, ℕ, ◌<◌, ◌≤◌, List, [], Option, Some, None, IsSome, slice_index_or}
 use Rattle.slab.specs.Slab.{Slab, Updates, get}
 use Rattle.mf_elem.specs.declared.label.LabelValue.{LabelValue}
 use Rattle.mf_elem.specs.declared.label.LabelValue.TheVariants.{Unset, Range, Number}
@@ -60,11 +60,11 @@ pub record Makes (zones zones' : Contents) (label label' : Handles) (slot : ℕ)
   pub new : ℕ
   pub was_free : under zones slot new ≡ None
   pub writes : Writes zones zones' slot new (Some v)
-  pub label_is : label' ≡ slice_set label slot (Some new)
+  pub here : handle label' slot ≡ Some new
+  pub elsewhere : (s : ℕ) → s ≢ slot → handle label' s ≡ handle label s
 
 -- the slots of a new label below n are made with these values, each under a handle that was free; an Unset one is not made
 pub record MakesBelow (n : ℕ) (zones zones' : Contents) (label : Handles) (values : List LabelValue) : Type 0 where
-  pub four : length label ≡ 4
   pub made : (slot : ℕ) → slot < n → value_of zones' label slot ≡ slice_index_or values slot Unset
   pub later : (slot : ℕ) → n ≤ slot → handle label slot ≡ None
   pub held : (slot h : ℕ) → handle label slot ≡ Some h → IsSome (under zones' slot h)

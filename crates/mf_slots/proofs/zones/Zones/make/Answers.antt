@@ -7,7 +7,9 @@ pub returns-clause-ok : goal.returns-clause-ok
 returns-clause-ok c =
     let slabs = c.self.inside.zones.items in
     let within : c.args.slot < length slabs = omega (arith, c.self.invariant, c.requires.slot) in
-    let m = made slabs c.args.slot c.index_mut-zone.result.now c.keep.new.zone c.in_ok-key.key c.args.value c.label.inside.handles within (sym c.index_mut-zone.ensures.value) c.in_ok-key.ensures.ok in
+    let long : c.args.slot < length c.label.inside.handles = omega arith in
+    let m =
+    made slabs c.args.slot c.index_mut-zone.result.now c.keep.new.zone c.in_ok-key.key c.args.value c.label.inside.handles within long (sym c.index_mut-zone.ensures.value) c.in_ok-key.ensures.ok in
     let slabs' = set slabs c.args.slot c.keep.new.zone in
     let keys' = set c.label.inside.handles c.args.slot (Some c.in_ok-key.key) in
     subst (λ (z : Contents). Makes z (seen slabs') c.args.label.now keys' c.args.slot c.args.value) c.self.view_is
