@@ -1,5 +1,5 @@
 -- The canonical text of parts spells them.
-use Rattle.std.proofs.Common.{◌≡◌, ◌≢◌, ℕ, ◌+◌, ◌^◌, ◌<◌, ◌≤◌, Bool, true, false, cond, eqb, List, [], ◌∷◌, ◌++◌, length, map, filter, Option, Some, None, refl, sym, ap, ◌∙◌, subst, arith, ◌⊎◌, inl, inr, append-nil, append_assoc, lit<, lit≤, codes}
+use Rattle.std.proofs.Common.{◌≡◌, ℕ, ◌^◌, ◌<◌, ◌≤◌, true, false, cond, eqb, List, [], ◌∷◌, ◌++◌, map, Option, Some, None, refl, sym, subst, arith, inl, inr, append-nil, lit<, codes}
 use Rattle.std.proofs.lemmas.Bool.{eqb-true}
 use Rattle.std.proofs.lemmas.Fmt.{decimal_is_IsNumeral}
 use Rattle.std.specs.List.{list_all, AllByRecursion, join_with_byte}
@@ -7,18 +7,17 @@ use Rattle.std.specs.Fmt.{decimal}
 use Rattle.std.specs.FinSet as set
 use Rattle.mf_errno.specs.declared.module.Module.{Module}
 use Rattle.mf_errno.specs.declared.module.Module.TheVariants.{Biba, Mls, Partition, Bsdextended, Priority}
-use Rattle.mf_elem.specs.Comps.{compartments_of, comps_of}
+use Rattle.mf_elem.specs.Comps.{comps_of}
 use Rattle.mf_elem.specs.declared.comps.Comps.{Comps}
 use Rattle.mf_elem.specs.declared.elem.Elem.{Elem}
 use Rattle.mf_elem.specs.declared.elem.Elem.TheVariants.{Low, High, Equal, Grade}
-use Rattle.mf_elem.specs.declared.label.RangeLabel.{RangeLabel}
 use Rattle.mf_elem.specs.declared.label.LabelValue.{LabelValue}
 use Rattle.mf_elem.specs.declared.label.LabelValue.TheVariants.{Unset, Range, Number}
 use Rattle.mf_elem.specs.declared.label.Request.{Request}
-use Rattle.mf_labeltext.specs.LabelGrammar.{SpellsNumber, SpellEach, SpellsComps, SpellsGrade, SpellsElem, SpellsRange, SpellsParts, SpellsPartition, IsName, IsNameByte, Asks, SpellsElement, SpellElements, HasNoComma, Spells, nothing}
+use Rattle.mf_labeltext.specs.LabelGrammar.{SpellsNumber, SpellEach, SpellsGrade, SpellsElem, SpellsParts, SpellsPartition, IsName, SpellsElement}
 use Rattle.mf_labeltext.specs.Reading.{is_name_byte}
-use Rattle.mf_labeltext.specs.Canonical.{rising, comps_text, elem_text, effective_text, range_text, label_text, partition_text, value_text, policy_text, element_text, is_same_policy, parts_of, in_order, elements_text, canonical}
-use Rattle.mf_labeltext.specs.RoundTrip.{value_of, range_of, number_of, request_of, IsElem, AreLabelParts, IsValueOf, IsPart, AreParts}
+use Rattle.mf_labeltext.specs.Canonical.{rising, comps_text, elem_text, effective_text, range_text, label_text, partition_text, element_text}
+use Rattle.mf_labeltext.specs.RoundTrip.{range_of, number_of, IsElem, AreLabelParts, IsValueOf}
 use Rattle.mf_labeltext.proofs.Cutting.{IsFree}
 use Rattle.mf_labeltext.proofs.Spelling.{elem_inner, inner_free}
 use Rattle.mf_labeltext.proofs.Requests.{name_bytes_are}
@@ -106,9 +105,11 @@ elem_free : (element : Elem) → IsElem element → IsFree 44 (elem_text element
 elem_free element is = inner_free 44 (elem_text element) refl (elem_inner (elem_text element) element (elem_text_spells element is))
 
 range_free : (ends : Elem × Elem) → IsElem ends.0 → IsElem ends.1 → IsFree 44 (range_text (Some ends))
-range_free ends low high =
-    (λ e. omega arith, free_both (elem_text ends.0) (45 ∷ elem_text ends.1 ++ 41 ∷ []) (elem_free ends.0 low)
-      (λ e. omega arith, free_both (elem_text ends.1) (41 ∷ []) (elem_free ends.1 high) (λ e. omega arith, tt)))
+range_free ends low high = (
+  λ e. omega arith,
+  free_both (elem_text ends.0) (45 ∷ elem_text ends.1 ++ 41 ∷ []) (elem_free ends.0 low)
+      (λ e. omega arith, free_both (elem_text ends.1) (41 ∷ []) (elem_free ends.1 high) (λ e. omega arith, tt)),
+)
 
 pub label_free : (effective : Option Elem) (range : Option (Elem × Elem)) → AreLabelParts effective range → IsFree 44 (effective_text effective ++ range_text range)
 label_free None None are = absurd are

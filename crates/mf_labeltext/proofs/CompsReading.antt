@@ -1,11 +1,11 @@
 -- Reading compartments one after another.
-use Rattle.std.proofs.Common.{◌≡◌, ℕ, List, [], ◌∷◌, Option, Some, None, refl, ap, ◌∙◌}
+use Rattle.std.proofs.Common.{◌≡◌, ℕ, List, [], Option, Some, None, refl, ap, ◌∙◌}
 use Rattle.std.specs.FinSet as set
 use Rattle.std.specs.FinSet.{FinSet}
 use Rattle.std.specs.Ordering.{nat_cmp}
 use Rattle.mf_elem.specs.Comps.{comps_of}
 use Rattle.mf_elem.specs.declared.comps.Comps.{Comps}
-use Rattle.mf_labeltext.specs.Reading.{cut, parts, number, comps_from, comps_in, ◌>>=◌}
+use Rattle.mf_labeltext.specs.Reading.{cut, parts, number, comps_from, ◌>>=◌}
 use Rattle.mf_labeltext.proofs.Cutting.{parts_none, parts_some}
 
 -- one compartment read, and the others behind it

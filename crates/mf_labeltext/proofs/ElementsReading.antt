@@ -1,5 +1,5 @@
 -- Reading elements one after another.
-use Rattle.std.proofs.Common.{◌≡◌, ℕ, ◌+◌, List, [], ◌∷◌, length, Some, None, Result, Ok, Err, refl, ap, ◌∙◌}
+use Rattle.std.proofs.Common.{◌≡◌, ℕ, ◌+◌, List, [], length, Some, None, Result, Ok, Err, refl, ap, ◌∙◌}
 use Rattle.mf_elem.specs.declared.label.Request.{Request}
 use Rattle.mf_labeltext.specs.Reading.{cut, parts, element_in, elements_in, and_then}
 use Rattle.mf_labeltext.specs.declared.fault.LabelFault.{LabelFault}

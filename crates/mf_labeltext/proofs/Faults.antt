@@ -1,14 +1,13 @@
 -- A text that isn't read has the first fault that is met.
-use Rattle.std.proofs.Common.{◌≡◌, ℕ, ◌+◌, Bool, true, false, cond, List, [], ◌∷◌, length, Option, Some, None, Result, Ok, Err, refl, sym, ap, ◌∙◌, is_some, codes, IfErr}
+use Rattle.std.proofs.Common.{◌≡◌, ℕ, ◌+◌, true, false, cond, List, [], ◌∷◌, length, Option, Some, None, Result, Ok, Err, refl, sym, ap, ◌∙◌, is_some, codes, IfErr}
 use Rattle.std.specs.Option.{ok_or}
 use Rattle.std.specs.Str.{bytes_eq}
-use Rattle.mf_elem.specs.declared.label.RangeLabel.{RangeLabel}
 use Rattle.mf_elem.specs.declared.label.Request.{Request}
 use Rattle.mf_labeltext.specs.LabelGrammar.{nothing}
 use Rattle.mf_labeltext.specs.Reading.{cut, parts, label_in, partition_in, asked, is_name, element_of, element_in, and_then, elements_in, request_in, ◌>>=◌}
 use Rattle.mf_labeltext.specs.FirstFault.{is_value, fault_of_halves, element_fault, or_else, fault_from, first_fault}
 use Rattle.mf_labeltext.specs.declared.fault.LabelFault.{LabelFault}
-use Rattle.mf_labeltext.specs.declared.fault.LabelFault.TheVariants.{NoSlash, BadValue, EmptyElement}
+use Rattle.mf_labeltext.specs.declared.fault.LabelFault.TheVariants.{NoSlash, BadValue}
 
 -- whether a value is read doesn't depend on what was asked for before
 same_some : {A : Type 0} (read : Option A) (f g : A → Request) → is_some (read >>= λ x. Some (f x)) ≡ is_some (read >>= λ x. Some (g x))
@@ -19,17 +18,17 @@ asked_any : (name value : List ℕ) (before other : Request) → is_some (asked 
 unfolding asked
 asked_any name value before other =
     elim (bytes_eq name (codes "biba")) as (λ b. is_some (cond b (label_in value >>= λ label. Some (record before { biba = Some label })) (cond (bytes_eq name (codes "mls")) (label_in value >>= λ label. Some (record before { mls = Some label })) (cond (bytes_eq name (codes "partition")) (partition_in value >>= λ n. Some (record before { partition = Some n })) (Some (record before { other = true })))))
-      ≡ is_some (cond b (label_in value >>= λ label. Some (record other { biba = Some label })) (cond (bytes_eq name (codes "mls")) (label_in value >>= λ label. Some (record other { mls = Some label })) (cond (bytes_eq name (codes "partition")) (partition_in value >>= λ n. Some (record other { partition = Some n })) (Some (record other { other = true })))))) [
+    ≡ is_some (cond b (label_in value >>= λ label. Some (record other { biba = Some label })) (cond (bytes_eq name (codes "mls")) (label_in value >>= λ label. Some (record other { mls = Some label })) (cond (bytes_eq name (codes "partition")) (partition_in value >>= λ n. Some (record other { partition = Some n })) (Some (record other { other = true })))))) [
       | true ↦ same_some (label_in value) (λ label. record before { biba = Some label }) (λ label. record other { biba = Some label })
       | false ↦ elim (bytes_eq name (codes "mls")) as (λ b. is_some (cond b (label_in value >>= λ label. Some (record before { mls = Some label })) (cond (bytes_eq name (codes "partition")) (partition_in value >>= λ n. Some (record before { partition = Some n })) (Some (record before { other = true }))))
           ≡ is_some (cond b (label_in value >>= λ label. Some (record other { mls = Some label })) (cond (bytes_eq name (codes "partition")) (partition_in value >>= λ n. Some (record other { partition = Some n })) (Some (record other { other = true }))))) [
-          | true ↦ same_some (label_in value) (λ label. record before { mls = Some label }) (λ label. record other { mls = Some label })
-          | false ↦ elim (bytes_eq name (codes "partition")) as (λ b. is_some (cond b (partition_in value >>= λ n. Some (record before { partition = Some n })) (Some (record before { other = true })))
-              ≡ is_some (cond b (partition_in value >>= λ n. Some (record other { partition = Some n })) (Some (record other { other = true })))) [
-              | true ↦ same_some (partition_in value) (λ n. record before { partition = Some n }) (λ n. record other { partition = Some n })
-              | false ↦ refl
-            ]
-        ]
+            | true ↦ same_some (label_in value) (λ label. record before { mls = Some label }) (λ label. record other { mls = Some label })
+            | false ↦ elim (bytes_eq name (codes "partition")) as (λ b. is_some (cond b (partition_in value >>= λ n. Some (record before { partition = Some n })) (Some (record before { other = true })))
+                ≡ is_some (cond b (partition_in value >>= λ n. Some (record other { partition = Some n })) (Some (record other { other = true })))) [
+                  | true ↦ same_some (partition_in value) (λ n. record before { partition = Some n }) (λ n. record other { partition = Some n })
+                  | false ↦ refl
+                ]
+          ]
     ]
 
 -- what an element's fault is, from how it was read
@@ -66,7 +65,7 @@ unfolding elements_in fault_from
 fault_of_elements place before [] = refl
 fault_of_elements place before (element ∷ elements) =
     behind_fault (element_in place before element) (λ next. elements_in (place + length element + 1) next elements) (fault_from (place + length element + 1) elements)
-      (λ next. fault_of_elements (place + length element + 1) next elements)
+    (λ next. fault_of_elements (place + length element + 1) next elements)
     ∙ ap (λ fault. or_else fault (fault_from (place + length element + 1) elements)) (fault_of_element place before element)
 
 fault_of_text : (text : List ℕ) → fault_in (request_in text) ≡ first_fault text

@@ -1,24 +1,23 @@
 -- Numbers and compartments: what is read is spelled, and what is spelled is read.
-use Rattle.std.proofs.Common.{◌≡◌, ◌≢◌, ℕ, ◌+◌, ◌<◌, ◌≤◌, suc, zero, Bool, true, false, cond, not, ◌&&◌, eqb, ltb, leb, List, [], ◌∷◌, ◌++◌, length, get_or, Option, Some, None, Result, Ok, Err, refl, sym, ap, ◌∙◌, subst, arith, append-nil, append_assoc, lit≤}
+use Rattle.std.proofs.Common.{◌≡◌, ◌≢◌, ℕ, ◌<◌, ◌≤◌, suc, true, false, cond, not, ◌&&◌, ltb, leb, List, [], ◌∷◌, ◌++◌, length, get_or, Option, Some, None, Ok, Err, refl, sym, ap, ◌∙◌, arith, append-nil, append_assoc, lit≤}
 use Rattle.std.proofs.lemmas.Bool.{ltb-true, lt-ltb, le-ltb, leb-true, le-leb, not-true, not-false}
 use Rattle.std.proofs.lemmas.Bool.Decides.{nat_tests}
 use Rattle.std.proofs.lemmas.List.Sums.{prefix_len_passes}
-use Rattle.std.specs.List.{position, position_or_len, prefix_len, AllByRecursion, join_with_byte}
+use Rattle.std.specs.List.{position, position_or_len, AllByRecursion}
 use Rattle.std.specs.Char.{is_digit, digit_value}
-use Rattle.std.specs.Str.Parse.{IsNumeral, AllDigits, digits_value}
+use Rattle.std.specs.Str.Parse.{AllDigits, digits_value}
 use Rattle.std.specs.Result.{result_ok}
 use Rattle.std.specs.FinSet as set
-use Rattle.std.specs.FinSet.{FinSet, from_list_push, nat_cmp-IsAntisymmetric}
+use Rattle.std.specs.FinSet.{from_list_push, nat_cmp-IsAntisymmetric}
 use Rattle.std.specs.Cmp.{nat_cmp_total}
 use Rattle.std.specs.Ordering.{nat_cmp}
 use Rattle.mf_text.specs.Number.{number_in, within, unless_other}
-use Rattle.mf_text.specs.declared.number.NumberFault.{NumberFault}
-use Rattle.mf_text.specs.declared.number.NumberFault.TheVariants.{Empty, NotDigit, OutOfRange}
+use Rattle.mf_text.specs.declared.number.NumberFault.TheVariants.{OutOfRange}
 use Rattle.mf_elem.specs.Comps.{comps_of}
 use Rattle.mf_elem.specs.declared.comps.Comps.{Comps}
 use Rattle.mf_labeltext.specs.LabelGrammar.{SpellsNumber, SpellEach, SpellsComps}
 use Rattle.mf_labeltext.specs.Reading.{number, comps_from, comps_in, parts, ◌>>=◌}
-use Rattle.mf_labeltext.proofs.Cutting.{IsFree, parts_free, parts_are_some, parts_join, join_parts}
+use Rattle.mf_labeltext.proofs.Cutting.{IsFree, parts_are_some, parts_join, join_parts}
 
 pub bind_some : {A B : Type 0} (r : Option A) (f : A → Option B) (y : B) → (r >>= f) ≡ Some y → (x : A) × (r ≡ Some x) × (f x ≡ Some y)
 bind_some None f y is = absurd cc

@@ -1,6 +1,6 @@
 -- The elements of parts in order spell what the parts ask for.
-use Rattle.std.proofs.Common.{◌≡◌, ◌≢◌, ℕ, ◌+◌, ◌<◌, ◌≤◌, Bool, true, false, cond, List, [], ◌∷◌, ◌++◌, length, map, filter, Option, Some, None, refl, sym, ap, ◌∙◌, subst, arith, codes}
-use Rattle.std.specs.List.{list_all, AllByRecursion, join_with_byte}
+use Rattle.std.proofs.Common.{◌≡◌, ◌≢◌, ℕ, ◌≤◌, true, false, cond, List, [], ◌∷◌, ◌++◌, length, map, Option, Some, None, refl, ap, ◌∙◌, subst, arith, codes}
+use Rattle.std.specs.List.{AllByRecursion, join_with_byte}
 use Rattle.mf_errno.specs.declared.module.Module.{Module}
 use Rattle.mf_errno.specs.declared.module.Module.TheVariants.{Biba, Mls, Partition, Bsdextended, Priority}
 use Rattle.mf_elem.specs.declared.label.RangeLabel.{RangeLabel}
@@ -8,10 +8,10 @@ use Rattle.mf_elem.specs.declared.label.LabelValue.{LabelValue}
 use Rattle.mf_elem.specs.declared.label.LabelValue.TheVariants.{Unset, Range, Number}
 use Rattle.mf_elem.specs.declared.label.Request.{Request}
 use Rattle.mf_labeltext.specs.LabelGrammar.{SpellElements, HasNoComma, Spells, nothing}
-use Rattle.mf_labeltext.specs.Canonical.{label_text, partition_text, value_text, policy_text, element_text, is_same_policy, parts_of, in_order, elements_text, canonical}
+use Rattle.mf_labeltext.specs.Canonical.{label_text, partition_text, element_text, is_same_policy, parts_of, in_order, elements_text, canonical}
 use Rattle.mf_labeltext.specs.RoundTrip.{value_of, range_of, number_of, request_of, IsValueOf, IsPart, AreParts}
 use Rattle.mf_labeltext.proofs.Cutting.{IsFree}
-use Rattle.mf_labeltext.proofs.Spelling.{digits_inner, inner_free, partition_inner}
+use Rattle.mf_labeltext.proofs.Spelling.{inner_free, partition_inner}
 use Rattle.mf_labeltext.proofs.CanonicalSpelling.{with_value, element_spells, free_both, label_free, partition_spells}
 
 abbrev Part : Type 0

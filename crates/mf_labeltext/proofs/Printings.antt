@@ -1,5 +1,5 @@
 -- Printing compartments and elements one after another.
-use Rattle.std.proofs.Common.{◌≡◌, ℕ, ◌+◌, ◌<◌, suc, zero, Bool, true, false, cond, List, [], ◌∷◌, ◌++◌, map, filter, refl, sym, ap, ◌∙◌, append_assoc, append-nil, add-one, length, take, get_or, lit<, arith}
+use Rattle.std.proofs.Common.{◌≡◌, ℕ, ◌+◌, ◌<◌, suc, Bool, true, false, cond, List, [], ◌∷◌, ◌++◌, map, filter, refl, sym, ap, ◌∙◌, append_assoc, append-nil, add-one, length, take, get_or, lit<, arith}
 use Rattle.std.proofs.lemmas.List.{take_more, length-map, length-take-le}
 use Rattle.std.proofs.lemmas.Bool.{ne_eqb}
 use Rattle.std.proofs.lemmas.List.Elements.{filter-append}
@@ -68,11 +68,11 @@ printed_more test before after next separator n so_far present is =
     let ns = filter test (numbers_to n) in
     record {
       text = is
-             ∙ ap (λ text. text ++ separator ∷ decimal (n + 1)) so_far.text
-             ∙ ap (λ c. (before ++ comps_text ns) ++ c ∷ decimal (n + 1)) so_far.separator_is
-             ∙ append_assoc before (comps_text ns) (separator_after ns ∷ decimal (n + 1))
-             ∙ ap (λ text. before ++ text) (sym (comps_text_push ns (n + 1)))
-             ∙ ap (λ ns. before ++ comps_text ns) (sym (printed test n present));
+          ∙ ap (λ text. text ++ separator ∷ decimal (n + 1)) so_far.text
+          ∙ ap (λ c. (before ++ comps_text ns) ++ c ∷ decimal (n + 1)) so_far.separator_is
+          ∙ append_assoc before (comps_text ns) (separator_after ns ∷ decimal (n + 1))
+          ∙ ap (λ text. before ++ text) (sym (comps_text_push ns (n + 1)))
+          ∙ ap (λ ns. before ++ comps_text ns) (sym (printed test n present));
       separator_is = sym (ap separator_after (printed test n present) ∙ separator_push ns (n + 1));
       ascii = lit< tt;
     }

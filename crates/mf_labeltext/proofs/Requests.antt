@@ -1,17 +1,16 @@
 -- Whole texts: what is read is spelled, and what is spelled is read.
-use Rattle.std.proofs.Common.{◌≡◌, ◌≢◌, ℕ, ◌+◌, ◌<◌, ◌≤◌, Bool, true, false, cond, not, ◌&&◌, ◌||◌, eqb, leb, List, [], ◌∷◌, ◌++◌, length, Option, Some, None, Result, Ok, Err, refl, sym, ap, ◌∙◌, subst, arith, ◌⊎◌, inl, inr, codes}
-use Rattle.std.proofs.lemmas.Bool.{eqb-true, eq-eqb, leb-true, le-leb, ne_eqb, false_from_ne_true}
+use Rattle.std.proofs.Common.{◌≡◌, ◌≢◌, ℕ, ◌+◌, Bool, true, false, cond, ◌&&◌, ◌||◌, eqb, leb, List, [], ◌∷◌, ◌++◌, length, Option, Some, None, Result, Ok, Err, refl, sym, ap, ◌∙◌, arith, inl, inr, codes}
+use Rattle.std.proofs.lemmas.Bool.{eqb-true, eq-eqb, leb-true, le-leb, false_from_ne_true}
 use Rattle.std.proofs.lemmas.Slice.Eq.{bytes_eq-Decides}
-use Rattle.std.specs.List.{list_all, AllByRecursion, join_with_byte}
+use Rattle.std.specs.List.{list_all, AllByRecursion}
 use Rattle.std.specs.Option.{ok_or}
 use Rattle.std.specs.Str.{bytes_eq}
-use Rattle.mf_elem.specs.declared.label.RangeLabel.{RangeLabel}
 use Rattle.mf_elem.specs.declared.label.Request.{Request}
-use Rattle.mf_labeltext.specs.LabelGrammar.{SpellsLabel, SpellsPartition, IsNameByte, IsName, IsOtherName, Asks, SpellsElement, SpellElements, HasNoComma, Spells, nothing}
+use Rattle.mf_labeltext.specs.LabelGrammar.{IsNameByte, IsName, Asks, SpellsElement, SpellElements, Spells, nothing}
 use Rattle.mf_labeltext.specs.Reading.{cut, parts, label_in, partition_in, asked, is_name_byte, is_name, element_of, element_in, and_then, elements_in, request_in, ◌>>=◌}
 use Rattle.mf_labeltext.specs.declared.fault.LabelFault.{LabelFault}
-use Rattle.mf_labeltext.specs.declared.fault.LabelFault.TheVariants.{NoSlash, BadValue, EmptyElement}
-use Rattle.mf_labeltext.proofs.Cutting.{IsFree, IsCut, cut_is, cut_free, parts_free, parts_are_some, parts_join, join_parts}
+use Rattle.mf_labeltext.specs.declared.fault.LabelFault.TheVariants.{NoSlash, BadValue}
+use Rattle.mf_labeltext.proofs.Cutting.{IsFree, cut_is, cut_free, parts_free, parts_are_some, parts_join, join_parts}
 use Rattle.mf_labeltext.proofs.Numbers.{bind_some, some_is}
 use Rattle.mf_labeltext.proofs.Spelling.{chosen, either, each_true, both_true, same_text, label_spells, spells_label, partition_spells, spells_partition}
 
@@ -137,9 +136,13 @@ halves_spell place element before after None none is = absurd cc
 halves_spell place element before after (Some halves) some is =
     elim (is_name halves.0) as (λ b. is_name halves.0 ≡ b → cond b (ok_or (asked halves.0 halves.1 before) (BadValue (place + length halves.0 + 1))) (Err (NoSlash place)) ≡ Ok after → SpellsElement element before after) [
       | true ↦ λ name is.
-          let parted = cut_is 47 element halves.0 halves.1 some in
-          (halves.0, halves.1, parted.whole, name_is halves.0 name,
-           asked_asks halves.0 halves.1 before after (ok_or_is (asked halves.0 halves.1 before) (BadValue (place + length halves.0 + 1)) after is))
+          let parted = cut_is 47 element halves.0 halves.1 some in (
+            halves.0,
+            halves.1,
+            parted.whole,
+            name_is halves.0 name,
+            asked_asks halves.0 halves.1 before after (ok_or_is (asked halves.0 halves.1 before) (BadValue (place + length halves.0 + 1)) after is),
+          )
       | false ↦ λ name is. absurd cc
     ] refl is
 

@@ -1,11 +1,10 @@
 -- Elements and their values: what is read is spelled, and what is spelled is read.
-use Rattle.std.proofs.Common.{◌≡◌, ◌≢◌, ℕ, ◌+◌, ◌<◌, ◌≤◌, Bool, true, false, cond, not, ◌&&◌, ◌||◌, eqb, leb, List, [], ◌∷◌, ◌++◌, length, Option, Some, None, refl, sym, ap, ◌∙◌, subst, arith, ◌⊎◌, inl, inr, append_assoc, append-nil, length-append, lit≤, codes}
-use Rattle.std.proofs.lemmas.Bool.{eqb-true, ne_eqb, false_from_ne_true}
-use Rattle.std.proofs.lemmas.Bool.Decides.{nat_tests}
+use Rattle.std.proofs.Common.{◌≡◌, ◌≢◌, ℕ, ◌<◌, Bool, true, false, cond, not, ◌&&◌, ◌||◌, eqb, List, [], ◌∷◌, ◌++◌, length, Option, Some, None, refl, sym, ap, ◌∙◌, subst, arith, ◌⊎◌, inl, inr, append-nil, length-append, lit≤, codes}
+use Rattle.std.proofs.lemmas.Bool.{eqb-true, ne_eqb}
 use Rattle.std.proofs.lemmas.List.{nil_from_length}
 use Rattle.std.proofs.lemmas.Slice.Eq.{bytes_eq-Decides}
 use Rattle.std.proofs.lemmas.Str.Parse.{digit_from_value}
-use Rattle.std.specs.List.{list_all, AllByRecursion, join_with_byte}
+use Rattle.std.specs.List.{list_all, join_with_byte}
 use Rattle.std.specs.Char.{digit_value}
 use Rattle.std.specs.Str.{bytes_eq}
 use Rattle.std.specs.Str.Parse.{AllDigits}
@@ -15,9 +14,9 @@ use Rattle.mf_elem.specs.declared.comps.Comps.{Comps}
 use Rattle.mf_elem.specs.declared.elem.Elem.{Elem}
 use Rattle.mf_elem.specs.declared.elem.Elem.TheVariants.{Low, High, Equal, Grade}
 use Rattle.mf_elem.specs.declared.label.RangeLabel.{RangeLabel}
-use Rattle.mf_labeltext.specs.LabelGrammar.{SpellsNumber, SpellEach, SpellsComps, SpellsGrade, SpellsElem, SpellsRange, SpellsParts, SpellsLabel, SpellsPartition}
+use Rattle.mf_labeltext.specs.LabelGrammar.{SpellEach, SpellsGrade, SpellsElem, SpellsRange, SpellsParts, SpellsLabel, SpellsPartition}
 use Rattle.mf_labeltext.specs.Reading.{cut, number, comps_in, grade_of, grade_in, elem_in, without_close, range_in, effective_in, label_of, label_in, partition_in, ◌>>=◌}
-use Rattle.mf_labeltext.proofs.Cutting.{IsFree, IsCut, cut_is, cut_is_none, cut_free, cut_free_none}
+use Rattle.mf_labeltext.proofs.Cutting.{IsFree, cut_is, cut_free, cut_free_none}
 use Rattle.mf_labeltext.proofs.Numbers.{bind_some, some_is, number_spells, spells_number, comps_spells, spells_comps, digits_free}
 
 -- which of two values a test chose
@@ -201,9 +200,13 @@ range_spells text ends is =
     let high_end = bind_some (elem_in high.0) _ ends low_end.2 in
     let parted = cut_is 45 text halves.0.0 halves.0.1 halves.1 in
     let close = close_is (cut 41 halves.0.1) halves.0.1 high.0 refl high.1 in
-    subst (SpellsRange (40 ∷ text)) (some_is (low_end.0, high_end.0) ends high_end.2)
-    (halves.0.0, high.0, ap (λ t. 40 ∷ t) (parted.whole ∙ ap (λ back. halves.0.0 ++ 45 ∷ back) close),
-     elem_spells halves.0.0 low_end.0 low_end.1, elem_spells high.0 high_end.0 high_end.1)
+    subst (SpellsRange (40 ∷ text)) (some_is (low_end.0, high_end.0) ends high_end.2) (
+      halves.0.0,
+      high.0,
+      ap (λ t. 40 ∷ t) (parted.whole ∙ ap (λ back. halves.0.0 ++ 45 ∷ back) close),
+      elem_spells halves.0.0 low_end.0 low_end.1,
+      elem_spells high.0 high_end.0 high_end.1,
+    )
 
 -- a range is its "(" and a text that is read as one
 pub spells_range : (text : List ℕ) (ends : Elem × Elem) → SpellsRange text ends → (rest : List ℕ) × (text ≡ 40 ∷ rest) × (range_in rest ≡ Some ends)
@@ -211,16 +214,15 @@ unfolding range_in
 spells_range text ends spells =
     let low = spells.0 in
     let high = spells.1 in
-    let both : Elem → Elem → Option (Elem × Elem) = λ low_end high_end. Some (low_end, high_end) in
-    (
+    let both : Elem → Elem → Option (Elem × Elem) = λ low_end high_end. Some (low_end, high_end) in (
       low ++ (45 ∷ high ++ 41 ∷ []),
       spells.2,
       ap (λ halves. halves >>= λ halves. without_close (cut 41 halves.1) >>= λ high. elem_in halves.0 >>= λ low_end. elem_in high >>= λ high_end. both low_end high_end)
-        (cut_free 45 low (high ++ 41 ∷ []) (inner_free 45 low refl (elem_inner low ends.0 spells.3)))
-      ∙ ap (λ halves. without_close halves >>= λ high. elem_in low >>= λ low_end. elem_in high >>= λ high_end. both low_end high_end)
+          (cut_free 45 low (high ++ 41 ∷ []) (inner_free 45 low refl (elem_inner low ends.0 spells.3)))
+          ∙ ap (λ halves. without_close halves >>= λ high. elem_in low >>= λ low_end. elem_in high >>= λ high_end. both low_end high_end)
           (cut_free 41 high [] (inner_free 41 high refl (elem_inner high ends.1 spells.4)))
-      ∙ ap (λ low_end. low_end >>= λ low_end. elem_in high >>= λ high_end. both low_end high_end) (spells_elem low ends.0 spells.3)
-      ∙ ap (λ high_end. high_end >>= λ high_end. both ends.0 high_end) (spells_elem high ends.1 spells.4)
+          ∙ ap (λ low_end. low_end >>= λ low_end. elem_in high >>= λ high_end. both low_end high_end) (spells_elem low ends.0 spells.3)
+          ∙ ap (λ high_end. high_end >>= λ high_end. both ends.0 high_end) (spells_elem high ends.1 spells.4),
     )
 
 -- ---- the value of biba and mls

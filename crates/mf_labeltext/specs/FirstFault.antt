@@ -9,6 +9,7 @@ use Rattle.mf_labeltext.specs.declared.fault.LabelFault.TheVariants.{NoSlash, Ba
 abbrev pub is_value : List ℕ → List ℕ → Bool
 is_value name value = is_some (asked name value nothing)
 
+-- an element of which the name and the value were parted at the first slash
 abbrev pub fault_of_halves : ℕ → Option (List ℕ × List ℕ) → Option LabelFault
 fault_of_halves place None = Some (NoSlash place)
 fault_of_halves place (Some halves) =
@@ -19,14 +20,16 @@ unfoldable pub element_fault : ℕ → List ℕ → Option LabelFault
 element_fault place [] = Some (EmptyElement place)
 element_fault place (c ∷ cs) = fault_of_halves place (cut 47 (c ∷ cs))
 
+-- the earlier of two faults
 abbrev pub or_else : Option LabelFault → Option LabelFault → Option LabelFault
 or_else (Some fault) later = Some fault
 or_else None later = later
 
--- the fault of the first faulty element, of which the first stands at a place
+-- the fault of the first faulty one of the elements, the first of which stands at a place
 unfoldable pub fault_from : ℕ → List (List ℕ) → Option LabelFault
 fault_from place [] = None
 fault_from place (element ∷ elements) = or_else (element_fault place element) (fault_from (place + length element + 1) elements)
 
+-- the first fault of a text
 unfoldable pub first_fault : List ℕ → Option LabelFault
 first_fault text = fault_from 0 (parts 44 text)

@@ -42,8 +42,10 @@ pub record SpellsComps (text : List ℕ) (comps : Comps) : Type 0 where
 abbrev pub SpellsGrade : List ℕ → ℕ → Comps → Type 0
 SpellsGrade text grade comps =
     (SpellsNumber 0 65535 text grade × (comps ≡ comps_of set.empty))
-    ⊎ ((digits : List ℕ) × (others : List ℕ) × (text ≡ digits ++ 58 ∷ others) × SpellsNumber 0 65535 digits grade × SpellsComps others comps)
+    ⊎ ((digits : List ℕ) × (others : List ℕ) × (text ≡ digits ++ 58 ∷ others)
+    × SpellsNumber 0 65535 digits grade × SpellsComps others comps)
 
+-- an element; `lo`, `hi` and `eq` are short for the words
 abbrev pub SpellsElem : List ℕ → Elem → Type 0
 SpellsElem text Low = (text ≡ codes "low") ⊎ (text ≡ codes "lo")
 SpellsElem text High = (text ≡ codes "high") ⊎ (text ≡ codes "hi")
@@ -52,13 +54,16 @@ SpellsElem text (Grade grade comps) = SpellsGrade text grade comps
 
 -- "(", the low end, "-", the high end, ")"
 abbrev pub SpellsRange : List ℕ → Elem × Elem → Type 0
-SpellsRange text ends = (low : List ℕ) × (high : List ℕ) × (text ≡ 40 ∷ low ++ (45 ∷ high ++ 41 ∷ [])) × SpellsElem low ends.0 × SpellsElem high ends.1
+SpellsRange text ends =
+    (low : List ℕ) × (high : List ℕ) × (text ≡ 40 ∷ low ++ (45 ∷ high ++ 41 ∷ [])) × SpellsElem low ends.0 × SpellsElem high ends.1
 
+-- an effective element, a range, or both
 abbrev pub SpellsParts : List ℕ → Option Elem → Option (Elem × Elem) → Type 0
 SpellsParts text None None = ⊥
 SpellsParts text (Some element) None = SpellsElem text element
 SpellsParts text None (Some ends) = SpellsRange text ends
-SpellsParts text (Some element) (Some ends) = (effective : List ℕ) × (range : List ℕ) × (text ≡ effective ++ range) × SpellsElem effective element × SpellsRange range ends
+SpellsParts text (Some element) (Some ends) =
+    (effective : List ℕ) × (range : List ℕ) × (text ≡ effective ++ range) × SpellsElem effective element × SpellsRange range ends
 
 -- the value of biba and of mls
 abbrev pub SpellsLabel : List ℕ → RangeLabel → Type 0
@@ -72,14 +77,16 @@ SpellsPartition text n = ((text ≡ codes "none") × (n ≡ 0)) ⊎ SpellsNumber
 abbrev pub IsNameByte : ℕ → Type 0
 IsNameByte byte = IsInRange 97 122 byte ⊎ IsInRange 48 57 byte ⊎ (byte ≡ 95)
 
+-- one or more of these bytes
 abbrev pub IsName : List ℕ → Type 0
 IsName name = (name ≢ []) × AllByRecursion IsNameByte name
 
+-- the name of any other policy
 abbrev pub IsOtherName : List ℕ → Type 0
 IsOtherName name = (name ≢ codes "biba") × (name ≢ codes "mls") × (name ≢ codes "partition")
 
--- The element of this name and value asks for its policy's part, and leaves the others: with it, before becomes after. The value
--- of any other policy may be anything.
+-- The element of this name and value asks for its policy's part, whole, and leaves the others as they are: with it, before
+-- becomes after. The value of any other policy may be anything.
 abbrev pub Asks : List ℕ → List ℕ → Request → Request → Type 0
 Asks name value before after =
     ((name ≡ codes "biba") × (label : RangeLabel) × SpellsLabel value label × (after ≡ record before { biba = Some label }))
@@ -87,8 +94,10 @@ Asks name value before after =
     ⊎ ((name ≡ codes "partition") × (n : ℕ) × SpellsPartition value n × (after ≡ record before { partition = Some n }))
     ⊎ (IsOtherName name × (after ≡ record before { other = true }))
 
+-- a name, a slash and a value; the value may have further slashes
 abbrev pub SpellsElement : List ℕ → Request → Request → Type 0
-SpellsElement element before after = (name : List ℕ) × (value : List ℕ) × (element ≡ name ++ 47 ∷ value) × IsName name × Asks name value before after
+SpellsElement element before after =
+    (name : List ℕ) × (value : List ℕ) × (element ≡ name ++ 47 ∷ value) × IsName name × Asks name value before after
 
 -- the elements ask one after another
 abbrev pub SpellElements : List (List ℕ) → Request → Request → Type 0

@@ -1,7 +1,7 @@
 -- Reading a label text from left to right: what it asks for, or its first fault.
-use Rattle.std.specs.Prelude.{◌≡◌, ℕ, ◌+◌, List, [], ◌∷◌, length, Option, Some, None, Result, Ok, Err, Bool, true, false, nat_le, ◌==◌, ◌&&◌, ◌||◌, if◌then◌else◌, codes}
+use Rattle.std.specs.Prelude.{ℕ, ◌+◌, List, [], ◌∷◌, length, Option, Some, None, Result, Ok, Err, Bool, true, false, nat_le, ◌==◌, ◌&&◌, ◌||◌, if◌then◌else◌, codes}
 use Rattle.std.specs.List.{slice_split, list_all}
-use Rattle.std.specs.Option.{option_map, ok_or}
+use Rattle.std.specs.Option.{ok_or}
 use Rattle.std.specs.Result.{result_ok}
 use Rattle.std.specs.Str.{bytes_eq}
 use Rattle.std.specs.FinSet as set
@@ -23,11 +23,12 @@ abbrev pub ◌>>=◌ : {A B : Type 0} → Option A → (A → Option B) → Opti
 (Some x) >>= f = f x
 None >>= f = None
 
--- the text in front of the first such byte, and the text behind it
+-- the halves of a text with one byte more in front
 abbrev pub with_first : ℕ → Option (List ℕ × List ℕ) → Option (List ℕ × List ℕ)
 with_first c None = None
 with_first c (Some halves) = Some (c ∷ halves.0, halves.1)
 
+-- the text in front of the first such byte, and the text behind it
 unfoldable pub cut : ℕ → List ℕ → Option (List ℕ × List ℕ)
 cut byte [] = None
 cut byte (c ∷ cs) = if c == byte then Some ([], cs) else with_first c (cut byte cs)
@@ -36,6 +37,7 @@ cut byte (c ∷ cs) = if c == byte then Some ([], cs) else with_first c (cut byt
 unfoldable pub parts : ℕ → List ℕ → List (List ℕ)
 parts byte text = slice_split (λ c. c == byte) text
 
+-- the number that the text writes, from the least to the greatest
 unfoldable pub number : ℕ → ℕ → List ℕ → Option ℕ
 number least greatest text = result_ok (number_in 10 least greatest text)
 
@@ -44,9 +46,11 @@ unfoldable pub comps_from : FinSet nat_cmp → List (List ℕ) → Option Comps
 comps_from comps [] = Some (comps_of comps)
 comps_from comps (text ∷ texts) = number 1 256 text >>= λ n. comps_from (set.insert comps n) texts
 
+-- compartments with a plus between each two
 unfoldable pub comps_in : List ℕ → Option Comps
 comps_in text = comps_from set.empty (parts 43 text)
 
+-- a grade, and the compartments behind its colon where there is one
 abbrev pub grade_of : List ℕ → Option (List ℕ × List ℕ) → Option Elem
 grade_of text None = number 0 65535 text >>= λ grade. Some (Grade grade (comps_of set.empty))
 grade_of text (Some halves) = do
@@ -57,6 +61,7 @@ grade_of text (Some halves) = do
 unfoldable pub grade_in : List ℕ → Option Elem
 grade_in text = grade_of text (cut 58 text)
 
+-- the short words are those of the manual
 unfoldable pub elem_in : List ℕ → Option Elem
 elem_in text =
     if bytes_eq text (codes "low") || bytes_eq text (codes "lo") then Some Low
@@ -83,6 +88,7 @@ abbrev pub effective_in : List ℕ → Option (Option Elem)
 effective_in [] = Some None
 effective_in (c ∷ cs) = elem_in (c ∷ cs) >>= λ element. Some (Some element)
 
+-- the value of biba and mls
 abbrev pub label_of : List ℕ → Option (List ℕ × List ℕ) → Option RangeLabel
 label_of text None = elem_in text >>= λ element. Some (record { effective = Some element; range = None })
 label_of text (Some halves) = do
@@ -93,6 +99,7 @@ label_of text (Some halves) = do
 unfoldable pub label_in : List ℕ → Option RangeLabel
 label_in text = label_of text (cut 40 text)
 
+-- the value of partition
 unfoldable pub partition_in : List ℕ → Option ℕ
 partition_in text = if bytes_eq text (codes "none") then Some 0 else number 0 2147483647 text
 
@@ -104,13 +111,16 @@ asked name value request =
     else if bytes_eq name (codes "partition") then (partition_in value >>= λ n. Some (record request { partition = Some n }))
     else Some (record request { other = true })
 
+-- a lower-case letter, a digit or an underscore
 abbrev pub is_name_byte : ℕ → Bool
 is_name_byte byte = (nat_le 97 byte && nat_le byte 122) || ((nat_le 48 byte && nat_le byte 57) || byte == 95)
 
+-- one or more of these bytes
 abbrev pub is_name : List ℕ → Bool
 is_name [] = false
 is_name (c ∷ cs) = list_all is_name_byte (c ∷ cs)
 
+-- an element of which the name and the value were parted at the first slash
 abbrev pub element_of : ℕ → Request → Option (List ℕ × List ℕ) → Result Request LabelFault
 element_of place request None = Err (NoSlash place)
 element_of place request (Some halves) =
@@ -130,5 +140,6 @@ unfoldable pub elements_in : ℕ → Request → List (List ℕ) → Result Requ
 elements_in place request [] = Ok request
 elements_in place request (element ∷ elements) = and_then (element_in place request element) (λ next. elements_in (place + length element + 1) next elements)
 
+-- what the whole text asks for
 unfoldable pub request_in : List ℕ → Result Request LabelFault
 request_in text = elements_in 0 nothing (parts 44 text)

@@ -3,15 +3,14 @@ ghost use Rattle.std.specs.Prelude.{◌≡◌, ◌<◌, ◌∷◌, ◌++◌, map
 ghost use Rattle.std.specs.Fmt.{decimal};
 ghost use Rattle.std.specs.List.{join_with_byte};
 ghost use Rattle.mf_labeltext.specs.Canonical.{rising, comps_text, elem_text, range_text, label_text, partition_text, value_text, policy_text, element_text, is_same_policy, parts_of, in_order, comma_behind, elements_text, canonical};
-
 ghost use Rattle.mf_labeltext.specs.RoundTrip.{CanonicalTextSpellsItsParts};
 
 use mf_elem::{Comps, Elem, LabelValue, RangeLabel};
 use mf_errno::Module;
 use std::alloc::{AllocError, Global};
 
-/// Appends the canonical text of an element: the words `low`, `high` and `equal`, or the grade and its compartments, rising, without leading
-/// zeros. Without memory `out` is as before.
+/// Appends the canonical text of an element: the word `low`, `high` or `equal`, or the grade and its compartments, rising and
+/// without leading zeros. Without memory `out` is as before.
 pub fn print_elem(alloc: Global, element: &Elem, out: &mut String) -> Result<(), AllocError>
     ensures ok { OnOk result (string_bytes out.new ≡ string_bytes out.old ++ elem_text element.now) }
     ensures err { OnErr result (string_bytes out.new ≡ string_bytes out.old) }
@@ -21,8 +20,9 @@ pub fn print_elem(alloc: Global, element: &Elem, out: &mut String) -> Result<(),
     out.push_str(text.as_str())
 }
 
-/// Appends the canonical text of a label's parts: their elements in the order biba, mls, partition, whatever their order here, or `-` for no part. Parts
-/// of other policies, which label nothing, have no text. Without memory `out` is as before.
+/// Appends the canonical text of a label's parts: their elements in the order biba, mls, partition, whatever their order here, or
+/// `-` for no part. A partition that is 0 or Unset is `none`. Parts of other policies, which label nothing, have no text. Without
+/// memory `out` is as before.
 pub fn print_label(
     alloc: Global,
     parts: &[(Module, LabelValue)],
@@ -211,5 +211,4 @@ fn push_comp(separator: char, n: u16, out: &mut String) -> Result<(), AllocError
 /// The canonical text of one or more parts of a label asks for just these parts, an Unset partition as 0.
 pub fn canonical_text_spells_its_parts()
     ensures { CanonicalTextSpellsItsParts }
-{
-}
+{}

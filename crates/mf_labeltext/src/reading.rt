@@ -11,8 +11,8 @@ use crate::splitting::split_once;
 use crate::values::{read_label, read_partition};
 use mf_elem::Request;
 
-/// What the label text of maclabel(7) asks for. Of several elements of one policy the last counts, and each has to be well
-/// formed. An element of any other policy sets `other`. The text may be any; a fault is the first one from the left.
+/// What a label text of maclabel(7) asks for. Of several elements of one policy the last one counts, whole, though each has to be
+/// well formed. An element of any other policy sets `other`, whatever its value. The fault is that of the first faulty element.
 pub fn read_request(text: &str) -> Result<Request, LabelFault>
     ensures spells { (request : Request) → (result ≡ Ok request) ↔ Spells text.now request }
     ensures fault { IfErr result (λ fault. first_fault text.now ≡ Some fault) }
@@ -98,4 +98,108 @@ fn are_name_bytes(text: &[u8]) -> bool
     ensures { result ≡ list_all is_name_byte text.now }
 {
     text.iter().all(|byte| is_name_byte(*byte))
+}
+
+#[cfg(test)]
+mod tests {
+    use super::*;
+    use crate::print_label;
+    use mf_elem::{Elem, LabelValue, RangeLabel};
+    use mf_errno::Module;
+    use std::alloc::{AllocError, Global};
+
+    /// The canonical text of what a text asks for.
+    fn reprinted(alloc: Global, text: &str) -> Result<String, AllocError> {
+        let mut parts = Vec::new(alloc);
+        if let Ok(request) = read_request(text) {
+            if let Some(label) = request.biba {
+                parts.push((Module::Biba, LabelValue::Range(label)))?;
+            }
+            if let Some(label) = request.mls {
+                parts.push((Module::Mls, LabelValue::Range(label)))?;
+            }
+            if let Some(number) = request.partition {
+                parts.push((Module::Partition, LabelValue::Number(number)))?;
+            }
+        }
+        let mut out = String::new(alloc);
+        print_label(alloc, parts.as_slice(), &mut out)?;
+        Ok(out)
+    }
+
+    #[test]
+    fn faults_and_their_places(rt: HostRuntime) {
+        let table = [
+            ("biba/5,mls", LabelFault::NoSlash(7)),
+            ("/x", LabelFault::NoSlash(0)),
+            ("Biba/5", LabelFault::NoSlash(0)),
+            ("biba/", LabelFault::BadValue(5)),
+            ("biba/65536", LabelFault::BadValue(5)),
+            ("biba/5:", LabelFault::BadValue(5)),
+            ("biba/5:0", LabelFault::BadValue(5)),
+            ("biba/5:1+257", LabelFault::BadValue(5)),
+            ("biba/(1-2", LabelFault::BadValue(5)),
+            ("biba/5,partition/2147483648", LabelFault::BadValue(17)),
+            ("mls/é", LabelFault::BadValue(4)),
+            ("biba/5,,mls/2", LabelFault::EmptyElement(7)),
+            ("", LabelFault::EmptyElement(0)),
+        ];
+        for (text, fault) in table.iter() {
+            assert!(rt; read_request(text) == Err(*fault));
+        }
+    }
+
+    #[test]
+    fn last_element_counts(rt: HostRuntime) {
+        let mut wanted = Request::none();
+        wanted.biba = Some(RangeLabel::effective(Elem::Equal));
+        assert!(rt; read_request("biba/1(0-9),biba/eq") == Ok(wanted));
+    }
+
+    #[test]
+    fn other_policies(rt: HostRuntime) {
+        let mut wanted = Request::none();
+        wanted.other = true;
+        for text in ["foo/x", "foo/", "foo//x", "foo/é"] {
+            assert!(rt; read_request(text) == Ok(wanted));
+        }
+    }
+
+    #[test]
+    fn canonical_labels(rt: HostRuntime) -> Result<(), AllocError> {
+        let table = [
+            (
+                "biba/010:3+2+06(5:2+3-20:6+5+4+3+2)",
+                "biba/10:2+3+6(5:2+3-20:2+3+4+5+6)",
+            ),
+            (
+                "partition/00,mls/hi,biba/(lo-65535)",
+                "biba/(low-65535),mls/high,partition/none",
+            ),
+            ("foo/x", "-"),
+        ];
+        for (text, canonical) in table.iter() {
+            let out = reprinted(rt.alloc(), text)?;
+            assert!(rt; out.as_str() == *canonical);
+        }
+        Ok(())
+    }
+
+    #[test]
+    fn examples_of_mac_biba_4_mac_mls_4_and_mac_partition_4(
+        rt: HostRuntime,
+    ) -> Result<(), AllocError> {
+        for text in [
+            "biba/10:2+3+6(5:2+3-20:2+3+4+5+6)",
+            "biba/10(5-15)",
+            "biba/high(low-high)",
+            "biba/low(low-low)",
+            "mls/10:2+3+6(5:2+3-20:2+3+4+5+6)",
+            "partition/1",
+        ] {
+            let out = reprinted(rt.alloc(), text)?;
+            assert!(rt; out.as_str() == text);
+        }
+        Ok(())
+    }
 }

@@ -1,7 +1,6 @@
-use Rattle.std.proofs.Common.{◌≡◌, ◌+◌, ◌++◌, Bool, string_bytes, ap, sym, subst, ◌∙◌, arith}
+use Rattle.std.proofs.Common.{◌+◌, string_bytes, ap, sym, subst, ◌∙◌, arith}
 use Rattle.std.specs.FinSet as set
 use Rattle.mf_elem.specs.Comps.{compartments_of}
-use Rattle.mf_labeltext.specs.Canonical.{comps_text, rising, numbers_to}
 use Rattle.mf_labeltext.proofs.Printings.{Printed, nothing_printed, printed_not, printed_more, all_printed}
 use Rattle.mf_labeltext.proofs.printing.push_comps.Goals as goal
 use Rattle.mf_labeltext.proofs.printing.push_comps.Goals.{then-has+in_ok-push_comp, else-has}

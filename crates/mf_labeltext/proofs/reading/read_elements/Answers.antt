@@ -1,5 +1,5 @@
-use Rattle.std.proofs.Common.{◌≡◌, ℕ, ◌+◌, ◌-◌, length, Ok, Err, ap, sym, ◌∙◌, arith}
-use Rattle.mf_labeltext.specs.Reading.{cut, parts, element_in, elements_in, request_in}
+use Rattle.std.proofs.Common.{◌≡◌, ℕ, ◌+◌, ◌-◌, length, ap, sym, ◌∙◌, arith}
+use Rattle.mf_labeltext.specs.Reading.{parts, elements_in}
 use Rattle.mf_labeltext.proofs.ElementsReading.{behind, elements_more, elements_end}
 use Rattle.mf_labeltext.proofs.reading.read_elements.Goals as goal
 
@@ -24,9 +24,9 @@ loop-element-preserved c =
     let next : length c.args.text.now - length after ≡ place + length element + 1 = omega (arith, split.whole) in
     record {
       read = ap (λ n. elements_in n c.in-Ok.next (parts 44 after)) next
-             ∙ ap (behind (place + length element + 1) after) c.in-Ok.ensures
-             ∙ sym (elements_more place c.loop-element.request rest element after split.cut)
-             ∙ c.loop-element.invariant.read;
+          ∙ ap (behind (place + length element + 1) after) c.in-Ok.ensures
+          ∙ sym (elements_more place c.loop-element.request rest element after split.cut)
+          ∙ c.loop-element.invariant.read;
       within = omega (arith, split.whole);
     }
 

@@ -1,7 +1,5 @@
-use Rattle.std.proofs.Common.{◌≡◌, ℕ, ◌+◌, ◌-◌, take, drop, length, Some, None, ap, sym, subst, ◌∙◌, arith, length-drop}
-use Rattle.std.specs.Option.{MatchOption}
+use Rattle.std.proofs.Common.{◌≡◌, ◌+◌, ◌-◌, take, drop, length, Some, ap, sym, ◌∙◌, arith, length-drop}
 use Rattle.std.proofs.lemmas.List.{take_all}
-use Rattle.mf_labeltext.specs.Reading.{cut}
 use Rattle.mf_labeltext.proofs.Cutting.{cut_some, cut_none}
 use Rattle.mf_labeltext.proofs.splitting.split_once.Goals as goal
 

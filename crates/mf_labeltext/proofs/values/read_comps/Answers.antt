@@ -1,6 +1,6 @@
-use Rattle.std.proofs.Common.{◌≡◌, ℕ, Some, ap, sym, ◌∙◌}
-use Rattle.mf_elem.specs.Comps.{compartments_of, comps_of}
-use Rattle.mf_labeltext.specs.Reading.{cut, parts, comps_from, comps_in}
+use Rattle.std.proofs.Common.{Some, ap, sym, ◌∙◌}
+use Rattle.mf_elem.specs.Comps.{compartments_of}
+use Rattle.mf_labeltext.specs.Reading.{parts, comps_from}
 use Rattle.mf_labeltext.proofs.CompsReading.{comps_behind, comps_more, comps_last, comps_end}
 use Rattle.mf_labeltext.proofs.values.read_comps.Goals as goal
 

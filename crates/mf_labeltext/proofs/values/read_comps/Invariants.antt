@@ -1,5 +1,5 @@
 use Rattle.std.proofs.Common.{◌≡◌, length}
-use Rattle.mf_elem.specs.Comps.{compartments_of, comps_of}
+use Rattle.mf_elem.specs.Comps.{compartments_of}
 use Rattle.mf_labeltext.specs.Reading.{parts, comps_from, comps_in}
 use Rattle.mf_labeltext.proofs.values.read_comps.Given as goal
 
