@@ -1,17 +1,18 @@
 -- What the grammar reads of a word and of a row is well formed.
-use Rattle.std.proofs.Common.{◌≡◌, ℕ, ◌==◌, if◌then◌else◌, ◌≤◌, Bool, true, false, ◌&&◌, List, [], ◌∷◌, length, Result, Ok, Err, refl, inl, inr, lit≤, codes}
+use Rattle.std.proofs.Common.{◌≡◌, ℕ, ◌==◌, if◌then◌else◌, ◌≤◌, Bool, true, false, ◌&&◌, List, [], ◌∷◌, length, Result, Ok, Err, refl, lit≤, codes}
 use Rattle.std.proofs.lemmas.Bool.{leb-true}
 use Rattle.std.specs.Str.{bytes_eq}
 use Rattle.std.proofs.lemmas.List.Elements.{All-nil}
-use Rattle.mf_elem.specs.declared.elem.Elem.TheVariants.{Low, High}
+use Rattle.mf_errno.specs.declared.module.Module.{Module}
 use Rattle.mf_script.specs.declared.error.ScriptError.TheVariants.{NotYet}
 use Rattle.mf_script.specs.declared.script.Task.{Task}
 use Rattle.mf_script.specs.Readers.{or_not_yet}
 use Rattle.mf_script.specs.Limits.{content_limit, text_limit, mode_limit}
 use Rattle.mf_script.specs.Words.{Words}
-use Rattle.mf_script.specs.Parts.{is_name, is_component, slash, name_of, mode_of, path_of, label_of, text_of, no_request, request_for}
+use Rattle.mf_script.specs.Parts.{is_name, is_component, slash, name_of, mode_of, path_of, task_request, file_request, text_of}
 use Rattle.mf_script.specs.Lines.{file_line, file_text, task_line, call_line, read_call, write_call}
-use Rattle.mf_script.specs.Labels.{IsFileRequest}
+use Rattle.mf_script.specs.Labels.{IsTaskRequest, IsFileRequest, is_claimed, has_no_range, task_label, file_label}
+use Rattle.mf_elem.specs.Label.{is_valid}
 use Rattle.mf_script.specs.WellFormed.{IsPathInRoot, IsFormedFile, IsFormedCall, IsFormedTask}
 use Rattle.mf_text.specs.Number.{number_in}
 use Rattle.mf_text.specs.declared.number.NumberFault.{NumberFault}
@@ -38,14 +39,19 @@ unfolding path_of
 path_formed [] = refused
 path_formed (b ∷ w) = checked _ _ (λ e. done (both (b == slash) (is_component w) e).1)
 
-label_formed : (w : List ℕ) → Yields IsFileRequest (label_of w)
-unfolding label_of
-label_formed w = by_text (bytes_eq w (codes "-")) (bytes_eq w (codes "biba/low")) (bytes_eq w (codes "biba/high")) where
-  by_text : (none low high : Bool) → Yields IsFileRequest (if none then Ok no_request else if low then Ok (request_for Low) else if high then Ok (request_for High) else Err NotYet)
-  by_text true low high = done (inl refl)
-  by_text false true high = done (inr (inl refl))
-  by_text false false true = done (inr (inr refl))
-  by_text false false false = refused
+task_request_formed : (boots : List Module) (w : List ℕ) → Yields (IsTaskRequest boots) (task_request boots w)
+unfolding task_request
+task_request_formed boots w = skip _ _ (λ request. checked _ _ (λ e.
+    let judged = both (is_claimed boots request) (is_valid (task_label request)) e in
+    done (record { claimed = judged.0; valid = judged.1 })))
+
+file_request_formed : (boots : List Module) (w : List ℕ) → Yields (IsFileRequest boots) (file_request boots w)
+unfolding file_request
+file_request_formed boots w = skip _ _ (λ request. checked _ _ (λ e.
+    let judged = both (is_claimed boots request && has_no_range request.biba && has_no_range request.mls) (is_valid (file_label request)) e in
+    let ranges = both (is_claimed boots request && has_no_range request.biba) (has_no_range request.mls) judged.0 in
+    let claims = both (is_claimed boots request) (has_no_range request.biba) ranges.0 in
+    done (record { claimed = claims.0; no_biba_range = claims.1; no_mls_range = ranges.1; valid = judged.1 })))
 
 text_formed : (most : ℕ) (w : List ℕ) → Yields (λ text. length text ≤ most) (text_of most w)
 unfolding text_of
@@ -56,14 +62,14 @@ unfolding file_text
 content_formed [] = done (lit≤ tt)
 content_formed (w ∷ ws) = skip _ _ (λ ws. by_word _ (text_formed content_limit) ws)
 
-pub file_formed : (ws : Words) → Yields IsFormedFile (file_line ws)
+pub file_formed : (boots : List Module) (ws : Words) → Yields (IsFormedFile boots) (file_line boots ws)
 unfolding file_line
-file_formed ws =
+file_formed boots ws =
     chain _ _ (by_word _ path_formed ws) (λ path path_ok.
     skip _ _ (λ ws. skip _ _ (λ ws. skip _ _ (λ uid. skip _ _ (λ ws. skip _ _ (λ gid. skip _ _ (λ ws.
     chain _ _ (by_word _ mode_formed ws) (λ mode mode_ok.
     skip _ _ (λ ws.
-    chain _ _ (by_word _ label_formed ws) (λ label label_ok.
+    chain _ _ (by_word _ (file_request_formed boots) ws) (λ label label_ok.
     chain _ _ (content_formed label.1) (λ text text_ok.
     skip _ _ (λ u. done (record { path = path_ok; regular = refl; mode = mode_ok; label = label_ok; text = text_ok })))))))))))))
 
@@ -88,15 +94,15 @@ call_formed (w ∷ ws) = by_text (bytes_eq w (codes "read")) (bytes_eq w (codes 
   by_text false false = refused
 
 -- a task before its lines
-pub record IsFormedHead (task : Task) : Type 0 where
+pub record IsFormedHead (boots : List Module) (task : Task) : Type 0 where
   pub name : is_name task.name ≡ true
-  pub formed : IsFormedTask task
+  pub formed : IsFormedTask boots task
 
-pub task_formed : (row : Words) → Yields IsFormedHead (task_line row)
+pub task_formed : (boots : List Module) (row : Words) → Yields (IsFormedHead boots) (task_line boots row)
 unfolding task_line
-task_formed row =
+task_formed boots row =
     skip _ _ (λ ws.
     chain _ _ (by_word _ name_formed ws) (λ name name_ok.
     skip _ _ (λ ws. skip _ _ (λ uid. skip _ _ (λ ws. skip _ _ (λ gid. skip _ _ (λ ws.
-    chain _ _ (by_word _ label_formed ws) (λ label label_ok.
+    chain _ _ (by_word _ (task_request_formed boots) ws) (λ label label_ok.
     skip _ _ (λ u. done (record { name = name_ok; formed = record { cred = record { real = refl; saved = refl; group = refl }; label = label_ok; calls = All-nil _ } }))))))))))

@@ -2,10 +2,10 @@
 use Rattle.std.specs.Prelude.{ℕ, Bool, true, false, not, ◌&&◌, nat_lt, List, [], ◌∷◌, ◌++◌, length, Option, Some, None, Result, Ok, Err, codes}
 use Rattle.std.specs.List.{list_all, list_any}
 use Rattle.std.specs.Str.{bytes_eq}
+use Rattle.mf_errno.specs.declared.module.Module.{Module}
 use Rattle.mf_errno.specs.declared.module.Module.TheVariants.{Biba}
 use Rattle.mf_script.specs.declared.error.ScriptError.{ScriptError}
 use Rattle.mf_script.specs.declared.error.ScriptError.TheVariants.{NotYet}
-use Rattle.mf_script.specs.declared.script.Call.{Call}
 use Rattle.mf_script.specs.declared.script.Line.{Line}
 use Rattle.mf_script.specs.declared.script.Task.{Task}
 use Rattle.mf_script.specs.declared.script.FileLine.{FileLine}
@@ -30,31 +30,41 @@ has_path path f = is_same_path f.path path
 abbrev pub may_stand : List FileLine → FileLine → Bool
 may_stand files f = nat_lt (length files) file_limit && not (list_any (has_path f.path) files)
 
+-- The items of the rows in front, behind those so far, and the rows from the first that is no further item.
+unfoldable pub items_in : {A : Type 0} → (List A → Words → Result (Option A) ScriptError) → List A → Rows → Result (List A × Rows) ScriptError
+items_in item_at items [] = Ok (items, [])
+items_in item_at items (row ∷ rows) = item_at items row >>= λ found. or_else found (Ok (items, row ∷ rows)) (λ item. items_in item_at (items ++ item ∷ []) rows)
+
 -- the file of a row behind these, where the row is a file line
-unfoldable pub file_at : List FileLine → Words → Result (Option FileLine) ScriptError
-file_at files row = or_else (behind (codes "file") row) (Ok None) (λ ws. file_line ws >>= λ f. only_if (may_stand files f) >>= λ u. Ok (Some f))
+unfoldable pub file_at : List Module → List FileLine → Words → Result (Option FileLine) ScriptError
+file_at boots files row = or_else (behind (codes "file") row) (Ok None) (λ ws. do
+  file ← file_line boots ws
+  u ← only_if (may_stand files file)
+  Ok (Some file))
 
--- the file lines that come next, behind those so far, and the rows after them
-unfoldable pub files_in : List FileLine → Rows → Result (List FileLine × Rows) ScriptError
-files_in files [] = Ok (files, [])
-files_in files (row ∷ rows) = file_at files row >>= λ f. or_else f (Ok (files, row ∷ rows)) (λ f. files_in (files ++ f ∷ []) rows)
+-- the line of a row behind these, where the row isn't the end of a task
+unfoldable pub line_at : List Line → Words → Result (Option Line) ScriptError
+line_at lines row = or_else (behind (codes "end") row) (do
+  u ← only_if (nat_lt (length lines) line_limit)
+  call ← call_line row
+  Ok (Some (record { call = call }))) (λ ws. Ok None)
 
--- the call of a row behind so many lines, where the row isn't the end
-unfoldable pub call_at : ℕ → Words → Result (Option Call) ScriptError
-call_at count row = or_else (behind (codes "end") row) (only_if (nat_lt count line_limit) >>= λ u. call_line row >>= λ call. Ok (Some call)) (λ ws. no_more ws >>= λ u. Ok None)
-
--- the lines of a task up to the word `end`, behind those so far, and the rows after them
-unfoldable pub calls_in : List Line → Rows → Result (List Line × Rows) ScriptError
-calls_in lines [] = Err NotYet
-calls_in lines (row ∷ rows) = call_at (length lines) row >>= λ c. or_else c (Ok (lines, rows)) (λ call. calls_in (lines ++ (record { call = call }) ∷ []) rows)
+-- the end of a task
+abbrev pub end_in : Rows → Result Rows ScriptError
+end_in [] = Err NotYet
+end_in (row ∷ rows) = do
+  ws ← fixed (codes "end") row
+  u ← no_more ws
+  Ok rows
 
 -- a task, and the rows after it
-unfoldable pub task_in : Rows → Result (Task × Rows) ScriptError
-task_in [] = Err NotYet
-task_in (row ∷ rows) = do
-  task ← task_line row
-  lines ← calls_in [] rows
-  Ok (record task { lines = lines.0 }, lines.1)
+unfoldable pub task_in : List Module → Rows → Result (Task × Rows) ScriptError
+task_in boots [] = Err NotYet
+task_in boots (row ∷ rows) = do
+  task ← task_line boots row
+  lines ← items_in line_at [] rows
+  rows ← end_in lines.1
+  Ok (record task { lines = lines.0 }, rows)
 
 -- the line that boots mac_biba
 abbrev pub boot_in : Rows → Result Rows ScriptError
@@ -69,14 +79,17 @@ abbrev pub no_more_rows : Rows → Result (Unit {0}) ScriptError
 no_more_rows [] = Ok tt
 no_more_rows (row ∷ rows) = Err NotYet
 
+abbrev pub booted : List Module
+booted = Biba ∷ []
+
 -- the boot line, the file lines, one task, and no more
 unfoldable pub script_in : Rows → Result Script ScriptError
 script_in rows = do
   rows ← boot_in rows
-  files ← files_in [] rows
-  task ← task_in files.1
+  files ← items_in (file_at booted) [] rows
+  task ← task_in booted files.1
   u ← no_more_rows task.1
-  Ok (record { boots = Biba ∷ []; files = files.0; tasks = task.0 ∷ [] })
+  Ok (record { boots = booted; files = files.0; tasks = task.0 ∷ [] })
 
 -- the script that the bytes are
 unfoldable pub script_of : List ℕ → Result Script ScriptError

@@ -1,6 +1,7 @@
 -- What the lines of a script say, row by row.
 use Rattle.std.specs.Prelude.{ℕ, false, if◌then◌else◌, List, [], ◌∷◌, Result, Ok, Err, codes}
 use Rattle.std.specs.Str.{bytes_eq}
+use Rattle.mf_errno.specs.declared.module.Module.{Module}
 use Rattle.mf_script.specs.declared.error.ScriptError.{ScriptError}
 use Rattle.mf_script.specs.declared.error.ScriptError.TheVariants.{NotYet}
 use Rattle.mf_script.specs.declared.script.Call.{Call}
@@ -10,7 +11,7 @@ use Rattle.mf_script.specs.declared.script.FileLine.{FileLine}
 use Rattle.mf_script.specs.Readers.{◌>>=◌}
 use Rattle.mf_script.specs.Limits.{content_limit, text_limit}
 use Rattle.mf_script.specs.Words.{Words}
-use Rattle.mf_script.specs.Parts.{word_by, fixed, no_more, number_of, mode_of, name_of, path_of, label_of, text_of}
+use Rattle.mf_script.specs.Parts.{word_by, fixed, no_more, number_of, mode_of, name_of, path_of, task_request, file_request, text_of}
 
 -- [ "text" TEXT ]
 unfoldable pub file_text : Words → Result (List ℕ × Words) ScriptError
@@ -20,8 +21,8 @@ file_text (w ∷ ws) = do
   word_by (text_of content_limit) ws
 
 -- behind the word `file`: PATH "reg" "uid" N "gid" N "mode" OCTAL "label" L [ "text" TEXT ]
-unfoldable pub file_line : Words → Result FileLine ScriptError
-file_line ws = do
+unfoldable pub file_line : List Module → Words → Result FileLine ScriptError
+file_line boots ws = do
   path ← word_by path_of ws
   ws ← fixed (codes "reg") path.1
   ws ← fixed (codes "uid") ws
@@ -31,7 +32,7 @@ file_line ws = do
   ws ← fixed (codes "mode") gid.1
   mode ← word_by mode_of ws
   ws ← fixed (codes "label") mode.1
-  label ← word_by label_of ws
+  label ← word_by (file_request boots) ws
   text ← file_text label.1
   u ← no_more text.1
   Ok (record { path = path.0; file = record { uid = uid.0; gid = gid.0; mode = mode.0; dir = false }; label = label.0; text = text.0 })
@@ -57,8 +58,8 @@ call_line [] = Err NotYet
 call_line (w ∷ ws) = if bytes_eq w (codes "read") then read_call ws else if bytes_eq w (codes "write") then write_call ws else Err NotYet
 
 -- "task" NAME "uid" N "gid" N "label" L, of a task that has no lines yet
-unfoldable pub task_line : Words → Result Task ScriptError
-task_line row = do
+unfoldable pub task_line : List Module → Words → Result Task ScriptError
+task_line boots row = do
   ws ← fixed (codes "task") row
   name ← word_by name_of ws
   ws ← fixed (codes "uid") name.1
@@ -66,6 +67,6 @@ task_line row = do
   ws ← fixed (codes "gid") uid.1
   gid ← word_by number_of ws
   ws ← fixed (codes "label") gid.1
-  label ← word_by label_of ws
+  label ← word_by (task_request boots) ws
   u ← no_more label.1
   Ok (record { name = name.0; cred = record { uid = uid.0; ruid = uid.0; svuid = uid.0; groups = gid.0 ∷ [] }; label = label.0; lines = [] })

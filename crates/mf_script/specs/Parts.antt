@@ -3,14 +3,15 @@ use Rattle.std.specs.Prelude.{ℕ, Bool, true, false, not, ◌&&◌, ◌||◌, �
 use Rattle.std.specs.List.{list_all}
 use Rattle.std.specs.Str.{bytes_eq}
 use Rattle.std.specs.Char.{is_ascii_alphanumeric}
-use Rattle.mf_elem.specs.declared.elem.Elem.{Elem}
-use Rattle.mf_elem.specs.declared.elem.Elem.TheVariants.{Low, High}
+use Rattle.mf_errno.specs.declared.module.Module.{Module}
 use Rattle.mf_elem.specs.declared.label.Request.{Request}
 use Rattle.mf_script.specs.declared.error.ScriptError.{ScriptError}
 use Rattle.mf_script.specs.declared.error.ScriptError.TheVariants.{NotYet}
 use Rattle.mf_text.specs.Number.{number_in}
 use Rattle.mf_text.specs.Escape.{bytes_of}
 use Rattle.mf_script.specs.Readers.{◌>>=◌, only_if, or_not_yet}
+use Rattle.mf_labeltext.specs.Reading.{request_in}
+use Rattle.mf_script.specs.Labels.{may_ask_of_task, may_ask_of_file}
 use Rattle.mf_script.specs.Limits.{mode_limit}
 use Rattle.mf_script.specs.Words.{Words}
 
@@ -90,12 +91,23 @@ path_of (b ∷ w) = only_if (b == slash && is_component w) >>= λ u. Ok (w ∷ [
 abbrev pub no_request : Request
 no_request = record { biba = None; mls = None; partition = None; other = false }
 
--- the request for an effective Biba element
-abbrev pub request_for : Elem → Request
-request_for e = record no_request { biba = Some (record { effective = Some e; range = None }) }
+-- what a label text asks for, where `-` asks for nothing
+unfoldable pub request_of : List ℕ → Result Request ScriptError
+request_of w = if bytes_eq w (codes "-") then Ok no_request else or_not_yet (request_in w)
 
-unfoldable pub label_of : List ℕ → Result Request ScriptError
-label_of w = if bytes_eq w (codes "-") then Ok no_request else if bytes_eq w (codes "biba/low") then Ok (request_for Low) else if bytes_eq w (codes "biba/high") then Ok (request_for High) else Err NotYet
+-- what a script asks of a task, or of a file, with these modules booted
+
+unfoldable pub task_request : List Module → List ℕ → Result Request ScriptError
+task_request boots w = do
+  request ← request_of w
+  u ← only_if (may_ask_of_task boots request)
+  Ok request
+
+unfoldable pub file_request : List Module → List ℕ → Result Request ScriptError
+file_request boots w = do
+  request ← request_of w
+  u ← only_if (may_ask_of_file boots request)
+  Ok request
 
 -- the bytes that a text with escapes stands for, at most so many
 unfoldable pub text_of : ℕ → List ℕ → Result (List ℕ) ScriptError

@@ -1,5 +1,6 @@
 -- Which scripts are well formed, and what a script says of its files and tasks.
 use Rattle.std.specs.Prelude.{◌≡◌, ◌≢◌, ℕ, ◌<◌, ◌≤◌, List, [], ◌∷◌, length, unwrap_or, option_map, slice_get, true, false, All, AllPairs}
+use Rattle.mf_errno.specs.declared.module.Module.{Module}
 use Rattle.mf_errno.specs.declared.module.Module.TheVariants.{Biba}
 use Rattle.mf_cred.specs.declared.cred.Cred.{Cred}
 use Rattle.mf_script.specs.declared.script.Call.{Call}
@@ -26,12 +27,12 @@ IsPathInRoot [] = ⊥
 IsPathInRoot (w ∷ []) = is_component w ≡ true
 IsPathInRoot (w ∷ v ∷ ws) = ⊥
 
--- a regular file in the root directory
-pub record IsFormedFile (f : FileLine) : Type 0 where
+-- a regular file in the root directory, of which the line may ask what it asks with these modules booted
+pub record IsFormedFile (boots : List Module) (f : FileLine) : Type 0 where
   pub path : IsPathInRoot f.path
   pub regular : f.file.dir ≡ false
   pub mode : f.file.mode ≤ mode_limit
-  pub label : IsFileRequest f.label
+  pub label : IsFileRequest boots f.label
   pub text : length f.text ≤ content_limit
 
 -- one uid is the effective, the real and the saved one, and there is one group
@@ -44,10 +45,10 @@ abbrev pub IsFormedCall : Call → Type 0
 IsFormedCall (Read path) = IsPathInRoot path
 IsFormedCall (Write path text) = IsPathInRoot path × (length text ≤ text_limit)
 
--- what a task says beside its name and the number of its lines
-pub record IsFormedTask (task : Task) : Type 0 where
+-- what a task says beside its name and the number of its lines, with these modules booted
+pub record IsFormedTask (boots : List Module) (task : Task) : Type 0 where
   pub cred : IsFormedCred task.cred
-  pub label : IsTaskRequest task.label
+  pub label : IsTaskRequest boots task.label
   pub calls : All (λ line. IsFormedCall line.call) task.lines
 
 -- The script boots what the grammar lets it boot and is within the limits; paths of files differ, and so do names of tasks, which are
@@ -56,9 +57,9 @@ pub record IsWellFormed (s : Script) : Type 0 where
   pub boots : s.boots ≡ Biba ∷ []
   pub files : length s.files ≤ file_limit
   pub paths : AllPairs (λ f g. f.path ≢ g.path) s.files
-  pub each_file : All IsFormedFile s.files
+  pub each_file : All (IsFormedFile s.boots) s.files
   pub tasks : length s.tasks ≤ task_limit
   pub names : (t : ℕ) → t < length s.tasks → is_name (name_of s t) ≡ true
   pub differ : (t u : ℕ) → t < length s.tasks → u < length s.tasks → name_of s t ≡ name_of s u → t ≡ u
   pub lines : (t : ℕ) → length (lines_of s t) ≤ line_limit
-  pub each_task : All IsFormedTask s.tasks
+  pub each_task : All (IsFormedTask s.boots) s.tasks

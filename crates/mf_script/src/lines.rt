@@ -12,6 +12,7 @@ use crate::parts;
 use crate::script::{Call, FileLine, Task};
 use crate::words::Words;
 use mf_cred::{ArrayVec, Cred, FileView};
+use mf_errno::Module;
 use std::alloc::Global;
 
 /// The most bytes that a call may write.
@@ -19,8 +20,12 @@ const TEXT_LIMIT: usize = 1_048_576;
 
 /// What stands behind the word `file`.
 #[tactic(auto, unfolding(crate::specs::Lines::file_line, crate::specs::Readers::and_then))]
-pub fn file_line(alloc: Global, words: &mut Words) -> Result<FileLine, ScriptError>
-    ensures { Gives (λ f. f) result (file_line words.old) }
+pub fn file_line(
+    alloc: Global,
+    boots: &[Module],
+    words: &mut Words,
+) -> Result<FileLine, ScriptError>
+    ensures { Gives (λ f. f) result (file_line boots.now words.old) }
 {
     let path = parts::path(alloc, words)?;
     parts::fixed(words, "reg")?;
@@ -31,7 +36,7 @@ pub fn file_line(alloc: Global, words: &mut Words) -> Result<FileLine, ScriptErr
     parts::fixed(words, "mode")?;
     let mode = parts::mode(words)?;
     parts::fixed(words, "label")?;
-    let label = parts::label(words)?;
+    let label = parts::file_request(boots, words)?;
     let text = file_text(alloc, words)?;
     parts::no_more(words)?;
     Ok(FileLine {
@@ -102,8 +107,8 @@ pub fn call_line(alloc: Global, words: &mut Words) -> Result<Call, ScriptError>
 
 /// The task of a task line, which has no lines yet.
 #[tactic(auto, unfolding(crate::specs::Lines::task_line, crate::specs::Readers::and_then))]
-pub fn task_line(alloc: Global, words: &mut Words) -> Result<Task, ScriptError>
-    ensures { Gives (λ t. t) result (task_line words.old) }
+pub fn task_line(alloc: Global, boots: &[Module], words: &mut Words) -> Result<Task, ScriptError>
+    ensures { Gives (λ t. t) result (task_line boots.now words.old) }
 {
     parts::fixed(words, "task")?;
     let name = parts::name(alloc, words)?;
@@ -112,7 +117,7 @@ pub fn task_line(alloc: Global, words: &mut Words) -> Result<Task, ScriptError>
     parts::fixed(words, "gid")?;
     let gid = parts::number(words)?;
     parts::fixed(words, "label")?;
-    let label = parts::label(words)?;
+    let label = parts::task_request(boots, words)?;
     parts::no_more(words)?;
     Ok(Task {
         name,

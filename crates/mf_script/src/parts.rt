@@ -4,12 +4,15 @@
 ghost use Rattle.std.specs.Prelude.{◌≡◌, ◌≢◌, ◌≤◌, ◌∷◌, MatchOption, IfOk, List, ℕ, vec_len};
 ghost use Rattle.std.specs.List.{list_all};
 ghost use Rattle.mf_script.specs.Readers.{Gives};
-ghost use Rattle.mf_script.specs.Parts.{fixed, word_by, number_of, mode_of, name_of, path_of, label_of, request_for, text_of, is_name, no_more, is_name_byte, is_component_byte, is_component};
+ghost use Rattle.mf_script.specs.Parts.{fixed, word_by, number_of, mode_of, name_of, path_of, request_of, task_request, file_request, text_of, is_name, no_more, is_name_byte, is_component_byte, is_component};
 
 use crate::error::ScriptError;
+use crate::labels::{may_ask_of_file, may_ask_of_task};
 use crate::listing::{Listing, Name, Path};
 use crate::words::Words;
-use mf_elem::{Elem, RangeLabel, Request};
+use mf_elem::Request;
+use mf_errno::Module;
+use mf_labeltext::read_request;
 use mf_text::{TextFault, read_number, read_octal, unescape};
 use std::alloc::Global;
 
@@ -76,42 +79,59 @@ pub fn mode(words: &mut Words) -> Result<u16, ScriptError>
     Ok(value)
 }
 
-fn request_for(element: Elem) -> Request
-    ensures { result ≡ request_for element }
+#[tactic(auto, unfolding(crate::specs::Parts::request_of))]
+fn request_of(word: &str) -> Result<Request, ScriptError>
+    ensures { Gives (λ r. r) result (request_of word.now) }
 {
-    Request {
-        biba: Some(RangeLabel {
-            effective: Some(element),
-            range: None,
-        }),
-        mls: None,
-        partition: None,
-        other: false,
+    if word == "-" {
+        return Ok(Request::none());
+    }
+    match read_request(word) {
+        Ok(request) => Ok(request),
+        Err(_) => Err(ScriptError::NotYet),
     }
 }
 
-#[tactic(auto, unfolding(crate::specs::Parts::label_of))]
-fn label_of(word: &str) -> Result<Request, ScriptError>
-    ensures { Gives (λ l. l) result (label_of word.now) }
+#[tactic(auto, unfolding(crate::specs::Parts::task_request, crate::specs::Readers::and_then))]
+fn request_for_task(boots: &[Module], word: &str) -> Result<Request, ScriptError>
+    ensures { Gives (λ r. r) result (task_request boots.now word.now) }
 {
-    if word == "-" {
-        Ok(Request::none())
-    } else if word == "biba/low" {
-        Ok(request_for(Elem::Low))
-    } else if word == "biba/high" {
-        Ok(request_for(Elem::High))
+    let request = request_of(word)?;
+    if may_ask_of_task(boots, &request) {
+        Ok(request)
     } else {
         Err(ScriptError::NotYet)
     }
 }
 
-/// A label request, `-` for none.
-pub fn label(words: &mut Words) -> Result<Request, ScriptError>
-    ensures { Gives (λ l. (l, words.new)) result (word_by label_of words.old) }
+#[tactic(auto, unfolding(crate::specs::Parts::file_request, crate::specs::Readers::and_then))]
+fn request_for_file(boots: &[Module], word: &str) -> Result<Request, ScriptError>
+    ensures { Gives (λ r. r) result (file_request boots.now word.now) }
+{
+    let request = request_of(word)?;
+    if may_ask_of_file(boots, &request) {
+        Ok(request)
+    } else {
+        Err(ScriptError::NotYet)
+    }
+}
+
+/// What a script that boots these modules asks of a task, `-` for nothing.
+pub fn task_request(boots: &[Module], words: &mut Words) -> Result<Request, ScriptError>
+    ensures { Gives (λ r. (r, words.new)) result (word_by (task_request boots.now) words.old) }
 {
     let word = words.next().ok_or(ScriptError::NotYet)?;
-    let label = label_of(word)?;
-    Ok(label)
+    let request = request_for_task(boots, word)?;
+    Ok(request)
+}
+
+/// What a script that boots these modules asks of a file, `-` for nothing.
+pub fn file_request(boots: &[Module], words: &mut Words) -> Result<Request, ScriptError>
+    ensures { Gives (λ r. (r, words.new)) result (word_by (file_request boots.now) words.old) }
+{
+    let word = words.next().ok_or(ScriptError::NotYet)?;
+    let request = request_for_file(boots, word)?;
+    Ok(request)
 }
 
 fn is_name_byte(byte: u8) -> bool

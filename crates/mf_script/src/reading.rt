@@ -6,12 +6,12 @@ ghost use Rattle.std.specs.List.{list_all, list_any};
 ghost use Rattle.std.specs.Str.{IsAscii};
 ghost use Rattle.mf_script.specs.Readers.{Gives};
 ghost use Rattle.mf_script.specs.Words.{is_plain};
-ghost use Rattle.mf_script.specs.Grammar.{script_of, script_in, boot_in, files_in, file_at, task_in, calls_in, call_at, no_more_rows, may_stand, has_path, is_same_path};
+ghost use Rattle.mf_script.specs.Grammar.{script_of, script_in, boot_in, items_in, file_at, line_at, task_in, end_in, no_more_rows, may_stand, has_path, is_same_path};
 ghost use Rattle.mf_script.specs.WellFormed.{IsWellFormed};
 
 use crate::error::ScriptError;
 use crate::listing::{Listing, Name};
-use crate::script::{Call, FileLine, Line, Script, Task};
+use crate::script::{FileLine, Line, Script, Task};
 use crate::words::{Rows, Words};
 use crate::{lines, parts};
 use mf_errno::Module;
@@ -90,13 +90,18 @@ fn may_stand(files: &[FileLine], file: &FileLine) -> bool
 
 /// The file of a row behind these, where the row is a file line.
 #[tactic(auto, unfolding(crate::specs::Grammar::file_at, crate::specs::Readers::and_then))]
-fn file_at(alloc: Global, files: &[FileLine], row: &Words) -> Result<Option<FileLine>, ScriptError>
-    ensures { Gives (λ f. f) result (file_at files.now row.now) }
+fn file_at(
+    alloc: Global,
+    boots: &[Module],
+    files: &[FileLine],
+    row: &Words,
+) -> Result<Option<FileLine>, ScriptError>
+    ensures { Gives (λ f. f) result (file_at boots.now files.now row.now) }
 {
     match row.behind("file") {
         None => Ok(None),
         Some(mut words) => {
-            let file = lines::file_line(alloc, &mut words)?;
+            let file = lines::file_line(alloc, boots, &mut words)?;
             if may_stand(files, &file) {
                 Ok(Some(file))
             } else {
@@ -107,13 +112,13 @@ fn file_at(alloc: Global, files: &[FileLine], row: &Words) -> Result<Option<File
 }
 
 /// The file lines that come next.
-fn files(alloc: Global, rows: &mut Rows) -> Result<Listing<FileLine>, ScriptError>
-    ensures { Gives (λ files. (files, rows.new)) result (files_in [] rows.old) }
+fn files(alloc: Global, boots: &[Module], rows: &mut Rows) -> Result<Listing<FileLine>, ScriptError>
+    ensures { Gives (λ files. (files, rows.new)) result (items_in (file_at boots.now) [] rows.old) }
 {
     let mut files = Listing::new(alloc);
     let mut ahead = rows.ahead();
     while let Some(row) = ahead.next() {
-        match file_at(alloc, files.as_slice(), &row) {
+        match file_at(alloc, boots, files.as_slice(), &row) {
             Err(error) => return Err(error),
             Ok(None) => return Ok(files),
             Ok(Some(file)) => files.push(file)?,
@@ -123,48 +128,55 @@ fn files(alloc: Global, rows: &mut Rows) -> Result<Listing<FileLine>, ScriptErro
     Ok(files)
 }
 
-/// The call of a row behind so many lines, where the row isn't the end.
-#[tactic(auto, unfolding(crate::specs::Grammar::call_at, crate::specs::Readers::and_then))]
-fn call_at(alloc: Global, count: usize, row: &mut Words) -> Result<Option<Call>, ScriptError>
-    ensures { Gives (λ c. c) result (call_at count row.old) }
+/// The line of a row behind these, where the row isn't the end of a task.
+#[tactic(auto, unfolding(crate::specs::Grammar::line_at, crate::specs::Readers::and_then))]
+fn line_at(alloc: Global, lines: &[Line], row: &mut Words) -> Result<Option<Line>, ScriptError>
+    ensures { Gives (λ l. l) result (line_at lines.now row.old) }
 {
-    match row.behind("end") {
-        None => {
-            if count >= LINE_LIMIT {
-                return Err(ScriptError::NotYet);
-            }
-            let call = lines::call_line(alloc, row)?;
-            Ok(Some(call))
-        }
-        Some(mut words) => {
-            parts::no_more(&mut words)?;
-            Ok(None)
-        }
+    if row.behind("end").is_some() {
+        return Ok(None);
     }
+    if lines.len() >= LINE_LIMIT {
+        return Err(ScriptError::NotYet);
+    }
+    let call = lines::call_line(alloc, row)?;
+    Ok(Some(Line { call }))
 }
 
-/// The lines of a task up to its end.
-fn calls(alloc: Global, rows: &mut Rows) -> Result<Listing<Line>, ScriptError>
-    ensures { Gives (λ lines. (lines, rows.new)) result (calls_in [] rows.old) }
+/// The lines of a task that come next.
+fn task_lines(alloc: Global, rows: &mut Rows) -> Result<Listing<Line>, ScriptError>
+    ensures { Gives (λ lines. (lines, rows.new)) result (items_in line_at [] rows.old) }
 {
     let mut lines = Listing::new(alloc);
-    while let Some(mut row) = rows.next() {
-        match call_at(alloc, lines.len(), &mut row) {
+    let mut ahead = rows.ahead();
+    while let Some(mut row) = ahead.next() {
+        match line_at(alloc, lines.as_slice(), &mut row) {
             Err(error) => return Err(error),
             Ok(None) => return Ok(lines),
-            Ok(Some(call)) => lines.push(Line { call })?,
+            Ok(Some(line)) => lines.push(line)?,
         }
+        *rows = ahead.ahead();
     }
-    Err(ScriptError::NotYet)
+    Ok(lines)
+}
+
+fn end(rows: &mut Rows) -> Result<(), ScriptError>
+    ensures { Gives (λ u. rows.new) result (end_in rows.old) }
+{
+    let mut words = rows.next().ok_or(ScriptError::NotYet)?;
+    parts::fixed(&mut words, "end")?;
+    parts::no_more(&mut words)?;
+    Ok(())
 }
 
 #[tactic(auto, unfolding(crate::specs::Grammar::task_in, crate::specs::Readers::and_then))]
-fn task(alloc: Global, rows: &mut Rows) -> Result<Task, ScriptError>
-    ensures { Gives (λ task. (task, rows.new)) result (task_in rows.old) }
+fn task(alloc: Global, boots: &[Module], rows: &mut Rows) -> Result<Task, ScriptError>
+    ensures { Gives (λ task. (task, rows.new)) result (task_in boots.now rows.old) }
 {
     let mut row = rows.next().ok_or(ScriptError::NotYet)?;
-    let head = lines::task_line(alloc, &mut row)?;
-    let lines = calls(alloc, rows)?;
+    let head = lines::task_line(alloc, boots, &mut row)?;
+    let lines = task_lines(alloc, rows)?;
+    end(rows)?;
     Ok(Task {
         name: head.name,
         cred: head.cred,
@@ -187,10 +199,10 @@ fn script(alloc: Global, rows: &mut Rows) -> Result<Script, ScriptError>
     ensures { Gives (λ s. s) result (script_in rows.old) }
 {
     boot(rows)?;
-    let files = files(alloc, rows)?;
-    let task = task(alloc, rows)?;
-    no_more_rows(rows)?;
     let boots = Listing::one(alloc, Module::Biba)?;
+    let files = files(alloc, boots.as_slice(), rows)?;
+    let task = task(alloc, boots.as_slice(), rows)?;
+    no_more_rows(rows)?;
     let tasks = Listing::one(alloc, task)?;
     Ok(Script {
         boots,

@@ -30,6 +30,8 @@ fn takes_good_scripts(rt: HostRuntime) {
     let scripts = [
         ONE_TASK,
         "\t boot \t mac_biba \ntask a-b_C9 uid 4294967295 gid 0 label biba/high\nend",
+        "boot mac_biba\nfile /a reg uid 0 gid 0 mode 0 label biba/5(1-9),biba/5:3+1\ntask t uid 0 gid 0 label biba/10:2+3(5:2-20:2+3+4)\nend",
+        "boot mac_biba\nfile /a reg uid 0 gid 0 mode 0 label biba/equal\ntask t uid 0 gid 0 label biba/(5-high)\nend",
         "boot mac_biba\nfile /a reg uid 0 gid 0 mode 7777 label -\nfile /b reg uid 0 gid 0 mode 00000 label - text x\ntask t uid 0 gid 0 label -\nend",
     ];
     for script in scripts {
@@ -63,6 +65,14 @@ fn refuses_bad_scripts(rt: HostRuntime) {
         "boot mac_biba\ntask t uid 4294967296 gid 0 label -\nend",
         "boot mac_biba\ntask t uid -1 gid 0 label -\nend",
         "boot mac_biba\ntask t gid 0 uid 0 label -\nend",
+        "boot mac_biba\ntask t uid 0 gid 0 label biba\nend",
+        "boot mac_biba\ntask t uid 0 gid 0 label biba/65536\nend",
+        "boot mac_biba\ntask t uid 0 gid 0 label biba/(5-10)\nend",
+        "boot mac_biba\ntask t uid 0 gid 0 label biba/11(5-10)\nend",
+        "boot mac_biba\ntask t uid 0 gid 0 label biba/5,mls/5\nend",
+        "boot mac_biba\ntask t uid 0 gid 0 label partition/none\nend",
+        "boot mac_biba\ntask t uid 0 gid 0 label lomac/5\nend",
+        "boot mac_biba\nfile /a reg uid 0 gid 0 mode 0 label biba/5(1-9)\ntask t uid 0 gid 0 label -\nend",
         "boot mac_biba\nfile /a reg uid 0 gid 0 mode 08 label -\ntask t uid 0 gid 0 label -\nend",
         "boot mac_biba\nfile /a reg uid 0 gid 0 mode 10000 label -\ntask t uid 0 gid 0 label -\nend",
         "boot mac_biba\nfile /a reg uid 0 gid 0 mode 0 label - text\ntask t uid 0 gid 0 label -\nend",

@@ -1,23 +1,19 @@
-use Rattle.std.proofs.Common.{List, ◌∙◌, ap, subst, Ok}
-use Rattle.mf_script.specs.declared.script.FileLine.{FileLine}
+use Rattle.std.proofs.Common.{ap, ◌∙◌, Ok}
 use Rattle.mf_script.specs.Grammar.{file_at}
-use Rattle.mf_script.specs.Readers.{Fails}
-use Rattle.mf_script.proofs.Rows.{files_fail, files_stopped, files_on, files_ended}
+use Rattle.mf_script.proofs.Rows.{row_fails, row_stops, row_adds, rows_end}
 use Rattle.mf_script.proofs.reading.files.Goals as goal
 
 pub returns-in-Err : goal.returns-in-Err
-returns-in-Err c =
-    let P : List FileLine → Type 0 = λ files. Fails c.in-Err.error (file_at files c.in-Some.row) in
-    files_fail c.loop-row.files c.loop-row.ahead c.in-Some.row c.next.new.self c.in-Err.error _ c.in-Some.ensures c.loop-row.invariant.so_far (subst P c.as_slice.ensures c.in-Err.ensures)
+returns-in-Err c = row_fails (file_at c.args.boots.now) c.loop-row.files c.as_slice.result.now c.loop-row.ahead c.in-Some.row c.next.new.self c.in-Err.error _ c.as_slice.ensures c.in-Some.ensures c.loop-row.invariant.so_far c.in-Err.ensures
 
 pub returns-in-Ok-None : goal.returns-in-Ok-None
-returns-in-Ok-None c = files_stopped c.loop-row.files c.as_slice.result.now c.loop-row.rows c.loop-row.ahead c.in-Some.row c.next.new.self _ c.loop-row.invariant.at_row c.as_slice.ensures c.in-Some.ensures c.loop-row.invariant.so_far (c.in-Ok-None.ensures ∙ ap Ok c.in-Ok-None.field-0-is)
+returns-in-Ok-None c = row_stops (file_at c.args.boots.now) c.loop-row.files c.as_slice.result.now c.loop-row.rows c.loop-row.ahead c.in-Some.row c.next.new.self _ c.loop-row.invariant.at_row c.as_slice.ensures c.in-Some.ensures c.loop-row.invariant.so_far (c.in-Ok-None.ensures ∙ ap Ok c.in-Ok-None.field-0-is)
 
 pub loop-row-preserved : goal.loop-row-preserved
 loop-row-preserved c = record {
   at_row = c.ahead.ensures;
-  so_far = files_on c.loop-row.files c.as_slice.result.now c.loop-row.ahead c.in-Some.row c.next.new.self c.in-Ok-Some.file _ _ c.as_slice.ensures c.in-Some.ensures c.loop-row.invariant.so_far (c.in-Ok-Some.ensures ∙ ap Ok c.in-Ok-Some.field-0-is) c.in_ok-push-in-Ok-Some.ensures.ok;
+  so_far = row_adds (file_at c.args.boots.now) c.loop-row.files c.as_slice.result.now c.loop-row.ahead c.in-Some.row c.next.new.self c.in-Ok-Some.file _ _ c.as_slice.ensures c.in-Some.ensures c.loop-row.invariant.so_far (c.in-Ok-Some.ensures ∙ ap Ok c.in-Ok-Some.field-0-is) c.in_ok-push-in-Ok-Some.ensures.ok;
 }
 
 pub returns : goal.returns
-returns c = files_ended c.loop-row.files c.loop-row.rows c.loop-row.ahead _ c.loop-row.invariant.at_row c.in_default.ensures.0 c.loop-row.invariant.so_far
+returns c = rows_end (file_at c.args.boots.now) c.loop-row.files c.loop-row.rows c.loop-row.ahead _ c.loop-row.invariant.at_row c.in_default.ensures.0 c.loop-row.invariant.so_far

@@ -1,11 +1,11 @@
 use Rattle.std.proofs.Common.{◌≡◌, length, []}
-use Rattle.mf_script.specs.Grammar.{files_in}
+use Rattle.mf_script.specs.Grammar.{items_in, file_at}
 use Rattle.mf_script.proofs.reading.files.Given as goal
 
 abbrev pub invariant-loop-row : goal.invariant-loop-row
 invariant-loop-row l = record {
   at_row : l.rows ≡ l.ahead;
-  so_far : files_in l.files l.ahead ≡ files_in [] l.fn.rows;
+  so_far : items_in (file_at l.boots) l.files l.ahead ≡ items_in (file_at l.boots) [] l.fn.rows;
 }
 
 abbrev pub decreases-loop-row : goal.decreases-loop-row
