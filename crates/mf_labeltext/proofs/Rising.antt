@@ -6,8 +6,9 @@ use Rattle.std.specs.List.{list_any, AllByRecursion}
 use Rattle.std.specs.Ordering.{nat_cmp}
 use Rattle.std.specs.FinSet as set
 use Rattle.std.specs.FinSet.{FinSet, contains-from_list_nat}
-use Rattle.mf_elem.specs.Comps.{number_with, word_of, words_of, compartments_of, comps_of}
+use Rattle.mf_elem.specs.Comps.{number_with, word_of, words_of, compartments_of, comps_of, AreWords}
 use Rattle.mf_elem.specs.declared.comps.Comps.{Comps}
+use Rattle.mf_elem.proofs.CompsLaws.{comps_again}
 use Rattle.mf_labeltext.specs.Canonical.{numbers_to, rising}
 
 abbrev is_among : ℕ → List ℕ → Bool
@@ -87,11 +88,11 @@ same_comps : (s t : FinSet nat_cmp) → ((q : ℕ) → 1 ≤ q → q ≤ 256 →
 unfolding comps_of
 same_comps s t same = ap (λ ws. record { words = ws }) (four_words s t same)
 
-pub rising_again : (comps : Comps) → comps_of (compartments_of comps) ≡ comps → comps ≡ comps_of (set.from_list (rising comps))
+pub rising_again : (comps : Comps) → AreWords comps.words → comps ≡ comps_of (set.from_list (rising comps))
 unfolding rising
-rising_again comps is =
+rising_again comps are =
     let s : FinSet nat_cmp = compartments_of comps in
-    sym is ∙ same_comps s (set.from_list (filter (set.contains s) (numbers_to 256)))
+    comps_again comps.words are s refl ∙ same_comps s (set.from_list (filter (set.contains s) (numbers_to 256)))
     (λ q least most. sym (contains-from_list_nat (filter (set.contains s) (numbers_to 256)) q ∙ among_is (set.contains s) 256 q least most))
 
 -- ---- all of them are compartments

@@ -1,9 +1,9 @@
 -- The canonical text of the parts of a label asks for just these parts.
-use Rattle.std.specs.Prelude.{◌≡◌, ◌≢◌, ℕ, ◌≤◌, List, [], ◌∷◌, length, Option, Some, None, false, if◌then◌else◌}
+use Rattle.std.specs.Prelude.{◌≢◌, ℕ, ◌≤◌, List, [], ◌∷◌, length, Option, Some, None, false, if◌then◌else◌}
 use Rattle.std.specs.List.{AllByRecursion}
 use Rattle.mf_errno.specs.declared.module.Module.{Module}
 use Rattle.mf_errno.specs.declared.module.Module.TheVariants.{Biba, Mls, Partition}
-use Rattle.mf_elem.specs.Comps.{compartments_of, comps_of}
+use Rattle.mf_elem.specs.Comps.{AreWords}
 use Rattle.mf_elem.specs.declared.elem.Elem.{Elem}
 use Rattle.mf_elem.specs.declared.elem.Elem.TheVariants.{Low, High, Equal, Grade}
 use Rattle.mf_elem.specs.declared.label.RangeLabel.{RangeLabel}
@@ -35,12 +35,12 @@ abbrev pub request_of : List (Module × LabelValue) → Request
 request_of parts = record { biba = range_of (value_of Biba parts); mls = range_of (value_of Mls parts); partition = number_of (value_of Partition parts); other = false }
 
 -- ---- which parts a label may have
--- a value of the type: the grade fits, and the compartments are those of a set
+-- a value of its type: 16 bits of grade, and four words of 64 bits of compartments
 abbrev pub IsElem : Elem → Type 0
 IsElem Low = Unit {0}
 IsElem High = Unit {0}
 IsElem Equal = Unit {0}
-IsElem (Grade grade comps) = (grade ≤ 65535) × (comps_of (compartments_of comps) ≡ comps)
+IsElem (Grade grade comps) = (grade ≤ 65535) × AreWords comps.words
 
 -- an effective element or a range is there
 abbrev pub AreLabelParts : Option Elem → Option (Elem × Elem) → Type 0
