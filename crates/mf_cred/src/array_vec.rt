@@ -95,6 +95,8 @@ impl<T: Duplicate, const N: usize> ArrayVec<T, N> {
 }
 
 impl<T: Duplicate, const N: usize> Default for ArrayVec<T, N> {
+    ghost is_default = { λ items. items ≡ [] };
+
     fn default() -> Self {
         ArrayVec::new()
     }

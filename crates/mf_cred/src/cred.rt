@@ -46,6 +46,8 @@ fn same_groups(groups: &[u32], others: &[u32]) -> bool
 }
 
 impl Default for Cred {
+    ghost is_default = { λ cred. cred ≡ record { uid = 0; ruid = 0; svuid = 0; groups = 0 ∷ [] } };
+
     fn default() -> Cred {
         Cred {
             uid: 0,
@@ -85,5 +87,20 @@ impl FileView {
             && self.gid == other.gid
             && self.mode == other.mode
             && self.dir == other.dir
+    }
+}
+
+#[cfg(test)]
+mod tests {
+    use super::*;
+
+    #[test]
+    fn groups_of_a_credential(rt: HostRuntime) {
+        let mut cred = Cred::default();
+        cred.groups.push(47);
+        let copy = cred.copy();
+        assert!(rt; copy.is_root());
+        assert!(rt; copy.in_group(0) && copy.in_group(47) && !copy.in_group(48));
+        assert!(rt; copy.same(&cred) && !copy.same(&Cred::default()));
     }
 }

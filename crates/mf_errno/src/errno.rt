@@ -75,3 +75,37 @@ impl Errno {
         }
     }
 }
+
+#[cfg(test)]
+mod tests {
+    use super::*;
+    use crate::{Module, Priv};
+
+    #[test]
+    fn numbers_of_errno_2(rt: HostRuntime) {
+        let table = [
+            (Errno::Success, 0, "ok"),
+            (Errno::Edeadlk, 11, "EDEADLK"),
+            (Errno::Eagain, 35, "EAGAIN"),
+            (Errno::Enobufs, 55, "ENOBUFS"),
+            (Errno::Enotempty, 66, "ENOTEMPTY"),
+        ];
+        for (errno, number, name) in table {
+            assert_eq!(rt; errno.number(), number);
+            assert_eq!(rt; errno.name(), name);
+        }
+    }
+
+    #[test]
+    fn names_lead_back(rt: HostRuntime) {
+        assert_eq!(rt;
+            Module::from_name(Module::Bsdextended.name()),
+            Some(Module::Bsdextended)
+        );
+        assert_eq!(rt; Module::from_name("biba"), None);
+        assert_eq!(rt;
+            Priv::from_name(Priv::KldUnload.name()),
+            Some(Priv::KldUnload)
+        );
+    }
+}

@@ -42,6 +42,10 @@ impl Module {
 }
 
 impl Default for Module {
+    ghost use Rattle.mf_errno.specs.declared.module.Module.TheVariants as modules;
+
+    ghost is_default = { λ value. value ≡ modules.Biba };
+
     fn default() -> Module {
         Module::Biba
     }

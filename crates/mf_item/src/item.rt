@@ -68,3 +68,21 @@ impl Duplicate for Item {
         }
     }
 }
+
+#[cfg(test)]
+mod tests {
+    use super::*;
+
+    #[test]
+    fn a_copy_is_the_same(rt: HostRuntime) {
+        let item = Item {
+            op: CheckOp::CredRelabel,
+            subject: Default::default(),
+            object: None,
+            request: Some(Request::none()),
+        };
+        assert!(rt; item.copy().same(&item));
+        assert!(rt; !item.same(&Item::default()));
+        assert_eq!(rt; item.op.name(), "cred_relabel");
+    }
+}

@@ -1,4 +1,6 @@
 //! How a listed policy is registered.
+ghost use Rattle.std.specs.Prelude.{◌≡◌, None, false};
+
 use mf_cred::Duplicate;
 use mf_errno::Module;
 
@@ -12,6 +14,10 @@ pub struct Registration {
 }
 
 impl Default for Registration {
+    ghost use Rattle.mf_errno.specs.declared.module.Module.TheVariants as modules;
+
+    ghost is_default = { λ value. value ≡ record { «module» = modules.Biba; slot = None; fixed = false } };
+
     fn default() -> Registration {
         Registration {
             module: Module::default(),
