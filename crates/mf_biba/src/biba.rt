@@ -174,8 +174,18 @@ mod tests {
         }
     }
 
-    /// The four rules that mac_biba(4) gives, in its order: the same level, a higher subject, a lower one, and levels that can't be
-    /// compared.
+    #[test]
+    fn facts_of_the_module(rt: HostRuntime) {
+        let mut policy = Biba::new();
+        policy.reset();
+        assert_eq!(rt; policy.module(), Module::Biba);
+        assert!(rt; policy.flags().is_notlate() && !policy.flags().is_unloadok());
+        assert!(rt; policy.wants_slot() && policy.same(&Spec::Biba));
+        assert!(rt; !policy.grant(&Cred::default(), Priv::KldLoad));
+    }
+
+    /// The four rules that mac_biba(4) gives, in its order: the same level, a higher subject, a lower one, and levels that
+    /// can't be compared.
     #[test]
     fn rules_of_mac_biba_4(rt: HostRuntime) {
         let policy = Biba::new();
@@ -199,7 +209,7 @@ mod tests {
         }
     }
 
-    /// mac_biba(4): a subject with `equal` is exempt, and only a privileged subject loads a module.
+    /// mac_biba(4): a subject with `equal` is exempt. That only a privileged subject loads a module is a rule of this model.
     #[test]
     fn equal_is_exempt_and_loads_modules(rt: HostRuntime) {
         let policy = Biba::new();

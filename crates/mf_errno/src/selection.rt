@@ -1,4 +1,4 @@
-//! Which of two answers counts, as mac_error_select(9) decides it.
+//! Which of two answers counts, as the kernel's `mac_error_select` decides it.
 ghost use Rattle.std.specs.Prelude.{◌≡◌};
 ghost use Rattle.mf_errno.specs.Selection as spec;
 

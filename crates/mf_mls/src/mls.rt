@@ -172,8 +172,18 @@ mod tests {
         }
     }
 
-    /// The four rules that mac_mls(4) gives, in its order: the same level, a higher subject, a lower one, and levels that can't be
-    /// compared.
+    #[test]
+    fn facts_of_the_module(rt: HostRuntime) {
+        let mut policy = Mls::new();
+        policy.reset();
+        assert_eq!(rt; policy.module(), Module::Mls);
+        assert!(rt; policy.flags().is_notlate() && !policy.flags().is_unloadok());
+        assert!(rt; policy.wants_slot() && policy.same(&Spec::Mls));
+        assert!(rt; !policy.grant(&Cred::default(), Priv::KldLoad));
+    }
+
+    /// The four rules that mac_mls(4) gives, in its order: the same level, a higher subject, a lower one, and levels that
+    /// can't be compared.
     #[test]
     fn rules_of_mac_mls_4(rt: HostRuntime) {
         let policy = Mls::new();
@@ -197,7 +207,7 @@ mod tests {
         }
     }
 
-    /// mac_mls(4): a subject with `equal` is exempt, and the policy doesn't guard modules.
+    /// mac_mls(4): a subject with `equal` is exempt. That the policy doesn't guard modules is a rule of this model.
     #[test]
     fn equal_is_exempt_and_anybody_loads_modules(rt: HostRuntime) {
         let policy = Mls::new();

@@ -1,4 +1,4 @@
--- The flags of MAC_POLICY_SET(9) as bits.
+-- The load-time flags of a module, as bits with the kernel's values.
 use Rattle.std.specs.Prelude.{Bool, ◌==◌}
 use Rattle.std.specs.Int.RustNames.{bit_and}
 use Rattle.mf_policy.specs.declared.load_flags.LoadFlags.{LoadFlags}

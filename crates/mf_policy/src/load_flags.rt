@@ -4,8 +4,8 @@ ghost use Rattle.mf_policy.specs.LoadFlags.{is_notlate, is_unloadok};
 
 use bitflags::{Flag, Flags, bitflag_items};
 
-/// The flags that a module is registered with, as in MAC_POLICY_SET(9): NOTLATE, that it can't be loaded once boot has
-/// ended, and UNLOADOK, that it may be unloaded.
+/// The flags that a module is registered with, as the kernel's `MAC_POLICY_SET` takes them: NOTLATE, that it can't be loaded
+/// once boot has ended, and UNLOADOK, that it may be unloaded.
 #[derive(Clone, Copy, Debug, PartialEq, Eq)]
 pub struct LoadFlags(u8);
 

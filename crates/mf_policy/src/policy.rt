@@ -37,7 +37,7 @@ pub trait Policy: Send + Sync + Drop {
         requires { IsTrue (facts.wants_slot (facts.module_of (spec self.now))) → slot < 4 }
         ensures { result ≡ answer (spec self.now) slot item.now };
 
-    /// Whether the policy grants the privilege to a process of that credential, as mac_priv_grant(9) asks.
+    /// Whether the policy grants the privilege to a process of that credential, as the kernel's `mac_priv_grant` asks.
     fn grant(&self, cred: &Cred, privilege: Priv) -> bool
         ensures { result ≡ grants (spec self.now) cred.now privilege };
 

@@ -1,5 +1,5 @@
 -- Texts that stand for bytes, with escapes.
-use Rattle.std.specs.Prelude.{◌≡◌, ℕ, ◌+◌, ◌*◌, ◌/◌, ◌%◌, ◌<◌, List, [], ◌∷◌, Result, Ok, Err, Bool, nat_le, ◌==◌, ◌&&◌, not, if◌then◌else◌}
+use Rattle.std.specs.Prelude.{◌≡◌, ℕ, ◌+◌, ◌-◌, ◌*◌, ◌/◌, ◌%◌, ◌<◌, List, [], ◌∷◌, length, Result, Ok, Err, Bool, nat_le, ◌==◌, ◌&&◌, not, if◌then◌else◌}
 use Rattle.std.specs.List.{flat_map, AllByRecursion}
 use Rattle.std.specs.Char.{is_digit, digit_value, digit_char}
 use Rattle.mf_text.specs.declared.escapes.TextFault.{TextFault}
@@ -32,6 +32,15 @@ bytes_from place (c ∷ d ∷ e ∷ rest) =
     if c == 92
     then (if is_digit d 16 && is_digit e 16 then with_first (digit_value d * 16 + digit_value e) (bytes_from (place + 3) rest) else Err place)
     else with_first c (bytes_from (place + 1) (d ∷ e ∷ rest))
+
+-- the text begins with a bad escape, wherever it stands
+abbrev pub BeginsWithBadEscape : List ℕ → Type 0
+BeginsWithBadEscape text = (place : ℕ) → bytes_from place text ≡ Err place
+
+-- the text stands for this byte and then for what the rest stands for, which is the end of it
+abbrev pub StandsForByteThen : List ℕ → ℕ → List ℕ → Type 0
+StandsForByteThen text byte rest =
+    (place : ℕ) → bytes_from place text ≡ with_first byte (bytes_from (place + (length text - length rest)) rest)
 
 -- the bytes that a whole text stands for
 abbrev pub bytes_of : List ℕ → Result (List ℕ) ℕ

@@ -1,10 +1,13 @@
 //! Texts that stand for bytes, with an escape for each byte that isn't printable.
 ghost use Rattle.std.specs.Prelude.{◌≡◌, ◌≢◌, ℕ, ◌+◌, ◌-◌, ◌<◌, ◌++◌, [], ◌∷◌, length, Ok, Err, MatchOption, MatchResult, IfOk, IfErr, IfSome, OnOk, OnErr, string_bytes};
 ghost use Rattle.std.specs.Char.{digit_char};
-ghost use Rattle.mf_text.specs.Escape.{canonical, canonical_byte, is_plain, bytes_of, bytes_from, with_first, IsFaultOf, CanonicalTextStandsForItsBytes};
+ghost use Rattle.mf_text.specs.Escape.{canonical, canonical_byte, is_plain, bytes_of, BeginsWithBadEscape, StandsForByteThen, IsFaultOf, CanonicalTextStandsForItsBytes};
 ghost use Rattle.mf_text.specs.declared.escapes.TextFault.TheVariants.{Memory};
 
 use std::alloc::{AllocError, AllocFailed, Global};
+
+/// The byte that an escape begins with.
+const BACKSLASH: u8 = b'\\';
 
 /// Why the bytes of a text could not be read.
 #[derive(Debug, Drop, PartialEq, Eq)]
@@ -61,11 +64,11 @@ pub fn unescape_bytes(alloc: Global, text: &[u8]) -> Result<Vec<u8>, TextFault>
 /// The first byte that the text stands for, and the text after it. None where its first escape is bad.
 fn split_byte(text: &[u8]) -> Option<(u8, &[u8])>
     requires { text.now ≢ [] }
-    ensures reads { (place : ℕ) → MatchOption result (bytes_from place text.now ≡ Err place) (λ split. bytes_from place text.now ≡ with_first split.0 (bytes_from (place + (length text.now - length split.1.now)) split.1.now)) }
+    ensures reads { MatchOption result (BeginsWithBadEscape text.now) (λ split. StandsForByteThen text.now split.0 split.1.now) }
     ensures less { IfSome result (λ split. length split.1.now < length text.now) }
 {
     let (first, rest) = text.split_first()?;
-    if *first == b'\\' {
+    if *first == BACKSLASH {
         return split_escape(rest);
     }
     Some((*first, rest))
@@ -74,7 +77,7 @@ fn split_byte(text: &[u8]) -> Option<(u8, &[u8])>
 /// The byte of two hexadecimal digits behind a backslash, and the text after them.
 #[tactic(auto, unfolding(crate::specs::Escape::bytes_from))]
 fn split_escape(text: &[u8]) -> Option<(u8, &[u8])>
-    ensures reads { (place : ℕ) → MatchOption result (bytes_from place (92 ∷ text.now) ≡ Err place) (λ split. bytes_from place (92 ∷ text.now) ≡ with_first split.0 (bytes_from (place + 3) split.1.now)) }
+    ensures reads { MatchOption result (BeginsWithBadEscape (BACKSLASH ∷ text.now)) (λ split. StandsForByteThen (BACKSLASH ∷ text.now) split.0 split.1.now) }
     ensures less { IfSome result (λ split. length split.1.now + 2 ≡ length text.now) }
 {
     let (high, rest) = text.split_first()?;
@@ -119,7 +122,7 @@ fn push_escaped(byte: u8, out: &mut String) -> Result<(), AllocError>
 fn is_plain(byte: u8) -> bool
     ensures { result ≡ is_plain byte }
 {
-    33 <= byte && byte <= 126 && byte != b'\\'
+    33 <= byte && byte <= 126 && byte != BACKSLASH
 }
 
 fn hexadecimal_digit(value: u8) -> char

@@ -11,5 +11,5 @@ returns-clause-reads c = λ place.
     let whole : c.args.text.now ≡ first ∷ rest = split.cases.0 in
     let one : 1 ≡ length c.args.text.now - length rest = omega (arith, ap length whole) in
     ap (bytes_from place) whole
-    ∙ plain_read place first rest c.if-first-eq92.false
+    ∙ plain_read place first rest c.if-first-eq-BACKSLASH.false
     ∙ ap (λ n. with_first first (bytes_from (place + n) rest)) one
