@@ -71,3 +71,17 @@ impl Spec {
         })
     }
 }
+
+#[cfg(test)]
+mod tests {
+    use super::*;
+
+    #[test]
+    fn mls_has_no_setting(rt: HostRuntime) -> Result<(), AllocError> {
+        let mut meaning = Spec::fresh(rt.alloc(), Module::Mls)?;
+        let changed = meaning.change(rt.alloc(), &Change::FirstMatch(false))?;
+        assert_eq!(rt; changed.errno, Errno::Enoent);
+        assert!(rt; changed.number.is_none() && meaning.same(&Spec::Mls));
+        Ok(())
+    }
+}
