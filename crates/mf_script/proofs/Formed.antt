@@ -1,5 +1,5 @@
 -- The scripts that the grammar reads are well formed.
-use Rattle.std.proofs.Common.{◌≡◌, ◌≢◌, ℕ, zero, suc, ◌<◌, ◌≤◌, Bool, true, false, not, ◌||◌, List, [], ◌∷◌, ◌++◌, length, Option, Some, None, Result, Ok, refl, arith, length-append, lit≤}
+use Rattle.std.proofs.Common.{◌≡◌, ◌≢◌, ℕ, zero, suc, ◌<◌, ◌≤◌, Bool, true, false, not, ◌||◌, List, [], ◌∷◌, ◌++◌, length, Option, Some, None, Result, Ok, refl, ap, sym, ◌∙◌, ◌⊎◌, inl, inr, arith, length-append, lit≤}
 use Rattle.std.proofs.lemmas.Bool.{ltb-true}
 use Rattle.std.proofs.lemmas.Slice.Eq.{bytes_eq-Decides}
 use Rattle.std.proofs.lemmas.List.Elements.{All-nil, All-cons, All-push}
@@ -8,7 +8,7 @@ use Rattle.std.specs.Prelude.{nat_lt, All, AllPairs, IfSome, codes}
 use Rattle.std.specs.List.{list_any}
 use Rattle.std.specs.Str.{bytes_eq}
 use Rattle.mf_errno.specs.declared.module.Module.{Module}
-use Rattle.mf_errno.specs.declared.module.Module.TheVariants.{Biba}
+use Rattle.mf_errno.specs.declared.module.Module.TheVariants.{Biba, Mls, Partition, Bsdextended, Priority}
 use Rattle.mf_script.specs.declared.error.ScriptError.{ScriptError}
 use Rattle.mf_script.specs.declared.script.FileLine.{FileLine}
 use Rattle.mf_script.specs.declared.script.Line.{Line}
@@ -17,10 +17,64 @@ use Rattle.mf_script.specs.Readers.{or_else}
 use Rattle.mf_script.specs.Limits.{file_limit, line_limit}
 use Rattle.mf_script.specs.Words.{Words, Rows}
 use Rattle.mf_script.specs.Parts.{is_name, behind}
-use Rattle.mf_script.specs.Grammar.{is_same_path, has_path, may_stand, items_in, file_at, line_at, task_in, booted, script_in}
+use Rattle.mf_script.specs.Grammar.{is_same_path, has_path, may_stand, items_in, may_boot, boot_at, file_at, line_at, task_in, script_in}
+use Rattle.mf_script.specs.Labels.{is_biba, is_mls}
 use Rattle.mf_script.specs.WellFormed.{IsFormedFile, IsFormedCall, IsFormedTask, IsWellFormed, lines_of, name_of}
 use Rattle.mf_script.proofs.Yields.{Yields, done, refused, chain, skip, checked, chosen}
 use Rattle.mf_script.proofs.FormedParts.{both, file_formed, call_formed, task_formed}
+
+flipped : (b : Bool) → not b ≡ true → b ≡ false
+flipped true e = cc
+flipped false e = refl
+
+neither : (a b : Bool) → (a || b) ≡ false → (a ≡ false) × (b ≡ false)
+neither true b e = cc
+neither false b e = (refl, e)
+
+-- what no element passes, where what doesn't pass is so
+none_pass : {A : Type 0} (test : A → Bool) (P : A → Type 0) → ((x : A) → test x ≡ false → P x) → (xs : List A) → list_any test xs ≡ false → All P xs
+none_pass test P so [] e = All-nil _
+none_pass test P so (x ∷ xs) e = let failed = neither (test x) (list_any test xs) e in All-cons P x xs (so x failed.0) (none_pass test P so xs failed.1)
+
+-- Boots
+
+record AreOnce (boots : List Module) : Type 0 where
+  each : All (λ m. (m ≡ Biba) ⊎ (m ≡ Mls)) boots
+  differ : AllPairs (λ m n. m ≢ n) boots
+
+no_third : (l m n : Module) → (l ≡ Biba) ⊎ (l ≡ Mls) → (m ≡ Biba) ⊎ (m ≡ Mls) → (n ≡ Biba) ⊎ (n ≡ Mls) → l ≢ m → l ≢ n → m ≢ n → ⊥
+no_third l m n (inl a) (inl b) c lm ln mn = lm (a ∙ sym b)
+no_third l m n (inr a) (inr b) c lm ln mn = lm (a ∙ sym b)
+no_third l m n (inl a) (inr b) (inl c) lm ln mn = ln (a ∙ sym c)
+no_third l m n (inl a) (inr b) (inr c) lm ln mn = mn (b ∙ sym c)
+no_third l m n (inr a) (inl b) (inl c) lm ln mn = mn (b ∙ sym c)
+no_third l m n (inr a) (inl b) (inr c) lm ln mn = ln (a ∙ sym c)
+
+few_boots : (boots : List Module) → AreOnce boots → length boots ≤ 2
+few_boots [] once = lit≤ tt
+few_boots (l ∷ []) once = lit≤ tt
+few_boots (l ∷ m ∷ []) once = lit≤ tt
+few_boots (l ∷ m ∷ n ∷ rest) once = absurd (no_third l m n
+    (once.each 0 l (omega arith)) (once.each 1 l (omega arith)) (once.each 2 l (omega arith))
+    (once.differ 0 1 l (omega arith) (omega arith)) (once.differ 0 2 l (omega arith) (omega arith)) (once.differ 1 2 l (omega arith) (omega arith)))
+
+boot_once : (boots : List Module) (m : Module) → AreOnce boots → may_boot boots m ≡ true → AreOnce (boots ++ m ∷ [])
+boot_once boots Biba once e = record {
+  each = All-push (λ m. (m ≡ Biba) ⊎ (m ≡ Mls)) boots Biba once.each (inl refl);
+  differ = all_pairs_push (λ m n. m ≢ n) boots Biba once.differ (none_pass is_biba (λ m. m ≢ Biba) (λ m e same. let yes = ap is_biba same in cc) boots (flipped _ e));
+}
+boot_once boots Mls once e = record {
+  each = All-push (λ m. (m ≡ Biba) ⊎ (m ≡ Mls)) boots Mls once.each (inr refl);
+  differ = all_pairs_push (λ m n. m ≢ n) boots Mls once.differ (none_pass is_mls (λ m. m ≢ Mls) (λ m e same. let yes = ap is_mls same in cc) boots (flipped _ e));
+}
+boot_once boots Partition once e = cc
+boot_once boots Bsdextended once e = cc
+boot_once boots Priority once e = cc
+
+boot_at_formed : (boots : List Module) (row : Words) → AreOnce boots → Yields (λ found. IfSome found (λ m. AreOnce (boots ++ m ∷ []))) (boot_at boots row)
+unfolding boot_at
+boot_at_formed boots row once =
+    chosen (behind (codes "boot") row) _ _ (done tt) (λ ws. skip _ _ (λ m. checked _ _ (λ e. done (boot_once boots m once e))))
 
 -- Files
 
@@ -33,26 +87,15 @@ same_path : (p : List (List ℕ)) → is_same_path p p ≡ true
 same_path [] = refl
 same_path (w ∷ ws) = let here : bytes_eq w w ≡ true = (bytes_eq-Decides w w).1 refl in rw here (same_path ws)
 
-other_path : (f : FileLine) (path : List (List ℕ)) → has_path path f ≡ false → f.path ≢ path
-other_path f path e same = let here : is_same_path f.path f.path ≡ true = same_path f.path in let there : is_same_path f.path path ≡ true = rw (← same) here in cc
-
-all_others : (path : List (List ℕ)) (files : List FileLine) → list_any (has_path path) files ≡ false → All (λ f. f.path ≢ path) files
-all_others path [] e = All-nil _
-all_others path (f ∷ files) e = All-cons (λ (f : FileLine). f.path ≢ path) f files (other_path f path (neither _ _ e).0) (all_others path files (neither (has_path path f) _ e).1) where
-  neither : (a b : Bool) → (a || b) ≡ false → (a ≡ false) × (b ≡ false)
-  neither true b e = cc
-  neither false b e = (refl, e)
-
-flipped : (b : Bool) → not b ≡ true → b ≡ false
-flipped true e = cc
-flipped false e = refl
+other_path : (path : List (List ℕ)) (f : FileLine) → has_path path f ≡ false → f.path ≢ path
+other_path path f e same = let here : is_same_path f.path f.path ≡ true = same_path f.path in let there : is_same_path f.path path ≡ true = rw (← same) here in cc
 
 one_more : (boots : List Module) (files : List FileLine) (f : FileLine) → AreFiles boots files → IsFormedFile boots f → may_stand files f ≡ true → AreFiles boots (files ++ f ∷ [])
 one_more boots files f are formed e =
     let room = both (nat_lt (length files) file_limit) (not (list_any (has_path f.path) files)) e in
     record {
       few = omega (arith, ltb-true _ _ room.0, length-append files (f ∷ []));
-      paths = all_pairs_push (λ (f g : FileLine). f.path ≢ g.path) files f are.paths (all_others f.path files (flipped _ room.1));
+      paths = all_pairs_push (λ (f g : FileLine). f.path ≢ g.path) files f are.paths (none_pass (has_path f.path) (λ (g : FileLine). g.path ≢ f.path) (other_path f.path) files (flipped _ room.1));
       each = All-push (IsFormedFile boots) files f are.each formed;
     }
 
@@ -104,9 +147,10 @@ task_in_formed boots (row ∷ rows) =
     skip _ _ (λ rows.
     done (record { name = head.name; few = are.few; formed = record { cred = head.formed.cred; label = head.formed.label; calls = are.each } }))))
 
-one_task : (files : List FileLine) (task : Task) → AreFiles booted files → IsWholeTask booted task → IsWellFormed (record { boots = Biba ∷ []; files = files; tasks = task ∷ [] })
-one_task files task are whole = record {
-  boots = refl;
+one_task : (boots : List Module) (files : List FileLine) (task : Task) → AreOnce boots → AreFiles boots files → IsWholeTask boots task
+    → IsWellFormed (record { boots = boots; files = files; tasks = task ∷ [] })
+one_task boots files task once are whole = record {
+  boots = record { few = few_boots boots once; each = once.each; differ = once.differ };
   files = are.few;
   paths = are.paths;
   each_file = are.each;
@@ -114,20 +158,23 @@ one_task files task are whole = record {
   names = names;
   differ = λ t u t_in u_in e. omega arith;
   lines = lines;
-  each_task = All-cons (IsFormedTask booted) task [] whole.formed (All-nil _);
+  each_task = All-cons (IsFormedTask boots) task [] whole.formed (All-nil _);
 } where
-  names : (t : ℕ) → t < 1 → is_name (name_of (record { boots = Biba ∷ []; files = files; tasks = task ∷ [] }) t) ≡ true
+  names : (t : ℕ) → t < 1 → is_name (name_of (record { boots = boots; files = files; tasks = task ∷ [] }) t) ≡ true
   names zero t_in = whole.name
   names (suc t) t_in = absurd (omega arith)
 
-  lines : (t : ℕ) → length (lines_of (record { boots = Biba ∷ []; files = files; tasks = task ∷ [] }) t) ≤ line_limit
+  lines : (t : ℕ) → length (lines_of (record { boots = boots; files = files; tasks = task ∷ [] }) t) ≤ line_limit
   lines zero = whole.few
   lines (suc t) = lit≤ tt
+
+no_pairs : {A : Type 0} (R : A → A → Type 0) → AllPairs R []
+no_pairs R i j d less within = absurd (omega arith)
 
 pub script_formed : (rows : Rows) → Yields IsWellFormed (script_in rows)
 unfolding script_in
 script_formed rows =
-    skip _ _ (λ rows.
-    chain _ _ (items_formed (AreFiles booted) (file_at booted) (file_at_formed booted) [] rows (record { few = lit≤ tt; paths = λ i j d less within. absurd (omega arith); each = All-nil _ })) (λ files are.
-    chain _ _ (task_in_formed booted files.1) (λ task whole.
-    skip _ _ (λ u. done (one_task files.0 task.0 are whole)))))
+    chain _ _ (items_formed AreOnce boot_at boot_at_formed [] rows (record { each = All-nil _; differ = no_pairs (λ (m n : Module). m ≢ n) })) (λ boots once.
+    chain _ _ (items_formed (AreFiles boots.0) (file_at boots.0) (file_at_formed boots.0) [] boots.1 (record { few = lit≤ tt; paths = no_pairs (λ (f g : FileLine). f.path ≢ g.path); each = All-nil _ })) (λ files are.
+    chain _ _ (task_in_formed boots.0 files.1) (λ task whole.
+    skip _ _ (λ u. done (one_task boots.0 files.0 task.0 once are whole)))))

@@ -1,8 +1,8 @@
 -- What the grammar reads of a word and of a row is well formed.
-use Rattle.std.proofs.Common.{◌≡◌, ℕ, ◌==◌, if◌then◌else◌, ◌≤◌, Bool, true, false, ◌&&◌, List, [], ◌∷◌, length, Result, Ok, Err, refl, lit≤, codes}
+use Rattle.std.proofs.Common.{All, ◌≡◌, ℕ, ◌==◌, if◌then◌else◌, ◌≤◌, Bool, true, false, ◌&&◌, List, [], ◌∷◌, length, Result, Ok, Err, refl, lit≤, codes}
 use Rattle.std.proofs.lemmas.Bool.{leb-true}
 use Rattle.std.specs.Str.{bytes_eq}
-use Rattle.std.proofs.lemmas.List.Elements.{All-nil}
+use Rattle.std.proofs.lemmas.List.Elements.{All-nil, All-cons}
 use Rattle.mf_errno.specs.declared.module.Module.{Module}
 use Rattle.mf_script.specs.declared.error.ScriptError.TheVariants.{NotYet}
 use Rattle.mf_script.specs.declared.script.Task.{Task}
@@ -11,8 +11,8 @@ use Rattle.mf_script.specs.Limits.{content_limit, text_limit, mode_limit}
 use Rattle.mf_script.specs.Words.{Words}
 use Rattle.mf_script.specs.Parts.{is_name, is_component, slash, name_of, mode_of, path_of, task_request, file_request, text_of}
 use Rattle.mf_script.specs.Lines.{file_line, file_text, task_line, call_line, read_call, write_call}
-use Rattle.mf_script.specs.Labels.{IsTaskRequest, IsFileRequest, is_claimed, has_no_range, task_label, file_label}
-use Rattle.mf_elem.specs.Label.{is_valid}
+use Rattle.mf_script.specs.Labels.{IsTaskRequest, IsFileRequest, is_claimed, has_no_range, is_valid_value, task_label, file_label}
+use Rattle.std.specs.List.{list_all}
 use Rattle.mf_script.specs.WellFormed.{IsPathInRoot, IsFormedFile, IsFormedCall, IsFormedTask}
 use Rattle.mf_text.specs.Number.{number_in}
 use Rattle.mf_text.specs.declared.number.NumberFault.{NumberFault}
@@ -39,19 +39,24 @@ unfolding path_of
 path_formed [] = refused
 path_formed (b ∷ w) = checked _ _ (λ e. done (both (b == slash) (is_component w) e).1)
 
+-- a test that all pass holds of each
+all_pass : {A : Type 0} (test : A → Bool) (xs : List A) → list_all test xs ≡ true → All (λ x. test x ≡ true) xs
+all_pass test [] e = All-nil _
+all_pass test (x ∷ xs) e = let passed = both (test x) (list_all test xs) e in All-cons (λ x. test x ≡ true) x xs passed.0 (all_pass test xs passed.1)
+
 task_request_formed : (boots : List Module) (w : List ℕ) → Yields (IsTaskRequest boots) (task_request boots w)
 unfolding task_request
 task_request_formed boots w = skip _ _ (λ request. checked _ _ (λ e.
-    let judged = both (is_claimed boots request) (is_valid (task_label request)) e in
-    done (record { claimed = judged.0; valid = judged.1 })))
+    let judged = both (is_claimed boots request) (list_all (λ booted. is_valid_value (task_label booted request)) boots) e in
+    done (record { claimed = judged.0; valid = all_pass _ boots judged.1 })))
 
 file_request_formed : (boots : List Module) (w : List ℕ) → Yields (IsFileRequest boots) (file_request boots w)
 unfolding file_request
 file_request_formed boots w = skip _ _ (λ request. checked _ _ (λ e.
-    let judged = both (is_claimed boots request && has_no_range request.biba && has_no_range request.mls) (is_valid (file_label request)) e in
+    let judged = both (is_claimed boots request && has_no_range request.biba && has_no_range request.mls) (list_all (λ booted. is_valid_value (file_label booted request)) boots) e in
     let ranges = both (is_claimed boots request && has_no_range request.biba) (has_no_range request.mls) judged.0 in
     let claims = both (is_claimed boots request) (has_no_range request.biba) ranges.0 in
-    done (record { claimed = claims.0; no_biba_range = claims.1; no_mls_range = ranges.1; valid = judged.1 })))
+    done (record { claimed = claims.0; no_biba_range = claims.1; no_mls_range = ranges.1; valid = all_pass _ boots judged.1 })))
 
 text_formed : (most : ℕ) (w : List ℕ) → Yields (λ text. length text ≤ most) (text_of most w)
 unfolding text_of

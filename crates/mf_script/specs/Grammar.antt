@@ -3,7 +3,7 @@ use Rattle.std.specs.Prelude.{ℕ, Bool, true, false, not, ◌&&◌, nat_lt, Lis
 use Rattle.std.specs.List.{list_all, list_any}
 use Rattle.std.specs.Str.{bytes_eq}
 use Rattle.mf_errno.specs.declared.module.Module.{Module}
-use Rattle.mf_errno.specs.declared.module.Module.TheVariants.{Biba}
+use Rattle.mf_errno.specs.declared.module.Module.TheVariants.{Biba, Mls, Partition, Bsdextended, Priority}
 use Rattle.mf_script.specs.declared.error.ScriptError.{ScriptError}
 use Rattle.mf_script.specs.declared.error.ScriptError.TheVariants.{NotYet}
 use Rattle.mf_script.specs.declared.script.Line.{Line}
@@ -14,7 +14,8 @@ use Rattle.mf_script.specs.Readers.{◌>>=◌, only_if, or_else}
 use Rattle.mf_script.specs.Limits.{file_limit, line_limit}
 use Rattle.mf_script.specs.Words.{Words, Rows, rows_in, is_plain}
 use Rattle.mf_script.specs.Parts.{fixed, behind, no_more}
-use Rattle.mf_script.specs.Lines.{file_line, call_line, task_line}
+use Rattle.mf_script.specs.Lines.{boot_line, file_line, call_line, task_line}
+use Rattle.mf_script.specs.Labels.{is_biba, is_mls}
 
 -- whether two paths have the same components
 abbrev pub is_same_path : List (List ℕ) → List (List ℕ) → Bool
@@ -34,6 +35,21 @@ may_stand files f = nat_lt (length files) file_limit && not (list_any (has_path 
 unfoldable pub items_in : {A : Type 0} → (List A → Words → Result (Option A) ScriptError) → List A → Rows → Result (List A × Rows) ScriptError
 items_in item_at items [] = Ok (items, [])
 items_in item_at items (row ∷ rows) = item_at items row >>= λ found. or_else found (Ok (items, row ∷ rows)) (λ item. items_in item_at (items ++ item ∷ []) rows)
+
+-- the module may be booted behind these: each at most once
+abbrev pub may_boot : List Module → Module → Bool
+may_boot boots Biba = not (list_any is_biba boots)
+may_boot boots Mls = not (list_any is_mls boots)
+may_boot boots Partition = false
+may_boot boots Bsdextended = false
+may_boot boots Priority = false
+
+-- the module of a row behind these, where the row is a boot line
+unfoldable pub boot_at : List Module → Words → Result (Option Module) ScriptError
+boot_at boots row = or_else (behind (codes "boot") row) (Ok None) (λ ws. do
+  booted ← boot_line ws
+  u ← only_if (may_boot boots booted)
+  Ok (Some booted))
 
 -- the file of a row behind these, where the row is a file line
 unfoldable pub file_at : List Module → List FileLine → Words → Result (Option FileLine) ScriptError
@@ -66,30 +82,18 @@ task_in boots (row ∷ rows) = do
   rows ← end_in lines.1
   Ok (record task { lines = lines.0 }, rows)
 
--- the line that boots mac_biba
-abbrev pub boot_in : Rows → Result Rows ScriptError
-boot_in [] = Err NotYet
-boot_in (row ∷ rows) = do
-  ws ← fixed (codes "boot") row
-  ws ← fixed (codes "mac_biba") ws
-  u ← no_more ws
-  Ok rows
-
 abbrev pub no_more_rows : Rows → Result (Unit {0}) ScriptError
 no_more_rows [] = Ok tt
 no_more_rows (row ∷ rows) = Err NotYet
 
-abbrev pub booted : List Module
-booted = Biba ∷ []
-
--- the boot line, the file lines, one task, and no more
+-- the boot lines, the file lines, one task, and no more
 unfoldable pub script_in : Rows → Result Script ScriptError
 script_in rows = do
-  rows ← boot_in rows
-  files ← items_in (file_at booted) [] rows
-  task ← task_in booted files.1
+  boots ← items_in boot_at [] rows
+  files ← items_in (file_at boots.0) [] boots.1
+  task ← task_in boots.0 files.1
   u ← no_more_rows task.1
-  Ok (record { boots = booted; files = files.0; tasks = task.0 ∷ [] })
+  Ok (record { boots = boots.0; files = files.0; tasks = task.0 ∷ [] })
 
 -- the script that the bytes are
 unfoldable pub script_of : List ℕ → Result Script ScriptError

@@ -1,10 +1,12 @@
 -- The labels that files and processes have at boot, and what a script may ask of them.
-use Rattle.std.specs.Prelude.{◌≡◌, Bool, true, false, not, ◌&&◌, ◌||◌, List, Option, Some, None, is_none}
-use Rattle.std.specs.List.{list_any}
+use Rattle.std.specs.Prelude.{◌≡◌, Bool, true, false, not, ◌&&◌, ◌||◌, List, Option, Some, None, is_none, unwrap_or, All}
+use Rattle.std.specs.List.{list_all, list_any}
 use Rattle.mf_errno.specs.declared.module.Module.{Module}
 use Rattle.mf_errno.specs.declared.module.Module.TheVariants.{Biba, Mls, Partition, Bsdextended, Priority}
 use Rattle.mf_elem.specs.declared.elem.Elem.TheVariants.{Low, High}
 use Rattle.mf_elem.specs.declared.label.RangeLabel.{RangeLabel}
+use Rattle.mf_elem.specs.declared.label.LabelValue.{LabelValue}
+use Rattle.mf_elem.specs.declared.label.LabelValue.TheVariants.{Unset, Range, Number}
 use Rattle.mf_elem.specs.declared.label.Request.{Request}
 use Rattle.mf_elem.specs.Label.{is_valid}
 
@@ -18,13 +20,22 @@ abbrev pub replaced : RangeLabel → Option RangeLabel → RangeLabel
 replaced label None = label
 replaced label (Some given) = record { effective = given_or given.effective label.effective; range = given_or given.range label.range }
 
--- biba/high(low-high), with the parts of the request
-abbrev pub task_label : Request → RangeLabel
-task_label request = replaced (record { effective = Some High; range = Some (Low, High) }) request.biba
+-- What a module keeps of a task's process at boot: biba/high(low-high), mls/low(low-high) or partition 0, with the parts of the
+-- request in place of its own.
+abbrev pub task_label : Module → Request → LabelValue
+task_label Biba request = Range (replaced (record { effective = Some High; range = Some (Low, High) }) request.biba)
+task_label Mls request = Range (replaced (record { effective = Some Low; range = Some (Low, High) }) request.mls)
+task_label Partition request = Number (unwrap_or request.partition 0)
+task_label Bsdextended request = Unset
+task_label Priority request = Unset
 
--- biba/high, with the parts of the request
-abbrev pub file_label : Request → RangeLabel
-file_label request = replaced (record { effective = Some High; range = None }) request.biba
+-- what a module keeps of a file at boot: biba/high or mls/low, with the parts of the request in place of its own
+abbrev pub file_label : Module → Request → LabelValue
+file_label Biba request = Range (replaced (record { effective = Some High; range = None }) request.biba)
+file_label Mls request = Range (replaced (record { effective = Some Low; range = None }) request.mls)
+file_label Partition request = Unset
+file_label Bsdextended request = Unset
+file_label Priority request = Unset
 
 abbrev pub is_biba : Module → Bool
 is_biba Biba = true
@@ -49,22 +60,28 @@ abbrev pub has_no_range : Option RangeLabel → Bool
 has_no_range None = true
 has_no_range (Some label) = is_none label.range
 
--- a script may ask this of a task's process
+abbrev pub is_valid_value : LabelValue → Bool
+is_valid_value Unset = true
+is_valid_value (Range label) = is_valid label
+is_valid_value (Number n) = true
+
+-- a script that boots these modules may ask this of a task's process
 abbrev pub may_ask_of_task : List Module → Request → Bool
-may_ask_of_task boots request = is_claimed boots request && is_valid (task_label request)
+may_ask_of_task boots request = is_claimed boots request && list_all (λ booted. is_valid_value (task_label booted request)) boots
 
--- a script may ask this of a file
+-- a script that boots these modules may ask this of a file
 abbrev pub may_ask_of_file : List Module → Request → Bool
-may_ask_of_file boots request = is_claimed boots request && has_no_range request.biba && has_no_range request.mls && is_valid (file_label request)
+may_ask_of_file boots request =
+    is_claimed boots request && has_no_range request.biba && has_no_range request.mls && list_all (λ booted. is_valid_value (file_label booted request)) boots
 
--- what the tasks of a script ask
+-- what the task lines of a script ask
 pub record IsTaskRequest (boots : List Module) (request : Request) : Type 0 where
   pub claimed : is_claimed boots request ≡ true
-  pub valid : is_valid (task_label request) ≡ true
+  pub valid : All (λ booted. is_valid_value (task_label booted request) ≡ true) boots
 
 -- what the file lines of a script ask
 pub record IsFileRequest (boots : List Module) (request : Request) : Type 0 where
   pub claimed : is_claimed boots request ≡ true
   pub no_biba_range : has_no_range request.biba ≡ true
   pub no_mls_range : has_no_range request.mls ≡ true
-  pub valid : is_valid (file_label request) ≡ true
+  pub valid : All (λ booted. is_valid_value (file_label booted request) ≡ true) boots

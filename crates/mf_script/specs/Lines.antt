@@ -11,7 +11,14 @@ use Rattle.mf_script.specs.declared.script.FileLine.{FileLine}
 use Rattle.mf_script.specs.Readers.{◌>>=◌}
 use Rattle.mf_script.specs.Limits.{content_limit, text_limit}
 use Rattle.mf_script.specs.Words.{Words}
-use Rattle.mf_script.specs.Parts.{word_by, fixed, no_more, number_of, mode_of, name_of, path_of, task_request, file_request, text_of}
+use Rattle.mf_script.specs.Parts.{word_by, fixed, no_more, bootable_of, number_of, mode_of, name_of, path_of, task_request, file_request, text_of}
+
+-- behind the word `boot`: MODULE
+unfoldable pub boot_line : Words → Result Module ScriptError
+boot_line ws = do
+  booted ← word_by bootable_of ws
+  u ← no_more booted.1
+  Ok booted.0
 
 -- [ "text" TEXT ]
 unfoldable pub file_text : Words → Result (List ℕ × Words) ScriptError

@@ -4,6 +4,8 @@ use Rattle.std.specs.List.{list_all}
 use Rattle.std.specs.Str.{bytes_eq}
 use Rattle.std.specs.Char.{is_ascii_alphanumeric}
 use Rattle.mf_errno.specs.declared.module.Module.{Module}
+use Rattle.mf_errno.specs.declared.module.Module.TheVariants.{Biba, Mls}
+use Rattle.mf_errno.specs.Module.{module_text}
 use Rattle.mf_elem.specs.declared.label.Request.{Request}
 use Rattle.mf_script.specs.declared.error.ScriptError.{ScriptError}
 use Rattle.mf_script.specs.declared.error.ScriptError.TheVariants.{NotYet}
@@ -85,7 +87,11 @@ unfoldable pub path_of : List ℕ → Result (List (List ℕ)) ScriptError
 path_of [] = Err NotYet
 path_of (b ∷ w) = only_if (b == slash && is_component w) >>= λ u. Ok (w ∷ [])
 
--- Labels and texts
+-- Modules, labels and texts
+
+-- a module that a script may boot
+unfoldable pub bootable_of : List ℕ → Result Module ScriptError
+bootable_of w = if bytes_eq w (module_text Biba) then Ok Biba else if bytes_eq w (module_text Mls) then Ok Mls else Err NotYet
 
 -- the request that names no policy
 abbrev pub no_request : Request

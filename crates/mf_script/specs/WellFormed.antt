@@ -1,7 +1,7 @@
 -- Which scripts are well formed, and what a script says of its files and tasks.
-use Rattle.std.specs.Prelude.{◌≡◌, ◌≢◌, ℕ, ◌<◌, ◌≤◌, List, [], ◌∷◌, length, unwrap_or, option_map, slice_get, true, false, All, AllPairs}
+use Rattle.std.specs.Prelude.{◌≡◌, ◌≢◌, ◌⊎◌, ℕ, ◌<◌, ◌≤◌, List, [], ◌∷◌, length, unwrap_or, option_map, slice_get, true, false, All, AllPairs}
 use Rattle.mf_errno.specs.declared.module.Module.{Module}
-use Rattle.mf_errno.specs.declared.module.Module.TheVariants.{Biba}
+use Rattle.mf_errno.specs.declared.module.Module.TheVariants.{Biba, Mls}
 use Rattle.mf_cred.specs.declared.cred.Cred.{Cred}
 use Rattle.mf_script.specs.declared.script.Call.{Call}
 use Rattle.mf_script.specs.declared.script.Call.TheVariants.{Read, Write}
@@ -20,6 +20,12 @@ lines_of s t = unwrap_or (option_map (λ task. task.lines) (slice_get s.tasks t)
 -- the name of a task, where there is one of that number
 abbrev pub name_of : Script → ℕ → List ℕ
 name_of s t = unwrap_or (option_map (λ task. task.name) (slice_get s.tasks t)) []
+
+-- none, one or both of mac_biba and mac_mls, in any order
+pub record AreBoots (boots : List Module) : Type 0 where
+  pub few : length boots ≤ 2
+  pub each : All (λ m. (m ≡ Biba) ⊎ (m ≡ Mls)) boots
+  pub differ : AllPairs (λ m n. m ≢ n) boots
 
 -- a path in the root directory: one component, which is a word of a path
 abbrev pub IsPathInRoot : List (List ℕ) → Type 0
@@ -54,7 +60,7 @@ pub record IsFormedTask (boots : List Module) (task : Task) : Type 0 where
 -- The script boots what the grammar lets it boot and is within the limits; paths of files differ, and so do names of tasks, which are
 -- words; each file and each task is one that a line may say.
 pub record IsWellFormed (s : Script) : Type 0 where
-  pub boots : s.boots ≡ Biba ∷ []
+  pub boots : AreBoots s.boots
   pub files : length s.files ≤ file_limit
   pub paths : AllPairs (λ f g. f.path ≢ g.path) s.files
   pub each_file : All (IsFormedFile s.boots) s.files

@@ -1,26 +1,47 @@
 //! The labels that files and processes have at boot.
 ghost use Rattle.std.specs.Prelude.{◌≡◌};
-ghost use Rattle.std.specs.List.{list_any};
+ghost use Rattle.std.specs.List.{list_all, list_any};
+ghost use Rattle.mf_script.specs.Grammar.{may_boot};
 ghost use Rattle.mf_script.specs.Labels as spec;
 
-use mf_elem::{Elem, RangeLabel, Request, is_valid};
+use mf_elem::{Elem, LabelValue, RangeLabel, Request, is_valid};
 use mf_errno::Module;
 
-/// The Biba label of a task's process at boot: `biba/high(low-high)`, with the parts of the request in place of the
-/// default's.
-pub fn task_label(request: &Request) -> RangeLabel
-    ensures { result ≡ spec.task_label request.now }
+/// What a module keeps of a task's process at boot, with the parts of the request in place of its own: `biba/high(low-high)`,
+/// `mls/low(low-high)`, partition 0, and nothing of a module without a label.
+pub fn task_label(booted: Module, request: &Request) -> LabelValue
+    ensures { result ≡ spec.task_label booted request.now }
 {
-    let default = RangeLabel::ranged(Elem::High, Elem::Low, Elem::High);
-    replaced(default, &request.biba)
+    match booted {
+        Module::Biba => {
+            let own = RangeLabel::ranged(Elem::High, Elem::Low, Elem::High);
+            LabelValue::Range(replaced(own, &request.biba))
+        }
+        Module::Mls => {
+            let own = RangeLabel::ranged(Elem::Low, Elem::Low, Elem::High);
+            LabelValue::Range(replaced(own, &request.mls))
+        }
+        Module::Partition => LabelValue::Number(request.partition.unwrap_or(0)),
+        Module::Bsdextended | Module::Priority => LabelValue::Unset,
+    }
 }
 
-/// The Biba label of a file at boot: `biba/high`, with the parts of the request in place of the default's.
-pub fn file_label(request: &Request) -> RangeLabel
-    ensures { result ≡ spec.file_label request.now }
+/// What a module keeps of a file at boot, with the parts of the request in place of its own: `biba/high`, `mls/low`, and nothing
+/// of a module that doesn't label files.
+pub fn file_label(booted: Module, request: &Request) -> LabelValue
+    ensures { result ≡ spec.file_label booted request.now }
 {
-    let default = RangeLabel::effective(Elem::High);
-    replaced(default, &request.biba)
+    match booted {
+        Module::Biba => {
+            let own = RangeLabel::effective(Elem::High);
+            LabelValue::Range(replaced(own, &request.biba))
+        }
+        Module::Mls => {
+            let own = RangeLabel::effective(Elem::Low);
+            LabelValue::Range(replaced(own, &request.mls))
+        }
+        Module::Partition | Module::Bsdextended | Module::Priority => LabelValue::Unset,
+    }
 }
 
 /// The label with the parts that are given in place of its own.
@@ -79,11 +100,36 @@ fn has_no_range(part: &Option<RangeLabel>) -> bool
     }
 }
 
+fn is_valid_value(value: &LabelValue) -> bool
+    ensures { result ≡ spec.is_valid_value value.now }
+{
+    match value {
+        LabelValue::Range(label) => is_valid(label),
+        LabelValue::Unset | LabelValue::Number(_) => true,
+    }
+}
+
+fn are_valid_for_task(boots: &[Module], request: &Request) -> bool
+    ensures { result ≡ list_all (λ booted. spec.is_valid_value (spec.task_label booted request.now)) boots.now }
+{
+    boots
+        .iter()
+        .all(|booted| is_valid_value(&task_label(*booted, request)))
+}
+
+fn are_valid_for_file(boots: &[Module], request: &Request) -> bool
+    ensures { result ≡ list_all (λ booted. spec.is_valid_value (spec.file_label booted request.now)) boots.now }
+{
+    boots
+        .iter()
+        .all(|booted| is_valid_value(&file_label(*booted, request)))
+}
+
 /// Whether a script that boots these modules may ask this of a task's process.
 pub fn may_ask_of_task(boots: &[Module], request: &Request) -> bool
     ensures { result ≡ spec.may_ask_of_task boots.now request.now }
 {
-    is_claimed(boots, request) && is_valid(&task_label(request))
+    is_claimed(boots, request) && are_valid_for_task(boots, request)
 }
 
 /// Whether a script that boots these modules may ask this of a file.
@@ -93,5 +139,16 @@ pub fn may_ask_of_file(boots: &[Module], request: &Request) -> bool
     is_claimed(boots, request)
         && has_no_range(&request.biba)
         && has_no_range(&request.mls)
-        && is_valid(&file_label(request))
+        && are_valid_for_file(boots, request)
+}
+
+/// Whether the module may be booted behind these: `mac_biba` and `mac_mls` may, each once.
+pub fn may_boot(boots: &[Module], booted: Module) -> bool
+    ensures { result ≡ may_boot boots.now booted }
+{
+    match booted {
+        Module::Biba => !boots_biba(boots),
+        Module::Mls => !boots_mls(boots),
+        Module::Partition | Module::Bsdextended | Module::Priority => false,
+    }
 }

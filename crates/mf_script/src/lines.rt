@@ -3,7 +3,7 @@
 
 ghost use Rattle.std.specs.Prelude.{◌≡◌, ◌≤◌, [], ◌∷◌, length, Ok};
 ghost use Rattle.mf_script.specs.Readers.{Gives};
-ghost use Rattle.mf_script.specs.Lines.{file_line, file_text, task_line, call_line, read_call, write_call};
+ghost use Rattle.mf_script.specs.Lines.{boot_line, file_line, file_text, task_line, call_line, read_call, write_call};
 
 use crate::content::Content;
 use crate::error::ScriptError;
@@ -17,6 +17,16 @@ use std::alloc::Global;
 
 /// The most bytes that a call may write.
 const TEXT_LIMIT: usize = 1_048_576;
+
+/// What stands behind the word `boot`.
+#[tactic(auto, unfolding(crate::specs::Lines::boot_line, crate::specs::Readers::and_then))]
+pub fn boot_line(words: &mut Words) -> Result<Module, ScriptError>
+    ensures { Gives (λ m. m) result (boot_line words.old) }
+{
+    let booted = parts::bootable(words)?;
+    parts::no_more(words)?;
+    Ok(booted)
+}
 
 /// What stands behind the word `file`.
 #[tactic(auto, unfolding(crate::specs::Lines::file_line, crate::specs::Readers::and_then))]

@@ -4,7 +4,7 @@
 ghost use Rattle.std.specs.Prelude.{◌≡◌, ◌≢◌, ◌≤◌, ◌∷◌, MatchOption, IfOk, List, ℕ, vec_len};
 ghost use Rattle.std.specs.List.{list_all};
 ghost use Rattle.mf_script.specs.Readers.{Gives};
-ghost use Rattle.mf_script.specs.Parts.{fixed, word_by, number_of, mode_of, name_of, path_of, request_of, task_request, file_request, text_of, is_name, no_more, is_name_byte, is_component_byte, is_component};
+ghost use Rattle.mf_script.specs.Parts.{fixed, word_by, bootable_of, number_of, mode_of, name_of, path_of, request_of, task_request, file_request, text_of, is_name, no_more, is_name_byte, is_component_byte, is_component};
 
 use crate::error::ScriptError;
 use crate::labels::{may_ask_of_file, may_ask_of_task};
@@ -77,6 +77,28 @@ pub fn mode(words: &mut Words) -> Result<u16, ScriptError>
     let word = words.next().ok_or(ScriptError::NotYet)?;
     let value = mode_of(word)?;
     Ok(value)
+}
+
+#[tactic(auto, unfolding(crate::specs::Parts::bootable_of))]
+fn bootable_of(word: &str) -> Result<Module, ScriptError>
+    ensures { Gives (λ m. m) result (bootable_of word.now) }
+{
+    if word == Module::Biba.name() {
+        Ok(Module::Biba)
+    } else if word == Module::Mls.name() {
+        Ok(Module::Mls)
+    } else {
+        Err(ScriptError::NotYet)
+    }
+}
+
+/// A module that a script may boot.
+pub fn bootable(words: &mut Words) -> Result<Module, ScriptError>
+    ensures { Gives (λ m. (m, words.new)) result (word_by bootable_of words.old) }
+{
+    let word = words.next().ok_or(ScriptError::NotYet)?;
+    let booted = bootable_of(word)?;
+    Ok(booted)
 }
 
 #[tactic(auto, unfolding(crate::specs::Parts::request_of))]

@@ -6,10 +6,11 @@ ghost use Rattle.std.specs.List.{list_all, list_any};
 ghost use Rattle.std.specs.Str.{IsAscii};
 ghost use Rattle.mf_script.specs.Readers.{Gives};
 ghost use Rattle.mf_script.specs.Words.{is_plain};
-ghost use Rattle.mf_script.specs.Grammar.{script_of, script_in, boot_in, items_in, file_at, line_at, task_in, end_in, no_more_rows, may_stand, has_path, is_same_path};
+ghost use Rattle.mf_script.specs.Grammar.{script_of, script_in, items_in, boot_at, file_at, line_at, task_in, end_in, no_more_rows, may_stand, has_path, is_same_path};
 ghost use Rattle.mf_script.specs.WellFormed.{IsWellFormed};
 
 use crate::error::ScriptError;
+use crate::labels::may_boot;
 use crate::listing::{Listing, Name};
 use crate::script::{FileLine, Line, Script, Task};
 use crate::words::{Rows, Words};
@@ -49,14 +50,39 @@ fn are_plain(bytes: &[u8]) -> bool
     bytes.iter().all(|byte| is_plain(*byte))
 }
 
-fn boot(rows: &mut Rows) -> Result<(), ScriptError>
-    ensures { Gives (λ u. rows.new) result (boot_in rows.old) }
+/// The module of a row behind these, where the row is a boot line.
+#[tactic(auto, unfolding(crate::specs::Grammar::boot_at, crate::specs::Readers::and_then))]
+fn boot_at(boots: &[Module], row: &Words) -> Result<Option<Module>, ScriptError>
+    ensures { Gives (λ m. m) result (boot_at boots.now row.now) }
 {
-    let mut words = rows.next().ok_or(ScriptError::NotYet)?;
-    parts::fixed(&mut words, "boot")?;
-    parts::fixed(&mut words, "mac_biba")?;
-    parts::no_more(&mut words)?;
-    Ok(())
+    match row.behind("boot") {
+        None => Ok(None),
+        Some(mut words) => {
+            let booted = lines::boot_line(&mut words)?;
+            if may_boot(boots, booted) {
+                Ok(Some(booted))
+            } else {
+                Err(ScriptError::NotYet)
+            }
+        }
+    }
+}
+
+/// The boot lines that come next.
+fn boots(alloc: Global, rows: &mut Rows) -> Result<Listing<Module>, ScriptError>
+    ensures { Gives (λ boots. (boots, rows.new)) result (items_in boot_at [] rows.old) }
+{
+    let mut boots = Listing::new(alloc);
+    let mut ahead = rows.ahead();
+    while let Some(row) = ahead.next() {
+        match boot_at(boots.as_slice(), &row) {
+            Err(error) => return Err(error),
+            Ok(None) => return Ok(boots),
+            Ok(Some(booted)) => boots.push(booted)?,
+        }
+        *rows = ahead.ahead();
+    }
+    Ok(boots)
 }
 
 fn is_same_path(path: &[Name], other: &[Name]) -> bool
@@ -198,8 +224,7 @@ fn no_more_rows(rows: &mut Rows) -> Result<(), ScriptError>
 fn script(alloc: Global, rows: &mut Rows) -> Result<Script, ScriptError>
     ensures { Gives (λ s. s) result (script_in rows.old) }
 {
-    boot(rows)?;
-    let boots = Listing::one(alloc, Module::Biba)?;
+    let boots = boots(alloc, rows)?;
     let files = files(alloc, boots.as_slice(), rows)?;
     let task = task(alloc, boots.as_slice(), rows)?;
     no_more_rows(rows)?;

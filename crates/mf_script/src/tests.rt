@@ -1,8 +1,6 @@
 //! Small scripts, good and bad.
 use crate::{Call, ScriptError, read_script};
 
-const ONE_TASK: &str = "boot mac_biba\ntask t uid 0 gid 0 label -\nend\n";
-
 #[test]
 fn reads_what_the_lines_say(rt: HostRuntime) -> Result<(), ScriptError> {
     let text =
@@ -28,7 +26,9 @@ fn reads_what_the_lines_say(rt: HostRuntime) -> Result<(), ScriptError> {
 #[test]
 fn takes_good_scripts(rt: HostRuntime) {
     let scripts = [
-        ONE_TASK,
+        "boot mac_biba\ntask t uid 0 gid 0 label -\nend\n",
+        "task t uid 0 gid 0 label -\nend",
+        "boot mac_mls\nboot mac_biba\nfile /m reg uid 0 gid 0 mode 0 label mls/5 text x\ntask t uid 0 gid 0 label biba/9(1-9),mls/3\nend",
         "\t boot \t mac_biba \ntask a-b_C9 uid 4294967295 gid 0 label biba/high\nend",
         "boot mac_biba\nfile /a reg uid 0 gid 0 mode 0 label biba/5(1-9),biba/5:3+1\ntask t uid 0 gid 0 label biba/10:2+3(5:2-20:2+3+4)\nend",
         "boot mac_biba\nfile /a reg uid 0 gid 0 mode 0 label biba/equal\ntask t uid 0 gid 0 label biba/(5-high)\nend",
@@ -46,7 +46,14 @@ fn takes_good_scripts(rt: HostRuntime) {
 fn refuses_bad_scripts(rt: HostRuntime) {
     let scripts = [
         "",
-        "task t uid 0 gid 0 label -\nend",
+        "boot mac_biba\nboot mac_mls\nboot mac_biba\ntask t uid 0 gid 0 label -\nend",
+        "boot mac_partition\ntask t uid 0 gid 0 label -\nend",
+        "boot mac_biba mac_mls\ntask t uid 0 gid 0 label -\nend",
+        "file /a reg uid 0 gid 0 mode 0 label -\nboot mac_biba\ntask t uid 0 gid 0 label -\nend",
+        "task t uid 0 gid 0 label biba/5\nend",
+        "boot mac_mls\ntask t uid 0 gid 0 label biba/5\nend",
+        "boot mac_mls\ntask t uid 0 gid 0 label mls/(5-10)\nend",
+        "boot mac_mls\nfile /a reg uid 0 gid 0 mode 0 label mls/5(1-9)\ntask t uid 0 gid 0 label -\nend",
         "boot mac_biba\nboot mac_biba\ntask t uid 0 gid 0 label -\nend",
         "boot mac_biba\r\ntask t uid 0 gid 0 label -\nend",
         "boot mac_biba\n# \u{e9}\ntask t uid 0 gid 0 label -\nend",
