@@ -7,7 +7,6 @@ use Rattle.mf_script.specs.declared.script.Line.{Line}
 use Rattle.mf_script.specs.declared.script.Task.{Task}
 use Rattle.mf_script.specs.declared.script.Script.{Script}
 use Rattle.mf_script.specs.WellFormed.{lines_of, name_of, IsWellFormed}
-use Rattle.mf_core.specs.declared.state.Entity.{Entity}
 use Rattle.mf_core.specs.declared.state.State.{State}
 use Rattle.mf_core.specs.declared.plan.Plan.{Plan}
 use Rattle.mf_core.specs.declared.answers.Verdict.{Verdict}
@@ -26,10 +25,10 @@ use Rattle.mf_core.specs.Plan.{plan_of}
 use Rattle.mf_core.specs.Answer.{verdict_of}
 use Rattle.mf_core.specs.Reply.{payload_of, reply_to, step_reply}
 use Rattle.mf_core.specs.Effect.{after_reply}
-use Rattle.mf_core.specs.Opening.{boots_of, opening_entities}
+use Rattle.mf_core.specs.Opening.{boots_of, opening_state}
 use Rattle.mf_core.specs.Progress.{progress_at, first_progress, with_phase, left_at, with_left, Moves}
 use Rattle.mf_core.specs.LegalHistory.{RunState, MayCome, AllMayCome, after, run_state_of, opening, appended, turn_in, turn_of, next_line, next_reply, next_state}
-use Rattle.mf_core.specs.Run.{Run, turn_at, progress_of, run_state, IsConsistent, HasLine, events_left, events_by, lines_in}
+use Rattle.mf_core.specs.Run.{Run, turn_at, policies_of, progress_of, run_state, IsConsistent, HasLine, events_left, events_by, lines_in}
 use Rattle.mf_core.specs.Laws.{AllMayCome-append, run_state_after-append, progress_at-first, line_at_entry}
 
 -- one event less is left where one more came at a task
@@ -113,6 +112,13 @@ pub left_here : (k : Run) (s : Script) (h : History) (state : State) (progress :
     → (turn_of s progress t ≡ turns.Done) ⊎ (turn_of s progress t ≡ turns.Entered)
 left_here k s h state progress t is consistent (inl turn) = inl (turn_here k s h state progress t turns.Done is consistent turn)
 left_here k s h state progress t is consistent (inr turn) = inr (turn_here k s h state progress t turns.Entered is consistent turn)
+
+-- the policies that the history determines are the state's
+pub policies_here : (k : Run) (s : Script) (h : History) (state : State) (progress : List Progress)
+    → record { script = s; history = h } ≡ k → IsConsistent s h state progress → policies_of k ≡ state.policies
+policies_here k s h state progress is consistent =
+    let P : Run → Type 0 = λ k. policies_of k ≡ state.policies in
+    subst P is (ap (λ (m : RunState). m.state.policies) consistent.here)
 
 pub below_here : (k : Run) (s : Script) (h : History) (t : ℕ) → record { script = s; history = h } ≡ k → t < length k.script.tasks → t < length s.tasks
 below_here k s h t is lt = let P : Run → Type 0 = λ k. t < length k.script.tasks in subst P (sym is) lt
@@ -218,7 +224,7 @@ module _ (s : Script) (h : History) (state : State) (progress : List Progress) (
   pub consistent_commit : (line : Line) (plan : Plan) (v : Verdict) (payload : Payload) (reply : Reply) (state' : State) (n : ℕ) → turn_of s progress t ≡ turns.Entered
       → n ≡ (progress_at progress t).lines + 1
       → next_line s progress t ≡ Some line
-      → plan_of state (name_of s t) line.call ≡ plan → v ≡ verdict_of plan → payload ≡ payload_of state line.call
+      → plan_of state (name_of s t) line.call ≡ plan → v ≡ verdict_of state.policies plan → payload ≡ payload_of state line.call
       → reply ≡ reply_to plan v payload → state' ≡ after_reply reply state line.call
       → IsConsistent s (appended h (events.Done t n reply)) state' (with_phase progress t phases.Done)
   consistent_commit line plan v payload reply state' n turn number next plan_is verdict payload_is reply_is state_is =
@@ -238,19 +244,19 @@ events_first : (ts : List Task) → events_left ts (map (λ (x : Task). first_pr
 events_first [] = refl
 events_first (x ∷ ts) = omega (arith, events_first ts, sum_by-cons lines_in x ts)
 
-pub consistent_first : (s : Script) (h : History) (entities : List Entity) (progress : List Progress) (n : ℕ) → IsWellFormed s
+pub consistent_first : (s : Script) (h : History) (state : State) (progress : List Progress) (n : ℕ) → IsWellFormed s
     → h.boots ≡ boots_of s → h.events ≡ record { list = []; room = 3 * n } → n ≡ sum_by lines_in s.tasks
-    → entities ≡ opening_entities s → progress ≡ map (λ (x : Task). first_progress) s.tasks
-    → IsConsistent s h (record { entities = entities }) progress
-consistent_first s h entities progress n formed boots events count entities_are progress_is =
+    → state ≡ opening_state s → progress ≡ map (λ (x : Task). first_progress) s.tasks
+    → IsConsistent s h state progress
+consistent_first s h state progress n formed boots events count state_is progress_is =
     let list : h.events.list ≡ [] = ap (λ (l : Log). l.list) events in
     let room : h.events.room ≡ 3 * n = ap (λ (l : Log). l.room) events in
     let A : List Event → Type 0 = λ es. AllMayCome s (opening s) es in
     let H : Progress → ℕ → Type 0 = λ progress t. HasLine progress.phase progress.lines (length (lines_of s t)) in
     record {
       legal = record { formed = formed; boots = boots; events = subst A (sym list) tt };
-      here = ap (λ es. run_state_of s es) list ∙ (ap (λ (es : List Entity). record { state = record { entities = es }; progress = map (λ (x : Task). first_progress) s.tasks }) (sym entities_are)
-          ∙ ap (λ (xs : List Progress). record { state = record { entities = entities }; progress = xs }) (sym progress_is));
+      here = ap (λ es. run_state_of s es) list ∙ (ap (λ (x : State). record { state = x; progress = map (λ (x : Task). first_progress) s.tasks }) (sym state_is)
+          ∙ ap (λ (xs : List Progress). record { state = state; progress = xs }) (sym progress_is));
       places = ap length progress_is ∙ places_first s.tasks;
       lines = λ t lt. subst (λ (x : Progress). H x t) (sym (ap (λ xs. progress_at xs t) progress_is ∙ progress_at-first s.tasks t)) (omega arith);
       room = omega (arith, ap length list, room, count, events_first s.tasks, ap (events_left s.tasks) progress_is);

@@ -18,7 +18,7 @@ with_text es text id (Some e) = slice_set es id (record e { content = e.content 
 
 abbrev pub appended_at : State → List ℕ → Option ℕ → State
 appended_at s text None = s
-appended_at s text (Some id) = record { entities = with_text s.entities text id (slice_get s.entities id) }
+appended_at s text (Some id) = record s { entities = with_text s.entities text id (slice_get s.entities id) }
 
 -- the state after the call, where it is done
 abbrev pub effect_of : State → Call → State

@@ -15,7 +15,7 @@ use Rattle.mf_core.specs.declared.history.Event.TheVariants as event
 use Rattle.mf_core.specs.declared.history.History.{History}
 use Rattle.mf_core.specs.Reply.{step_reply}
 use Rattle.mf_core.specs.Effect.{step_state}
-use Rattle.mf_core.specs.Opening.{opening_entities, boots_of}
+use Rattle.mf_core.specs.Opening.{opening_state, boots_of}
 use Rattle.mf_core.specs.Progress.{first_progress, progress_at, with_phase, with_line, with_left, NoneOpen}
 
 -- the state of the framework, and how far each task is
@@ -24,7 +24,7 @@ pub record RunState : Type 0 where
   pub progress : List Progress
 
 abbrev pub opening : Script → RunState
-opening s = record { state = record { entities = opening_entities s }; progress = map (λ t. first_progress) s.tasks }
+opening s = record { state = opening_state s; progress = map (λ t. first_progress) s.tasks }
 
 -- Turns
 

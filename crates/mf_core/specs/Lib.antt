@@ -1,6 +1,8 @@
 pub mod Log
 pub mod State
 pub mod Plan
+pub mod Policies
+pub mod Ask
 pub mod Answer
 pub mod Reply
 pub mod Effect

@@ -49,4 +49,4 @@ payload_of s (Write path text) = payload.None
 
 -- the reply to a call of the process of that name
 abbrev pub step_reply : State → List ℕ → Call → Reply
-step_reply s caller call = reply_to (plan_of s caller call) (verdict_of (plan_of s caller call)) (payload_of s call)
+step_reply s caller call = reply_to (plan_of s caller call) (verdict_of s.policies (plan_of s caller call)) (payload_of s call)

@@ -4,6 +4,7 @@ use Rattle.mf_script.specs.declared.script.Line.{Line}
 use Rattle.mf_script.specs.declared.script.Task.{Task}
 use Rattle.mf_script.specs.declared.script.Script.{Script}
 use Rattle.mf_script.specs.WellFormed.{lines_of, name_of}
+use Rattle.mf_policy.specs.Registration.{Entry}
 use Rattle.mf_core.specs.declared.state.State.{State}
 use Rattle.mf_core.specs.declared.plan.Plan.{Plan}
 use Rattle.mf_core.specs.declared.reply.Reply.{Reply}
@@ -27,6 +28,10 @@ pub record Run : Type 0 where
 -- the state that its history determines
 abbrev pub run_state : Run → RunState
 run_state run = run_state_of run.script run.history.events.list
+
+-- the listed policies, in walk order
+abbrev pub policies_of : Run → List Entry
+policies_of run = (run_state run).state.policies
 
 -- how far each task is
 abbrev pub progress_of : Run → List Progress

@@ -10,7 +10,7 @@ ghost use Rattle.mf_core.specs.Opening.{boots_of};
 ghost use Rattle.mf_core.specs.Progress.{progress_at, first_progress, left, Moves};
 ghost use Rattle.mf_core.specs.LegalHistory as spec;
 ghost use Rattle.mf_core.specs.LegalHistory.{appended, IsLegal};
-ghost use Rattle.mf_core.specs.Run.{progress_of, turn_at, next_plan, Commits, MovesOn};
+ghost use Rattle.mf_core.specs.Run.{policies_of, progress_of, turn_at, next_plan, Commits, MovesOn};
 
 use crate::answers::Verdict;
 use crate::history::{Event, EventList, History};
@@ -53,12 +53,12 @@ impl<'s> Core<'s> {
         let boots = opening::boots(alloc, &script.boots)?;
         let room = 3 * opening::line_count(script);
         let events = EventList::with_room(alloc, room)?;
-        let entities = opening::opening_entities(alloc, script)?;
+        let state = opening::opening_state(alloc, script, boots.as_slice())?;
         let progress = ProgressList::for_tasks(alloc, &script.tasks)?;
         Ok(Core {
             script,
             history: History { boots, events },
-            state: State { entities },
+            state,
             progress,
         })
     }
@@ -111,18 +111,18 @@ impl<'s> Core<'s> {
         planning::plan_of(&self.state, caller, &line.call)
     }
 
-    /// What the policies say to a plan: the denial of the first check that is denied.
-    pub fn walk(plan: &Plan) -> Verdict
-        ensures { result ≡ verdict_of plan.now }
+    /// What the listed policies say to a plan: the denial of the first check that is denied.
+    pub fn walk(&self, plan: &Plan) -> Verdict
+        ensures { result ≡ verdict_of (policies_of self.now) plan.now }
     {
-        answers::verdict_of(plan)
+        answers::verdict_of(&self.state.policies, plan)
     }
 
     /// Does the call of the task's entry, where `plan` is still its plan. After want of memory nothing has changed.
     pub fn done(&mut self, task: u32, plan: &Plan, verdict: &Verdict) -> Result<Commit, AllocError>
         requires task { task < length self.old.script.tasks }
         requires turn { turn_at self.old task ≡ turn.Entered }
-        requires verdict { verdict.now ≡ verdict_of plan.now }
+        requires verdict { verdict.now ≡ verdict_of (policies_of self.old) plan.now }
         ensures commit { IfOk result (λ commit. Commits self.old task plan.now commit self.new) }
         ensures progress { IfOk result (λ commit. MovesOn commit (progress_of self.old) task (progress_of self.new)) }
         ensures err { OnErr result (self.new ≡ self.old) }

@@ -1,42 +1,112 @@
 //! The opening state of a script, and its registrations at boot.
 ghost use Rattle.std.specs.Prelude.{◌≡◌, ◌≤◌, ◌+◌, ◌++◌, map, length, IfOk, OnOk};
-ghost use Rattle.std.specs.List.{sum_by};
+ghost use Rattle.std.specs.List.{find, sum_by};
+ghost use Rattle.std.specs.Option.{option_copied};
 ghost use Rattle.mf_script.specs.WellFormed.{IsWellFormed};
 ghost use Rattle.mf_core.specs.Opening as spec;
 ghost use Rattle.mf_core.specs.Run.{lines_in};
 
 use crate::history::BootList;
-use crate::registration::Registration;
-use crate::state::{Entities, Entity};
+use crate::policies::Policies;
+use crate::state::{Entities, Entity, State};
 use mf_cred::{ArrayVec, Cred, Duplicate, FileView};
-use mf_elem::{Elem, LabelValue, RangeLabel};
+use mf_elem::{LabelValue, Request};
 use mf_errno::Module;
 use mf_item::Kind;
+use mf_policy::Registration;
 use mf_script::{Content, FileLine, Listing, Name, Path, Script, Task, file_label, task_label};
 use std::alloc::{AllocError, Global};
 
+/// The registrations at boot. Slots are numbered in the order of the modules.
+pub fn boots(alloc: Global, modules: &Listing<Module>) -> Result<BootList, AllocError>
+    requires { length modules.now ≤ 4 }
+    ensures { IfOk result (λ boots. boots ≡ spec.registrations_from 0 modules.now) }
+{
+    let mut boots = Listing::new(alloc);
+    for (place, module) in modules.as_slice().iter().enumerate() {
+        boots.push(Registration {
+            module: *module,
+            slot: Some(place as u8),
+            fixed: true,
+        })?;
+    }
+    Ok(boots)
+}
+
+/// The opening state, where these are the registrations at boot.
+pub fn opening_state(
+    alloc: Global,
+    script: &Script,
+    boots: &[Registration],
+) -> Result<State, AllocError>
+    requires script { IsWellFormed script.now }
+    requires boots { boots.now ≡ spec.boots_of script.now }
+    ensures { IfOk result (λ state. state ≡ spec.opening_state script.now) }
+{
+    let policies = Policies::booted(alloc, boots)?;
+    let entities = opening_entities(alloc, script, boots)?;
+    Ok(State { entities, policies })
+}
+
 /// The root, the files and the processes of the tasks, in this order.
-pub fn opening_entities(alloc: Global, script: &Script) -> Result<Entities, AllocError>
+fn opening_entities(
+    alloc: Global,
+    script: &Script,
+    boots: &[Registration],
+) -> Result<Entities, AllocError>
     requires { IsWellFormed script.now }
-    ensures { IfOk result (λ entities. entities ≡ spec.opening_entities script.now) }
+    ensures { IfOk result (λ entities. entities ≡ spec.opening_entities boots.now script.now) }
 {
     let mut entities = Entities::new(alloc);
-    entities.push(root_entity(alloc))?;
-    add_files(alloc, &mut entities, script.files.as_slice())?;
-    add_tasks(alloc, &mut entities, script.tasks.as_slice())?;
+    entities.push(root_entity(alloc, boots))?;
+    add_files(alloc, &mut entities, script.files.as_slice(), boots)?;
+    add_tasks(alloc, &mut entities, script.tasks.as_slice(), boots)?;
     Ok(entities)
 }
 
-/// The label with this value in mac_biba's slot, and nothing in the others.
-fn biba_label(label: RangeLabel) -> [LabelValue; 4]
-    ensures { result ≡ spec.biba_label label }
+/// The label at boot of an entity of that kind for which the script asks this: in each slot the value of the policy that
+/// holds it.
+fn boot_label(boots: &[Registration], kind: Kind, request: &Request) -> [LabelValue; 4]
+    ensures { result ≡ spec.boot_label boots.now kind request.now }
 {
     [
-        LabelValue::Range(label),
-        LabelValue::Unset,
-        LabelValue::Unset,
-        LabelValue::Unset,
+        value_in(boots, kind, request, 0),
+        value_in(boots, kind, request, 1),
+        value_in(boots, kind, request, 2),
+        value_in(boots, kind, request, 3),
     ]
+}
+
+fn value_in(boots: &[Registration], kind: Kind, request: &Request, slot: u8) -> LabelValue
+    ensures { result ≡ spec.value_in boots.now kind request.now slot }
+{
+    match holder(boots, slot) {
+        None => LabelValue::Unset,
+        Some(boot) => boot_value(kind, request, boot.module),
+    }
+}
+
+/// The registration that holds the slot.
+fn holder(boots: &[Registration], slot: u8) -> Option<&Registration>
+    ensures { option_copied result ≡ find (spec.holds_slot slot) boots.now }
+{
+    boots.iter().find(|boot| holds_slot(boot, slot))
+}
+
+fn holds_slot(boot: &Registration, slot: u8) -> bool
+    ensures { result ≡ spec.holds_slot slot boot.now }
+{
+    boot.slot == Some(slot)
+}
+
+/// What the module's policy gives an entity of that kind for which the script asks this.
+fn boot_value(kind: Kind, request: &Request, module: Module) -> LabelValue
+    ensures { result ≡ spec.boot_value kind request.now «module» }
+{
+    match kind {
+        Kind::Process => LabelValue::Range(task_label(module, request)),
+        _ => LabelValue::Range(file_label(module, request)),
+    }
 }
 
 /// The credential of what isn't a process, which nobody looks at.
@@ -51,8 +121,9 @@ fn no_cred() -> Cred
     }
 }
 
-fn root_entity(alloc: Global) -> Entity
-    ensures { result ≡ spec.root_entity }
+/// The root directory: the label is that of a file for which the script asks nothing.
+fn root_entity(alloc: Global, boots: &[Registration]) -> Entity
+    ensures { result ≡ spec.root_entity boots.now }
 {
     Entity {
         kind: Kind::Vnode,
@@ -64,27 +135,29 @@ fn root_entity(alloc: Global) -> Entity
             dir: true,
         },
         cred: no_cred(),
-        label: biba_label(RangeLabel {
-            effective: Some(Elem::High),
-            range: None,
-        }),
+        label: boot_label(boots, Kind::Vnode, &Request::none()),
         content: Content::new(alloc),
     }
 }
 
-fn add_files(alloc: Global, entities: &mut Entities, files: &[FileLine]) -> Result<(), AllocError>
+fn add_files(
+    alloc: Global,
+    entities: &mut Entities,
+    files: &[FileLine],
+    boots: &[Registration],
+) -> Result<(), AllocError>
     requires { length entities.old + length files.now ≤ 1024 }
-    ensures { OnOk result (entities.new ≡ entities.old ++ map spec.file_entity files.now) }
+    ensures { OnOk result (entities.new ≡ entities.old ++ map (spec.file_entity boots.now) files.now) }
 {
     for file in files {
-        let entity = file_entity(alloc, file)?;
+        let entity = file_entity(alloc, file, boots)?;
         entities.push(entity)?;
     }
     Ok(())
 }
 
-fn file_entity(alloc: Global, file: &FileLine) -> Result<Entity, AllocError>
-    ensures { IfOk result (λ entity. entity ≡ spec.file_entity file.now) }
+fn file_entity(alloc: Global, file: &FileLine, boots: &[Registration]) -> Result<Entity, AllocError>
+    ensures { IfOk result (λ entity. entity ≡ spec.file_entity boots.now file.now) }
 {
     let name = entry_name(alloc, &file.path)?;
     let content = Content::copy_of(alloc, file.text.as_slice())?;
@@ -93,7 +166,7 @@ fn file_entity(alloc: Global, file: &FileLine) -> Result<Entity, AllocError>
         name,
         file: file.file,
         cred: no_cred(),
-        label: biba_label(file_label(&file.label)),
+        label: boot_label(boots, Kind::Vnode, &file.label),
         content,
     })
 }
@@ -108,19 +181,24 @@ fn entry_name(alloc: Global, path: &Path) -> Result<Name, AllocError>
     }
 }
 
-fn add_tasks(alloc: Global, entities: &mut Entities, tasks: &[Task]) -> Result<(), AllocError>
+fn add_tasks(
+    alloc: Global,
+    entities: &mut Entities,
+    tasks: &[Task],
+    boots: &[Registration],
+) -> Result<(), AllocError>
     requires { length entities.old + length tasks.now ≤ 1024 }
-    ensures { OnOk result (entities.new ≡ entities.old ++ map spec.task_entity tasks.now) }
+    ensures { OnOk result (entities.new ≡ entities.old ++ map (spec.task_entity boots.now) tasks.now) }
 {
     for task in tasks {
-        let entity = task_entity(alloc, task)?;
+        let entity = task_entity(alloc, task, boots)?;
         entities.push(entity)?;
     }
     Ok(())
 }
 
-fn task_entity(alloc: Global, task: &Task) -> Result<Entity, AllocError>
-    ensures { IfOk result (λ entity. entity ≡ spec.task_entity task.now) }
+fn task_entity(alloc: Global, task: &Task, boots: &[Registration]) -> Result<Entity, AllocError>
+    ensures { IfOk result (λ entity. entity ≡ spec.task_entity boots.now task.now) }
 {
     let name = task.name.copy(alloc)?;
     Ok(Entity {
@@ -133,24 +211,9 @@ fn task_entity(alloc: Global, task: &Task) -> Result<Entity, AllocError>
             dir: false,
         },
         cred: task.cred.copy(),
-        label: biba_label(task_label(&task.label)),
+        label: boot_label(boots, Kind::Process, &task.label),
         content: Content::new(alloc),
     })
-}
-
-/// The registrations at boot.
-pub fn boots(alloc: Global, modules: &Listing<Module>) -> Result<BootList, AllocError>
-    ensures { IfOk result (λ boots. boots ≡ map spec.registration_of modules.now) }
-{
-    let mut boots = Listing::new(alloc);
-    for module in modules.as_slice() {
-        boots.push(Registration {
-            module: *module,
-            slot: Some(0),
-            fixed: true,
-        })?;
-    }
-    Ok(boots)
 }
 
 /// The number of lines of all tasks together.

@@ -4,6 +4,7 @@ ghost use Rattle.std.specs.Option.{option_copied};
 ghost use Rattle.mf_core.specs.State.{is_vnode_named, is_process_named, content_in};
 ghost use Rattle.mf_core.specs.Effect.{with_text};
 
+use crate::policies::Policies;
 use crate::reply::Reply;
 use mf_cred::{Cred, Duplicate, FileView};
 use mf_elem::LabelValue;
@@ -164,10 +165,11 @@ fn process_place(entities: &[Entity], name: &str) -> Option<usize>
     entities.iter().position(|e| e.is_process_named(name))
 }
 
-/// The state of the framework: its live entities.
+/// The state of the framework: its live entities, and the listed policies.
 #[derive(Drop)]
 pub struct State {
     pub entities: Entities,
+    pub policies: Policies,
 }
 
 impl State {
