@@ -7,6 +7,7 @@ use Rattle.mf_errno.specs.Module.{module_text}
 use Rattle.mf_errno.specs.declared.module.Module.{Module}
 use Rattle.mf_text.specs.Escape.{canonical}
 use Rattle.mf_item.specs.Operation.{operation_text}
+use Rattle.mf_policy.specs.declared.registration.Registration.{Registration}
 use Rattle.mf_script.specs.declared.script.Script.{Script}
 use Rattle.mf_script.specs.WellFormed.{name_of}
 use Rattle.mf_core.specs.declared.reply.Payload.{Payload}
@@ -16,7 +17,6 @@ use Rattle.mf_core.specs.declared.reply.Reply.TheVariants as reply
 use Rattle.mf_core.specs.declared.history.Event.{Event}
 use Rattle.mf_core.specs.declared.history.Event.TheVariants as event
 use Rattle.mf_core.specs.declared.history.History.{History}
-use Rattle.mf_core.specs.declared.registration.Registration.{Registration}
 
 -- Replies
 

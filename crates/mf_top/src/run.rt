@@ -66,7 +66,7 @@ fn run_line(core: &mut Core, task: u32) -> Result<(), AllocError>
 {
     core.enter(task);
     let plan = core.plan(task);
-    let verdict = Core::walk(&plan);
+    let verdict = core.walk(&plan);
     match core.done(task, &plan, &verdict) {
         Ok(Commit::Done) => {
             core.leave(task);

@@ -4,7 +4,8 @@ ghost use Rattle.std.specs.List.{flat_map};
 ghost use Rattle.mf_top.specs.HistoryText.{event_text, slot_text, boot_text, history_text};
 
 use crate::print::event::push_event;
-use mf_core::{Event, History, Registration};
+use mf_core::{Event, History};
+use mf_policy::Registration;
 use mf_script::Script;
 use std::alloc::{AllocError, Global};
 
