@@ -5,7 +5,7 @@ use Rattle.std.specs.Prelude.{All}
 use Rattle.mf_errno.specs.declared.module.Module.{Module}
 use Rattle.mf_errno.specs.declared.module.Module.TheVariants.{Biba, Mls}
 use Rattle.mf_script.specs.declared.script.Script.{Script}
-use Rattle.mf_script.specs.WellFormed.{IsBootList}
+use Rattle.mf_script.specs.WellFormed.{AreBoots}
 use Rattle.mf_core.specs.Policies.{IsBootable}
 use Rattle.mf_core.specs.Opening.{registrations_from, boots_of}
 
@@ -20,5 +20,5 @@ bootable_from (m ∷ ms) n known few =
     let P : Module → Type 0 = λ m. (m ≡ Biba) ⊎ (m ≡ Mls) in
     All-cons IsBootable _ _ (bootable_by m n (All-head P m ms known) (omega arith)) (bootable_from ms (n + 1) (All-tail P m ms known) (omega arith))
 
-pub bootable : (s : Script) → IsBootList s.boots → All IsBootable (boots_of s)
-bootable s boots = bootable_from s.boots 0 boots.known (omega (arith, boots.most))
+pub bootable : (s : Script) → AreBoots s.boots → All IsBootable (boots_of s)
+bootable s boots = bootable_from s.boots 0 boots.each (omega (arith, boots.few))

@@ -3,7 +3,7 @@ use Rattle.std.specs.Prelude.{ℕ, ◌+◌, Bool, nat_eq, true, false, List, [],
 use Rattle.std.specs.List.{find}
 use Rattle.mf_errno.specs.declared.module.Module.{Module}
 use Rattle.mf_elem.specs.declared.label.LabelValue.{LabelValue}
-use Rattle.mf_elem.specs.declared.label.LabelValue.TheVariants.{Unset, Range}
+use Rattle.mf_elem.specs.declared.label.LabelValue.TheVariants.{Unset}
 use Rattle.mf_elem.specs.declared.label.Request.{Request}
 use Rattle.mf_cred.specs.declared.cred.Cred.{Cred}
 use Rattle.mf_cred.specs.declared.cred.FileView.{FileView}
@@ -50,8 +50,8 @@ holds_slot slot r = is_slot slot r.slot
 
 -- what a policy gives an entity of that kind for which the script asks this
 abbrev pub boot_value : Kind → Request → Module → LabelValue
-boot_value Process request m = Range (task_label m request)
-boot_value other request m = Range (file_label m request)
+boot_value Process request m = task_label m request
+boot_value other request m = file_label m request
 
 abbrev pub value_by : Kind → Request → Option Registration → LabelValue
 value_by kind request None = Unset

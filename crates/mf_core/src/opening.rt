@@ -104,8 +104,8 @@ fn boot_value(kind: Kind, request: &Request, module: Module) -> LabelValue
     ensures { result ≡ spec.boot_value kind request.now «module» }
 {
     match kind {
-        Kind::Process => LabelValue::Range(task_label(module, request)),
-        _ => LabelValue::Range(file_label(module, request)),
+        Kind::Process => task_label(module, request),
+        _ => file_label(module, request),
     }
 }
 

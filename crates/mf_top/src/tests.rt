@@ -67,14 +67,46 @@ fn plainest_denial(rt: HostRuntime) -> Result<(), Fail> {
 }
 
 #[test]
-fn empty_task(rt: HostRuntime) -> Result<(), Fail> {
-    let case = Case {
-        name: "an empty task",
-        script: "boot mac_biba\ntask t uid 0 gid 0 label -\nend\n",
-        text: "boot mac_biba 0\n",
-        ..PLAIN
-    };
-    run_case(&rt, rt.alloc(), &case)?;
+fn empty_tasks(rt: HostRuntime) -> Result<(), Fail> {
+    let cases = [
+        Case {
+            name: "an empty task",
+            script: "boot mac_biba\ntask t uid 0 gid 0 label -\nend\n",
+            text: "boot mac_biba 0\n",
+            ..PLAIN
+        },
+        Case {
+            name: "an empty task and no policy",
+            script: "task t uid 0 gid 0 label -\nend\n",
+            text: "",
+            ..PLAIN
+        },
+    ];
+    for case in &cases {
+        run_case(&rt, rt.alloc(), case)?;
+    }
+    Ok(())
+}
+
+#[test]
+fn two_policies(rt: HostRuntime) -> Result<(), Fail> {
+    let cases = [
+        Case {
+            name: "a read up is denied by mac_mls, and a write up by none",
+            script: "boot mac_biba\nboot mac_mls\nfile /m reg uid 0 gid 0 mode 644 label mls/5 text x\ntask t uid 0 gid 0 label mls/3\nread /m\nwrite /m y\nend\n",
+            text: "boot mac_biba 0\nboot mac_mls 1\nenter t\ndone t 1 no EACCES vnode_open_read mac_mls 2\nleave t\nenter t\ndone t 2 ok\nleave t\n",
+            ..PLAIN
+        },
+        Case {
+            name: "where both deny, the one that was booted last decides",
+            script: "boot mac_mls\nboot mac_biba\nfile /m reg uid 0 gid 0 mode 644 label biba/low,mls/high\ntask t uid 0 gid 0 label -\nread /m\nend\n",
+            text: "boot mac_mls 0\nboot mac_biba 1\nenter t\ndone t 1 no EACCES vnode_open_read mac_biba 2\nleave t\n",
+            ..PLAIN
+        },
+    ];
+    for case in &cases {
+        run_case(&rt, rt.alloc(), case)?;
+    }
     Ok(())
 }
 
