@@ -1,4 +1,4 @@
--- How the answers of several policies make one, and which policy decides it.
+-- How the answers of several policies make one, as mac(9) composes them, and which policy decides it, which is this model's own.
 use Rattle.std.specs.Prelude.{ℕ, cond, List, [], ◌∷◌, Option, None, position}
 use Rattle.mf_errno.specs.declared.errno.Errno.{Errno}
 use Rattle.mf_errno.specs.declared.errno.Errno.TheVariants.{Success}

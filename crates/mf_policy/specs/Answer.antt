@@ -19,7 +19,7 @@ use Rattle.mf_policy.specs.Operations.{Test, test_of}
 use Rattle.mf_policy.specs.Operations.Test.{Observe, Modify, ObserveAndModify, SameLevel, RelabelObject, RelabelCredential, GuardModules, Pass}
 use Rattle.mf_policy.specs.Relabel.{credential_relabel, object_relabel}
 
--- A policy of ranges: whether a subject of one element may observe and may modify an object of another, which part of a request
+-- A policy whose labels have ranges: whether a subject of one element may observe and may modify an object of another, which part of a request
 -- is the policy's, and whether the policy guards the kernel's modules.
 pub record RangePolicy : Type 0 where
   pub may_observe : Elem → Elem → Bool
@@ -98,7 +98,7 @@ labels_answer policy test label asked (Some subject) None = Success
 labels_answer policy RelabelObject label asked (Some subject) (Some object) = object_relabel label object asked
 labels_answer policy test label asked (Some subject) (Some object) = plain_answer policy test subject object
 
--- what a policy of ranges in this slot answers to an item
+-- what such a policy, which holds this slot, answers to an item
 abbrev pub range_answer : RangePolicy → ℕ → Item → Errno
 range_answer policy slot item =
     let subject = label_of (slice_index_or item.subject.label slot Unset) in

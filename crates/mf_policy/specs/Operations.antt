@@ -1,4 +1,7 @@
 -- The table of operations: what Biba and MLS test, the letters that rules about files look at, and which way information moves.
+--
+-- The directions of flow are those of mac_biba(4) and mac_mls(4), and the letters those of mac_bsdextended(4). Which operation
+-- is tested in which way, and with which error, is this model's own choice.
 use Rattle.std.specs.Prelude.{ℕ, ◌+◌, Option, Some, None}
 use Rattle.mf_errno.specs.declared.errno.Errno.{Errno}
 use Rattle.mf_errno.specs.declared.errno.Errno.TheVariants.{Enoent, Esrch, Eacces}

@@ -1,4 +1,5 @@
--- The rules for relabels, which Biba and MLS share: the tests in order, of which the first that fits answers.
+-- The rules for relabels, which Biba and MLS share: the tests in order, of which the first that fits answers. They are in the
+-- manner of FreeBSD's two modules; their order, and the second test of a credential, are this model's own choice.
 use Rattle.std.specs.Prelude.{Bool, true, false, cond, not, ◌&&◌, Option, Some, None, is_some, is_none, List, [], ◌∷◌}
 use Rattle.mf_errno.specs.declared.errno.Errno.{Errno}
 use Rattle.mf_errno.specs.declared.errno.Errno.TheVariants.{Success, Einval, Eperm}

@@ -1,4 +1,4 @@
-//! How the policies of ranges read an item.
+//! How Biba and MLS read an item.
 ghost use Rattle.std.specs.Prelude.{◌≡◌, ◌<◌};
 ghost use Rattle.mf_policy.specs.Answer as spec;
 
