@@ -5,7 +5,7 @@ ghost use Rattle.mf_policy.specs.Operations.{test_of};
 ghost use Rattle.mf_policy.specs.declared.spec.Spec.TheVariants as means;
 
 use mf_cred::Cred;
-use mf_elem::{Elem, RangeLabel, Request, dominates, privileged};
+use mf_elem::{Elem, RangeLabel, Request, dominates, privileged, same_level};
 use mf_errno::{Errno, Module, Priv};
 use mf_item::{CheckOp, Item};
 use mf_policy::{
@@ -123,7 +123,7 @@ fn check_elements(op: CheckOp, subject: &Elem, object: &Elem) -> Errno
         | CheckOp::VnodeSetmode
         | CheckOp::PipeWrite
         | CheckOp::SocketSend => errno_unless(may_modify, Errno::Eacces),
-        CheckOp::SocketDeliver => errno_unless(may_observe && may_modify, Errno::Eacces),
+        CheckOp::SocketDeliver => errno_unless(same_level(subject, object), Errno::Eacces),
         CheckOp::ProcVisible => errno_unless(may_observe, Errno::Esrch),
         CheckOp::SocketVisible => errno_unless(may_observe, Errno::Enoent),
         CheckOp::ProcSignal | CheckOp::ProcDebug | CheckOp::ProcSched => {

@@ -16,7 +16,7 @@ use Rattle.mf_script.specs.declared.script.Task.{Task}
 use Rattle.mf_script.specs.declared.script.FileLine.{FileLine}
 use Rattle.mf_script.specs.declared.script.Script.{Script}
 use Rattle.mf_script.specs.Labels.{task_label, file_label}
-use Rattle.mf_script.specs.Parts.{no_request}
+use Rattle.mf_elem.specs.Label.{no_request}
 use Rattle.mf_core.specs.declared.state.Entity.{Entity}
 use Rattle.mf_core.specs.declared.state.State.{State}
 

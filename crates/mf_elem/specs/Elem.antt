@@ -1,5 +1,5 @@
 -- Dominance of elements, and ranges, as mac_biba(4) and mac_mls(4) have them.
-use Rattle.std.specs.Prelude.{◌≡◌, Bool, true, false, nat_le, ◌&&◌, ◌⊎◌}
+use Rattle.std.specs.Prelude.{Bool, true, false, nat_le, nat_eq, ◌&&◌}
 use Rattle.std.specs.FinSet as set
 use Rattle.mf_elem.specs.Comps.{compartments_of}
 use Rattle.mf_elem.specs.declared.elem.Elem.{Elem}
@@ -30,9 +30,21 @@ dominates Equal (Grade other others) = true
 dominates Equal High = true
 dominates Equal Equal = true
 
--- one is equal, or they are the same element
-abbrev pub IsSameLevel : Elem → Elem → Type 0
-IsSameLevel a b = (a ≡ Equal) ⊎ (b ≡ Equal) ⊎ (a ≡ b)
+-- Whether two elements are of the same level: one is equal, or they are one element, its compartments too.
+abbrev pub same_level : Elem → Elem → Bool
+same_level Equal b = true
+same_level Low Equal = true
+same_level Low Low = true
+same_level Low High = false
+same_level Low (Grade other others) = false
+same_level High Equal = true
+same_level High High = true
+same_level High Low = false
+same_level High (Grade other others) = false
+same_level (Grade grade comps) Equal = true
+same_level (Grade grade comps) (Grade other others) = nat_eq grade other && set.is_subset (compartments_of others) (compartments_of comps) && set.is_subset (compartments_of comps) (compartments_of others)
+same_level (Grade grade comps) Low = false
+same_level (Grade grade comps) High = false
 
 -- the high end dominates the element, and the element the low end
 abbrev pub in_range : Elem → Elem → Elem → Bool

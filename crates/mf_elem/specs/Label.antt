@@ -4,6 +4,7 @@ use Rattle.mf_elem.specs.Elem.{in_range}
 use Rattle.mf_elem.specs.declared.elem.Elem.{Elem}
 use Rattle.mf_elem.specs.declared.elem.Elem.TheVariants.{Low, High, Equal, Grade}
 use Rattle.mf_elem.specs.declared.label.RangeLabel.{RangeLabel}
+use Rattle.mf_elem.specs.declared.label.Request.{Request}
 
 abbrev pub is_low : Elem → Bool
 is_low Low = true
@@ -55,3 +56,7 @@ is_valid_for (Some element) range = holds_effective element range
 -- the effective element is there, and lies in the range where that is there too
 abbrev pub is_valid : RangeLabel → Bool
 is_valid label = is_valid_for label.effective label.range
+
+-- the request that names no policy
+abbrev pub no_request : Request
+no_request = record { biba = None; mls = None; partition = None; other = false }

@@ -33,11 +33,15 @@ pub fn dominates(a: &Elem, b: &Elem) -> bool
 
 /// Whether the two are of the same level: one is `equal`, or they are one element, compartments too.
 pub fn same_level(a: &Elem, b: &Elem) -> bool
-    ensures { IsTrue result ↔ spec.IsSameLevel a.now b.now }
+    ensures { result ≡ spec.same_level a.now b.now }
 {
     match (a, b) {
         (Elem::Equal, _) | (_, Elem::Equal) => true,
-        _ => a.same(b),
+        (Elem::Low, Elem::Low) | (Elem::High, Elem::High) => true,
+        (Elem::Grade(grade, comps), Elem::Grade(other, others)) => {
+            *grade == *other && comps.contains(others) && others.contains(comps)
+        }
+        _ => false,
     }
 }
 

@@ -1,5 +1,5 @@
 //! Labels as policies keep them, and as users ask for them.
-ghost use Rattle.std.specs.Prelude.{◌≡◌, ◌↔◌, IsTrue, false};
+ghost use Rattle.std.specs.Prelude.{◌≡◌, ◌↔◌, IsTrue};
 ghost use Rattle.mf_elem.specs.Label as spec;
 ghost use Rattle.mf_elem.specs.declared.label.LabelValue.TheVariants.{Unset};
 
@@ -43,7 +43,7 @@ pub struct Request {
 impl Request {
     /// The request that names no policy.
     pub fn none() -> Request
-        ensures { result ≡ record { biba = None; mls = None; partition = None; other = false } }
+        ensures { result ≡ spec.no_request }
     {
         Request {
             biba: None,

@@ -3,7 +3,7 @@ use Rattle.std.proofs.Common.{◌≡◌, ℕ, ◌+◌, true, false, cond, List, 
 use Rattle.std.specs.Option.{ok_or}
 use Rattle.std.specs.Str.{bytes_eq}
 use Rattle.mf_elem.specs.declared.label.Request.{Request}
-use Rattle.mf_labeltext.specs.LabelGrammar.{nothing}
+use Rattle.mf_elem.specs.Label.{no_request}
 use Rattle.mf_labeltext.specs.Reading.{cut, parts, label_in, partition_in, asked, is_name, element_of, element_in, and_then, elements_in, request_in, ◌>>=◌}
 use Rattle.mf_labeltext.specs.FirstFault.{is_value, fault_of_halves, element_fault, or_else, fault_from, first_fault}
 use Rattle.mf_labeltext.specs.declared.fault.LabelFault.{LabelFault}
@@ -47,7 +47,7 @@ halves_fault place before (Some halves) =
     elim (is_name halves.0) as (λ b. fault_in (cond b (ok_or (asked halves.0 halves.1 before) (BadValue (place + length halves.0 + 1))) (Err (NoSlash place))) ≡ cond b (cond (is_value halves.0 halves.1) None (Some (BadValue (place + length halves.0 + 1)))) (Some (NoSlash place))) [
       | true ↦
           value_fault (asked halves.0 halves.1 before) fault
-          ∙ ap (λ b. cond b None (Some fault)) (asked_any halves.0 halves.1 before nothing)
+          ∙ ap (λ b. cond b None (Some fault)) (asked_any halves.0 halves.1 before no_request)
       | false ↦ refl
     ]
 
@@ -70,7 +70,7 @@ fault_of_elements place before (element ∷ elements) =
 
 fault_of_text : (text : List ℕ) → fault_in (request_in text) ≡ first_fault text
 unfolding request_in first_fault
-fault_of_text text = fault_of_elements 0 nothing (parts 44 text)
+fault_of_text text = fault_of_elements 0 no_request (parts 44 text)
 
 first_fault_is : (text : List ℕ) (fault : LabelFault) → request_in text ≡ Err fault → first_fault text ≡ Some fault
 first_fault_is text fault is = sym (fault_of_text text) ∙ ap fault_in is

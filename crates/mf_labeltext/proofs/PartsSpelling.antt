@@ -7,7 +7,8 @@ use Rattle.mf_elem.specs.declared.label.RangeLabel.{RangeLabel}
 use Rattle.mf_elem.specs.declared.label.LabelValue.{LabelValue}
 use Rattle.mf_elem.specs.declared.label.LabelValue.TheVariants.{Unset, Range, Number}
 use Rattle.mf_elem.specs.declared.label.Request.{Request}
-use Rattle.mf_labeltext.specs.LabelGrammar.{SpellElements, HasNoComma, Spells, nothing}
+use Rattle.mf_labeltext.specs.LabelGrammar.{SpellElements, HasNoComma, Spells}
+use Rattle.mf_elem.specs.Label.{no_request}
 use Rattle.mf_labeltext.specs.Canonical.{label_text, partition_text, element_text, is_same_policy, parts_of, in_order, elements_text, canonical}
 use Rattle.mf_labeltext.specs.RoundTrip.{value_of, range_of, number_of, request_of, IsValueOf, IsPart, AreParts}
 use Rattle.mf_labeltext.proofs.Cutting.{IsFree}
@@ -90,7 +91,7 @@ first_of policy (part ∷ parts) =
 abbrev asking : Option RangeLabel → Option RangeLabel → Option ℕ → Request
 asking biba mls partition = record { biba = biba; mls = mls; partition = partition; other = false }
 
-with_biba : (policy : Module) (value : LabelValue) → is_same_policy Biba policy ≡ true → with_value nothing policy value ≡ asking (range_of (Some value)) None None
+with_biba : (policy : Module) (value : LabelValue) → is_same_policy Biba policy ≡ true → with_value no_request policy value ≡ asking (range_of (Some value)) None None
 unfolding with_value
 with_biba Biba value same = refl
 with_biba Mls value same = absurd cc
@@ -115,7 +116,7 @@ with_partition biba mls Partition value same = refl
 with_partition biba mls Bsdextended value same = absurd cc
 with_partition biba mls Priority value same = absurd cc
 
-after_biba : (parts : Parts) → AreOf Biba parts → length parts ≤ 1 → asked_after nothing parts ≡ asking (range_of (first_value parts)) None None
+after_biba : (parts : Parts) → AreOf Biba parts → length parts ≤ 1 → asked_after no_request parts ≡ asking (range_of (first_value parts)) None None
 unfolding asked_after
 after_biba [] are once = refl
 after_biba (part ∷ []) are once = with_biba part.0 part.1 are.0.0
@@ -133,14 +134,14 @@ after_partition biba mls [] are once = refl
 after_partition biba mls (part ∷ []) are once = with_partition biba mls part.0 part.1 are.0.0
 after_partition biba mls (part ∷ next ∷ parts) are once = absurd (omega arith)
 
-asked_in_order : (parts : Parts) → AreParts parts → asked_after nothing (in_order parts) ≡ request_of parts
+asked_in_order : (parts : Parts) → AreParts parts → asked_after no_request (in_order parts) ≡ request_of parts
 unfolding in_order
 asked_in_order parts are =
     let biba = parts_of Biba parts in
     let mls = parts_of Mls parts in
     let partition = parts_of Partition parts in
-    after_append nothing (biba ++ mls) partition
-    ∙ ap (λ before. asked_after before partition) (after_append nothing biba mls)
+    after_append no_request (biba ++ mls) partition
+    ∙ ap (λ before. asked_after before partition) (after_append no_request biba mls)
     ∙ ap (λ before. asked_after (asked_after before mls) partition) (after_biba biba (are_of Biba parts are.each) (are.once Biba))
     ∙ ap (λ before. asked_after before partition) (after_mls (range_of (first_value biba)) mls (are_of Mls parts are.each) (are.once Mls))
     ∙ after_partition (range_of (first_value biba)) (range_of (first_value mls)) partition (are_of Partition parts are.each) (are.once Partition)
@@ -200,5 +201,5 @@ canonical_spells parts are some =
       some = some_elements ordered here;
       parted = text_is ordered here;
       whole = all_free ordered all;
-      each = subst (SpellElements (map element_text ordered) nothing) (asked_in_order parts are) (all_spell nothing ordered all);
+      each = subst (SpellElements (map element_text ordered) no_request) (asked_in_order parts are) (all_spell no_request ordered all);
     }

@@ -6,7 +6,8 @@ use Rattle.std.specs.List.{list_all, AllByRecursion}
 use Rattle.std.specs.Option.{ok_or}
 use Rattle.std.specs.Str.{bytes_eq}
 use Rattle.mf_elem.specs.declared.label.Request.{Request}
-use Rattle.mf_labeltext.specs.LabelGrammar.{IsNameByte, IsName, Asks, SpellsElement, SpellElements, Spells, nothing}
+use Rattle.mf_labeltext.specs.LabelGrammar.{IsNameByte, IsName, Asks, SpellsElement, SpellElements, Spells}
+use Rattle.mf_elem.specs.Label.{no_request}
 use Rattle.mf_labeltext.specs.Reading.{cut, parts, label_in, partition_in, asked, is_name_byte, is_name, element_of, element_in, and_then, elements_in, request_in, ◌>>=◌}
 use Rattle.mf_labeltext.specs.declared.fault.LabelFault.{LabelFault}
 use Rattle.mf_labeltext.specs.declared.fault.LabelFault.TheVariants.{NoSlash, BadValue}
@@ -195,11 +196,11 @@ spell_elements place (element ∷ elements) before after spells =
 pub request_spells : (text : List ℕ) (request : Request) → request_in text ≡ Ok request → Spells text request
 unfolding request_in
 request_spells text request is =
-    record { elements = parts 44 text; some = parts_are_some 44 text; parted = sym (join_parts 44 text); whole = parts_free 44 text; each = elements_spell 0 (parts 44 text) nothing request is }
+    record { elements = parts 44 text; some = parts_are_some 44 text; parted = sym (join_parts 44 text); whole = parts_free 44 text; each = elements_spell 0 (parts 44 text) no_request request is }
 
 pub spells_request : (text : List ℕ) (request : Request) → Spells text request → request_in text ≡ Ok request
 unfolding request_in
 spells_request text request spells =
-    ap (λ t. elements_in 0 nothing (parts 44 t)) spells.parted
-    ∙ ap (elements_in 0 nothing) (parts_join 44 spells.elements spells.some spells.whole)
-    ∙ spell_elements 0 spells.elements nothing request spells.each
+    ap (λ t. elements_in 0 no_request (parts 44 t)) spells.parted
+    ∙ ap (elements_in 0 no_request) (parts_join 44 spells.elements spells.some spells.whole)
+    ∙ spell_elements 0 spells.elements no_request request spells.each

@@ -13,6 +13,7 @@ use Rattle.mf_elem.specs.declared.label.RangeLabel.{RangeLabel}
 use Rattle.mf_elem.specs.declared.label.LabelValue.{LabelValue}
 use Rattle.mf_elem.specs.declared.label.LabelValue.TheVariants.{Unset, Range, Number}
 use Prim.Native.Nat.{suc, zero}
+use Rattle.mf_labeltext.specs.Bytes.{close_parenthesis, colon, comma, dash, open_parenthesis, plus, slash}
 
 -- the numbers from 1 up to n
 abbrev pub numbers_to : ℕ → List ℕ
@@ -26,7 +27,7 @@ rising comps = filter (set.contains (compartments_of comps)) (numbers_to 256)
 -- a colon and the compartments with a plus between each two; nothing where there are none
 abbrev pub comps_text : List ℕ → List ℕ
 comps_text [] = []
-comps_text (n ∷ ns) = 58 ∷ join_with_byte 43 (map decimal (n ∷ ns))
+comps_text (n ∷ ns) = colon ∷ join_with_byte plus (map decimal (n ∷ ns))
 
 abbrev pub elem_text : Elem → List ℕ
 elem_text Low = codes "low"
@@ -40,7 +41,7 @@ effective_text (Some element) = elem_text element
 
 abbrev pub range_text : Option (Elem × Elem) → List ℕ
 range_text None = []
-range_text (Some ends) = 40 ∷ elem_text ends.0 ++ (45 ∷ elem_text ends.1 ++ 41 ∷ [])
+range_text (Some ends) = open_parenthesis ∷ elem_text ends.0 ++ (dash ∷ elem_text ends.1 ++ close_parenthesis ∷ [])
 
 abbrev pub label_text : RangeLabel → List ℕ
 label_text label = effective_text label.effective ++ range_text label.range
@@ -63,7 +64,7 @@ policy_text Priority = codes "priority"
 
 -- the policy, a slash and the value
 abbrev pub element_text : Module × LabelValue → List ℕ
-element_text part = policy_text part.0 ++ 47 ∷ value_text part.1
+element_text part = policy_text part.0 ++ slash ∷ value_text part.1
 
 -- the policies that label anything
 abbrev pub is_same_policy : Module → Module → Bool
@@ -82,11 +83,11 @@ in_order parts = parts_of Biba parts ++ parts_of Mls parts ++ parts_of Partition
 -- the elements with a comma between each two; where there are none, a dash
 abbrev pub elements_text : List (List ℕ) → List ℕ
 elements_text [] = codes "-"
-elements_text (element ∷ elements) = join_with_byte 44 (element ∷ elements)
+elements_text (element ∷ elements) = join_with_byte comma (element ∷ elements)
 
 -- what stands in front of an element behind so many others
 abbrev pub comma_behind : ℕ → List ℕ
-comma_behind elements = if elements == 0 then [] else 44 ∷ []
+comma_behind elements = if elements == 0 then [] else comma ∷ []
 
 -- the canonical text of the parts of a label
 unfoldable pub canonical : List (Module × LabelValue) → List ℕ

@@ -9,11 +9,13 @@ use Rattle.std.specs.Int.{IsInRange}
 use Rattle.std.specs.Str.Parse.{IsNumeral, digits_value}
 use Rattle.std.specs.FinSet as set
 use Rattle.mf_elem.specs.Comps.{comps_of}
+use Rattle.mf_elem.specs.Label.{no_request}
 use Rattle.mf_elem.specs.declared.comps.Comps.{Comps}
 use Rattle.mf_elem.specs.declared.elem.Elem.{Elem}
 use Rattle.mf_elem.specs.declared.elem.Elem.TheVariants.{Low, High, Equal, Grade}
 use Rattle.mf_elem.specs.declared.label.RangeLabel.{RangeLabel}
 use Rattle.mf_elem.specs.declared.label.Request.{Request}
+use Rattle.mf_labeltext.specs.Bytes.{close_parenthesis, colon, comma, dash, open_parenthesis, plus, slash}
 
 -- decimal digits of a number from the least to the greatest; leading zeros are accepted
 pub record SpellsNumber (least greatest : ℕ) (text : List ℕ) (n : ℕ) : Type 0 where
@@ -33,7 +35,7 @@ SpellEach (text ∷ texts) (n ∷ ns) = SpellsNumber 1 256 text n × SpellEach t
 pub record SpellsComps (text : List ℕ) (comps : Comps) : Type 0 where
   pub texts : List (List ℕ)
   pub some : texts ≢ []
-  pub parted : text ≡ join_with_byte 43 texts
+  pub parted : text ≡ join_with_byte plus texts
   pub numbers : List ℕ
   pub each : SpellEach texts numbers
   pub set : comps ≡ comps_of (set.from_list numbers)
@@ -42,7 +44,7 @@ pub record SpellsComps (text : List ℕ) (comps : Comps) : Type 0 where
 abbrev pub SpellsGrade : List ℕ → ℕ → Comps → Type 0
 SpellsGrade text grade comps =
     (SpellsNumber 0 65535 text grade × (comps ≡ comps_of set.empty))
-    ⊎ ((digits : List ℕ) × (others : List ℕ) × (text ≡ digits ++ 58 ∷ others)
+    ⊎ ((digits : List ℕ) × (others : List ℕ) × (text ≡ digits ++ colon ∷ others)
     × SpellsNumber 0 65535 digits grade × SpellsComps others comps)
 
 -- an element; `lo`, `hi` and `eq` are short for the words
@@ -55,7 +57,7 @@ SpellsElem text (Grade grade comps) = SpellsGrade text grade comps
 -- "(", the low end, "-", the high end, ")"
 abbrev pub SpellsRange : List ℕ → Elem × Elem → Type 0
 SpellsRange text ends =
-    (low : List ℕ) × (high : List ℕ) × (text ≡ 40 ∷ low ++ (45 ∷ high ++ 41 ∷ [])) × SpellsElem low ends.0 × SpellsElem high ends.1
+    (low : List ℕ) × (high : List ℕ) × (text ≡ open_parenthesis ∷ low ++ (dash ∷ high ++ close_parenthesis ∷ [])) × SpellsElem low ends.0 × SpellsElem high ends.1
 
 -- an effective element, a range, or both
 abbrev pub SpellsParts : List ℕ → Option Elem → Option (Elem × Elem) → Type 0
@@ -97,24 +99,20 @@ Asks name value before after =
 -- a name, a slash and a value; the value may have further slashes
 abbrev pub SpellsElement : List ℕ → Request → Request → Type 0
 SpellsElement element before after =
-    (name : List ℕ) × (value : List ℕ) × (element ≡ name ++ 47 ∷ value) × IsName name × Asks name value before after
+    (name : List ℕ) × (value : List ℕ) × (element ≡ name ++ slash ∷ value) × IsName name × Asks name value before after
 
 -- the elements ask one after another
 abbrev pub SpellElements : List (List ℕ) → Request → Request → Type 0
 SpellElements [] before after = before ≡ after
 SpellElements (element ∷ elements) before after = (next : Request) × SpellsElement element before next × SpellElements elements next after
 
--- nothing is asked for
-abbrev pub nothing : Request
-nothing = record { biba = None; mls = None; partition = None; other = false }
-
 abbrev pub HasNoComma : List ℕ → Type 0
-HasNoComma element = AllByRecursion (λ byte. byte ≢ 44) element
+HasNoComma element = AllByRecursion (λ byte. byte ≢ comma) element
 
 -- the text asks for this request
 pub record Spells (text : List ℕ) (request : Request) : Type 0 where
   pub elements : List (List ℕ)
   pub some : elements ≢ []
-  pub parted : text ≡ join_with_byte 44 elements
+  pub parted : text ≡ join_with_byte comma elements
   pub whole : AllByRecursion HasNoComma elements
-  pub each : SpellElements elements nothing request
+  pub each : SpellElements elements no_request request

