@@ -1,4 +1,4 @@
-//! The labels that files and processes have at boot.
+//! The labels that files and processes have at boot, and what a script may ask of them.
 ghost use Rattle.std.specs.Prelude.{◌≡◌};
 ghost use Rattle.std.specs.List.{list_all, list_any};
 ghost use Rattle.mf_script.specs.Grammar.{may_boot};

@@ -19,6 +19,7 @@ impl<T> Model for Listing<T> {
 }
 
 impl<T> Listing<T> {
+    /// No items.
     pub fn new(alloc: Global) -> Self
         ensures { result ≡ [] }
     {
@@ -27,12 +28,14 @@ impl<T> Listing<T> {
         }
     }
 
+    /// The items in order.
     pub fn as_slice(&self) -> &[T]
         ensures { result.now ≡ self.now }
     {
         self.items.as_slice()
     }
 
+    /// The number of items.
     pub fn len(&self) -> usize
         ensures { result ≡ length self.now }
     {
@@ -75,12 +78,14 @@ impl Model for Name {
 }
 
 impl Name {
+    /// The name that the text is.
     pub fn from_string(text: String) -> Self
         ensures { result ≡ string_bytes text }
     {
         Name { text }
     }
 
+    /// The text of the name.
     pub fn as_str(&self) -> &str
         ensures { result.now ≡ self.now }
     {
@@ -105,7 +110,7 @@ impl Name {
     }
 }
 
-/// A path. Contracts see the list of its components.
+/// An absolute path. Contracts see the list of its components.
 #[derive(Drop)]
 pub struct Path {
     components: Listing<Name>,
@@ -120,12 +125,14 @@ impl Model for Path {
 }
 
 impl Path {
+    /// The path from the root directory along these components.
     pub fn from_components(components: Listing<Name>) -> Self
         ensures { result ≡ components }
     {
         Path { components }
     }
 
+    /// The components, of which the last names the file.
     pub fn as_slice(&self) -> &[Name]
         ensures { result.now ≡ self.now }
     {
@@ -148,12 +155,14 @@ impl Model for Bytes {
 }
 
 impl Bytes {
+    /// These bytes.
     pub fn from_vec(items: Vec<u8>) -> Self
         ensures { result ≡ items.items }
     {
         Bytes { items }
     }
 
+    /// The bytes in order.
     pub fn as_slice(&self) -> &[u8]
         ensures { result.now ≡ self.now }
     {

@@ -4,7 +4,7 @@
 ghost use Rattle.std.specs.Prelude.{◌≡◌, ◌≢◌, ◌≤◌, ◌∷◌, MatchOption, IfOk, List, ℕ, vec_len};
 ghost use Rattle.std.specs.List.{list_all};
 ghost use Rattle.mf_script.specs.Readers.{Gives};
-ghost use Rattle.mf_script.specs.Parts.{fixed, word_by, bootable_of, number_of, mode_of, name_of, path_of, request_of, task_request, file_request, text_of, is_name, no_more, is_name_byte, is_component_byte, is_component};
+ghost use Rattle.mf_script.specs.Parts.{fixed, word_by, bootable_of, number_of, mode_of, name_of, path_of, request_of, task_request, file_request, text_of, is_name, no_more, is_name_byte, is_component_byte, is_component, slash};
 
 use crate::error::ScriptError;
 use crate::labels::{may_ask_of_file, may_ask_of_task};
@@ -217,8 +217,9 @@ fn is_component(word: &str) -> bool
         && word != ".."
 }
 
+/// The text behind a slash in front.
 fn behind_slash(word: &str) -> Option<&str>
-    ensures { MatchOption result ((rest : List ℕ) → word.now ≢ 47 ∷ rest) (λ rest. word.now ≡ 47 ∷ rest.now) }
+    ensures { MatchOption result ((rest : List ℕ) → word.now ≢ slash ∷ rest) (λ rest. word.now ≡ slash ∷ rest.now) }
 {
     word.strip_prefix('/')
 }

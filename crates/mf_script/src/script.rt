@@ -11,7 +11,9 @@ use mf_errno::Module;
 /// A call of a task.
 #[derive(Drop)]
 pub enum Call {
+    /// Reads the file.
     Read(Path),
+    /// Appends the bytes to the file.
     Write(Path, Bytes),
 }
 
@@ -30,7 +32,7 @@ pub struct Task {
     pub lines: Listing<Line>,
 }
 
-/// A file that is there at boot.
+/// A file that is there at boot: its path, its attributes, its label request, and what it holds.
 #[derive(Drop)]
 pub struct FileLine {
     pub path: Path,
@@ -39,7 +41,7 @@ pub struct FileLine {
     pub text: Content,
 }
 
-/// A script: the modules that are booted, in order, the files, and the tasks.
+/// A script: the modules in the order in which they are booted, the files, and the tasks.
 #[derive(Drop)]
 pub struct Script {
     pub boots: Listing<Module>,
