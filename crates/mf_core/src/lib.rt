@@ -17,7 +17,7 @@ pub use answers::{Denial, Verdict};
 pub use framework::Core;
 pub use history::{BootList, Event, EventList, History};
 pub use plan::{Plan, Tail};
-pub use policies::{Answer, Booted, Listed, Policies};
+pub use policies::{Answer, Policies};
 pub use progress::{Commit, Phase, Progress, ProgressList, Turn};
 pub use reply::{Head, Payload, Reply};
 pub use state::{Entities, Entity, State};

@@ -138,8 +138,8 @@ impl Policies {
     pub fn ask(&self, item: &Item) -> Answer
         ensures { result ≡ spec.asked self.now item.now }
     {
-        let room = answers(self.items.as_slice(), item);
-        let answers = &room[..self.items.len()];
+        let all = answers(self.items.as_slice(), item);
+        let answers = &all[..self.items.len()];
         Answer {
             errno: fold(answers),
             by: self.module_at(decider(answers)),
