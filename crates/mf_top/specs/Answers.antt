@@ -32,7 +32,7 @@ IsRunWords words = words ≡ codes "run" ∷ []
 -- An outcome before anything is written, and its cause: the words, and what is seen of the source.
 abbrev pub IsOutcome : List (List ℕ) → Seen → Result (List ℕ) Refusal → Type 0
 IsOutcome words source (Ok text) = IsRunWords words × IfSome source.before (λ bytes. IsRunText bytes text × (source.after ≡ Some []))
-IsOutcome words source (Err refusal.Usage) = ¬ IsRunWords words
+IsOutcome words source (Err refusal.Usage) = ¬ IsRunWords words × (source.after ≡ source.before)
 IsOutcome words source (Err refusal.NotYet) = IsRunWords words
     × IfSome source.before (λ bytes. (length bytes ≤ most_script) × (script_of bytes ≡ Err script_error.NotYet) × (source.after ≡ Some []))
 IsOutcome words source (Err refusal.ReadFault) = IsRunWords words × FaultsRose source

@@ -55,7 +55,7 @@ impl MemSource {
 
 impl Source for MemSource {
     ghost use Rattle.std.specs.Prelude.{Some};
-    ghost use Rattle.mf_top.specs.Outside.{Gave, HasCause, Took};
+    ghost use Rattle.mf_top.specs.Outside.{Gave, HasCause};
 
     ghost left = { λ s. Some s.left };
 
@@ -122,7 +122,7 @@ impl MemSink {
 
 impl Sink for MemSink {
     ghost use Rattle.std.specs.Prelude.{Some};
-    ghost use Rattle.mf_top.specs.Outside.{Gave, HasCause, Took};
+    ghost use Rattle.mf_top.specs.Outside.{HasCause, Took};
 
     ghost taken = { λ s. Some s.taken };
 

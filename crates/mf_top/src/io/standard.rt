@@ -1,5 +1,5 @@
 //! The trusted edge: readers and writers of the outside, which tell no bytes.
-ghost use Rattle.std.specs.Prelude.{None};
+ghost use Rattle.std.specs.Prelude.{◌≡◌, None};
 
 use crate::io::sink::Sink;
 use crate::io::source::{Failed, Source};
@@ -13,7 +13,10 @@ pub struct StdSource<R: Read + Drop> {
 }
 
 impl<R: Read + Drop> StdSource<R> {
-    pub fn new(reader: R) -> Self {
+    /// A source that has had no fault.
+    pub fn new(reader: R) -> Self
+        ensures { result ≡ record { reader = reader; faults = 0 } }
+    {
         StdSource { reader, faults: 0 }
     }
 }
@@ -43,7 +46,10 @@ pub struct StdSink<W: Write + Drop> {
 }
 
 impl<W: Write + Drop> StdSink<W> {
-    pub fn new(writer: W) -> Self {
+    /// A sink that has had no fault.
+    pub fn new(writer: W) -> Self
+        ensures { result ≡ record { writer = writer; faults = 0 } }
+    {
         StdSink { writer, faults: 0 }
     }
 }
