@@ -1,5 +1,5 @@
 -- What a booted policy means, and which registrations one is booted by.
-use Rattle.std.specs.Prelude.{ℕ, ◌<◌, IsTrue, Option, unwrap_or}
+use Rattle.std.specs.Prelude.{ℕ, ◌<◌, IsTrue, unwrap_or}
 use Rattle.mf_policy.specs.declared.registration.Registration.{Registration}
 use Rattle.mf_policy.specs.declared.spec.Spec.{Spec}
 use Rattle.mf_policy.specs.declared.spec.Spec.TheVariants as means

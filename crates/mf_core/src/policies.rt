@@ -1,11 +1,10 @@
 //! The booted policies, in walk order.
-ghost use Rattle.std.specs.Prelude.{◌≡◌, ◌<◌, ◌≤◌, All, IsTrue, take, map, length, reverse, slice_get, option_map, option_and_then, OnOk, OnErr, IfOk, ◌∷◌, []};
-ghost use Rattle.mf_compose.specs.Composition.{decider};
+ghost use Rattle.std.specs.Prelude.{◌≡◌, ◌<◌, ◌≤◌, All, IsTrue, IfOk, length, option_and_then, take};
 ghost use Rattle.mf_policy.specs.Answer.{answer};
 ghost use Rattle.mf_policy.specs.Modules as facts;
 ghost use Rattle.mf_core.specs.Ask as spec;
 ghost use Rattle.mf_core.specs.Opening.{loaded, walk_order};
-ghost use Rattle.mf_core.specs.Policies.{IsBootable, meaning, slot_of};
+ghost use Rattle.mf_core.specs.Policies.{IsBootable, meaning};
 
 use mf_biba::Biba;
 use mf_compose::{decider, fold};
