@@ -2,6 +2,7 @@
 use Rattle.std.specs.Prelude.{◌≡◌, ℕ, List, ◌++◌, length, take, drop, min, nat_le, if◌then◌else◌, Option, Some, None, Result, Ok}
 use Rattle.mf_top.specs.declared.io.source.Failed.{Failed}
 use Rattle.mf_top.specs.Held.{SureStore}
+use Rattle.mf_top.specs.Outside.{Seen}
 
 -- A call that gave what fits of the bytes left.
 pub record SureSupplies (before after buffer_before buffer_now : List ℕ) (result : Result ℕ Failed) : Type 0 where
@@ -21,3 +22,10 @@ told_after room (Some all) piece = told_within room (all ++ piece)
 -- a sink after a piece
 abbrev pub stored : SureStore → List ℕ → SureStore
 stored s piece = record s { taken = told_after s.room s.taken piece }
+
+-- what is seen of them around a call: their bytes, and no faults
+abbrev pub seen_source : List ℕ → List ℕ → Seen
+seen_source old new = record { before = Some old; after = Some new; faults_before = 0; faults_after = 0 }
+
+abbrev pub seen_sink : SureStore → SureStore → Seen
+seen_sink old new = record { before = old.taken; after = new.taken; faults_before = 0; faults_after = 0 }

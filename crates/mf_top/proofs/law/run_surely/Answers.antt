@@ -1,12 +1,11 @@
-use Rattle.std.proofs.Common.{Some}
-use Rattle.mf_top.specs.Outside.{Seen}
+use Rattle.mf_top.specs.Sure.{seen_source, seen_sink}
 use Rattle.mf_top.proofs.NoFaults.{no_fault, never_rises}
 use Rattle.mf_top.proofs.law.run_surely.Goals as goal
 
 pub returns : goal.returns
 returns g c =
     let cause = c.macsim.ensures.cause in
-    let source : Seen = record { before = Some c.args.source.now; after = Some c.macsim.new.source; faults_before = 0; faults_after = 0 } in
-    let sink : Seen = record { before = c.args.sink.now.taken; after = c.macsim.new.sink.taken; faults_before = 0; faults_after = 0 } in
+    let source = seen_source c.args.source.now c.macsim.new.source in
+    let sink = seen_sink c.args.sink.now c.macsim.new.sink in
     let both = no_fault _ source sink cause.0 _ never_rises never_rises cause.1 cause.2 in
-    record { no_read_fault = both.0; no_write_fault = both.1 }
+    record { cause = cause; no_read_fault = both.0; no_write_fault = both.1 }
