@@ -1,0 +1,292 @@
+-- What each change makes of the live entities, and that it keeps what is true of every population.
+use Rattle.std.proofs.Common.{◌≡◌, ◌≢◌, ℕ, ◌<◌, ◌≤◌, ◌+◌, List, [], ◌∷◌, ◌++◌, Option, Some, None, length, get_or, set, take, drop, map, remove, refl, ap, sym, ◌∙◌, subst, arith, zero, suc, IsSome, nat_eq, nat_lt, true, false, Bool, cond, position, ◌-◌, not, Result, Ok, Err, OnOk, OnErr, IsTrue, replicate}
+use Rattle.std.specs.declared.alloc.AllocError.{AllocError}
+use Rattle.std.specs.Prelude.{find}
+use Rattle.std.specs.List.{position_or_len}
+use Rattle.std.proofs.lemmas.List.{set-get_or, map-append, set_split, length-set, length-map, length-take-le, length-append, length-drop, get_or-map, take-map, drop-map}
+use Rattle.std.proofs.lemmas.List.Quantifiers.{position-Some}
+use Rattle.std.proofs.lemmas.Bool.{lt-ltb, false≢true}
+use Rattle.mf_elem.specs.declared.label.LabelValue.{LabelValue}
+use Rattle.mf_elem.specs.declared.label.LabelValue.TheVariants.{Unset}
+use Rattle.mf_slots.specs.Zones.{Contents, Handles, handle, IsSame, MakesLabel, GivesUp, SetsAt, IsMadeAt, Makes, IsHeld, IsHeldAt, value_of, value_at as value_under}
+use Rattle.mf_objects.specs.declared.id.Id.{Id}
+use Rattle.mf_objects.specs.declared.entity.Entity.{Entity}
+use Rattle.mf_objects.specs.declared.entity.What.{What}
+use Rattle.mf_objects.specs.Live.{Live, Entities, has_id, live_at, is_directory, label_of, value_at as live_value}
+use Rattle.mf_objects.specs.Changes.{changed_at, with_change, with_value, with_what, with_entity}
+use Rattle.mf_objects.specs.Sound.{label_values, seen, labels_of, IsExact, live_of, IsSound, IsPlace, IsRising, HasRoot}
+use Rattle.mf_objects.proofs.Zoned.{exact_same, live_same, exact_push, live_push, exact_drop, live_drop, is_held, Relabels, relabels_set, relabels_make, exact_relabel, live_relabel, split_place, live_split, exact_none}
+use Rattle.mf_objects.proofs.Rising.{rising_push, rising_remove, rising_changed, root_push, root_remove, root_changed, set_changed, find_first, id_is}
+
+-- the live entities as contracts see them
+abbrev pub view : ℕ → Contents → List Entity → Entities
+view next zones es = record { next = next; live = live_of zones es }
+
+-- these fields are a population, which contracts see so
+pub record Becomes (next : ℕ) (zones : Contents) (es : List Entity) (objects : Entities) : Type 0 where
+  pub sound : IsSound next zones es
+  pub shows : view next zones es ≡ objects
+
+pub same_zones : (next : ℕ) (zones zones' : Contents) (es : List Entity) → IsSound next zones es → IsSame zones zones'
+    → Becomes next zones' es (view next zones es)
+same_zones next zones zones' es sound same =
+    let live : live_of zones' es ≡ live_of zones es = live_same zones zones' es same in
+    record {
+      sound = record {
+        rising = rw live sound.rising;
+        rooted = rw live sound.rooted;
+        few = sound.few;
+        exact = exact_same zones zones' (labels_of es) sound.exact same;
+      };
+      shows = ap (λ (ls : List Live). let o : Entities = record { next = next; live = ls } in o) live;
+    }
+
+pub added : (next : ℕ) (zones zones' : Contents) (es : List Entity) (e : Entity) (values : List LabelValue) → e.id.0 ≡ next → length es < 1024 → length values ≡ 4
+    → IsSound next zones es → MakesLabel zones zones' e.label values
+    → Becomes (next + 1) zones' (es ++ e ∷ []) (record { next = next + 1; live = live_of zones es ++ record { id = e.id; name = e.name; label = values; what = e.what } ∷ [] })
+added next zones zones' es e values is room four sound makes =
+    let x : Live = record { id = e.id; name = e.name; label = values; what = e.what } in
+    let live : live_of zones' (es ++ e ∷ []) ≡ live_of zones es ++ x ∷ [] = live_push zones zones' es e values four sound.exact makes in
+    record {
+      sound = record {
+        rising = rw live (rising_push 0 next (live_of zones es) x is sound.rising);
+        rooted = rw live (root_push (live_of zones es) (x ∷ []) sound.rooted);
+        few = omega (arith, length-append es (e ∷ []));
+        exact = exact_push zones zones' es e values sound.exact makes;
+      };
+      shows = ap (λ (ls : List Live). let o : Entities = record { next = next + 1; live = ls } in o) live;
+    }
+
+live_remove : (zones : Contents) (es : List Entity) (i : ℕ) → live_of zones (remove es i) ≡ remove (live_of zones es) i
+live_remove zones es i =
+    map-append (seen zones) (take i es) (drop (suc i) es)
+    ∙ ap (λ (ls : List Live). ls ++ map (seen zones) (drop (suc i) es)) (sym (take-map (seen zones) i es))
+    ∙ ap (λ (ls : List Live). take i (map (seen zones) es) ++ ls) (sym (drop-map (seen zones) (suc i) es))
+
+pub dropped : (next : ℕ) (zones zones' : Contents) (es : List Entity) (i : ℕ) (e : Entity) → i < length es → 0 < i → e ≡ get_or es i e
+    → IsSound next zones es → GivesUp zones zones' e.label
+    → Becomes next zones' (remove es i) (record { next = next; live = remove (live_of zones es) i })
+dropped next zones zones' es i e within later is sound gives =
+    let exact : IsExact zones (labels_of (take i es ++ e ∷ drop (suc i) es)) =
+    subst (λ (xs : List Entity). IsExact zones (labels_of xs)) (split_place es i e within is) sound.exact in
+    let live : live_of zones' (remove es i) ≡ remove (live_of zones es) i =
+    live_drop zones zones' (take i es) (drop (suc i) es) e exact gives ∙ live_remove zones es i in
+    record {
+      sound = record {
+        rising = rw live (rising_remove 0 next (live_of zones es) i sound.rising);
+        rooted = rw live (root_remove (live_of zones es) i later sound.rooted);
+        few = omega (arith, sound.few, length-append (take i es) (drop (suc i) es), length-take-le i es (omega arith), length-drop (suc i) es);
+        exact = exact_drop zones zones' (take i es) (drop (suc i) es) e exact gives;
+      };
+      shows = ap (λ (ls : List Live). let o : Entities = record { next = next; live = ls } in o) live;
+    }
+
+pub held_place : (next : ℕ) (zones : Contents) (es : List Entity) (i : ℕ) (e : Entity) → i < length es → e ≡ get_or es i e
+    → IsSound next zones es → IsHeld zones e.label
+held_place next zones es i e within is sound =
+    is_held zones (take i es) (drop (suc i) es) e (subst (λ (xs : List Entity). IsExact zones (labels_of xs)) (split_place es i e within is) sound.exact)
+
+pub made_place : (zones : Contents) (slot : ℕ) (key : Option ℕ) → IsHeldAt zones slot key → IsSome key → IsMadeAt zones slot key
+made_place zones slot None held some = cc
+made_place zones slot (Some h) held some = held
+
+-- places
+
+pub place_within : (next : ℕ) (zones : Contents) (es : List Entity) (id : Id) (i : ℕ) → IsPlace (view next zones es) id i → i < length es
+place_within next zones es id i place = omega (arith, place.within, length-map es (seen zones))
+
+seen_place : (zones : Contents) (es : List Entity) (i : ℕ) (e : Entity) → i < length es → e ≡ get_or es i e → seen zones e ≡ get_or (live_of zones es) i (seen zones e)
+seen_place zones es i e within is = ap (seen zones) is ∙ sym (get_or-map (seen zones) es i e (seen zones e) within)
+
+-- what contracts see of the entity at a place
+pub found_place : (next : ℕ) (zones : Contents) (es : List Entity) (id : Id) (i : ℕ) (e : Entity) → IsPlace (view next zones es) id i → e ≡ get_or es i e
+    → live_at (view next zones es) id ≡ Some (seen zones e)
+found_place next zones es id i e place is =
+    place.found (seen zones e) ∙ ap (λ (x : Live). Some x) (sym (seen_place zones es i e (place_within next zones es id i place) is))
+
+-- the entity at a place is changed, as contracts see it
+changes : (next : ℕ) (zones zones' : Contents) (es es' : List Entity) (id : Id) (i : ℕ) (e : Entity) (change : Live → Live)
+    → IsPlace (view next zones es) id i → e ≡ get_or es i e → IsSound next zones es
+    → ((x : Live) → (change x).id ≡ x.id) → ((x : Live) → is_directory (change x).what ≡ is_directory x.what)
+    → live_of zones' es' ≡ set (live_of zones es) i (change (seen zones e)) → length es' ≡ length es → IsExact zones' (labels_of es')
+    → Becomes next zones' es' (with_change change (view next zones es) id)
+changes next zones zones' es es' id i e change place is sound ids kinds shows len exact =
+    let within : i < length es = place_within next zones es id i place in
+    let long : i < length (live_of zones es) = place.within in
+    let at : seen zones e ≡ get_or (live_of zones es) i (seen zones e) = seen_place zones es i e within is in
+    let has : has_id id (seen zones e) ≡ true = ap (has_id id) at ∙ place.has (seen zones e) in
+    let live : live_of zones' es' ≡ map (changed_at change id) (live_of zones es) =
+    shows ∙ set_changed change id 0 next (live_of zones es) i (seen zones e) long sound.rising at has in
+    record {
+      sound = record {
+        rising = rw live (rising_changed change id 0 next (live_of zones es) ids sound.rising);
+        rooted = rw live (root_changed change id (live_of zones es) ids kinds sound.rooted);
+        few = omega (arith, len, sound.few);
+        exact = exact;
+      };
+      shows = ap (λ (ls : List Live). let o : Entities = record { next = next; live = ls } in o) live;
+    }
+
+relabelled : (next : ℕ) (zones zones' : Contents) (es : List Entity) (id : Id) (i : ℕ) (e : Entity) (label : Handles) (slot h : ℕ) (v : LabelValue)
+    → IsPlace (view next zones es) id i → e ≡ get_or es i e → IsSound next zones es → Relabels zones zones' (take i es) (drop (suc i) es) e label slot h v
+    → Becomes next zones' (set es i (record e { label = label })) (with_change (with_value slot v) (view next zones es) id)
+relabelled next zones zones' es id i e label slot h v place is sound relabels =
+    let e' : Entity = record e { label = label } in
+    let within : i < length es = place_within next zones es id i place in
+    let split : es ≡ take i es ++ e ∷ drop (suc i) es = split_place es i e within is in
+    let exact : IsExact zones (labels_of (take i es ++ e ∷ drop (suc i) es)) = subst (λ (xs : List Entity). IsExact zones (labels_of xs)) split sound.exact in
+    let put : set es i e' ≡ take i es ++ e' ∷ drop (suc i) es = set_split es i e' within in
+    let live : live_of zones' (set es i e') ≡ set (live_of zones es) i (with_value slot v (seen zones e)) =
+    ap (live_of zones') put
+    ∙ live_relabel zones zones' (take i es) (drop (suc i) es) e label slot h v relabels
+    ∙ live_split zones (take i es) (drop (suc i) es) e i (with_value slot v (seen zones e)) (length-take-le i es (omega arith))
+    ∙ ap (λ (xs : List Entity). set (live_of zones xs) i (with_value slot v (seen zones e))) (sym split) in
+    changes next zones zones' es (set es i e') id i e (with_value slot v) place is sound (λ x. refl) (λ x. refl) live (length-set es i e')
+    (rw put (exact_relabel zones zones' (take i es) (drop (suc i) es) e label slot h v exact relabels))
+
+pub value_set : (next : ℕ) (zones zones' : Contents) (es : List Entity) (id : Id) (i : ℕ) (e : Entity) (slot : ℕ) (v : LabelValue)
+    → slot < 4 → IsPlace (view next zones es) id i → e ≡ get_or es i e → IsSound next zones es → SetsAt zones zones' slot (handle e.label slot) v
+    → Becomes next zones' (set es i e) (with_change (with_value slot v) (view next zones es) id)
+value_set next zones zones' es id i e slot v four place is sound sets = by_key (handle e.label slot) refl sets
+    where
+    by_key : (key : Option ℕ) → handle e.label slot ≡ key → SetsAt zones zones' slot key v
+        → Becomes next zones' (set es i e) (with_change (with_value slot v) (view next zones es) id)
+    by_key None own sets = absurd sets
+    by_key (Some h) own sets =
+        let exact : IsExact zones (labels_of (take i es ++ e ∷ drop (suc i) es)) =
+        subst (λ (xs : List Entity). IsExact zones (labels_of xs)) (split_place es i e (place_within next zones es id i place) is) sound.exact in
+        relabelled next zones zones' es id i e e.label slot h v place is sound
+        (relabels_set zones zones' (take i es) (drop (suc i) es) e slot h v four exact own sets)
+
+pub value_made : (next : ℕ) (zones zones' : Contents) (es : List Entity) (id : Id) (i : ℕ) (e : Entity) (label : Handles) (slot : ℕ) (v : LabelValue)
+    → slot < 4 → IsPlace (view next zones es) id i → e ≡ get_or es i e → IsSound next zones es → handle e.label slot ≡ None → Makes zones zones' e.label label slot v
+    → Becomes next zones' (set es i (record e { label = label })) (with_change (with_value slot v) (view next zones es) id)
+value_made next zones zones' es id i e label slot v four place is sound unset makes =
+    let exact : IsExact zones (labels_of (take i es ++ e ∷ drop (suc i) es)) =
+    subst (λ (xs : List Entity). IsExact zones (labels_of xs)) (split_place es i e (place_within next zones es id i place) is) sound.exact in
+    relabelled next zones zones' es id i e label slot makes.new v place is sound
+    (relabels_make zones zones' (take i es) (drop (suc i) es) e label slot v four exact unset makes)
+
+labels_set : (es : List Entity) (i : ℕ) (e e' : Entity) → e ≡ get_or es i e → e'.label ≡ e.label → labels_of (set es i e') ≡ labels_of es
+labels_set [] i e e' is same = refl
+labels_set (x ∷ es) zero e e' is same = ap (λ (l : Handles). l ∷ labels_of es) (same ∙ ap (λ (y : Entity). y.label) is)
+labels_set (x ∷ es) (suc i) e e' is same = ap (λ (ls : List Handles). x.label ∷ ls) (labels_set es i e e' is same)
+
+live_set : (zones : Contents) (es : List Entity) (i : ℕ) (e : Entity) → live_of zones (set es i e) ≡ set (live_of zones es) i (seen zones e)
+live_set zones [] i e = refl
+live_set zones (x ∷ es) zero e = refl
+live_set zones (x ∷ es) (suc i) e = ap (λ (ls : List Live). seen zones x ∷ ls) (live_set zones es i e)
+
+-- what an entity holds is changed
+pub what_changed : (next : ℕ) (zones : Contents) (es : List Entity) (id : Id) (i : ℕ) (e : Entity) (w : What) (change : What → What)
+    → IsPlace (view next zones es) id i → e ≡ get_or es i e → IsSound next zones es → ((x : What) → is_directory (change x) ≡ is_directory x) → w ≡ change e.what
+    → Becomes next zones (set es i (record e { what = w })) (with_change (with_what change) (view next zones es) id)
+what_changed next zones es id i e w change place is sound kinds changed =
+    let e' : Entity = record e { what = w } in
+    let live : live_of zones (set es i e') ≡ set (live_of zones es) i (with_what change (seen zones e)) =
+    live_set zones es i e' ∙ ap (λ (x : What). set (live_of zones es) i (with_what (λ _. x) (seen zones e))) changed in
+    changes next zones zones es (set es i e') id i e (with_what change) place is sound (λ x. refl) (λ x. kinds x.what) live (length-set es i e')
+    (subst (λ (ls : List Handles). IsExact zones ls) (sym (labels_set es i e e' is refl)) sound.exact)
+
+-- Look-ups by id
+
+before_end : (zones : Contents) (id : Id) (es : List Entity) → IsSome (find (has_id id) (live_of zones es))
+    → position_or_len (λ (e : Entity). nat_eq e.id.0 id.0) es < length es
+before_end zones id [] some = cc
+before_end zones id (e ∷ es) some = one (nat_eq e.id.0 id.0) (before_end zones id es) some
+    where
+    rest : ℕ
+    rest = position_or_len (λ (x : Entity). nat_eq x.id.0 id.0) es
+    one : (b : Bool) → (IsSome (find (has_id id) (live_of zones es)) → rest < length es)
+        → IsSome (cond b (Some (seen zones e)) (find (has_id id) (live_of zones es))) → cond (not b) (1 + rest) 0 < suc (length es)
+    one true later some = omega arith
+    one false later some = omega (arith, later some)
+
+pub position_some : (zones : Contents) (id : Id) (es : List Entity) → IsSome (find (has_id id) (live_of zones es))
+    → IsSome (position (λ (e : Entity). nat_eq e.id.0 id.0) es)
+position_some zones id es some =
+    let n : ℕ = position_or_len (λ (e : Entity). nat_eq e.id.0 id.0) es in
+    let yes : nat_lt n (length es) ≡ true = lt-ltb n (length es) (before_end zones id es some) in
+    rw yes refl
+
+pub place_found : (next : ℕ) (zones : Contents) (es : List Entity) (id : Id) (i : ℕ) → IsSound next zones es
+    → position (λ (e : Entity). nat_eq e.id.0 id.0) es ≡ Some i → IsPlace (view next zones es) id i
+place_found next zones [] id i sound at = absurd sound.rooted
+place_found next zones (r ∷ es) id i sound at =
+    let all : List Entity = r ∷ es in
+    let first = position-Some (λ (e : Entity). nat_eq e.id.0 id.0) all i r at in
+    let same : (d : Live) (k : ℕ) → k < length all → get_or (live_of zones all) k d ≡ seen zones (get_or all k r) =
+    λ d k l. get_or-map (seen zones) all k r d l in
+    let has : (d : Live) → has_id id (get_or (live_of zones all) i d) ≡ true = λ d. ap (has_id id) (same d i first.0) ∙ first.1 in
+    record {
+      within = omega (arith, first.0, length-map all (seen zones));
+      found = λ d. find_first (has_id id) (live_of zones all) i d (omega (arith, first.0, length-map all (seen zones))) (has d)
+          (λ k l. ap (has_id id) (same d k (omega (arith, first.0))) ∙ first.2 k l);
+      has = has;
+      later = λ ne. later_place i at_root ne (has (seen zones r));
+    }
+    where
+    at_root : r.id.0 ≡ 0
+    at_root = sound.rooted.0
+    later_place : (k : ℕ) → r.id.0 ≡ 0 → id.0 ≢ 0 → has_id id (get_or (live_of zones (r ∷ es)) k (seen zones r)) ≡ true → 0 < k
+    later_place zero root ne has = absurd (ne (sym (id_is id (seen zones r) has) ∙ root))
+    later_place (suc k) root ne has = omega arith
+
+-- the value of a label slot of the entity at a place
+get_values : (zones : Contents) (label : Handles) (slot : ℕ) → slot < 4 → get_or (label_values zones label) slot Unset ≡ value_of zones label slot
+unfolding label_values
+get_values zones label zero four = refl
+get_values zones label (suc zero) four = refl
+get_values zones label (suc (suc zero)) four = refl
+get_values zones label (suc (suc (suc zero))) four = refl
+get_values zones label (suc (suc (suc (suc slot)))) four = absurd (omega arith)
+
+pub value_place : (next : ℕ) (zones : Contents) (es : List Entity) (id : Id) (i : ℕ) (e : Entity) (slot : ℕ) → slot < 4
+    → IsPlace (view next zones es) id i → e ≡ get_or es i e → live_value (view next zones es) id slot ≡ value_of zones e.label slot
+value_place next zones es id i e slot four place is =
+    ap (λ (o : Option Live). get_or (label_of o) slot Unset) (found_place next zones es id i e place is) ∙ get_values zones e.label slot four
+
+-- a slot that isn't made is Unset
+pub unmade_value : (next : ℕ) (zones : Contents) (es : List Entity) (id : Id) (i : ℕ) (e : Entity) (slot : ℕ) → slot < 4
+    → IsPlace (view next zones es) id i → e ≡ get_or es i e → handle e.label slot ≡ None → live_value (view next zones es) id slot ≡ Unset
+unmade_value next zones es id i e slot four place is unset =
+    value_place next zones es id i e slot four place is ∙ ap (λ (key : Option ℕ). value_under zones slot key) unset
+
+pub unmade_none : (key : Option ℕ) → (IsSome key → IsTrue false) → key ≡ None
+unmade_none None no_some = refl
+unmade_none (Some h) no_some = absurd (false≢true (no_some refl))
+
+set_same : (es : List Entity) (i : ℕ) (e : Entity) → e ≡ get_or es i e → set es i e ≡ es
+set_same es i e is = ap (set es i) is ∙ set-get_or es i e
+
+-- after `make`, whether it found memory or not
+pub made_sound : (r : Result (Unit {0}) AllocError) (next : ℕ) (zones zones' : Contents) (es : List Entity) (id : Id) (i : ℕ) (e : Entity) (label : Handles) (slot : ℕ) (v : LabelValue)
+    → slot < 4 → IsPlace (view next zones es) id i → e ≡ get_or es i e → IsSound next zones es → handle e.label slot ≡ None
+    → OnOk r (Makes zones zones' e.label label slot v) → OnErr r ((zones' ≡ zones) × (label ≡ e.label)) → IsSound next zones' (set es i (record e { label = label }))
+made_sound (Ok u) next zones zones' es id i e label slot v four place is sound unset makes same =
+    (value_made next zones zones' es id i e label slot v four place is sound unset makes).sound
+made_sound (Err error) next zones zones' es id i e label slot v four place is sound unset makes same =
+    let e' : Entity = record e { label = label } in
+    let is_same : e' ≡ e = ap (λ (l : Handles). let x : Entity = record e { label = l } in x) same.1 in
+    let put : set es i e' ≡ es = ap (set es i) is_same ∙ set_same es i e is in
+    rw (put, same.0) sound
+
+pub on_err : {T E : Type 0} (r : Result T E) (P : Type 0) → P → OnErr r P
+on_err (Ok x) P p = tt
+on_err (Err e) P p = p
+
+pub opened : (zones : Contents) (e : Entity) (values : List LabelValue) → length values ≡ 4 → MakesLabel (replicate 4 []) zones e.label values
+    → e.id.0 ≡ 0 → IsTrue (is_directory e.what)
+    → Becomes 1 zones ([] ++ e ∷ []) (record { next = 1; live = record { id = e.id; name = e.name; label = values; what = e.what } ∷ [] })
+opened zones e values four makes first directory =
+    let x : Live = record { id = e.id; name = e.name; label = values; what = e.what } in
+    let live : live_of zones ([] ++ e ∷ []) ≡ x ∷ [] = live_push (replicate 4 []) zones [] e values four exact_none makes in
+    record {
+      sound = record {
+        rising = (omega arith, omega (arith, first));
+        rooted = (first, directory);
+        few = omega arith;
+        exact = exact_push (replicate 4 []) zones [] e values exact_none makes;
+      };
+      shows = ap (λ (ls : List Live). let o : Entities = record { next = 1; live = ls } in o) live;
+    }

@@ -1,0 +1,106 @@
+-- Live entities by rising id: each id stands once.
+use Rattle.std.proofs.Common.{◌≡◌, ◌≢◌, ℕ, ◌<◌, ◌≤◌, ◌+◌, List, [], ◌∷◌, ◌++◌, Option, Some, None, length, get_or, set, take, drop, map, remove, refl, ap, sym, ◌∙◌, subst, arith, inl, inr, zero, suc, IsSome, IsTrue, nat_eq, Bool, true, false, not, cond, ◌⊎◌}
+use Rattle.std.specs.Prelude.{filter, find}
+use Rattle.std.proofs.lemmas.Bool.Decides.{nat_tests}
+use Rattle.mf_objects.specs.declared.id.Id.{Id}
+use Rattle.mf_objects.specs.declared.entity.What.{What}
+use Rattle.mf_objects.specs.Live.{Live, has_id, is_directory}
+use Rattle.mf_objects.specs.Changes.{changed_at, with_what}
+use Rattle.mf_objects.specs.Sound.{IsRising, HasRoot}
+
+pub rising_weaker : (low least next : ℕ) (es : List Live) → low ≤ least → IsRising least next es → IsRising low next es
+rising_weaker low least next [] l rising = omega arith
+rising_weaker low least next (e ∷ es) l rising = (omega (arith, rising.0), rising.1)
+
+pub rising_push : (least next : ℕ) (es : List Live) (e : Live) → e.id.0 ≡ next → IsRising least next es → IsRising least (next + 1) (es ++ e ∷ [])
+rising_push least next [] e is rising = (omega (arith, rising), omega arith)
+rising_push least next (x ∷ es) e is rising = (rising.0, rising_push (x.id.0 + 1) next es e is rising.1)
+
+pub rising_remove : (least next : ℕ) (es : List Live) (i : ℕ) → IsRising least next es → IsRising least next (remove es i)
+rising_remove least next [] zero rising = rising
+rising_remove least next [] (suc i) rising = rising
+rising_remove least next (e ∷ es) zero rising = rising_weaker least (e.id.0 + 1) next es (omega (arith, rising.0)) rising.1
+rising_remove least next (e ∷ es) (suc i) rising = (rising.0, rising_remove (e.id.0 + 1) next es i rising.1)
+
+-- whether an entity has this id
+pub id_is : (id : Id) (e : Live) → has_id id e ≡ true → e.id.0 ≡ id.0
+id_is id e h = grind (arith, nat_tests)
+
+pub id_differs : (id : Id) (e : Live) → e.id.0 ≢ id.0 → has_id id e ≡ false
+id_differs id e ne = grind (arith, nat_tests)
+
+-- no entity from the id on has it
+pub at_least : (least next : ℕ) (es : List Live) (i : ℕ) (d : Live) → i < length es → IsRising least next es → least ≤ (get_or es i d).id.0
+at_least least next [] i d within rising = absurd (omega arith)
+at_least least next (e ∷ es) zero d within rising = rising.0
+at_least least next (e ∷ es) (suc i) d within rising =
+    let later : e.id.0 + 1 ≤ (get_or es i d).id.0 = at_least (e.id.0 + 1) next es i d (omega arith) rising.1 in
+    omega (arith, rising.0, later)
+
+changed_none : (change : Live → Live) (id : Id) (least next : ℕ) (es : List Live) → id.0 < least → IsRising least next es → map (changed_at change id) es ≡ es
+changed_none change id least next [] l rising = refl
+changed_none change id least next (e ∷ es) l rising =
+    let no_id : has_id id e ≡ false = id_differs id e (λ same. omega (arith, rising.0, same)) in
+    let rest : map (changed_at change id) es ≡ es = changed_none change id (e.id.0 + 1) next es (omega (arith, rising.0)) rising.1 in
+    rw (no_id, rest) refl
+
+-- the change of the entity at a place is that of the entity with its id
+pub set_changed : (change : Live → Live) (id : Id) (least next : ℕ) (es : List Live) (i : ℕ) (e : Live) → i < length es → IsRising least next es
+    → e ≡ get_or es i e → has_id id e ≡ true → set es i (change e) ≡ map (changed_at change id) es
+set_changed change id least next [] i e within rising is has = absurd (omega arith)
+set_changed change id least next (x ∷ es) zero e within rising is has =
+    let has_x : has_id id x ≡ true = ap (has_id id) (sym is) ∙ has in
+    let rest : map (changed_at change id) es ≡ es = changed_none change id (x.id.0 + 1) next es (omega (arith, id_is id x has_x)) rising.1 in
+    rw (has_x, rest, is) refl
+set_changed change id least next (x ∷ es) (suc i) e within rising is has =
+    let later : x.id.0 + 1 ≤ (get_or es i e).id.0 = at_least (x.id.0 + 1) next es i e (omega arith) rising.1 in
+    let same : (get_or es i e).id.0 ≡ id.0 = ap (λ (y : Live). y.id.0) (sym is) ∙ id_is id e has in
+    let no_id : has_id id x ≡ false = id_differs id x (λ early. omega (arith, later, same, early)) in
+    let rest : set es i (change e) ≡ map (changed_at change id) es = set_changed change id (x.id.0 + 1) next es i e (omega arith) rising.1 is has in
+    rw no_id (ap (λ (ls : List Live). x ∷ ls) rest)
+
+-- a change that keeps the ids
+pub rising_changed : (change : Live → Live) (id : Id) (least next : ℕ) (es : List Live) → ((e : Live) → (change e).id ≡ e.id)
+    → IsRising least next es → IsRising least next (map (changed_at change id) es)
+rising_changed change id least next [] keeps rising = rising
+rising_changed change id least next (e ∷ es) keeps rising =
+    let same : (changed_at change id e).id ≡ e.id = one (has_id id e) in
+    let rest = rising_changed change id (e.id.0 + 1) next es keeps rising.1 in
+    rw same (rising.0, rest)
+    where
+    one : (b : Bool) → (cond b (change e) e).id ≡ e.id
+    one true = keeps e
+    one false = refl
+
+pub root_push : (es ys : List Live) → HasRoot es → HasRoot (es ++ ys)
+root_push [] ys root = absurd root
+root_push (e ∷ es) ys root = root
+
+pub root_changed : (change : Live → Live) (id : Id) (es : List Live) → ((e : Live) → (change e).id ≡ e.id)
+    → ((e : Live) → is_directory (change e).what ≡ is_directory e.what) → HasRoot es → HasRoot (map (changed_at change id) es)
+root_changed change id [] keeps directory root = root
+root_changed change id (e ∷ es) keeps directory root =
+    let same : (changed_at change id e).id ≡ e.id = one (has_id id e) in
+    let kind : is_directory (changed_at change id e).what ≡ is_directory e.what = two (has_id id e) in
+    (ap (λ (i : Id). i.0) same ∙ root.0, kind ∙ root.1)
+    where
+    one : (b : Bool) → (cond b (change e) e).id ≡ e.id
+    one true = keeps e
+    one false = refl
+    two : (b : Bool) → is_directory (cond b (change e) e).what ≡ is_directory e.what
+    two true = directory e
+    two false = refl
+
+pub root_remove : (es : List Live) (i : ℕ) → 0 < i → HasRoot es → HasRoot (remove es i)
+root_remove [] i later root = absurd root
+root_remove (e ∷ es) zero later root = absurd (omega arith)
+root_remove (e ∷ es) (suc i) later root = root
+
+-- the first element that passes the test
+pub find_first : (p : Live → Bool) (xs : List Live) (k : ℕ) (d : Live) → k < length xs → p (get_or xs k d) ≡ true
+    → ((j : ℕ) → j < k → p (get_or xs j d) ≡ false) → find p xs ≡ Some (get_or xs k d)
+find_first p [] k d within hit before = absurd (omega arith)
+find_first p (x ∷ xs) zero d within hit before = rw hit refl
+find_first p (x ∷ xs) (suc k) d within hit before =
+    let no_x : p x ≡ false = before 0 (omega arith) in
+    rw no_x (find_first p xs k d (omega arith) hit (λ j l. before (suc j) (omega arith)))

@@ -1,0 +1,55 @@
+use Rattle.std.proofs.Common.{◌≡◌, ◌<◌, ℕ, List, [], ◌∷◌, ◌++◌, ◌+◌, length, ap, sym, ◌∙◌, subst, arith, refl, OnErr, Result, Err}
+use Rattle.std.proofs.lemmas.List.{length-map}
+use Rattle.mf_objects.specs.declared.id.Id.{Id}
+use Rattle.mf_objects.specs.declared.entity.Entity.{Entity}
+use Rattle.mf_objects.specs.Live.{Live, Entities}
+use Rattle.mf_objects.specs.Changes.{with_entity}
+use Rattle.mf_objects.specs.Sound.{live_of, seen, IsSound}
+use Rattle.mf_objects.proofs.Kept.{view, Becomes, same_zones, added, on_err}
+use Rattle.mf_objects.proofs.objects.Objects.add.Goals as goal
+
+pub invariant_of-self-in_err-label : goal.invariant_of-self-in_err-label
+invariant_of-self-in_err-label c =
+    let zones = c.self.inside.zones in
+    let es = c.self.inside.entities.items in
+    rw c.reserve.ensures.items (same_zones c.self.inside.next zones c.make_label.new.self es c.self.invariant c.in_err-label.ensures.err).sound
+
+pub returns-in_err-label-clause-err : goal.returns-in_err-label-clause-err
+returns-in_err-label-clause-err c =
+    let zones = c.self.inside.zones in
+    let es = c.self.inside.entities.items in
+    on_err c.from_residual-in_err-label.result (view c.self.inside.next c.make_label.new.self c.reserve.new.self.items ≡ c.args.self.now)
+    (ap (λ (xs : List Entity). view c.self.inside.next c.make_label.new.self xs) c.reserve.ensures.items
+    ∙ (same_zones c.self.inside.next zones c.make_label.new.self es c.self.invariant c.in_err-label.ensures.err).shows
+    ∙ c.self.view_is)
+
+pub invariant_of-self-2 : goal.invariant_of-self-2
+invariant_of-self-2 c =
+    let zones = c.self.inside.zones in
+    let es = c.self.inside.entities.items in
+    let e : Entity = record { id = record { 0 = c.self.inside.next }; name = c.in_ok-name.name; label = c.in_ok-label.label; what = c.args.what } in
+    let room : length es < 1024 = omega (arith, c.requires.few, length-map es (seen zones), ap (λ (o : Entities). length o.live) c.self.view_is) in
+    let four : length c.args.values.now ≡ 4 = omega arith in
+    let b : Becomes (c.self.inside.next + 1) c.make_label.new.self (es ++ e ∷ [])
+        (record { next = c.self.inside.next + 1; live = live_of zones es ++ record { id = e.id; name = e.name; label = c.args.values.now; what = e.what } ∷ [] }) =
+    added c.self.inside.next zones c.make_label.new.self es e c.args.values.now refl room four c.self.invariant c.in_ok-label.ensures.ok in
+    let pushed : c.push.new.self.items ≡ c.reserve.new.self.items ++ e ∷ [] = rw c.unwrap.ensures at c.push.ensures.items in
+    let items : c.push.new.self.items ≡ es ++ e ∷ [] = pushed ∙ ap (λ (xs : List Entity). xs ++ e ∷ []) c.reserve.ensures.items in
+    rw items b.sound
+
+pub returns-clause-ok : goal.returns-clause-ok
+returns-clause-ok c =
+    let zones = c.self.inside.zones in
+    let es = c.self.inside.entities.items in
+    let e : Entity = record { id = record { 0 = c.self.inside.next }; name = c.in_ok-name.name; label = c.in_ok-label.label; what = c.args.what } in
+    let room : length es < 1024 = omega (arith, c.requires.few, length-map es (seen zones), ap (λ (o : Entities). length o.live) c.self.view_is) in
+    let four : length c.args.values.now ≡ 4 = omega arith in
+    let b : Becomes (c.self.inside.next + 1) c.make_label.new.self (es ++ e ∷ [])
+        (record { next = c.self.inside.next + 1; live = live_of zones es ++ record { id = e.id; name = e.name; label = c.args.values.now; what = e.what } ∷ [] }) =
+    added c.self.inside.next zones c.make_label.new.self es e c.args.values.now refl room four c.self.invariant c.in_ok-label.ensures.ok in
+    let pushed : c.push.new.self.items ≡ c.reserve.new.self.items ++ e ∷ [] = rw c.unwrap.ensures at c.push.ensures.items in
+    let items : c.push.new.self.items ≡ es ++ e ∷ [] = pushed ∙ ap (λ (xs : List Entity). xs ++ e ∷ []) c.reserve.ensures.items in
+    ap (λ (xs : List Entity). view (c.self.inside.next + 1) c.make_label.new.self xs) items
+    ∙ b.shows
+    ∙ ap (λ (n : List ℕ). with_entity (view c.self.inside.next zones es) n c.args.values.now c.args.what) (let n = c.in_ok-name.ensures in n)
+    ∙ ap (λ (o : Entities). with_entity o c.args.name.now c.args.values.now c.args.what) c.self.view_is

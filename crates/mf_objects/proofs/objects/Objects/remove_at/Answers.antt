@@ -1,0 +1,40 @@
+use Rattle.std.proofs.Common.{◌≡◌, ◌<◌, ℕ, List, length, remove, ap, sym, ◌∙◌, subst, arith}
+use Rattle.std.proofs.lemmas.List.{length-map}
+use Rattle.mf_objects.specs.declared.entity.Entity.{Entity}
+use Rattle.mf_objects.specs.Live.{Live, Entities}
+use Rattle.mf_objects.specs.Sound.{live_of, seen, IsSound}
+use Rattle.mf_objects.proofs.Kept.{view, Becomes, held_place, dropped}
+use Rattle.mf_objects.proofs.objects.Objects.remove_at.Goals as goal
+
+within : (next : ℕ) (objects : Entities) (es : List Entity) (lives : List Live) (place : ℕ) → lives ≡ objects.live → length lives ≡ length es → place < length objects.live → place < length es
+within next objects es lives place is len h = omega (arith, ap (λ (ls : List Live). length ls) is)
+
+pub give_up-requires : goal.give_up-requires
+give_up-requires c =
+    let zones = c.self.inside.zones in
+    let es = c.self.inside.entities.items in
+    held_place c.self.inside.next zones es c.args.place c.remove-label.result
+    (within c.self.inside.next c.args.self.now es (live_of zones es) c.args.place (ap (λ (o : Entities). o.live) c.self.view_is) (length-map es (seen zones)) c.requires.within)
+    c.remove-label.ensures.value c.self.invariant
+
+pub invariant_of-self : goal.invariant_of-self
+invariant_of-self c =
+    let zones = c.self.inside.zones in
+    let es = c.self.inside.entities.items in
+    let b =
+    dropped c.self.inside.next zones c.give_up.new.self es c.args.place c.remove-label.result
+    (within c.self.inside.next c.args.self.now es (live_of zones es) c.args.place (ap (λ (o : Entities). o.live) c.self.view_is) (length-map es (seen zones)) c.requires.within)
+    c.requires.later c.remove-label.ensures.value c.self.invariant c.give_up.ensures in
+    rw c.remove-label.ensures.items b.sound
+
+pub returns : goal.returns
+returns c =
+    let zones = c.self.inside.zones in
+    let es = c.self.inside.entities.items in
+    let b =
+    dropped c.self.inside.next zones c.give_up.new.self es c.args.place c.remove-label.result
+    (within c.self.inside.next c.args.self.now es (live_of zones es) c.args.place (ap (λ (o : Entities). o.live) c.self.view_is) (length-map es (seen zones)) c.requires.within)
+    c.requires.later c.remove-label.ensures.value c.self.invariant c.give_up.ensures in
+    ap (λ (xs : List Entity). view c.self.inside.next c.give_up.new.self xs) c.remove-label.ensures.items
+    ∙ b.shows
+    ∙ ap (λ (o : Entities). let p : Entities = record { next = o.next; live = remove o.live c.args.place } in p) c.self.view_is

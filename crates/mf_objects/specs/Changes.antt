@@ -1,0 +1,79 @@
+-- What the calls change.
+use Rattle.std.specs.Prelude.{ℕ, ◌+◌, Bool, true, false, not, ◌||◌, List, [], ◌∷◌, ◌++◌, map, filter, drop, slice_set, if◌then◌else◌, Option, None}
+use Rattle.mf_elem.specs.declared.label.LabelValue.{LabelValue}
+use Rattle.mf_objects.specs.declared.id.Id.{Id}
+use Rattle.mf_objects.specs.declared.entity.What.{What}
+use Rattle.mf_objects.specs.declared.entity.What.TheVariants.{Process, Vnode, Pipe, Socket}
+use Rattle.mf_objects.specs.Live.{Live, Entities, has_id, is_made_by}
+
+-- the entity that is made next, if it is this
+abbrev pub made : Entities → List ℕ → List LabelValue → What → Live
+made objects name values what = record { id = record { 0 = objects.next }; name = name; label = values; what = what }
+
+-- one entity more, under the next id
+abbrev pub with_entity : Entities → List ℕ → List LabelValue → What → Entities
+with_entity objects name values what =
+    record { next = objects.next + 1; live = objects.live ++ made objects name values what ∷ [] }
+
+-- without the entities that pass the test
+abbrev pub without : (Live → Bool) → Entities → Entities
+without gone objects = record objects { live = filter (λ e. not (gone e)) objects.live }
+
+-- it is the process, or a pipe or a socket that the process made
+abbrev pub goes_with : Id → Live → Bool
+goes_with id e = has_id id e || is_made_by id e.what
+
+abbrev pub changed_at : (Live → Live) → Id → Live → Live
+changed_at change id e = if has_id id e then change e else e
+
+-- the entity of this id is changed, and no other
+abbrev pub with_change : (Live → Live) → Entities → Id → Entities
+with_change change objects id = record objects { live = map (changed_at change id) objects.live }
+
+abbrev pub with_what : (What → What) → Live → Live
+with_what change e = record e { what = change e.what }
+
+abbrev pub with_value : ℕ → LabelValue → Live → Live
+with_value slot value e = record e { label = slice_set e.label slot value }
+
+-- bytes are appended to a file or a pipe
+abbrev pub appended : List ℕ → What → What
+appended text (Process cred) = Process cred
+appended text (Vnode vnode) = Vnode (record vnode { content = vnode.content ++ text })
+appended text (Pipe pipe) = Pipe (record pipe { bytes = pipe.bytes ++ text })
+appended text (Socket socket) = Socket socket
+
+-- a pipe is emptied
+abbrev pub cleared : What → What
+cleared (Process cred) = Process cred
+cleared (Vnode vnode) = Vnode vnode
+cleared (Pipe pipe) = Pipe (record pipe { bytes = [] })
+cleared (Socket socket) = Socket socket
+
+abbrev pub with_messages : (List (List ℕ) → List (List ℕ)) → What → What
+with_messages change (Process cred) = Process cred
+with_messages change (Vnode vnode) = Vnode vnode
+with_messages change (Pipe pipe) = Pipe pipe
+with_messages change (Socket socket) = Socket (record socket { messages = change socket.messages })
+
+abbrev pub with_mode : ℕ → What → What
+with_mode mode (Process cred) = Process cred
+with_mode mode (Vnode vnode) = Vnode (record vnode { file = record vnode.file { mode = mode } })
+with_mode mode (Pipe pipe) = Pipe pipe
+with_mode mode (Socket socket) = Socket socket
+
+-- The beginning
+
+-- the root directory: of uid 0 and gid 0, with mode 755
+abbrev pub root : List LabelValue → Live
+root values =
+    record {
+      id = record { 0 = 0 };
+      name = [];
+      label = values;
+      what = Vnode (record { parent = None; file = record { uid = 0; gid = 0; mode = 493; dir = true }; content = [] });
+    }
+
+-- the root alone
+abbrev pub opening : List LabelValue → Entities
+opening values = record { next = 1; live = root values ∷ [] }

@@ -1,0 +1,4 @@
+pub mod Head
+pub mod Live
+pub mod Changes
+pub mod Sound

@@ -1,0 +1,171 @@
+-- The live entities, as contracts see them: the listing of a finite map by rising id.
+use Rattle.std.specs.Prelude.{◌≡◌, ℕ, ◌<◌, ◌≤◌, Bool, true, false, IsTrue, nat_eq, nat_le, not, ◌&&◌, ◌||◌, List, [], ◌∷◌, length, Option, Some, None, find, count_by, slice_index_or, option_map}
+use Rattle.std.specs.Str.{bytes_eq}
+use Rattle.mf_elem.specs.declared.label.LabelValue.{LabelValue}
+use Rattle.mf_elem.specs.declared.label.LabelValue.TheVariants as values
+use Rattle.mf_cred.specs.declared.cred.Cred.{Cred}
+use Rattle.mf_cred.specs.declared.cred.FileView.{FileView}
+use Rattle.mf_item.specs.declared.view.Kind.{Kind}
+use Rattle.mf_item.specs.declared.view.Kind.TheVariants as kinds
+use Rattle.mf_objects.specs.declared.id.Id.{Id}
+use Rattle.mf_objects.specs.declared.entity.What.{What}
+use Rattle.mf_objects.specs.declared.entity.What.TheVariants.{Process, Vnode, Pipe, Socket}
+
+-- a live entity: its id, its name, the values of its four label slots, and what it is
+pub record Live : Type 0 where
+  pub id : Id
+  pub name : List ℕ
+  pub label : List LabelValue
+  pub what : What
+
+-- the live entities by rising id, and the id that is given next
+pub record Entities : Type 0 where
+  pub next : ℕ
+  pub live : List Live
+
+-- Which entity it is
+
+abbrev pub has_id : Id → Live → Bool
+has_id id e = nat_eq e.id.0 id.0
+
+-- the live entity of an id
+abbrev pub live_at : Entities → Id → Option Live
+live_at objects id = find (has_id id) objects.live
+
+abbrev pub is_process : What → Bool
+is_process (Process cred) = true
+is_process (Vnode vnode) = false
+is_process (Pipe pipe) = false
+is_process (Socket socket) = false
+
+abbrev pub is_vnode : What → Bool
+is_vnode (Process cred) = false
+is_vnode (Vnode vnode) = true
+is_vnode (Pipe pipe) = false
+is_vnode (Socket socket) = false
+
+abbrev pub is_pipe : What → Bool
+is_pipe (Process cred) = false
+is_pipe (Vnode vnode) = false
+is_pipe (Pipe pipe) = true
+is_pipe (Socket socket) = false
+
+abbrev pub is_socket : What → Bool
+is_socket (Process cred) = false
+is_socket (Vnode vnode) = false
+is_socket (Pipe pipe) = false
+is_socket (Socket socket) = true
+
+abbrev pub is_directory : What → Bool
+is_directory (Process cred) = false
+is_directory (Vnode vnode) = vnode.file.dir
+is_directory (Pipe pipe) = false
+is_directory (Socket socket) = false
+
+abbrev pub passes : (What → Bool) → Option Live → Bool
+passes test None = false
+passes test (Some e) = test e.what
+
+-- a live process, vnode, pipe, socket or directory has this id
+abbrev pub IsLive : (What → Bool) → Entities → Id → Type 0
+IsLive test objects id = IsTrue (passes test (live_at objects id))
+
+-- the id is held by this directory
+abbrev pub is_held_by : Id → Option Id → Bool
+is_held_by dir None = false
+is_held_by dir (Some parent) = nat_eq parent.0 dir.0
+
+-- it is an entry of this directory
+abbrev pub is_entry : Id → What → Bool
+is_entry dir (Process cred) = false
+is_entry dir (Vnode vnode) = is_held_by dir vnode.parent
+is_entry dir (Pipe pipe) = false
+is_entry dir (Socket socket) = false
+
+-- it was made by this process: pipes and sockets alone have a maker
+abbrev pub is_made_by : Id → What → Bool
+is_made_by maker (Process cred) = false
+is_made_by maker (Vnode vnode) = false
+is_made_by maker (Pipe pipe) = nat_eq pipe.maker.0 maker.0
+is_made_by maker (Socket socket) = nat_eq socket.maker.0 maker.0
+
+-- it passes the test and has this name
+abbrev pub is_named : (What → Bool) → List ℕ → Live → Bool
+is_named test name e = test e.what && bytes_eq e.name name
+
+-- the live entity of this name that passes the test
+abbrev pub live_named : (What → Bool) → Entities → List ℕ → Option Live
+live_named test objects name = find (is_named test name) objects.live
+
+abbrev pub id_of : Option Live → Option Id
+id_of found = option_map (λ e. e.id) found
+
+-- What an entity holds: of no live entity, or of one of another kind, what a fresh one holds
+
+abbrev pub kind_of : What → Kind
+kind_of (Process cred) = kinds.Process
+kind_of (Vnode vnode) = kinds.Vnode
+kind_of (Pipe pipe) = kinds.Pipe
+kind_of (Socket socket) = kinds.Socket
+
+abbrev pub no_file : FileView
+no_file = record { uid = 0; gid = 0; mode = 0; dir = false }
+
+abbrev pub no_cred : Cred
+no_cred = record { uid = 0; ruid = 0; svuid = 0; groups = 0 ∷ [] }
+
+abbrev pub file_of : What → FileView
+file_of (Process cred) = no_file
+file_of (Vnode vnode) = vnode.file
+file_of (Pipe pipe) = no_file
+file_of (Socket socket) = no_file
+
+abbrev pub cred_of : What → Cred
+cred_of (Process cred) = cred
+cred_of (Vnode vnode) = no_cred
+cred_of (Pipe pipe) = no_cred
+cred_of (Socket socket) = no_cred
+
+-- the bytes of a vnode or a pipe
+abbrev pub content_of : What → List ℕ
+content_of (Process cred) = []
+content_of (Vnode vnode) = vnode.content
+content_of (Pipe pipe) = pipe.bytes
+content_of (Socket socket) = []
+
+abbrev pub messages_of : What → List (List ℕ)
+messages_of (Process cred) = []
+messages_of (Vnode vnode) = []
+messages_of (Pipe pipe) = []
+messages_of (Socket socket) = socket.messages
+
+abbrev pub reading : {A : Type 0} → (What → A) → A → Option Live → A
+reading read none None = none
+reading read none (Some e) = read e.what
+
+abbrev pub kind_at : Entities → Id → Kind
+kind_at objects id = reading kind_of kinds.Process (live_at objects id)
+
+abbrev pub file_at : Entities → Id → FileView
+file_at objects id = reading file_of no_file (live_at objects id)
+
+abbrev pub cred_at : Entities → Id → Cred
+cred_at objects id = reading cred_of no_cred (live_at objects id)
+
+abbrev pub content_at : Entities → Id → List ℕ
+content_at objects id = reading content_of [] (live_at objects id)
+
+abbrev pub messages_at : Entities → Id → List (List ℕ)
+messages_at objects id = reading messages_of [] (live_at objects id)
+
+-- how many entries a directory has
+abbrev pub entry_count : Entities → Id → ℕ
+entry_count objects dir = count_by (λ e. is_entry dir e.what) objects.live
+
+abbrev pub label_of : Option Live → List LabelValue
+label_of None = []
+label_of (Some e) = e.label
+
+-- the value of a label slot
+abbrev pub value_at : Entities → Id → ℕ → LabelValue
+value_at objects id slot = slice_index_or (label_of (live_at objects id)) slot values.Unset

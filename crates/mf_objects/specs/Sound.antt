@@ -1,0 +1,68 @@
+-- What is true of every population of live entities and the zones of their labels.
+use Rattle.std.specs.Prelude.{◌≡◌, ◌≢◌, ℕ, ◌+◌, ◌<◌, ◌≤◌, nat_eq, true, IsTrue, slice_index_or, List, [], ◌∷◌, length, map, Option, Some, None, if◌then◌else◌}
+use Rattle.mf_elem.specs.declared.label.LabelValue.{LabelValue}
+use Rattle.mf_slots.specs.Zones.{Contents, Handles, handle, under, value_of}
+use Rattle.mf_objects.specs.declared.entity.Entity.{Entity}
+use Rattle.mf_objects.specs.declared.id.Id.{Id}
+use Rattle.mf_objects.specs.Live.{Live, Entities, is_directory, has_id, live_at}
+
+-- the values of the four slots of a label
+unfoldable pub label_values : Contents → Handles → List LabelValue
+label_values zones label = value_of zones label 0 ∷ value_of zones label 1 ∷ value_of zones label 2 ∷ value_of zones label 3 ∷ []
+
+-- an entity as contracts see it
+abbrev pub seen : Contents → Entity → Live
+seen zones e = record { id = e.id; name = e.name; label = label_values zones e.label; what = e.what }
+
+abbrev pub labels_of : List Entity → List Handles
+labels_of entities = map (λ (e : Entity). e.label) entities
+
+-- 1 where the handle is this one, and else 0
+abbrev pub owned : Option ℕ → ℕ → ℕ
+owned None h = 0
+owned (Some k) h = if nat_eq k h then 1 else 0
+
+-- how many of the labels have this handle in this slot
+abbrev pub owner_count : ℕ → ℕ → List Handles → ℕ
+owner_count slot h [] = 0
+owner_count slot h (label ∷ labels) = owned (handle label slot) h + owner_count slot h labels
+
+-- 1 where a value lies there, and else 0
+abbrev pub held_count : Option LabelValue → ℕ
+held_count None = 0
+held_count (Some value) = 1
+
+-- the zones hold the values of these labels' made slots, each once, and nothing else
+pub record IsExact (zones : Contents) (labels : List Handles) : Type 0 where
+  pub each : (slot h : ℕ) → slot < 4 → owner_count slot h labels ≡ held_count (under zones slot h)
+
+-- the ids rise, are at least the first number and stay below the second
+abbrev pub IsRising : ℕ → ℕ → List Live → Type 0
+IsRising least next [] = least ≤ next
+IsRising least next (e ∷ es) = (least ≤ e.id.0) × IsRising (e.id.0 + 1) next es
+
+-- the first entity is the root directory, whose id is 0
+abbrev pub HasRoot : List Live → Type 0
+HasRoot [] = ⊥
+HasRoot (e ∷ es) = (e.id.0 ≡ 0) × IsTrue (is_directory e.what)
+
+-- the live entities as contracts see them
+abbrev pub live_of : Contents → List Entity → List Live
+live_of zones entities = map (seen zones) entities
+
+pub record IsSound (next : ℕ) (zones : Contents) (entities : List Entity) : Type 0 where
+  pub rising : IsRising 0 next (live_of zones entities)
+  pub rooted : HasRoot (live_of zones entities)
+  pub few : length entities ≤ 1024
+  pub exact : IsExact zones (labels_of entities)
+
+-- the entity of this id stands at this place, which is the first one only for the root
+pub record IsPlace (objects : Entities) (id : Id) (place : ℕ) : Type 0 where
+  pub within : place < length objects.live
+  pub found : (d : Live) → live_at objects id ≡ Some (slice_index_or objects.live place d)
+  pub has : (d : Live) → has_id id (slice_index_or objects.live place d) ≡ true
+  pub later : id.0 ≢ 0 → 0 < place
+
+-- an entity as contracts see it, with these label values
+abbrev pub shown : List LabelValue → Entity → Live
+shown label e = record { id = e.id; name = e.name; label = label; what = e.what }

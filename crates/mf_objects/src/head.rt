@@ -1,0 +1,53 @@
+//! The beginning of what a file, a pipe or a message holds.
+ghost use Rattle.std.specs.Prelude.{◌≡◌, ◌^◌, ◌<◌, length};
+ghost use Rattle.mf_objects.specs.Head.{head_of};
+
+use mf_cred::{ArrayVec, Duplicate};
+
+/// The bytes of which a head keeps the value.
+pub const HEAD_BYTES: usize = 64;
+
+/// How many bytes something holds, and the first 64 of them.
+#[derive(Drop)]
+pub struct Head {
+    pub len: u32,
+    pub first: ArrayVec<u8, 64>,
+}
+
+impl Head {
+    ghost use Rattle.mf_objects.specs.Head.{head_of};
+
+    /// The head of these bytes.
+    pub(crate) fn of(bytes: &[u8]) -> Head
+        requires { length bytes.now < 2 ^ 32 }
+        ensures { result ≡ head_of bytes.now }
+    {
+        let shown = HEAD_BYTES.min(bytes.len());
+        let mut first = ArrayVec::new();
+        for byte in &bytes[..shown] {
+            first.push(*byte);
+        }
+        Head {
+            len: bytes.len() as u32,
+            first,
+        }
+    }
+}
+
+impl Default for Head {
+    fn default() -> Head {
+        Head {
+            len: 0,
+            first: ArrayVec::new(),
+        }
+    }
+}
+
+impl Duplicate for Head {
+    fn copy(&self) -> Head {
+        Head {
+            len: self.len,
+            first: self.first.copy(),
+        }
+    }
+}

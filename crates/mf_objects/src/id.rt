@@ -1,0 +1,14 @@
+//! Ids of live entities.
+ghost use Rattle.std.specs.Prelude.{◌≡◌};
+
+/// The id of an entity. Ids are given from 0 on in the order of creation, and never again.
+#[derive(Clone, Copy, PartialEq, Eq, Debug)]
+pub struct Id(pub(crate) u32);
+
+impl Id {
+    pub fn number(self) -> u32
+        ensures { result ≡ self.0 }
+    {
+        self.0
+    }
+}

@@ -1,0 +1,172 @@
+//! Names, bytes and messages, which contracts see as lists.
+ghost use Rattle.std.specs.Prelude.{◌≡◌, ◌≤◌, ◌<◌, ◌+◌, [], ◌∷◌, ◌++◌, length, OnOk, OnErr, IfOk, drop, slice_get, Some};
+
+use std::alloc::{AllocError, Global};
+use std::marker::Model;
+
+/// A name of a process, a pipe or a socket, or a component of a path. Contracts see its bytes.
+#[derive(Drop)]
+pub struct Name {
+    text: String,
+}
+
+impl Model for Name {
+    ghost use Rattle.std.specs.Prelude.{List, ℕ, string_bytes};
+
+    ghost Value = { List ℕ };
+
+    ghost view = { λ a. string_bytes a.text };
+}
+
+impl Name {
+    pub fn from_str(alloc: Global, text: &str) -> Result<Name, AllocError>
+        ensures { IfOk result (λ name. name ≡ text.now) }
+    {
+        let text = String::from_str(alloc, text)?;
+        Ok(Name { text })
+    }
+
+    pub fn as_str(&self) -> &str
+        ensures { result.now ≡ self.now }
+    {
+        self.text.as_str()
+    }
+}
+
+/// Some names in a row. Contracts see their list.
+#[derive(Drop)]
+pub struct NameList {
+    names: Vec<Name>,
+}
+
+impl Model for NameList {
+    ghost use Rattle.std.specs.Prelude.{List, ℕ};
+
+    ghost Value = { List (List ℕ) };
+
+    ghost view = { λ a. a.names.items };
+}
+
+impl NameList {
+    pub fn new(alloc: Global) -> NameList
+        ensures { result ≡ [] }
+    {
+        NameList {
+            names: Vec::new(alloc),
+        }
+    }
+
+    pub fn as_slice(&self) -> &[Name]
+        ensures { result.now ≡ self.now }
+    {
+        self.names.as_slice()
+    }
+}
+
+/// At most `MOST` bytes. Contracts see their list.
+#[derive(Drop)]
+pub struct Bytes<const MOST: usize> {
+    items: Vec<u8>,
+}
+
+impl<const MOST: usize> Model for Bytes<MOST> {
+    ghost use Rattle.std.specs.Prelude.{List, ℕ, ◌≤◌, vec_len};
+
+    ghost Value = { List ℕ };
+
+    ghost view = { λ a. a.items.items };
+
+    ghost invariant = { λ a. vec_len a.items ≤ MOST };
+}
+
+impl<const MOST: usize> Bytes<MOST> {
+    pub fn new(alloc: Global) -> Self
+        ensures { result ≡ [] }
+    {
+        Bytes {
+            items: Vec::new(alloc),
+        }
+    }
+
+    pub fn copy_of(alloc: Global, text: &[u8]) -> Result<Self, AllocError>
+        requires { length text.now ≤ MOST }
+        ensures { IfOk result (λ bytes. bytes ≡ text.now) }
+    {
+        let items = Vec::from_slice(alloc, text)?;
+        Ok(Bytes { items })
+    }
+
+    pub fn as_slice(&self) -> &[u8]
+        ensures value { result.now ≡ self.now }
+        ensures most { length self.now ≤ MOST }
+    {
+        self.items.as_slice()
+    }
+
+    /// Appends the text. After want of memory the bytes are as before.
+    pub fn append(&mut self, text: &[u8]) -> Result<(), AllocError>
+        requires { length self.old + length text.now ≤ MOST }
+        ensures ok { OnOk result (self.new ≡ self.old ++ text.now) }
+        ensures err { OnErr result (self.new ≡ self.old) }
+    {
+        self.items.extend_from_slice(text)?;
+        Ok(())
+    }
+
+    pub fn clear(&mut self)
+        ensures { self.new ≡ [] }
+    {
+        self.items.clear();
+    }
+}
+
+/// The messages of a socket, oldest first: at most 16. Contracts see the list of their bytes.
+#[derive(Drop)]
+pub struct Messages {
+    items: Vec<Bytes<1048576>>,
+}
+
+impl Model for Messages {
+    ghost use Rattle.std.specs.Prelude.{List, ℕ, ◌≤◌, vec_len};
+
+    ghost Value = { List (List ℕ) };
+
+    ghost view = { λ a. a.items.items };
+
+    ghost invariant = { λ a. vec_len a.items ≤ 16 };
+}
+
+impl Messages {
+    pub fn new(alloc: Global) -> Messages
+        ensures { result ≡ [] }
+    {
+        Messages {
+            items: Vec::new(alloc),
+        }
+    }
+
+    pub fn len(&self) -> usize
+        ensures value { result ≡ length self.now }
+        ensures most { length self.now ≤ 16 }
+    {
+        self.items.len()
+    }
+
+    /// Appends a message. After want of memory the messages are as before.
+    pub fn push(&mut self, message: Bytes<1048576>) -> Result<(), AllocError>
+        requires { length self.old < 16 }
+        ensures ok { OnOk result (self.new ≡ self.old ++ message ∷ []) }
+        ensures err { OnErr result (self.new ≡ self.old) }
+    {
+        self.items.push(message)?;
+        Ok(())
+    }
+
+    /// Takes the oldest message.
+    pub fn pop(&mut self) -> Bytes<1048576>
+        requires { 0 < length self.old }
+        ensures { self.old ≡ result ∷ self.new }
+    {
+        self.items.remove(0)
+    }
+}
