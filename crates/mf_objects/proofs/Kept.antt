@@ -256,7 +256,7 @@ pub unmade_none : (key : Option ℕ) → (IsSome key → IsTrue false) → key �
 unmade_none None no_some = refl
 unmade_none (Some h) no_some = absurd (false≢true (no_some refl))
 
-set_same : (es : List Entity) (i : ℕ) (e : Entity) → e ≡ get_or es i e → set es i e ≡ es
+pub set_same : (es : List Entity) (i : ℕ) (e : Entity) → e ≡ get_or es i e → set es i e ≡ es
 set_same es i e is = ap (set es i) is ∙ set-get_or es i e
 
 -- after `make`, whether it found memory or not

@@ -1,3 +1,4 @@
 pub mod Zoned
 pub mod Rising
 pub mod Kept
+pub mod Found

@@ -104,3 +104,23 @@ find_first p (x ∷ xs) zero d within hit before = rw hit refl
 find_first p (x ∷ xs) (suc k) d within hit before =
     let no_x : p x ≡ false = before 0 (omega arith) in
     rw no_x (find_first p xs k d (omega arith) hit (λ j l. before (suc j) (omega arith)))
+
+keep_all : (id : Id) (least next : ℕ) (es : List Live) → id.0 < least → IsRising least next es → filter (λ (e : Live). not (has_id id e)) es ≡ es
+keep_all id least next [] l rising = refl
+keep_all id least next (e ∷ es) l rising =
+    let no_id : has_id id e ≡ false = id_differs id e (λ same. omega (arith, rising.0, same)) in
+    let rest : filter (λ (x : Live). not (has_id id x)) es ≡ es = keep_all id (e.id.0 + 1) next es (omega (arith, rising.0)) rising.1 in
+    rw (no_id, rest) refl
+
+-- without the place of an id is without the id
+pub remove_filter : (id : Id) (least next : ℕ) (es : List Live) (i : ℕ) (d : Live) → i < length es → IsRising least next es → has_id id (get_or es i d) ≡ true
+    → remove es i ≡ filter (λ (e : Live). not (has_id id e)) es
+remove_filter id least next [] i d within rising has = absurd (omega arith)
+remove_filter id least next (x ∷ es) zero d within rising has =
+    let rest : filter (λ (e : Live). not (has_id id e)) es ≡ es = keep_all id (x.id.0 + 1) next es (omega (arith, id_is id x has)) rising.1 in
+    rw (has, rest) refl
+remove_filter id least next (x ∷ es) (suc i) d within rising has =
+    let later : x.id.0 + 1 ≤ (get_or es i d).id.0 = at_least (x.id.0 + 1) next es i d (omega arith) rising.1 in
+    let same : (get_or es i d).id.0 ≡ id.0 = id_is id (get_or es i d) has in
+    let no_id : has_id id x ≡ false = id_differs id x (λ early. omega (arith, later, same, early)) in
+    rw no_id (ap (λ (ls : List Live). x ∷ ls) (remove_filter id (x.id.0 + 1) next es i d (omega arith) rising.1 has))

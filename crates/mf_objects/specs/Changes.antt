@@ -1,6 +1,7 @@
 -- What the calls change.
-use Rattle.std.specs.Prelude.{ℕ, ◌+◌, Bool, true, false, not, ◌||◌, List, [], ◌∷◌, ◌++◌, map, filter, drop, slice_set, if◌then◌else◌, Option, None}
+use Rattle.std.specs.Prelude.{◌≡◌, ℕ, ◌+◌, ◌<◌, ◌≤◌, length, Bool, true, false, not, ◌||◌, List, [], ◌∷◌, ◌++◌, map, filter, drop, slice_set, if◌then◌else◌, Option, Some, None}
 use Rattle.mf_elem.specs.declared.label.LabelValue.{LabelValue}
+use Rattle.mf_cred.specs.declared.cred.FileView.{FileView}
 use Rattle.mf_objects.specs.declared.id.Id.{Id}
 use Rattle.mf_objects.specs.declared.entity.What.{What}
 use Rattle.mf_objects.specs.declared.entity.What.TheVariants.{Process, Vnode, Pipe, Socket}
@@ -36,12 +37,37 @@ with_what change e = record e { what = change e.what }
 abbrev pub with_value : ℕ → LabelValue → Live → Live
 with_value slot value e = record e { label = slice_set e.label slot value }
 
+-- so many bytes more fit a regular file or a pipe
+abbrev pub FitsBytes : ℕ → What → Type 0
+FitsBytes more (Process cred) = ⊥
+FitsBytes more (Vnode vnode) = (vnode.file.dir ≡ false) × (length vnode.content + more ≤ 65536)
+FitsBytes more (Pipe pipe) = length pipe.bytes + more ≤ 16384
+FitsBytes more (Socket socket) = ⊥
+
+-- one message more fits a socket
+abbrev pub FitsMessage : What → Type 0
+FitsMessage (Process cred) = ⊥
+FitsMessage (Vnode vnode) = ⊥
+FitsMessage (Pipe pipe) = ⊥
+FitsMessage (Socket socket) = length socket.messages < 16
+
+-- a socket with a message
+abbrev pub HasMessage : What → Type 0
+HasMessage (Process cred) = ⊥
+HasMessage (Vnode vnode) = ⊥
+HasMessage (Pipe pipe) = ⊥
+HasMessage (Socket socket) = 0 < length socket.messages
+
 -- bytes are appended to a file or a pipe
 abbrev pub appended : List ℕ → What → What
 appended text (Process cred) = Process cred
 appended text (Vnode vnode) = Vnode (record vnode { content = vnode.content ++ text })
 appended text (Pipe pipe) = Pipe (record pipe { bytes = pipe.bytes ++ text })
 appended text (Socket socket) = Socket socket
+
+-- a message is appended to those of a socket
+abbrev pub with_message : List ℕ → List (List ℕ) → List (List ℕ)
+with_message message messages = messages ++ message ∷ []
 
 -- a pipe is emptied
 abbrev pub cleared : What → What
@@ -61,6 +87,17 @@ with_mode mode (Process cred) = Process cred
 with_mode mode (Vnode vnode) = Vnode (record vnode { file = record vnode.file { mode = mode } })
 with_mode mode (Pipe pipe) = Pipe pipe
 with_mode mode (Socket socket) = Socket socket
+
+-- What is made
+
+abbrev pub new_vnode : Id → FileView → List ℕ → What
+new_vnode dir file text = Vnode (record { parent = Some dir; file = file; content = text })
+
+abbrev pub new_pipe : Id → What
+new_pipe maker = Pipe (record { maker = maker; bytes = [] })
+
+abbrev pub new_socket : Id → What
+new_socket maker = Socket (record { maker = maker; messages = [] })
 
 -- The beginning
 

@@ -1,5 +1,5 @@
 -- The live entities, as contracts see them: the listing of a finite map by rising id.
-use Rattle.std.specs.Prelude.{◌≡◌, ℕ, ◌<◌, ◌≤◌, Bool, true, false, IsTrue, nat_eq, nat_le, not, ◌&&◌, ◌||◌, List, [], ◌∷◌, length, Option, Some, None, find, count_by, slice_index_or, option_map}
+use Rattle.std.specs.Prelude.{◌≡◌, ℕ, ◌<◌, ◌≤◌, Bool, true, false, IsTrue, nat_eq, nat_le, not, ◌&&◌, ◌||◌, List, [], ◌∷◌, length, Option, Some, None, find, count_by, slice_index_or, option_map, IfSome}
 use Rattle.std.specs.Str.{bytes_eq}
 use Rattle.mf_elem.specs.declared.label.LabelValue.{LabelValue}
 use Rattle.mf_elem.specs.declared.label.LabelValue.TheVariants as values
@@ -70,6 +70,11 @@ passes test (Some e) = test e.what
 abbrev pub IsLive : (What → Bool) → Entities → Id → Type 0
 IsLive test objects id = IsTrue (passes test (live_at objects id))
 
+-- the live entity of this id is what the fact says
+abbrev pub IsLiveWhere : (What → Type 0) → Option Live → Type 0
+IsLiveWhere P None = ⊥
+IsLiveWhere P (Some e) = P e.what
+
 -- the id is held by this directory
 abbrev pub is_held_by : Id → Option Id → Bool
 is_held_by dir None = false
@@ -97,8 +102,21 @@ is_named test name e = test e.what && bytes_eq e.name name
 abbrev pub live_named : (What → Bool) → Entities → List ℕ → Option Live
 live_named test objects name = find (is_named test name) objects.live
 
+-- it is an entry of this directory, and has this name
+abbrev pub is_child : Id → List ℕ → Live → Bool
+is_child dir name e = is_entry dir e.what && bytes_eq e.name name
+
+-- its id is at least this number
+abbrev pub is_from : ℕ → Live → Bool
+is_from n e = nat_le n e.id.0
+
 abbrev pub id_of : Option Live → Option Id
 id_of found = option_map (λ e. e.id) found
+
+-- the id is that of the first live entity that passes the test, and none where no live entity passes it
+pub record IsFound (test : Live → Bool) (objects : Entities) (found : Option Id) : Type 0 where
+  pub id : found ≡ id_of (find test objects.live)
+  pub live : IfSome found (λ id. live_at objects id ≡ find test objects.live)
 
 -- What an entity holds: of no live entity, or of one of another kind, what a fresh one holds
 
@@ -158,9 +176,19 @@ content_at objects id = reading content_of [] (live_at objects id)
 abbrev pub messages_at : Entities → Id → List (List ℕ)
 messages_at objects id = reading messages_of [] (live_at objects id)
 
+-- how many messages a socket has, or else how many entries are in the directory of this id
+abbrev pub count_of : ℕ → What → ℕ
+count_of entries (Process cred) = entries
+count_of entries (Vnode vnode) = entries
+count_of entries (Pipe pipe) = entries
+count_of entries (Socket socket) = length socket.messages
+
 -- how many entries a directory has
 abbrev pub entry_count : Entities → Id → ℕ
 entry_count objects dir = count_by (λ e. is_entry dir e.what) objects.live
+
+abbrev pub count_at : Entities → Id → ℕ
+count_at objects id = reading (count_of (entry_count objects id)) 0 (live_at objects id)
 
 abbrev pub label_of : Option Live → List LabelValue
 label_of None = []

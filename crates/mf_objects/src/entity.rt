@@ -1,11 +1,15 @@
-//! Entities: what each kind of them holds.
-ghost use Rattle.std.specs.Prelude.{◌≡◌, nat_eq, ◌||◌};
-ghost use Rattle.mf_objects.specs.Live.{is_made_by};
+//! Entities, and what each kind of them holds.
+ghost use Rattle.std.specs.Prelude.{◌≡◌, ◌≤◌, nat_eq, nat_le, length, ◌∷◌, ◌&&◌, ◌||◌, OnOk, OnErr, drop};
+ghost use Rattle.std.specs.Str.{bytes_eq};
+ghost use Rattle.mf_objects.specs.Live as live;
+ghost use Rattle.mf_objects.specs.Changes as change;
 
 use crate::id::Id;
 use crate::texts::{Bytes, Messages, Name};
-use mf_cred::{Cred, FileView};
+use mf_cred::{ArrayVec, Cred, Duplicate, FileView};
+use mf_item::Kind;
 use mf_slots::Label;
+use std::alloc::AllocError;
 
 /// A directory or a regular file: the directory that holds it, its attributes, and its bytes. A directory has no bytes, and
 /// the root is held by no directory.
@@ -49,14 +53,144 @@ pub struct Entity {
 }
 
 impl What {
-    fn is_made_by(&self, maker: Id) -> bool
-        ensures { result ≡ is_made_by maker self.now }
+    pub fn kind(&self) -> Kind
+        ensures { result ≡ live.kind_of self.now }
+    {
+        match self {
+            What::Process(_) => Kind::Process,
+            What::Vnode(_) => Kind::Vnode,
+            What::Pipe(_) => Kind::Pipe,
+            What::Socket(_) => Kind::Socket,
+        }
+    }
+
+    pub fn file(&self) -> FileView
+        ensures { result ≡ live.file_of self.now }
+    {
+        match self {
+            What::Vnode(vnode) => vnode.file,
+            What::Process(_) | What::Pipe(_) | What::Socket(_) => FileView {
+                uid: 0,
+                gid: 0,
+                mode: 0,
+                dir: false,
+            },
+        }
+    }
+
+    pub fn cred(&self) -> Cred
+        ensures { result ≡ live.cred_of self.now }
+    {
+        match self {
+            What::Process(cred) => cred.copy(),
+            What::Vnode(_) | What::Pipe(_) | What::Socket(_) => no_cred(),
+        }
+    }
+
+    pub fn content(&self) -> &[u8]
+        ensures value { result.now ≡ live.content_of self.now }
+        ensures most { length result.now ≤ 65536 }
+    {
+        match self {
+            What::Vnode(vnode) => vnode.content.as_slice(),
+            What::Pipe(pipe) => pipe.bytes.as_slice(),
+            What::Process(_) | What::Socket(_) => &[],
+        }
+    }
+
+    pub fn is_entry(&self, dir: Id) -> bool
+        ensures { result ≡ live.is_entry dir self.now }
+    {
+        match self {
+            What::Vnode(vnode) => is_held_by(dir, vnode.parent),
+            What::Process(_) | What::Pipe(_) | What::Socket(_) => false,
+        }
+    }
+
+    pub fn is_made_by(&self, maker: Id) -> bool
+        ensures { result ≡ live.is_made_by maker self.now }
     {
         match self {
             What::Process(_) | What::Vnode(_) => false,
             What::Pipe(pipe) => pipe.maker.0 == maker.0,
             What::Socket(socket) => socket.maker.0 == maker.0,
         }
+    }
+
+    /// Appends to a regular file or a pipe. After want of memory it is as before.
+    pub fn append(&mut self, text: &[u8]) -> Result<(), AllocError>
+        requires { change.FitsBytes (length text.now) self.old }
+        ensures ok { OnOk result (self.new ≡ change.appended text.now self.old) }
+        ensures err { OnErr result (self.new ≡ self.old) }
+    {
+        match self {
+            What::Vnode(vnode) => vnode.content.append(text),
+            What::Pipe(pipe) => pipe.bytes.append(text),
+            What::Process(_) | What::Socket(_) => Ok(()),
+        }
+    }
+
+    /// Empties a pipe.
+    pub fn clear(&mut self)
+        ensures { self.new ≡ change.cleared self.old }
+    {
+        match self {
+            What::Pipe(pipe) => pipe.bytes.clear(),
+            What::Process(_) | What::Vnode(_) | What::Socket(_) => {}
+        }
+    }
+
+    /// Appends a message to those of a socket. After want of memory they are as before.
+    pub fn push_message(&mut self, message: Bytes<1048576>) -> Result<(), AllocError>
+        requires { change.FitsMessage self.old }
+        ensures ok { OnOk result (self.new ≡ change.with_messages (change.with_message message) self.old) }
+        ensures err { OnErr result (self.new ≡ self.old) }
+    {
+        match self {
+            What::Socket(socket) => socket.messages.push(message),
+            What::Process(_) | What::Vnode(_) | What::Pipe(_) => Ok(()),
+        }
+    }
+
+    /// Takes the oldest message of a socket.
+    pub fn pop_message(&mut self) -> Bytes<1048576>
+        requires { change.HasMessage self.old }
+        ensures rest { self.new ≡ change.with_messages (drop 1) self.old }
+        ensures oldest { live.messages_of self.old ≡ result ∷ live.messages_of self.new }
+    {
+        match self {
+            What::Socket(socket) => socket.messages.pop(),
+            What::Process(_) | What::Vnode(_) | What::Pipe(_) => unreachable!(),
+        }
+    }
+
+    pub fn set_mode(&mut self, mode: u16)
+        ensures { self.new ≡ change.with_mode mode self.old }
+    {
+        match self {
+            What::Vnode(vnode) => vnode.file.mode = mode,
+            What::Process(_) | What::Pipe(_) | What::Socket(_) => {}
+        }
+    }
+}
+
+fn is_held_by(dir: Id, parent: Option<Id>) -> bool
+    ensures { result ≡ live.is_held_by dir parent }
+{
+    match parent {
+        None => false,
+        Some(parent) => parent.0 == dir.0,
+    }
+}
+
+fn no_cred() -> Cred
+    ensures { result ≡ live.no_cred }
+{
+    Cred {
+        uid: 0,
+        ruid: 0,
+        svuid: 0,
+        groups: ArrayVec::one(0),
     }
 }
 
@@ -67,10 +201,46 @@ impl Entity {
         self.id.0 == id.0
     }
 
+    pub fn is_from(&self, n: u32) -> bool
+        ensures { result ≡ nat_le n self.now.id.0 }
+    {
+        self.id.0 >= n
+    }
+
     /// Whether it goes when the process of this id exits.
     pub fn goes_with(&self, id: Id) -> bool
-        ensures { result ≡ (nat_eq self.now.id.0 id.0 || is_made_by id self.now.what) }
+        ensures { result ≡ (nat_eq self.now.id.0 id.0 || live.is_made_by id self.now.what) }
     {
         self.has_id(id) || self.what.is_made_by(id)
+    }
+
+    pub fn is_entry(&self, dir: Id) -> bool
+        ensures { result ≡ live.is_entry dir self.now.what }
+    {
+        self.what.is_entry(dir)
+    }
+
+    pub fn is_child(&self, dir: Id, name: &str) -> bool
+        ensures { result ≡ (live.is_entry dir self.now.what && bytes_eq self.now.name name.now) }
+    {
+        self.what.is_entry(dir) && self.name.as_str() == name
+    }
+
+    pub fn is_process_named(&self, name: &str) -> bool
+        ensures { result ≡ (live.is_process self.now.what && bytes_eq self.now.name name.now) }
+    {
+        matches!(self.what, What::Process(_)) && self.name.as_str() == name
+    }
+
+    pub fn is_pipe_named(&self, name: &str) -> bool
+        ensures { result ≡ (live.is_pipe self.now.what && bytes_eq self.now.name name.now) }
+    {
+        matches!(self.what, What::Pipe(_)) && self.name.as_str() == name
+    }
+
+    pub fn is_socket_named(&self, name: &str) -> bool
+        ensures { result ≡ (live.is_socket self.now.what && bytes_eq self.now.name name.now) }
+    {
+        matches!(self.what, What::Socket(_)) && self.name.as_str() == name
     }
 }

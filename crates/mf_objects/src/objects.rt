@@ -1,17 +1,20 @@
 //! The live entities, and the calls that make and remove them.
-ghost use Rattle.std.specs.Prelude.{◌≡◌, ◌≢◌, ℕ, ◌<◌, ◌≤◌, ◌+◌, [], ◌∷◌, ◌++◌, length, IsTrue, IsSome, OnOk, OnErr, IfOk, IsOk, Some, None, false, nat_eq, position, remove, slice_index_or};
-ghost use Rattle.mf_elem.specs.declared.label.LabelValue.TheVariants.{Unset};
+ghost use Rattle.std.specs.Prelude.{◌≡◌, ℕ, ◌<◌, ◌≤◌, ◌+◌, [], ◌∷◌, ◌++◌, length, IsTrue, IsSome, OnOk, OnErr, IfOk, IsOk, Some, None, false, nat_eq, position, find};
 ghost use Rattle.mf_objects.specs.Live as live;
 ghost use Rattle.mf_objects.specs.Changes as change;
-ghost use Rattle.mf_objects.specs.Sound.{IsPlace, shown};
+ghost use Rattle.mf_objects.specs.Sound.{IsPlace};
 ghost use Rattle.mf_objects.specs.declared.entity.What.TheVariants as what;
+
+mod changing;
+mod reading;
+mod removing;
 
 use crate::entity::{Entity, Pipe, Socket, Vnode, What};
 use crate::id::Id;
 use crate::texts::{Bytes, Messages, Name};
 use mf_cred::{Cred, Duplicate, FileView};
 use mf_elem::LabelValue;
-use mf_slots::{Label, Zones};
+use mf_slots::Zones;
 use std::alloc::{AllocError, Global};
 use std::marker::Model;
 
@@ -87,6 +90,75 @@ impl Objects {
         self.add(alloc, name, values, What::Process(cred.copy()))
     }
 
+    /// Makes a directory, or a regular file with this text.
+    pub fn add_vnode(
+        &mut self,
+        alloc: Global,
+        dir: Id,
+        name: &str,
+        file: &FileView,
+        text: &[u8],
+        values: &[LabelValue; 4],
+    ) -> Result<Id, AllocError>
+        requires few { length self.old.live < 1024 }
+        requires next { self.old.next < 4294967295 }
+        requires dir { live.IsLive live.is_directory self.old dir }
+        requires name { find (live.is_child dir name.now) self.old.live ≡ None }
+        requires fits { length text.now ≤ 65536 }
+        requires bare { IsTrue file.now.dir → text.now ≡ [] }
+        ensures ok { OnOk result (self.new ≡ change.with_entity self.old name.now values.now (change.new_vnode dir file.now text.now)) }
+        ensures id { IfOk result (λ id. id.0 ≡ self.old.next) }
+        ensures err { OnErr result (self.new ≡ self.old) }
+    {
+        let content = Bytes::copy_of(alloc, text)?;
+        let vnode = Vnode {
+            parent: Some(dir),
+            file: *file,
+            content,
+        };
+        self.add(alloc, name, values, What::Vnode(vnode))
+    }
+
+    /// Makes an empty pipe, which goes when its maker does.
+    pub fn add_pipe(
+        &mut self,
+        alloc: Global,
+        name: &str,
+        maker: Id,
+        values: &[LabelValue; 4],
+    ) -> Result<Id, AllocError>
+        requires few { length self.old.live < 1024 }
+        requires next { self.old.next < 4294967295 }
+        requires maker { live.IsLive live.is_process self.old maker }
+        requires name { live.live_named live.is_pipe self.old name.now ≡ None }
+        ensures ok { OnOk result (self.new ≡ change.with_entity self.old name.now values.now (change.new_pipe maker)) }
+        ensures id { IfOk result (λ id. id.0 ≡ self.old.next) }
+        ensures err { OnErr result (self.new ≡ self.old) }
+    {
+        let bytes = Bytes::new(alloc);
+        self.add(alloc, name, values, What::Pipe(Pipe { maker, bytes }))
+    }
+
+    /// Makes a socket without a message, which goes when its maker does.
+    pub fn add_socket(
+        &mut self,
+        alloc: Global,
+        name: &str,
+        maker: Id,
+        values: &[LabelValue; 4],
+    ) -> Result<Id, AllocError>
+        requires few { length self.old.live < 1024 }
+        requires next { self.old.next < 4294967295 }
+        requires maker { live.IsLive live.is_process self.old maker }
+        requires name { live.live_named live.is_socket self.old name.now ≡ None }
+        ensures ok { OnOk result (self.new ≡ change.with_entity self.old name.now values.now (change.new_socket maker)) }
+        ensures id { IfOk result (λ id. id.0 ≡ self.old.next) }
+        ensures err { OnErr result (self.new ≡ self.old) }
+    {
+        let messages = Messages::new(alloc);
+        self.add(alloc, name, values, What::Socket(Socket { maker, messages }))
+    }
+
     /// Adds an entity under the next id. Every growth is taken before the first change.
     fn add(
         &mut self,
@@ -122,49 +194,6 @@ impl Objects {
         ensures { IsPlace self.now id result }
     {
         place_of(&self.entities, id).unwrap()
-    }
-
-    /// Removes the entity at a place, and gives its label up.
-    fn remove_at(&mut self, place: usize)
-        requires within { place < length self.old.live }
-        requires later { 0 < place }
-        ensures { self.new ≡ record self.old { live = remove self.old.live place } }
-    {
-        let Entity {
-            id: _,
-            name: _,
-            label,
-            what: _,
-        } = self.entities.remove(place);
-        self.zones.give_up(label);
-    }
-
-    /// Gives a slot of the entity's label this value, and makes the slot first where it is Unset.
-    pub fn set_label(&mut self, id: Id, slot: u8, value: LabelValue) -> Result<(), AllocError>
-        requires live { IsSome (live.live_at self.old id) }
-        requires slot { slot < 4 }
-        requires value { value ≢ Unset }
-        ensures ok { OnOk result (self.new ≡ change.with_change (change.with_value slot value) self.old id) }
-        ensures made { live.value_at self.old id slot ≢ Unset → IsOk result }
-        ensures err { OnErr result (self.new ≡ self.old) }
-    {
-        let place = self.place(id);
-        let label = &mut self.entities[place].label;
-        if label.is_made(slot) {
-            self.zones.set(label, slot, value);
-            return Ok(());
-        }
-        self.zones.make(label, slot, value)
-    }
-
-    /// What a slot of the entity's label holds.
-    pub fn value(&self, id: Id, slot: u8) -> LabelValue
-        requires live { IsSome (live.live_at self.now id) }
-        requires slot { slot < 4 }
-        ensures { result ≡ live.value_at self.now id slot }
-    {
-        let place = self.place(id);
-        self.zones.value(&self.entities[place].label, slot)
     }
 }
 

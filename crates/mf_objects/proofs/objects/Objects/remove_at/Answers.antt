@@ -2,7 +2,8 @@ use Rattle.std.proofs.Common.{◌≡◌, ◌<◌, ℕ, List, length, remove, ap,
 use Rattle.std.proofs.lemmas.List.{length-map}
 use Rattle.mf_objects.specs.declared.entity.Entity.{Entity}
 use Rattle.mf_objects.specs.Live.{Live, Entities}
-use Rattle.mf_objects.specs.Sound.{live_of, seen, IsSound}
+use Rattle.mf_objects.specs.Sound.{live_of, seen, IsRising}
+use Rattle.mf_objects.proofs.Rising.{remove_filter}
 use Rattle.mf_objects.proofs.Kept.{view, Becomes, held_place, dropped}
 use Rattle.mf_objects.proofs.objects.Objects.remove_at.Goals as goal
 
@@ -27,8 +28,8 @@ invariant_of-self c =
     c.requires.later c.remove-label.ensures.value c.self.invariant c.give_up.ensures in
     rw c.remove-label.ensures.items b.sound
 
-pub returns : goal.returns
-returns c =
+pub returns-clause-removed : goal.returns-clause-removed
+returns-clause-removed c =
     let zones = c.self.inside.zones in
     let es = c.self.inside.entities.items in
     let b =
@@ -38,3 +39,23 @@ returns c =
     ap (λ (xs : List Entity). view c.self.inside.next c.give_up.new.self xs) c.remove-label.ensures.items
     ∙ b.shows
     ∙ ap (λ (o : Entities). let p : Entities = record { next = o.next; live = remove o.live c.args.place } in p) c.self.view_is
+
+pub returns-clause-by_id : goal.returns-clause-by_id
+returns-clause-by_id c id has =
+    let zones = c.self.inside.zones in
+    let es = c.self.inside.entities.items in
+    let b =
+    dropped c.self.inside.next zones c.give_up.new.self es c.args.place c.remove-label.result
+    (within c.self.inside.next c.args.self.now es (live_of zones es) c.args.place (ap (λ (o : Entities). o.live) c.self.view_is) (length-map es (seen zones)) c.requires.within)
+    c.requires.later c.remove-label.ensures.value c.self.invariant c.give_up.ensures in
+    let removed : view c.self.inside.next c.give_up.new.self c.remove-label.new.self.items ≡ (let p : Entities = record { next = c.args.self.now.next; live = remove c.args.self.now.live c.args.place } in p) =
+    ap (λ (xs : List Entity). view c.self.inside.next c.give_up.new.self xs) c.remove-label.ensures.items
+    ∙ b.shows
+    ∙ ap (λ (o : Entities). let p : Entities = record { next = o.next; live = remove o.live c.args.place } in p) c.self.view_is in
+    let lives = live_of zones es in
+    let same : lives ≡ c.args.self.now.live = ap (λ (o : Entities). o.live) c.self.view_is in
+    let first : Live = seen zones c.remove-label.result in
+    let all : IsRising 0 c.self.inside.next c.args.self.now.live = subst (λ (ls : List Live). IsRising 0 c.self.inside.next ls) same c.self.invariant.rising in
+    removed
+    ∙ ap (λ (ls : List Live). let p : Entities = record { next = c.args.self.now.next; live = ls } in p)
+        (remove_filter id 0 c.self.inside.next c.args.self.now.live c.args.place first c.requires.within all (has first))

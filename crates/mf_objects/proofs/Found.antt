@@ -1,0 +1,125 @@
+-- Look-ups and readings of the live entities, as contracts see them.
+use Rattle.std.proofs.Common.{◌≡◌, ◌≢◌, ℕ, ◌<◌, ◌≤◌, ◌+◌, List, [], ◌∷◌, ◌++◌, Option, Some, None, length, get_or, set, map, refl, ap, sym, ◌∙◌, subst, arith, IsSome, nat_eq, true, false, Bool, cond, eq-eqb, option_map, Result, Ok, Err, OnOk, OnErr}
+use Rattle.std.specs.declared.alloc.AllocError.{AllocError}
+use Rattle.std.specs.Prelude.{find, IfSome, count_by}
+use Rattle.mf_slots.specs.Zones.{Contents}
+use Rattle.mf_objects.specs.declared.id.Id.{Id}
+use Rattle.mf_objects.specs.declared.entity.Entity.{Entity}
+use Rattle.mf_objects.specs.declared.entity.What.{What}
+use Rattle.mf_objects.specs.declared.entity.What.TheVariants.{Process, Vnode, Pipe, Socket}
+use Rattle.mf_objects.specs.Live.{Live, Entities, has_id, live_at, id_of, is_directory, label_of, IsFound, IsLiveWhere, messages_at, messages_of, reading}
+use Rattle.mf_objects.specs.Changes.{appended, cleared, with_mode, with_messages}
+use Rattle.mf_objects.specs.Sound.{seen, shown, live_of, IsSound, IsPlace, IsRising}
+use Rattle.mf_objects.proofs.Rising.{id_differs}
+use Rattle.mf_objects.proofs.Kept.{view, found_place, what_changed, set_same}
+
+find-live : (test : Live → Bool) (zones : Contents) (es : List Entity)
+    → find test (live_of zones es) ≡ option_map (seen zones) (find (λ (e : Entity). test (seen zones e)) es)
+find-live test zones [] = refl
+find-live test zones (e ∷ es) = one (test (seen zones e)) (find-live test zones es)
+    where
+    one : (b : Bool) → find test (live_of zones es) ≡ option_map (seen zones) (find (λ (x : Entity). test (seen zones x)) es)
+        → cond b (Some (seen zones e)) (find test (live_of zones es)) ≡ option_map (seen zones) (cond b (Some e) (find (λ (x : Entity). test (seen zones x)) es))
+    one true rest = refl
+    one false rest = rest
+
+ids_map : (zones : Contents) (found : Option Entity) → option_map (λ (e : Live). e.id) (option_map (seen zones) found) ≡ option_map (λ (e : Entity). e.id) found
+ids_map zones None = refl
+ids_map zones (Some e) = refl
+
+inside_some : (a b : Live) → Some a ≡ Some b → a ≡ b
+inside_some a b e = cc
+
+-- what is found among rising ids has an id from the least on
+find_least : (test : Live → Bool) (least next : ℕ) (es : List Live) (x : Live) → IsRising least next es → find test es ≡ Some x → least ≤ x.id.0
+find_least test least next [] x rising is = cc
+find_least test least next (e ∷ es) x rising is = one (test e) (find_least test (e.id.0 + 1) next es x rising.1) is
+    where
+    one : (b : Bool) → (find test es ≡ Some x → e.id.0 + 1 ≤ x.id.0) → cond b (Some e) (find test es) ≡ Some x → least ≤ x.id.0
+    one true later is = let same : e.id.0 ≡ x.id.0 = ap (λ (l : Live). l.id.0) (inside_some e x is) in omega (arith, same, rising.0)
+    one false later is = omega (arith, later is, rising.0)
+
+-- its id finds it again
+own_id : (test : Live → Bool) (least next : ℕ) (es : List Live) (x : Live) → IsRising least next es → find test es ≡ Some x → find (has_id x.id) es ≡ Some x
+own_id test least next [] x rising is = cc
+own_id test least next (e ∷ es) x rising is = one (test e) (own_id test (e.id.0 + 1) next es x rising.1) is
+    where
+    least_later : find test es ≡ Some x → e.id.0 + 1 ≤ x.id.0
+    least_later = find_least test (e.id.0 + 1) next es x rising.1
+    one : (b : Bool) → (find test es ≡ Some x → find (has_id x.id) es ≡ Some x) → cond b (Some e) (find test es) ≡ Some x → find (has_id x.id) (e ∷ es) ≡ Some x
+    one true rest is =
+        let same : e ≡ x = inside_some e x is in
+        let hit : has_id x.id e ≡ true = eq-eqb e.id.0 x.id.0 (ap (λ (l : Live). l.id.0) same) in
+        rw hit is
+    one false rest is =
+        let later : e.id.0 + 1 ≤ x.id.0 = least_later is in
+        let miss : has_id x.id e ≡ false = id_differs x.id e (λ (same : e.id.0 ≡ x.id.0). omega (arith, same, later)) in
+        rw miss (rest is)
+
+pub found_id : (test : Live → Bool) (next : ℕ) (zones : Contents) (es : List Entity) (found : Option Id) → IsSound next zones es
+    → found ≡ option_map (λ (e : Entity). e.id) (find (λ (e : Entity). test (seen zones e)) es) → IsFound test (view next zones es) found
+found_id test next zones es found sound is =
+    let ids : found ≡ id_of (find test (live_of zones es)) =
+    is ∙ sym (ids_map zones (find (λ (e : Entity). test (seen zones e)) es)) ∙ ap id_of (sym (find-live test zones es)) in
+    record {
+      id = ids;
+      live = subst (λ (o : Option Id). IfSome o (λ id. live_at (view next zones es) id ≡ find test (live_of zones es))) (sym ids)
+          (again (find test (live_of zones es)) refl);
+    }
+    where
+    again : (o : Option Live) → find test (live_of zones es) ≡ o → IfSome (id_of o) (λ id. find (has_id id) (live_of zones es) ≡ o)
+    again None e = tt
+    again (Some x) e = own_id test 0 next (live_of zones es) x sound.rising e
+
+-- what contracts see of the entity at a place
+pub shown_place : (next : ℕ) (zones : Contents) (es : List Entity) (id : Id) (i : ℕ) (e : Entity) → IsPlace (view next zones es) id i → e ≡ get_or es i e
+    → live_at (view next zones es) id ≡ Some (shown (label_of (live_at (view next zones es) id)) e)
+shown_place next zones es id i e place is =
+    let found : live_at (view next zones es) id ≡ Some (seen zones e) = found_place next zones es id i e place is in
+    found ∙ ap (λ (o : Option Live). Some (shown (label_of o) e)) (sym found)
+
+pub where_place : (P : What → Type 0) (next : ℕ) (zones : Contents) (es : List Entity) (id : Id) (i : ℕ) (e : Entity) → IsPlace (view next zones es) id i → e ≡ get_or es i e
+    → IsLiveWhere P (live_at (view next zones es) id) → P e.what
+where_place P next zones es id i e place is live = subst (λ (o : Option Live). IsLiveWhere P o) (found_place next zones es id i e place is) live
+
+pub messages_place : (next : ℕ) (zones : Contents) (es : List Entity) (id : Id) (i : ℕ) (e : Entity) → IsPlace (view next zones es) id i → e ≡ get_or es i e
+    → messages_at (view next zones es) id ≡ messages_of e.what
+messages_place next zones es id i e place is = ap (reading messages_of []) (found_place next zones es id i e place is)
+
+-- changes that leave a directory a directory
+
+pub appended_kind : (text : List ℕ) (w : What) → is_directory (appended text w) ≡ is_directory w
+appended_kind text (Process cred) = refl
+appended_kind text (Vnode vnode) = refl
+appended_kind text (Pipe pipe) = refl
+appended_kind text (Socket socket) = refl
+
+pub cleared_kind : (w : What) → is_directory (cleared w) ≡ is_directory w
+cleared_kind (Process cred) = refl
+cleared_kind (Vnode vnode) = refl
+cleared_kind (Pipe pipe) = refl
+cleared_kind (Socket socket) = refl
+
+pub mode_kind : (mode : ℕ) (w : What) → is_directory (with_mode mode w) ≡ is_directory w
+mode_kind mode (Process cred) = refl
+mode_kind mode (Vnode vnode) = refl
+mode_kind mode (Pipe pipe) = refl
+mode_kind mode (Socket socket) = refl
+
+pub messages_kind : (change : List (List ℕ) → List (List ℕ)) (w : What) → is_directory (with_messages change w) ≡ is_directory w
+messages_kind change (Process cred) = refl
+messages_kind change (Vnode vnode) = refl
+messages_kind change (Pipe pipe) = refl
+messages_kind change (Socket socket) = refl
+
+-- after a change that may want memory
+pub what_sound : (r : Result (Unit {0}) AllocError) (next : ℕ) (zones : Contents) (es : List Entity) (id : Id) (i : ℕ) (e : Entity) (w : What) (change : What → What)
+    → IsPlace (view next zones es) id i → e ≡ get_or es i e → IsSound next zones es → ((x : What) → is_directory (change x) ≡ is_directory x)
+    → OnOk r (w ≡ change e.what) → OnErr r (w ≡ e.what) → IsSound next zones (set es i (record e { what = w }))
+what_sound (Ok u) next zones es id i e w change place is sound kinds changed same =
+    (what_changed next zones es id i e w change place is sound kinds changed).sound
+what_sound (Err error) next zones es id i e w change place is sound kinds changed same =
+    let e' : Entity = record e { what = w } in
+    let is_same : e' ≡ e = ap (λ (x : What). let y : Entity = record e { what = x } in y) same in
+    let put : set es i e' ≡ es = ap (set es i) is_same ∙ set_same es i e is in
+    rw put sound

@@ -1,0 +1,17 @@
+use Rattle.std.proofs.Common.{◌≡◌, List, ap, sym, ◌∙◌, subst, option_map, Option}
+use Rattle.std.specs.Prelude.{find}
+use Rattle.mf_objects.specs.declared.id.Id.{Id}
+use Rattle.mf_objects.specs.declared.entity.Entity.{Entity}
+use Rattle.mf_objects.specs.Live.{Entities, IsFound, is_child}
+use Rattle.mf_objects.specs.Sound.{seen}
+use Rattle.mf_objects.proofs.Found.{found_id}
+use Rattle.mf_objects.proofs.objects.Objects.child.Goals as goal
+
+pub returns : goal.returns
+returns c =
+    let zones = c.self.inside.zones in
+    let test = is_child c.args.dir c.args.name.now in
+    let found : c.child_named.result ≡ option_map (λ (e : Entity). e.id) (find (λ (e : Entity). test (seen zones e)) c.self.inside.entities.items) =
+    c.child_named.ensures ∙ ap (λ (es : List Entity). option_map (λ (e : Entity). e.id) (find (λ (e : Entity). test (seen zones e)) es)) c.deref.ensures.value in
+    subst (λ (o : Entities). IsFound test o c.child_named.result) c.self.view_is
+    (found_id test c.self.inside.next zones c.self.inside.entities.items c.child_named.result c.self.invariant found)

@@ -1,0 +1,57 @@
+use Rattle.std.proofs.Common.{◌≡◌, ℕ, List, [], ◌∷◌, ◌++◌, drop, length, get_or, Some, ap, sym, ◌∙◌, subst, refl, Result}
+use Rattle.std.proofs.lemmas.Result.{on_ok_weaker}
+use Rattle.mf_objects.specs.declared.entity.What.{What}
+use Rattle.mf_objects.specs.Live.{Entities, live_at, IsLiveWhere, messages_at, messages_of}
+use Rattle.mf_objects.specs.Changes.{with_change, with_what, with_mode, with_messages, with_message, appended, cleared, FitsBytes, FitsMessage, HasMessage}
+use Rattle.mf_objects.specs.Head.{head_of}
+use Rattle.mf_objects.specs.Sound.{IsPlace}
+use Rattle.mf_objects.proofs.Kept.{view, what_changed}
+use Rattle.mf_objects.proofs.Found.{where_place, messages_place, what_sound, appended_kind, cleared_kind, mode_kind, messages_kind}
+use Rattle.mf_objects.proofs.objects.Objects.pop_message.Goals as goal
+
+pub pop_message-message-requires : goal.pop_message-message-requires
+pop_message-message-requires c =
+    let next = c.self.inside.next in
+    let zones = c.self.inside.zones in
+    let es = c.self.inside.entities.items in
+    let i = c.place-place.result in
+    let e = c.index_mut-entity.result.now in
+    let place : IsPlace (view next zones es) c.args.id i = subst (λ (o : Entities). IsPlace o c.args.id i) (sym c.self.view_is) c.place-place.ensures in
+    where_place HasMessage next zones es c.args.id i e place c.index_mut-entity.ensures.value
+    (subst (λ (o : Entities). IsLiveWhere HasMessage (live_at o c.args.id)) (sym c.self.view_is) c.requires)
+
+pub invariant_of-self : goal.invariant_of-self
+invariant_of-self c =
+    let next = c.self.inside.next in
+    let zones = c.self.inside.zones in
+    let es = c.self.inside.entities.items in
+    let i = c.place-place.result in
+    let e = c.index_mut-entity.result.now in
+    let place : IsPlace (view next zones es) c.args.id i = subst (λ (o : Entities). IsPlace o c.args.id i) (sym c.self.view_is) c.place-place.ensures in
+    (what_changed next zones es c.args.id i e c.pop_message-message.new.self (with_messages (drop 1)) place c.index_mut-entity.ensures.value c.self.invariant
+    (messages_kind (drop 1)) c.pop_message-message.ensures.rest).sound
+
+pub returns-clause-rest : goal.returns-clause-rest
+returns-clause-rest c =
+    let next = c.self.inside.next in
+    let zones = c.self.inside.zones in
+    let es = c.self.inside.entities.items in
+    let i = c.place-place.result in
+    let e = c.index_mut-entity.result.now in
+    let place : IsPlace (view next zones es) c.args.id i = subst (λ (o : Entities). IsPlace o c.args.id i) (sym c.self.view_is) c.place-place.ensures in
+    (what_changed next zones es c.args.id i e c.pop_message-message.new.self (with_messages (drop 1)) place c.index_mut-entity.ensures.value c.self.invariant
+    (messages_kind (drop 1)) c.pop_message-message.ensures.rest).shows
+    ∙ ap (λ (o : Entities). with_change (with_what (with_messages (drop 1))) o c.args.id) c.self.view_is
+
+pub returns-clause-oldest : goal.returns-clause-oldest
+returns-clause-oldest c =
+    let next = c.self.inside.next in
+    let zones = c.self.inside.zones in
+    let es = c.self.inside.entities.items in
+    let i = c.place-place.result in
+    let e = c.index_mut-entity.result.now in
+    let place : IsPlace (view next zones es) c.args.id i = subst (λ (o : Entities). IsPlace o c.args.id i) (sym c.self.view_is) c.place-place.ensures in
+    let messages : messages_at c.args.self.now c.args.id ≡ c.pop_message-message.result ∷ messages_of c.pop_message-message.new.self =
+    ap (λ (o : Entities). messages_at o c.args.id) (sym c.self.view_is) ∙ messages_place next zones es c.args.id i e place c.index_mut-entity.ensures.value
+    ∙ c.pop_message-message.ensures.oldest in
+    c.of.ensures ∙ ap head_of c.as_slice.ensures.value ∙ ap (λ (ms : List (List ℕ)). head_of (get_or ms 0 [])) (sym messages)

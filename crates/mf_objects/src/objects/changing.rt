@@ -1,0 +1,89 @@
+//! Changes of one entity: its content, its messages, its mode and its label.
+ghost use Rattle.std.specs.Prelude.{◌≡◌, ◌≢◌, ◌≤◌, ◌<◌, [], length, drop, IsSome, IsOk, OnOk, OnErr, slice_index_or};
+ghost use Rattle.mf_elem.specs.declared.label.LabelValue.TheVariants.{Unset};
+ghost use Rattle.mf_objects.specs.Head.{head_of};
+ghost use Rattle.mf_objects.specs.Live as live;
+ghost use Rattle.mf_objects.specs.Changes as change;
+
+use super::Objects;
+use crate::head::Head;
+use crate::id::Id;
+use crate::texts::Bytes;
+use mf_elem::LabelValue;
+use std::alloc::{AllocError, Global};
+
+impl Objects {
+    /// Appends to a regular file or a pipe in which the text fits.
+    pub fn append(&mut self, id: Id, text: &[u8]) -> Result<(), AllocError>
+        requires { live.IsLiveWhere (change.FitsBytes (length text.now)) (live.live_at self.old id) }
+        ensures ok { OnOk result (self.new ≡ change.with_change (change.with_what (change.appended text.now)) self.old id) }
+        ensures err { OnErr result (self.new ≡ self.old) }
+    {
+        let place = self.place(id);
+        let entity = &mut self.entities[place];
+        entity.what.append(text)
+    }
+
+    /// Empties a pipe.
+    pub fn clear(&mut self, id: Id)
+        requires { live.IsLive live.is_pipe self.old id }
+        ensures { self.new ≡ change.with_change (change.with_what change.cleared) self.old id }
+    {
+        let place = self.place(id);
+        let entity = &mut self.entities[place];
+        entity.what.clear();
+    }
+
+    /// Appends a message to those of a socket that has room for it.
+    pub fn push_message(&mut self, alloc: Global, id: Id, text: &[u8]) -> Result<(), AllocError>
+        requires room { live.IsLiveWhere change.FitsMessage (live.live_at self.old id) }
+        requires fits { length text.now ≤ 1048576 }
+        ensures ok { OnOk result (self.new ≡ change.with_change (change.with_what (change.with_messages (change.with_message text.now))) self.old id) }
+        ensures err { OnErr result (self.new ≡ self.old) }
+    {
+        let message = Bytes::copy_of(alloc, text)?;
+        let place = self.place(id);
+        let entity = &mut self.entities[place];
+        entity.what.push_message(message)
+    }
+
+    /// Takes the oldest message of a socket.
+    pub fn pop_message(&mut self, id: Id) -> Head
+        requires { live.IsLiveWhere change.HasMessage (live.live_at self.old id) }
+        ensures rest { self.new ≡ change.with_change (change.with_what (change.with_messages (drop 1))) self.old id }
+        ensures oldest { result ≡ head_of (slice_index_or (live.messages_at self.old id) 0 []) }
+    {
+        let place = self.place(id);
+        let entity = &mut self.entities[place];
+        let message = entity.what.pop_message();
+        Head::of(message.as_slice())
+    }
+
+    /// Gives a file or a directory these mode bits, as chmod(2) has them.
+    pub fn set_mode(&mut self, id: Id, mode: u16)
+        requires { live.IsLive live.is_vnode self.old id }
+        ensures { self.new ≡ change.with_change (change.with_what (change.with_mode mode)) self.old id }
+    {
+        let place = self.place(id);
+        let entity = &mut self.entities[place];
+        entity.what.set_mode(mode);
+    }
+
+    /// Gives a slot of the entity's label this value, and makes the slot first where it is Unset.
+    pub fn set_label(&mut self, id: Id, slot: u8, value: LabelValue) -> Result<(), AllocError>
+        requires live { IsSome (live.live_at self.old id) }
+        requires slot { slot < 4 }
+        requires value { value ≢ Unset }
+        ensures ok { OnOk result (self.new ≡ change.with_change (change.with_value slot value) self.old id) }
+        ensures made { live.value_at self.old id slot ≢ Unset → IsOk result }
+        ensures err { OnErr result (self.new ≡ self.old) }
+    {
+        let place = self.place(id);
+        let label = &mut self.entities[place].label;
+        if label.is_made(slot) {
+            self.zones.set(label, slot, value);
+            return Ok(());
+        }
+        self.zones.make(label, slot, value)
+    }
+}

@@ -1,0 +1,180 @@
+//! Readings of the live entities. What an entity of another kind holds is read as empty, or as all zero.
+ghost use Rattle.std.specs.Prelude.{◌≡◌, ◌≤◌, ◌<◌, length, find, count_by, option_map, nat_eq, nat_le, ◌&&◌, Some, IsSome};
+ghost use Rattle.std.specs.Str.{bytes_eq};
+ghost use Rattle.mf_objects.specs.Head.{head_of};
+ghost use Rattle.mf_objects.specs.Live as live;
+ghost use Rattle.mf_objects.specs.Sound.{shown};
+
+use super::Objects;
+use crate::entity::{Entity, What};
+use crate::head::Head;
+use crate::id::Id;
+use mf_cred::{Cred, FileView};
+use mf_elem::LabelValue;
+use mf_item::Kind;
+
+impl Objects {
+    /// How many entities live.
+    pub fn live(&self) -> u32
+        ensures value { result ≡ length self.now.live }
+        ensures most { result ≤ 1024 }
+    {
+        self.entities.len() as u32
+    }
+
+    /// The number of the id that is given next.
+    pub fn next_id(&self) -> u32
+        ensures { result ≡ self.now.next }
+    {
+        self.next
+    }
+
+    /// The least live id of at least `n`.
+    pub fn least_from(&self, n: u32) -> Option<Id>
+        ensures { live.IsFound (live.is_from n) self.now result }
+    {
+        least_from(&self.entities, n)
+    }
+
+    /// The live process of this name.
+    pub fn process(&self, name: &str) -> Option<Id>
+        ensures { live.IsFound (live.is_named live.is_process name.now) self.now result }
+    {
+        process_named(&self.entities, name)
+    }
+
+    /// The live pipe of this name.
+    pub fn pipe(&self, name: &str) -> Option<Id>
+        ensures { live.IsFound (live.is_named live.is_pipe name.now) self.now result }
+    {
+        pipe_named(&self.entities, name)
+    }
+
+    /// The live socket of this name.
+    pub fn socket(&self, name: &str) -> Option<Id>
+        ensures { live.IsFound (live.is_named live.is_socket name.now) self.now result }
+    {
+        socket_named(&self.entities, name)
+    }
+
+    /// The entry of this name in a directory.
+    pub fn child(&self, dir: Id, name: &str) -> Option<Id>
+        ensures { live.IsFound (live.is_child dir name.now) self.now result }
+    {
+        child_named(&self.entities, dir, name)
+    }
+
+    pub fn kind(&self, id: Id) -> Kind
+        requires { IsSome (live.live_at self.now id) }
+        ensures { result ≡ live.kind_at self.now id }
+    {
+        self.entity(id).what.kind()
+    }
+
+    /// The attributes of a file or a directory.
+    pub fn file(&self, id: Id) -> FileView
+        requires { IsSome (live.live_at self.now id) }
+        ensures { result ≡ live.file_at self.now id }
+    {
+        self.entity(id).what.file()
+    }
+
+    /// The credential of a process.
+    pub fn cred(&self, id: Id) -> Cred
+        requires { IsSome (live.live_at self.now id) }
+        ensures { result ≡ live.cred_at self.now id }
+    {
+        self.entity(id).what.cred()
+    }
+
+    /// How many bytes a file or a pipe holds; a directory holds none.
+    pub fn size(&self, id: Id) -> u32
+        requires { IsSome (live.live_at self.now id) }
+        ensures value { result ≡ length (live.content_at self.now id) }
+        ensures most { result ≤ 65536 }
+    {
+        self.entity(id).what.content().len() as u32
+    }
+
+    /// The beginning of what a file or a pipe holds.
+    pub fn head(&self, id: Id) -> Head
+        requires { IsSome (live.live_at self.now id) }
+        ensures { result ≡ head_of (live.content_at self.now id) }
+    {
+        Head::of(self.entity(id).what.content())
+    }
+
+    /// How many entries a directory has, or messages a socket.
+    pub fn count(&self, id: Id) -> u32
+        requires { IsSome (live.live_at self.now id) }
+        ensures value { result ≡ live.count_at self.now id }
+        ensures most { result ≤ 1024 }
+    {
+        match &self.entity(id).what {
+            What::Socket(socket) => socket.messages.len() as u32,
+            What::Process(_) | What::Vnode(_) | What::Pipe(_) => {
+                entry_count(&self.entities, id) as u32
+            }
+        }
+    }
+
+    /// What a slot of the entity's label holds.
+    pub fn value(&self, id: Id, slot: u8) -> LabelValue
+        requires live { IsSome (live.live_at self.now id) }
+        requires slot { slot < 4 }
+        ensures { result ≡ live.value_at self.now id slot }
+    {
+        let place = self.place(id);
+        self.zones.value(&self.entities[place].label, slot)
+    }
+
+    fn entity(&self, id: Id) -> &Entity
+        requires { IsSome (live.live_at self.now id) }
+        ensures { live.live_at self.now id ≡ Some (shown (live.label_of (live.live_at self.now id)) result.now) }
+    {
+        let place = self.place(id);
+        &self.entities[place]
+    }
+}
+
+fn least_from(entities: &[Entity], n: u32) -> Option<Id>
+    ensures { result ≡ option_map (λ e. e.id) (find (λ e. nat_le n e.id.0) entities.now) }
+{
+    let found = entities.iter().find(|e| e.is_from(n))?;
+    Some(found.id)
+}
+
+fn process_named(entities: &[Entity], name: &str) -> Option<Id>
+    ensures { result ≡ option_map (λ e. e.id) (find (λ e. live.is_process e.what && bytes_eq e.name name.now) entities.now) }
+{
+    let found = entities.iter().find(|e| e.is_process_named(name))?;
+    Some(found.id)
+}
+
+fn pipe_named(entities: &[Entity], name: &str) -> Option<Id>
+    ensures { result ≡ option_map (λ e. e.id) (find (λ e. live.is_pipe e.what && bytes_eq e.name name.now) entities.now) }
+{
+    let found = entities.iter().find(|e| e.is_pipe_named(name))?;
+    Some(found.id)
+}
+
+fn socket_named(entities: &[Entity], name: &str) -> Option<Id>
+    ensures { result ≡ option_map (λ e. e.id) (find (λ e. live.is_socket e.what && bytes_eq e.name name.now) entities.now) }
+{
+    let found = entities.iter().find(|e| e.is_socket_named(name))?;
+    Some(found.id)
+}
+
+fn child_named(entities: &[Entity], dir: Id, name: &str) -> Option<Id>
+    ensures { result ≡ option_map (λ e. e.id) (find (λ e. live.is_entry dir e.what && bytes_eq e.name name.now) entities.now) }
+{
+    let found = entities.iter().find(|e| e.is_child(dir, name))?;
+    Some(found.id)
+}
+
+fn entry_count(entities: &[Entity], dir: Id) -> usize
+    ensures value { result ≡ count_by (λ e. live.is_entry dir e.what) entities.now }
+    ensures most { result ≤ length entities.now }
+{
+    entities.iter().filter(|e| e.is_entry(dir)).count()
+}

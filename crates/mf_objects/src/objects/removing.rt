@@ -1,0 +1,70 @@
+//! Removals: what an exit and an unlink take away.
+ghost use Rattle.std.specs.Prelude.{◌≡◌, ◌≢◌, ◌<◌, length, remove, slice_index_or, IsSome, true};
+ghost use Rattle.mf_objects.specs.Live as live;
+ghost use Rattle.mf_objects.specs.declared.id.Id.{Id};
+ghost use Rattle.mf_objects.specs.Changes as change;
+ghost use Rattle.mf_objects.specs.Sound.{HasRoot};
+
+use super::Objects;
+use crate::entity::Entity;
+use crate::id::Id;
+
+impl Objects {
+    /// Removes a process, and the pipes and sockets that it made. Its children stay.
+    pub fn remove_process(&mut self, id: Id)
+        requires { live.IsLive live.is_process self.old id }
+        ensures { self.new ≡ change.without (change.goes_with id) self.old }
+    {
+        let mut place = 0;
+        let mut len = self.len();
+        while place < len {
+            if self.goes_at(place, id) {
+                self.remove_at(place);
+                len -= 1;
+            } else {
+                place += 1;
+            }
+        }
+    }
+
+    /// Removes a file, or a directory without entries; not the root.
+    pub fn remove_vnode(&mut self, id: Id)
+        requires vnode { live.IsLive live.is_vnode self.old id }
+        requires not_root { id.0 ≢ 0 }
+        requires empty { live.entry_count self.old id ≡ 0 }
+        ensures { self.new ≡ change.without (live.has_id id) self.old }
+    {
+        let place = self.place(id);
+        self.remove_at(place);
+    }
+
+    fn len(&self) -> usize
+        ensures value { result ≡ length self.now.live }
+        ensures rooted { HasRoot self.now.live }
+    {
+        self.entities.len()
+    }
+
+    fn goes_at(&self, place: usize, id: Id) -> bool
+        requires { place < length self.now.live }
+        ensures { (d : live.Live) → result ≡ change.goes_with id (slice_index_or self.now.live place d) }
+    {
+        self.entities[place].goes_with(id)
+    }
+
+    /// Removes the entity at a place, and gives its label up.
+    fn remove_at(&mut self, place: usize)
+        requires within { place < length self.old.live }
+        requires later { 0 < place }
+        ensures removed { self.new ≡ record self.old { live = remove self.old.live place } }
+        ensures by_id { (id : Id) → ((d : live.Live) → live.has_id id (slice_index_or self.old.live place d) ≡ true) → self.new ≡ change.without (live.has_id id) self.old }
+    {
+        let Entity {
+            id: _,
+            name: _,
+            label,
+            what: _,
+        } = self.entities.remove(place);
+        self.zones.give_up(label);
+    }
+}
