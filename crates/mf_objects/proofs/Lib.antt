@@ -2,3 +2,4 @@ pub mod Zoned
 pub mod Rising
 pub mod Kept
 pub mod Found
+pub mod Removing
