@@ -3,3 +3,4 @@ pub mod Rising
 pub mod Kept
 pub mod Found
 pub mod Removing
+pub mod Naming

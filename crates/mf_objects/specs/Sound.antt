@@ -4,6 +4,7 @@ use Rattle.mf_elem.specs.declared.label.LabelValue.{LabelValue}
 use Rattle.mf_slots.specs.Zones.{Contents, Handles, handle, under, value_of}
 use Rattle.mf_objects.specs.declared.entity.Entity.{Entity}
 use Rattle.mf_objects.specs.declared.id.Id.{Id}
+use Rattle.mf_objects.specs.Titles.{Link, parent_of}
 use Rattle.mf_objects.specs.Live.{Live, Entities, is_directory, has_id, live_at}
 
 -- the values of the four slots of a label
@@ -66,3 +67,7 @@ pub record IsPlace (objects : Entities) (id : Id) (place : ℕ) : Type 0 where
 -- an entity as contracts see it, with these label values
 abbrev pub shown : List LabelValue → Entity → Live
 shown label e = record { id = e.id; name = e.name; label = label; what = e.what }
+
+-- what the path of an entity is made of
+abbrev pub link : Entity → Link
+link e = record { id = e.id; parent = parent_of e.what; name = e.name }

@@ -3,6 +3,7 @@ ghost use Rattle.std.specs.Prelude.{◌≡◌, ◌≤◌, nat_eq, nat_le, length
 ghost use Rattle.std.specs.Str.{bytes_eq};
 ghost use Rattle.mf_objects.specs.Live as live;
 ghost use Rattle.mf_objects.specs.Changes as change;
+ghost use Rattle.mf_objects.specs.Titles as title;
 
 use crate::id::Id;
 use crate::texts::{Bytes, Messages, Name};
@@ -95,6 +96,16 @@ impl What {
             What::Vnode(vnode) => vnode.content.as_slice(),
             What::Pipe(pipe) => pipe.bytes.as_slice(),
             What::Process(_) | What::Socket(_) => &[],
+        }
+    }
+
+    /// The directory that holds it, if one does.
+    pub fn parent(&self) -> Option<Id>
+        ensures { result ≡ title.parent_of self.now }
+    {
+        match self {
+            What::Vnode(vnode) => vnode.parent,
+            What::Process(_) | What::Pipe(_) | What::Socket(_) => None,
         }
     }
 

@@ -6,6 +6,7 @@ ghost use Rattle.mf_objects.specs.Sound.{IsPlace};
 ghost use Rattle.mf_objects.specs.declared.entity.What.TheVariants as what;
 
 mod changing;
+mod naming;
 mod reading;
 mod removing;
 

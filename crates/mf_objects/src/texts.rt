@@ -1,5 +1,7 @@
 //! Names, bytes and messages, which contracts see as lists.
-ghost use Rattle.std.specs.Prelude.{◌≡◌, ◌≤◌, ◌<◌, ◌+◌, [], ◌∷◌, ◌++◌, length, OnOk, OnErr, IfOk, drop, slice_get, Some};
+ghost use Rattle.std.specs.Prelude.{◌≡◌, ◌≤◌, ◌<◌, ◌+◌, [], ◌∷◌, ◌++◌, length, OnOk, OnErr, IfOk, drop, take, insert};
+ghost use Rattle.std.specs.List.{position_or_len};
+ghost use Rattle.mf_objects.specs.Titles.{comes_first, with_name};
 
 use std::alloc::{AllocError, Global};
 use std::marker::Model;
@@ -61,6 +63,35 @@ impl NameList {
     {
         self.names.as_slice()
     }
+
+    /// Inserts a name before the first that isn't before it in byte order. After want of memory the names are as before.
+    pub(crate) fn insert(&mut self, name: Name) -> Result<(), AllocError>
+        ensures ok { OnOk result (self.new ≡ with_name name self.old) }
+        ensures err { OnErr result (self.new ≡ self.old) }
+    {
+        let place = place_for(&self.names, name.as_str());
+        self.names.insert(place, name)?;
+        Ok(())
+    }
+
+    /// Keeps the first `most` names.
+    pub(crate) fn truncate(&mut self, most: usize)
+        ensures { self.new ≡ take most self.old }
+    {
+        self.names.truncate(most);
+    }
+}
+
+fn place_for(names: &[Name], name: &str) -> usize
+    ensures value { result ≡ position_or_len (comes_first name.now) names.now }
+    ensures within { result ≤ length names.now }
+{
+    for (place, other) in names.iter().enumerate() {
+        if name <= other.as_str() {
+            return place;
+        }
+    }
+    names.len()
 }
 
 /// At most `MOST` bytes. Contracts see their list.

@@ -128,7 +128,7 @@ impl Objects {
         self.zones.value(&self.entities[place].label, slot)
     }
 
-    fn entity(&self, id: Id) -> &Entity
+    pub(super) fn entity(&self, id: Id) -> &Entity
         requires { IsSome (live.live_at self.now id) }
         ensures { live.live_at self.now id ≡ Some (shown (live.label_of (live.live_at self.now id)) result.now) }
     {

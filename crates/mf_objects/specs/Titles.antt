@@ -1,0 +1,80 @@
+-- The entries of directories in byte order, the paths of vnodes, and the titles of entities.
+use Rattle.std.specs.Prelude.{ℕ, Bool, List, [], ◌∷◌, ◌++◌, Option, Some, None, take, insert, filter, map, reverse, codes, if◌then◌else◌, nat_eq}
+use Rattle.std.specs.List.{position_or_len}
+use Rattle.std.specs.Ordering.{nat_cmp, is_le}
+use Rattle.std.specs.Cmp.Lexicographic.{slice_cmp}
+use Rattle.mf_objects.specs.declared.id.Id.{Id}
+use Rattle.mf_objects.specs.declared.entity.What.{What}
+use Rattle.mf_objects.specs.declared.entity.What.TheVariants.{Process, Vnode, Pipe, Socket}
+use Rattle.mf_objects.specs.Live.{Live, Entities, is_entry, live_at}
+
+-- the first name isn't after the second in byte order
+abbrev pub comes_first : List ℕ → List ℕ → Bool
+comes_first name other = is_le (slice_cmp nat_cmp name other)
+
+-- names in byte order, with one more in its place
+abbrev pub with_name : List ℕ → List (List ℕ) → List (List ℕ)
+with_name name names = insert names (position_or_len (comes_first name) names) name
+
+-- the names in byte order
+abbrev pub in_byte_order : List (List ℕ) → List (List ℕ)
+in_byte_order [] = []
+in_byte_order (name ∷ names) = with_name name (in_byte_order names)
+
+-- the names of the entries of a directory, by rising id
+abbrev pub entry_names : Id → List Live → List (List ℕ)
+entry_names dir live = map (λ e. e.name) (filter (λ e. is_entry dir e.what) live)
+
+abbrev pub first_names : ℕ → List (List ℕ) → List (List ℕ)
+first_names most names = take most (in_byte_order names)
+
+-- the first 16 names in byte order of the entries of a directory
+unfoldable pub names_at : Entities → Id → List (List ℕ)
+names_at objects dir = first_names 16 (entry_names dir objects.live)
+
+-- what the path of an entity is made of: its id, the directory that holds it, and its name
+pub record Link : Type 0 where
+  pub id : Id
+  pub parent : Option Id
+  pub name : List ℕ
+
+abbrev pub parent_of : What → Option Id
+parent_of (Process cred) = None
+parent_of (Vnode vnode) = vnode.parent
+parent_of (Pipe pipe) = None
+parent_of (Socket socket) = None
+
+abbrev pub link : Live → Link
+link e = record { id = e.id; parent = parent_of e.what; name = e.name }
+
+-- the path of its directory, a slash and its name, or nothing for the root
+abbrev pub below : (Id → List ℕ) → Option Id → List ℕ → List ℕ
+below path None name = []
+below path (Some dir) name = path dir ++ codes "/" ++ name
+
+-- The path of an id, where the newest entity comes first: a directory is older than what it holds.
+unfoldable pub path_in : List Link → Id → List ℕ
+path_in [] id = []
+path_in (e ∷ older) id = if nat_eq e.id.0 id.0 then below (path_in older) e.parent e.name else path_in older id
+
+-- the path of the root is a slash
+abbrev pub rooted_path : List ℕ → List ℕ
+rooted_path [] = codes "/"
+rooted_path (byte ∷ bytes) = byte ∷ bytes
+
+abbrev pub path_at : Entities → Id → List ℕ
+path_at objects id = path_in (reverse (map link objects.live)) id
+
+abbrev pub title_of : List ℕ → List ℕ → What → List ℕ
+title_of path name (Process cred) = codes "proc:" ++ name
+title_of path name (Vnode vnode) = codes "vnode:" ++ rooted_path path
+title_of path name (Pipe pipe) = codes "pipe:" ++ name
+title_of path name (Socket socket) = codes "socket:" ++ name
+
+abbrev pub title_in : List ℕ → Option Live → List ℕ
+title_in path None = []
+title_in path (Some e) = title_of path e.name e.what
+
+-- how histories name the entity: its kind with its name, or with its path
+abbrev pub title_at : Entities → Id → List ℕ
+title_at objects id = title_in (path_at objects id) (live_at objects id)
