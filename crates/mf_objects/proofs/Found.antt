@@ -2,14 +2,14 @@
 use Rattle.std.proofs.Common.{◌≡◌, ◌≢◌, ℕ, ◌<◌, ◌≤◌, ◌+◌, List, [], ◌∷◌, ◌++◌, Option, Some, None, length, get_or, set, map, refl, ap, sym, ◌∙◌, subst, arith, IsSome, nat_eq, true, false, Bool, cond, eq-eqb, option_map, Result, Ok, Err, OnOk, OnErr}
 use Rattle.std.specs.declared.alloc.AllocError.{AllocError}
 use Rattle.std.specs.Prelude.{find, IfSome, count_by}
-use Rattle.mf_slots.specs.Zones.{Contents}
+use Rattle.mf_slots.specs.Zones.{Contents, value_of}
 use Rattle.mf_objects.specs.declared.id.Id.{Id}
 use Rattle.mf_objects.specs.declared.entity.Entity.{Entity}
 use Rattle.mf_objects.specs.declared.entity.What.{What}
 use Rattle.mf_objects.specs.declared.entity.What.TheVariants.{Process, Vnode, Pipe, Socket}
-use Rattle.mf_objects.specs.Live.{Live, Entities, has_id, live_at, id_of, is_directory, label_of, IsFound, IsLiveWhere, messages_at, messages_of, reading}
+use Rattle.mf_objects.specs.Live.{Live, Entities, has_id, live_at, id_of, is_directory, label_of, IsFound, IsLiveWhere, messages_at, messages_of, reading, label_at, IsLive}
 use Rattle.mf_objects.specs.Changes.{appended, cleared, with_mode, with_messages}
-use Rattle.mf_objects.specs.Sound.{seen, shown, live_of, IsSound, IsPlace, IsRising}
+use Rattle.mf_objects.specs.Sound.{seen, shown, live_of, IsSound, IsPlace, IsRising, HasRoot, label_values}
 use Rattle.mf_objects.proofs.Rising.{id_differs}
 use Rattle.mf_objects.proofs.Kept.{view, found_place, what_changed, set_same}
 
@@ -123,3 +123,18 @@ what_sound (Err error) next zones es id i e w change place is sound kinds change
     let is_same : e' ≡ e = ap (λ (x : What). let y : Entity = record e { what = x } in y) same in
     let put : set es i e' ≡ es = ap (set es i) is_same ∙ set_same es i e is in
     rw put sound
+
+-- the four values of the label of the entity at a place
+pub label_place : (next : ℕ) (zones : Contents) (es : List Entity) (id : Id) (i : ℕ) (e : Entity) → IsPlace (view next zones es) id i → e ≡ get_or es i e
+    → value_of zones e.label 0 ∷ value_of zones e.label 1 ∷ value_of zones e.label 2 ∷ value_of zones e.label 3 ∷ [] ≡ label_at (view next zones es) id
+unfolding label_values
+label_place next zones es id i e place is = ap label_of (sym (found_place next zones es id i e place is))
+
+root_found : (next : ℕ) (es : List Live) → HasRoot es → IsLive is_directory (record { next = next; live = es }) (record { 0 = 0 })
+root_found next [] root = absurd root
+root_found next (r ∷ es) root =
+    let hit : has_id (record { 0 = 0 }) r ≡ true = eq-eqb r.id.0 0 root.0 in
+    rw hit root.1
+
+pub root_live : (next : ℕ) (zones : Contents) (es : List Entity) → IsSound next zones es → IsLive is_directory (view next zones es) (record { 0 = 0 })
+root_live next zones es sound = root_found next (live_of zones es) sound.rooted

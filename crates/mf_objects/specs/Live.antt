@@ -194,6 +194,10 @@ abbrev pub label_of : Option Live → List LabelValue
 label_of None = []
 label_of (Some e) = e.label
 
+-- the values of the four label slots
+abbrev pub label_at : Entities → Id → List LabelValue
+label_at objects id = label_of (live_at objects id)
+
 -- the value of a label slot
 abbrev pub value_at : Entities → Id → ℕ → LabelValue
-value_at objects id slot = slice_index_or (label_of (live_at objects id)) slot values.Unset
+value_at objects id slot = slice_index_or (label_at objects id) slot values.Unset

@@ -203,3 +203,4 @@ fn place_of(entities: &[Entity], id: Id) -> Option<usize>
 {
     entities.iter().position(|e| e.has_id(id))
 }
+

@@ -1,5 +1,5 @@
 //! Names, bytes and messages, which contracts see as lists.
-ghost use Rattle.std.specs.Prelude.{◌≡◌, ◌≤◌, ◌<◌, ◌+◌, [], ◌∷◌, ◌++◌, length, OnOk, OnErr, IfOk, drop, take, insert};
+ghost use Rattle.std.specs.Prelude.{◌≡◌, ◌≤◌, ◌<◌, ◌+◌, [], ◌∷◌, ◌++◌, length, OnOk, OnErr, IfOk, take, string_bytes};
 ghost use Rattle.std.specs.List.{position_or_len};
 ghost use Rattle.mf_objects.specs.Titles.{comes_first, with_name};
 
@@ -28,10 +28,23 @@ impl Name {
         Ok(Name { text })
     }
 
+    pub fn from_string(text: String) -> Name
+        ensures { result ≡ string_bytes text }
+    {
+        Name { text }
+    }
+
     pub fn as_str(&self) -> &str
         ensures { result.now ≡ self.now }
     {
         self.text.as_str()
+    }
+
+    /// An equal name.
+    pub fn copy(&self, alloc: Global) -> Result<Name, AllocError>
+        ensures { IfOk result (λ name. name ≡ self.now) }
+    {
+        Name::from_str(alloc, self.as_str())
     }
 }
 
@@ -56,6 +69,12 @@ impl NameList {
         NameList {
             names: Vec::new(alloc),
         }
+    }
+
+    pub fn len(&self) -> usize
+        ensures { result ≡ length self.now }
+    {
+        self.names.len()
     }
 
     pub fn as_slice(&self) -> &[Name]

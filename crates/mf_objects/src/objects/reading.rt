@@ -29,6 +29,15 @@ impl Objects {
         self.next
     }
 
+    /// The root directory.
+    pub fn root(&self) -> Id
+        ensures value { result ≡ record { 0 = 0 } }
+        ensures directory { live.IsLive live.is_directory self.now result }
+    {
+        let _next = self.next;
+        Id(0)
+    }
+
     /// The least live id of at least `n`.
     pub fn least_from(&self, n: u32) -> Option<Id>
         ensures { live.IsFound (live.is_from n) self.now result }
@@ -116,6 +125,21 @@ impl Objects {
                 entry_count(&self.entities, id) as u32
             }
         }
+    }
+
+    /// The values of the entity's label.
+    pub fn label(&self, id: Id) -> [LabelValue; 4]
+        requires { IsSome (live.live_at self.now id) }
+        ensures { result ≡ live.label_at self.now id }
+    {
+        let place = self.place(id);
+        let label = &self.entities[place].label;
+        [
+            self.zones.value(label, 0),
+            self.zones.value(label, 1),
+            self.zones.value(label, 2),
+            self.zones.value(label, 3),
+        ]
     }
 
     /// What a slot of the entity's label holds.
