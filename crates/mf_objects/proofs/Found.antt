@@ -1,13 +1,14 @@
 -- Look-ups and readings of the live entities, as contracts see them.
-use Rattle.std.proofs.Common.{◌≡◌, ◌≢◌, ℕ, ◌<◌, ◌≤◌, ◌+◌, List, [], ◌∷◌, ◌++◌, Option, Some, None, length, get_or, set, map, refl, ap, sym, ◌∙◌, subst, arith, IsSome, nat_eq, true, false, Bool, cond, eq-eqb, option_map, Result, Ok, Err, OnOk, OnErr}
+use Rattle.std.proofs.Common.{◌≡◌, ◌≢◌, ℕ, ◌<◌, ◌≤◌, ◌+◌, List, [], ◌∷◌, ◌++◌, Option, Some, None, length, get_or, set, map, refl, ap, sym, ◌∙◌, subst, arith, IsSome, nat_eq, true, false, Bool, cond, eq-eqb, option_map, ◌&&◌, Result, Ok, Err, OnOk, OnErr}
 use Rattle.std.specs.declared.alloc.AllocError.{AllocError}
-use Rattle.std.specs.Prelude.{find, IfSome, count_by}
+use Rattle.std.specs.Prelude.{find, IfSome, IfNone, count_by}
 use Rattle.mf_slots.specs.Zones.{Contents, value_of}
 use Rattle.mf_objects.specs.declared.id.Id.{Id}
 use Rattle.mf_objects.specs.declared.entity.Entity.{Entity}
 use Rattle.mf_objects.specs.declared.entity.What.{What}
 use Rattle.mf_objects.specs.declared.entity.What.TheVariants.{Process, Vnode, Pipe, Socket}
-use Rattle.mf_objects.specs.Live.{Live, Entities, has_id, live_at, id_of, is_directory, label_of, IsFound, IsLiveWhere, messages_at, messages_of, reading, label_at, IsLive}
+use Rattle.mf_objects.specs.Live.{Live, Entities, has_id, live_at, id_of, is_directory, label_of, IsFound, IsLiveWhere, messages_at, messages_of, reading, label_at, IsLive, is_named, is_child, is_entry, is_vnode}
+use Rattle.std.specs.Str.{bytes_eq}
 use Rattle.mf_objects.specs.Changes.{appended, cleared, with_mode, with_messages}
 use Rattle.mf_objects.specs.Sound.{seen, shown, live_of, IsSound, IsPlace, IsRising, HasRoot, label_values}
 use Rattle.mf_objects.proofs.Rising.{id_differs}
@@ -65,8 +66,12 @@ found_id test next zones es found sound is =
       id = ids;
       live = subst (λ (o : Option Id). IfSome o (λ id. live_at (view next zones es) id ≡ find test (live_of zones es))) (sym ids)
           (again (find test (live_of zones es)) refl);
+      absent = subst (λ (o : Option Id). IfNone o (find test (live_of zones es) ≡ None)) (sym ids) (nothing (find test (live_of zones es)));
     }
     where
+    nothing : (o : Option Live) → IfNone (id_of o) (o ≡ None)
+    nothing None = refl
+    nothing (Some x) = tt
     again : (o : Option Live) → find test (live_of zones es) ≡ o → IfSome (id_of o) (λ id. find (has_id id) (live_of zones es) ≡ o)
     again None e = tt
     again (Some x) e = own_id test 0 next (live_of zones es) x sound.rising e
@@ -138,3 +143,47 @@ root_found next (r ∷ es) root =
 
 pub root_live : (next : ℕ) (zones : Contents) (es : List Entity) → IsSound next zones es → IsLive is_directory (view next zones es) (record { 0 = 0 })
 root_live next zones es sound = root_found next (live_of zones es) sound.rooted
+
+passes_found : (test : Live → Bool) (es : List Live) (x : Live) → find test es ≡ Some x → test x ≡ true
+passes_found test [] x is = cc
+passes_found test (e ∷ es) x is = one (test e) refl (passes_found test es x) is
+    where
+    one : (b : Bool) → test e ≡ b → (find test es ≡ Some x → test x ≡ true) → cond b (Some e) (find test es) ≡ Some x → test x ≡ true
+    one true hit rest is = ap test (sym (inside_some e x is)) ∙ hit
+    one false miss rest is = rest is
+
+-- what is found is of the kind that the test asks for
+pub kind_found : (test : Live → Bool) (kind : What → Bool) → ((x : Live) → test x ≡ true → kind x.what ≡ true)
+    → (objects : Entities) (found : Option Id) → IsFound test objects found → IfSome found (λ id. IsLive kind objects id)
+kind_found test kind asks objects None is = tt
+kind_found test kind asks objects (Some id) is = by_live (find test objects.live) refl is.id
+    where
+    by_live : (o : Option Live) → find test objects.live ≡ o → Some id ≡ id_of (find test objects.live) → IsLive kind objects id
+    by_live None e ids = absurd (cc (ids ∙ ap id_of e))
+    by_live (Some x) e ids =
+        let at : live_at objects id ≡ Some x = is.live ∙ e in
+        rw at (asks x (passes_found test objects.live x e))
+
+first_true : (a b : Bool) → a && b ≡ true → a ≡ true
+first_true true b h = refl
+first_true false b h = h
+
+pub named_kind : (kind : What → Bool) (name : List ℕ) (x : Live) → is_named kind name x ≡ true → kind x.what ≡ true
+named_kind kind name x h = first_true (kind x.what) (bytes_eq x.name name) h
+
+entry_vnode : (dir : Id) (w : What) → is_entry dir w ≡ true → is_vnode w ≡ true
+entry_vnode dir (Process cred) h = h
+entry_vnode dir (Vnode vnode) h = refl
+entry_vnode dir (Pipe pipe) h = h
+entry_vnode dir (Socket socket) h = h
+
+pub child_kind : (dir : Id) (name : List ℕ) (x : Live) → is_child dir name x ≡ true → is_vnode x.what ≡ true
+child_kind dir name x h = entry_vnode dir x.what (first_true (is_entry dir x.what) (bytes_eq x.name name) h)
+
+pub live_found : (test : Live → Bool) (objects : Entities) (found : Option Id) → IsFound test objects found → IfSome found (λ id. IsSome (live_at objects id))
+live_found test objects None is = tt
+live_found test objects (Some id) is = by_live (find test objects.live) refl is.id
+    where
+    by_live : (o : Option Live) → find test objects.live ≡ o → Some id ≡ id_of (find test objects.live) → IsSome (live_at objects id)
+    by_live None e ids = absurd (cc (ids ∙ ap id_of e))
+    by_live (Some x) e ids = let at : live_at objects id ≡ Some x = is.live ∙ e in rw at refl

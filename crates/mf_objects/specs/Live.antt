@@ -1,5 +1,5 @@
 -- The live entities, as contracts see them: the listing of a finite map by rising id.
-use Rattle.std.specs.Prelude.{◌≡◌, ℕ, ◌<◌, ◌≤◌, Bool, true, false, IsTrue, nat_eq, nat_le, not, ◌&&◌, ◌||◌, List, [], ◌∷◌, length, Option, Some, None, find, count_by, slice_index_or, option_map, IfSome}
+use Rattle.std.specs.Prelude.{◌≡◌, ℕ, ◌<◌, ◌≤◌, Bool, true, false, IsTrue, nat_eq, nat_le, not, ◌&&◌, ◌||◌, List, [], ◌∷◌, length, Option, Some, None, find, count_by, slice_index_or, option_map, IfSome, IfNone}
 use Rattle.std.specs.Str.{bytes_eq}
 use Rattle.mf_elem.specs.declared.label.LabelValue.{LabelValue}
 use Rattle.mf_elem.specs.declared.label.LabelValue.TheVariants as values
@@ -117,6 +117,7 @@ id_of found = option_map (λ e. e.id) found
 pub record IsFound (test : Live → Bool) (objects : Entities) (found : Option Id) : Type 0 where
   pub id : found ≡ id_of (find test objects.live)
   pub live : IfSome found (λ id. live_at objects id ≡ find test objects.live)
+  pub absent : IfNone found (find test objects.live ≡ None)
 
 -- What an entity holds: of no live entity, or of one of another kind, what a fresh one holds
 

@@ -1,5 +1,5 @@
 //! Readings of the live entities. What an entity of another kind holds is read as empty, or as all zero.
-ghost use Rattle.std.specs.Prelude.{◌≡◌, ◌≤◌, ◌<◌, length, find, count_by, option_map, nat_eq, nat_le, ◌&&◌, Some, IsSome};
+ghost use Rattle.std.specs.Prelude.{◌≡◌, ◌≤◌, ◌<◌, length, find, count_by, option_map, nat_eq, nat_le, ◌&&◌, Some, IsSome, IfSome};
 ghost use Rattle.std.specs.Str.{bytes_eq};
 ghost use Rattle.mf_objects.specs.Head.{head_of};
 ghost use Rattle.mf_objects.specs.Live as live;
@@ -40,35 +40,40 @@ impl Objects {
 
     /// The least live id of at least `n`.
     pub fn least_from(&self, n: u32) -> Option<Id>
-        ensures { live.IsFound (live.is_from n) self.now result }
+        ensures found { live.IsFound (live.is_from n) self.now result }
+        ensures live { IfSome result (λ id. IsSome (live.live_at self.now id)) }
     {
         least_from(&self.entities, n)
     }
 
     /// The live process of this name.
     pub fn process(&self, name: &str) -> Option<Id>
-        ensures { live.IsFound (live.is_named live.is_process name.now) self.now result }
+        ensures found { live.IsFound (live.is_named live.is_process name.now) self.now result }
+        ensures process { IfSome result (λ id. live.IsLive live.is_process self.now id) }
     {
         process_named(&self.entities, name)
     }
 
     /// The live pipe of this name.
     pub fn pipe(&self, name: &str) -> Option<Id>
-        ensures { live.IsFound (live.is_named live.is_pipe name.now) self.now result }
+        ensures found { live.IsFound (live.is_named live.is_pipe name.now) self.now result }
+        ensures pipe { IfSome result (λ id. live.IsLive live.is_pipe self.now id) }
     {
         pipe_named(&self.entities, name)
     }
 
     /// The live socket of this name.
     pub fn socket(&self, name: &str) -> Option<Id>
-        ensures { live.IsFound (live.is_named live.is_socket name.now) self.now result }
+        ensures found { live.IsFound (live.is_named live.is_socket name.now) self.now result }
+        ensures socket { IfSome result (λ id. live.IsLive live.is_socket self.now id) }
     {
         socket_named(&self.entities, name)
     }
 
     /// The entry of this name in a directory.
     pub fn child(&self, dir: Id, name: &str) -> Option<Id>
-        ensures { live.IsFound (live.is_child dir name.now) self.now result }
+        ensures found { live.IsFound (live.is_child dir name.now) self.now result }
+        ensures vnode { IfSome result (λ id. live.IsLive live.is_vnode self.now id) }
     {
         child_named(&self.entities, dir, name)
     }

@@ -4,14 +4,25 @@ use Rattle.mf_objects.specs.declared.id.Id.{Id}
 use Rattle.mf_objects.specs.declared.entity.Entity.{Entity}
 use Rattle.mf_objects.specs.Live.{Entities, IsFound, is_from}
 use Rattle.mf_objects.specs.Sound.{seen}
-use Rattle.mf_objects.proofs.Found.{found_id}
+use Rattle.mf_objects.proofs.Found.{found_id, kind_found, named_kind, child_kind, live_found}
 use Rattle.mf_objects.proofs.objects.Objects.least_from.Goals as goal
 
-pub returns : goal.returns
-returns c =
+pub returns-clause-found : goal.returns-clause-found
+returns-clause-found c =
     let zones = c.self.inside.zones in
     let test = is_from c.args.n in
     let found : c.least_from.result ≡ option_map (λ (e : Entity). e.id) (find (λ (e : Entity). test (seen zones e)) c.self.inside.entities.items) =
     c.least_from.ensures ∙ ap (λ (es : List Entity). option_map (λ (e : Entity). e.id) (find (λ (e : Entity). test (seen zones e)) es)) c.deref.ensures.value in
     subst (λ (o : Entities). IsFound test o c.least_from.result) c.self.view_is
     (found_id test c.self.inside.next zones c.self.inside.entities.items c.least_from.result c.self.invariant found)
+
+pub returns-clause-live : goal.returns-clause-live
+returns-clause-live c =
+    let zones = c.self.inside.zones in
+    let test = is_from c.args.n in
+    let found : c.least_from.result ≡ option_map (λ (e : Entity). e.id) (find (λ (e : Entity). test (seen zones e)) c.self.inside.entities.items) =
+    c.least_from.ensures ∙ ap (λ (es : List Entity). option_map (λ (e : Entity). e.id) (find (λ (e : Entity). test (seen zones e)) es)) c.deref.ensures.value in
+    let is : IsFound test c.args.self.now c.least_from.result =
+    subst (λ (o : Entities). IsFound test o c.least_from.result) c.self.view_is
+    (found_id test c.self.inside.next zones c.self.inside.entities.items c.least_from.result c.self.invariant found) in
+    live_found test c.args.self.now c.least_from.result is
