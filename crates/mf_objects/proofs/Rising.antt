@@ -1,5 +1,5 @@
 -- Live entities by rising id: each id stands once.
-use Rattle.std.proofs.Common.{◌≡◌, ◌≢◌, ℕ, ◌<◌, ◌≤◌, ◌+◌, List, [], ◌∷◌, ◌++◌, Option, Some, None, length, get_or, set, take, drop, map, remove, refl, ap, sym, ◌∙◌, subst, arith, inl, inr, zero, suc, IsSome, IsTrue, nat_eq, Bool, true, false, not, cond, ◌⊎◌}
+use Rattle.std.proofs.Common.{◌≡◌, ◌≢◌, ℕ, ◌<◌, ◌≤◌, ◌+◌, List, [], ◌∷◌, ◌++◌, Option, Some, None, length, get_or, set, take, drop, map, remove, refl, ap, sym, ◌∙◌, subst, arith, inl, inr, zero, suc, IsSome, IsTrue, nat_eq, eq-eqb, Bool, true, false, not, cond, ◌⊎◌}
 use Rattle.std.specs.Prelude.{filter, find}
 use Rattle.std.proofs.lemmas.Bool.Decides.{nat_tests}
 use Rattle.mf_objects.specs.declared.id.Id.{Id}
@@ -124,3 +124,18 @@ remove_filter id least next (x ∷ es) (suc i) d within rising has =
     let same : (get_or es i d).id.0 ≡ id.0 = id_is id (get_or es i d) has in
     let no_id : has_id id x ≡ false = id_differs id x (λ early. omega (arith, later, same, early)) in
     rw no_id (ap (λ (ls : List Live). x ∷ ls) (remove_filter id (x.id.0 + 1) next es i d (omega arith) rising.1 has))
+
+below_next : (low high : ℕ) (ls : List Live) → IsRising low high ls → low ≤ high
+below_next low high [] rising = rising
+below_next low high (l ∷ ls) rising = let rest : l.id.0 + 1 ≤ high = below_next (l.id.0 + 1) high ls rising.1 in omega (arith, rising.0, rest)
+
+-- the entity that was made last is found by its id
+pub find_new : (least next : ℕ) (es : List Live) (x : Live) → IsRising least next es → x.id.0 ≡ next → find (has_id x.id) (es ++ x ∷ []) ≡ Some x
+find_new least next [] x rising is =
+    let hit : has_id x.id x ≡ true = eq-eqb x.id.0 x.id.0 refl in
+    rw hit refl
+find_new least next (e ∷ es) x rising is =
+    let within : e.id.0 + 1 ≤ next = below_next (e.id.0 + 1) next es rising.1 in
+    let early : e.id.0 < next = omega arith in
+    let miss : has_id x.id e ≡ false = id_differs x.id e (λ same. omega (arith, same, early, is)) in
+    rw miss (find_new (e.id.0 + 1) next es x rising.1 is)

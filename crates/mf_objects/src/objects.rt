@@ -85,6 +85,7 @@ impl Objects {
         requires next { self.old.next < 4294967295 }
         requires name { live.live_named live.is_process self.old name.now ≡ None }
         ensures ok { OnOk result (self.new ≡ change.with_entity self.old name.now values.now (what.Process cred.now)) }
+        ensures found { IfOk result (λ id. live.live_at self.new id ≡ Some (change.made self.old name.now values.now (what.Process cred.now))) }
         ensures id { IfOk result (λ id. id.0 ≡ self.old.next) }
         ensures err { OnErr result (self.new ≡ self.old) }
     {
@@ -108,6 +109,7 @@ impl Objects {
         requires fits { length text.now ≤ 65536 }
         requires bare { IsTrue file.now.dir → text.now ≡ [] }
         ensures ok { OnOk result (self.new ≡ change.with_entity self.old name.now values.now (change.new_vnode dir file.now text.now)) }
+        ensures found { IfOk result (λ id. live.live_at self.new id ≡ Some (change.made self.old name.now values.now (change.new_vnode dir file.now text.now))) }
         ensures id { IfOk result (λ id. id.0 ≡ self.old.next) }
         ensures err { OnErr result (self.new ≡ self.old) }
     {
@@ -133,6 +135,7 @@ impl Objects {
         requires maker { live.IsLive live.is_process self.old maker }
         requires name { live.live_named live.is_pipe self.old name.now ≡ None }
         ensures ok { OnOk result (self.new ≡ change.with_entity self.old name.now values.now (change.new_pipe maker)) }
+        ensures found { IfOk result (λ id. live.live_at self.new id ≡ Some (change.made self.old name.now values.now (change.new_pipe maker))) }
         ensures id { IfOk result (λ id. id.0 ≡ self.old.next) }
         ensures err { OnErr result (self.new ≡ self.old) }
     {
@@ -153,6 +156,7 @@ impl Objects {
         requires maker { live.IsLive live.is_process self.old maker }
         requires name { live.live_named live.is_socket self.old name.now ≡ None }
         ensures ok { OnOk result (self.new ≡ change.with_entity self.old name.now values.now (change.new_socket maker)) }
+        ensures found { IfOk result (λ id. live.live_at self.new id ≡ Some (change.made self.old name.now values.now (change.new_socket maker))) }
         ensures id { IfOk result (λ id. id.0 ≡ self.old.next) }
         ensures err { OnErr result (self.new ≡ self.old) }
     {
@@ -171,6 +175,7 @@ impl Objects {
         requires few { length self.old.live < 1024 }
         requires next { self.old.next < 4294967295 }
         ensures ok { OnOk result (self.new ≡ change.with_entity self.old name.now values.now what) }
+        ensures found { IfOk result (λ id. live.live_at self.new id ≡ Some (change.made self.old name.now values.now what)) }
         ensures id { IfOk result (λ id. id.0 ≡ self.old.next) }
         ensures err { OnErr result (self.new ≡ self.old) }
     {
@@ -204,3 +209,5 @@ fn place_of(entities: &[Entity], id: Id) -> Option<usize>
     entities.iter().position(|e| e.has_id(id))
 }
 
+#[cfg(test)]
+mod tests;

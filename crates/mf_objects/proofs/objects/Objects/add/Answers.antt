@@ -2,9 +2,10 @@ use Rattle.std.proofs.Common.{◌≡◌, ◌<◌, ℕ, List, [], ◌∷◌, ◌+
 use Rattle.std.proofs.lemmas.List.{length-map}
 use Rattle.mf_objects.specs.declared.id.Id.{Id}
 use Rattle.mf_objects.specs.declared.entity.Entity.{Entity}
-use Rattle.mf_objects.specs.Live.{Live, Entities}
-use Rattle.mf_objects.specs.Changes.{with_entity}
-use Rattle.mf_objects.specs.Sound.{live_of, seen, IsSound}
+use Rattle.mf_objects.specs.Live.{Live, Entities, live_at}
+use Rattle.mf_objects.specs.Changes.{with_entity, made}
+use Rattle.mf_objects.specs.Sound.{live_of, seen, IsRising}
+use Rattle.mf_objects.proofs.Rising.{find_new}
 use Rattle.mf_objects.proofs.Kept.{view, Becomes, same_zones, added, on_err}
 use Rattle.mf_objects.proofs.objects.Objects.add.Goals as goal
 
@@ -53,3 +54,28 @@ returns-clause-ok c =
     ∙ b.shows
     ∙ ap (λ (n : List ℕ). with_entity (view c.self.inside.next zones es) n c.args.values.now c.args.what) (let n = c.in_ok-name.ensures in n)
     ∙ ap (λ (o : Entities). with_entity o c.args.name.now c.args.values.now c.args.what) c.self.view_is
+
+pub returns-clause-found : goal.returns-clause-found
+returns-clause-found c =
+    let zones = c.self.inside.zones in
+    let es = c.self.inside.entities.items in
+    let e : Entity = record { id = record { 0 = c.self.inside.next }; name = c.in_ok-name.name; label = c.in_ok-label.label; what = c.args.what } in
+    let room : length es < 1024 = omega (arith, c.requires.few, length-map es (seen zones), ap (λ (o : Entities). length o.live) c.self.view_is) in
+    let four : length c.args.values.now ≡ 4 = omega arith in
+    let b : Becomes (c.self.inside.next + 1) c.make_label.new.self (es ++ e ∷ [])
+        (record { next = c.self.inside.next + 1; live = live_of zones es ++ record { id = e.id; name = e.name; label = c.args.values.now; what = e.what } ∷ [] }) =
+    added c.self.inside.next zones c.make_label.new.self es e c.args.values.now refl room four c.self.invariant c.in_ok-label.ensures.ok in
+    let pushed : c.push.new.self.items ≡ c.reserve.new.self.items ++ e ∷ [] = rw c.unwrap.ensures at c.push.ensures.items in
+    let items : c.push.new.self.items ≡ es ++ e ∷ [] = pushed ∙ ap (λ (xs : List Entity). xs ++ e ∷ []) c.reserve.ensures.items in
+    let whole : view (c.self.inside.next + 1) c.make_label.new.self c.push.new.self.items ≡ with_entity c.args.self.now c.args.name.now c.args.values.now c.args.what =
+    ap (λ (xs : List Entity). view (c.self.inside.next + 1) c.make_label.new.self xs) items
+    ∙ b.shows
+    ∙ ap (λ (n : List ℕ). with_entity (view c.self.inside.next zones es) n c.args.values.now c.args.what) (let n = c.in_ok-name.ensures in n)
+    ∙ ap (λ (o : Entities). with_entity o c.args.name.now c.args.values.now c.args.what) c.self.view_is in
+    let x : Live = made c.args.self.now c.args.name.now c.args.values.now c.args.what in
+    let rising : IsRising 0 c.args.self.now.next c.args.self.now.live = subst (λ (o : Entities). IsRising 0 o.next o.live) c.self.view_is c.self.invariant.rising in
+    let id : Id = record { 0 = c.self.inside.next } in
+    let same : id ≡ x.id = ap (λ (o : Entities). let i : Id = record { 0 = o.next } in i) c.self.view_is in
+    ap (λ (o : Entities). live_at o id) whole
+    ∙ ap (λ (i : Id). live_at (with_entity c.args.self.now c.args.name.now c.args.values.now c.args.what) i) same
+    ∙ find_new 0 c.args.self.now.next c.args.self.now.live x rising refl
