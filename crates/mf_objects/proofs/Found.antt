@@ -1,7 +1,7 @@
 -- Look-ups and readings of the live entities, as contracts see them.
-use Rattle.std.proofs.Common.{◌≡◌, ◌≢◌, ℕ, ◌<◌, ◌≤◌, ◌+◌, List, [], ◌∷◌, ◌++◌, Option, Some, None, length, get_or, set, map, refl, ap, sym, ◌∙◌, subst, arith, IsSome, nat_eq, true, false, Bool, cond, eq-eqb, option_map, ◌&&◌, Result, Ok, Err, OnOk, OnErr}
+use Rattle.std.proofs.Common.{◌≡◌, ℕ, ◌≤◌, ◌+◌, List, [], ◌∷◌, Option, Some, None, get_or, set, refl, ap, sym, ◌∙◌, subst, arith, IsSome, true, false, Bool, cond, eq-eqb, option_map, ◌&&◌, Result, Ok, Err, OnOk, OnErr}
 use Rattle.std.specs.declared.alloc.AllocError.{AllocError}
-use Rattle.std.specs.Prelude.{find, IfSome, IfNone, count_by}
+use Rattle.std.specs.Prelude.{find, IfSome, IfNone}
 use Rattle.mf_slots.specs.Zones.{Contents, value_of}
 use Rattle.mf_objects.specs.declared.id.Id.{Id}
 use Rattle.mf_objects.specs.declared.entity.Entity.{Entity}
@@ -18,7 +18,7 @@ find-live : (test : Live → Bool) (zones : Contents) (es : List Entity)
     → find test (live_of zones es) ≡ option_map (seen zones) (find (λ (e : Entity). test (seen zones e)) es)
 find-live test zones [] = refl
 find-live test zones (e ∷ es) = one (test (seen zones e)) (find-live test zones es)
-    where
+  where
     one : (b : Bool) → find test (live_of zones es) ≡ option_map (seen zones) (find (λ (x : Entity). test (seen zones x)) es)
         → cond b (Some (seen zones e)) (find test (live_of zones es)) ≡ option_map (seen zones) (cond b (Some e) (find (λ (x : Entity). test (seen zones x)) es))
     one true rest = refl
@@ -35,7 +35,7 @@ inside_some a b e = cc
 find_least : (test : Live → Bool) (least next : ℕ) (es : List Live) (x : Live) → IsRising least next es → find test es ≡ Some x → least ≤ x.id.0
 find_least test least next [] x rising is = cc
 find_least test least next (e ∷ es) x rising is = one (test e) (find_least test (e.id.0 + 1) next es x rising.1) is
-    where
+  where
     one : (b : Bool) → (find test es ≡ Some x → e.id.0 + 1 ≤ x.id.0) → cond b (Some e) (find test es) ≡ Some x → least ≤ x.id.0
     one true later is = let same : e.id.0 ≡ x.id.0 = ap (λ (l : Live). l.id.0) (inside_some e x is) in omega (arith, same, rising.0)
     one false later is = omega (arith, later is, rising.0)
@@ -44,9 +44,10 @@ find_least test least next (e ∷ es) x rising is = one (test e) (find_least tes
 own_id : (test : Live → Bool) (least next : ℕ) (es : List Live) (x : Live) → IsRising least next es → find test es ≡ Some x → find (has_id x.id) es ≡ Some x
 own_id test least next [] x rising is = cc
 own_id test least next (e ∷ es) x rising is = one (test e) (own_id test (e.id.0 + 1) next es x rising.1) is
-    where
+  where
     least_later : find test es ≡ Some x → e.id.0 + 1 ≤ x.id.0
     least_later = find_least test (e.id.0 + 1) next es x rising.1
+
     one : (b : Bool) → (find test es ≡ Some x → find (has_id x.id) es ≡ Some x) → cond b (Some e) (find test es) ≡ Some x → find (has_id x.id) (e ∷ es) ≡ Some x
     one true rest is =
         let same : e ≡ x = inside_some e x is in
@@ -68,10 +69,11 @@ found_id test next zones es found sound is =
           (again (find test (live_of zones es)) refl);
       absent = subst (λ (o : Option Id). IfNone o (find test (live_of zones es) ≡ None)) (sym ids) (nothing (find test (live_of zones es)));
     }
-    where
+  where
     nothing : (o : Option Live) → IfNone (id_of o) (o ≡ None)
     nothing None = refl
     nothing (Some x) = tt
+
     again : (o : Option Live) → find test (live_of zones es) ≡ o → IfSome (id_of o) (λ id. find (has_id id) (live_of zones es) ≡ o)
     again None e = tt
     again (Some x) e = own_id test 0 next (live_of zones es) x sound.rising e
@@ -147,7 +149,7 @@ root_live next zones es sound = root_found next (live_of zones es) sound.rooted
 passes_found : (test : Live → Bool) (es : List Live) (x : Live) → find test es ≡ Some x → test x ≡ true
 passes_found test [] x is = cc
 passes_found test (e ∷ es) x is = one (test e) refl (passes_found test es x) is
-    where
+  where
     one : (b : Bool) → test e ≡ b → (find test es ≡ Some x → test x ≡ true) → cond b (Some e) (find test es) ≡ Some x → test x ≡ true
     one true hit rest is = ap test (sym (inside_some e x is)) ∙ hit
     one false miss rest is = rest is
@@ -157,7 +159,7 @@ pub kind_found : (test : Live → Bool) (kind : What → Bool) → ((x : Live) �
     → (objects : Entities) (found : Option Id) → IsFound test objects found → IfSome found (λ id. IsLive kind objects id)
 kind_found test kind asks objects None is = tt
 kind_found test kind asks objects (Some id) is = by_live (find test objects.live) refl is.id
-    where
+  where
     by_live : (o : Option Live) → find test objects.live ≡ o → Some id ≡ id_of (find test objects.live) → IsLive kind objects id
     by_live None e ids = absurd (cc (ids ∙ ap id_of e))
     by_live (Some x) e ids =
@@ -183,7 +185,7 @@ child_kind dir name x h = entry_vnode dir x.what (first_true (is_entry dir x.wha
 pub live_found : (test : Live → Bool) (objects : Entities) (found : Option Id) → IsFound test objects found → IfSome found (λ id. IsSome (live_at objects id))
 live_found test objects None is = tt
 live_found test objects (Some id) is = by_live (find test objects.live) refl is.id
-    where
+  where
     by_live : (o : Option Live) → find test objects.live ≡ o → Some id ≡ id_of (find test objects.live) → IsSome (live_at objects id)
     by_live None e ids = absurd (cc (ids ∙ ap id_of e))
     by_live (Some x) e ids = let at : live_at objects id ≡ Some x = is.live ∙ e in rw at refl

@@ -1,5 +1,5 @@
 -- What each change makes of the live entities, and that it keeps what is true of every population.
-use Rattle.std.proofs.Common.{◌≡◌, ◌≢◌, ℕ, ◌<◌, ◌≤◌, ◌+◌, List, [], ◌∷◌, ◌++◌, Option, Some, None, length, get_or, set, take, drop, map, remove, refl, ap, sym, ◌∙◌, subst, arith, zero, suc, IsSome, nat_eq, nat_lt, true, false, Bool, cond, position, ◌-◌, not, Result, Ok, Err, OnOk, OnErr, IsTrue, replicate}
+use Rattle.std.proofs.Common.{◌≡◌, ◌≢◌, ℕ, ◌<◌, ◌+◌, List, [], ◌∷◌, ◌++◌, Option, Some, None, length, get_or, set, take, drop, map, remove, refl, ap, sym, ◌∙◌, subst, arith, zero, suc, IsSome, nat_eq, nat_lt, true, false, Bool, cond, position, not, Result, Ok, Err, OnOk, OnErr, IsTrue, replicate}
 use Rattle.std.specs.declared.alloc.AllocError.{AllocError}
 use Rattle.std.specs.Prelude.{find}
 use Rattle.std.specs.List.{position_or_len}
@@ -13,8 +13,8 @@ use Rattle.mf_objects.specs.declared.id.Id.{Id}
 use Rattle.mf_objects.specs.declared.entity.Entity.{Entity}
 use Rattle.mf_objects.specs.declared.entity.What.{What}
 use Rattle.mf_objects.specs.Live.{Live, Entities, has_id, live_at, is_directory, label_of, value_at as live_value}
-use Rattle.mf_objects.specs.Changes.{changed_at, with_change, with_value, with_what, with_entity}
-use Rattle.mf_objects.specs.Sound.{label_values, seen, labels_of, IsExact, live_of, IsSound, IsPlace, IsRising, HasRoot}
+use Rattle.mf_objects.specs.Changes.{changed_at, with_change, with_value, with_what}
+use Rattle.mf_objects.specs.Sound.{label_values, seen, labels_of, IsExact, live_of, IsSound, IsPlace}
 use Rattle.mf_objects.proofs.Zoned.{exact_same, live_same, exact_push, live_push, exact_drop, live_drop, is_held, Relabels, relabels_set, relabels_make, exact_relabel, live_relabel, split_place, live_split, exact_none}
 use Rattle.mf_objects.proofs.Rising.{rising_push, rising_remove, rising_changed, root_push, root_remove, root_changed, set_changed, find_first, id_is}
 
@@ -148,7 +148,7 @@ pub value_set : (next : ℕ) (zones zones' : Contents) (es : List Entity) (id : 
     → slot < 4 → IsPlace (view next zones es) id i → e ≡ get_or es i e → IsSound next zones es → SetsAt zones zones' slot (handle e.label slot) v
     → Becomes next zones' (set es i e) (with_change (with_value slot v) (view next zones es) id)
 value_set next zones zones' es id i e slot v four place is sound sets = by_key (handle e.label slot) refl sets
-    where
+  where
     by_key : (key : Option ℕ) → handle e.label slot ≡ key → SetsAt zones zones' slot key v
         → Becomes next zones' (set es i e) (with_change (with_value slot v) (view next zones es) id)
     by_key None own sets = absurd sets
@@ -194,9 +194,10 @@ before_end : (zones : Contents) (id : Id) (es : List Entity) → IsSome (find (h
     → position_or_len (λ (e : Entity). nat_eq e.id.0 id.0) es < length es
 before_end zones id [] some = cc
 before_end zones id (e ∷ es) some = one (nat_eq e.id.0 id.0) (before_end zones id es) some
-    where
+  where
     rest : ℕ
     rest = position_or_len (λ (x : Entity). nat_eq x.id.0 id.0) es
+
     one : (b : Bool) → (IsSome (find (has_id id) (live_of zones es)) → rest < length es)
         → IsSome (cond b (Some (seen zones e)) (find (has_id id) (live_of zones es))) → cond (not b) (1 + rest) 0 < suc (length es)
     one true later some = omega arith
@@ -225,9 +226,10 @@ place_found next zones (r ∷ es) id i sound at =
       has = has;
       later = λ ne. later_place i at_root ne (has (seen zones r));
     }
-    where
+  where
     at_root : r.id.0 ≡ 0
     at_root = sound.rooted.0
+
     later_place : (k : ℕ) → r.id.0 ≡ 0 → id.0 ≢ 0 → has_id id (get_or (live_of zones (r ∷ es)) k (seen zones r)) ≡ true → 0 < k
     later_place zero root ne has = absurd (ne (sym (id_is id (seen zones r) has) ∙ root))
     later_place (suc k) root ne has = omega arith

@@ -4,3 +4,4 @@ pub mod Kept
 pub mod Found
 pub mod Removing
 pub mod Naming
+pub mod Laws

@@ -1,5 +1,5 @@
 -- Entry names and paths, of the entities and as contracts see them.
-use Rattle.std.proofs.Common.{◌≡◌, ℕ, ◌<◌, ◌≤◌, ◌+◌, List, [], ◌∷◌, ◌++◌, Option, Some, None, length, get_or, drop, map, reverse, refl, ap, sym, ◌∙◌, Bool, true, false, cond, arith, nat_eq, Result, Ok, Err, OnOk, is_ok, if◌then◌else◌}
+use Rattle.std.proofs.Common.{◌≡◌, ℕ, List, [], ◌∷◌, ◌++◌, Some, None, length, map, reverse, refl, ap, ◌∙◌, Bool, true, false, cond, arith, nat_eq, Result, Ok, Err, OnOk, is_ok, if◌then◌else◌}
 use Rattle.std.specs.declared.alloc.AllocError.{AllocError}
 use Rattle.std.proofs.lemmas.List.{map-append, reverse-append}
 use Rattle.std.specs.Prelude.{filter, codes}
@@ -17,7 +17,7 @@ raw_names dir es = map (λ (e : Entity). e.name) (filter (λ (e : Entity). is_en
 pub names_live : (dir : Id) (zones : Contents) (es : List Entity) → entry_names dir (live_of zones es) ≡ raw_names dir es
 names_live dir zones [] = refl
 names_live dir zones (e ∷ es) = one (is_entry dir e.what) (names_live dir zones es)
-    where
+  where
     one : (b : Bool) → entry_names dir (live_of zones es) ≡ raw_names dir es
         → map (λ (x : Live). x.name) (cond b (seen zones e ∷ filter (λ (x : Live). is_entry dir x.what) (live_of zones es)) (filter (λ (x : Live). is_entry dir x.what) (live_of zones es)))
         ≡ map (λ (x : Entity). x.name) (cond b (e ∷ filter (λ (x : Entity). is_entry dir x.what) es) (filter (λ (x : Entity). is_entry dir x.what) es))

@@ -1,11 +1,11 @@
 -- The walk over the live entities that removes a process and what it made.
-use Rattle.std.proofs.Common.{◌≡◌, ◌≢◌, ℕ, ◌<◌, ◌≤◌, ◌+◌, ◌-◌, List, [], ◌∷◌, Option, Some, length, get_or, remove, refl, ap, sym, ◌∙◌, subst, arith, inl, inr, zero, suc, IsTrue, Bool, true, false, not, cond, eq-eqb, ◌||◌}
+use Rattle.std.proofs.Common.{◌≡◌, ◌≢◌, ℕ, ◌<◌, ◌≤◌, ◌+◌, ◌-◌, List, [], ◌∷◌, length, get_or, remove, refl, ap, sym, ◌∙◌, subst, arith, inl, inr, zero, suc, Bool, true, false, not, cond, eq-eqb}
 use Rattle.std.specs.Prelude.{filter}
 use Rattle.std.proofs.lemmas.Bool.{cases_eq, false≢true}
 use Rattle.mf_objects.specs.declared.id.Id.{Id}
 use Rattle.mf_objects.specs.declared.entity.What.{What}
 use Rattle.mf_objects.specs.declared.entity.What.TheVariants.{Process, Vnode, Pipe, Socket}
-use Rattle.mf_objects.specs.Live.{Live, Entities, has_id, live_at, passes, is_process, is_directory, is_made_by, IsLive}
+use Rattle.mf_objects.specs.Live.{Live, Entities, has_id, is_process, is_directory, is_made_by, IsLive}
 use Rattle.mf_objects.specs.Changes.{goes_with, without}
 use Rattle.mf_objects.specs.Sound.{HasRoot}
 use Rattle.mf_objects.proofs.Rising.{root_remove, id_differs}
@@ -66,7 +66,7 @@ after_root start now id (suc place) len d removing goes = omega arith
 pub goes_later : (start now : Entities) (id : Id) (place len : ℕ) → IsRemoving start id now place len
     → ((d : Live) → goes_with id (get_or now.live place d) ≡ true) → 0 < place
 goes_later start now id place len removing goes = by_head now.live removing.rooted
-    where
+  where
     by_head : (es : List Live) → HasRoot es → 0 < place
     by_head [] root = absurd root
     by_head (r ∷ es) root = after_root start now id place len r removing (goes r)
@@ -103,7 +103,7 @@ filter_remove : (test : Live → Bool) (es : List Live) (i : ℕ) (d : Live) →
 filter_remove test [] i d within goes = absurd (omega arith)
 filter_remove test (e ∷ es) zero d within goes = rw goes refl
 filter_remove test (e ∷ es) (suc i) d within goes = one (test e) (filter_remove test es i d (omega arith) goes)
-    where
+  where
     one : (b : Bool) → filter test (remove es i) ≡ filter test es
         → cond b (e ∷ filter test (remove es i)) (filter test (remove es i)) ≡ cond b (e ∷ filter test es) (filter test es)
     one true rest = ap (λ (xs : List Live). e ∷ xs) rest
@@ -123,7 +123,7 @@ removes start now now' id place len removing within goes is =
       rooted = subst HasRoot (sym lives) (root_remove now.live place (goes_later start now id place len removing goes) removing.rooted);
       other = removing.other;
     }
-    where
+  where
     filtered : (es : List Live) → place < length es → ((d : Live) → goes_with id (get_or es place d) ≡ true)
         → filter (λ (e : Live). not (goes_with id e)) (remove es place) ≡ filter (λ (e : Live). not (goes_with id e)) es
     filtered [] at goes = absurd (omega arith)

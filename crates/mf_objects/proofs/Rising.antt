@@ -1,11 +1,10 @@
 -- Live entities by rising id: each id stands once.
-use Rattle.std.proofs.Common.{◌≡◌, ◌≢◌, ℕ, ◌<◌, ◌≤◌, ◌+◌, List, [], ◌∷◌, ◌++◌, Option, Some, None, length, get_or, set, take, drop, map, remove, refl, ap, sym, ◌∙◌, subst, arith, inl, inr, zero, suc, IsSome, IsTrue, nat_eq, eq-eqb, Bool, true, false, not, cond, ◌⊎◌}
+use Rattle.std.proofs.Common.{◌≡◌, ◌≢◌, ℕ, ◌<◌, ◌≤◌, ◌+◌, List, [], ◌∷◌, ◌++◌, Some, length, get_or, set, map, remove, refl, ap, sym, ◌∙◌, arith, zero, suc, eq-eqb, Bool, true, false, not, cond}
 use Rattle.std.specs.Prelude.{filter, find}
 use Rattle.std.proofs.lemmas.Bool.Decides.{nat_tests}
 use Rattle.mf_objects.specs.declared.id.Id.{Id}
-use Rattle.mf_objects.specs.declared.entity.What.{What}
 use Rattle.mf_objects.specs.Live.{Live, has_id, is_directory}
-use Rattle.mf_objects.specs.Changes.{changed_at, with_what}
+use Rattle.mf_objects.specs.Changes.{changed_at}
 use Rattle.mf_objects.specs.Sound.{IsRising, HasRoot}
 
 pub rising_weaker : (low least next : ℕ) (es : List Live) → low ≤ least → IsRising least next es → IsRising low next es
@@ -67,7 +66,7 @@ rising_changed change id least next (e ∷ es) keeps rising =
     let same : (changed_at change id e).id ≡ e.id = one (has_id id e) in
     let rest = rising_changed change id (e.id.0 + 1) next es keeps rising.1 in
     rw same (rising.0, rest)
-    where
+  where
     one : (b : Bool) → (cond b (change e) e).id ≡ e.id
     one true = keeps e
     one false = refl
@@ -83,10 +82,11 @@ root_changed change id (e ∷ es) keeps directory root =
     let same : (changed_at change id e).id ≡ e.id = one (has_id id e) in
     let kind : is_directory (changed_at change id e).what ≡ is_directory e.what = two (has_id id e) in
     (ap (λ (i : Id). i.0) same ∙ root.0, kind ∙ root.1)
-    where
+  where
     one : (b : Bool) → (cond b (change e) e).id ≡ e.id
     one true = keeps e
     one false = refl
+
     two : (b : Bool) → is_directory (cond b (change e) e).what ≡ is_directory e.what
     two true = directory e
     two false = refl

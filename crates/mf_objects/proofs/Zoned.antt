@@ -1,11 +1,11 @@
 -- The zones and the labels of the live entities: what each change of the zones leaves of the other entities.
-use Rattle.std.proofs.Common.{◌≡◌, ◌≢◌, ℕ, ◌<◌, ◌≤◌, ◌+◌, List, [], ◌∷◌, ◌++◌, Option, Some, None, length, get_or, set, take, drop, map, refl, ap, sym, ◌∙◌, subst, arith, inl, inr, zero, suc, IsSome, nat_eq, eq-eqb, false, ◌⊎◌, replicate}
-use Rattle.std.proofs.lemmas.List.{map-append, set_split, set-get_or, set_at, take-map, length-map, length-take-le}
+use Rattle.std.proofs.Common.{◌≡◌, ◌≢◌, ℕ, ◌<◌, ◌≤◌, ◌+◌, List, [], ◌∷◌, ◌++◌, Option, Some, None, length, get_or, set, take, drop, refl, ap, sym, ◌∙◌, arith, inl, inr, zero, suc, IsSome, nat_eq, eq-eqb, false, ◌⊎◌, replicate}
+use Rattle.std.proofs.lemmas.List.{map-append, set_split, set-get_or, set_at, length-map}
 use Rattle.std.proofs.lemmas.Bool.{cases_eq}
 use Rattle.std.proofs.lemmas.Bool.Decides.{nat_tests}
 use Rattle.mf_elem.specs.declared.label.LabelValue.{LabelValue}
 use Rattle.mf_elem.specs.declared.label.LabelValue.TheVariants.{Unset}
-use Rattle.mf_slots.specs.Zones.{Contents, Handles, handle, under, value_of, value_at, value_or_unset, IsSame, MakesLabel, GivesUp, SetsAt, IsMadeAt, Writes, Makes, IsHeld, IsHeldAt}
+use Rattle.mf_slots.specs.Zones.{Contents, Handles, handle, under, value_of, value_at, value_or_unset, IsSame, MakesLabel, GivesUp, Writes, Makes, IsHeld, IsHeldAt}
 use Rattle.mf_slots.proofs.ZonesLaws.{value_of-same, has_handle}
 use Rattle.mf_objects.specs.declared.entity.Entity.{Entity}
 use Rattle.mf_objects.specs.Live.{Live}
@@ -107,16 +107,16 @@ exact_push zones zones' es e values exact makes =
           let split = count_split slot h es [] e in
           let before = exact.each slot h l in
           elim (has_handle (handle e.label slot) h) [
-          | inl own ↦
-              let one = owned_yes (handle e.label slot) h own in
-              let none = held_none (under zones slot h) (makes.was_free slot h own) in
-              let some = held_some (under zones' slot h) (makes.held slot h own) in
-              omega (arith, split, before, one, none, some)
-          | inr other ↦
-              let zero_owned = owned_no (handle e.label slot) h other in
-              let same = ap held_count (makes.others slot h other) in
-              omega (arith, split, before, zero_owned, same)
-        ];
+            | inl own ↦
+                let one = owned_yes (handle e.label slot) h own in
+                let none = held_none (under zones slot h) (makes.was_free slot h own) in
+                let some = held_some (under zones' slot h) (makes.held slot h own) in
+                omega (arith, split, before, one, none, some)
+            | inr other ↦
+                let zero_owned = owned_no (handle e.label slot) h other in
+                let same = ap held_count (makes.others slot h other) in
+                omega (arith, split, before, zero_owned, same)
+          ];
     }
 
 four_values : (values : List LabelValue) → length values ≡ 4
@@ -164,15 +164,15 @@ exact_drop zones zones' xs ys e exact gives =
           let before = exact.each slot h l in
           let most = held_most (under zones slot h) in
           elim (has_handle (handle e.label slot) h) [
-          | inl own ↦
-              let one = owned_yes (handle e.label slot) h own in
-              let none = held_none (under zones' slot h) (gives.freed slot h l own) in
-              omega (arith, split, join, before, most, one, none)
-          | inr other ↦
-              let zero_owned = owned_no (handle e.label slot) h other in
-              let same = ap held_count (gives.others slot h (λ _ own. other own)) in
-              omega (arith, split, join, before, zero_owned, same)
-        ];
+            | inl own ↦
+                let one = owned_yes (handle e.label slot) h own in
+                let none = held_none (under zones' slot h) (gives.freed slot h l own) in
+                omega (arith, split, join, before, most, one, none)
+            | inr other ↦
+                let zero_owned = owned_no (handle e.label slot) h other in
+                let same = ap held_count (gives.others slot h (λ _ own. other own)) in
+                omega (arith, split, join, before, zero_owned, same)
+          ];
     }
 
 pub live_drop : (zones zones' : Contents) (xs ys : List Entity) (e : Entity)
@@ -228,7 +228,7 @@ relabels_set zones zones' xs ys e slot h v within exact own writes =
       before = omega (arith, one, split, count, most);
       after = omega (arith, one, split, count, most);
     }
-    where
+  where
     inside_some : (a b : ℕ) → Some a ≡ Some b → a ≡ b
     inside_some a b e = cc
 
@@ -252,9 +252,9 @@ relabels_make zones zones' xs ys e label slot v within exact unset makes =
 -- whether a place of the zones is this one
 same_place : (s slot k h : ℕ) → ((s ≡ slot) × (k ≡ h)) ⊎ (s ≡ slot → k ≡ h → ⊥)
 same_place s slot k h = elim (cases_eq s slot) [
-    | inl same ↦ elim (cases_eq k h) [ inl too ↦ inl (same, too) | inr differ ↦ inr (λ _ too. differ too) ]
-    | inr differ ↦ inr (λ same _. differ same)
-  ]
+  | inl same ↦ elim (cases_eq k h) [ inl too ↦ inl (same, too) | inr differ ↦ inr (λ _ too. differ too) ]
+  | inr differ ↦ inr (λ same _. differ same)
+]
 
 relabelled : Entity → Handles → Entity
 relabelled e label = record e { label = label }
@@ -269,32 +269,32 @@ exact_relabel zones zones' xs ys e label slot h v exact relabels =
           let new = count_split s k xs ys e' in
           let count = exact.each s k l in
           elim (same_place s slot k h) [
-          | inl same ↦
-              let own : handle label s ≡ Some k = ap (handle label) same.0 ∙ relabels.here ∙ ap (λ (n : ℕ). Some n) (sym same.1) in
-              let one = owned_yes (handle label s) k own in
-              let is_value : under zones' s k ≡ Some v = ap (λ (n : ℕ). under zones' n k) same.0 ∙ ap (under zones' slot) same.1 ∙ relabels.writes.changed in
-              let some = held_some (under zones' s k) (some_is (under zones' s k) v is_value) in
-              let none : owner_count s k (labels_of xs) ≡ 0 =
-              ap (λ (n : ℕ). owner_count n k (labels_of xs)) same.0 ∙ ap (λ (n : ℕ). owner_count slot n (labels_of xs)) same.1 ∙ relabels.before in
-              let none_after : owner_count s k (labels_of ys) ≡ 0 =
-              ap (λ (n : ℕ). owner_count n k (labels_of ys)) same.0 ∙ ap (λ (n : ℕ). owner_count slot n (labels_of ys)) same.1 ∙ relabels.after in
-              omega (arith, new, one, some, none, none_after)
-          | inr apart ↦
-              let kept = ap held_count (relabels.writes.others s k apart) in
-              let owned_same : owned (handle label s) k ≡ owned (handle e.label s) k =
-              elim (cases_eq s slot) [
-                | inl same ↦
-                    let ne : k ≢ h = (λ too. apart same too) in
-                    let now : owned (handle label s) k ≡ 0 =
-                    owned_no (handle label s) k (λ own. ne (inside_some k h (sym own ∙ ap (handle label) same ∙ relabels.here))) in
-                    let was : owned (handle e.label s) k ≡ 0 = ap (λ (n : ℕ). owned (handle e.label n) k) same ∙ relabels.rest k ne in
-                    now ∙ sym was
-                | inr differ ↦ ap (λ (key : Option ℕ). owned key k) (relabels.elsewhere s differ)
-              ] in
-              omega (arith, old, new, count, kept, owned_same)
-        ];
+            | inl same ↦
+                let own : handle label s ≡ Some k = ap (handle label) same.0 ∙ relabels.here ∙ ap (λ (n : ℕ). Some n) (sym same.1) in
+                let one = owned_yes (handle label s) k own in
+                let is_value : under zones' s k ≡ Some v = ap (λ (n : ℕ). under zones' n k) same.0 ∙ ap (under zones' slot) same.1 ∙ relabels.writes.changed in
+                let some = held_some (under zones' s k) (some_is (under zones' s k) v is_value) in
+                let none : owner_count s k (labels_of xs) ≡ 0 =
+                ap (λ (n : ℕ). owner_count n k (labels_of xs)) same.0 ∙ ap (λ (n : ℕ). owner_count slot n (labels_of xs)) same.1 ∙ relabels.before in
+                let none_after : owner_count s k (labels_of ys) ≡ 0 =
+                ap (λ (n : ℕ). owner_count n k (labels_of ys)) same.0 ∙ ap (λ (n : ℕ). owner_count slot n (labels_of ys)) same.1 ∙ relabels.after in
+                omega (arith, new, one, some, none, none_after)
+            | inr apart ↦
+                let kept = ap held_count (relabels.writes.others s k apart) in
+                let owned_same : owned (handle label s) k ≡ owned (handle e.label s) k =
+                elim (cases_eq s slot) [
+                  | inl same ↦
+                      let ne : k ≢ h = (λ too. apart same too) in
+                      let now : owned (handle label s) k ≡ 0 =
+                      owned_no (handle label s) k (λ own. ne (inside_some k h (sym own ∙ ap (handle label) same ∙ relabels.here))) in
+                      let was : owned (handle e.label s) k ≡ 0 = ap (λ (n : ℕ). owned (handle e.label n) k) same ∙ relabels.rest k ne in
+                      now ∙ sym was
+                  | inr differ ↦ ap (λ (key : Option ℕ). owned key k) (relabels.elsewhere s differ)
+                ] in
+                omega (arith, old, new, count, kept, owned_same)
+          ];
     }
-    where
+  where
     inside_some : (a b : ℕ) → Some a ≡ Some b → a ≡ b
     inside_some a b e = cc
 
@@ -307,7 +307,7 @@ values_relabel zones zones' old label slot h v within writes here elsewhere =
     let other : (s : ℕ) → s ≢ slot → value_of zones' label s ≡ value_of zones old s =
     λ s ne. ap (value_at zones' s) (elsewhere s ne) ∙ value_of-same zones zones' old s (λ k own. writes.others s k (λ same _. ne same)) in
     by_slot slot within at_slot other
-    where
+  where
     by_slot : (n : ℕ) → n < 4 → value_of zones' label n ≡ v → ((s : ℕ) → s ≢ n → value_of zones' label s ≡ value_of zones old s)
         → value_of zones' label 0 ∷ value_of zones' label 1 ∷ value_of zones' label 2 ∷ value_of zones' label 3 ∷ []
         ≡ set (value_of zones old 0 ∷ value_of zones old 1 ∷ value_of zones old 2 ∷ value_of zones old 3 ∷ []) n v
@@ -332,7 +332,7 @@ live_relabel zones zones' xs ys e label slot h v relabels =
     ∙ ap (λ (ls : List Live). ls ++ seen zones' e' ∷ live_of zones' ys) front
     ∙ ap (λ (x : Live). live_of zones xs ++ x ∷ live_of zones' ys) here
     ∙ ap (λ (ls : List Live). live_of zones xs ++ with_value slot v (seen zones e) ∷ ls) back
-    where
+  where
     apart : (zs : List Entity) → owner_count slot h (labels_of zs) ≡ 0 → (s k : ℕ) → 1 ≤ owner_count s k (labels_of zs) → s ≡ slot → k ≡ h → ⊥
     apart zs none s k own same too =
         let moved : owner_count s k (labels_of zs) ≡ 0 =
@@ -354,7 +354,7 @@ live_split zones xs ys e i x len =
 
 pub exact_none : IsExact (replicate 4 []) []
 exact_none = record { each = by_slot }
-    where
+  where
     by_slot : (slot h : ℕ) → slot < 4 → 0 ≡ held_count (under (replicate 4 []) slot h)
     by_slot zero h l = refl
     by_slot (suc zero) h l = refl

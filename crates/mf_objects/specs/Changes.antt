@@ -1,5 +1,5 @@
 -- What the calls change.
-use Rattle.std.specs.Prelude.{◌≡◌, ℕ, ◌+◌, ◌<◌, ◌≤◌, length, Bool, true, false, not, ◌||◌, List, [], ◌∷◌, ◌++◌, map, filter, drop, slice_set, if◌then◌else◌, Option, Some, None}
+use Rattle.std.specs.Prelude.{◌≡◌, ℕ, ◌+◌, ◌<◌, ◌≤◌, length, Bool, true, false, not, ◌||◌, List, [], ◌∷◌, ◌++◌, map, filter, slice_set, if◌then◌else◌, Some, None}
 use Rattle.mf_elem.specs.declared.label.LabelValue.{LabelValue}
 use Rattle.mf_cred.specs.declared.cred.FileView.{FileView}
 use Rattle.mf_objects.specs.declared.id.Id.{Id}

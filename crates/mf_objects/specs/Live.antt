@@ -1,5 +1,5 @@
 -- The live entities, as contracts see them: the listing of a finite map by rising id.
-use Rattle.std.specs.Prelude.{◌≡◌, ℕ, ◌<◌, ◌≤◌, Bool, true, false, IsTrue, nat_eq, nat_le, not, ◌&&◌, ◌||◌, List, [], ◌∷◌, length, Option, Some, None, find, count_by, slice_index_or, option_map, IfSome, IfNone}
+use Rattle.std.specs.Prelude.{◌≡◌, ℕ, Bool, true, false, IsTrue, nat_eq, nat_le, ◌&&◌, List, [], ◌∷◌, length, Option, Some, None, find, count_by, slice_index_or, option_map, IfSome, IfNone}
 use Rattle.std.specs.Str.{bytes_eq}
 use Rattle.mf_elem.specs.declared.label.LabelValue.{LabelValue}
 use Rattle.mf_elem.specs.declared.label.LabelValue.TheVariants as values

@@ -1,5 +1,5 @@
 //! The live entities, and the calls that make and remove them.
-ghost use Rattle.std.specs.Prelude.{◌≡◌, ℕ, ◌<◌, ◌≤◌, ◌+◌, [], ◌∷◌, ◌++◌, length, IsTrue, IsSome, OnOk, OnErr, IfOk, IsOk, Some, None, false, nat_eq, position, find};
+ghost use Rattle.std.specs.Prelude.{◌≡◌, ◌<◌, ◌≤◌, [], length, IsTrue, IsSome, OnOk, OnErr, IfOk, Some, None, nat_eq, position, find};
 ghost use Rattle.mf_objects.specs.Live as live;
 ghost use Rattle.mf_objects.specs.Changes as change;
 ghost use Rattle.mf_objects.specs.Sound.{IsPlace};
@@ -109,7 +109,8 @@ impl Objects {
         requires fits { length text.now ≤ 65536 }
         requires bare { IsTrue file.now.dir → text.now ≡ [] }
         ensures ok { OnOk result (self.new ≡ change.with_entity self.old name.now values.now (change.new_vnode dir file.now text.now)) }
-        ensures found { IfOk result (λ id. live.live_at self.new id ≡ Some (change.made self.old name.now values.now (change.new_vnode dir file.now text.now))) }
+        ensures found { IfOk result (λ id. live.live_at self.new id
+            ≡ Some (change.made self.old name.now values.now (change.new_vnode dir file.now text.now))) }
         ensures id { IfOk result (λ id. id.0 ≡ self.old.next) }
         ensures err { OnErr result (self.new ≡ self.old) }
     {
@@ -161,7 +162,12 @@ impl Objects {
         ensures err { OnErr result (self.new ≡ self.old) }
     {
         let messages = Messages::new(alloc);
-        self.add(alloc, name, values, What::Socket(Socket { maker, messages }))
+        self.add(
+            alloc,
+            name,
+            values,
+            What::Socket(Socket { maker, messages }),
+        )
     }
 
     /// Adds an entity under the next id. Every growth is taken before the first change.

@@ -38,7 +38,8 @@ impl Objects {
     pub fn push_message(&mut self, alloc: Global, id: Id, text: &[u8]) -> Result<(), AllocError>
         requires room { live.IsLiveWhere change.FitsMessage (live.live_at self.old id) }
         requires fits { length text.now ≤ 1048576 }
-        ensures ok { OnOk result (self.new ≡ change.with_change (change.with_what (change.with_messages (change.with_message text.now))) self.old id) }
+        ensures ok { OnOk result (self.new
+            ≡ change.with_change (change.with_what (change.with_messages (change.with_message text.now))) self.old id) }
         ensures err { OnErr result (self.new ≡ self.old) }
     {
         let message = Bytes::copy_of(alloc, text)?;

@@ -1,6 +1,6 @@
 //! Entry names of directories, and titles of entities.
-ghost use Rattle.std.specs.Prelude.{◌≡◌, ◌++◌, ◌∷◌, [], IfOk, OnOk, OnErr, IsSome, map, filter, reverse, codes, string_bytes};
-ghost use Rattle.std.specs.List.{position_or_len};
+ghost use Rattle.std.specs.Prelude.{◌≡◌, ◌++◌, IfOk, OnOk, OnErr, IsSome, map, filter, reverse, string_bytes};
+ghost use Rattle.std.specs.List.{};
 ghost use Rattle.mf_objects.specs.Live as live;
 ghost use Rattle.mf_objects.specs.Titles as title;
 ghost use Rattle.mf_objects.specs.Sound.{link};

@@ -1,5 +1,5 @@
 //! Readings of the live entities. What an entity of another kind holds is read as empty, or as all zero.
-ghost use Rattle.std.specs.Prelude.{◌≡◌, ◌≤◌, ◌<◌, length, find, count_by, option_map, nat_eq, nat_le, ◌&&◌, Some, IsSome, IfSome};
+ghost use Rattle.std.specs.Prelude.{◌≡◌, ◌≤◌, ◌<◌, length, find, count_by, option_map, nat_le, ◌&&◌, Some, IsSome, IfSome};
 ghost use Rattle.std.specs.Str.{bytes_eq};
 ghost use Rattle.mf_objects.specs.Head.{head_of};
 ghost use Rattle.mf_objects.specs.Live as live;
@@ -34,6 +34,7 @@ impl Objects {
         ensures value { result ≡ record { 0 = 0 } }
         ensures directory { live.IsLive live.is_directory self.now result }
     {
+        // Reading a field shows the proof what is true of every population.
         let _next = self.next;
         Id(0)
     }

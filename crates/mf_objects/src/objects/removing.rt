@@ -1,5 +1,5 @@
 //! Removals: what an exit and an unlink take away.
-ghost use Rattle.std.specs.Prelude.{◌≡◌, ◌≢◌, ◌<◌, length, remove, slice_index_or, IsSome, true};
+ghost use Rattle.std.specs.Prelude.{◌≡◌, ◌≢◌, ◌<◌, length, remove, slice_index_or, true};
 ghost use Rattle.mf_objects.specs.Live as live;
 ghost use Rattle.mf_objects.specs.declared.id.Id.{Id};
 ghost use Rattle.mf_objects.specs.Changes as change;
@@ -57,7 +57,8 @@ impl Objects {
         requires within { place < length self.old.live }
         requires later { 0 < place }
         ensures removed { self.new ≡ record self.old { live = remove self.old.live place } }
-        ensures by_id { (id : Id) → ((d : live.Live) → live.has_id id (slice_index_or self.old.live place d) ≡ true) → self.new ≡ change.without (live.has_id id) self.old }
+        ensures by_id { (id : Id) → ((d : live.Live) → live.has_id id (slice_index_or self.old.live place d) ≡ true)
+            → self.new ≡ change.without (live.has_id id) self.old }
     {
         let Entity {
             id: _,

@@ -70,3 +70,59 @@ fn an_exit_takes_its_pipes(rt: HostRuntime) -> Result<(), Fail> {
     assert_eq!(rt; objects.live(), 1);
     Ok(())
 }
+
+#[test]
+#[tactic(auto, using(crate::proofs::Laws::fits_message, crate::proofs::Laws::has_message))]
+fn the_oldest_message_first(rt: HostRuntime) -> Result<(), Fail> {
+    let alloc = rt.alloc();
+    let mut objects = Objects::new(alloc, &labelled(7))?;
+    assert!(rt; objects.live() < MOST_ENTITIES && objects.next_id() < u32::MAX);
+    if objects.process("t").is_none() {
+        let _t = objects.add_process(alloc, "t", &Cred::default(), &labelled(3))?;
+    }
+    assert!(rt; objects.live() < MOST_ENTITIES && objects.next_id() < u32::MAX);
+    if let Some(t) = objects.process("t") {
+        if objects.socket("s").is_none() {
+            let _s = objects.add_socket(alloc, "s", t, &labelled(3))?;
+        }
+    }
+    for text in [b"one".as_slice(), b"three".as_slice()] {
+        if let Some(s) = objects.socket("s") {
+            assert!(rt; objects.count(s) < 16 && text.len() < 9);
+            objects.push_message(alloc, s, text)?;
+        }
+    }
+    if let Some(s) = objects.socket("s") {
+        assert!(rt; objects.count(s) > 0);
+        assert_eq!(rt; objects.pop_message(s).len, 3);
+    }
+    Ok(())
+}
+
+#[test]
+#[tactic(auto, using(crate::proofs::Laws::fits_file))]
+fn a_file_from_write_to_unlink(rt: HostRuntime) -> Result<(), Fail> {
+    let alloc = rt.alloc();
+    let mut objects = Objects::new(alloc, &labelled(7))?;
+    let _id = add_file(&rt, alloc, &mut objects, "f")?;
+    let root = objects.root();
+    if let Some(f) = objects.child(root, "f") {
+        assert!(rt; !objects.file(f).dir && objects.size(f) < 10);
+        objects.append(f, b"s")?;
+    }
+    if let Some(f) = objects.child(root, "f") {
+        assert_eq!(rt; objects.head(f).len, 5);
+        objects.set_mode(f, 0o1777);
+    }
+    if let Some(f) = objects.child(root, "f") {
+        assert_eq!(rt; objects.file(f).mode, 0o1777);
+        objects.set_label(f, 1, LabelValue::Number(9))?;
+    }
+    if let Some(f) = objects.child(root, "f") {
+        assert_eq!(rt; objects.value(f, 1), LabelValue::Number(9));
+        assert!(rt; f.number() != 0 && objects.count(f) == 0);
+        objects.remove_vnode(f);
+    }
+    assert_eq!(rt; objects.live(), 1);
+    Ok(())
+}

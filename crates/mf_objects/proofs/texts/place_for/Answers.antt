@@ -1,4 +1,4 @@
-use Rattle.std.proofs.Common.{◌≡◌, ℕ, ◌<◌, List, [], length, get_or, true, ap, sym, ◌∙◌, arith}
+use Rattle.std.proofs.Common.{◌≡◌, [], length, get_or, true, ap, sym, ◌∙◌, arith}
 use Rattle.std.proofs.lemmas.List.Sums.{position_or_len_is}
 use Rattle.mf_objects.specs.Titles.{comes_first}
 use Rattle.mf_objects.proofs.texts.place_for.Goals as goal

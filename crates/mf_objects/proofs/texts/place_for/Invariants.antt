@@ -1,4 +1,4 @@
-use Rattle.std.proofs.Common.{◌≡◌, ◌≤◌, ℕ, ◌<◌, length, false, get_or, List}
+use Rattle.std.proofs.Common.{◌≡◌, ℕ, ◌<◌, false, get_or, List}
 use Rattle.mf_objects.specs.Titles.{comes_first}
 use Rattle.mf_objects.proofs.texts.place_for.Given as goal
 

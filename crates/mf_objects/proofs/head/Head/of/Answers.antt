@@ -1,4 +1,4 @@
-use Rattle.std.proofs.Common.{ℕ, List, length, take, ap, ◌∙◌, ◌≡◌, min}
+use Rattle.std.proofs.Common.{ℕ, List, length, take, ap, ◌∙◌, ◌≡◌}
 use Rattle.std.proofs.lemmas.List.{take_all, take_min}
 use Rattle.mf_objects.specs.declared.head.Head.{Head}
 use Rattle.mf_objects.specs.Head.{head_of}

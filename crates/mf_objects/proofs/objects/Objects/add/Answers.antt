@@ -1,4 +1,4 @@
-use Rattle.std.proofs.Common.{◌≡◌, ◌<◌, ℕ, List, [], ◌∷◌, ◌++◌, ◌+◌, length, ap, sym, ◌∙◌, subst, arith, refl, OnErr, Result, Err}
+use Rattle.std.proofs.Common.{◌≡◌, ◌<◌, ℕ, List, [], ◌∷◌, ◌++◌, ◌+◌, length, ap, ◌∙◌, subst, arith, refl}
 use Rattle.std.proofs.lemmas.List.{length-map}
 use Rattle.mf_objects.specs.declared.id.Id.{Id}
 use Rattle.mf_objects.specs.declared.entity.Entity.{Entity}
@@ -32,7 +32,7 @@ invariant_of-self-2 c =
     let room : length es < 1024 = omega (arith, c.requires.few, length-map es (seen zones), ap (λ (o : Entities). length o.live) c.self.view_is) in
     let four : length c.args.values.now ≡ 4 = omega arith in
     let b : Becomes (c.self.inside.next + 1) c.make_label.new.self (es ++ e ∷ [])
-        (record { next = c.self.inside.next + 1; live = live_of zones es ++ record { id = e.id; name = e.name; label = c.args.values.now; what = e.what } ∷ [] }) =
+    (record { next = c.self.inside.next + 1; live = live_of zones es ++ record { id = e.id; name = e.name; label = c.args.values.now; what = e.what } ∷ [] }) =
     added c.self.inside.next zones c.make_label.new.self es e c.args.values.now refl room four c.self.invariant c.in_ok-label.ensures.ok in
     let pushed : c.push.new.self.items ≡ c.reserve.new.self.items ++ e ∷ [] = rw c.unwrap.ensures at c.push.ensures.items in
     let items : c.push.new.self.items ≡ es ++ e ∷ [] = pushed ∙ ap (λ (xs : List Entity). xs ++ e ∷ []) c.reserve.ensures.items in
@@ -46,7 +46,7 @@ returns-clause-ok c =
     let room : length es < 1024 = omega (arith, c.requires.few, length-map es (seen zones), ap (λ (o : Entities). length o.live) c.self.view_is) in
     let four : length c.args.values.now ≡ 4 = omega arith in
     let b : Becomes (c.self.inside.next + 1) c.make_label.new.self (es ++ e ∷ [])
-        (record { next = c.self.inside.next + 1; live = live_of zones es ++ record { id = e.id; name = e.name; label = c.args.values.now; what = e.what } ∷ [] }) =
+    (record { next = c.self.inside.next + 1; live = live_of zones es ++ record { id = e.id; name = e.name; label = c.args.values.now; what = e.what } ∷ [] }) =
     added c.self.inside.next zones c.make_label.new.self es e c.args.values.now refl room four c.self.invariant c.in_ok-label.ensures.ok in
     let pushed : c.push.new.self.items ≡ c.reserve.new.self.items ++ e ∷ [] = rw c.unwrap.ensures at c.push.ensures.items in
     let items : c.push.new.self.items ≡ es ++ e ∷ [] = pushed ∙ ap (λ (xs : List Entity). xs ++ e ∷ []) c.reserve.ensures.items in
@@ -63,7 +63,7 @@ returns-clause-found c =
     let room : length es < 1024 = omega (arith, c.requires.few, length-map es (seen zones), ap (λ (o : Entities). length o.live) c.self.view_is) in
     let four : length c.args.values.now ≡ 4 = omega arith in
     let b : Becomes (c.self.inside.next + 1) c.make_label.new.self (es ++ e ∷ [])
-        (record { next = c.self.inside.next + 1; live = live_of zones es ++ record { id = e.id; name = e.name; label = c.args.values.now; what = e.what } ∷ [] }) =
+    (record { next = c.self.inside.next + 1; live = live_of zones es ++ record { id = e.id; name = e.name; label = c.args.values.now; what = e.what } ∷ [] }) =
     added c.self.inside.next zones c.make_label.new.self es e c.args.values.now refl room four c.self.invariant c.in_ok-label.ensures.ok in
     let pushed : c.push.new.self.items ≡ c.reserve.new.self.items ++ e ∷ [] = rw c.unwrap.ensures at c.push.ensures.items in
     let items : c.push.new.self.items ≡ es ++ e ∷ [] = pushed ∙ ap (λ (xs : List Entity). xs ++ e ∷ []) c.reserve.ensures.items in

@@ -1,12 +1,10 @@
-use Rattle.std.proofs.Common.{◌≡◌, ℕ, List, [], ◌∷◌, ◌++◌, drop, length, get_or, Some, ap, sym, ◌∙◌, subst, refl, Result}
+use Rattle.std.proofs.Common.{◌≡◌, length, ap, sym, ◌∙◌, subst}
 use Rattle.std.proofs.lemmas.Result.{on_ok_weaker}
-use Rattle.mf_objects.specs.declared.entity.What.{What}
-use Rattle.mf_objects.specs.Live.{Entities, live_at, IsLiveWhere, messages_at, messages_of}
-use Rattle.mf_objects.specs.Changes.{with_change, with_what, with_mode, with_messages, with_message, appended, cleared, FitsBytes, FitsMessage, HasMessage}
-use Rattle.mf_objects.specs.Head.{head_of}
+use Rattle.mf_objects.specs.Live.{Entities, live_at, IsLiveWhere}
+use Rattle.mf_objects.specs.Changes.{with_change, with_what, appended, FitsBytes}
 use Rattle.mf_objects.specs.Sound.{IsPlace}
 use Rattle.mf_objects.proofs.Kept.{view, what_changed}
-use Rattle.mf_objects.proofs.Found.{where_place, messages_place, what_sound, appended_kind, cleared_kind, mode_kind, messages_kind}
+use Rattle.mf_objects.proofs.Found.{where_place, what_sound, appended_kind}
 use Rattle.mf_objects.proofs.objects.Objects.append.Goals as goal
 
 pub append-requires : goal.append-requires
@@ -40,5 +38,5 @@ returns-clause-ok c =
     let e = c.index_mut-entity.result.now in
     let place : IsPlace (view next zones es) c.args.id i = subst (λ (o : Entities). IsPlace o c.args.id i) (sym c.self.view_is) c.place-place.ensures in
     on_ok_weaker c.append.result (λ (changed : c.append.new.self ≡ (appended c.args.text.now) e.what).
-        (what_changed next zones es c.args.id i e c.append.new.self (appended c.args.text.now) place c.index_mut-entity.ensures.value c.self.invariant (appended_kind c.args.text.now) changed).shows
-        ∙ ap (λ (o : Entities). with_change (with_what (appended c.args.text.now)) o c.args.id) c.self.view_is) c.append.ensures.ok
+    (what_changed next zones es c.args.id i e c.append.new.self (appended c.args.text.now) place c.index_mut-entity.ensures.value c.self.invariant (appended_kind c.args.text.now) changed).shows
+    ∙ ap (λ (o : Entities). with_change (with_what (appended c.args.text.now)) o c.args.id) c.self.view_is) c.append.ensures.ok

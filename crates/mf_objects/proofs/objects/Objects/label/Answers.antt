@@ -1,4 +1,4 @@
-use Rattle.std.proofs.Common.{◌≡◌, ap, sym, ◌∙◌, subst, arith}
+use Rattle.std.proofs.Common.{ap, sym, ◌∙◌, subst, arith}
 use Rattle.mf_objects.specs.Live.{Entities, label_at}
 use Rattle.mf_objects.specs.Sound.{IsPlace}
 use Rattle.mf_objects.proofs.Kept.{view, held_place, place_within}

@@ -1,10 +1,9 @@
-use Rattle.std.proofs.Common.{◌≡◌, List, ap, sym, ◌∙◌, subst, option_map, Option}
+use Rattle.std.proofs.Common.{◌≡◌, List, ap, ◌∙◌, subst, option_map}
 use Rattle.std.specs.Prelude.{find}
-use Rattle.mf_objects.specs.declared.id.Id.{Id}
 use Rattle.mf_objects.specs.declared.entity.Entity.{Entity}
 use Rattle.mf_objects.specs.Live.{Entities, IsFound, is_from}
 use Rattle.mf_objects.specs.Sound.{seen}
-use Rattle.mf_objects.proofs.Found.{found_id, kind_found, named_kind, child_kind, live_found}
+use Rattle.mf_objects.proofs.Found.{found_id, live_found}
 use Rattle.mf_objects.proofs.objects.Objects.least_from.Goals as goal
 
 pub returns-clause-found : goal.returns-clause-found

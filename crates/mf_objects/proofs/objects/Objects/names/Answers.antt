@@ -1,4 +1,4 @@
-use Rattle.std.proofs.Common.{◌≡◌, ℕ, List, take, ap, sym, ◌∙◌}
+use Rattle.std.proofs.Common.{◌≡◌, List, take, ap, sym, ◌∙◌}
 use Rattle.mf_objects.specs.declared.entity.Entity.{Entity}
 use Rattle.mf_objects.specs.Live.{Entities}
 use Rattle.mf_objects.specs.Titles.{names_at, in_byte_order, entry_names}

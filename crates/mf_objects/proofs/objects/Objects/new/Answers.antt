@@ -1,11 +1,10 @@
-use Rattle.std.proofs.Common.{◌≡◌, ◌++◌, ◌∷◌, [], ℕ, List, length, replicate, ap, sym, ◌∙◌, subst, arith, refl, Some, None, true, false}
+use Rattle.std.proofs.Common.{◌≡◌, ◌++◌, ◌∷◌, [], ℕ, List, length, replicate, ap, ◌∙◌, subst, arith, refl, None, true}
 use Rattle.mf_elem.specs.declared.label.LabelValue.{LabelValue}
 use Rattle.mf_slots.specs.Zones.{Contents, MakesLabel}
 use Rattle.mf_objects.specs.declared.entity.Entity.{Entity}
 use Rattle.mf_objects.specs.declared.entity.What.TheVariants.{Vnode}
-use Rattle.mf_objects.specs.Live.{Live, Entities}
 use Rattle.mf_objects.specs.Changes.{opening}
-use Rattle.mf_objects.proofs.Kept.{view, Becomes, opened}
+use Rattle.mf_objects.proofs.Kept.{view, opened}
 use Rattle.mf_objects.proofs.objects.Objects.new.Goals as goal
 
 is_opening : (name content : List ℕ) (values : List LabelValue) → name ≡ [] → content ≡ []

@@ -1,4 +1,4 @@
-use Rattle.std.proofs.Common.{◌≡◌, ℕ, List, IsSome, Some, nat_eq, position, ap, sym, ◌∙◌, subst}
+use Rattle.std.proofs.Common.{◌≡◌, List, IsSome, Some, nat_eq, position, ap, sym, ◌∙◌, subst}
 use Rattle.std.specs.Prelude.{find}
 use Rattle.mf_objects.specs.declared.entity.Entity.{Entity}
 use Rattle.mf_objects.specs.Live.{Entities, has_id, live_at}

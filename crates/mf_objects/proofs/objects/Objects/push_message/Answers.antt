@@ -1,12 +1,10 @@
-use Rattle.std.proofs.Common.{◌≡◌, ℕ, List, [], ◌∷◌, ◌++◌, drop, length, get_or, Some, ap, sym, ◌∙◌, subst, refl, Result}
+use Rattle.std.proofs.Common.{◌≡◌, ℕ, List, ap, sym, ◌∙◌, subst}
 use Rattle.std.proofs.lemmas.Result.{on_ok_weaker}
-use Rattle.mf_objects.specs.declared.entity.What.{What}
-use Rattle.mf_objects.specs.Live.{Entities, live_at, IsLiveWhere, messages_at, messages_of}
-use Rattle.mf_objects.specs.Changes.{with_change, with_what, with_mode, with_messages, with_message, appended, cleared, FitsBytes, FitsMessage, HasMessage}
-use Rattle.mf_objects.specs.Head.{head_of}
+use Rattle.mf_objects.specs.Live.{Entities, live_at, IsLiveWhere}
+use Rattle.mf_objects.specs.Changes.{with_change, with_what, with_messages, with_message, FitsMessage}
 use Rattle.mf_objects.specs.Sound.{IsPlace}
 use Rattle.mf_objects.proofs.Kept.{view, what_changed}
-use Rattle.mf_objects.proofs.Found.{where_place, messages_place, what_sound, appended_kind, cleared_kind, mode_kind, messages_kind}
+use Rattle.mf_objects.proofs.Found.{where_place, what_sound, messages_kind}
 use Rattle.mf_objects.proofs.objects.Objects.push_message.Goals as goal
 
 pub push_message-requires : goal.push_message-requires
@@ -40,6 +38,6 @@ returns-clause-ok c =
     let e = c.index_mut-entity.result.now in
     let place : IsPlace (view next zones es) c.args.id i = subst (λ (o : Entities). IsPlace o c.args.id i) (sym c.self.view_is) c.place-place.ensures in
     on_ok_weaker c.push_message.result (λ (changed : c.push_message.new.self ≡ (with_messages (with_message c.in_ok-message.message)) e.what).
-        (what_changed next zones es c.args.id i e c.push_message.new.self (with_messages (with_message c.in_ok-message.message)) place c.index_mut-entity.ensures.value c.self.invariant (messages_kind (with_message c.in_ok-message.message)) changed).shows
-        ∙ ap (λ (o : Entities). with_change (with_what (with_messages (with_message c.in_ok-message.message))) o c.args.id) c.self.view_is
-        ∙ ap (λ (text : List ℕ). with_change (with_what (with_messages (with_message text))) c.args.self.now c.args.id) (let same = c.in_ok-message.ensures in same)) c.push_message.ensures.ok
+    (what_changed next zones es c.args.id i e c.push_message.new.self (with_messages (with_message c.in_ok-message.message)) place c.index_mut-entity.ensures.value c.self.invariant (messages_kind (with_message c.in_ok-message.message)) changed).shows
+    ∙ ap (λ (o : Entities). with_change (with_what (with_messages (with_message c.in_ok-message.message))) o c.args.id) c.self.view_is
+    ∙ ap (λ (text : List ℕ). with_change (with_what (with_messages (with_message text))) c.args.self.now c.args.id) (let same = c.in_ok-message.ensures in same)) c.push_message.ensures.ok

@@ -1,10 +1,10 @@
-use Rattle.std.proofs.Common.{◌≡◌, ◌<◌, ℕ, List, length, remove, ap, sym, ◌∙◌, subst, arith}
+use Rattle.std.proofs.Common.{◌≡◌, ◌<◌, ℕ, List, length, remove, ap, ◌∙◌, subst, arith}
 use Rattle.std.proofs.lemmas.List.{length-map}
 use Rattle.mf_objects.specs.declared.entity.Entity.{Entity}
 use Rattle.mf_objects.specs.Live.{Live, Entities}
 use Rattle.mf_objects.specs.Sound.{live_of, seen, IsRising}
 use Rattle.mf_objects.proofs.Rising.{remove_filter}
-use Rattle.mf_objects.proofs.Kept.{view, Becomes, held_place, dropped}
+use Rattle.mf_objects.proofs.Kept.{view, held_place, dropped}
 use Rattle.mf_objects.proofs.objects.Objects.remove_at.Goals as goal
 
 within : (next : ℕ) (objects : Entities) (es : List Entity) (lives : List Live) (place : ℕ) → lives ≡ objects.live → length lives ≡ length es → place < length objects.live → place < length es
@@ -58,4 +58,4 @@ returns-clause-by_id c id has =
     let all : IsRising 0 c.self.inside.next c.args.self.now.live = subst (λ (ls : List Live). IsRising 0 c.self.inside.next ls) same c.self.invariant.rising in
     removed
     ∙ ap (λ (ls : List Live). let p : Entities = record { next = c.args.self.now.next; live = ls } in p)
-        (remove_filter id 0 c.self.inside.next c.args.self.now.live c.args.place first c.requires.within all (has first))
+    (remove_filter id 0 c.self.inside.next c.args.self.now.live c.args.place first c.requires.within all (has first))

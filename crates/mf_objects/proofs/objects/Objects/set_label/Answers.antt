@@ -1,13 +1,10 @@
-use Rattle.std.proofs.Common.{◌≡◌, ◌≢◌, ◌<◌, ℕ, List, length, IsSome, IsOk, OnOk, Some, None, Option, Result, Ok, Err, ap, sym, ◌∙◌, subst, arith, refl, set}
+use Rattle.std.proofs.Common.{◌≡◌, None, ap, sym, ◌∙◌, subst, refl}
 use Rattle.std.proofs.lemmas.Result.{on_ok_weaker}
-use Rattle.mf_elem.specs.declared.label.LabelValue.{LabelValue}
-use Rattle.mf_elem.specs.declared.label.LabelValue.TheVariants.{Unset}
-use Rattle.mf_slots.specs.Zones.{Handles, handle, Makes}
-use Rattle.mf_objects.specs.declared.entity.Entity.{Entity}
+use Rattle.mf_slots.specs.Zones.{handle, Makes}
 use Rattle.mf_objects.specs.Live.{Entities, value_at}
 use Rattle.mf_objects.specs.Changes.{with_change, with_value}
-use Rattle.mf_objects.specs.Sound.{live_of, IsPlace, IsSound}
-use Rattle.mf_objects.proofs.Kept.{view, Becomes, held_place, made_place, place_within, value_set, value_made, unmade_value, unmade_none, made_sound}
+use Rattle.mf_objects.specs.Sound.{IsPlace}
+use Rattle.mf_objects.proofs.Kept.{view, held_place, made_place, place_within, value_set, value_made, unmade_value, unmade_none, made_sound}
 use Rattle.mf_objects.proofs.objects.Objects.set_label.Goals as goal
 
 pub set-requires-clause-made : goal.set-requires-clause-made
@@ -68,9 +65,9 @@ returns-clause-ok c =
     let unset : handle c.index_mut.result.now.label c.args.slot ≡ None =
     unmade_none (handle c.index_mut.result.now.label c.args.slot) (λ some. let t = c.if-is_made.ensures in t.1 some) in
     on_ok_weaker c.make.result (λ (makes : Makes zones c.make.new.self c.index_mut.result.now.label c.make.new.label c.args.slot c.args.value).
-        (value_made c.self.inside.next zones c.make.new.self es c.args.id c.place-place.result c.index_mut.result.now c.make.new.label c.args.slot c.args.value
-        c.requires.slot place c.index_mut.ensures.value c.self.invariant unset makes).shows
-        ∙ ap (λ (o : Entities). with_change (with_value c.args.slot c.args.value) o c.args.id) c.self.view_is) c.make.ensures.ok
+    (value_made c.self.inside.next zones c.make.new.self es c.args.id c.place-place.result c.index_mut.result.now c.make.new.label c.args.slot c.args.value
+    c.requires.slot place c.index_mut.ensures.value c.self.invariant unset makes).shows
+    ∙ ap (λ (o : Entities). with_change (with_value c.args.slot c.args.value) o c.args.id) c.self.view_is) c.make.ensures.ok
 
 pub returns-clause-made : goal.returns-clause-made
 returns-clause-made c made =

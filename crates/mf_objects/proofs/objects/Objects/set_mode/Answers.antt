@@ -1,12 +1,9 @@
-use Rattle.std.proofs.Common.{◌≡◌, ℕ, List, [], ◌∷◌, ◌++◌, drop, length, get_or, Some, ap, sym, ◌∙◌, subst, refl, Result}
-use Rattle.std.proofs.lemmas.Result.{on_ok_weaker}
-use Rattle.mf_objects.specs.declared.entity.What.{What}
-use Rattle.mf_objects.specs.Live.{Entities, live_at, IsLiveWhere, messages_at, messages_of}
-use Rattle.mf_objects.specs.Changes.{with_change, with_what, with_mode, with_messages, with_message, appended, cleared, FitsBytes, FitsMessage, HasMessage}
-use Rattle.mf_objects.specs.Head.{head_of}
+use Rattle.std.proofs.Common.{ap, sym, ◌∙◌, subst}
+use Rattle.mf_objects.specs.Live.{Entities}
+use Rattle.mf_objects.specs.Changes.{with_change, with_what, with_mode}
 use Rattle.mf_objects.specs.Sound.{IsPlace}
 use Rattle.mf_objects.proofs.Kept.{view, what_changed}
-use Rattle.mf_objects.proofs.Found.{where_place, messages_place, what_sound, appended_kind, cleared_kind, mode_kind, messages_kind}
+use Rattle.mf_objects.proofs.Found.{mode_kind}
 use Rattle.mf_objects.proofs.objects.Objects.set_mode.Goals as goal
 
 pub invariant_of-self : goal.invariant_of-self

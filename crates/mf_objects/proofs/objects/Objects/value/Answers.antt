@@ -1,8 +1,6 @@
-use Rattle.std.proofs.Common.{◌≡◌, ℕ, Some, ap, sym, ◌∙◌, subst, arith, Option}
-use Rattle.mf_elem.specs.declared.label.LabelValue.{LabelValue}
-use Rattle.mf_elem.specs.declared.label.LabelValue.TheVariants.{Unset}
-use Rattle.mf_objects.specs.Live.{Live, Entities, value_at, label_of}
-use Rattle.mf_objects.specs.Sound.{live_of, IsPlace}
+use Rattle.std.proofs.Common.{ap, sym, ◌∙◌, subst}
+use Rattle.mf_objects.specs.Live.{Entities, value_at}
+use Rattle.mf_objects.specs.Sound.{IsPlace}
 use Rattle.mf_objects.proofs.Kept.{view, held_place, place_within, value_place}
 use Rattle.mf_objects.proofs.objects.Objects.value.Goals as goal
 

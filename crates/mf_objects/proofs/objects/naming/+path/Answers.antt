@@ -1,6 +1,5 @@
-use Rattle.std.proofs.Common.{◌≡◌, ◌++◌, ◌∷◌, [], ℕ, List, nat_eq, true, false, ap, sym, ◌∙◌, map, reverse, string_bytes, codes, append_assoc, IfOk, Some}
+use Rattle.std.proofs.Common.{◌≡◌, ◌++◌, ◌∷◌, [], ℕ, List, nat_eq, true, false, ap, sym, ◌∙◌, map, reverse, string_bytes}
 use Rattle.std.proofs.lemmas.Result.{IfOk-weaker}
-use Rattle.mf_objects.specs.declared.entity.Entity.{Entity}
 use Rattle.mf_objects.specs.Titles.{path_in}
 use Rattle.mf_objects.specs.Sound.{link}
 use Rattle.mf_objects.proofs.Naming.{path_none, path_other, path_root, path_below}

@@ -1,5 +1,4 @@
 use Rattle.std.proofs.Common.{◌≡◌, ◌≤◌, length, drop}
-use Rattle.mf_objects.specs.Live.{is_entry}
 use Rattle.mf_objects.specs.Titles.{in_byte_order}
 use Rattle.mf_objects.proofs.Naming.{raw_names}
 use Rattle.mf_objects.proofs.objects.naming.entry_names.Given as goal

@@ -1,0 +1,94 @@
+-- What callers need to meet the conditions of the calls: from what the readings say of an entity.
+use Rattle.std.proofs.Common.{◌≡◌, ℕ, ◌<◌, ◌≤◌, ◌+◌, Option, Some, None, length, true, false, [], refl}
+use Rattle.std.proofs.lemmas.Bool.{false≢true}
+use Rattle.mf_objects.specs.declared.id.Id.{Id}
+use Rattle.mf_objects.specs.declared.entity.What.{What}
+use Rattle.mf_objects.specs.declared.entity.What.TheVariants.{Process, Vnode, Pipe, Socket}
+use Rattle.mf_objects.specs.Live.{Live, Entities, live_at, passes, is_vnode, is_pipe, is_socket, is_directory, IsLive, IsLiveWhere, reading, count_of, count_at, content_of, content_at, file_of, file_at, no_file, entry_count}
+use Rattle.mf_objects.specs.Changes.{FitsBytes, FitsMessage, HasMessage}
+
+message_fits : (entries : ℕ) (w : What) → is_socket w ≡ true → count_of entries w < 16 → FitsMessage w
+message_fits entries (Process cred) kind few = absurd (false≢true kind)
+message_fits entries (Vnode vnode) kind few = absurd (false≢true kind)
+message_fits entries (Pipe pipe) kind few = absurd (false≢true kind)
+message_fits entries (Socket socket) kind few = few
+
+message_found : (entries : ℕ) (found : Option Live) → passes is_socket found ≡ true → reading (count_of entries) 0 found < 16 → IsLiveWhere FitsMessage found
+message_found entries None kind few = absurd (false≢true kind)
+message_found entries (Some e) kind few = message_fits entries e.what kind few
+
+-- a message fits a live socket that has fewer than 16
+pub fits_message : (objects : Entities) (id : Id) → IsLive is_socket objects id → count_at objects id < 16 → IsLiveWhere FitsMessage (live_at objects id)
+fits_message objects id live few = message_found (entry_count objects id) (live_at objects id) live few
+
+message_has : (entries : ℕ) (w : What) → is_socket w ≡ true → 0 < count_of entries w → HasMessage w
+message_has entries (Process cred) kind some = absurd (false≢true kind)
+message_has entries (Vnode vnode) kind some = absurd (false≢true kind)
+message_has entries (Pipe pipe) kind some = absurd (false≢true kind)
+message_has entries (Socket socket) kind some = some
+
+message_waits : (entries : ℕ) (found : Option Live) → passes is_socket found ≡ true → 0 < reading (count_of entries) 0 found → IsLiveWhere HasMessage found
+message_waits entries None kind some = absurd (false≢true kind)
+message_waits entries (Some e) kind some = message_has entries e.what kind some
+
+-- a live socket whose count isn't 0 has a message
+pub has_message : (objects : Entities) (id : Id) → IsLive is_socket objects id → 0 < count_at objects id → IsLiveWhere HasMessage (live_at objects id)
+has_message objects id live some = message_waits (entry_count objects id) (live_at objects id) live some
+
+pipe_fits : (more : ℕ) (w : What) → is_pipe w ≡ true → length (content_of w) + more ≤ 16384 → FitsBytes more w
+pipe_fits more (Process cred) kind room = absurd (false≢true kind)
+pipe_fits more (Vnode vnode) kind room = absurd (false≢true kind)
+pipe_fits more (Pipe pipe) kind room = room
+pipe_fits more (Socket socket) kind room = absurd (false≢true kind)
+
+pipe_found : (more : ℕ) (found : Option Live) → passes is_pipe found ≡ true → length (reading content_of [] found) + more ≤ 16384 → IsLiveWhere (FitsBytes more) found
+pipe_found more None kind room = absurd (false≢true kind)
+pipe_found more (Some e) kind room = pipe_fits more e.what kind room
+
+-- so many bytes more fit a live pipe
+pub fits_pipe : (more : ℕ) (objects : Entities) (id : Id) → IsLive is_pipe objects id → length (content_at objects id) + more ≤ 16384 → IsLiveWhere (FitsBytes more) (live_at objects id)
+fits_pipe more objects id live room = pipe_found more (live_at objects id) live room
+
+file_fits : (more : ℕ) (w : What) → is_vnode w ≡ true → (file_of w).dir ≡ false → length (content_of w) + more ≤ 65536 → FitsBytes more w
+file_fits more (Process cred) kind regular room = absurd (false≢true kind)
+file_fits more (Vnode vnode) kind regular room = (regular, room)
+file_fits more (Pipe pipe) kind regular room = absurd (false≢true kind)
+file_fits more (Socket socket) kind regular room = absurd (false≢true kind)
+
+file_found : (more : ℕ) (found : Option Live) → passes is_vnode found ≡ true → (reading file_of no_file found).dir ≡ false
+    → length (reading content_of [] found) + more ≤ 65536 → IsLiveWhere (FitsBytes more) found
+file_found more None kind regular room = absurd (false≢true kind)
+file_found more (Some e) kind regular room = file_fits more e.what kind regular room
+
+-- so many bytes more fit a live regular file
+pub fits_file : (more : ℕ) (objects : Entities) (id : Id) → IsLive is_vnode objects id → (file_at objects id).dir ≡ false
+    → length (content_at objects id) + more ≤ 65536 → IsLiveWhere (FitsBytes more) (live_at objects id)
+fits_file more objects id live regular room = file_found more (live_at objects id) live regular room
+
+what_directory : (w : What) → is_directory w ≡ true → is_vnode w ≡ true
+what_directory (Process cred) kind = kind
+what_directory (Vnode vnode) kind = refl
+what_directory (Pipe pipe) kind = kind
+what_directory (Socket socket) kind = kind
+
+found_directory : (found : Option Live) → passes is_directory found ≡ true → passes is_vnode found ≡ true
+found_directory None kind = kind
+found_directory (Some e) kind = what_directory e.what kind
+
+-- a live directory is a live vnode
+pub directory_vnode : (objects : Entities) (id : Id) → IsLive is_directory objects id → IsLive is_vnode objects id
+directory_vnode objects id live = found_directory (live_at objects id) live
+
+vnode_directory : (w : What) → (file_of w).dir ≡ true → is_directory w ≡ true
+vnode_directory (Process cred) dir = dir
+vnode_directory (Vnode vnode) dir = dir
+vnode_directory (Pipe pipe) dir = dir
+vnode_directory (Socket socket) dir = dir
+
+directory_found : (found : Option Live) → (reading file_of no_file found).dir ≡ true → passes is_directory found ≡ true
+directory_found None dir = dir
+directory_found (Some e) dir = vnode_directory e.what dir
+
+-- what has the attributes of a directory is one
+pub live_directory : (objects : Entities) (id : Id) → (file_at objects id).dir ≡ true → IsLive is_directory objects id
+live_directory objects id dir = directory_found (live_at objects id) dir
