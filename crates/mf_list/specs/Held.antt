@@ -1,0 +1,32 @@
+-- How often list and catalogue hold a module.
+use Rattle.std.specs.Prelude.{◌≡◌, ℕ, ◌+◌, ◌≤◌, Bool, cond, List, [], ◌∷◌}
+use Rattle.mf_errno.specs.declared.module.Module.{Module}
+use Rattle.mf_policy.specs.Registration.{Entry}
+use Rattle.mf_list.specs.Lists.{ListView, CatalogueView, is_of, same_module}
+
+-- how many elements pass
+abbrev pub how_many : {X : Type 0} → (X → Bool) → List X → ℕ
+how_many p [] = 0
+how_many p (x ∷ xs) = cond (p x) 1 0 + how_many p xs
+
+-- no module is listed twice
+abbrev pub IsListedOnce : List Entry → Type 0
+IsListedOnce entries = (m : Module) → how_many (is_of m) entries ≤ 1
+
+-- how often the module is in the list and in the catalogue
+abbrev pub times_held : Module → ListView → CatalogueView → ℕ
+times_held m list catalogue = how_many (is_of m) list.entries + how_many (same_module m) catalogue.modules
+
+-- the list and the catalogue, as one value
+pub record PoliciesView : Type 0 where
+  pub list : ListView
+  pub catalogue : CatalogueView
+
+-- no module is held twice
+abbrev pub IsHeldOnce : ListView → CatalogueView → Type 0
+IsHeldOnce list catalogue = (m : Module) → times_held m list catalogue ≤ 1
+
+-- the same modules are held as before
+abbrev pub HoldsTheSame : PoliciesView → PoliciesView → Type 0
+HoldsTheSame before after =
+    (m : Module) → times_held m after.list after.catalogue ≡ times_held m before.list before.catalogue

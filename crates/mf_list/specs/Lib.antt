@@ -1,0 +1,5 @@
+pub mod Asked
+pub mod Faults
+pub mod Held
+pub mod Lists
+pub mod Registration

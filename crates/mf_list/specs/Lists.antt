@@ -1,0 +1,70 @@
+-- What contracts see of the list of policies and of the catalogue.
+use Rattle.std.specs.Prelude.{◌≡◌, ℕ, ◌<◌, ◌≤◌, Bool, true, false, cond, not, nat_eq, List, [], ◌∷◌, Option, Some, None, length}
+use Rattle.std.specs.List.{list_any}
+use Rattle.mf_errno.specs.declared.module.Module.{Module}
+use Rattle.mf_errno.specs.declared.module.Module.TheVariants.{Biba, Mls, Partition, Bsdextended, Priority}
+use Rattle.mf_policy.specs.declared.spec.Spec.{Spec}
+use Rattle.mf_policy.specs.Registration.{Entry}
+use Rattle.mf_policy.specs.Modules.{fresh_of, module_of, wants_slot}
+
+-- the listed policies in walk order, and how many more fit without memory
+pub record ListView : Type 0 where
+  pub entries : List Entry
+  pub spare : ℕ
+
+-- the modules that are not listed, and how many more fit without memory
+pub record CatalogueView : Type 0 where
+  pub modules : List Module
+  pub spare : ℕ
+
+-- each has room for what the other holds
+pub record IsReady (list : ListView) (catalogue : CatalogueView) : Type 0 where
+  pub for_catalogue : length catalogue.modules ≤ list.spare
+  pub for_list : length list.entries ≤ catalogue.spare
+
+-- a policy as it is loaded
+abbrev pub IsFresh : Spec → Type 0
+IsFresh meaning = meaning ≡ fresh_of (module_of meaning)
+
+-- there is a slot number, below 4, exactly where one is wanted
+abbrev pub HasSlot : Bool → Option ℕ → Type 0
+HasSlot true (Some slot) = slot < 4
+HasSlot true None = ⊥
+HasSlot false (Some slot) = ⊥
+HasSlot false None = Unit {0}
+
+-- the meaning is of the module that is registered, and the slot is one that it wants
+pub record IsEntry (entry : Entry) : Type 0 where
+  pub module_is : module_of entry.1 ≡ entry.0.module
+  pub has_slot : HasSlot (wants_slot entry.0.module) entry.0.slot
+
+-- a number for each module, which tells it from the others
+abbrev pub number_of : Module → ℕ
+number_of Biba = 0
+number_of Mls = 1
+number_of Partition = 2
+number_of Bsdextended = 3
+number_of Priority = 4
+
+abbrev pub same_module : Module → Module → Bool
+same_module m other = nat_eq (number_of m) (number_of other)
+
+-- whether the entry is the module's
+abbrev pub is_of : Module → Entry → Bool
+is_of m entry = same_module m entry.0.module
+
+-- whether the module is listed, and whether it is in the catalogue
+abbrev pub is_listed : Module → List Entry → Bool
+is_listed m entries = list_any (is_of m) entries
+
+abbrev pub in_catalogue : Module → List Module → Bool
+in_catalogue m modules = list_any (same_module m) modules
+
+-- the module's entry
+abbrev pub entry_in : Module → List Entry → Option Entry
+entry_in m [] = None
+entry_in m (x ∷ xs) = cond (is_of m x) (Some x) (entry_in m xs)
+
+-- whether the entry is in the dynamic list
+abbrev pub is_dynamic : Entry → Bool
+is_dynamic entry = not entry.0.fixed

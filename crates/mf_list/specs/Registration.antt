@@ -1,0 +1,127 @@
+-- Registration: which calls are refused, and what becomes of list, catalogue and slot numbers.
+use Rattle.std.specs.Prelude.{◌≡◌, ℕ, ◌+◌, ◌<◌, ◌≤◌, Bool, true, false, cond, not, ◌&&◌, ◌||◌, nat_le, List, [], ◌∷◌, ◌++◌, Option, Some, None, is_some, Result, Ok, Err, length, slice_index_or}
+use Rattle.std.specs.List.{remove}
+use Rattle.mf_errno.specs.declared.module.Module.{Module}
+use Rattle.mf_policy.specs.declared.registration.Registration.{Registration}
+use Rattle.mf_policy.specs.declared.spec.Spec.{Spec}
+use Rattle.mf_policy.specs.declared.spec.Change.{Change}
+use Rattle.mf_policy.specs.declared.spec.Changed.{Changed}
+use Rattle.mf_policy.specs.LoadFlags.{is_notlate, is_unloadok}
+use Rattle.mf_policy.specs.Modules.{flags_of, fresh_of, wants_slot}
+use Rattle.mf_policy.specs.Registration.{Entry}
+use Rattle.mf_policy.specs.Settings.{change_of, no_setting}
+use Rattle.mf_list.specs.declared.faults.RegisterFault.{RegisterFault}
+use Rattle.mf_list.specs.declared.faults.RegisterFault.TheVariants.{Unknown, NotLate, Exists, NoSlot}
+use Rattle.mf_list.specs.declared.faults.UnregisterFault.{UnregisterFault}
+use Rattle.mf_list.specs.declared.faults.UnregisterFault.TheVariants.{NotLoaded, Pinned}
+use Rattle.mf_list.specs.Lists.{ListView, CatalogueView, IsReady, entry_in, in_catalogue, is_listed, is_of, same_module}
+
+-- the slot of a module where so many numbers were given: the next one where it wants one
+abbrev pub slot_for : Bool → ℕ → Option ℕ
+slot_for wanted given = cond wanted (Some given) None
+
+-- how a module is registered: in the static list before the end of boot, unless it may be unloaded
+abbrev pub registration_of : Module → Bool → ℕ → Registration
+registration_of m booted given =
+    record {
+      «module» = m;
+      slot = slot_for (wants_slot m) given;
+      fixed = not booted && not (is_unloadok (flags_of m));
+    }
+
+-- the answer to a registration, by the first test that fits
+abbrev pub register_verdict : Module → Bool → ListView → CatalogueView → ℕ → Result Registration RegisterFault
+register_verdict m booted list catalogue given =
+    cond (not (is_listed m list.entries || in_catalogue m catalogue.modules)) (Err Unknown)
+    (cond (booted && is_notlate (flags_of m)) (Err NotLate)
+    (cond (is_listed m list.entries) (Err Exists)
+    (cond (wants_slot m && nat_le 4 given) (Err NoSlot)
+    (Ok (registration_of m booted given)))))
+
+-- the same for a name, which may be no module's
+abbrev pub register_verdict_by_name : Option Module → Bool → ListView → CatalogueView → ℕ → Result Registration RegisterFault
+register_verdict_by_name None booted list catalogue given = Err Unknown
+register_verdict_by_name (Some m) booted list catalogue given = register_verdict m booted list catalogue given
+
+-- the answer to an unregistration, by the first test that fits
+abbrev pub unregister_verdict : Module → ListView → Result Registration UnregisterFault
+unregister_verdict m list =
+    elim (entry_in m list.entries) [
+      | None ↦ Err NotLoaded
+      | Some entry ↦ cond (is_unloadok (flags_of m)) (Ok entry.0) (Err Pinned)
+    ]
+
+abbrev pub unregister_verdict_by_name : Option Module → ListView → Result Registration UnregisterFault
+unregister_verdict_by_name None list = Err NotLoaded
+unregister_verdict_by_name (Some m) list = unregister_verdict m list
+
+-- whether list or catalogue has the module of that name
+abbrev pub is_known : Option Module → ListView → CatalogueView → Bool
+is_known None list catalogue = false
+is_known (Some m) list catalogue = is_listed m list.entries || in_catalogue m catalogue.modules
+
+-- the list with a new policy: the newest of the static list, which comes first, or of the dynamic one
+abbrev pub with_newest : Entry → List Entry → List Entry
+with_newest entry [] = entry ∷ []
+with_newest entry (x ∷ xs) =
+    cond (not entry.0.fixed && x.0.fixed) (x ∷ with_newest entry xs) (entry ∷ x ∷ xs)
+
+-- the list without the first element that passes
+abbrev pub without_first : {X : Type 0} → (X → Bool) → List X → List X
+without_first p [] = []
+without_first p (x ∷ xs) = cond (p x) xs (x ∷ without_first p xs)
+
+-- list and catalogue without the module
+abbrev pub entries_without : Module → List Entry → List Entry
+entries_without m entries = without_first (is_of m) entries
+
+abbrev pub modules_without : Module → List Module → List Module
+modules_without m modules = without_first (same_module m) modules
+
+-- list, catalogue and how many numbers were given, after a registration
+pub record Registers (r : Registration) (list list' : ListView) (catalogue catalogue' : CatalogueView) (given given' : ℕ) : Type 0 where
+  pub was_in_catalogue : in_catalogue r.module catalogue.modules ≡ true
+  pub entries : list'.entries ≡ with_newest (r, fresh_of r.module) list.entries
+  pub modules : catalogue'.modules ≡ modules_without r.module catalogue.modules
+  pub slots : given' ≡ cond (is_some r.slot) (given + 1) given
+  pub ready : IsReady list' catalogue'
+
+-- list and catalogue after an unregistration
+pub record Unregisters (m : Module) (list list' : ListView) (catalogue catalogue' : CatalogueView) : Type 0 where
+  pub was_listed : is_listed m list.entries ≡ true
+  pub entries : list'.entries ≡ entries_without m list.entries
+  pub modules : catalogue'.modules ≡ catalogue.modules ++ m ∷ []
+  pub ready : IsReady list' catalogue'
+
+-- the list where the module's policy has that meaning
+abbrev pub with_meaning : Module → Spec → List Entry → List Entry
+with_meaning m meaning [] = []
+with_meaning m meaning (x ∷ xs) = cond (is_of m x) ((x.0, meaning) ∷ xs) (x ∷ with_meaning m meaning xs)
+
+-- the answer to a change, and the list after it; a module that isn't listed has no setting
+abbrev pub change_in : Module → Change → List Entry → Changed × List Entry
+change_in m change entries =
+    elim (entry_in m entries) [
+      | None ↦ (no_setting, entries)
+      | Some entry ↦ ((change_of entry.1 change).0, with_meaning m (change_of entry.1 change).1 entries)
+    ]
+
+-- where the module's entry stands in a list
+pub record IsEntryPlace (m : Module) (entries : List Entry) (place : ℕ) : Type 0 where
+  pub within : place < length entries
+  pub listed : is_listed m entries ≡ true
+  pub here : (other : Entry) → (slice_index_or entries place other).0.module ≡ m
+  pub entry : (other : Entry) → entry_in m entries ≡ Some (slice_index_or entries place other)
+  pub rest : remove entries place ≡ entries_without m entries
+
+-- the module isn't listed
+pub record IsAbsent (m : Module) (entries : List Entry) : Type 0 where
+  pub listed : is_listed m entries ≡ false
+  pub entry : entry_in m entries ≡ None
+
+-- where the module stands in the catalogue
+pub record IsModulePlace (m : Module) (modules : List Module) (place : ℕ) : Type 0 where
+  pub within : place < length modules
+  pub listed : in_catalogue m modules ≡ true
+  pub here : (other : Module) → slice_index_or modules place other ≡ m
+  pub rest : remove modules place ≡ modules_without m modules

@@ -1,0 +1,60 @@
+//! Why a module is not registered or unregistered.
+ghost use Rattle.std.specs.Prelude.{◌≡◌};
+ghost use Rattle.mf_list.specs.Faults.{register_errno, unregister_errno};
+
+use mf_errno::Errno;
+use thiserror::Error;
+
+/// Why a module isn't registered: the first of these that is so.
+#[derive(Clone, Copy, Debug, PartialEq, Eq, Error)]
+pub enum RegisterFault {
+    /// Neither the list nor the catalogue has a module of that name.
+    #[error("no such module")]
+    Unknown,
+    /// Boot has ended, and the module has the flag NOTLATE.
+    #[error("the module can't be loaded after boot")]
+    NotLate,
+    /// The module is listed.
+    #[error("the module is loaded")]
+    Exists,
+    /// The module wants a label slot, and all four numbers were given.
+    #[error("no label slot is left")]
+    NoSlot,
+}
+
+/// Why a module isn't unregistered: the first of these that is so.
+#[derive(Clone, Copy, Debug, PartialEq, Eq, Error)]
+pub enum UnregisterFault {
+    /// No module of that name is listed.
+    #[error("the module isn't loaded")]
+    NotLoaded,
+    /// The module lacks the flag UNLOADOK.
+    #[error("the module can't be unloaded")]
+    Pinned,
+}
+
+impl RegisterFault {
+    /// The error that kldload(2) answers.
+    pub fn errno(self) -> Errno
+        ensures { result ≡ register_errno self }
+    {
+        match self {
+            RegisterFault::Unknown => Errno::Enoent,
+            RegisterFault::NotLate => Errno::Ebusy,
+            RegisterFault::Exists => Errno::Eexist,
+            RegisterFault::NoSlot => Errno::Enomem,
+        }
+    }
+}
+
+impl UnregisterFault {
+    /// The error that kldunload(2) answers.
+    pub fn errno(self) -> Errno
+        ensures { result ≡ unregister_errno self }
+    {
+        match self {
+            UnregisterFault::NotLoaded => Errno::Enoent,
+            UnregisterFault::Pinned => Errno::Ebusy,
+        }
+    }
+}

@@ -1,0 +1,119 @@
+//! A policy in the list.
+ghost use Rattle.std.specs.Prelude.{◌≡◌, IsTrue, ◌↔◌, IfOk, OnErr};
+ghost use Rattle.mf_policy.specs.Modules as facts;
+ghost use Rattle.mf_policy.specs.Settings.{change_of};
+ghost use Rattle.mf_list.specs.Asked.{answer_of};
+ghost use Rattle.mf_list.specs.Lists.{IsEntry, is_dynamic, is_of, same_module};
+
+use mf_errno::{Errno, Module};
+use mf_item::Item;
+use mf_policy::{Change, Changed, LoadFlags, Policy, Registration, Spec};
+use std::alloc::{AllocError, Global};
+use std::marker::Model;
+
+/// A policy with its registration. Contracts see the registration and what the policy means.
+#[derive(Drop)]
+pub struct Listed<P: Policy> {
+    registration: Registration,
+    policy: P,
+}
+
+impl<P: Policy> Model for Listed<P> {
+    ghost use Rattle.mf_policy.specs.Registration.{Entry};
+    ghost use Rattle.mf_list.specs.Lists.{IsEntry};
+
+    ghost Value = { Entry };
+
+    ghost view = { λ a. (a.registration, P.spec a.policy) };
+
+    ghost invariant = { λ a. IsEntry (a.registration, P.spec a.policy) };
+}
+
+impl<P: Policy> Listed<P> {
+    /// The policy that is registered so.
+    pub fn new(registration: Registration, policy: P) -> Listed<P>
+        requires { IsEntry (registration, P.spec policy) }
+        ensures { result ≡ (registration, P.spec policy) }
+    {
+        Listed {
+            registration,
+            policy,
+        }
+    }
+
+    pub fn registration(&self) -> Registration
+        ensures value { result ≡ self.now.0 }
+        ensures entry { IsEntry self.now }
+    {
+        self.registration
+    }
+
+    /// Whether it is the module's.
+    pub fn is_of(&self, wanted: Module) -> bool
+        ensures { result ≡ is_of wanted self.now }
+    {
+        is_same_module(wanted, self.registration.module)
+    }
+
+    /// Whether it is in the dynamic list.
+    pub fn is_dynamic(&self) -> bool
+        ensures { result ≡ is_dynamic self.now }
+    {
+        !self.registration.fixed
+    }
+
+    pub fn flags(&self) -> LoadFlags
+        ensures { result ≡ facts.flags_of self.now.0.«module» }
+    {
+        self.policy.flags()
+    }
+
+    pub fn wants_slot(&self) -> bool
+        ensures { result ≡ facts.wants_slot self.now.0.«module» }
+    {
+        self.policy.wants_slot()
+    }
+
+    /// Whether it is registered so and means this.
+    pub fn is(&self, registration: Registration, meaning: &Spec) -> bool
+        ensures { IsTrue result ↔ (self.now ≡ (registration, meaning.now)) }
+    {
+        self.registration == registration && self.policy.same(meaning)
+    }
+
+    /// The policy's answer to an item.
+    pub fn check(&self, item: &Item) -> Errno
+        ensures { result ≡ answer_of item.now self.now }
+    {
+        let slot = self.registration.slot.unwrap_or(0);
+        self.policy.check(slot, item)
+    }
+
+    /// Changes a setting of the policy.
+    pub fn change(&mut self, alloc: Global, change: &Change) -> Result<Changed, AllocError>
+        ensures registration { self.new.0 ≡ self.old.0 }
+        ensures ok { IfOk result (λ changed. (changed, self.new.1) ≡ change_of self.old.1 change.now) }
+        ensures err { OnErr result (self.new ≡ self.old) }
+    {
+        self.policy.change(alloc, change)
+    }
+
+    /// The policy, as it is loaded.
+    pub fn into_fresh(self) -> P
+        ensures { P.spec result ≡ facts.fresh_of self.0.«module» }
+    {
+        let Listed {
+            registration: _,
+            mut policy,
+        } = self;
+        policy.reset();
+        policy
+    }
+}
+
+/// Whether the two are one module.
+pub fn is_same_module(wanted: Module, other: Module) -> bool
+    ensures { result ≡ same_module wanted other }
+{
+    wanted == other
+}

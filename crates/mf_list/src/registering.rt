@@ -1,0 +1,205 @@
+//! Registration: policies come from the catalogue into the list, and go back.
+ghost use Rattle.std.specs.Prelude.{◌≡◌, ◌+◌, ◌<◌, ◌≤◌, ◌++◌, ◌∷◌, [], OnErr, IfOk, Option, true, false, MatchOption, ◌||◌, ◌&&◌, nat_le, if◌then◌else◌, Ok, Err, Some, None, IfSome, is_some, slice_index_or};
+ghost use Rattle.mf_errno.specs.Module.{IsModuleNamed};
+ghost use Rattle.mf_errno.specs.declared.module.Module.{Module};
+ghost use Rattle.mf_policy.specs.Modules as facts;
+ghost use Rattle.mf_list.specs.Lists.{HasSlot, IsReady, entry_in, in_catalogue, is_listed};
+ghost use Rattle.mf_list.specs.Registration.{IsEntryPlace, Registers, Unregisters, entries_without, modules_without, register_verdict, register_verdict_by_name, slot_for, unregister_verdict, unregister_verdict_by_name, with_newest};
+
+use crate::catalogue::Catalogue;
+use crate::faults::{RegisterFault, UnregisterFault};
+use crate::listed::Listed;
+use crate::policy_list::PolicyList;
+use mf_errno::Module;
+use mf_policy::{LoadFlags, Policy, Registration};
+use mf_slots::{SLOTS, SlotNumbers};
+
+/// What has to be known of a module to register it.
+#[derive(Clone, Copy)]
+struct LoadFacts {
+    flags: LoadFlags,
+    wants_slot: bool,
+}
+
+impl<P: Policy> PolicyList<P> {
+    /// Lists the module of that name, with the next slot number where it wants one; `booted` says that boot has ended. Each of
+    /// list and catalogue must have room for what the other holds, and keeps it. A refusal changes nothing.
+    pub fn register(
+        &mut self,
+        catalogue: &mut Catalogue<P>,
+        numbers: &mut SlotNumbers,
+        name: &str,
+        booted: bool,
+    ) -> Result<Registration, RegisterFault>
+        requires { IsReady self.old catalogue.old }
+        ensures verdict { (named : Option Module) → IsModuleNamed name.now named → result ≡ register_verdict_by_name named booted self.old catalogue.old numbers.old }
+        ensures ok { IfOk result (λ r. Registers r self.old self.new catalogue.old catalogue.new numbers.old numbers.new) }
+        ensures err { OnErr result ((self.new ≡ self.old) × (catalogue.new ≡ catalogue.old) × (numbers.new ≡ numbers.old)) }
+    {
+        match Module::from_name(name) {
+            Some(wanted) => self.register_module(catalogue, numbers, wanted, booted),
+            None => Err(RegisterFault::Unknown),
+        }
+    }
+
+    fn register_module(
+        &mut self,
+        catalogue: &mut Catalogue<P>,
+        numbers: &mut SlotNumbers,
+        wanted: Module,
+        booted: bool,
+    ) -> Result<Registration, RegisterFault>
+        requires { IsReady self.old catalogue.old }
+        ensures verdict { result ≡ register_verdict wanted booted self.old catalogue.old numbers.old }
+        ensures ok { IfOk result (λ r. Registers r self.old self.new catalogue.old catalogue.new numbers.old numbers.new) }
+        ensures err { OnErr result ((self.new ≡ self.old) × (catalogue.new ≡ catalogue.old) × (numbers.new ≡ numbers.old)) }
+    {
+        let registration = self.judge(catalogue, numbers, wanted, booted)?;
+        take_number(numbers, registration);
+        self.enter(catalogue, registration);
+        Ok(registration)
+    }
+
+    /// The answer to a registration. Nothing is changed yet.
+    fn judge(
+        &self,
+        catalogue: &Catalogue<P>,
+        numbers: &SlotNumbers,
+        wanted: Module,
+        booted: bool,
+    ) -> Result<Registration, RegisterFault>
+        ensures { result ≡ register_verdict wanted booted self.now catalogue.now numbers.now }
+    {
+        let Some(facts) = self.facts_of(catalogue, wanted) else {
+            return Err(RegisterFault::Unknown);
+        };
+        if booted && facts.flags.is_notlate() {
+            return Err(RegisterFault::NotLate);
+        }
+        if self.holds(wanted) {
+            return Err(RegisterFault::Exists);
+        }
+        let slot = free_slot(facts.wants_slot, numbers)?;
+        Ok(Registration {
+            module: wanted,
+            slot,
+            fixed: !booted && !facts.flags.is_unloadok(),
+        })
+    }
+
+    /// The module's facts, where it is listed or in the catalogue.
+    fn facts_of(&self, catalogue: &Catalogue<P>, wanted: Module) -> Option<LoadFacts>
+        ensures variant { is_some result ≡ (is_listed wanted self.now.entries || in_catalogue wanted catalogue.now.modules) }
+        ensures value { IfSome result (λ found. (found.flags ≡ facts.flags_of wanted) × (found.wants_slot ≡ facts.wants_slot wanted)) }
+    {
+        match self.place_of(wanted) {
+            Some(place) => {
+                let listed = &self.as_slice()[place];
+                Some(LoadFacts {
+                    flags: listed.flags(),
+                    wants_slot: listed.wants_slot(),
+                })
+            }
+            None => {
+                let policy = catalogue.policy(wanted)?;
+                Some(LoadFacts {
+                    flags: policy.flags(),
+                    wants_slot: policy.wants_slot(),
+                })
+            }
+        }
+    }
+
+    /// Takes the module's policy out of the catalogue and lists it.
+    fn enter(&mut self, catalogue: &mut Catalogue<P>, registration: Registration)
+        requires there { in_catalogue registration.«module» catalogue.old.modules ≡ true }
+        requires absent { is_listed registration.«module» self.old.entries ≡ false }
+        requires slot { HasSlot (facts.wants_slot registration.«module») registration.slot }
+        requires ready { IsReady self.old catalogue.old }
+        ensures entries { self.new.entries ≡ with_newest (registration, facts.fresh_of registration.«module») self.old.entries }
+        ensures modules { catalogue.new.modules ≡ modules_without registration.«module» catalogue.old.modules }
+        ensures ready { IsReady self.new catalogue.new }
+    {
+        match catalogue.take(registration.module) {
+            Some(policy) => self.put(Listed::new(registration, policy)),
+            None => unreachable!(),
+        }
+    }
+
+    /// Takes the module of that name off the list. Its policy goes back into the catalogue as it was first loaded; its slot
+    /// number isn't given again. Each of list and catalogue must have room for what the other holds, and keeps it. A refusal
+    /// changes nothing.
+    pub fn unregister(
+        &mut self,
+        catalogue: &mut Catalogue<P>,
+        name: &str,
+    ) -> Result<Registration, UnregisterFault>
+        requires { IsReady self.old catalogue.old }
+        ensures verdict { (named : Option Module) → IsModuleNamed name.now named → result ≡ unregister_verdict_by_name named self.old }
+        ensures ok { IfOk result (λ r. Unregisters r.«module» self.old self.new catalogue.old catalogue.new) }
+        ensures err { OnErr result ((self.new ≡ self.old) × (catalogue.new ≡ catalogue.old)) }
+    {
+        match Module::from_name(name) {
+            Some(wanted) => self.unregister_module(catalogue, wanted),
+            None => Err(UnregisterFault::NotLoaded),
+        }
+    }
+
+    fn unregister_module(
+        &mut self,
+        catalogue: &mut Catalogue<P>,
+        wanted: Module,
+    ) -> Result<Registration, UnregisterFault>
+        requires { IsReady self.old catalogue.old }
+        ensures verdict { result ≡ unregister_verdict wanted self.old }
+        ensures ok { IfOk result (λ r. Unregisters r.«module» self.old self.new catalogue.old catalogue.new) }
+        ensures err { OnErr result ((self.new ≡ self.old) × (catalogue.new ≡ catalogue.old)) }
+    {
+        let Some(place) = self.place_of(wanted) else {
+            return Err(UnregisterFault::NotLoaded);
+        };
+        if !self.as_slice()[place].flags().is_unloadok() {
+            return Err(UnregisterFault::Pinned);
+        }
+        Ok(self.leave(catalogue, place, wanted))
+    }
+
+    /// Takes the module's policy off the list and puts it back as it was first loaded.
+    fn leave(&mut self, catalogue: &mut Catalogue<P>, place: usize, wanted: Module) -> Registration
+        requires place { IsEntryPlace wanted self.old.entries place }
+        requires ready { IsReady self.old catalogue.old }
+        ensures entry { IfSome (entry_in wanted self.old.entries) (λ entry. result ≡ entry.0) }
+        ensures of { result.«module» ≡ wanted }
+        ensures entries { self.new.entries ≡ entries_without wanted self.old.entries }
+        ensures modules { catalogue.new.modules ≡ catalogue.old.modules ++ wanted ∷ [] }
+        ensures ready { IsReady self.new catalogue.new }
+    {
+        let listed = self.take(place);
+        let registration = listed.registration();
+        catalogue.put(listed.into_fresh());
+        registration
+    }
+}
+
+/// The slot number that a module would get, where it wants one.
+fn free_slot(wanted: bool, numbers: &SlotNumbers) -> Result<Option<u8>, RegisterFault>
+    ensures { result ≡ (if wanted && nat_le 4 numbers.now then Err RegisterFault.NoSlot else Ok (slot_for wanted numbers.now)) }
+{
+    if !wanted {
+        return Ok(None);
+    }
+    if numbers.given() >= SLOTS {
+        return Err(RegisterFault::NoSlot);
+    }
+    Ok(Some(numbers.given()))
+}
+
+/// Takes the number of the registration, which is the next one.
+fn take_number(numbers: &mut SlotNumbers, registration: Registration)
+    requires { is_some registration.slot ≡ true → numbers.old < 4 }
+    ensures { numbers.new ≡ (if is_some registration.slot then numbers.old + 1 else numbers.old) }
+{
+    if registration.slot.is_some() {
+        let _ = numbers.take();
+    }
+}
