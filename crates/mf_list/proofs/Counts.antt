@@ -1,14 +1,14 @@
 -- How often a module is held, through registrations and changes.
-use Rattle.std.proofs.Common.{◌≡◌, ℕ, ◌+◌, ◌≤◌, Bool, true, false, cond, not, ◌&&◌, ◌||◌, List, [], ◌∷◌, ◌++◌, length, refl, ap, sym, ◌∙◌, subst, arith, rules, suc}
-use Rattle.std.specs.List.{list_any}
+use Rattle.std.proofs.Common.{◌≡◌, ℕ, ◌+◌, ◌≤◌, Bool, true, false, cond, not, ◌&&◌, ◌||◌, List, [], ◌∷◌, ◌++◌, length, refl, ap, sym, ◌∙◌, subst, arith, rules, suc, zero}
+use Rattle.std.specs.List.{list_any, remove, IsDistinct}
 use Rattle.std.proofs.lemmas.Grind.{common_steps}
 use Rattle.mf_errno.specs.declared.module.Module.{Module}
 use Rattle.mf_errno.specs.declared.module.Module.TheVariants.{Biba, Mls, Partition, Bsdextended, Priority}
 use Rattle.mf_policy.specs.declared.spec.Spec.{Spec}
 use Rattle.mf_policy.specs.Registration.{Entry}
-use Rattle.mf_list.specs.Held.{how_many, IsListedOnce}
+use Rattle.mf_list.specs.Held.{how_many, are_distinct, IsListedOnce}
 use Rattle.mf_list.specs.Lists.{in_catalogue, is_listed, is_of, same_module}
-use Rattle.mf_list.specs.Registration.{modules_without, with_meaning, with_newest, without_first}
+use Rattle.mf_list.specs.Registration.{entries_without, modules_without, with_meaning, with_newest}
 use Rattle.mf_list.proofs.Places.{same_module-is}
 
 pub how_many-newest : (p : Entry → Bool) (e : Entry) (es : List Entry) → how_many p (with_newest e es) ≡ cond (p e) 1 0 + how_many p es
@@ -38,25 +38,72 @@ listed_once-newest e es once absent = λ m.
       | false ↦ λ other. omega (arith, more, once m, ap {B = ℕ} (λ (b : Bool). cond b 1 0) other)
     ] refl
 
-how_many-without : {X : Type 0} (p q : X → Bool) (xs : List X) → how_many p (without_first q xs) ≤ how_many p xs
-how_many-without p q [] = omega arith
-how_many-without p q (x ∷ xs) =
-    elim (q x) as (λ b. how_many p (cond b xs (x ∷ without_first q xs)) ≤ cond (p x) 1 0 + how_many p xs) [
-      | true ↦ omega arith
-      | false ↦ omega (arith, how_many-without p q xs)
-    ]
+how_many-remove : {X : Type 0} (p : X → Bool) (xs : List X) (i : ℕ) → how_many p (remove xs i) ≤ how_many p xs
+how_many-remove p [] zero = omega arith
+how_many-remove p [] (suc i) = omega arith
+how_many-remove p (x ∷ xs) zero = omega arith
+how_many-remove p (x ∷ xs) (suc i) = omega (arith, how_many-remove p xs i)
 
-pub listed_once-without : (q : Entry → Bool) (es : List Entry) → IsListedOnce es → IsListedOnce (without_first q es)
-listed_once-without q es once = λ m. omega (arith, how_many-without (is_of m) q es, once m)
+pub listed_once-remove : (es : List Entry) (i : ℕ) → IsListedOnce es → IsListedOnce (remove es i)
+listed_once-remove es i once = λ m. omega (arith, how_many-remove (is_of m) es i, once m)
 
 -- a change of a meaning lists the same modules
-how_many-meaning : (m k : Module) (meaning : Spec) (es : List Entry) → how_many (is_of m) (with_meaning k meaning es) ≡ how_many (is_of m) es
+pub how_many-meaning : (m k : Module) (meaning : Spec) (es : List Entry) → how_many (is_of m) (with_meaning k meaning es) ≡ how_many (is_of m) es
 how_many-meaning m k meaning [] = refl
 how_many-meaning m k meaning (x ∷ xs) =
     elim (is_of k x) as (λ b. how_many (is_of m) (cond b ((x.0, meaning) ∷ xs) (x ∷ with_meaning k meaning xs)) ≡ cond (is_of m x) 1 0 + how_many (is_of m) xs) [
       | true ↦ refl
       | false ↦ ap (λ (n : ℕ). cond (is_of m x) 1 0 + n) (how_many-meaning m k meaning xs)
     ]
+
+pub listed_once-meaning : (k : Module) (meaning : Spec) (es : List Entry) → IsListedOnce es → IsListedOnce (with_meaning k meaning es)
+listed_once-meaning k meaning es once = λ m. omega (arith, how_many-meaning m k meaning es, once m)
+
+-- a module that leaves the catalogue or the list is held once less
+pub how_many-without_module : (m k : Module) (ms : List Module) → in_catalogue k ms ≡ true → how_many (same_module m) ms ≡ cond (same_module m k) 1 0 + how_many (same_module m) (modules_without k ms)
+how_many-without_module m k [] h = cc
+how_many-without_module m k (x ∷ ms) h =
+    elim (same_module k x) as (λ b. same_module k x ≡ b → (b || list_any (same_module k) ms) ≡ true → cond (same_module m x) 1 0 + how_many (same_module m) ms ≡ cond (same_module m k) 1 0 + how_many (same_module m) (cond b ms (x ∷ modules_without k ms))) [
+      | true ↦ λ e _. ap (λ (n : Module). cond (same_module m n) 1 0 + how_many (same_module m) ms) (sym (same_module-is k x e))
+      | false ↦ λ _ l. omega (arith, how_many-without_module m k ms l)
+    ] refl h
+
+pub how_many-without_entry : (m k : Module) (es : List Entry) → is_listed k es ≡ true → how_many (is_of m) es ≡ cond (same_module m k) 1 0 + how_many (is_of m) (entries_without k es)
+how_many-without_entry m k [] h = cc
+how_many-without_entry m k (x ∷ es) h =
+    elim (is_of k x) as (λ b. is_of k x ≡ b → (b || list_any (is_of k) es) ≡ true → cond (is_of m x) 1 0 + how_many (is_of m) es ≡ cond (same_module m k) 1 0 + how_many (is_of m) (cond b es (x ∷ entries_without k es))) [
+      | true ↦ λ e _. ap (λ (n : Module). cond (same_module m n) 1 0 + how_many (is_of m) es) (sym (same_module-is k x.0.module e))
+      | false ↦ λ _ l. omega (arith, how_many-without_entry m k es l)
+    ] refl h
+
+pub how_many-push : (p : Module → Bool) (ms : List Module) (k : Module) → how_many p (ms ++ k ∷ []) ≡ how_many p ms + cond (p k) 1 0
+how_many-push p [] k = omega arith
+how_many-push p (x ∷ ms) k = omega (arith, how_many-push p ms k)
+
+and_left : (a b : Bool) → (a && b) ≡ true → a ≡ true
+and_left true b both = refl
+and_left false b both = both
+
+and_right : (a b : Bool) → (a && b) ≡ true → b ≡ true
+and_right true b both = both
+and_right false b both = cc
+
+not_true : (a : Bool) → not a ≡ true → a ≡ false
+not_true true negated = sym negated
+not_true false negated = refl
+
+-- distinct modules are there once each
+pub once_if_distinct : (ms : List Module) → are_distinct ms ≡ true → (m : Module) → how_many (same_module m) ms ≤ 1
+once_if_distinct [] distinct m = omega arith
+once_if_distinct (x ∷ ms) distinct m =
+    let absent = not_true (in_catalogue x ms) (and_left (not (in_catalogue x ms)) (are_distinct ms) distinct) in
+    let rest = once_if_distinct ms (and_right (not (in_catalogue x ms)) (are_distinct ms) distinct) m in
+    elim (same_module m x) as (λ b. same_module m x ≡ b → cond b 1 0 + how_many (same_module m) ms ≤ 1) [
+      | true ↦ λ same.
+          let none = how_many-none (same_module m) ms (subst (λ (k : Module). in_catalogue k ms ≡ false) (sym (same_module-is m x same)) absent) in
+          omega (arith, none)
+      | false ↦ λ _. omega (arith, rest)
+    ] refl
 
 -- there are five modules
 one_more : (m : Module) → cond (same_module Biba m) 1 0 + cond (same_module Mls m) 1 0 + cond (same_module Partition m) 1 0 + cond (same_module Bsdextended m) 1 0 + cond (same_module Priority m) 1 0 ≡ 1

@@ -1,3 +1,6 @@
-mod Places
+mod Changes
 mod Counts
+mod Fresh
+mod Held
 mod Maps
+mod Places

@@ -1,5 +1,5 @@
 -- The place of a module among others, and the list without it.
-use Rattle.std.proofs.Common.{MatchOption, ◌≡◌, ℕ, ◌+◌, ◌<◌, Bool, true, false, cond, not, ltb, ◌&&◌, ◌||◌, Option, Some, None, subst, get_or, List, [], ◌∷◌, ◌++◌, length, take, drop, refl, ap, sym, ◌∙◌, one-add, arith, rules, add-one, suc, map}
+use Rattle.std.proofs.Common.{MatchOption, ◌≡◌, ℕ, ◌+◌, ◌<◌, Bool, true, false, cond, not, ltb, ◌&&◌, ◌||◌, Option, Some, None, subst, get_or, set, List, [], ◌∷◌, ◌++◌, length, take, drop, refl, ap, sym, ◌∙◌, one-add, arith, rules, add-one, suc, map}
 use Rattle.std.specs.List.{list_any, position, position_or_len, prefix_len, remove, insert}
 use Rattle.std.proofs.lemmas.List.Quantifiers.{position-Some}
 use Rattle.std.proofs.lemmas.List.Sums.{prefix_len-le-length}
@@ -8,8 +8,9 @@ use Rattle.std.proofs.lemmas.Grind.{common_steps}
 use Rattle.mf_errno.specs.declared.module.Module.{Module}
 use Rattle.mf_errno.specs.declared.module.Module.TheVariants.{Biba, Mls, Partition, Bsdextended, Priority}
 use Rattle.mf_policy.specs.Registration.{Entry}
+use Rattle.mf_policy.specs.declared.registration.Registration.{Registration}
 use Rattle.mf_list.specs.Lists.{entry_in, in_catalogue, is_dynamic, is_listed, is_of, same_module}
-use Rattle.mf_list.specs.Registration.{IsAbsent, IsEntryPlace, IsModulePlace, with_newest, without_first}
+use Rattle.mf_list.specs.Registration.{IsAbsent, IsEntryPlace, IsModulePlace, with_meaning, with_newest, without_first}
 
 -- some element passes exactly where the first place is within
 pub any_by_place : {X : Type 0} (p : X → Bool) (xs : List X) → list_any p xs ≡ ltb (position_or_len p xs) (length xs)
@@ -88,6 +89,12 @@ module_by_position m modules i h =
 entry_later : (x : Entry) (xs : List Entry) (i : ℕ) (d : Entry) → Some (get_or xs i d) ≡ Some (get_or (x ∷ xs) (1 + i) d)
 entry_later x xs i d = rw (one-add i) refl
 
+set_later : (x : Entry) (xs : List Entry) (i : ℕ) (e : Entry) → set (x ∷ xs) (1 + i) e ≡ x ∷ set xs i e
+set_later x xs i e = rw (one-add i) refl
+
+get_later : (x : Entry) (xs : List Entry) (i : ℕ) (d : Entry) → (get_or (x ∷ xs) (1 + i) d).0 ≡ (get_or xs i d).0
+get_later x xs i d = rw (one-add i) refl
+
 -- the entry at the first place
 entry_at : (m : Module) (entries : List Entry) (d : Entry) → position_or_len (is_of m) entries < length entries → entry_in m entries ≡ Some (get_or entries (position_or_len (is_of m) entries) d)
 entry_at m [] d h = absurd (omega arith)
@@ -97,6 +104,16 @@ entry_at m (x ∷ xs) d h =
       | true ↦ λ _. refl
       | false ↦ λ l. entry_at m xs d (omega arith) ∙ entry_later x xs P d
     ] h
+
+-- a new meaning at the first place
+written_at : (m : Module) (entries : List Entry) (e : Entry) → position_or_len (is_of m) entries < length entries → e.0 ≡ (get_or entries (position_or_len (is_of m) entries) e).0 → set entries (position_or_len (is_of m) entries) e ≡ with_meaning m e.1 entries
+written_at m [] e h same = absurd (omega arith)
+written_at m (x ∷ xs) e h same =
+    let P : ℕ = position_or_len (is_of m) xs in
+    elim (is_of m x) as (λ b. (cond (not b) (1 + P) 0) < suc (length xs) → e.0 ≡ (get_or (x ∷ xs) (cond (not b) (1 + P) 0) e).0 → set (x ∷ xs) (cond (not b) (1 + P) 0) e ≡ cond b ((x.0, e.1) ∷ xs) (x ∷ with_meaning m e.1 xs)) [
+      | true ↦ λ _ s. ap (λ (r : Registration). (r, e.1) ∷ xs) s
+      | false ↦ λ l s. set_later x xs P e ∙ ap (λ (ys : List Entry). x ∷ ys) (written_at m xs e (omega arith) (s ∙ get_later x xs P e))
+    ] h same
 
 no_entry : (m : Module) (entries : List Entry) → is_listed m entries ≡ false → entry_in m entries ≡ None
 no_entry m [] h = refl
@@ -117,6 +134,9 @@ entry_by_position m entries i h =
       entry = λ d. subst (λ (k : ℕ). entry_in m entries ≡ Some (get_or entries k d)) f.0 (entry_at m entries d within);
       here = λ d. sym (same_module-is m (get_or entries i d).0.module (position-Some (is_of m) entries i d h).1);
       rest = subst (λ (k : ℕ). remove entries k ≡ without_first (is_of m) entries) f.0 (remove_at_place (is_of m) entries);
+      written = λ e same.
+          subst (λ (k : ℕ). set entries k e ≡ with_meaning m e.1 entries) f.0
+          (written_at m entries e within (subst (λ (k : ℕ). e.0 ≡ (get_or entries k e).0) (sym f.0) same));
     }
 
 no_entry_by_position : (m : Module) (entries : List Entry) → position (is_of m) entries ≡ None → IsAbsent m entries

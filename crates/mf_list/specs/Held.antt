@@ -1,8 +1,8 @@
 -- How often list and catalogue hold a module.
-use Rattle.std.specs.Prelude.{◌≡◌, ℕ, ◌+◌, ◌≤◌, Bool, cond, List, [], ◌∷◌}
+use Rattle.std.specs.Prelude.{◌≡◌, ℕ, ◌+◌, ◌≤◌, Bool, true, cond, not, ◌&&◌, List, [], ◌∷◌}
 use Rattle.mf_errno.specs.declared.module.Module.{Module}
 use Rattle.mf_policy.specs.Registration.{Entry}
-use Rattle.mf_list.specs.Lists.{ListView, CatalogueView, is_of, same_module}
+use Rattle.mf_list.specs.Lists.{ListView, CatalogueView, in_catalogue, is_of, same_module}
 
 -- how many elements pass
 abbrev pub how_many : {X : Type 0} → (X → Bool) → List X → ℕ
@@ -12,6 +12,11 @@ how_many p (x ∷ xs) = cond (p x) 1 0 + how_many p xs
 -- no module is listed twice
 abbrev pub IsListedOnce : List Entry → Type 0
 IsListedOnce entries = (m : Module) → how_many (is_of m) entries ≤ 1
+
+-- whether no module stands there twice
+abbrev pub are_distinct : List Module → Bool
+are_distinct [] = true
+are_distinct (m ∷ ms) = not (in_catalogue m ms) && are_distinct ms
 
 -- how often the module is in the list and in the catalogue
 abbrev pub times_held : Module → ListView → CatalogueView → ℕ

@@ -1,5 +1,5 @@
 -- Registration: which calls are refused, and what becomes of list, catalogue and slot numbers.
-use Rattle.std.specs.Prelude.{◌≡◌, ℕ, ◌+◌, ◌<◌, ◌≤◌, Bool, true, false, cond, not, ◌&&◌, ◌||◌, nat_le, List, [], ◌∷◌, ◌++◌, Option, Some, None, is_some, Result, Ok, Err, length, slice_index_or}
+use Rattle.std.specs.Prelude.{◌≡◌, ℕ, ◌+◌, ◌<◌, ◌≤◌, Bool, true, false, cond, not, ◌&&◌, ◌||◌, nat_le, List, [], ◌∷◌, ◌++◌, Option, Some, None, is_some, Result, Ok, Err, length, slice_index_or, slice_set}
 use Rattle.std.specs.List.{remove}
 use Rattle.mf_errno.specs.declared.module.Module.{Module}
 use Rattle.mf_policy.specs.declared.registration.Registration.{Registration}
@@ -14,7 +14,7 @@ use Rattle.mf_list.specs.declared.faults.RegisterFault.{RegisterFault}
 use Rattle.mf_list.specs.declared.faults.RegisterFault.TheVariants.{Unknown, NotLate, Exists, NoSlot}
 use Rattle.mf_list.specs.declared.faults.UnregisterFault.{UnregisterFault}
 use Rattle.mf_list.specs.declared.faults.UnregisterFault.TheVariants.{NotLoaded, Pinned}
-use Rattle.mf_list.specs.Lists.{ListView, CatalogueView, IsReady, entry_in, in_catalogue, is_listed, is_of, same_module}
+use Rattle.mf_list.specs.Lists.{ListView, CatalogueView, entry_in, in_catalogue, is_listed, is_of, same_module}
 
 -- the slot of a module where so many numbers were given: the next one where it wants one
 abbrev pub slot_for : Bool → ℕ → Option ℕ
@@ -84,27 +84,27 @@ pub record Registers (r : Registration) (list list' : ListView) (catalogue catal
   pub entries : list'.entries ≡ with_newest (r, fresh_of r.module) list.entries
   pub modules : catalogue'.modules ≡ modules_without r.module catalogue.modules
   pub slots : given' ≡ cond (is_some r.slot) (given + 1) given
-  pub ready : IsReady list' catalogue'
 
 -- list and catalogue after an unregistration
 pub record Unregisters (m : Module) (list list' : ListView) (catalogue catalogue' : CatalogueView) : Type 0 where
   pub was_listed : is_listed m list.entries ≡ true
   pub entries : list'.entries ≡ entries_without m list.entries
   pub modules : catalogue'.modules ≡ catalogue.modules ++ m ∷ []
-  pub ready : IsReady list' catalogue'
 
 -- the list where the module's policy has that meaning
 abbrev pub with_meaning : Module → Spec → List Entry → List Entry
 with_meaning m meaning [] = []
 with_meaning m meaning (x ∷ xs) = cond (is_of m x) ((x.0, meaning) ∷ xs) (x ∷ with_meaning m meaning xs)
 
--- the answer to a change, and the list after it; a module that isn't listed has no setting
+-- the answer to a change of the entry, and the list after it
+abbrev pub change_at : Module → Change → List Entry → Option Entry → Changed × List Entry
+change_at m change entries None = (no_setting, entries)
+change_at m change entries (Some entry) =
+    ((change_of entry.1 change).0, with_meaning m (change_of entry.1 change).1 entries)
+
+-- the answer to a change of the module's policy, and the list after it; a module that isn't listed has no setting
 abbrev pub change_in : Module → Change → List Entry → Changed × List Entry
-change_in m change entries =
-    elim (entry_in m entries) [
-      | None ↦ (no_setting, entries)
-      | Some entry ↦ ((change_of entry.1 change).0, with_meaning m (change_of entry.1 change).1 entries)
-    ]
+change_in m change entries = change_at m change entries (entry_in m entries)
 
 -- where the module's entry stands in a list
 pub record IsEntryPlace (m : Module) (entries : List Entry) (place : ℕ) : Type 0 where
@@ -113,6 +113,8 @@ pub record IsEntryPlace (m : Module) (entries : List Entry) (place : ℕ) : Type
   pub here : (other : Entry) → (slice_index_or entries place other).0.module ≡ m
   pub entry : (other : Entry) → entry_in m entries ≡ Some (slice_index_or entries place other)
   pub rest : remove entries place ≡ entries_without m entries
+  pub written : (entry : Entry) → entry.0 ≡ (slice_index_or entries place entry).0
+      → slice_set entries place entry ≡ with_meaning m entry.1 entries
 
 -- the module isn't listed
 pub record IsAbsent (m : Module) (entries : List Entry) : Type 0 where

@@ -1,9 +1,9 @@
 //! The policies that are not listed.
 ghost use Rattle.std.specs.Prelude.{◌≡◌, ◌+◌, ◌<◌, ◌≤◌, ◌++◌, ◌∷◌, [], All, map, IsTrue, ◌↔◌, length, position, OnOk, OnErr, OnSome, IfSome, IfNone, is_some, cond, Some, None, MatchOption, Option, true, false};
-ghost use Rattle.std.specs.List.{IsDistinct};
 ghost use Rattle.mf_errno.specs.Module.{IsModuleNamed};
 ghost use Rattle.mf_errno.specs.declared.module.Module.{Module};
 ghost use Rattle.mf_policy.specs.Modules as facts;
+ghost use Rattle.mf_list.specs.Held.{are_distinct};
 ghost use Rattle.mf_list.specs.Lists.{IsFresh, in_catalogue, same_module};
 ghost use Rattle.mf_list.specs.Registration.{IsModulePlace, is_known, modules_without};
 
@@ -35,7 +35,7 @@ impl<P: Policy> Model for Catalogue<P> {
 impl<P: Policy> Catalogue<P> {
     /// These policies.
     pub fn new(modules: Vec<P>) -> Catalogue<P>
-        requires distinct { IsDistinct same_module (map (λ p. facts.module_of (P.spec p)) modules.items) }
+        requires distinct { IsTrue (are_distinct (map (λ p. facts.module_of (P.spec p)) modules.items)) }
         requires fresh { All (λ p. IsFresh (P.spec p)) modules.items }
         ensures { result.modules ≡ map (λ p. facts.module_of (P.spec p)) modules.items }
     {
@@ -112,6 +112,7 @@ impl<P: Policy> Catalogue<P> {
     pub(crate) fn take(&mut self, wanted: Module) -> Option<P>
         ensures variant { is_some result ≡ in_catalogue wanted self.old.modules }
         ensures value { IfSome result (λ p. P.spec p ≡ facts.fresh_of wanted) }
+        ensures of { IfSome result (λ p. facts.module_of (P.spec p) ≡ wanted) }
         ensures modules { OnSome result (self.new.modules ≡ modules_without wanted self.old.modules) }
         ensures spare { OnSome result (self.old.spare + 1 ≤ self.new.spare) }
         ensures len { OnSome result (length self.new.modules + 1 ≡ length self.old.modules) }

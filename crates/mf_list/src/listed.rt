@@ -100,7 +100,8 @@ impl<P: Policy> Listed<P> {
 
     /// The policy, as it is loaded.
     pub fn into_fresh(self) -> P
-        ensures { P.spec result ≡ facts.fresh_of self.0.«module» }
+        ensures fresh { P.spec result ≡ facts.fresh_of self.0.«module» }
+        ensures of { facts.module_of (P.spec result) ≡ self.0.«module» }
     {
         let Listed {
             registration: _,

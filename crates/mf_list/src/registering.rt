@@ -3,7 +3,8 @@ ghost use Rattle.std.specs.Prelude.{◌≡◌, ◌+◌, ◌<◌, ◌≤◌, ◌+
 ghost use Rattle.mf_errno.specs.Module.{IsModuleNamed};
 ghost use Rattle.mf_errno.specs.declared.module.Module.{Module};
 ghost use Rattle.mf_policy.specs.Modules as facts;
-ghost use Rattle.mf_list.specs.Lists.{HasSlot, IsReady, entry_in, in_catalogue, is_listed};
+ghost use Rattle.mf_policy.specs.Registration.{Entry};
+ghost use Rattle.mf_list.specs.Lists.{HasSlot, IsReady, in_catalogue, is_listed};
 ghost use Rattle.mf_list.specs.Registration.{IsEntryPlace, Registers, Unregisters, entries_without, modules_without, register_verdict, register_verdict_by_name, slot_for, unregister_verdict, unregister_verdict_by_name, with_newest};
 
 use crate::catalogue::Catalogue;
@@ -35,6 +36,7 @@ impl<P: Policy> PolicyList<P> {
         ensures verdict { (named : Option Module) → IsModuleNamed name.now named → result ≡ register_verdict_by_name named booted self.old catalogue.old numbers.old }
         ensures ok { IfOk result (λ r. Registers r self.old self.new catalogue.old catalogue.new numbers.old numbers.new) }
         ensures err { OnErr result ((self.new ≡ self.old) × (catalogue.new ≡ catalogue.old) × (numbers.new ≡ numbers.old)) }
+        ensures ready { IsReady self.new catalogue.new }
     {
         match Module::from_name(name) {
             Some(wanted) => self.register_module(catalogue, numbers, wanted, booted),
@@ -53,6 +55,7 @@ impl<P: Policy> PolicyList<P> {
         ensures verdict { result ≡ register_verdict wanted booted self.old catalogue.old numbers.old }
         ensures ok { IfOk result (λ r. Registers r self.old self.new catalogue.old catalogue.new numbers.old numbers.new) }
         ensures err { OnErr result ((self.new ≡ self.old) × (catalogue.new ≡ catalogue.old) × (numbers.new ≡ numbers.old)) }
+        ensures ready { IsReady self.new catalogue.new }
     {
         let registration = self.judge(catalogue, numbers, wanted, booted)?;
         take_number(numbers, registration);
@@ -138,6 +141,7 @@ impl<P: Policy> PolicyList<P> {
         ensures verdict { (named : Option Module) → IsModuleNamed name.now named → result ≡ unregister_verdict_by_name named self.old }
         ensures ok { IfOk result (λ r. Unregisters r.«module» self.old self.new catalogue.old catalogue.new) }
         ensures err { OnErr result ((self.new ≡ self.old) × (catalogue.new ≡ catalogue.old)) }
+        ensures ready { IsReady self.new catalogue.new }
     {
         match Module::from_name(name) {
             Some(wanted) => self.unregister_module(catalogue, wanted),
@@ -154,6 +158,7 @@ impl<P: Policy> PolicyList<P> {
         ensures verdict { result ≡ unregister_verdict wanted self.old }
         ensures ok { IfOk result (λ r. Unregisters r.«module» self.old self.new catalogue.old catalogue.new) }
         ensures err { OnErr result ((self.new ≡ self.old) × (catalogue.new ≡ catalogue.old)) }
+        ensures ready { IsReady self.new catalogue.new }
     {
         let Some(place) = self.place_of(wanted) else {
             return Err(UnregisterFault::NotLoaded);
@@ -168,7 +173,7 @@ impl<P: Policy> PolicyList<P> {
     fn leave(&mut self, catalogue: &mut Catalogue<P>, place: usize, wanted: Module) -> Registration
         requires place { IsEntryPlace wanted self.old.entries place }
         requires ready { IsReady self.old catalogue.old }
-        ensures entry { IfSome (entry_in wanted self.old.entries) (λ entry. result ≡ entry.0) }
+        ensures registration { (other : Entry) → result ≡ (slice_index_or self.old.entries place other).0 }
         ensures of { result.«module» ≡ wanted }
         ensures entries { self.new.entries ≡ entries_without wanted self.old.entries }
         ensures modules { catalogue.new.modules ≡ catalogue.old.modules ++ wanted ∷ [] }

@@ -1,0 +1,55 @@
+-- That list and catalogue together hold the same modules as before.
+use Rattle.std.proofs.Common.{◌≡◌, ℕ, ◌+◌, ◌≤◌, cond, List, ◌∷◌, ◌++◌, [], Option, Some, None, Result, Ok, Err, IfOk, OnErr, refl, ap, sym, ◌∙◌, arith, subst}
+use Rattle.mf_errno.specs.declared.module.Module.{Module}
+use Rattle.mf_policy.specs.declared.registration.Registration.{Registration}
+use Rattle.mf_policy.specs.declared.spec.Change.{Change}
+use Rattle.mf_policy.specs.declared.spec.Changed.{Changed}
+use Rattle.mf_policy.specs.Modules.{fresh_of}
+use Rattle.mf_policy.specs.Registration.{Entry}
+use Rattle.mf_policy.specs.Settings.{change_of}
+use Rattle.std.specs.declared.alloc.AllocError.{AllocError}
+use Rattle.mf_list.specs.declared.faults.RegisterFault.{RegisterFault}
+use Rattle.mf_list.specs.declared.faults.UnregisterFault.{UnregisterFault}
+use Rattle.mf_list.specs.Held.{how_many, times_held}
+use Rattle.mf_list.specs.Lists.{ListView, CatalogueView, entry_in, is_of, same_module}
+use Rattle.mf_list.specs.Registration.{Registers, Unregisters, change_at, change_in}
+use Rattle.mf_list.proofs.Counts.{how_many-meaning, how_many-newest, how_many-push, how_many-without_entry, how_many-without_module}
+
+unchanged : (m : Module) (list list' : ListView) (catalogue catalogue' : CatalogueView) → list' ≡ list → catalogue' ≡ catalogue
+    → times_held m list' catalogue' ≡ times_held m list catalogue
+unchanged m list list' catalogue catalogue' same_list same_catalogue =
+    ap (λ (l : ListView). times_held m l catalogue') same_list ∙ ap (λ (c : CatalogueView). times_held m list c) same_catalogue
+
+pub held_after_register : (m : Module) (list list' : ListView) (catalogue catalogue' : CatalogueView) (given given' : ℕ) (o : Result Registration RegisterFault)
+    → IfOk o (λ r. Registers r list list' catalogue catalogue' given given')
+    → OnErr o ((list' ≡ list) × (catalogue' ≡ catalogue) × (given' ≡ given))
+    → times_held m list' catalogue' ≡ times_held m list catalogue
+held_after_register m list list' catalogue catalogue' given given' (Ok r) moves err =
+    let listed = ap (how_many (is_of m)) moves.entries ∙ how_many-newest (is_of m) (r, fresh_of r.module) list.entries in
+    let left = how_many-without_module m r.module catalogue.modules moves.was_in_catalogue in
+    let rest = ap (how_many (same_module m)) moves.modules in
+    omega (arith, listed, left, rest)
+held_after_register m list list' catalogue catalogue' given given' (Err f) ok same = unchanged m list list' catalogue catalogue' same.0 same.1.0
+
+pub held_after_unregister : (m : Module) (list list' : ListView) (catalogue catalogue' : CatalogueView) (o : Result Registration UnregisterFault)
+    → IfOk o (λ r. Unregisters r.module list list' catalogue catalogue')
+    → OnErr o ((list' ≡ list) × (catalogue' ≡ catalogue))
+    → times_held m list' catalogue' ≡ times_held m list catalogue
+held_after_unregister m list list' catalogue catalogue' (Ok r) moves err =
+    let left = how_many-without_entry m r.module list.entries moves.was_listed in
+    let listed = ap (how_many (is_of m)) moves.entries in
+    let rest = ap (how_many (same_module m)) moves.modules ∙ how_many-push (same_module m) catalogue.modules r.module in
+    omega (arith, listed, left, rest)
+held_after_unregister m list list' catalogue catalogue' (Err f) ok same = unchanged m list list' catalogue catalogue' same.0 same.1
+
+changed_at : (m k : Module) (change : Change) (entries : List Entry) (o : Option Entry) → how_many (is_of m) (change_at k change entries o).1 ≡ how_many (is_of m) entries
+changed_at m k change entries None = refl
+changed_at m k change entries (Some entry) = how_many-meaning m k (change_of entry.1 change).1 entries
+
+pub listed_after_change : (m k : Module) (change : Change) (list list' : ListView) (o : Result Changed AllocError)
+    → IfOk o (λ changed. (changed, list'.entries) ≡ change_in k change list.entries)
+    → OnErr o (list' ≡ list)
+    → how_many (is_of m) list'.entries ≡ how_many (is_of m) list.entries
+listed_after_change m k change list list' (Ok changed) is err =
+    ap (λ (p : Changed × List Entry). how_many (is_of m) p.1) is ∙ changed_at m k change list.entries (entry_in k list.entries)
+listed_after_change m k change list list' (Err e) ok same = ap (λ (l : ListView). how_many (is_of m) l.entries) same
