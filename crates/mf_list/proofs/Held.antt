@@ -29,7 +29,7 @@ held_after_register m list list' catalogue catalogue' given given' (Ok r) moves 
     let left = how_many-without_module m r.module catalogue.modules moves.was_in_catalogue in
     let rest = ap (how_many (same_module m)) moves.modules in
     omega (arith, listed, left, rest)
-held_after_register m list list' catalogue catalogue' given given' (Err f) ok same = unchanged m list list' catalogue catalogue' same.0 same.1.0
+held_after_register m list list' catalogue catalogue' given given' (Err f) ok same = unchanged m list list' catalogue catalogue' same.0 same.1
 
 pub held_after_unregister : (m : Module) (list list' : ListView) (catalogue catalogue' : CatalogueView) (o : Result Registration UnregisterFault)
     → IfOk o (λ r. Unregisters r.module list list' catalogue catalogue')

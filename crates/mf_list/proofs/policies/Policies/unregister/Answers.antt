@@ -1,0 +1,13 @@
+use Rattle.std.proofs.Common.{◌∙◌, ap, arith}
+use Rattle.mf_list.specs.Held.{PoliciesView, times_held}
+use Rattle.mf_list.proofs.Held.{held_after_unregister}
+use Rattle.mf_list.proofs.policies.Policies.unregister.Goals as goal
+
+pub invariant_of-self : goal.invariant_of-self
+invariant_of-self g c = λ m.
+    omega (arith, c.self.invariant m, held_after_unregister m c.self.inside.list c.unregister.new.self c.self.inside.catalogue c.unregister.new.catalogue c.unregister.result c.unregister.ensures.ok c.unregister.ensures.err)
+
+pub returns-clause-held : goal.returns-clause-held
+returns-clause-held g c = λ m.
+    held_after_unregister m c.self.inside.list c.unregister.new.self c.self.inside.catalogue c.unregister.new.catalogue c.unregister.result c.unregister.ensures.ok c.unregister.ensures.err
+    ∙ ap (λ (v : PoliciesView). times_held m v.list v.catalogue) c.self.view_is
