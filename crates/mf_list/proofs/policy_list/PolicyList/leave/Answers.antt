@@ -14,4 +14,5 @@ pub returns-clause-modules : goal.returns-clause-modules
 returns-clause-modules g c =
     let of : c.take-listed.result.0.module ≡ c.args.wanted =
     ap (λ (entry : Entry). entry.0.module) (c.take-listed.ensures.value c.take-listed.result) ∙ c.requires.place.here c.take-listed.result in
-    c.put.ensures.modules ∙ ap (λ (m : Module). c.args.catalogue.now.modules ++ m ∷ []) (c.into_fresh.ensures.of ∙ of)
+    let back = c.into_fresh.ensures.of in
+    cc
