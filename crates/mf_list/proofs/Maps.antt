@@ -1,5 +1,5 @@
 -- Lists of policies, seen as the lists of their modules.
-use Rattle.std.proofs.Common.{◌≡◌, ℕ, Bool, not, ltb, cond, Option, Some, None, List, [], ◌∷◌, map, length, refl, ap, ◌∙◌, ◌+◌, zero, suc, sym}
+use Rattle.std.proofs.Common.{◌≡◌, ℕ, Bool, not, ltb, cond, Some, None, List, [], ◌∷◌, map, length, refl, ap, ◌∙◌, ◌+◌, zero, suc}
 use Rattle.std.specs.List.{remove, position, position_or_len, prefix_len}
 
 pub map-remove : {X Y : Type 0} (f : X → Y) (xs : List X) (i : ℕ) → map f (remove xs i) ≡ remove (map f xs) i

@@ -1,5 +1,5 @@
 -- The place of a module among others, and the list without it.
-use Rattle.std.proofs.Common.{MatchOption, ◌≡◌, ℕ, ◌+◌, ◌<◌, Bool, true, false, cond, not, ltb, ◌&&◌, ◌||◌, Option, Some, None, subst, get_or, set, List, [], ◌∷◌, ◌++◌, length, take, drop, refl, ap, sym, ◌∙◌, one-add, arith, rules, add-one, suc, map}
+use Rattle.std.proofs.Common.{MatchOption, ◌≡◌, ℕ, ◌+◌, ◌<◌, Bool, true, false, cond, not, ltb, ◌&&◌, ◌||◌, Option, Some, None, subst, get_or, set, List, [], ◌∷◌, length, refl, ap, sym, ◌∙◌, one-add, arith, suc}
 use Rattle.std.specs.List.{list_any, position, position_or_len, prefix_len, remove, insert}
 use Rattle.std.proofs.lemmas.List.Quantifiers.{position-Some}
 use Rattle.std.proofs.lemmas.List.Sums.{prefix_len-le-length}
@@ -10,7 +10,8 @@ use Rattle.mf_errno.specs.declared.module.Module.TheVariants.{Biba, Mls, Partiti
 use Rattle.mf_policy.specs.Registration.{Entry}
 use Rattle.mf_policy.specs.declared.registration.Registration.{Registration}
 use Rattle.mf_list.specs.Lists.{entry_in, in_catalogue, is_dynamic, is_listed, is_of, same_module}
-use Rattle.mf_list.specs.Registration.{IsAbsent, IsEntryPlace, IsModulePlace, with_meaning, with_newest, without_first}
+use Rattle.mf_list.specs.Places.{IsAbsent, IsEntryPlace, IsModulePlace}
+use Rattle.mf_list.specs.Registration.{with_meaning, with_newest, without_first}
 
 -- some element passes exactly where the first place is within
 pub any_by_place : {X : Type 0} (p : X → Bool) (xs : List X) → list_any p xs ≡ ltb (position_or_len p xs) (length xs)

@@ -1,6 +1,5 @@
 -- Registration: which calls are refused, and what becomes of list, catalogue and slot numbers.
-use Rattle.std.specs.Prelude.{◌≡◌, ℕ, ◌+◌, ◌<◌, ◌≤◌, Bool, true, false, cond, not, ◌&&◌, ◌||◌, nat_le, List, [], ◌∷◌, ◌++◌, Option, Some, None, is_some, Result, Ok, Err, length, slice_index_or, slice_set}
-use Rattle.std.specs.List.{remove}
+use Rattle.std.specs.Prelude.{◌≡◌, ℕ, ◌+◌, Bool, true, false, cond, not, ◌&&◌, ◌||◌, nat_le, List, [], ◌∷◌, ◌++◌, Option, Some, None, is_some, Result, Ok, Err}
 use Rattle.mf_errno.specs.declared.module.Module.{Module}
 use Rattle.mf_policy.specs.declared.registration.Registration.{Registration}
 use Rattle.mf_policy.specs.declared.spec.Spec.{Spec}
@@ -105,25 +104,3 @@ change_at m change entries (Some entry) =
 -- the answer to a change of the module's policy, and the list after it; a module that isn't listed has no setting
 abbrev pub change_in : Module → Change → List Entry → Changed × List Entry
 change_in m change entries = change_at m change entries (entry_in m entries)
-
--- where the module's entry stands in a list
-pub record IsEntryPlace (m : Module) (entries : List Entry) (place : ℕ) : Type 0 where
-  pub within : place < length entries
-  pub listed : is_listed m entries ≡ true
-  pub here : (other : Entry) → (slice_index_or entries place other).0.module ≡ m
-  pub entry : (other : Entry) → entry_in m entries ≡ Some (slice_index_or entries place other)
-  pub rest : remove entries place ≡ entries_without m entries
-  pub written : (entry : Entry) → entry.0 ≡ (slice_index_or entries place entry).0
-      → slice_set entries place entry ≡ with_meaning m entry.1 entries
-
--- the module isn't listed
-pub record IsAbsent (m : Module) (entries : List Entry) : Type 0 where
-  pub listed : is_listed m entries ≡ false
-  pub entry : entry_in m entries ≡ None
-
--- where the module stands in the catalogue
-pub record IsModulePlace (m : Module) (modules : List Module) (place : ℕ) : Type 0 where
-  pub within : place < length modules
-  pub listed : in_catalogue m modules ≡ true
-  pub here : (other : Module) → slice_index_or modules place other ≡ m
-  pub rest : remove modules place ≡ modules_without m modules

@@ -5,7 +5,8 @@ ghost use Rattle.mf_errno.specs.declared.module.Module.{Module};
 ghost use Rattle.mf_policy.specs.Modules as facts;
 ghost use Rattle.mf_list.specs.Held.{are_distinct};
 ghost use Rattle.mf_list.specs.Lists.{IsFresh, in_catalogue, same_module};
-ghost use Rattle.mf_list.specs.Registration.{IsModulePlace, is_known, modules_without};
+ghost use Rattle.mf_list.specs.Places.{IsModulePlace};
+ghost use Rattle.mf_list.specs.Registration.{is_known, modules_without};
 
 use crate::listed::is_same_module;
 use crate::policy_list::PolicyList;

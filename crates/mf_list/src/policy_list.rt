@@ -3,7 +3,8 @@ ghost use Rattle.std.specs.Prelude.{◌≡◌, ◌+◌, ◌<◌, ◌≤◌, [], 
 ghost use Rattle.std.specs.List.{insert, position_or_len, remove};
 ghost use Rattle.mf_policy.specs.Registration.{Entry};
 ghost use Rattle.mf_list.specs.Lists.{IsReady, is_dynamic, is_listed, is_of};
-ghost use Rattle.mf_list.specs.Registration.{IsAbsent, IsEntryPlace, change_in, with_newest};
+ghost use Rattle.mf_list.specs.Places.{IsAbsent, IsEntryPlace};
+ghost use Rattle.mf_list.specs.Registration.{change_in, with_newest};
 
 use crate::catalogue::Catalogue;
 use crate::listed::Listed;

@@ -170,10 +170,22 @@ fn precedence_against_walk_order(rt: HostRuntime) -> Result<(), AllocError> {
         label: labelled(Elem::Low),
     });
     let answer = policies.list().ask(&item);
-    assert_eq!(rt; answer, Answer { errno: Errno::Esrch, by: Some(Module::Biba) });
+    assert_eq!(rt;
+        answer,
+        Answer {
+            errno: Errno::Esrch,
+            by: Some(Module::Biba)
+        }
+    );
     item.op = CheckOp::ProcVisible;
     item.subject.label = labelled(Elem::Low);
     let answer = policies.list().ask(&item);
-    assert_eq!(rt; answer, Answer { errno: Errno::Success, by: None });
+    assert_eq!(rt;
+        answer,
+        Answer {
+            errno: Errno::Success,
+            by: None
+        }
+    );
     Ok(())
 }

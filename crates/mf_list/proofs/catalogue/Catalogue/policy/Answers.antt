@@ -2,7 +2,7 @@ use Rattle.std.proofs.Common.{◌∙◌, ap, sym, get_or}
 use Rattle.std.proofs.Math.ListN.{get_or-map}
 use Rattle.mf_policy.specs.Modules.{module_of}
 use Rattle.mf_list.specs.Lists.{CatalogueView}
-use Rattle.mf_list.specs.Registration.{IsModulePlace}
+use Rattle.mf_list.specs.Places.{IsModulePlace}
 use Rattle.mf_list.proofs.catalogue.Catalogue.policy.Goals as goal
 
 pub returns-clause-value : goal.returns-clause-value

@@ -1,10 +1,10 @@
-use Rattle.std.proofs.Common.{◌≡◌, ◌<◌, ◌∙◌, ap, sym, subst, get_or, length, map, arith}
+use Rattle.std.proofs.Common.{◌<◌, ◌∙◌, ap, sym, get_or, length, map, arith}
 use Rattle.std.specs.List.{remove}
 use Rattle.std.proofs.Math.ListN.{get_or-map}
 use Rattle.std.proofs.lemmas.List.{length-map}
 use Rattle.mf_policy.specs.Modules.{fresh_of, module_of}
 use Rattle.mf_list.specs.Lists.{CatalogueView, IsFresh}
-use Rattle.mf_list.specs.Registration.{IsModulePlace}
+use Rattle.mf_list.specs.Places.{IsModulePlace}
 use Rattle.mf_list.proofs.Maps.{map-remove}
 use Rattle.mf_list.proofs.catalogue.Catalogue.take.Goals as goal
 

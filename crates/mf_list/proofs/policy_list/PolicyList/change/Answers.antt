@@ -1,8 +1,9 @@
-use Rattle.std.proofs.Common.{◌≡◌, List, ◌∙◌, ap, sym, subst, get_or, set, IfOk}
+use Rattle.std.proofs.Common.{◌≡◌, List, sym, subst, set, IfOk}
 use Rattle.mf_policy.specs.Registration.{Entry}
 use Rattle.mf_list.specs.Held.{IsListedOnce}
 use Rattle.mf_list.specs.Lists.{ListView}
-use Rattle.mf_list.specs.Registration.{IsEntryPlace, change_in, with_meaning}
+use Rattle.mf_list.specs.Places.{IsEntryPlace}
+use Rattle.mf_list.specs.Registration.{change_in}
 use Rattle.mf_list.proofs.Counts.{listed_once-meaning}
 use Rattle.mf_list.proofs.Changes.{changed_in, stays_at}
 use Rattle.mf_list.proofs.policy_list.PolicyList.change.Goals as goal

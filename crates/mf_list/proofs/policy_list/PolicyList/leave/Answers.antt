@@ -1,5 +1,4 @@
-use Rattle.std.proofs.Common.{◌≡◌, ◌++◌, ◌∷◌, [], ◌∙◌, ap}
-use Rattle.mf_errno.specs.declared.module.Module.{Module}
+use Rattle.std.proofs.Common.{◌≡◌, ◌∙◌, ap}
 use Rattle.mf_policy.specs.Registration.{Entry}
 use Rattle.mf_policy.specs.declared.registration.Registration.{Registration}
 use Rattle.mf_list.proofs.policy_list.PolicyList.leave.Goals as goal

@@ -1,5 +1,4 @@
-use Rattle.std.proofs.Common.{◌≡◌, ap, arith, get_or, None, false, rules}
-use Rattle.std.proofs.lemmas.Grind.{common_steps}
+use Rattle.std.proofs.Common.{ap, arith, get_or, None, false, rules}
 use Rattle.std.proofs.lemmas.List.{take_more_same}
 use Rattle.mf_errno.specs.declared.module.Module.TheVariants as modules
 use Rattle.mf_policy.specs.declared.spec.Spec.TheVariants as means
