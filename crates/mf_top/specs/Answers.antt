@@ -15,9 +15,9 @@ use Rattle.mf_top.specs.HistoryText.{history_text}
 abbrev pub IsRunOf : Script → List ℕ → Type 0
 IsRunOf s text = (h : History) × IsLegal s h × IsComplete s h × (text ≡ history_text s h)
 
--- the bytes are a script, and the text is that of a legal and complete history of it
+-- the bytes are a script and no more than one may have, and the text is that of a legal and complete history of it
 abbrev pub IsRunText : List ℕ → List ℕ → Type 0
-IsRunText bytes text = (s : Script) × (script_of bytes ≡ Ok s) × IsRunOf s text
+IsRunText bytes text = (length bytes ≤ most_script) × (s : Script) × (script_of bytes ≡ Ok s) × IsRunOf s text
 
 -- Where source and sink tell their bytes: the source held a script to its end, and the sink took the text of one history
 -- that is legal and complete for it, and nothing else.
