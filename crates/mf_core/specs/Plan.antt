@@ -6,6 +6,7 @@ use Rattle.mf_item.specs.declared.operation.CheckOp.TheVariants.{VnodeLookup, Vn
 use Rattle.mf_item.specs.declared.view.SubjectView.{SubjectView}
 use Rattle.mf_item.specs.declared.view.ObjectView.{ObjectView}
 use Rattle.mf_item.specs.declared.item.Item.{Item}
+use Rattle.mf_script.specs.Limits.{content_limit}
 use Rattle.mf_script.specs.declared.script.Call.{Call}
 use Rattle.mf_script.specs.declared.script.Call.TheVariants.{Read, Write}
 use Rattle.mf_core.specs.declared.state.State.{State}
@@ -26,10 +27,10 @@ abbrev pub plan_on : State → SubjectView → Option ℕ → CheckOp × CheckOp
 plan_on s subject None checks tail = record { items = item VnodeLookup subject (object_at s root) ∷ []; tail = Refuse Enoent }
 plan_on s subject (Some id) checks tail = record { items = item VnodeLookup subject (object_at s root) ∷ item checks.0 subject (object_at s id) ∷ item checks.1 subject (object_at s id) ∷ []; tail = tail }
 
--- a file holds at most 65536 bytes
+-- a file holds at most 65,536 bytes
 abbrev pub write_tail : State → List ℕ → Option ℕ → Tail
 write_tail s text None = Do
-write_tail s text (Some id) = if nat_lt 65536 (length (content_at s id) + length text) then Refuse Efbig else Do
+write_tail s text (Some id) = if nat_lt content_limit (length (content_at s id) + length text) then Refuse Efbig else Do
 
 abbrev pub plan_for : State → SubjectView → Call → Plan
 plan_for s subject (Read path) = plan_on s subject (vnode_at s path) (VnodeOpenRead, VnodeRead) Do

@@ -62,8 +62,8 @@ text_of (Ok text) = text
 text_of (Err r) = refusal_text r
 
 -- The sink took the outcome's whole text; or its faults rose, and it took a beginning of that text.
-abbrev pub IsTold : Seen → Result (List ℕ) Refusal → ℕ → Type 0
-IsTold sink outcome status =
+abbrev pub IsWritten : Seen → Result (List ℕ) Refusal → ℕ → Type 0
+IsWritten sink outcome status =
     ((status ≡ status_of outcome) × Took sink.before sink.after (text_of outcome))
     ⊎ ((status ≡ 5) × FaultsRose sink × TookPart sink.before sink.after (text_of outcome))
 

@@ -8,4 +8,4 @@ pub mod HistoryText
 pub mod OneText
 pub mod Answers
 pub mod Refusals
-pub mod Told
+pub mod Outcomes

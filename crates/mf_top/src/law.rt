@@ -1,7 +1,7 @@
 //! Laws of the program: what its texts tell, and which of its answers never come where nothing fails.
 ghost use Rattle.std.specs.Prelude.{◌≢◌, List, ℕ, Result, map, string_bytes};
 ghost use Rattle.mf_top.specs.declared.refusal.Refusal.{Refusal};
-ghost use Rattle.mf_top.specs.Answers.{IsOutcome, IsTold};
+ghost use Rattle.mf_top.specs.Answers.{IsOutcome, IsWritten};
 ghost use Rattle.mf_top.specs.Sure.{seen_source, seen_sink};
 ghost use Rattle.mf_top.specs.OneText.{TextTellsHistory};
 
@@ -26,7 +26,7 @@ pub fn run_surely<R: Threads + Wait + Sync>(
 ) -> u8
     ensures cause { (outcome : Result (List ℕ) Refusal)
         × IsOutcome (map string_bytes words.now) (seen_source source.old source.new) outcome
-        × IsTold (seen_sink sink.old sink.new) outcome result }
+        × IsWritten (seen_sink sink.old sink.new) outcome result }
     ensures no_read_fault { result ≢ 4 }
     ensures no_write_fault { result ≢ 5 }
 {

@@ -3,7 +3,7 @@
 
 pub mod io;
 pub mod law;
-pub mod print;
+mod print;
 mod read;
 mod refusal;
 mod run;

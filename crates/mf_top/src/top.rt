@@ -2,8 +2,8 @@
 ghost use Rattle.std.specs.Prelude.{◌≡◌, ◌⊎◌, ◌∷◌, [], List, ℕ, map, codes, Result, string_bytes, IsTrue, ◌↔◌};
 ghost use Rattle.mf_top.specs.declared.refusal.Refusal.{Refusal};
 ghost use Rattle.mf_top.specs.Outside.{seen};
-ghost use Rattle.mf_top.specs.Answers.{WroteHistory, IsRunWords, IsOutcome, IsTold, IsFaultless, status_of, text_of};
-ghost use Rattle.mf_top.specs.Told.{told};
+ghost use Rattle.mf_top.specs.Answers.{WroteHistory, IsRunWords, IsOutcome, IsWritten, IsFaultless, status_of, text_of};
+ghost use Rattle.mf_top.specs.Outcomes.{bytes_of_outcome};
 
 use crate::io::{Failed, Sink, Source};
 use crate::refusal::Refusal;
@@ -32,7 +32,7 @@ pub fn macsim<S: Source, K: Sink, R: Threads + Wait + Sync>(
     // Each status has its cause, and what was taken is its text, or with 5 a beginning of another's.
     ensures cause { (outcome : Result (List ℕ) Refusal)
         × IsOutcome (map string_bytes words.now) (seen S.left S.faults source.old source.new) outcome
-        × IsTold (seen K.taken K.faults sink.old sink.new) outcome result }
+        × IsWritten (seen K.taken K.faults sink.old sink.new) outcome result }
 
     // A script in the right words, over a source and a sink that don't fail, gives 0, or 9 for want of memory.
     ensures complete { IsFaultless (map string_bytes words.now) (seen S.left S.faults source.old source.new) (seen K.taken K.faults sink.old sink.new)
@@ -47,7 +47,7 @@ pub fn macsim<S: Source, K: Sink, R: Threads + Wait + Sync>(
 
 /// What is to be written: the text of the run's history, or why there is none.
 fn outcome_of<S: Source>(alloc: Global, words: &[String], source: &mut S) -> Result<String, Refusal>
-    ensures { IsOutcome (map string_bytes words.now) (seen S.left S.faults source.old source.new) (told result) }
+    ensures { IsOutcome (map string_bytes words.now) (seen S.left S.faults source.old source.new) (bytes_of_outcome result) }
 {
     if is_run(words) {
         run_source(alloc, source)
@@ -67,7 +67,7 @@ fn is_run(words: &[String]) -> bool
 
 /// The text of the history of what the source holds.
 fn run_source<S: Source>(alloc: Global, source: &mut S) -> Result<String, Refusal>
-    ensures { IsOutcome (codes "run" ∷ []) (seen S.left S.faults source.old source.new) (told result) }
+    ensures { IsOutcome (codes "run" ∷ []) (seen S.left S.faults source.old source.new) (bytes_of_outcome result) }
 {
     let bytes = read::read_all(alloc, source)?;
     let script = read_script(alloc, &bytes)?;
@@ -76,7 +76,7 @@ fn run_source<S: Source>(alloc: Global, source: &mut S) -> Result<String, Refusa
 }
 
 fn status_of(outcome: &Result<String, Refusal>) -> u8
-    ensures { result ≡ status_of (told outcome.now) }
+    ensures { result ≡ status_of (bytes_of_outcome outcome.now) }
 {
     match outcome {
         Ok(_) => 0,
@@ -85,7 +85,7 @@ fn status_of(outcome: &Result<String, Refusal>) -> u8
 }
 
 fn text_of(outcome: &Result<String, Refusal>) -> &str
-    ensures { result.now ≡ text_of (told outcome.now) }
+    ensures { result.now ≡ text_of (bytes_of_outcome outcome.now) }
 {
     match outcome {
         Ok(text) => text.as_str(),

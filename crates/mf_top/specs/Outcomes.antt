@@ -4,6 +4,6 @@ use Rattle.std.specs.Global.{Global}
 use Rattle.mf_top.specs.declared.refusal.Refusal.{Refusal}
 
 -- an outcome with its text as bytes
-abbrev pub told : Result (String Global) Refusal → Result (List ℕ) Refusal
-told (Ok text) = Ok (string_bytes text)
-told (Err refusal) = Err refusal
+abbrev pub bytes_of_outcome : Result (String Global) Refusal → Result (List ℕ) Refusal
+bytes_of_outcome (Ok text) = Ok (string_bytes text)
+bytes_of_outcome (Err refusal) = Err refusal
