@@ -1,5 +1,5 @@
 //! The policies that are not listed.
-ghost use Rattle.std.specs.Prelude.{◌≡◌, ◌+◌, ◌<◌, ◌≤◌, ◌++◌, ◌∷◌, [], All, map, IsTrue, ◌↔◌, length, position, OnOk, OnErr, OnSome, IfSome, IfNone, is_some, cond, Some, None, MatchOption, Option, true, false};
+ghost use Rattle.std.specs.Prelude.{◌≡◌, ◌+◌, ◌<◌, ◌≤◌, ◌++◌, ◌∷◌, [], All, map, IsTrue, length, position, OnOk, OnErr, OnSome, IfSome, IfNone, is_some, Some, None, MatchOption, Option, false};
 ghost use Rattle.mf_errno.specs.Module.{IsModuleNamed};
 ghost use Rattle.mf_errno.specs.declared.module.Module.{Module};
 ghost use Rattle.mf_policy.specs.Modules as facts;

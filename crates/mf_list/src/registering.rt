@@ -1,5 +1,5 @@
 //! Registration: policies come from the catalogue into the list, and go back.
-ghost use Rattle.std.specs.Prelude.{◌≡◌, ◌+◌, ◌<◌, ◌≤◌, ◌++◌, ◌∷◌, [], OnErr, IfOk, Option, true, false, MatchOption, ◌||◌, ◌&&◌, nat_le, if◌then◌else◌, Ok, Err, Some, None, IfSome, is_some, slice_index_or};
+ghost use Rattle.std.specs.Prelude.{◌≡◌, ◌+◌, ◌<◌, ◌++◌, ◌∷◌, [], OnErr, IfOk, Option, true, false, ◌||◌, ◌&&◌, nat_le, if◌then◌else◌, Ok, Err, Some, None, IfSome, is_some, slice_index_or};
 ghost use Rattle.mf_errno.specs.Module.{IsModuleNamed};
 ghost use Rattle.mf_errno.specs.declared.module.Module.{Module};
 ghost use Rattle.mf_policy.specs.Modules as facts;
