@@ -1,10 +1,11 @@
 -- The scripts that the grammar reads are well formed.
-use Rattle.std.proofs.Common.{◌≡◌, ◌≢◌, ℕ, zero, suc, ◌<◌, ◌≤◌, Bool, true, false, not, ◌||◌, List, [], ◌∷◌, ◌++◌, length, Option, Some, None, Result, Ok, refl, ap, sym, ◌∙◌, ◌⊎◌, inl, inr, arith, length-append, lit≤}
-use Rattle.std.proofs.lemmas.Bool.{ltb-true}
+use Rattle.std.proofs.Common.{◌≡◌, ◌≢◌, ℕ, zero, suc, ◌+◌, get_or, ◌<◌, ◌≤◌, Bool, true, false, not, ◌||◌, List, [], ◌∷◌, ◌++◌, length, Option, Some, None, Result, Ok, refl, ap, sym, ◌∙◌, ◌⊎◌, inl, inr, arith, length-append, lit≤}
+use Rattle.std.proofs.lemmas.Bool.{ltb-true, ltb-false}
 use Rattle.std.proofs.lemmas.Slice.Eq.{bytes_eq-Decides}
+use Rattle.std.proofs.lemmas.Option.{slice_get_cases, slice_get-get_or}
 use Rattle.std.proofs.lemmas.List.Elements.{All-nil, All-cons, All-push}
 use Rattle.std.proofs.lemmas.List.Quantifiers.{all_pairs_push}
-use Rattle.std.specs.Prelude.{nat_lt, All, AllPairs, IfSome, codes}
+use Rattle.std.specs.Prelude.{nat_lt, All, AllPairs, IfSome, codes, slice_get, option_map, unwrap_or}
 use Rattle.std.specs.List.{list_any}
 use Rattle.std.specs.Str.{bytes_eq}
 use Rattle.mf_errno.specs.declared.module.Module.{Module}
@@ -13,11 +14,12 @@ use Rattle.mf_script.specs.declared.error.ScriptError.{ScriptError}
 use Rattle.mf_script.specs.declared.script.FileLine.{FileLine}
 use Rattle.mf_script.specs.declared.script.Line.{Line}
 use Rattle.mf_script.specs.declared.script.Task.{Task}
+use Rattle.mf_script.specs.declared.script.Script.{Script}
 use Rattle.mf_script.specs.Readers.{or_else}
-use Rattle.mf_script.specs.Limits.{file_limit, line_limit}
+use Rattle.mf_script.specs.Limits.{file_limit, task_limit, line_limit}
 use Rattle.mf_script.specs.Words.{Words, Rows}
 use Rattle.mf_script.specs.Parts.{is_name, behind}
-use Rattle.mf_script.specs.Grammar.{is_same_path, has_path, may_stand, items_in, may_boot, boot_at, file_at, line_at, task_in, script_in}
+use Rattle.mf_script.specs.Grammar.{is_same_path, has_path, may_stand, items_in, may_boot, boot_at, file_at, line_at, has_name, task_in, task_behind, tasks_in, script_in}
 use Rattle.mf_script.specs.Labels.{is_biba, is_mls}
 use Rattle.mf_script.specs.WellFormed.{IsFormedFile, IsFormedCall, IsFormedTask, IsWellFormed, lines_of, name_of}
 use Rattle.mf_script.proofs.Yields.{Yields, done, refused, chain, skip, checked, chosen}
@@ -138,35 +140,82 @@ record IsWholeTask (boots : List Module) (task : Task) : Type 0 where
   few : length task.lines ≤ line_limit
   formed : IsFormedTask boots task
 
-task_in_formed : (boots : List Module) (rows : Rows) → Yields (λ read. IsWholeTask boots read.0) (task_in boots rows)
+task_in_formed : (boots : List Module) (row : Words) (rows : Rows) → Yields (λ read. IsWholeTask boots read.0) (task_in boots row rows)
 unfolding task_in
-task_in_formed boots [] = refused
-task_in_formed boots (row ∷ rows) =
+task_in_formed boots row rows =
     chain _ _ (task_formed boots row) (λ task head.
     chain _ _ (items_formed AreLines line_at line_at_formed [] rows (record { few = lit≤ tt; each = All-nil _ })) (λ lines are.
     skip _ _ (λ rows.
     done (record { name = head.name; few = are.few; formed = record { cred = head.formed.cred; label = head.formed.label; calls = are.each } }))))
 
-one_task : (boots : List Module) (files : List FileLine) (task : Task) → AreOnce boots → AreFiles boots files → IsWholeTask boots task
-    → IsWellFormed (record { boots = boots; files = files; tasks = task ∷ [] })
-one_task boots files task once are whole = record {
-  boots = record { few = few_boots boots once; each = once.each; differ = once.differ };
+record AreTasks (boots : List Module) (tasks : List Task) : Type 0 where
+  each : All (IsWholeTask boots) tasks
+  differ : AllPairs (λ t u. t.name ≢ u.name) tasks
+
+other_name : (name : List ℕ) (t : Task) → has_name name t ≡ false → t.name ≢ name
+other_name name t e same = let here : bytes_eq t.name name ≡ true = (bytes_eq-Decides t.name name).1 same in cc
+
+task_behind_formed : (boots : List Module) (tasks : List Task) (row : Words) (rows : Rows) → AreTasks boots tasks → Yields (λ read. AreTasks boots (tasks ++ read.0 ∷ [])) (task_behind boots tasks row rows)
+unfolding task_behind
+task_behind_formed boots tasks row rows are = chain _ _ (task_in_formed boots row rows) (λ task whole. checked _ _ (λ e. done (record {
+  each = All-push (IsWholeTask boots) tasks task.0 are.each whole;
+  differ = all_pairs_push (λ (t u : Task). t.name ≢ u.name) tasks task.0 are.differ (none_pass (has_name task.0.name) (λ (t : Task). t.name ≢ task.0.name) (other_name task.0.name) tasks (flipped _ e));
+})))
+
+tasks_formed : (boots : List Module) (tasks : List Task) (room : ℕ) (rows : Rows) → length tasks + room ≤ task_limit → AreTasks boots tasks
+    → Yields (λ all. (length all ≤ task_limit) × AreTasks boots all) (tasks_in boots tasks room rows)
+unfolding tasks_in
+tasks_formed boots tasks zero [] few are = done (omega (arith, few), are)
+tasks_formed boots tasks (suc room) [] few are = done (omega (arith, few), are)
+tasks_formed boots tasks zero (row ∷ rows) few are = refused
+tasks_formed boots tasks (suc room) (row ∷ rows) few are = chain _ _ (task_behind_formed boots tasks row rows are) (λ task more.
+    tasks_formed boots (tasks ++ task.0 ∷ []) room task.1 (omega (arith, few, length-append tasks (task.0 ∷ []))) more)
+
+-- the first task, where there is one of some number
+some_task : (tasks : List Task) (t : ℕ) → t < length tasks → Task
+some_task [] t t_in = absurd (omega (arith, t_in))
+some_task (task ∷ tasks) t t_in = task
+
+name_at : (tasks : List Task) (t : ℕ) (other : Task) → t < length tasks → unwrap_or (option_map (λ (task : Task). task.name) (slice_get tasks t)) [] ≡ (get_or tasks t other).name
+name_at tasks t other t_in = ap (λ found. unwrap_or (option_map (λ (task : Task). task.name) found) []) (slice_get-get_or tasks t other t_in)
+
+whole_names : (s : Script) → AreTasks s.boots s.tasks → (t : ℕ) → t < length s.tasks → is_name (name_of s t) ≡ true
+whole_names s whole t t_in =
+    let other = some_task s.tasks t t_in in
+    let is : name_of s t ≡ (get_or s.tasks t other).name = name_at s.tasks t other t_in in
+    ap is_name is ∙ (whole.each t other t_in).name
+
+whole_lines : (s : Script) → AreTasks s.boots s.tasks → (t : ℕ) → length (lines_of s t) ≤ line_limit
+whole_lines s whole t = by_place (slice_get_cases s.tasks t).1 where
+  by_place : ((task : Task) × (t < length s.tasks) × (slice_get s.tasks t ≡ Some task) × (get_or s.tasks t task ≡ task)) ⊎ ((length s.tasks ≤ t) × (slice_get s.tasks t ≡ None)) → length (lines_of s t) ≤ line_limit
+  by_place (inl found) =
+      let few : length (get_or s.tasks t found.0).lines ≤ line_limit = (whole.each t found.0 found.1).few in
+      let same : length (lines_of s t) ≡ length (get_or s.tasks t found.0).lines = ap (λ f. length (unwrap_or (option_map (λ (task : Task). task.lines) f) [])) found.2 ∙ ap (λ (task : Task). length task.lines) (sym found.3) in
+      omega (arith, few, same)
+  by_place (inr none) = let same : length (lines_of s t) ≡ 0 = ap (λ f. length (unwrap_or (option_map (λ (task : Task). task.lines) f) [])) none.1 in omega (arith, same)
+
+whole_differ : (s : Script) → AreTasks s.boots s.tasks → (t u : ℕ) → t < length s.tasks → u < length s.tasks → name_of s t ≡ name_of s u → t ≡ u
+whole_differ s whole t u t_in u_in e = by_order (nat_lt t u) (nat_lt u t) refl refl where
+  same : (get_or s.tasks t (some_task s.tasks t t_in)).name ≡ (get_or s.tasks u (some_task s.tasks t t_in)).name
+  same = sym (name_at s.tasks t (some_task s.tasks t t_in) t_in) ∙ (e ∙ name_at s.tasks u (some_task s.tasks t t_in) u_in)
+
+  by_order : (below above : Bool) → nat_lt t u ≡ below → nat_lt u t ≡ above → t ≡ u
+  by_order true above b a = absurd (whole.differ t u (some_task s.tasks t t_in) (ltb-true _ _ b) u_in same)
+  by_order false true b a = absurd (whole.differ u t (some_task s.tasks t t_in) (ltb-true _ _ a) t_in (sym same))
+  by_order false false b a = omega (arith, ltb-false _ _ b, ltb-false _ _ a)
+
+whole_script : (s : Script) → AreOnce s.boots → AreFiles s.boots s.files → length s.tasks ≤ task_limit → AreTasks s.boots s.tasks → IsWellFormed s
+whole_script s once are few whole = record {
+  boots = record { few = few_boots s.boots once; each = once.each; differ = once.differ };
   files = are.few;
   paths = are.paths;
   each_file = are.each;
-  tasks = lit≤ tt;
-  names = names;
-  differ = λ t u t_in u_in e. omega arith;
-  lines = lines;
-  each_task = All-cons (IsFormedTask boots) task [] whole.formed (All-nil _);
-} where
-  names : (t : ℕ) → t < 1 → is_name (name_of (record { boots = boots; files = files; tasks = task ∷ [] }) t) ≡ true
-  names zero t_in = whole.name
-  names (suc t) t_in = absurd (omega arith)
-
-  lines : (t : ℕ) → length (lines_of (record { boots = boots; files = files; tasks = task ∷ [] }) t) ≤ line_limit
-  lines zero = whole.few
-  lines (suc t) = lit≤ tt
+  tasks = few;
+  names = whole_names s whole;
+  differ = whole_differ s whole;
+  lines = whole_lines s whole;
+  each_task = λ t other t_in. (whole.each t other t_in).formed;
+}
 
 no_pairs : {A : Type 0} (R : A → A → Type 0) → AllPairs R []
 no_pairs R i j d less within = absurd (omega arith)
@@ -176,5 +225,5 @@ unfolding script_in
 script_formed rows =
     chain _ _ (items_formed AreOnce boot_at boot_at_formed [] rows (record { each = All-nil _; differ = no_pairs (λ (m n : Module). m ≢ n) })) (λ boots once.
     chain _ _ (items_formed (AreFiles boots.0) (file_at boots.0) (file_at_formed boots.0) [] boots.1 (record { few = lit≤ tt; paths = no_pairs (λ (f g : FileLine). f.path ≢ g.path); each = All-nil _ })) (λ files are.
-    chain _ _ (task_in_formed boots.0 files.1) (λ task whole.
-    skip _ _ (λ u. done (one_task boots.0 files.0 task.0 once are whole)))))
+    chain _ _ (tasks_formed boots.0 [] task_limit files.1 (lit≤ tt) (record { each = All-nil _; differ = no_pairs (λ (t u : Task). t.name ≢ u.name) })) (λ tasks whole.
+    done (whole_script _ once are whole.0 whole.1))))

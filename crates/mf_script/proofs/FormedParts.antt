@@ -1,18 +1,19 @@
 -- What the grammar reads of a word and of a row is well formed.
-use Rattle.std.proofs.Common.{All, ◌≡◌, ℕ, ◌==◌, if◌then◌else◌, ◌≤◌, Bool, true, false, ◌&&◌, List, [], ◌∷◌, length, Result, Ok, Err, refl, lit≤, codes}
-use Rattle.std.proofs.lemmas.Bool.{leb-true}
+use Rattle.std.proofs.Common.{All, ◌≡◌, ℕ, suc, ◌+◌, arith, length-append, ◌==◌, if◌then◌else◌, ◌≤◌, Bool, true, false, ◌&&◌, List, [], ◌∷◌, length, Result, Ok, Err, refl, lit≤, codes}
+use Rattle.std.proofs.lemmas.Bool.{leb-true, ltb-true}
+use Rattle.std.proofs.lemmas.List.Splits.{length-slice_split}
 use Rattle.std.specs.Str.{bytes_eq}
 use Rattle.std.proofs.lemmas.List.Elements.{All-nil, All-cons}
 use Rattle.mf_errno.specs.declared.module.Module.{Module}
 use Rattle.mf_script.specs.declared.error.ScriptError.TheVariants.{NotYet}
 use Rattle.mf_script.specs.declared.script.Task.{Task}
 use Rattle.mf_script.specs.Readers.{or_not_yet}
-use Rattle.mf_script.specs.Limits.{content_limit, text_limit, mode_limit}
+use Rattle.mf_script.specs.Limits.{group_limit, content_limit, text_limit, mode_limit}
 use Rattle.mf_script.specs.Words.{Words}
-use Rattle.mf_script.specs.Parts.{is_name, is_component, slash, name_of, mode_of, path_of, task_request, file_request, text_of}
+use Rattle.mf_script.specs.Parts.{is_name, is_component, slash, comma, parted, with_group, groups_from, groups_of, name_of, mode_of, path_of, task_request, file_request, text_of}
 use Rattle.mf_script.specs.Lines.{file_line, file_text, task_line, call_line, read_call, write_call}
 use Rattle.mf_script.specs.Labels.{IsTaskRequest, IsFileRequest, is_claimed, has_no_range, is_valid_value, task_label, file_label}
-use Rattle.std.specs.List.{list_all}
+use Rattle.std.specs.List.{list_all, slice_split}
 use Rattle.mf_script.specs.WellFormed.{IsPathInRoot, IsFormedFile, IsFormedCall, IsFormedTask}
 use Rattle.mf_text.specs.Number.{number_in}
 use Rattle.mf_text.specs.declared.number.NumberFault.{NumberFault}
@@ -98,6 +99,28 @@ call_formed (w ∷ ws) = by_text (bytes_eq w (codes "read")) (bytes_eq w (codes 
   by_text false true = write_formed ws
   by_text false false = refused
 
+with_group_formed : (groups w : List ℕ) → Yields (λ more. (length more ≡ suc (length groups)) × (length more ≤ group_limit)) (with_group groups w)
+unfolding with_group
+with_group_formed groups w = checked _ _ (λ e. skip _ _ (λ group.
+    let room = ltb-true _ _ e in
+    let longer = length-append groups (group ∷ []) in
+    done (omega (arith, longer), omega (arith, room, longer))))
+
+groups_from_formed : (ws : List (List ℕ)) (groups : List ℕ) → length groups ≤ group_limit → Yields (λ all. (length all ≡ length groups + length ws) × (length all ≤ group_limit)) (groups_from groups ws)
+unfolding groups_from
+groups_from_formed [] groups few = done (omega arith, few)
+groups_from_formed (w ∷ ws) groups few = chain _ _ (with_group_formed groups w) (λ more ok.
+    record { of = λ all e. let got = (groups_from_formed ws more ok.1).of all e in (omega (arith, got.0, ok.0), got.1) })
+
+groups_formed : (w : List ℕ) → Yields (λ groups. (1 ≤ length groups) × (length groups ≤ group_limit)) (groups_of w)
+unfolding groups_of parted
+groups_formed w = record {
+  of = λ groups e.
+      let got = (groups_from_formed (slice_split (λ b. b == comma) w) [] (lit≤ tt)).of groups e in
+      let some = length-slice_split (λ b. b == comma) w in
+      (omega (arith, got.0, some), got.1);
+}
+
 -- a task before its lines
 pub record IsFormedHead (boots : List Module) (task : Task) : Type 0 where
   pub name : is_name task.name ≡ true
@@ -108,6 +131,8 @@ unfolding task_line
 task_formed boots row =
     skip _ _ (λ ws.
     chain _ _ (by_word _ name_formed ws) (λ name name_ok.
-    skip _ _ (λ ws. skip _ _ (λ uid. skip _ _ (λ ws. skip _ _ (λ gid. skip _ _ (λ ws.
+    skip _ _ (λ ws. skip _ _ (λ uid. skip _ _ (λ ws.
+    chain _ _ (by_word _ groups_formed ws) (λ groups groups_ok.
+    skip _ _ (λ ws.
     chain _ _ (by_word _ (task_request_formed boots) ws) (λ label label_ok.
-    skip _ _ (λ u. done (record { name = name_ok; formed = record { cred = record { real = refl; saved = refl; group = refl }; label = label_ok; calls = All-nil _ } }))))))))))
+    skip _ _ (λ u. done (record { name = name_ok; formed = record { cred = record { real = refl; saved = refl; some = groups_ok.0; few = groups_ok.1 }; label = label_ok; calls = All-nil _ } }))))))))))

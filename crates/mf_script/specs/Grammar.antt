@@ -1,5 +1,5 @@
 -- Which bytes are a script, and which script they are.
-use Rattle.std.specs.Prelude.{ℕ, Bool, true, false, not, ◌&&◌, nat_lt, List, [], ◌∷◌, ◌++◌, length, Option, Some, None, Result, Ok, Err, codes}
+use Rattle.std.specs.Prelude.{ℕ, zero, suc, Bool, true, false, not, ◌&&◌, nat_lt, List, [], ◌∷◌, ◌++◌, length, Option, Some, None, Result, Ok, Err, codes}
 use Rattle.std.specs.List.{list_all, list_any}
 use Rattle.std.specs.Str.{bytes_eq}
 use Rattle.mf_errno.specs.declared.module.Module.{Module}
@@ -11,7 +11,7 @@ use Rattle.mf_script.specs.declared.script.Task.{Task}
 use Rattle.mf_script.specs.declared.script.FileLine.{FileLine}
 use Rattle.mf_script.specs.declared.script.Script.{Script}
 use Rattle.mf_script.specs.Readers.{◌>>=◌, only_if, or_else}
-use Rattle.mf_script.specs.Limits.{file_limit, line_limit}
+use Rattle.mf_script.specs.Limits.{file_limit, task_limit, line_limit}
 use Rattle.mf_script.specs.Words.{Words, Rows, rows_in, is_plain}
 use Rattle.mf_script.specs.Parts.{fixed, behind, no_more}
 use Rattle.mf_script.specs.Lines.{boot_line, file_line, call_line, task_line}
@@ -73,27 +73,37 @@ end_in (row ∷ rows) = do
   u ← no_more ws
   Ok rows
 
--- a task, and the rows after it
-unfoldable pub task_in : List Module → Rows → Result (Task × Rows) ScriptError
-task_in boots [] = Err NotYet
-task_in boots (row ∷ rows) = do
+-- the task of this row, and the rows after its end
+unfoldable pub task_in : List Module → Words → Rows → Result (Task × Rows) ScriptError
+task_in boots row rows = do
   task ← task_line boots row
   lines ← items_in line_at [] rows
   rows ← end_in lines.1
   Ok (record task { lines = lines.0 }, rows)
 
-abbrev pub no_more_rows : Rows → Result (Unit {0}) ScriptError
-no_more_rows [] = Ok tt
-no_more_rows (row ∷ rows) = Err NotYet
+abbrev pub has_name : List ℕ → Task → Bool
+has_name name task = bytes_eq task.name name
 
--- the boot lines, the file lines, one task, and no more
+-- the task of this row behind these, none of which has its name, and the rows after its end
+unfoldable pub task_behind : List Module → List Task → Words → Rows → Result (Task × Rows) ScriptError
+task_behind boots tasks row rows = do
+  task ← task_in boots row rows
+  u ← only_if (not (list_any (has_name task.0.name) tasks))
+  Ok task
+
+-- the tasks so far, and those of all the rows, while there is room for so many more
+unfoldable pub tasks_in : List Module → List Task → ℕ → Rows → Result (List Task) ScriptError
+tasks_in boots tasks room [] = Ok tasks
+tasks_in boots tasks zero (row ∷ rows) = Err NotYet
+tasks_in boots tasks (suc room) (row ∷ rows) = task_behind boots tasks row rows >>= λ task. tasks_in boots (tasks ++ task.0 ∷ []) room task.1
+
+-- the boot lines, the file lines, the tasks, and no more
 unfoldable pub script_in : Rows → Result Script ScriptError
 script_in rows = do
   boots ← items_in boot_at [] rows
   files ← items_in (file_at boots.0) [] boots.1
-  task ← task_in boots.0 files.1
-  u ← no_more_rows task.1
-  Ok (record { boots = boots.0; files = files.0; tasks = task.0 ∷ [] })
+  tasks ← tasks_in boots.0 [] task_limit files.1
+  Ok (record { boots = boots.0; files = files.0; tasks = tasks })
 
 -- the script that the bytes are
 unfoldable pub script_of : List ℕ → Result Script ScriptError

@@ -9,6 +9,10 @@ file_limit = 256
 abbrev pub task_limit : ℕ
 task_limit = 16
 
+-- groups of a task
+abbrev pub group_limit : ℕ
+group_limit = 16
+
 -- lines of a task
 abbrev pub line_limit : ℕ
 line_limit = 4096

@@ -11,7 +11,7 @@ use Rattle.mf_script.specs.declared.script.FileLine.{FileLine}
 use Rattle.mf_script.specs.Readers.{◌>>=◌}
 use Rattle.mf_script.specs.Limits.{content_limit, text_limit}
 use Rattle.mf_script.specs.Words.{Words}
-use Rattle.mf_script.specs.Parts.{word_by, fixed, no_more, bootable_of, number_of, mode_of, name_of, path_of, task_request, file_request, text_of}
+use Rattle.mf_script.specs.Parts.{word_by, fixed, no_more, bootable_of, number_of, groups_of, mode_of, name_of, path_of, task_request, file_request, text_of}
 
 -- behind the word `boot`: MODULE
 unfoldable pub boot_line : Words → Result Module ScriptError
@@ -64,7 +64,7 @@ unfoldable pub call_line : Words → Result Call ScriptError
 call_line [] = Err NotYet
 call_line (w ∷ ws) = if bytes_eq w (codes "read") then read_call ws else if bytes_eq w (codes "write") then write_call ws else Err NotYet
 
--- "task" NAME "uid" N "gid" N "label" L, of a task that has no lines yet
+-- "task" NAME "uid" N "gid" GROUPS "label" L, of a task that has no lines yet
 unfoldable pub task_line : List Module → Words → Result Task ScriptError
 task_line boots row = do
   ws ← fixed (codes "task") row
@@ -72,8 +72,8 @@ task_line boots row = do
   ws ← fixed (codes "uid") name.1
   uid ← word_by number_of ws
   ws ← fixed (codes "gid") uid.1
-  gid ← word_by number_of ws
-  ws ← fixed (codes "label") gid.1
+  groups ← word_by groups_of ws
+  ws ← fixed (codes "label") groups.1
   label ← word_by (task_request boots) ws
   u ← no_more label.1
-  Ok (record { name = name.0; cred = record { uid = uid.0; ruid = uid.0; svuid = uid.0; groups = gid.0 ∷ [] }; label = label.0; lines = [] })
+  Ok (record { name = name.0; cred = record { uid = uid.0; ruid = uid.0; svuid = uid.0; groups = groups.0 }; label = label.0; lines = [] })

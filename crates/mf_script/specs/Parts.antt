@@ -1,6 +1,6 @@
 -- The parts of a row. Each reader takes words from the front, and answers what it read and the words after it.
-use Rattle.std.specs.Prelude.{ℕ, Bool, true, false, not, ◌&&◌, ◌||◌, ◌==◌, nat_le, if◌then◌else◌, List, [], ◌∷◌, length, Option, Some, None, Result, Ok, Err, codes}
-use Rattle.std.specs.List.{list_all}
+use Rattle.std.specs.Prelude.{ℕ, Bool, true, false, not, ◌&&◌, ◌||◌, ◌==◌, nat_lt, nat_le, if◌then◌else◌, List, [], ◌∷◌, ◌++◌, length, Option, Some, None, Result, Ok, Err, codes}
+use Rattle.std.specs.List.{list_all, slice_split}
 use Rattle.std.specs.Str.{bytes_eq}
 use Rattle.std.specs.Char.{is_ascii_alphanumeric}
 use Rattle.mf_errno.specs.declared.module.Module.{Module}
@@ -15,7 +15,7 @@ use Rattle.mf_text.specs.Escape.{bytes_of}
 use Rattle.mf_script.specs.Readers.{◌>>=◌, only_if, or_not_yet}
 use Rattle.mf_labeltext.specs.Reading.{request_in}
 use Rattle.mf_script.specs.Labels.{may_ask_of_task, may_ask_of_file}
-use Rattle.mf_script.specs.Limits.{mode_limit}
+use Rattle.mf_script.specs.Limits.{group_limit, mode_limit}
 use Rattle.mf_script.specs.Words.{Words}
 
 -- one word, read by a function of it
@@ -51,6 +51,31 @@ number_of w = or_not_yet (number_in 10 0 4294967295 w)
 -- a file mode: an octal number up to 7777
 unfoldable pub mode_of : List ℕ → Result ℕ ScriptError
 mode_of w = or_not_yet (number_in 8 0 mode_limit w)
+
+-- Groups
+
+abbrev pub comma : ℕ
+comma = 44
+
+-- the texts between commas
+unfoldable pub parted : List ℕ → List (List ℕ)
+parted w = slice_split (λ b. b == comma) w
+
+-- one group more, where there is room for it
+unfoldable pub with_group : List ℕ → List ℕ → Result (List ℕ) ScriptError
+with_group groups w = do
+  u ← only_if (nat_lt (length groups) group_limit)
+  group ← number_of w
+  Ok (groups ++ group ∷ [])
+
+-- the groups so far, and those that the texts write
+unfoldable pub groups_from : List ℕ → List (List ℕ) → Result (List ℕ) ScriptError
+groups_from groups [] = Ok groups
+groups_from groups (w ∷ ws) = with_group groups w >>= λ groups. groups_from groups ws
+
+-- numbers with a comma between each two
+unfoldable pub groups_of : List ℕ → Result (List ℕ) ScriptError
+groups_of w = groups_from [] (parted w)
 
 -- Names and paths
 

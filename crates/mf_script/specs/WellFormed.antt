@@ -11,7 +11,7 @@ use Rattle.mf_script.specs.declared.script.Task.{Task}
 use Rattle.mf_script.specs.declared.script.Script.{Script}
 use Rattle.mf_script.specs.Parts.{is_name, is_component}
 use Rattle.mf_script.specs.Labels.{IsFileRequest, IsTaskRequest}
-use Rattle.mf_script.specs.Limits.{file_limit, task_limit, line_limit, content_limit, text_limit, mode_limit}
+use Rattle.mf_script.specs.Limits.{file_limit, task_limit, group_limit, line_limit, content_limit, text_limit, mode_limit}
 
 -- the lines of a task, where there is one of that number
 abbrev pub lines_of : Script → ℕ → List Line
@@ -41,11 +41,12 @@ pub record IsFormedFile (boots : List Module) (f : FileLine) : Type 0 where
   pub label : IsFileRequest boots f.label
   pub text : length f.text ≤ content_limit
 
--- one uid is the effective, the real and the saved one, and there is one group
+-- one uid is the effective, the real and the saved one, and there are 1 to 16 groups
 pub record IsFormedCred (cred : Cred) : Type 0 where
   pub real : cred.ruid ≡ cred.uid
   pub saved : cred.svuid ≡ cred.uid
-  pub group : length cred.groups ≡ 1
+  pub some : 1 ≤ length cred.groups
+  pub few : length cred.groups ≤ group_limit
 
 abbrev pub IsFormedCall : Call → Type 0
 IsFormedCall (Read path) = IsPathInRoot path

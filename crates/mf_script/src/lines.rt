@@ -11,7 +11,7 @@ use crate::listing::{Bytes, Listing};
 use crate::parts;
 use crate::script::{Call, FileLine, Task};
 use crate::words::Words;
-use mf_cred::{ArrayVec, Cred, FileView};
+use mf_cred::{Cred, FileView};
 use mf_errno::Module;
 use std::alloc::Global;
 
@@ -125,7 +125,7 @@ pub fn task_line(alloc: Global, boots: &[Module], words: &mut Words) -> Result<T
     parts::fixed(words, "uid")?;
     let uid = parts::number(words)?;
     parts::fixed(words, "gid")?;
-    let gid = parts::number(words)?;
+    let groups = parts::groups(words)?;
     parts::fixed(words, "label")?;
     let label = parts::task_request(boots, words)?;
     parts::no_more(words)?;
@@ -135,7 +135,7 @@ pub fn task_line(alloc: Global, boots: &[Module], words: &mut Words) -> Result<T
             uid,
             ruid: uid,
             svuid: uid,
-            groups: ArrayVec::one(gid),
+            groups,
         },
         label,
         lines: Listing::new(alloc),

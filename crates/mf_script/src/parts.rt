@@ -1,20 +1,24 @@
 //! The parts of a row, each one word.
 #![tactic(auto, unfolding(crate::specs::Readers::and_then))]
 
-ghost use Rattle.std.specs.Prelude.{◌≡◌, ◌≢◌, ◌≤◌, ◌∷◌, MatchOption, IfOk, List, ℕ, vec_len};
+ghost use Rattle.std.specs.Prelude.{◌≡◌, ◌≢◌, ◌<◌, ◌≤◌, [], ◌∷◌, length, MatchOption, IfSome, IfOk, List, ℕ, vec_len};
 ghost use Rattle.std.specs.List.{list_all};
 ghost use Rattle.mf_script.specs.Readers.{Gives};
-ghost use Rattle.mf_script.specs.Parts.{fixed, word_by, bootable_of, number_of, mode_of, name_of, path_of, request_of, task_request, file_request, text_of, is_name, no_more, is_name_byte, is_component_byte, is_component, slash};
+ghost use Rattle.mf_script.specs.Parts.{fixed, word_by, bootable_of, number_of, parted, with_group, groups_of, mode_of, name_of, path_of, request_of, task_request, file_request, text_of, is_name, no_more, is_name_byte, is_component_byte, is_component, slash};
 
 use crate::error::ScriptError;
 use crate::labels::{may_ask_of_file, may_ask_of_task};
 use crate::listing::{Listing, Name, Path};
 use crate::words::Words;
+use mf_cred::ArrayVec;
 use mf_elem::Request;
 use mf_errno::Module;
 use mf_labeltext::read_request;
 use mf_text::{TextFault, read_number, read_octal, unescape};
 use std::alloc::Global;
+
+/// The most groups of a task.
+const GROUP_LIMIT: usize = 16;
 
 /// The greatest mode of a file, as chmod(2) has it.
 const MODE_LIMIT: u32 = 0o7777;
@@ -68,6 +72,53 @@ pub fn number(words: &mut Words) -> Result<u32, ScriptError>
     let word = words.next().ok_or(ScriptError::NotYet)?;
     let value = number_of(word)?;
     Ok(value)
+}
+
+/// The text in front of the first comma, and the text behind it.
+fn split_comma(text: &str) -> Option<(&str, &str)>
+    ensures parted { MatchOption result (parted text.now ≡ text.now ∷ []) (λ halves. parted text.now ≡ halves.0.now ∷ parted halves.1.now) }
+    ensures less { IfSome result (λ halves. length halves.1.now < length text.now) }
+{
+    text.split_once(',')
+}
+
+#[tactic(auto, unfolding(crate::specs::Parts::with_group, crate::specs::Readers::and_then))]
+fn add_group(groups: &mut ArrayVec<u32, 16>, word: &str) -> Result<(), ScriptError>
+    ensures { Gives (λ u. groups.new) result (with_group groups.old word.now) }
+{
+    if groups.len() >= GROUP_LIMIT {
+        return Err(ScriptError::NotYet);
+    }
+    let group = number_of(word)?;
+    groups.push(group);
+    Ok(())
+}
+
+#[tactic(auto, unfolding(crate::specs::Parts::groups_of))]
+fn groups_of(word: &str) -> Result<ArrayVec<u32, 16>, ScriptError>
+    ensures { Gives (λ groups. groups) result (groups_of word.now) }
+{
+    let mut groups = ArrayVec::new();
+    let mut rest = word;
+    while let Some((group, after)) = split_comma(rest) {
+        match add_group(&mut groups, group) {
+            Err(error) => return Err(error),
+            Ok(()) => rest = after,
+        }
+    }
+    match add_group(&mut groups, rest) {
+        Err(error) => Err(error),
+        Ok(()) => Ok(groups),
+    }
+}
+
+/// One or more gids, with a comma between each two.
+pub fn groups(words: &mut Words) -> Result<ArrayVec<u32, 16>, ScriptError>
+    ensures { Gives (λ groups. (groups, words.new)) result (word_by groups_of words.old) }
+{
+    let word = words.next().ok_or(ScriptError::NotYet)?;
+    let groups = groups_of(word)?;
+    Ok(groups)
 }
 
 /// A file mode, in octal.

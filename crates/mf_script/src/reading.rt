@@ -6,8 +6,9 @@ ghost use Rattle.std.specs.List.{list_all, list_any};
 ghost use Rattle.std.specs.Str.{IsAscii};
 ghost use Rattle.mf_script.specs.Readers.{Gives};
 ghost use Rattle.mf_script.specs.Words.{is_plain};
-ghost use Rattle.mf_script.specs.Grammar.{script_of, script_in, items_in, boot_at, file_at, line_at, task_in, end_in, no_more_rows, may_stand, has_path, is_same_path};
+ghost use Rattle.mf_script.specs.Grammar.{script_of, script_in, items_in, boot_at, file_at, line_at, task_in, task_behind, tasks_in, has_name, end_in, may_stand, has_path, is_same_path};
 ghost use Rattle.mf_script.specs.WellFormed.{IsWellFormed};
+ghost use Rattle.mf_script.specs.Limits.{task_limit};
 
 use crate::error::ScriptError;
 use crate::labels::may_boot;
@@ -21,10 +22,13 @@ use std::alloc::Global;
 /// The most file lines of a script.
 const FILE_LIMIT: usize = 256;
 
+/// The most tasks of a script.
+const TASK_LIMIT: usize = 16;
+
 /// The most lines of a task.
 const LINE_LIMIT: usize = 4096;
 
-/// The script that the bytes are. Reading takes time in proportion to the bytes, and to the pairs of files.
+/// The script that the bytes are. Reading takes time in proportion to the bytes, and to the pairs of files and of tasks.
 #[tactic(auto, unfolding(crate::specs::Grammar::script_of, crate::specs::Readers::and_then))]
 pub fn read_script(alloc: Global, bytes: &[u8]) -> Result<Script, ScriptError>
     ensures exact { Gives (λ s. s) result (script_of bytes.now) }
@@ -195,12 +199,17 @@ fn end(rows: &mut Rows) -> Result<(), ScriptError>
     Ok(())
 }
 
+/// The task of this row, with its lines up to its end.
 #[tactic(auto, unfolding(crate::specs::Grammar::task_in, crate::specs::Readers::and_then))]
-fn task(alloc: Global, boots: &[Module], rows: &mut Rows) -> Result<Task, ScriptError>
-    ensures { Gives (λ task. (task, rows.new)) result (task_in boots.now rows.old) }
+fn task(
+    alloc: Global,
+    boots: &[Module],
+    row: &mut Words,
+    rows: &mut Rows,
+) -> Result<Task, ScriptError>
+    ensures { Gives (λ task. (task, rows.new)) result (task_in boots.now row.old rows.old) }
 {
-    let mut row = rows.next().ok_or(ScriptError::NotYet)?;
-    let head = lines::task_line(alloc, boots, &mut row)?;
+    let head = lines::task_line(alloc, boots, row)?;
     let lines = task_lines(alloc, rows)?;
     end(rows)?;
     Ok(Task {
@@ -211,13 +220,46 @@ fn task(alloc: Global, boots: &[Module], rows: &mut Rows) -> Result<Task, Script
     })
 }
 
-fn no_more_rows(rows: &mut Rows) -> Result<(), ScriptError>
-    ensures { Gives (λ u. u) result (no_more_rows rows.old) }
+fn has_name(tasks: &[Task], name: &Name) -> bool
+    ensures { result ≡ list_any (has_name name.now) tasks.now }
 {
-    match rows.next() {
-        None => Ok(()),
-        Some(_) => Err(ScriptError::NotYet),
+    tasks.iter().any(|task| task.name.as_str() == name.as_str())
+}
+
+/// The task of this row behind these, none of which has its name.
+#[tactic(auto, unfolding(crate::specs::Grammar::task_behind, crate::specs::Readers::and_then))]
+fn task_behind(
+    alloc: Global,
+    boots: &[Module],
+    tasks: &[Task],
+    row: &mut Words,
+    rows: &mut Rows,
+) -> Result<Task, ScriptError>
+    ensures { Gives (λ task. (task, rows.new)) result (task_behind boots.now tasks.now row.old rows.old) }
+{
+    let task = task(alloc, boots, row, rows)?;
+    if has_name(tasks, &task.name) {
+        Err(ScriptError::NotYet)
+    } else {
+        Ok(task)
     }
+}
+
+/// The tasks of all the rows.
+fn tasks(alloc: Global, boots: &[Module], rows: &mut Rows) -> Result<Listing<Task>, ScriptError>
+    ensures { Gives (λ tasks. tasks) result (tasks_in boots.now [] task_limit rows.old) }
+{
+    let mut tasks = Listing::new(alloc);
+    while let Some(mut row) = rows.next() {
+        if tasks.len() >= TASK_LIMIT {
+            return Err(ScriptError::NotYet);
+        }
+        match task_behind(alloc, boots, tasks.as_slice(), &mut row, rows) {
+            Err(error) => return Err(error),
+            Ok(task) => tasks.push(task)?,
+        }
+    }
+    Ok(tasks)
 }
 
 #[tactic(auto, unfolding(crate::specs::Grammar::script_in, crate::specs::Readers::and_then))]
@@ -226,9 +268,7 @@ fn script(alloc: Global, rows: &mut Rows) -> Result<Script, ScriptError>
 {
     let boots = boots(alloc, rows)?;
     let files = files(alloc, boots.as_slice(), rows)?;
-    let task = task(alloc, boots.as_slice(), rows)?;
-    no_more_rows(rows)?;
-    let tasks = Listing::one(alloc, task)?;
+    let tasks = tasks(alloc, boots.as_slice(), rows)?;
     Ok(Script {
         boots,
         files,

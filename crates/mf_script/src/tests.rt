@@ -4,7 +4,7 @@ use crate::{Call, ScriptError, read_script};
 #[test]
 fn reads_what_the_lines_say(rt: HostRuntime) -> Result<(), ScriptError> {
     let text =
-        "# a mail\n\n boot\tmac_biba \nfile /m reg uid 1 gid 2 mode 0644 label biba/high text a\\0a#\ntask www uid 80 gid 007 label biba/low\n\n\t# not yet\n read /m\nwrite /... \\41b\n\tend";
+        "# a mail\n\n boot\tmac_biba \nfile /m reg uid 1 gid 2 mode 0644 label biba/high text a\\0a#\ntask www uid 80 gid 007,5,7 label biba/low\n\n\t# not yet\n read /m\nwrite /... \\41b\n\tend";
     let script = read_script(rt.alloc(), text.as_bytes())?;
     let files = script.files.as_slice();
     assert_eq!(rt; files.len(), 1);
@@ -13,7 +13,7 @@ fn reads_what_the_lines_say(rt: HostRuntime) -> Result<(), ScriptError> {
     let tasks = script.tasks.as_slice();
     assert_eq!(rt; tasks.len(), 1);
     assert_eq!(rt; tasks[0].name.as_str(), "www");
-    assert_eq!(rt; tasks[0].cred.groups.as_slice(), [7].as_slice());
+    assert_eq!(rt; tasks[0].cred.groups.as_slice(), [7, 5, 7].as_slice());
     let lines = tasks[0].lines.as_slice();
     assert_eq!(rt; lines.len(), 2);
     match &lines[1].call {
@@ -33,6 +33,10 @@ fn takes_good_scripts(rt: HostRuntime) {
         "boot mac_biba\nfile /a reg uid 0 gid 0 mode 0 label biba/5(1-9),biba/5:3+1\ntask t uid 0 gid 0 label biba/10:2+3(5:2-20:2+3+4)\nend",
         "boot mac_biba\nfile /a reg uid 0 gid 0 mode 0 label biba/equal\ntask t uid 0 gid 0 label biba/(5-high)\nend",
         "boot mac_biba\nfile /a reg uid 0 gid 0 mode 7777 label -\nfile /b reg uid 0 gid 0 mode 00000 label - text x\ntask t uid 0 gid 0 label -\nend",
+        "",
+        "boot mac_mls\n",
+        "task t uid 0 gid 0 label -\nend\ntask u uid 0 gid 0 label -\nread /a\nend",
+        "task t uid 0 gid 0,1,2,3,4,5,6,7,8,9,10,11,12,13,14,14 label -\nend",
     ];
     for script in scripts {
         assert!(rt;
@@ -45,7 +49,6 @@ fn takes_good_scripts(rt: HostRuntime) {
 #[test]
 fn refuses_bad_scripts(rt: HostRuntime) {
     let scripts = [
-        "",
         "boot mac_biba\nboot mac_mls\nboot mac_biba\ntask t uid 0 gid 0 label -\nend",
         "boot mac_partition\ntask t uid 0 gid 0 label -\nend",
         "boot mac_biba mac_mls\ntask t uid 0 gid 0 label -\nend",
@@ -84,6 +87,12 @@ fn refuses_bad_scripts(rt: HostRuntime) {
         "boot mac_biba\nfile /a reg uid 0 gid 0 mode 10000 label -\ntask t uid 0 gid 0 label -\nend",
         "boot mac_biba\nfile /a reg uid 0 gid 0 mode 0 label - text\ntask t uid 0 gid 0 label -\nend",
         "boot mac_biba\nfile /a reg uid 0 gid 0 mode 0 label -\nfile /a reg uid 0 gid 0 mode 0 label -\ntask t uid 0 gid 0 label -\nend",
+        "task t uid 0 gid 0 label -\nend\ntask u uid 0 gid 0 label -\nend\ntask t uid 1 gid 1 label -\nend",
+        "task t uid 0 gid 0 label -\nend\nboot mac_biba",
+        "task t uid 0 gid 0,1,2,3,4,5,6,7,8,9,10,11,12,13,14,15,16 label -\nend",
+        "task t uid 0 gid 1,,2 label -\nend",
+        "task t uid 0 gid ,1 label -\nend",
+        "task t uid 0 gid 1, label -\nend",
     ];
     for script in scripts {
         assert_eq!(rt;
