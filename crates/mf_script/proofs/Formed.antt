@@ -21,7 +21,7 @@ use Rattle.mf_script.specs.Words.{Words, Rows}
 use Rattle.mf_script.specs.Parts.{is_name, behind}
 use Rattle.mf_script.specs.Grammar.{is_same_path, has_path, may_stand, items_in, may_boot, boot_at, file_at, line_at, has_name, task_in, task_behind, tasks_in, script_in}
 use Rattle.mf_script.specs.Labels.{is_biba, is_mls}
-use Rattle.mf_script.specs.WellFormed.{IsFormedFile, IsFormedCall, IsFormedTask, IsWellFormed, lines_of, name_of}
+use Rattle.mf_script.specs.WellFormed.{IsFormedFile, IsFormedLine, IsFormedTask, IsWellFormed, lines_of, name_of}
 use Rattle.mf_script.proofs.Yields.{Yields, done, refused, chain, skip, checked, chosen}
 use Rattle.mf_script.proofs.FormedParts.{both, file_formed, call_formed, task_formed}
 
@@ -110,15 +110,15 @@ file_at_formed boots files row are =
 
 record AreLines (lines : List Line) : Type 0 where
   few : length lines ≤ line_limit
-  each : All (λ line. IsFormedCall line.call) lines
+  each : All IsFormedLine lines
 
 line_at_formed : (lines : List Line) (row : Words) → AreLines lines → Yields (λ found. IfSome found (λ line. AreLines (lines ++ line ∷ []))) (line_at lines row)
 unfolding line_at
 line_at_formed lines row are =
     chosen (behind (codes "end") row) _ _
     (checked _ _ (λ e. chain _ _ (call_formed row) (λ call formed. done (record {
-      few = omega (arith, ltb-true _ _ e, length-append lines ((record { call = call }) ∷ []));
-      each = All-push (λ (line : Line). IsFormedCall line.call) lines (record { call = call }) are.each formed;
+      few = omega (arith, ltb-true _ _ e, length-append lines ((record { child = None; call = call }) ∷ []));
+      each = All-push IsFormedLine lines (record { child = None; call = call }) are.each (record { child = tt; call = formed });
     }))))
     (λ ws. done tt)
 
@@ -146,7 +146,7 @@ task_in_formed boots row rows =
     chain _ _ (task_formed boots row) (λ task head.
     chain _ _ (items_formed AreLines line_at line_at_formed [] rows (record { few = lit≤ tt; each = All-nil _ })) (λ lines are.
     skip _ _ (λ rows.
-    done (record { name = head.name; few = are.few; formed = record { cred = head.formed.cred; label = head.formed.label; calls = are.each } }))))
+    done (record { name = head.name; few = are.few; formed = record { cred = head.formed.cred; label = head.formed.label; lines = are.each } }))))
 
 record AreTasks (boots : List Module) (tasks : List Task) : Type 0 where
   each : All (IsWholeTask boots) tasks

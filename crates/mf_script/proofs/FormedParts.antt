@@ -14,7 +14,7 @@ use Rattle.mf_script.specs.Parts.{is_name, is_component, slash, comma, parted, w
 use Rattle.mf_script.specs.Lines.{file_line, file_text, task_line, call_line, read_call, write_call}
 use Rattle.mf_script.specs.Labels.{IsTaskRequest, IsFileRequest, is_claimed, has_no_range, is_valid_value, task_label, file_label}
 use Rattle.std.specs.List.{list_all, slice_split}
-use Rattle.mf_script.specs.WellFormed.{IsPathInRoot, IsFormedFile, IsFormedCall, IsFormedTask}
+use Rattle.mf_script.specs.WellFormed.{IsPathInRoot, IsPath, IsFormedFile, IsFormedCall, IsFormedTask}
 use Rattle.mf_text.specs.Number.{number_in}
 use Rattle.mf_text.specs.declared.number.NumberFault.{NumberFault}
 use Rattle.mf_script.proofs.Numbers.{number_most}
@@ -39,6 +39,12 @@ path_formed : (w : List ℕ) → Yields IsPathInRoot (path_of w)
 unfolding path_of
 path_formed [] = refused
 path_formed (b ∷ w) = checked _ _ (λ e. done (both (b == slash) (is_component w) e).1)
+
+call_path_formed : (w : List ℕ) → Yields IsPath (path_of w)
+unfolding path_of
+call_path_formed [] = refused
+call_path_formed (b ∷ w) =
+    checked _ _ (λ e. done (record { few = lit≤ tt; each = All-cons (λ name. is_component name ≡ true) w [] (both (b == slash) (is_component w) e).1 (All-nil _) }))
 
 -- a test that all pass holds of each
 all_pass : {A : Type 0} (test : A → Bool) (xs : List A) → list_all test xs ≡ true → All (λ x. test x ≡ true) xs
@@ -81,12 +87,12 @@ file_formed boots ws =
 
 read_formed : (ws : Words) → Yields IsFormedCall (read_call ws)
 unfolding read_call
-read_formed ws = chain _ _ (by_word _ path_formed ws) (λ path path_ok. skip _ _ (λ u. done path_ok))
+read_formed ws = chain _ _ (by_word _ call_path_formed ws) (λ path path_ok. skip _ _ (λ u. done path_ok))
 
 write_formed : (ws : Words) → Yields IsFormedCall (write_call ws)
 unfolding write_call
 write_formed ws =
-    chain _ _ (by_word _ path_formed ws) (λ path path_ok.
+    chain _ _ (by_word _ call_path_formed ws) (λ path path_ok.
     chain _ _ (by_word _ (text_formed text_limit) path.1) (λ text text_ok.
     skip _ _ (λ u. done (path_ok, text_ok))))
 
@@ -135,4 +141,4 @@ task_formed boots row =
     chain _ _ (by_word _ groups_formed ws) (λ groups groups_ok.
     skip _ _ (λ ws.
     chain _ _ (by_word _ (task_request_formed boots) ws) (λ label label_ok.
-    skip _ _ (λ u. done (record { name = name_ok; formed = record { cred = record { real = refl; saved = refl; some = groups_ok.0; few = groups_ok.1 }; label = label_ok; calls = All-nil _ } }))))))))))
+    skip _ _ (λ u. done (record { name = name_ok; formed = record { cred = record { real = refl; saved = refl; some = groups_ok.0; few = groups_ok.1 }; label = label_ok; lines = All-nil _ } }))))))))))

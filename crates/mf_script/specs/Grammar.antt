@@ -63,7 +63,7 @@ unfoldable pub line_at : List Line → Words → Result (Option Line) ScriptErro
 line_at lines row = or_else (behind (codes "end") row) (do
   u ← only_if (nat_lt (length lines) line_limit)
   call ← call_line row
-  Ok (Some (record { call = call }))) (λ ws. Ok None)
+  Ok (Some (record { child = None; call = call }))) (λ ws. Ok None)
 
 -- the end of a task
 abbrev pub end_in : Rows → Result Rows ScriptError

@@ -28,3 +28,7 @@ text_limit = 1048576
 -- the mode of a file, which is 7777 in octal
 abbrev pub mode_limit : ℕ
 mode_limit = 4095
+
+-- components of a path
+abbrev pub path_limit : ℕ
+path_limit = 8

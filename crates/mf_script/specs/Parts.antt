@@ -101,6 +101,17 @@ is_name w = is_some_text w && nat_le (length w) 32 && list_all is_name_byte w
 unfoldable pub name_of : List ℕ → Result (List ℕ) ScriptError
 name_of w = only_if (is_name w) >>= λ u. Ok w
 
+-- a task's name, or a task's and a child's
+abbrev pub are_process_names : List (List ℕ) → Bool
+are_process_names [] = false
+are_process_names (name ∷ []) = is_name name
+are_process_names (name ∷ child ∷ []) = is_name name && is_name child
+are_process_names (name ∷ child ∷ more ∷ rest) = false
+
+-- the full name of a process: that of a task, or a task's, a dot and a child's
+abbrev pub is_process_name : List ℕ → Bool
+is_process_name w = are_process_names (slice_split (λ b. b == dot) w)
+
 abbrev pub is_component_byte : ℕ → Bool
 is_component_byte b = is_name_byte b || b == dot
 

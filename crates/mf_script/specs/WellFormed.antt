@@ -1,17 +1,17 @@
 -- Which scripts are well formed, and what a script says of its files and tasks.
-use Rattle.std.specs.Prelude.{◌≡◌, ◌≢◌, ◌⊎◌, ℕ, ◌<◌, ◌≤◌, List, [], ◌∷◌, length, unwrap_or, option_map, slice_get, true, false, All, AllPairs}
+use Rattle.std.specs.Prelude.{◌≡◌, ◌≢◌, ◌⊎◌, ℕ, ◌<◌, ◌≤◌, List, [], ◌∷◌, length, Option, Some, None, unwrap_or, option_map, slice_get, true, false, All, AllPairs}
 use Rattle.mf_errno.specs.declared.module.Module.{Module}
 use Rattle.mf_errno.specs.declared.module.Module.TheVariants.{Biba, Mls}
 use Rattle.mf_cred.specs.declared.cred.Cred.{Cred}
 use Rattle.mf_script.specs.declared.script.Call.{Call}
-use Rattle.mf_script.specs.declared.script.Call.TheVariants.{Read, Write}
+use Rattle.mf_script.specs.declared.script.Call.TheVariants as call
 use Rattle.mf_script.specs.declared.script.FileLine.{FileLine}
 use Rattle.mf_script.specs.declared.script.Line.{Line}
 use Rattle.mf_script.specs.declared.script.Task.{Task}
 use Rattle.mf_script.specs.declared.script.Script.{Script}
-use Rattle.mf_script.specs.Parts.{is_name, is_component}
+use Rattle.mf_script.specs.Parts.{is_name, is_process_name, is_component}
 use Rattle.mf_script.specs.Labels.{IsFileRequest, IsTaskRequest}
-use Rattle.mf_script.specs.Limits.{file_limit, task_limit, group_limit, line_limit, content_limit, text_limit, mode_limit}
+use Rattle.mf_script.specs.Limits.{file_limit, task_limit, group_limit, line_limit, content_limit, text_limit, mode_limit, path_limit}
 
 -- the lines of a task, where there is one of that number
 abbrev pub lines_of : Script → ℕ → List Line
@@ -48,15 +48,67 @@ pub record IsFormedCred (cred : Cred) : Type 0 where
   pub some : 1 ≤ length cred.groups
   pub few : length cred.groups ≤ group_limit
 
+-- up to 8 components, each of which is a word of a path; the root directory has none
+pub record IsPath (path : List (List ℕ)) : Type 0 where
+  pub few : length path ≤ path_limit
+  pub each : All (λ name. is_component name ≡ true) path
+
+-- a name of a child, a pipe or a socket
+abbrev pub IsName : List ℕ → Type 0
+IsName name = is_name name ≡ true
+
+-- the full name of a process
+abbrev pub IsProcessName : List ℕ → Type 0
+IsProcessName name = is_process_name name ≡ true
+
+-- bytes that a call writes
+abbrev pub IsText : List ℕ → Type 0
+IsText text = length text ≤ text_limit
+
+-- what a call may name, and how much it may write
 abbrev pub IsFormedCall : Call → Type 0
-IsFormedCall (Read path) = IsPathInRoot path
-IsFormedCall (Write path text) = IsPathInRoot path × (length text ≤ text_limit)
+IsFormedCall (call.Fork child) = IsName child
+IsFormedCall call.Exit = Unit {0}
+IsFormedCall (call.See process) = IsProcessName process
+IsFormedCall (call.Signal process) = IsProcessName process
+IsFormedCall (call.Debug process) = IsProcessName process
+IsFormedCall (call.Sched process) = IsProcessName process
+IsFormedCall (call.Exec path) = IsPath path
+IsFormedCall (call.Create path) = IsPath path
+IsFormedCall (call.Mkdir path) = IsPath path
+IsFormedCall (call.Read path) = IsPath path
+IsFormedCall (call.Write path text) = IsPath path × IsText text
+IsFormedCall (call.Stat path) = IsPath path
+IsFormedCall (call.Readdir path) = IsPath path
+IsFormedCall (call.Chmod path mode) = IsPath path × (mode ≤ mode_limit)
+IsFormedCall (call.Unlink path) = IsPath path
+IsFormedCall (call.Pipe name) = IsName name
+IsFormedCall (call.Socket name) = IsName name
+IsFormedCall (call.Pread name) = IsName name
+IsFormedCall (call.Pwrite name text) = IsName name × IsText text
+IsFormedCall (call.Pstat name) = IsName name
+IsFormedCall (call.Send from to text) = IsName from × IsName to × IsText text
+IsFormedCall (call.Recv name) = IsName name
+IsFormedCall (call.Seesock name) = IsName name
+IsFormedCall call.Kldstat = Unit {0}
+IsFormedCall (call.Kldload «module») = Unit {0}
+IsFormedCall (call.Kldunload «module») = Unit {0}
+
+-- no child, or one of such a name
+abbrev pub IsFormedChild : Option (List ℕ) → Type 0
+IsFormedChild None = Unit {0}
+IsFormedChild (Some child) = IsName child
+
+-- a line that a task may have
+pub record IsFormedLine (line : Line) : Type 0 where
+  pub child : IsFormedChild line.child
+  pub call : IsFormedCall line.call
 
 -- what a task says beside its name and the number of its lines, with these modules booted
 pub record IsFormedTask (boots : List Module) (task : Task) : Type 0 where
   pub cred : IsFormedCred task.cred
   pub label : IsTaskRequest boots task.label
-  pub calls : All (λ line. IsFormedCall line.call) task.lines
+  pub lines : All IsFormedLine task.lines
 
 -- The script boots what the grammar lets it boot and is within the limits; paths of files differ, and so do names of tasks, which are
 -- words; each file and each task is one that a line may say.

@@ -16,6 +16,6 @@ mod words;
 pub use content::Content;
 pub use error::ScriptError;
 pub use labels::{file_label, task_label};
-pub use listing::{Bytes, Listing, Name, Path};
+pub use listing::{Bytes, Listing, Name, Path, Word};
 pub use reading::read_script;
 pub use script::{Call, FileLine, Line, Script, Task};

@@ -169,3 +169,33 @@ impl Bytes {
         self.items.as_slice()
     }
 }
+
+/// A word of a line, as it stands there. Contracts see its bytes.
+#[derive(Drop)]
+pub struct Word {
+    text: String,
+}
+
+impl Model for Word {
+    ghost use Rattle.std.specs.Prelude.{List, ℕ, string_bytes};
+
+    ghost Value = { List ℕ };
+
+    ghost view = { λ a. string_bytes a.text };
+}
+
+impl Word {
+    /// The word that the text is.
+    pub fn from_string(text: String) -> Self
+        ensures { result ≡ string_bytes text }
+    {
+        Word { text }
+    }
+
+    /// The text of the word.
+    pub fn as_str(&self) -> &str
+        ensures { result.now ≡ self.now }
+    {
+        self.text.as_str()
+    }
+}

@@ -170,7 +170,7 @@ fn line_at(alloc: Global, lines: &[Line], row: &mut Words) -> Result<Option<Line
         return Err(ScriptError::NotYet);
     }
     let call = lines::call_line(alloc, row)?;
-    Ok(Some(Line { call }))
+    Ok(Some(Line { child: None, call }))
 }
 
 /// The lines of a task that come next.

@@ -3,23 +3,72 @@ ghost use Rattle.std.specs.Prelude.{◌≡◌, ◌<◌, length};
 ghost use Rattle.std.specs.Option.{option_copied};
 
 use crate::content::Content;
-use crate::listing::{Bytes, Listing, Name, Path};
+use crate::listing::{Bytes, Listing, Name, Path, Word};
 use mf_cred::{Cred, FileView};
 use mf_elem::Request;
 use mf_errno::Module;
 
-/// A call of a task.
+/// A call of a process. Processes are named by their full names: a task, or a task, a dot and the name that `fork` gave.
 #[derive(Drop)]
 pub enum Call {
+    /// Makes a child process of this name under the task's.
+    Fork(Name),
+    /// Ends the process.
+    Exit,
+    /// Asks whether the process is visible, as p_cansee(9) does.
+    See(Name),
+    /// Asks whether the process may be signalled, as p_cansignal(9) does.
+    Signal(Name),
+    /// Asks whether the process may be debugged, as p_candebug(9) does.
+    Debug(Name),
+    /// Asks whether the scheduling of the process may be changed, as p_cansched(9) does.
+    Sched(Name),
+    /// Executes the file.
+    Exec(Path),
+    /// Makes an empty regular file.
+    Create(Path),
+    /// Makes an empty directory.
+    Mkdir(Path),
     /// Reads the file.
     Read(Path),
     /// Appends the bytes to the file.
     Write(Path, Bytes),
+    /// Reads the attributes of the file or directory.
+    Stat(Path),
+    /// Lists the directory.
+    Readdir(Path),
+    /// Gives the file or directory these mode bits.
+    Chmod(Path, u16),
+    /// Removes the file, or the directory without entries.
+    Unlink(Path),
+    /// Makes a pipe.
+    Pipe(Name),
+    /// Makes a socket.
+    Socket(Name),
+    /// Takes all bytes out of the pipe.
+    Pread(Name),
+    /// Puts the bytes into the pipe.
+    Pwrite(Name, Bytes),
+    /// Reads how many bytes the pipe holds.
+    Pstat(Name),
+    /// Sends the bytes as one message from the first socket to the second.
+    Send(Name, Name, Bytes),
+    /// Receives the oldest message of the socket.
+    Recv(Name),
+    /// Asks whether the socket is visible.
+    Seesock(Name),
+    /// Lists the loaded modules, as kldstat(8) does.
+    Kldstat,
+    /// Loads the module of that name, as kldload(8) does.
+    Kldload(Word),
+    /// Unloads the module of that name, as kldunload(8) does.
+    Kldunload(Word),
 }
 
-/// A line of a task.
+/// A line of a task: a call of the task's own process, or of the child of that name.
 #[derive(Drop)]
 pub struct Line {
+    pub child: Option<Name>,
     pub call: Call,
 }
 
