@@ -4,15 +4,17 @@ ghost use Rattle.std.specs.Prelude.{◌≡◌, ◌↔◌, IsTrue};
 use crate::{CheckOp, ObjectView, SubjectView};
 use mf_cred::Duplicate;
 use mf_elem::Request;
+use mf_errno::Priv;
 
-/// One question: whether the subject may do the operation on the object. A request is there exactly for relabels; an
-/// object for all operations but `CredRelabel`, `KldLoad`, `KldUnload` and `Priv`.
+/// One question: whether the subject may do the operation on the object. A request is there exactly for relabels, a
+/// privilege exactly for `Priv`; an object for all operations but `CredRelabel`, `KldLoad`, `KldUnload` and `Priv`.
 #[derive(Drop)]
 pub struct Item {
     pub op: CheckOp,
     pub subject: SubjectView,
     pub object: Option<ObjectView>,
     pub request: Option<Request>,
+    pub privilege: Option<Priv>,
 }
 
 impl Item {
@@ -24,6 +26,7 @@ impl Item {
             && self.subject.same(&other.subject)
             && same_object(&self.object, &other.object)
             && same_request(&self.request, &other.request)
+            && same_privilege(&self.privilege, &other.privilege)
     }
 }
 
@@ -47,6 +50,16 @@ fn same_request(request: &Option<Request>, other: &Option<Request>) -> bool
     }
 }
 
+fn same_privilege(privilege: &Option<Priv>, other: &Option<Priv>) -> bool
+    ensures { IsTrue result ↔ (privilege.now ≡ other.now) }
+{
+    match (privilege, other) {
+        (None, None) => true,
+        (Some(privilege), Some(theirs)) => privilege == theirs,
+        _ => false,
+    }
+}
+
 impl Default for Item {
     fn default() -> Item {
         Item {
@@ -54,6 +67,7 @@ impl Default for Item {
             subject: Default::default(),
             object: None,
             request: None,
+            privilege: None,
         }
     }
 }
@@ -65,6 +79,7 @@ impl Duplicate for Item {
             subject: self.subject.copy(),
             object: self.object,
             request: self.request,
+            privilege: self.privilege,
         }
     }
 }
@@ -80,6 +95,7 @@ mod tests {
             subject: Default::default(),
             object: None,
             request: Some(Request::none()),
+            privilege: None,
         };
         assert!(rt; item.copy().same(&item));
         assert!(rt; !item.same(&Item::default()));
