@@ -171,6 +171,7 @@ mod tests {
                 label: [other; 4],
             }),
             request: None,
+            privilege: None,
         }
     }
 

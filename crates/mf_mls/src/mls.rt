@@ -169,6 +169,7 @@ mod tests {
                 label: [other; 4],
             }),
             request: None,
+            privilege: None,
         }
     }
 

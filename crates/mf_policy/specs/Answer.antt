@@ -1,5 +1,5 @@
 -- What a policy answers to an item, by its meaning and the table of operations.
-use Rattle.std.specs.Prelude.{ℕ, Bool, true, false, cond, Option, Some, None, unwrap_or, slice_index_or}
+use Rattle.std.specs.Prelude.{ℕ, Bool, true, false, cond, ◌||◌, nat_eq, Option, Some, None, unwrap_or, slice_index_or}
 use Rattle.mf_errno.specs.declared.errno.Errno.{Errno}
 use Rattle.mf_errno.specs.declared.errno.Errno.TheVariants.{Success, Esrch, Eacces, Eperm}
 use Rattle.mf_errno.specs.declared.privilege.Priv.{Priv}
@@ -15,8 +15,9 @@ use Rattle.mf_item.specs.declared.item.Item.{Item}
 use Rattle.mf_item.specs.declared.view.ObjectView.{ObjectView}
 use Rattle.mf_policy.specs.declared.spec.Spec.{Spec}
 use Rattle.mf_policy.specs.declared.spec.Spec.TheVariants as means
-use Rattle.mf_policy.specs.Operations.{Test, test_of}
+use Rattle.mf_policy.specs.Operations.{Test, PartitionTest, test_of, partition_test_of}
 use Rattle.mf_policy.specs.Operations.Test.{Observe, Modify, ObserveAndModify, SameLevel, RelabelObject, RelabelCredential, GuardModules, Pass}
+use Rattle.mf_policy.specs.Operations.PartitionTest.{Agree, Join, Ignore}
 use Rattle.mf_policy.specs.Relabel.{credential_relabel, object_relabel}
 
 -- A policy whose labels have ranges: whether a subject of one element may observe and may modify an object of another, which part of a request
@@ -104,12 +105,46 @@ lattice_answer policy slot item =
     let object = label_of (object_slot item.object slot) in
     labels_answer policy (test_of item.op) subject (part_of policy item.request) subject.effective object.effective
 
+-- the number of the partition that a slot is read as; 0, which is no partition, where it holds none
+abbrev pub partition_of : LabelValue → ℕ
+partition_of Unset = 0
+partition_of (Range label) = 0
+partition_of (Number partition) = partition
+
+-- whether the partitions agree: a subject in no partition sees everything, and one in a partition what is in it
+abbrev pub agree : ℕ → ℕ → Bool
+agree subject object = nat_eq subject 0 || nat_eq subject object
+
+-- the partition that a request asks for; 0 where there is no request, or no part
+abbrev pub partition_asked : Option Request → ℕ
+partition_asked None = 0
+partition_asked (Some request) = unwrap_or request.partition 0
+
+-- only root takes on a partition; anybody may ask for none
+abbrev pub may_join : Cred → ℕ → Bool
+may_join cred partition = nat_eq partition 0 || nat_eq cred.uid 0
+
+-- the answer to a subject of one partition about an object of another, where the subject asks for this one
+abbrev pub partition_verdict : PartitionTest → Cred → ℕ → ℕ → ℕ → Errno
+partition_verdict (Agree errno) cred subject object asked = errno_unless (agree subject object) errno
+partition_verdict Join cred subject object asked = errno_unless (may_join cred asked) Eperm
+partition_verdict Ignore cred subject object asked = Success
+
+-- what the partition policy, which holds this slot, answers to an item
+abbrev pub partition_answer : ℕ → Item → Errno
+partition_answer slot item =
+    let subject = partition_of (slice_index_or item.subject.label slot Unset) in
+    let object = partition_of (object_slot item.object slot) in
+    partition_verdict (partition_test_of item.op) item.subject.cred subject object (partition_asked item.request)
+
 -- what a policy of this meaning, which holds this slot, answers to an item
 abbrev pub answer : Spec → ℕ → Item → Errno
 answer means.Biba slot item = lattice_answer biba slot item
 answer means.Mls slot item = lattice_answer mls slot item
+answer means.Partition slot item = partition_answer slot item
 
 -- whether a policy of this meaning grants the privilege to a process of that credential
 abbrev pub grants : Spec → Cred → Priv → Bool
 grants means.Biba cred privilege = false
 grants means.Mls cred privilege = false
+grants means.Partition cred privilege = false

@@ -3,6 +3,7 @@
 
 mod labels;
 mod load_flags;
+mod modules;
 mod policy;
 mod registration;
 mod relabel;
@@ -11,6 +12,7 @@ mod spec_list;
 
 pub use labels::{asked, errno_unless, object_label, slot_label};
 pub use load_flags::LoadFlags;
+pub use modules::labels_kind;
 pub use policy::Policy;
 pub use registration::Registration;
 pub use relabel::{credential_relabel, object_relabel};

@@ -11,6 +11,7 @@ use std::alloc::{AllocError, Global};
 pub enum Spec {
     Biba,
     Mls,
+    Partition,
 }
 
 /// A change of a setting.
@@ -36,6 +37,7 @@ impl Spec {
         match module {
             Module::Biba => Ok(Spec::Biba),
             Module::Mls => Ok(Spec::Mls),
+            Module::Partition => Ok(Spec::Partition),
             _ => unreachable!(),
         }
     }
@@ -47,6 +49,7 @@ impl Spec {
         match self {
             Spec::Biba => Ok(Spec::Biba),
             Spec::Mls => Ok(Spec::Mls),
+            Spec::Partition => Ok(Spec::Partition),
         }
     }
 
@@ -55,7 +58,9 @@ impl Spec {
         ensures { IsTrue result ↔ (self.now ≡ other.now) }
     {
         match (self, other) {
-            (Spec::Biba, Spec::Biba) | (Spec::Mls, Spec::Mls) => true,
+            (Spec::Biba, Spec::Biba)
+            | (Spec::Mls, Spec::Mls)
+            | (Spec::Partition, Spec::Partition) => true,
             _ => false,
         }
     }
