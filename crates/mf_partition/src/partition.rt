@@ -1,0 +1,209 @@
+//! Partitions: a subject in a partition sees what is in it, and a subject in none sees everything.
+ghost use Rattle.std.specs.Prelude.{◌≡◌, ◌<◌};
+ghost use Rattle.mf_policy.specs.Answer as spec;
+ghost use Rattle.mf_policy.specs.Operations.{partition_test_of};
+ghost use Rattle.mf_policy.specs.declared.spec.Spec.TheVariants as means;
+
+use mf_cred::Cred;
+use mf_elem::{LabelValue, Request};
+use mf_errno::{Errno, Module, Priv};
+use mf_item::{CheckOp, Item, ObjectView};
+use mf_policy::{Change, Changed, LoadFlags, Policy, Spec, errno_unless};
+use std::alloc::{AllocError, Global};
+
+/// The partition policy of mac_partition(4): processes and sockets have a partition's number, where 0 is no partition, and a
+/// process in a partition doesn't see what is outside it. It has no settings.
+#[derive(Debug, Drop)]
+pub struct Partition;
+
+impl Partition {
+    /// The policy as it is loaded.
+    pub fn new() -> Partition {
+        Partition
+    }
+}
+
+impl Policy for Partition {
+    ghost spec = { λ _. means.Partition };
+
+    fn module(&self) -> Module {
+        Module::Partition
+    }
+
+    fn flags(&self) -> LoadFlags {
+        LoadFlags::UNLOADOK
+    }
+
+    fn wants_slot(&self) -> bool {
+        true
+    }
+
+    fn same(&self, other: &Spec) -> bool {
+        matches!(other, Spec::Partition)
+    }
+
+    fn check(&self, slot: u8, item: &Item) -> Errno {
+        let subject = number(&item.subject.label[slot as usize]);
+        let object = object_number(&item.object, slot);
+        let wanted = asked(&item.request);
+        verdict(item.op, &item.subject.cred, subject, object, wanted)
+    }
+
+    fn grant(&self, _cred: &Cred, _privilege: Priv) -> bool {
+        false
+    }
+
+    fn change(&mut self, _alloc: Global, _change: &Change) -> Result<Changed, AllocError> {
+        Ok(Changed {
+            errno: Errno::Enoent,
+            number: None,
+        })
+    }
+
+    fn reset(&mut self) {}
+}
+
+fn verdict(op: CheckOp, cred: &Cred, subject: u32, object: u32, wanted: u32) -> Errno
+    ensures { result ≡ spec.partition_verdict (partition_test_of op) cred.now subject object wanted }
+{
+    match op {
+        CheckOp::SocketVisible => errno_unless(agree(subject, object), Errno::Enoent),
+        CheckOp::ProcVisible | CheckOp::ProcSignal | CheckOp::ProcDebug | CheckOp::ProcSched => {
+            errno_unless(agree(subject, object), Errno::Esrch)
+        }
+        CheckOp::CredRelabel => errno_unless(may_join(cred, wanted), Errno::Eperm),
+        _ => Errno::Success,
+    }
+}
+
+fn agree(subject: u32, object: u32) -> bool
+    ensures { result ≡ spec.agree subject object }
+{
+    subject == 0 || subject == object
+}
+
+fn may_join(cred: &Cred, partition: u32) -> bool
+    ensures { result ≡ spec.may_join cred.now partition }
+{
+    partition == 0 || cred.is_root()
+}
+
+fn number(value: &LabelValue) -> u32
+    ensures { result ≡ spec.partition_of value.now }
+{
+    match value {
+        LabelValue::Number(number) => *number,
+        LabelValue::Unset | LabelValue::Range(_) => 0,
+    }
+}
+
+fn object_number(object: &Option<ObjectView>, slot: u8) -> u32
+    requires { slot < 4 }
+    ensures { result ≡ spec.partition_of (spec.object_slot object.now slot) }
+{
+    match object {
+        Some(view) => number(&view.label[slot as usize]),
+        None => 0,
+    }
+}
+
+fn asked(request: &Option<Request>) -> u32
+    ensures { result ≡ spec.partition_asked request.now }
+{
+    match request {
+        Some(request) => request.partition.unwrap_or(0),
+        None => 0,
+    }
+}
+
+#[cfg(test)]
+mod tests {
+    use super::*;
+    use mf_cred::FileView;
+    use mf_item::{Kind, SubjectView};
+
+    fn item(op: CheckOp, subject: LabelValue, object: LabelValue) -> Item {
+        Item {
+            op,
+            subject: SubjectView {
+                id: 0,
+                cred: Cred::default(),
+                label: [
+                    LabelValue::Unset,
+                    subject,
+                    LabelValue::Unset,
+                    LabelValue::Unset,
+                ],
+            },
+            object: Some(ObjectView {
+                id: 1,
+                kind: Kind::Process,
+                file: FileView::default(),
+                label: [
+                    LabelValue::Unset,
+                    object,
+                    LabelValue::Unset,
+                    LabelValue::Unset,
+                ],
+            }),
+            request: None,
+            privilege: None,
+        }
+    }
+
+    #[test]
+    fn facts_of_the_module(rt: HostRuntime) -> Result<(), AllocError> {
+        let mut policy = Partition::new();
+        policy.reset();
+        assert_eq!(rt; policy.module(), Module::Partition);
+        assert!(rt; policy.flags().is_unloadok() && !policy.flags().is_notlate());
+        assert!(rt; policy.wants_slot() && policy.same(&Spec::Partition));
+        assert!(rt; !policy.grant(&Cred::default(), Priv::MacPartition));
+        let changed = policy.change(rt.alloc(), &Change::FirstMatch(true))?;
+        assert_eq!(rt; changed.errno, Errno::Enoent);
+        Ok(())
+    }
+
+    /// mac_partition(4): processes see those of their own partition; one in no partition sees all.
+    #[test]
+    fn partitions_agree(rt: HostRuntime) {
+        let policy = Partition::new();
+        let table = [
+            (LabelValue::Number(7), LabelValue::Number(7), Errno::Success),
+            (LabelValue::Number(7), LabelValue::Number(8), Errno::Esrch),
+            (LabelValue::Number(7), LabelValue::Number(0), Errno::Esrch),
+            (LabelValue::Number(7), LabelValue::Unset, Errno::Esrch),
+            (LabelValue::Number(0), LabelValue::Number(7), Errno::Success),
+            (LabelValue::Unset, LabelValue::Number(7), Errno::Success),
+        ];
+        for (subject, object, answer) in table {
+            let visible = item(CheckOp::ProcVisible, subject, object);
+            assert_eq!(rt; policy.check(1, &visible), answer);
+        }
+        let (seven, eight) = (LabelValue::Number(7), LabelValue::Number(8));
+        let socket = item(CheckOp::SocketVisible, seven, eight);
+        assert_eq!(rt; policy.check(1, &socket), Errno::Enoent);
+        let file = item(CheckOp::VnodeOpenRead, seven, eight);
+        assert_eq!(rt; policy.check(1, &file), Errno::Success);
+    }
+
+    #[test]
+    fn root_alone_joins_a_partition(rt: HostRuntime) {
+        let policy = Partition::new();
+        let table = [
+            (0, Some(7), Errno::Success),
+            (1001, Some(7), Errno::Eperm),
+            (1001, Some(0), Errno::Success),
+            (1001, None, Errno::Success),
+        ];
+        for (uid, partition, answer) in table {
+            let mut relabel = item(CheckOp::CredRelabel, LabelValue::Unset, LabelValue::Unset);
+            let mut request = Request::none();
+            request.partition = partition;
+            relabel.subject.cred.uid = uid;
+            relabel.object = None;
+            relabel.request = Some(request);
+            assert_eq!(rt; policy.check(1, &relabel), answer);
+        }
+    }
+}
