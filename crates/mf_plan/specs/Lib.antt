@@ -1,0 +1,5 @@
+pub mod Views
+pub mod Path
+pub mod Names
+pub mod Loading
+pub mod Plan

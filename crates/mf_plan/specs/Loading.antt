@@ -1,0 +1,52 @@
+-- Which modules can be loaded and unloaded, as the list of policies and the slot numbers stand.
+use Rattle.std.specs.Prelude.{ℕ, Bool, true, false, ◌&&◌, nat_eq, nat_le, if◌then◌else◌, List, Option, Some, None, find, option_and_then}
+use Rattle.std.specs.List.{list_any}
+use Rattle.mf_errno.specs.declared.errno.Errno.{Errno}
+use Rattle.mf_errno.specs.declared.errno.Errno.TheVariants.{Enoent, Enomem, Ebusy, Eexist}
+use Rattle.mf_errno.specs.declared.module.Module.{Module}
+use Rattle.mf_errno.specs.declared.module.Module.TheVariants.{Biba, Mls, Partition, Bsdextended, Priority}
+use Rattle.mf_policy.specs.LoadFlags.{is_notlate, is_unloadok}
+use Rattle.mf_policy.specs.Modules.{flags_of, has_spec, wants_slot}
+use Rattle.mf_policy.specs.Registration.{Entry}
+use Rattle.mf_plan.specs.declared.state.State.{State}
+use Rattle.mf_plan.specs.Names.{module_named}
+
+-- a number for each module, which tells it from the others
+abbrev pub number_of : Module → ℕ
+number_of Biba = 0
+number_of Mls = 1
+number_of Partition = 2
+number_of Bsdextended = 3
+number_of Priority = 4
+
+abbrev pub is_of : Module → Entry → Bool
+is_of m entry = nat_eq (number_of m) (number_of entry.0.module)
+
+-- the module is listed
+abbrev pub is_listed : Module → List Entry → Bool
+is_listed m specs = list_any (is_of m) specs
+
+-- the module, where there is one to load by now
+abbrev pub if_there : Module → Option Module
+if_there m = if has_spec m then Some m else None
+
+-- the module of that name that can be asked for
+abbrev pub loadable : List ℕ → Option Module
+loadable name = option_and_then if_there (module_named name)
+
+-- why the module isn't loaded, by the first test that fits: boot has ended and it must be loaded before; it is loaded; it wants a
+-- label slot and all four were given
+abbrev pub load_fault : State → Module → Option Errno
+load_fault s m =
+    if s.booted && is_notlate (flags_of m) then Some Ebusy
+    else if is_listed m s.specs then Some Eexist
+    else if wants_slot m && nat_le 4 s.numbers then Some Enomem
+    else None
+
+-- why the module isn't unloaded: it isn't loaded; it can't be unloaded
+abbrev pub unload_fault_of : State → Option Module → Option Errno
+unload_fault_of s None = Some Enoent
+unload_fault_of s (Some m) = if is_listed m s.specs then (if is_unloadok (flags_of m) then None else Some Ebusy) else Some Enoent
+
+abbrev pub unload_fault : State → List ℕ → Option Errno
+unload_fault s name = unload_fault_of s (module_named name)

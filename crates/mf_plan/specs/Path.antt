@@ -1,0 +1,45 @@
+-- Where a path leads, and the directories in which its components are looked up.
+use Rattle.std.specs.Prelude.{ℕ, List, [], ◌∷◌, Option, Some, None, find, if◌then◌else◌}
+use Rattle.mf_errno.specs.declared.errno.Errno.{Errno}
+use Rattle.mf_errno.specs.declared.errno.Errno.TheVariants.{Enoent, Enotdir}
+use Rattle.mf_objects.specs.declared.id.Id.{Id}
+use Rattle.mf_objects.specs.Live.{Entities, id_of, is_child}
+use Rattle.mf_plan.specs.declared.target.Target.{Target}
+use Rattle.mf_plan.specs.declared.target.Target.TheVariants.{Root, Name, Nowhere}
+use Rattle.mf_plan.specs.Views.{is_dir}
+
+-- the directories that are looked into, in order, and where this leads
+pub record Walk : Type 0 where
+  pub lookups : List Id
+  pub target : Target
+
+abbrev pub root : Id
+root = record { 0 = 0 }
+
+-- the entry of that name in a directory
+abbrev pub entry_of : Entities → Id → List ℕ → Option Id
+entry_of objects dir name = id_of (find (is_child dir name) objects.live)
+
+-- the path leads nowhere
+abbrev pub nowhere : Errno → Walk
+nowhere errno = record { lookups = []; target = Nowhere errno }
+
+-- the directory is looked into first
+abbrev pub looking_into : Id → Walk → Walk
+looking_into dir rest = record rest { lookups = dir ∷ rest.lookups }
+
+-- goes on from an entry, which must be a directory
+abbrev pub going_on : Entities → (Id → Walk) → Option Id → Walk
+going_on objects rest None = nowhere Enoent
+going_on objects rest (Some id) = if is_dir objects id then rest id else nowhere Enotdir
+
+-- the walk along some components from a directory
+abbrev pub walk_from : Entities → List (List ℕ) → Id → Walk
+walk_from objects [] dir = record { lookups = []; target = Root }
+walk_from objects (name ∷ []) dir = record { lookups = dir ∷ []; target = Name dir (entry_of objects dir name) }
+walk_from objects (name ∷ below ∷ rest) dir =
+    looking_into dir (going_on objects (walk_from objects (below ∷ rest)) (entry_of objects dir name))
+
+-- the walk along a path, from the root directory
+abbrev pub walk_along : Entities → List (List ℕ) → Walk
+walk_along objects path = walk_from objects path root

@@ -1,0 +1,178 @@
+-- The plan of each call: its checks in the order in which they are asked, and its end.
+--
+-- A row is read from the left: `ask` is a check, `refuse_if` a test of the framework that ends the plan with an errno, and
+-- `proceed` the end of a call that may be done.
+use Rattle.std.specs.Prelude.{ℕ, Bool, true, false, not, List, [], ◌∷◌, ◌++◌, map, Option, Some, None, is_some}
+use Rattle.mf_errno.specs.declared.errno.Errno.{Errno}
+use Rattle.mf_errno.specs.declared.errno.Errno.TheVariants as errno
+use Rattle.mf_errno.specs.declared.module.Module.{Module}
+use Rattle.mf_errno.specs.declared.privilege.Priv.{Priv}
+use Rattle.mf_errno.specs.declared.privilege.Priv.TheVariants as privilege
+use Rattle.mf_item.specs.declared.operation.CheckOp.{CheckOp}
+use Rattle.mf_item.specs.declared.operation.CheckOp.TheVariants as op
+use Rattle.mf_item.specs.declared.view.SubjectView.{SubjectView}
+use Rattle.mf_item.specs.declared.item.Item.{Item}
+use Rattle.mf_objects.specs.declared.id.Id.{Id}
+use Rattle.mf_objects.specs.Live.{Entities}
+use Rattle.mf_script.specs.declared.script.Call.{Call}
+use Rattle.mf_script.specs.declared.script.Call.TheVariants as call
+use Rattle.mf_plan.specs.declared.plan.Plan.{Plan}
+use Rattle.mf_plan.specs.declared.plan.Tail.TheVariants.{Do, Refuse}
+use Rattle.mf_plan.specs.declared.state.State.{State}
+use Rattle.mf_plan.specs.declared.target.Target.{Target}
+use Rattle.mf_plan.specs.declared.target.Target.TheVariants.{Root, Name, Nowhere}
+use Rattle.mf_plan.specs.Loading.{loadable, load_fault, unload_fault}
+use Rattle.mf_plan.specs.Names.{caller_name, child_name}
+use Rattle.mf_plan.specs.Path.{Walk, root, walk_along}
+use Rattle.mf_plan.specs.Views.{subject_of, object_of, sender_of, process_named, pipe_named, socket_named, is_full, is_dir, has_entries, overfills_file, overfills_pipe, is_empty_pipe, is_full_socket, is_empty_socket}
+
+-- Parts of a row
+
+abbrev pub proceed : Plan
+proceed = record { items = []; tail = Do }
+
+abbrev pub refuse : Errno → Plan
+refuse e = record { items = []; tail = Refuse e }
+
+abbrev pub refuse_if : Bool → Errno → Plan → Plan
+refuse_if true e rest = refuse e
+refuse_if false e rest = rest
+
+abbrev pub refuse_by : Option Errno → Plan → Plan
+refuse_by None rest = rest
+refuse_by (Some e) rest = refuse e
+
+abbrev pub ask : Item → Plan → Plan
+ask item rest = record rest { items = item ∷ rest.items }
+
+-- a check of what a subject does to a live entity
+abbrev pub on : Entities → SubjectView → CheckOp → Id → Item
+on objects subject op id = record { op = op; subject = subject; object = Some (object_of objects id); request = None; privilege = None }
+
+-- a check of a privilege, and one of a subject that loads or unloads a module
+
+abbrev pub privileged : SubjectView → Priv → Item
+privileged subject p = record { op = op.Priv; subject = subject; object = None; request = None; privilege = Some p }
+
+abbrev pub about_modules : SubjectView → CheckOp → Item
+about_modules subject op = record { op = op; subject = subject; object = None; request = None; privilege = None }
+
+-- goes on with what is found, or else refuses
+abbrev pub found : Errno → (Id → Plan) → Option Id → Plan
+found e row None = refuse e
+found e row (Some id) = row id
+
+-- Paths: first the look-ups, then the rest of the row, by where the path leads
+
+abbrev pub after_lookups : Entities → SubjectView → List Id → Plan → Plan
+after_lookups objects subject dirs rest = record rest { items = map (on objects subject op.VnodeLookup) dirs ++ rest.items }
+
+abbrev pub along : Entities → SubjectView → (Target → Plan) → Walk → Plan
+along objects subject row walk = after_lookups objects subject walk.lookups (row walk.target)
+
+-- the file or directory must be there
+abbrev pub at_found : (Id → Plan) → Target → Plan
+at_found row Root = row root
+at_found row (Name dir entry) = found errno.Enoent row entry
+at_found row (Nowhere e) = refuse e
+
+-- the name must be free in its directory
+abbrev pub at_free : (Id → Plan) → Target → Plan
+at_free row Root = refuse errno.Einval
+at_free row (Name dir None) = row dir
+at_free row (Name dir (Some id)) = refuse errno.Eexist
+at_free row (Nowhere e) = refuse e
+
+-- there must be an entry of its directory
+abbrev pub at_entry : (Id → Id → Plan) → Target → Plan
+at_entry row Root = refuse errno.Einval
+at_entry row (Name dir entry) = found errno.Enoent (row dir) entry
+at_entry row (Nowhere e) = refuse e
+
+-- Rows
+
+-- one check, and nothing else to test
+abbrev pub check_row : Entities → SubjectView → CheckOp → Id → Plan
+check_row o me op id = ask (on o me op id) proceed
+
+abbrev pub exec_row : Entities → SubjectView → Id → Plan
+exec_row o me id = refuse_if (is_dir o id) errno.Eacces (ask (on o me op.VnodeExec id) proceed)
+
+abbrev pub create_row : Entities → SubjectView → Id → Plan
+create_row o me dir = ask (on o me op.VnodeCreate dir) (refuse_if (is_full o) errno.Enfile proceed)
+
+abbrev pub read_row : Entities → SubjectView → Id → Plan
+read_row o me id = refuse_if (is_dir o id) errno.Eisdir (ask (on o me op.VnodeOpenRead id) (ask (on o me op.VnodeRead id) proceed))
+
+abbrev pub write_row : Entities → SubjectView → List ℕ → Id → Plan
+write_row o me text id =
+    refuse_if (is_dir o id) errno.Eisdir
+    (ask (on o me op.VnodeOpenWrite id) (ask (on o me op.VnodeWrite id) (refuse_if (overfills_file o text id) errno.Efbig proceed)))
+
+abbrev pub readdir_row : Entities → SubjectView → Id → Plan
+readdir_row o me id = refuse_if (not (is_dir o id)) errno.Enotdir (ask (on o me op.VnodeReaddir id) proceed)
+
+abbrev pub unlink_row : Entities → SubjectView → Id → Id → Plan
+unlink_row o me dir id =
+    ask (on o me op.VnodeUnlinkDir dir) (ask (on o me op.VnodeUnlink id) (refuse_if (has_entries o id) errno.Enotempty proceed))
+
+abbrev pub make_row : Entities → Option Id → Plan
+make_row o holder = refuse_if (is_some holder) errno.Eexist (refuse_if (is_full o) errno.Enfile proceed)
+
+abbrev pub pread_row : Entities → SubjectView → Id → Plan
+pread_row o me id = ask (on o me op.PipeRead id) (refuse_if (is_empty_pipe o id) errno.Eagain proceed)
+
+abbrev pub pwrite_row : Entities → SubjectView → List ℕ → Id → Plan
+pwrite_row o me text id = ask (on o me op.PipeWrite id) (refuse_if (overfills_pipe o text id) errno.Eagain proceed)
+
+abbrev pub deliver_row : Entities → SubjectView → Id → Id → Plan
+deliver_row o me from to = ask (on o (sender_of o me from) op.SocketDeliver to) (refuse_if (is_full_socket o to) errno.Enobufs proceed)
+
+abbrev pub send_row : Entities → SubjectView → List ℕ → Id → Plan
+send_row o me to from = ask (on o me op.SocketSend from) (found errno.Enoent (deliver_row o me from) (socket_named o to))
+
+abbrev pub recv_row : Entities → SubjectView → Id → Plan
+recv_row o me id = ask (on o me op.SocketReceive id) (refuse_if (is_empty_socket o id) errno.Eagain proceed)
+
+abbrev pub load_row : State → SubjectView → Option Module → Plan
+load_row s me None = refuse errno.Enoent
+load_row s me (Some m) = ask (about_modules me op.KldLoad) (refuse_by (load_fault s m) proceed)
+
+-- The table: the plan of a call of a live process of the task.
+abbrev pub plan_for : State → List ℕ → SubjectView → Call → Plan
+plan_for s task me (call.Fork child) = make_row s.objects (process_named s.objects (child_name task child))
+plan_for s task me call.Exit = proceed
+plan_for s task me (call.See name) = found errno.Esrch (check_row s.objects me op.ProcVisible) (process_named s.objects name)
+plan_for s task me (call.Signal name) = found errno.Esrch (check_row s.objects me op.ProcSignal) (process_named s.objects name)
+plan_for s task me (call.Debug name) = found errno.Esrch (check_row s.objects me op.ProcDebug) (process_named s.objects name)
+plan_for s task me (call.Sched name) = found errno.Esrch (check_row s.objects me op.ProcSched) (process_named s.objects name)
+plan_for s task me (call.Exec path) = along s.objects me (at_found (exec_row s.objects me)) (walk_along s.objects path)
+plan_for s task me (call.Create path) = along s.objects me (at_free (create_row s.objects me)) (walk_along s.objects path)
+plan_for s task me (call.Mkdir path) = along s.objects me (at_free (create_row s.objects me)) (walk_along s.objects path)
+plan_for s task me (call.Read path) = along s.objects me (at_found (read_row s.objects me)) (walk_along s.objects path)
+plan_for s task me (call.Write path text) = along s.objects me (at_found (write_row s.objects me text)) (walk_along s.objects path)
+plan_for s task me (call.Stat path) = along s.objects me (at_found (check_row s.objects me op.VnodeStat)) (walk_along s.objects path)
+plan_for s task me (call.Readdir path) = along s.objects me (at_found (readdir_row s.objects me)) (walk_along s.objects path)
+plan_for s task me (call.Chmod path mode) = along s.objects me (at_found (check_row s.objects me op.VnodeSetmode)) (walk_along s.objects path)
+plan_for s task me (call.Unlink path) = along s.objects me (at_entry (unlink_row s.objects me)) (walk_along s.objects path)
+plan_for s task me (call.Pipe name) = make_row s.objects (pipe_named s.objects name)
+plan_for s task me (call.Socket name) = make_row s.objects (socket_named s.objects name)
+plan_for s task me (call.Pread name) = found errno.Enoent (pread_row s.objects me) (pipe_named s.objects name)
+plan_for s task me (call.Pwrite name text) = found errno.Enoent (pwrite_row s.objects me text) (pipe_named s.objects name)
+plan_for s task me (call.Pstat name) = found errno.Enoent (check_row s.objects me op.PipeStat) (pipe_named s.objects name)
+plan_for s task me (call.Send from to text) = found errno.Enoent (send_row s.objects me to) (socket_named s.objects from)
+plan_for s task me (call.Recv name) = found errno.Enoent (recv_row s.objects me) (socket_named s.objects name)
+plan_for s task me (call.Seesock name) = found errno.Enoent (check_row s.objects me op.SocketVisible) (socket_named s.objects name)
+plan_for s task me call.Kldstat = proceed
+plan_for s task me (call.Kldload name) = ask (privileged me privilege.KldLoad) (load_row s me (loadable name))
+plan_for s task me (call.Kldunload name) =
+    ask (privileged me privilege.KldUnload) (ask (about_modules me op.KldUnload) (refuse_by (unload_fault s name) proceed))
+
+-- a caller that doesn't live makes no call
+abbrev pub plan_by : State → List ℕ → Call → Option Id → Plan
+plan_by s task call None = refuse errno.Esrch
+plan_by s task call (Some caller) = plan_for s task (subject_of s.objects caller) call
+
+-- the plan of a call of the task's own process, or of its child of that name
+abbrev pub plan_of : State → List ℕ → Option (List ℕ) → Call → Plan
+plan_of s task child call = plan_by s task call (process_named s.objects (caller_name task child))

@@ -1,0 +1,62 @@
+-- Live entities as policies see them, and what the framework tests of them.
+use Rattle.std.specs.Prelude.{ℕ, ◌+◌, Bool, nat_eq, nat_le, nat_lt, List, length, Option, Some}
+use Rattle.mf_item.specs.declared.view.SubjectView.{SubjectView}
+use Rattle.mf_item.specs.declared.view.ObjectView.{ObjectView}
+use Rattle.mf_objects.specs.declared.id.Id.{Id}
+use Rattle.mf_objects.specs.Live.{Entities, id_of, live_named, is_process, is_pipe, is_socket, kind_at, file_at, cred_at, label_at, content_at, count_at}
+
+-- the entity of an id as a subject, and as an object
+
+abbrev pub subject_of : Entities → Id → SubjectView
+subject_of objects id = record { id = id.0; cred = cred_at objects id; label = label_at objects id }
+
+abbrev pub object_of : Entities → Id → ObjectView
+object_of objects id = record { id = id.0; kind = kind_at objects id; file = file_at objects id; label = label_at objects id }
+
+-- a socket that sends: its id and label, with the credential of the process that calls
+abbrev pub sender_of : Entities → SubjectView → Id → SubjectView
+sender_of objects caller socket = record { id = socket.0; cred = caller.cred; label = label_at objects socket }
+
+-- the live process, pipe or socket of a name
+
+abbrev pub process_named : Entities → List ℕ → Option Id
+process_named objects name = id_of (live_named is_process objects name)
+
+abbrev pub pipe_named : Entities → List ℕ → Option Id
+pipe_named objects name = id_of (live_named is_pipe objects name)
+
+abbrev pub socket_named : Entities → List ℕ → Option Id
+socket_named objects name = id_of (live_named is_socket objects name)
+
+-- What the framework tests
+
+-- 1,024 entities live
+abbrev pub is_full : Entities → Bool
+is_full objects = nat_le 1024 (length objects.live)
+
+abbrev pub is_dir : Entities → Id → Bool
+is_dir objects id = (file_at objects id).dir
+
+-- a directory with entries
+abbrev pub has_entries : Entities → Id → Bool
+has_entries objects id = nat_lt 0 (count_at objects id)
+
+-- the file would hold more than 65,536 bytes
+abbrev pub overfills_file : Entities → List ℕ → Id → Bool
+overfills_file objects text id = nat_lt 65536 (length (content_at objects id) + length text)
+
+-- the pipe would hold more than 16,384 bytes
+abbrev pub overfills_pipe : Entities → List ℕ → Id → Bool
+overfills_pipe objects text id = nat_lt 16384 (length (content_at objects id) + length text)
+
+-- a pipe without bytes
+abbrev pub is_empty_pipe : Entities → Id → Bool
+is_empty_pipe objects id = nat_eq (length (content_at objects id)) 0
+
+-- a socket with 16 messages
+abbrev pub is_full_socket : Entities → Id → Bool
+is_full_socket objects id = nat_le 16 (count_at objects id)
+
+-- a socket without a message
+abbrev pub is_empty_socket : Entities → Id → Bool
+is_empty_socket objects id = nat_eq (count_at objects id) 0

@@ -1,0 +1,53 @@
+//! Plans: the checks that a call asks the policies for, in order, and how it ends where none is denied.
+ghost use Rattle.std.specs.Prelude.{◌≡◌, ◌↔◌, take, IsTrue};
+
+use mf_cred::ArrayVec;
+use mf_errno::Errno;
+use mf_item::Item;
+
+/// How a call ends where no check is denied: it is done, or the framework refuses it.
+#[derive(Clone, Copy, Debug, PartialEq, Eq)]
+pub enum Tail {
+    Do,
+    Refuse(Errno),
+}
+
+/// The checks of a call, in the order in which they are asked, and its end.
+#[derive(Drop)]
+pub struct Plan {
+    pub items: ArrayVec<Item, 12>,
+    pub tail: Tail,
+}
+
+impl Plan {
+    /// Whether the two are one plan.
+    pub fn same(&self, other: &Plan) -> bool
+        ensures { IsTrue result ↔ (self.now ≡ other.now) }
+    {
+        same_items(self.items.as_slice(), other.items.as_slice()) && self.tail == other.tail
+    }
+
+    /// An equal plan.
+    pub fn copy(&self) -> Plan
+        ensures { result ≡ self.now }
+    {
+        Plan {
+            items: self.items.copy(),
+            tail: self.tail,
+        }
+    }
+}
+
+fn same_items(items: &[Item], others: &[Item]) -> bool
+    ensures { IsTrue result ↔ (items.now ≡ others.now) }
+{
+    if items.len() != others.len() {
+        return false;
+    }
+    for (i, item) in items.iter().enumerate() {
+        if !item.same(&others[i]) {
+            return false;
+        }
+    }
+    true
+}
