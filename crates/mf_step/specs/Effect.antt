@@ -1,0 +1,110 @@
+-- What a call changes where it is done.
+use Rattle.std.specs.Prelude.{ℕ, ◌+◌, Bool, true, false, cond, List, [], ◌∷◌, drop, Option, Some, None}
+use Rattle.mf_errno.specs.declared.module.Module.{Module}
+use Rattle.mf_cred.specs.declared.cred.FileView.{FileView}
+use Rattle.mf_item.specs.declared.view.Kind.{Kind}
+use Rattle.mf_item.specs.declared.view.Kind.TheVariants as kinds
+use Rattle.mf_policy.specs.Modules.{fresh_of, wants_slot}
+use Rattle.mf_list.specs.Registration.{registration_of, with_newest, entries_without}
+use Rattle.mf_objects.specs.declared.id.Id.{Id}
+use Rattle.mf_objects.specs.declared.entity.What.{What}
+use Rattle.mf_objects.specs.declared.entity.What.TheVariants.{Process}
+use Rattle.mf_objects.specs.Live.{Entities, has_id, cred_at, file_at, label_at}
+use Rattle.mf_objects.specs.Changes.{with_entity, without, goes_with, with_change, with_what, appended, with_message, with_messages, cleared, with_mode, new_vnode, new_pipe, new_socket}
+use Rattle.mf_script.specs.declared.script.Call.{Call}
+use Rattle.mf_script.specs.declared.script.Call.TheVariants as call
+use Rattle.mf_plan.specs.declared.state.State.{State}
+use Rattle.mf_plan.specs.declared.target.Target.{Target}
+use Rattle.mf_plan.specs.declared.target.Target.TheVariants.{Root, Name, Nowhere}
+use Rattle.mf_plan.specs.Loading.{loadable}
+use Rattle.mf_plan.specs.Names.{child_name, module_named}
+use Rattle.mf_plan.specs.Path.{walk_along}
+use Rattle.mf_plan.specs.Views.{pipe_named, socket_named}
+use Rattle.mf_step.specs.Labels.{created_label}
+use Rattle.mf_step.specs.Reply.{file_at_path}
+
+-- the state with these live entities
+abbrev pub with_objects : State → Entities → State
+with_objects s objects = record s { objects = objects }
+
+-- one entity more, with the label that its maker's gives it
+abbrev pub with_created : State → Id → Kind → List ℕ → What → State
+with_created s maker kind name what =
+    with_objects s (with_entity s.objects name (created_label s.specs kind (label_at s.objects maker)) what)
+
+-- one live entity is changed, where it is found
+abbrev pub with_changed : State → (What → What) → Option Id → State
+with_changed s change None = s
+with_changed s change (Some id) = with_objects s (with_change (with_what change) s.objects id)
+
+-- Files
+
+-- the last component of a path
+abbrev pub last_of : List (List ℕ) → List ℕ
+last_of [] = []
+last_of (name ∷ []) = name
+last_of (name ∷ below ∷ rest) = last_of (below ∷ rest)
+
+-- A new file is owned by the effective uid of its maker, and is of the group of its directory.
+abbrev pub new_file : Entities → Id → Id → ℕ → Bool → FileView
+new_file objects maker dir mode is_dir =
+    record { uid = (cred_at objects maker).uid; gid = (file_at objects dir).gid; mode = mode; dir = is_dir }
+
+abbrev pub with_file : State → Id → ℕ → Bool → List ℕ → Target → State
+with_file s maker mode is_dir name (Name dir None) =
+    with_created s maker kinds.Vnode name (new_vnode dir (new_file s.objects maker dir mode is_dir) [])
+with_file s maker mode is_dir name (Name dir (Some id)) = s
+with_file s maker mode is_dir name Root = s
+with_file s maker mode is_dir name (Nowhere errno) = s
+
+abbrev pub without_entry : State → Target → State
+without_entry s (Name dir (Some id)) = with_objects s (without (has_id id) s.objects)
+without_entry s (Name dir None) = s
+without_entry s Root = s
+without_entry s (Nowhere errno) = s
+
+-- Modules
+
+-- A module is registered, as it is loaded, and takes the next slot number where it wants one.
+abbrev pub with_loaded : State → Option Module → State
+with_loaded s None = s
+with_loaded s (Some m) =
+    record s {
+      specs = with_newest (registration_of m s.booted s.numbers, fresh_of m) s.specs;
+      numbers = cond (wants_slot m) (s.numbers + 1) s.numbers;
+    }
+
+-- a module leaves the list: no label changes, and its slot number is not given again
+abbrev pub with_unloaded : State → Option Module → State
+with_unloaded s None = s
+with_unloaded s (Some m) = record s { specs = entries_without m s.specs }
+
+-- The table: the state after the call of this process of the task, where it is done. Modes are 644 for a file, and 755 for a
+-- directory.
+abbrev pub effect_of : State → List ℕ → Id → Call → State
+effect_of s task caller (call.Fork child) = with_created s caller kinds.Process (child_name task child) (Process (cred_at s.objects caller))
+effect_of s task caller call.Exit = with_objects s (without (goes_with caller) s.objects)
+effect_of s task caller (call.See name) = s
+effect_of s task caller (call.Signal name) = s
+effect_of s task caller (call.Debug name) = s
+effect_of s task caller (call.Sched name) = s
+effect_of s task caller (call.Exec path) = s
+effect_of s task caller (call.Create path) = with_file s caller 420 false (last_of path) (walk_along s.objects path).target
+effect_of s task caller (call.Mkdir path) = with_file s caller 493 true (last_of path) (walk_along s.objects path).target
+effect_of s task caller (call.Read path) = s
+effect_of s task caller (call.Write path text) = with_changed s (appended text) (file_at_path s.objects path)
+effect_of s task caller (call.Stat path) = s
+effect_of s task caller (call.Readdir path) = s
+effect_of s task caller (call.Chmod path mode) = with_changed s (with_mode mode) (file_at_path s.objects path)
+effect_of s task caller (call.Unlink path) = without_entry s (walk_along s.objects path).target
+effect_of s task caller (call.Pipe name) = with_created s caller kinds.Pipe name (new_pipe caller)
+effect_of s task caller (call.Socket name) = with_created s caller kinds.Socket name (new_socket caller)
+effect_of s task caller (call.Pread name) = with_changed s cleared (pipe_named s.objects name)
+effect_of s task caller (call.Pwrite name text) = with_changed s (appended text) (pipe_named s.objects name)
+effect_of s task caller (call.Pstat name) = s
+effect_of s task caller (call.Send from to text) = with_changed s (with_messages (with_message text)) (socket_named s.objects to)
+effect_of s task caller (call.Recv name) = with_changed s (with_messages (drop 1)) (socket_named s.objects name)
+effect_of s task caller (call.Seesock name) = s
+effect_of s task caller call.Kldstat = s
+effect_of s task caller (call.Kldload name) = with_loaded s (loadable name)
+effect_of s task caller (call.Kldunload name) = with_unloaded s (module_named name)

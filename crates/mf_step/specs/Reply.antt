@@ -1,0 +1,118 @@
+-- The reply to a call.
+use Rattle.std.specs.Prelude.{ℕ, ◌-◌, List, [], length, map, Option, Some, None, unwrap_or, option_map, slice_get, slice_index_or}
+use Rattle.mf_errno.specs.declared.module.Module.{Module}
+use Rattle.mf_item.specs.declared.operation.CheckOp.{CheckOp}
+use Rattle.mf_item.specs.declared.operation.CheckOp.TheVariants.{VnodeLookup}
+use Rattle.mf_item.specs.declared.item.Item.{Item}
+use Rattle.mf_policy.specs.Modules.{wants_slot}
+use Rattle.mf_policy.specs.Registration.{Entry}
+use Rattle.mf_list.specs.Registration.{slot_for}
+use Rattle.mf_objects.specs.declared.id.Id.{Id}
+use Rattle.mf_objects.specs.Head.{head_of}
+use Rattle.mf_objects.specs.Live.{Entities, file_at, content_at, count_at, messages_at}
+use Rattle.mf_objects.specs.Titles.{names_at}
+use Rattle.mf_script.specs.declared.script.Call.{Call}
+use Rattle.mf_script.specs.declared.script.Call.TheVariants as call
+use Rattle.mf_plan.specs.declared.plan.Plan.{Plan}
+use Rattle.mf_plan.specs.declared.plan.Tail.{Tail}
+use Rattle.mf_plan.specs.declared.plan.Tail.TheVariants.{Do, Refuse}
+use Rattle.mf_plan.specs.declared.reply.Loaded.{Loaded}
+use Rattle.mf_plan.specs.declared.reply.Payload.{Payload}
+use Rattle.mf_plan.specs.declared.reply.Payload.TheVariants as payload
+use Rattle.mf_plan.specs.declared.reply.Reply.{Reply}
+use Rattle.mf_plan.specs.declared.reply.Reply.TheVariants as reply
+use Rattle.mf_plan.specs.declared.state.State.{State}
+use Rattle.mf_plan.specs.declared.target.Target.{Target}
+use Rattle.mf_plan.specs.declared.target.Target.TheVariants.{Root, Name, Nowhere}
+use Rattle.mf_plan.specs.Loading.{loadable}
+use Rattle.mf_plan.specs.Path.{root, walk_along}
+use Rattle.mf_plan.specs.Views.{pipe_named, socket_named}
+use Rattle.mf_step.specs.declared.verdict.Denial.{Denial}
+use Rattle.mf_step.specs.declared.verdict.Verdict.{Verdict}
+
+-- Payloads
+
+-- what is there, if something is
+abbrev pub found_at : Target → Option Id
+found_at Root = Some root
+found_at (Name dir entry) = entry
+found_at (Nowhere errno) = None
+
+abbrev pub file_at_path : Entities → List (List ℕ) → Option Id
+file_at_path objects path = found_at (walk_along objects path).target
+
+-- a payload of what is found
+abbrev pub of_found : (Id → Payload) → Option Id → Payload
+of_found read None = payload.None
+of_found read (Some id) = read id
+
+abbrev pub head : Entities → Id → Payload
+head objects id = payload.Head (head_of (content_at objects id))
+
+abbrev pub stat : Entities → Id → Payload
+stat objects id = payload.Stat (file_at objects id) (length (content_at objects id))
+
+abbrev pub names : Entities → Id → Payload
+names objects id = payload.Names (count_at objects id) (names_at objects id)
+
+abbrev pub size : Entities → Id → Payload
+size objects id = payload.Size (length (content_at objects id))
+
+-- the oldest message
+abbrev pub message : Entities → Id → Payload
+message objects id = payload.Head (head_of (slice_index_or (messages_at objects id) 0 []))
+
+abbrev pub loaded : Entry → Loaded
+loaded entry = record { «module» = entry.0.module; slot = entry.0.slot }
+
+-- the slot that a module gets where so many numbers were given
+abbrev pub slot : ℕ → Option Module → Payload
+slot given None = payload.None
+slot given (Some m) = payload.Slot (slot_for (wants_slot m) given)
+
+-- what the call hands back where it is done
+abbrev pub payload_of : State → Call → Payload
+payload_of s (call.Fork child) = payload.None
+payload_of s call.Exit = payload.None
+payload_of s (call.See name) = payload.None
+payload_of s (call.Signal name) = payload.None
+payload_of s (call.Debug name) = payload.None
+payload_of s (call.Sched name) = payload.None
+payload_of s (call.Exec path) = payload.None
+payload_of s (call.Create path) = payload.None
+payload_of s (call.Mkdir path) = payload.None
+payload_of s (call.Read path) = of_found (head s.objects) (file_at_path s.objects path)
+payload_of s (call.Write path text) = payload.None
+payload_of s (call.Stat path) = of_found (stat s.objects) (file_at_path s.objects path)
+payload_of s (call.Readdir path) = of_found (names s.objects) (file_at_path s.objects path)
+payload_of s (call.Chmod path mode) = payload.None
+payload_of s (call.Unlink path) = payload.None
+payload_of s (call.Pipe name) = payload.None
+payload_of s (call.Socket name) = payload.None
+payload_of s (call.Pread name) = of_found (head s.objects) (pipe_named s.objects name)
+payload_of s (call.Pwrite name text) = payload.None
+payload_of s (call.Pstat name) = of_found (size s.objects) (pipe_named s.objects name)
+payload_of s (call.Send from to text) = payload.None
+payload_of s (call.Recv name) = of_found (message s.objects) (socket_named s.objects name)
+payload_of s (call.Seesock name) = payload.None
+payload_of s call.Kldstat = payload.Modules (map loaded s.specs)
+payload_of s (call.Kldload name) = slot s.numbers (loadable name)
+payload_of s (call.Kldunload name) = payload.None
+
+-- Replies
+
+-- the operation of the check of that number, from 1
+abbrev pub op_at : List Item → ℕ → CheckOp
+op_at items n = unwrap_or (option_map (λ i. i.op) (slice_get items (n - 1))) VnodeLookup
+
+abbrev pub tail_reply : Tail → Payload → Reply
+tail_reply Do p = reply.Ok p
+tail_reply (Refuse errno) p = reply.Refused errno
+
+abbrev pub denied_reply : Plan → Option Denial → Payload → Reply
+denied_reply plan None p = tail_reply plan.tail p
+denied_reply plan (Some d) p = reply.Denied d.errno (op_at plan.items d.item) d.item d.by
+
+-- a denial first, then the framework's refusal, then the payload
+abbrev pub reply_to : Plan → Verdict → Payload → Reply
+reply_to plan verdict p = denied_reply plan verdict.denied p

@@ -1,0 +1,35 @@
+-- One call of the sequential framework: its reply, and the state after it.
+use Rattle.std.specs.Prelude.{ℕ, List, Option, Some, None}
+use Rattle.mf_objects.specs.declared.id.Id.{Id}
+use Rattle.mf_script.specs.declared.script.Call.{Call}
+use Rattle.mf_plan.specs.declared.reply.Reply.{Reply}
+use Rattle.mf_plan.specs.declared.reply.Reply.TheVariants as reply
+use Rattle.mf_plan.specs.declared.state.State.{State}
+use Rattle.mf_plan.specs.Names.{caller_name}
+use Rattle.mf_plan.specs.Plan.{plan_of}
+use Rattle.mf_plan.specs.Views.{process_named}
+use Rattle.mf_step.specs.Verdict.{verdict_of}
+use Rattle.mf_step.specs.Reply.{reply_to, payload_of}
+use Rattle.mf_step.specs.Effect.{effect_of}
+
+-- the reply to a call of the task's own process, or of its child of that name
+abbrev pub step_reply : State → List ℕ → Option (List ℕ) → Call → Reply
+step_reply s task child call = reply_to (plan_of s task child call) (verdict_of s.specs (plan_of s task child call)) (payload_of s call)
+
+abbrev pub performed_by : State → List ℕ → Call → Option Id → State
+performed_by s task call None = s
+performed_by s task call (Some caller) = effect_of s task caller call
+
+-- the state after the call, where it is done
+abbrev pub performed : State → List ℕ → Option (List ℕ) → Call → State
+performed s task child call = performed_by s task call (process_named s.objects (caller_name task child))
+
+-- a call that is denied or refused changes nothing
+abbrev pub after_reply : Reply → State → State → State
+after_reply (reply.Ok payload) s done = done
+after_reply (reply.Denied errno op item by) s done = s
+after_reply (reply.Refused errno) s done = s
+
+-- the state after a call
+abbrev pub step_state : State → List ℕ → Option (List ℕ) → Call → State
+step_state s task child call = after_reply (step_reply s task child call) s (performed s task child call)

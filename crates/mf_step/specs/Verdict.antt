@@ -1,0 +1,24 @@
+-- What the policies say to a plan: the walk over its checks.
+use Rattle.std.specs.Prelude.{ℕ, ◌+◌, List, [], ◌∷◌, Option, Some, None}
+use Rattle.mf_errno.specs.declared.errno.Errno.{Errno}
+use Rattle.mf_errno.specs.declared.errno.Errno.TheVariants.{Success}
+use Rattle.mf_errno.specs.declared.module.Module.{Module}
+use Rattle.mf_item.specs.declared.item.Item.{Item}
+use Rattle.mf_policy.specs.Registration.{Entry}
+use Rattle.mf_plan.specs.declared.plan.Plan.{Plan}
+use Rattle.mf_step.specs.declared.verdict.Denial.{Denial}
+use Rattle.mf_step.specs.declared.verdict.Verdict.{Verdict}
+use Rattle.mf_list.specs.Asked.{asked}
+
+abbrev pub denial_at : ℕ → Errno → Option Module → Option Denial → Option Denial
+denial_at n Success by later = later
+denial_at n errno by later = Some (record { item = n; errno = errno; by = by })
+
+-- the denial of the first of the checks that is denied, where they count from n
+abbrev pub denial_from : List Entry → ℕ → List Item → Option Denial
+denial_from policies n [] = None
+denial_from policies n (i ∷ is) = denial_at n (asked policies i).errno (asked policies i).by (denial_from policies (n + 1) is)
+
+-- what these policies say to a plan
+abbrev pub verdict_of : List Entry → Plan → Verdict
+verdict_of policies p = record { denied = denial_from policies 1 p.items }
