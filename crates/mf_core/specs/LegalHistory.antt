@@ -1,10 +1,12 @@
 -- Which histories are legal for a script, and the state that a history determines.
-use Rattle.std.specs.Prelude.{◌≡◌, ◌⊎◌, ℕ, ◌+◌, ◌<◌, List, [], ◌∷◌, ◌++◌, length, map, Option, Some, None, slice_get}
+use Rattle.std.specs.Prelude.{◌≡◌, ◌⊎◌, ℕ, ◌+◌, ◌<◌, Bool, true, false, if◌then◌else◌, List, [], ◌∷◌, ◌++◌, length, map, Option, Some, None, slice_get}
+use Rattle.mf_script.specs.declared.script.Call.{Call}
+use Rattle.mf_script.specs.declared.script.Call.TheVariants as call
 use Rattle.mf_script.specs.declared.script.Line.{Line}
 use Rattle.mf_script.specs.declared.script.Script.{Script}
 use Rattle.mf_script.specs.WellFormed.{lines_of, name_of, IsWellFormed}
-use Rattle.mf_core.specs.declared.state.State.{State}
-use Rattle.mf_core.specs.declared.reply.Reply.{Reply}
+use Rattle.mf_plan.specs.declared.state.State.{State}
+use Rattle.mf_plan.specs.declared.reply.Reply.{Reply}
 use Rattle.mf_core.specs.declared.progress.Phase.{Phase}
 use Rattle.mf_core.specs.declared.progress.Phase.TheVariants as phase
 use Rattle.mf_core.specs.declared.progress.Progress.{Progress}
@@ -13,8 +15,7 @@ use Rattle.mf_core.specs.declared.progress.Turn.TheVariants as turn
 use Rattle.mf_core.specs.declared.history.Event.{Event}
 use Rattle.mf_core.specs.declared.history.Event.TheVariants as event
 use Rattle.mf_core.specs.declared.history.History.{History}
-use Rattle.mf_core.specs.Reply.{step_reply}
-use Rattle.mf_core.specs.Effect.{step_state}
+use Rattle.mf_step.specs.Step.{step_reply, step_state}
 use Rattle.mf_core.specs.Opening.{opening_state, boots_of}
 use Rattle.mf_core.specs.Progress.{first_progress, progress_at, with_phase, with_line, with_left, NoneOpen}
 
@@ -32,9 +33,15 @@ opening s = record { state = opening_state s; progress = map (λ t. first_progre
 abbrev pub next_line : Script → List Progress → ℕ → Option Line
 next_line s list t = slice_get (lines_of s t) (progress_at list t).lines
 
+-- whether the call changes the list of policies, and so isn't an entry
+abbrev pub is_change : Call → Bool
+is_change (call.Kldload name) = true
+is_change (call.Kldunload name) = true
+is_change other = false
+
 abbrev pub turn_at_line : Option Line → Turn
 turn_at_line None = turn.Finished
-turn_at_line (Some line) = turn.Entry
+turn_at_line (Some line) = if is_change line.call then turn.Change else turn.Entry
 
 abbrev pub turn_in : Phase → Option Line → Turn
 turn_in phase.Idle next = turn_at_line next
@@ -50,14 +57,14 @@ turn_of s list t = turn_in (progress_at list t).phase (next_line s list t)
 
 abbrev pub reply_at : Script → RunState → ℕ → Option Line → Option Reply
 reply_at s r t None = None
-reply_at s r t (Some line) = Some (step_reply r.state (name_of s t) line.call)
+reply_at s r t (Some line) = Some (step_reply r.state (name_of s t) line.child line.call)
 
 abbrev pub next_reply : Script → RunState → ℕ → Option Reply
 next_reply s r t = reply_at s r t (next_line s r.progress t)
 
 abbrev pub state_at : Script → RunState → ℕ → Option Line → State
 state_at s r t None = r.state
-state_at s r t (Some line) = step_state r.state (name_of s t) line.call
+state_at s r t (Some line) = step_state r.state (name_of s t) line.child line.call
 
 abbrev pub next_state : Script → RunState → ℕ → State
 next_state s r t = state_at s r t (next_line s r.progress t)

@@ -1,13 +1,7 @@
 pub mod Log
-pub mod State
-pub mod Plan
-pub mod Policies
-pub mod Ask
-pub mod Answer
-pub mod Reply
-pub mod Effect
 pub mod Opening
 pub mod Progress
 pub mod LegalHistory
+pub mod Policies
 pub mod Run
 pub mod Laws

@@ -1,5 +1,6 @@
 -- How far each task is.
 use Rattle.std.specs.Prelude.{◌≡◌, ◌≢◌, ℕ, ◌+◌, List, slice_set, slice_index_or, All}
+use Rattle.std.specs.List.{sum_by}
 use Rattle.mf_core.specs.declared.progress.Phase.{Phase}
 use Rattle.mf_core.specs.declared.progress.Phase.TheVariants.{Idle, Entered, Done, Stopped}
 use Rattle.mf_core.specs.declared.progress.Progress.{Progress}
@@ -46,3 +47,14 @@ NoneOpen list = All (λ progress. IsClosed progress.phase) list
 pub record Moves (old new : List Progress) (t : ℕ) (progress : Progress) : Type 0 where
   pub at : progress_at new t ≡ progress
   pub others : (u : ℕ) → u ≢ t → progress_at new u ≡ progress_at old u
+
+-- 1 where the entry of the phase is open, and else 0
+abbrev pub open_in : Phase → ℕ
+open_in Idle = 0
+open_in Entered = 1
+open_in Done = 1
+open_in Stopped = 0
+
+-- how many entries are open
+abbrev pub open_entries : List Progress → ℕ
+open_entries list = sum_by (λ progress. open_in progress.phase) list
