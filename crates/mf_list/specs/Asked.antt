@@ -1,11 +1,18 @@
 -- What the listed policies answer together.
-use Rattle.std.specs.Prelude.{ℕ, List, map, Option, option_map, option_and_then, slice_get, unwrap_or}
+use Rattle.std.specs.Prelude.{ℕ, Bool, true, false, cond, ◌&&◌, ◌||◌, nat_eq, List, map, Option, Some, None, option_map, option_and_then, slice_get, unwrap_or}
+use Rattle.std.specs.List.{list_any}
 use Rattle.mf_errno.specs.declared.errno.Errno.{Errno}
+use Rattle.mf_errno.specs.declared.errno.Errno.TheVariants.{Success, Eperm}
+use Rattle.mf_errno.specs.declared.privilege.Priv.{Priv}
+use Rattle.mf_errno.specs.Errno.{is_same}
 use Rattle.mf_errno.specs.declared.module.Module.{Module}
+use Rattle.mf_cred.specs.declared.cred.Cred.{Cred}
 use Rattle.mf_item.specs.declared.item.Item.{Item}
+use Rattle.mf_item.specs.declared.operation.CheckOp.{CheckOp}
+use Rattle.mf_item.specs.declared.operation.CheckOp.TheVariants as op
 use Rattle.mf_compose.specs.Composition.{composition, decider}
 use Rattle.mf_policy.specs.declared.registration.Registration.{Registration}
-use Rattle.mf_policy.specs.Answer.{answer}
+use Rattle.mf_policy.specs.Answer.{answer, grants}
 use Rattle.mf_policy.specs.Registration.{Entry}
 use Rattle.mf_list.specs.declared.ask.Answer.{Answer}
 
@@ -26,9 +33,37 @@ abbrev pub module_at : List Entry → ℕ → Option Module
 module_at entries place = option_map (λ entry. entry.0.module) (slice_get entries place)
 
 -- the composition of all answers, and the policy that decides it
-abbrev pub asked : List Entry → Item → Answer
-asked entries item =
+abbrev pub composed : List Entry → Item → Answer
+composed entries item =
     record {
       errno = composition (answers entries item);
       by = option_and_then (module_at entries) (decider (answers entries item));
     }
+
+-- whether a listed policy grants that credential a privilege; where none is asked for, nobody grants it
+abbrev pub grant_of : Option Priv → Cred → Entry → Bool
+grant_of None cred entry = false
+grant_of (Some privilege) cred entry = grants entry.1 cred privilege
+
+-- whether the subject has the privilege that is asked for: root has each, and others have what some policy grants
+abbrev pub has_privilege : List Entry → Item → Bool
+has_privilege entries item =
+    nat_eq item.subject.cred.uid 0 || list_any (grant_of item.privilege item.subject.cred) entries
+
+-- the answer about a privilege, by the composition of the policies' answers and by whether the subject has it; a refusal is EPERM
+-- whatever they answered, and nobody decides it
+abbrev pub privilege_answer : Errno → Bool → Answer
+privilege_answer errno has =
+    record { errno = cond (is_same Success errno && has) Success Eperm; by = None }
+
+-- whether an operation asks for a privilege
+abbrev pub asks_privilege : CheckOp → Bool
+asks_privilege op.Priv = true
+asks_privilege other = false
+
+-- the answer to an item: the composition of all answers, and about a privilege the rule for privileges
+abbrev pub asked : List Entry → Item → Answer
+asked entries item =
+    cond (asks_privilege item.op)
+    (privilege_answer (composition (answers entries item)) (has_privilege entries item))
+    (composed entries item)

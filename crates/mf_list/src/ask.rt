@@ -1,15 +1,17 @@
 //! What the listed policies answer together.
-ghost use Rattle.std.specs.Prelude.{◌≡◌, ◌≤◌, length, option_and_then, take};
+ghost use Rattle.std.specs.Prelude.{◌≡◌, ◌≤◌, length, map, option_and_then, take};
+ghost use Rattle.std.specs.List.{list_any};
 ghost use Rattle.mf_list.specs.Asked as spec;
 
 use crate::listed::Listed;
 use crate::policy_list::PolicyList;
-use mf_compose::{decider, fold};
+use mf_compose::{decider, fold, granted};
 use mf_errno::{Errno, Module};
-use mf_item::Item;
+use mf_item::{CheckOp, Item};
 use mf_policy::Policy;
 
-/// What the policies answer together: the composed errno, and the policy that decides it. Nobody decides a success.
+/// What the policies answer together: the composed errno, and the policy that decides it. Nobody decides a success, nor
+/// whether a privilege is held.
 #[derive(Clone, Copy, Debug, PartialEq, Eq)]
 pub struct Answer {
     pub errno: Errno,
@@ -18,18 +20,50 @@ pub struct Answer {
 
 impl<P: Policy> PolicyList<P> {
     /// The composition of all policies' answers, as mac(9) composes them, and the policy that decides it: the first one in
-    /// walk order whose answer is the composition. Every policy is asked, also after a denial.
+    /// walk order whose answer is the composition. Every policy is asked, also after a denial. About a privilege the answer
+    /// is the kernel's: EPERM unless all policies answer success, and the subject is root or some policy grants it.
     pub fn ask(&self, item: &Item) -> Answer
         ensures { result ≡ spec.asked self.now.entries item.now }
     {
         let policies = self.as_slice();
         let room = answers(policies, item);
         let answers = &room[..policies.len()];
-        Answer {
-            errno: fold(answers),
-            by: module_at(policies, decider(answers)),
+        match item.op {
+            CheckOp::Priv => privilege_answer(fold(answers), has_privilege(policies, item)),
+            _ => Answer {
+                errno: fold(answers),
+                by: module_at(policies, decider(answers)),
+            },
         }
     }
+}
+
+/// The answer about a privilege, after the policies' answers.
+fn privilege_answer(composition: Errno, has_privilege: bool) -> Answer
+    ensures { result ≡ spec.privilege_answer composition has_privilege }
+{
+    let errno = match composition {
+        Errno::Success if has_privilege => Errno::Success,
+        _ => Errno::Eperm,
+    };
+    Answer { errno, by: None }
+}
+
+/// Whether the subject has the privilege that the item asks for.
+fn has_privilege<P: Policy>(policies: &[Listed<P>], item: &Item) -> bool
+    requires { length policies.now ≤ 8 }
+    ensures { result ≡ spec.has_privilege policies.now item.now }
+{
+    item.subject.cred.is_root() || is_granted(policies, item)
+}
+
+/// Whether some policy grants the privilege that the item asks for.
+fn is_granted<P: Policy>(policies: &[Listed<P>], item: &Item) -> bool
+    requires { length policies.now ≤ 8 }
+    ensures { result ≡ list_any (spec.grant_of item.now.privilege item.now.subject.cred) policies.now }
+{
+    let room = grants(policies, item);
+    granted(&room[..policies.len()])
 }
 
 /// The module of the policy in that place.
@@ -50,4 +84,16 @@ fn answers<P: Policy>(policies: &[Listed<P>], item: &Item) -> [Errno; 8]
         answers[place] = policy.check(item);
     }
     answers
+}
+
+/// Which policies grant the privilege, in walk order, and no grant in the places that are left.
+fn grants<P: Policy>(policies: &[Listed<P>], item: &Item) -> [bool; 8]
+    requires { length policies.now ≤ 8 }
+    ensures { take (length policies.now) result ≡ map (spec.grant_of item.now.privilege item.now.subject.cred) policies.now }
+{
+    let mut grants = [false; 8];
+    for (place, policy) in policies.iter().enumerate() {
+        grants[place] = policy.grants(item);
+    }
+    grants
 }

@@ -2,7 +2,7 @@
 ghost use Rattle.std.specs.Prelude.{◌≡◌, IsTrue, ◌↔◌, IfOk, OnErr};
 ghost use Rattle.mf_policy.specs.Modules as facts;
 ghost use Rattle.mf_policy.specs.Settings.{change_of};
-ghost use Rattle.mf_list.specs.Asked.{answer_of};
+ghost use Rattle.mf_list.specs.Asked.{answer_of, grant_of};
 ghost use Rattle.mf_list.specs.Lists.{IsEntry, is_dynamic, is_of, same_module};
 
 use mf_errno::{Errno, Module};
@@ -87,6 +87,16 @@ impl<P: Policy> Listed<P> {
     {
         let slot = self.registration.slot.unwrap_or(0);
         self.policy.check(slot, item)
+    }
+
+    /// Whether the policy grants the privilege that the item asks for.
+    pub fn grants(&self, item: &Item) -> bool
+        ensures { result ≡ grant_of item.now.privilege item.now.subject.cred self.now }
+    {
+        match item.privilege {
+            Some(privilege) => self.policy.grant(&item.subject.cred, privilege),
+            None => false,
+        }
     }
 
     /// Changes a setting of the policy.

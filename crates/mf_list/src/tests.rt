@@ -1,4 +1,4 @@
-//! Tests over Biba and MLS: registration, and what the two answer together.
+//! Tests over Biba, MLS and mac_partition: registration, and what the three answer together.
 
 use crate::{Answer, Policies, RegisterFault, UnregisterFault};
 use mf_biba::Biba;
@@ -7,109 +7,144 @@ use mf_elem::{Elem, LabelValue, RangeLabel};
 use mf_errno::{Errno, Module, Priv};
 use mf_item::{CheckOp, Item, Kind, ObjectView};
 use mf_mls::Mls;
-use mf_policy::{Change, Changed, LoadFlags, Policy, Spec, SpecList};
+use mf_partition::Partition;
+use mf_policy::{Change, Changed, LoadFlags, Policy, Registration, Spec, SpecList};
 use mf_slots::SlotNumbers;
 use std::alloc::{AllocError, Global};
 
-/// Biba or MLS, without a box.
+/// One of the policies, without a box.
 #[derive(Drop)]
-enum Either {
+enum OneOf {
     Biba(Biba),
     Mls(Mls),
+    Partition(Partition),
 }
 
-impl Policy for Either {
+impl Policy for OneOf {
     ghost use Rattle.mf_policy.specs.declared.spec.Spec.TheVariants as means;
-    ghost use Rattle.mf_list.specs.declared.tests.Either.TheVariants as either;
+    ghost use Rattle.mf_list.specs.declared.tests.OneOf.TheVariants as one;
 
-    ghost spec = { λ policy. elim policy [ either.Biba b ↦ means.Biba | either.Mls m ↦ means.Mls ] };
+    ghost spec = { λ policy. elim policy [ one.Biba b ↦ means.Biba | one.Mls m ↦ means.Mls | one.Partition p ↦ means.Partition ] };
 
     fn module(&self) -> Module {
         match self {
-            Either::Biba(policy) => policy.module(),
-            Either::Mls(policy) => policy.module(),
+            OneOf::Biba(policy) => policy.module(),
+            OneOf::Mls(policy) => policy.module(),
+            OneOf::Partition(policy) => policy.module(),
         }
     }
 
     fn flags(&self) -> LoadFlags {
         match self {
-            Either::Biba(policy) => policy.flags(),
-            Either::Mls(policy) => policy.flags(),
+            OneOf::Biba(policy) => policy.flags(),
+            OneOf::Mls(policy) => policy.flags(),
+            OneOf::Partition(policy) => policy.flags(),
         }
     }
 
     fn wants_slot(&self) -> bool {
         match self {
-            Either::Biba(policy) => policy.wants_slot(),
-            Either::Mls(policy) => policy.wants_slot(),
+            OneOf::Biba(policy) => policy.wants_slot(),
+            OneOf::Mls(policy) => policy.wants_slot(),
+            OneOf::Partition(policy) => policy.wants_slot(),
         }
     }
 
     fn same(&self, other: &Spec) -> bool {
         match self {
-            Either::Biba(policy) => policy.same(other),
-            Either::Mls(policy) => policy.same(other),
+            OneOf::Biba(policy) => policy.same(other),
+            OneOf::Mls(policy) => policy.same(other),
+            OneOf::Partition(policy) => policy.same(other),
         }
     }
 
     fn check(&self, slot: u8, item: &Item) -> Errno {
         match self {
-            Either::Biba(policy) => policy.check(slot, item),
-            Either::Mls(policy) => policy.check(slot, item),
+            OneOf::Biba(policy) => policy.check(slot, item),
+            OneOf::Mls(policy) => policy.check(slot, item),
+            OneOf::Partition(policy) => policy.check(slot, item),
         }
     }
 
     fn grant(&self, cred: &Cred, privilege: Priv) -> bool {
         match self {
-            Either::Biba(policy) => policy.grant(cred, privilege),
-            Either::Mls(policy) => policy.grant(cred, privilege),
+            OneOf::Biba(policy) => policy.grant(cred, privilege),
+            OneOf::Mls(policy) => policy.grant(cred, privilege),
+            OneOf::Partition(policy) => policy.grant(cred, privilege),
         }
     }
 
     fn change(&mut self, alloc: Global, change: &Change) -> Result<Changed, AllocError> {
         match self {
-            Either::Biba(policy) => policy.change(alloc, change),
-            Either::Mls(policy) => policy.change(alloc, change),
+            OneOf::Biba(policy) => policy.change(alloc, change),
+            OneOf::Mls(policy) => policy.change(alloc, change),
+            OneOf::Partition(policy) => policy.change(alloc, change),
         }
     }
 
     fn reset(&mut self) {
         match self {
-            Either::Biba(policy) => policy.reset(),
-            Either::Mls(policy) => policy.reset(),
+            OneOf::Biba(policy) => policy.reset(),
+            OneOf::Mls(policy) => policy.reset(),
+            OneOf::Partition(policy) => policy.reset(),
         }
     }
 }
 
-fn both(alloc: Global) -> Result<Policies<Either>, AllocError> {
+fn all_three(alloc: Global) -> Result<Policies<OneOf>, AllocError> {
     let mut modules = Vec::new(alloc);
-    modules.push(Either::Biba(Biba::new()))?;
-    modules.push(Either::Mls(Mls::new()))?;
+    modules.push(OneOf::Biba(Biba::new()))?;
+    modules.push(OneOf::Mls(Mls::new()))?;
+    modules.push(OneOf::Partition(Partition::new()))?;
     Ok(Policies::new(alloc, modules))
 }
 
 #[test]
 fn registrations_in_walk_order(rt: HostRuntime) -> Result<(), AllocError> {
-    let mut policies = both(rt.alloc())?;
+    let mut policies = all_three(rt.alloc())?;
     policies.ready()?;
     let mut numbers = SlotNumbers::new();
+    let partition = policies.register(&mut numbers, "mac_partition", false);
     let biba = policies.register(&mut numbers, "mac_biba", false);
     let mls = policies.register(&mut numbers, "mac_mls", false);
-    assert!(rt; policies.knows("mac_mls") && !policies.knows("mac_partition"));
+    assert!(rt; policies.knows("mac_mls") && !policies.knows("mac_lomac"));
     let listed = policies.list().listed();
     let registrations = listed.as_slice();
-    assert_eq!(rt; registrations.len(), 2);
+    assert_eq!(rt; registrations.len(), 3);
     assert_eq!(rt; Some(registrations[0]), mls.ok());
     assert_eq!(rt; Some(registrations[1]), biba.ok());
+    assert_eq!(rt; Some(registrations[2]), partition.ok());
     let change = policies.change(rt.alloc(), Module::Mls, &Change::FirstMatch(true))?;
     assert_eq!(rt; change.errno, Errno::Enoent);
     assert!(rt; !policies.list().same_specs(&SpecList::new(rt.alloc())));
     Ok(())
 }
 
+fn of_partition(slot: u8) -> Registration {
+    Registration {
+        module: Module::Partition,
+        slot: Some(slot),
+        fixed: false,
+    }
+}
+
+#[test]
+fn a_partition_goes_and_comes_back(rt: HostRuntime) -> Result<(), AllocError> {
+    let mut policies = all_three(rt.alloc())?;
+    policies.ready()?;
+    let mut numbers = SlotNumbers::new();
+    let booted = policies.register(&mut numbers, "mac_partition", false);
+    assert_eq!(rt; booted, Ok(of_partition(0)));
+    let left = policies.unregister("mac_partition");
+    assert_eq!(rt; left, Ok(of_partition(0)));
+    let late = policies.register(&mut numbers, "mac_partition", true);
+    assert_eq!(rt; late, Ok(of_partition(1)));
+    Ok(())
+}
+
 #[test]
 fn registration_is_refused(rt: HostRuntime) -> Result<(), AllocError> {
-    let mut policies = both(rt.alloc())?;
+    let mut policies = all_three(rt.alloc())?;
     policies.ready()?;
     let mut numbers = SlotNumbers::new();
     let unknown = policies.register(&mut numbers, "mac_lomac", true);
@@ -130,7 +165,7 @@ fn registration_is_refused(rt: HostRuntime) -> Result<(), AllocError> {
 
 #[test]
 fn slots_run_out(rt: HostRuntime) -> Result<(), AllocError> {
-    let mut policies = both(rt.alloc())?;
+    let mut policies = all_three(rt.alloc())?;
     policies.ready()?;
     let mut numbers = SlotNumbers::new();
     for _ in 0..3 {
@@ -154,7 +189,7 @@ fn labelled(element: Elem) -> [LabelValue; 4] {
 
 #[test]
 fn precedence_against_walk_order(rt: HostRuntime) -> Result<(), AllocError> {
-    let mut policies = both(rt.alloc())?;
+    let mut policies = all_three(rt.alloc())?;
     policies.ready()?;
     let mut numbers = SlotNumbers::new();
     let biba = policies.register(&mut numbers, "mac_biba", false);
@@ -187,5 +222,54 @@ fn precedence_against_walk_order(rt: HostRuntime) -> Result<(), AllocError> {
             by: None
         }
     );
+    Ok(())
+}
+
+#[test]
+fn partition_against_biba(rt: HostRuntime) -> Result<(), AllocError> {
+    let mut policies = all_three(rt.alloc())?;
+    policies.ready()?;
+    let mut numbers = SlotNumbers::new();
+    let biba = policies.register(&mut numbers, "mac_biba", false);
+    let partition = policies.register(&mut numbers, "mac_partition", false);
+    assert!(rt; biba.is_ok() && partition.is_ok());
+    let mut item = Item::default();
+    item.op = CheckOp::ProcSignal;
+    item.subject.label = labelled(Elem::Low);
+    item.subject.label[1] = LabelValue::Number(1);
+    let mut label = labelled(Elem::High);
+    label[1] = LabelValue::Number(2);
+    item.object = Some(ObjectView {
+        id: 2,
+        kind: Kind::Process,
+        file: Default::default(),
+        label,
+    });
+    let answer = policies.list().ask(&item);
+    assert_eq!(rt;
+        answer,
+        Answer {
+            errno: Errno::Esrch,
+            by: Some(Module::Partition)
+        }
+    );
+    Ok(())
+}
+
+#[test]
+fn root_has_every_privilege(rt: HostRuntime) -> Result<(), AllocError> {
+    let mut policies = all_three(rt.alloc())?;
+    policies.ready()?;
+    let mut numbers = SlotNumbers::new();
+    let biba = policies.register(&mut numbers, "mac_biba", false);
+    assert!(rt; biba.is_ok());
+    let mut item = Item::default();
+    item.op = CheckOp::Priv;
+    item.privilege = Some(Priv::SchedRtprio);
+    for (uid, errno) in [(0, Errno::Success), (1001, Errno::Eperm)] {
+        item.subject.cred.uid = uid;
+        let answer = policies.list().ask(&item);
+        assert_eq!(rt; answer, Answer { errno, by: None });
+    }
     Ok(())
 }
