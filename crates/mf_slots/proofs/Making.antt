@@ -23,9 +23,9 @@ no_handle : (key : Option ℕ) (h : ℕ) → key ≡ None → key ≡ Some h →
 no_handle key h none some = cc
 
 -- one slot more, that isn't Unset
-made_more : (n : ℕ) (start zones zones' : Contents) (label label' : Handles) (values : List LabelValue) (v : LabelValue) → n < 4 → get_or values n Unset ≡ v
+made_more : (n : ℕ) (start zones zones' : Contents) (label label' : Handles) (values : List LabelValue) (v : LabelValue) → n < 4 → get_or values n Unset ≡ v → v ≢ Unset
     → MakesBelow n start zones label values → Makes zones zones' label label' n v → MakesBelow (n + 1) start zones' label' values
-made_more n start zones zones' label label' values v within is below makes =
+made_more n start zones zones' label label' values v within is set below makes =
     let new : ℕ = makes.new in
     let free_slot : handle label n ≡ None = below.later n (omega arith) in
     let here : handle label' n ≡ Some new = makes.here in
@@ -40,6 +40,10 @@ made_more n start zones zones' label label' values v within is below makes =
             ap (λ (key : Option ℕ). value_at zones' slot key) (there slot differ)
             ∙ value_of-same zones zones' label slot (λ h e. makes.writes.others slot h (λ same _. differ same))
             ∙ below.made slot (omega (arith, differ))
+      ];
+      unset = λ slot l none. elim (cases_eq slot n) [
+        | inl same ↦ absurd (set (sym is ∙ ap (λ (k : ℕ). get_or values k Unset) (sym same) ∙ none))
+        | inr differ ↦ there slot differ ∙ below.unset slot (omega (arith, differ)) none
       ];
       later = λ slot l. let ne : slot ≢ n = omega arith in there slot ne ∙ below.later slot (omega arith);
       held = λ slot h e. elim (cases_eq slot n) [
@@ -77,6 +81,10 @@ unset_more n start zones label values is below =
             ap (λ (key : Option ℕ). value_at zones slot key) none ∙ sym is ∙ ap (λ (k : ℕ). get_or values k Unset) (sym same)
         | inr differ ↦ below.made slot (omega (arith, differ))
       ];
+      unset = λ slot l none. elim (cases_eq slot n) [
+        | inl same ↦ below.later slot (omega (arith, same))
+        | inr differ ↦ below.unset slot (omega (arith, differ)) none
+      ];
       later = λ slot l. below.later slot (omega arith);
       held = below.held;
       was_free = below.was_free;
@@ -88,8 +96,10 @@ pub makes_more : (n : ℕ) (start zones zones' : Contents) (label label' : Handl
 makes_more n start zones zones' label label' values Unset within is below same =
     subst (λ (z : Contents). MakesBelow (n + 1) start z label' values) (sym same.0)
     (subst (λ (l : Handles). MakesBelow (n + 1) start zones l values) (sym same.1) (unset_more n start zones label values is below))
-makes_more n start zones zones' label label' values (Range r) within is below makes = made_more n start zones zones' label label' values (Range r) within is below makes
-makes_more n start zones zones' label label' values (Number k) within is below makes = made_more n start zones zones' label label' values (Number k) within is below makes
+makes_more n start zones zones' label label' values (Range r) within is below makes =
+    made_more n start zones zones' label label' values (Range r) within is (λ e. cc) below makes
+makes_more n start zones zones' label label' values (Number k) within is below makes =
+    made_more n start zones zones' label label' values (Number k) within is (λ e. cc) below makes
 
 -- a label that was made is given up: every handle has what it had
 pub undone : (n : ℕ) (start zones zones' : Contents) (label : Handles) (values : List LabelValue) → n ≤ 4

@@ -1,6 +1,6 @@
 -- A zone that is replaced, seen slot by slot.
 use Rattle.std.proofs.Common.{◌≡◌, ℕ, ◌<◌, List, [], ◌∷◌, Option, Some, None, length, get_or, set, map, refl, ap, sym, ◌∙◌, subst, arith, inl, inr, zero, suc, IsSome, ◌+◌}
-use Rattle.std.proofs.lemmas.List.{get_or-set_same, get_or-set_other, get_or-map, length-map}
+use Rattle.std.proofs.lemmas.List.{set-get_or, get_or-set_same, get_or-set_other, get_or-map, length-map}
 use Rattle.std.proofs.lemmas.Bool.{cases_eq}
 use Rattle.slab.specs.Slab.{Slab, get, Updates, with_value}
 use Rattle.mf_elem.specs.declared.label.LabelValue.{LabelValue}
@@ -17,6 +17,14 @@ seen_set : (slabs : List (Slab LabelValue)) (i : ℕ) (s : Slab LabelValue) → 
 seen_set [] i s = refl
 seen_set (x ∷ slabs) zero s = refl
 seen_set (x ∷ slabs) (suc i) s = ap (λ (zs : Contents). x.slots ∷ zs) (seen_set slabs i s)
+
+-- one zone that has what it had
+pub seen_kept : (slabs : List (Slab LabelValue)) (i : ℕ) (old new : Slab LabelValue) → i < length slabs → get_or slabs i old ≡ old → new.slots ≡ old.slots
+    → seen (set slabs i new) ≡ seen slabs
+seen_kept slabs i old new within is same =
+    seen_set slabs i new
+    ∙ ap (λ (z : List (Option LabelValue)). set (seen slabs) i z) (same ∙ sym (seen_at slabs i old within ∙ ap (λ (s : Slab LabelValue). s.slots) is))
+    ∙ set-get_or (seen slabs) i []
 
 -- one zone that was updated under a key
 pub writes_zone : (slabs : List (Slab LabelValue)) (i : ℕ) (old new : Slab LabelValue) (k : ℕ) (v : Option LabelValue)

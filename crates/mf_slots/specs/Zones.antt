@@ -20,6 +20,10 @@ handle label slot = slice_index_or label slot None
 abbrev pub under : Contents → ℕ → ℕ → Option LabelValue
 under zones slot h = slice_index_or (slice_index_or zones slot []) h None
 
+-- no value in the zones is Unset: a slot is Unset where it isn't made
+pub record NoneUnset (zones : Contents) : Type 0 where
+  pub each : (slot h : ℕ) → under zones slot h ≢ Some Unset
+
 -- every handle of every zone has what it had
 pub record IsSame (zones zones' : Contents) : Type 0 where
   pub same : (slot h : ℕ) → under zones' slot h ≡ under zones slot h
@@ -66,6 +70,7 @@ pub record Makes (zones zones' : Contents) (label label' : Handles) (slot : ℕ)
 -- the slots of a new label below n are made with these values, each under a handle that was free; an Unset one is not made
 pub record MakesBelow (n : ℕ) (zones zones' : Contents) (label : Handles) (values : List LabelValue) : Type 0 where
   pub made : (slot : ℕ) → slot < n → value_of zones' label slot ≡ slice_index_or values slot Unset
+  pub unset : (slot : ℕ) → slot < n → slice_index_or values slot Unset ≡ Unset → handle label slot ≡ None
   pub later : (slot : ℕ) → n ≤ slot → handle label slot ≡ None
   pub held : (slot h : ℕ) → handle label slot ≡ Some h → IsSome (under zones' slot h)
   pub was_free : (slot h : ℕ) → handle label slot ≡ Some h → under zones slot h ≡ None

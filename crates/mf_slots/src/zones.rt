@@ -16,13 +16,13 @@ pub struct Zones {
 
 impl Model for Zones {
     ghost use Rattle.std.specs.Prelude.{◌≡◌, map, length};
-    ghost use Rattle.mf_slots.specs.Zones.{Contents};
+    ghost use Rattle.mf_slots.specs.Zones.{Contents, NoneUnset};
 
     ghost Value = { Contents };
 
     ghost view = { λ a. map (λ zone. zone.slots) a.zones.items };
 
-    ghost invariant = { λ a. length a.zones.items ≡ 4 };
+    ghost invariant = { λ a. (length a.zones.items ≡ 4) × NoneUnset (map (λ zone. zone.slots) a.zones.items) };
 }
 
 /// The label of an entity: for each slot that is made, the handle of its value in the zones.
@@ -137,11 +137,12 @@ impl Zones {
         }
     }
 
-    /// What a slot holds.
+    /// What a slot holds: Unset exactly where it isn't made.
     pub fn value(&self, label: &Label, slot: u8) -> LabelValue
         requires slot { slot < 4 }
         requires held { IsHeldAt self.now slot (handle label.now slot) }
-        ensures { result ≡ value_of self.now label.now slot }
+        ensures value { result ≡ value_of self.now label.now slot }
+        ensures unset { (result ≡ Unset) ↔ (handle label.now slot ≡ None) }
     {
         match label.handles[slot as usize] {
             Some(key) => self.under(slot, key),
@@ -151,7 +152,8 @@ impl Zones {
 
     fn under(&self, slot: u8, key: usize) -> LabelValue
         requires { slot < 4 }
-        ensures { result ≡ value_at self.now slot (Some key) }
+        ensures value { result ≡ value_at self.now slot (Some key) }
+        ensures set { IsHeldAt self.now slot (Some key) → result ≢ Unset }
     {
         let found = self.zones[slot as usize].get(key);
         found.copied().unwrap_or(LabelValue::Unset)
