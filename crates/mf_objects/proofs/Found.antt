@@ -1,5 +1,5 @@
 -- Look-ups and readings of the live entities, as contracts see them.
-use Rattle.std.proofs.Common.{◌≡◌, ℕ, ◌≤◌, ◌+◌, List, [], ◌∷◌, Option, Some, None, get_or, set, refl, ap, sym, ◌∙◌, subst, arith, IsSome, true, false, Bool, cond, eq-eqb, option_map, ◌&&◌, Result, Ok, Err, OnOk, OnErr}
+use Rattle.std.proofs.Common.{◌≡◌, ◌≢◌, ℕ, ◌≤◌, ◌+◌, List, [], ◌∷◌, Option, Some, None, get_or, set, refl, ap, sym, ◌∙◌, subst, arith, IsSome, true, false, Bool, cond, eq-eqb, option_map, ◌&&◌, Result, Ok, Err, OnOk, OnErr}
 use Rattle.std.specs.declared.alloc.AllocError.{AllocError}
 use Rattle.std.specs.Prelude.{find, IfSome, IfNone}
 use Rattle.mf_slots.specs.Zones.{Contents, value_of}
@@ -9,9 +9,9 @@ use Rattle.mf_objects.specs.declared.entity.What.{What}
 use Rattle.mf_objects.specs.declared.entity.What.TheVariants.{Process, Vnode, Pipe, Socket}
 use Rattle.mf_objects.specs.Live.{Live, Entities, has_id, live_at, id_of, is_directory, label_of, IsFound, IsLiveWhere, messages_at, messages_of, reading, label_at, IsLive, is_named, is_child, is_entry, is_vnode}
 use Rattle.std.specs.Str.{bytes_eq}
-use Rattle.mf_objects.specs.Changes.{appended, cleared, with_mode, with_messages}
-use Rattle.mf_objects.specs.Sound.{seen, shown, live_of, IsSound, IsPlace, IsRising, HasRoot, label_values}
+use Rattle.mf_objects.specs.Sound.{seen, shown, live_of, Belongs, IsPopulation, IsSound, IsPlace, IsRising, HasRoot, label_values}
 use Rattle.mf_objects.proofs.Rising.{id_differs}
+use Rattle.mf_objects.proofs.Belonging.{Stays, entry_directory, find_all}
 use Rattle.mf_objects.proofs.Kept.{view, found_place, what_changed, set_same}
 
 find-live : (test : Live → Bool) (zones : Contents) (es : List Entity)
@@ -76,7 +76,7 @@ found_id test next zones es found sound is =
 
     again : (o : Option Live) → find test (live_of zones es) ≡ o → IfSome (id_of o) (λ id. find (has_id id) (live_of zones es) ≡ o)
     again None e = tt
-    again (Some x) e = own_id test 0 next (live_of zones es) x sound.rising e
+    again (Some x) e = own_id test 0 next (live_of zones es) x sound.population.rising e
 
 -- what contracts see of the entity at a place
 pub shown_place : (next : ℕ) (zones : Contents) (es : List Entity) (id : Id) (i : ℕ) (e : Entity) → IsPlace (view next zones es) id i → e ≡ get_or es i e
@@ -93,39 +93,13 @@ pub messages_place : (next : ℕ) (zones : Contents) (es : List Entity) (id : Id
     → messages_at (view next zones es) id ≡ messages_of e.what
 messages_place next zones es id i e place is = ap (reading messages_of []) (found_place next zones es id i e place is)
 
--- changes that leave a directory a directory
-
-pub appended_kind : (text : List ℕ) (w : What) → is_directory (appended text w) ≡ is_directory w
-appended_kind text (Process cred) = refl
-appended_kind text (Vnode vnode) = refl
-appended_kind text (Pipe pipe) = refl
-appended_kind text (Socket socket) = refl
-
-pub cleared_kind : (w : What) → is_directory (cleared w) ≡ is_directory w
-cleared_kind (Process cred) = refl
-cleared_kind (Vnode vnode) = refl
-cleared_kind (Pipe pipe) = refl
-cleared_kind (Socket socket) = refl
-
-pub mode_kind : (mode : ℕ) (w : What) → is_directory (with_mode mode w) ≡ is_directory w
-mode_kind mode (Process cred) = refl
-mode_kind mode (Vnode vnode) = refl
-mode_kind mode (Pipe pipe) = refl
-mode_kind mode (Socket socket) = refl
-
-pub messages_kind : (change : List (List ℕ) → List (List ℕ)) (w : What) → is_directory (with_messages change w) ≡ is_directory w
-messages_kind change (Process cred) = refl
-messages_kind change (Vnode vnode) = refl
-messages_kind change (Pipe pipe) = refl
-messages_kind change (Socket socket) = refl
-
 -- after a change that may want memory
 pub what_sound : (r : Result (Unit {0}) AllocError) (next : ℕ) (zones : Contents) (es : List Entity) (id : Id) (i : ℕ) (e : Entity) (w : What) (change : What → What)
-    → IsPlace (view next zones es) id i → e ≡ get_or es i e → IsSound next zones es → ((x : What) → is_directory (change x) ≡ is_directory x)
+    → IsPlace (view next zones es) id i → e ≡ get_or es i e → IsSound next zones es → ((x : What) → Stays x (change x))
     → OnOk r (w ≡ change e.what) → OnErr r (w ≡ e.what) → IsSound next zones (set es i (record e { what = w }))
-what_sound (Ok u) next zones es id i e w change place is sound kinds changed same =
-    (what_changed next zones es id i e w change place is sound kinds changed).sound
-what_sound (Err error) next zones es id i e w change place is sound kinds changed same =
+what_sound (Ok u) next zones es id i e w change place is sound stays changed same =
+    (what_changed next zones es id i e w change place is sound stays changed).sound
+what_sound (Err error) next zones es id i e w change place is sound stays changed same =
     let e' : Entity = record e { what = w } in
     let is_same : e' ≡ e = ap (λ (x : What). let y : Entity = record e { what = x } in y) same in
     let put : set es i e' ≡ es = ap (set es i) is_same ∙ set_same es i e is in
@@ -144,7 +118,7 @@ root_found next (r ∷ es) root =
     rw hit root.1
 
 pub root_live : (next : ℕ) (zones : Contents) (es : List Entity) → IsSound next zones es → IsLive is_directory (view next zones es) (record { 0 = 0 })
-root_live next zones es sound = root_found next (live_of zones es) sound.rooted
+root_live next zones es sound = root_found next (live_of zones es) sound.population.rooted
 
 passes_found : (test : Live → Bool) (es : List Live) (x : Live) → find test es ≡ Some x → test x ≡ true
 passes_found test [] x is = cc
@@ -189,3 +163,22 @@ live_found test objects (Some id) is = by_live (find test objects.live) refl is.
     by_live : (o : Option Live) → find test objects.live ≡ o → Some id ≡ id_of (find test objects.live) → IsSome (live_at objects id)
     by_live None e ids = absurd (cc (ids ∙ ap id_of e))
     by_live (Some x) e ids = let at : live_at objects id ≡ Some x = is.live ∙ e in rw at refl
+
+-- an entry isn't the root
+pub child_not_root : (dir : Id) (name : List ℕ) (objects : Entities) (found : Option Id) → IsPopulation objects → IsFound (is_child dir name) objects found
+    → IfSome found (λ id. id.0 ≢ 0)
+child_not_root dir name objects None population is = tt
+child_not_root dir name objects (Some id) population is = by_live (find (is_child dir name) objects.live) refl is.id
+  where
+    inside_id : (a b : Id) → Some a ≡ Some b → a ≡ b
+    inside_id a b e = cc
+
+    by_live : (o : Option Live) → find (is_child dir name) objects.live ≡ o → Some id ≡ id_of (find (is_child dir name) objects.live) → id.0 ≢ 0
+    by_live None e ids = absurd (cc (ids ∙ ap id_of e))
+    by_live (Some x) e ids =
+        let belongs : Belongs objects.live x.id.0 x.what =
+        find_all (λ (y : Live). Belongs objects.live y.id.0 y.what) (is_child dir name) objects.live x population.belong e in
+        let entry : is_entry dir x.what ≡ true = first_true (is_entry dir x.what) (bytes_eq x.name name) (passes_found (is_child dir name) objects.live x e) in
+        let older = entry_directory objects.live x.id.0 dir x.what belongs entry in
+        let same : id ≡ x.id = inside_id id x.id (ids ∙ ap id_of e) in
+        λ first. omega (arith, older.0, first, ap (λ (i : Id). i.0) same)

@@ -1,5 +1,5 @@
 -- What each change makes of the live entities, and that it keeps what is true of every population.
-use Rattle.std.proofs.Common.{◌≡◌, ◌≢◌, ℕ, ◌<◌, ◌+◌, List, [], ◌∷◌, ◌++◌, Option, Some, None, length, get_or, set, take, drop, map, remove, refl, ap, sym, ◌∙◌, subst, arith, zero, suc, IsSome, nat_eq, nat_lt, true, false, Bool, cond, position, not, Result, Ok, Err, OnOk, OnErr, IsTrue, replicate}
+use Rattle.std.proofs.Common.{◌≡◌, ◌≢◌, ◌↔◌, ℕ, ◌<◌, ◌+◌, List, [], ◌∷◌, ◌++◌, Option, Some, None, length, get_or, set, take, drop, map, remove, refl, ap, sym, ◌∙◌, subst, arith, zero, suc, IsSome, nat_eq, nat_lt, true, false, Bool, cond, position, not, Result, Ok, Err, OnOk, OnErr, IsTrue, replicate}
 use Rattle.std.specs.declared.alloc.AllocError.{AllocError}
 use Rattle.std.specs.Prelude.{find}
 use Rattle.std.specs.List.{position_or_len}
@@ -8,15 +8,17 @@ use Rattle.std.proofs.lemmas.List.Quantifiers.{position-Some}
 use Rattle.std.proofs.lemmas.Bool.{lt-ltb, false≢true}
 use Rattle.mf_elem.specs.declared.label.LabelValue.{LabelValue}
 use Rattle.mf_elem.specs.declared.label.LabelValue.TheVariants.{Unset}
-use Rattle.mf_slots.specs.Zones.{Contents, Handles, handle, IsSame, MakesLabel, GivesUp, SetsAt, IsMadeAt, Makes, IsHeld, IsHeldAt, value_of, value_at as value_under}
+use Rattle.mf_slots.specs.Zones.{Contents, Handles, handle, IsSame, MakesLabel, GivesUp, SetsAt, IsMadeAt, Makes, IsHeld, IsHeldAt, NoneUnset, value_of, value_at as value_under}
+use Rattle.mf_slots.proofs.ZonesLaws.{set_none, set_same as set_zones_same, set_writes, set_makes, set_gives_up, unset_exactly}
 use Rattle.mf_objects.specs.declared.id.Id.{Id}
 use Rattle.mf_objects.specs.declared.entity.Entity.{Entity}
 use Rattle.mf_objects.specs.declared.entity.What.{What}
-use Rattle.mf_objects.specs.Live.{Live, Entities, has_id, live_at, is_directory, label_of, value_at as live_value}
+use Rattle.mf_objects.specs.Live.{Live, Entities, has_id, live_at, passes, is_directory, label_of, value_at as live_value}
 use Rattle.mf_objects.specs.Changes.{changed_at, with_change, with_value, with_what}
-use Rattle.mf_objects.specs.Sound.{label_values, seen, labels_of, IsExact, live_of, IsSound, IsPlace}
+use Rattle.mf_objects.specs.Sound.{label_values, seen, labels_of, IsExact, live_of, Belongs, IsBare, IsPopulation, IsSound, IsPlace}
 use Rattle.mf_objects.proofs.Zoned.{exact_same, live_same, exact_push, live_push, exact_drop, live_drop, is_held, Relabels, relabels_set, relabels_make, exact_relabel, live_relabel, split_place, live_split, exact_none}
 use Rattle.mf_objects.proofs.Rising.{rising_push, rising_remove, rising_changed, root_push, root_remove, root_changed, set_changed, find_first, id_is}
+use Rattle.mf_objects.proofs.Belonging.{Stays, stays_same, belong_one, belong_push, belong_remove, belong_changed, bare_none, find_own}
 
 -- the live entities as contracts see them
 abbrev pub view : ℕ → Contents → List Entity → Entities
@@ -33,26 +35,33 @@ same_zones next zones zones' es sound same =
     let live : live_of zones' es ≡ live_of zones es = live_same zones zones' es same in
     record {
       sound = record {
-        rising = rw live sound.rising;
-        rooted = rw live sound.rooted;
+        population = rw live sound.population;
         few = sound.few;
         exact = exact_same zones zones' (labels_of es) sound.exact same;
+        set = set_zones_same zones zones' sound.set same;
       };
       shows = ap (λ (ls : List Live). let o : Entities = record { next = next; live = ls } in o) live;
     }
 
 pub added : (next : ℕ) (zones zones' : Contents) (es : List Entity) (e : Entity) (values : List LabelValue) → e.id.0 ≡ next → length es < 1024 → length values ≡ 4
-    → IsSound next zones es → MakesLabel zones zones' e.label values
+    → IsSound next zones es → Belongs (live_of zones es) next e.what → MakesLabel zones zones' e.label values
     → Becomes (next + 1) zones' (es ++ e ∷ []) (record { next = next + 1; live = live_of zones es ++ record { id = e.id; name = e.name; label = values; what = e.what } ∷ [] })
-added next zones zones' es e values is room four sound makes =
+added next zones zones' es e values is room four sound belongs makes =
     let x : Live = record { id = e.id; name = e.name; label = values; what = e.what } in
     let live : live_of zones' (es ++ e ∷ []) ≡ live_of zones es ++ x ∷ [] = live_push zones zones' es e values four sound.exact makes in
+    let joined : Belongs (live_of zones es) x.id.0 x.what = subst (λ (n : ℕ). Belongs (live_of zones es) n x.what) (sym is) belongs in
+    let grown : IsPopulation (record { next = next + 1; live = live_of zones es ++ x ∷ [] }) =
+    record {
+      rising = rising_push 0 next (live_of zones es) x is sound.population.rising;
+      rooted = root_push (live_of zones es) (x ∷ []) sound.population.rooted;
+      belong = belong_push (live_of zones es) x sound.population.belong joined;
+    } in
     record {
       sound = record {
-        rising = rw live (rising_push 0 next (live_of zones es) x is sound.rising);
-        rooted = rw live (root_push (live_of zones es) (x ∷ []) sound.rooted);
+        population = rw live grown;
         few = omega (arith, length-append es (e ∷ []));
         exact = exact_push zones zones' es e values sound.exact makes;
+        set = set_makes zones zones' e.label values sound.set makes;
       };
       shows = ap (λ (ls : List Live). let o : Entities = record { next = next + 1; live = ls } in o) live;
     }
@@ -63,28 +72,58 @@ live_remove zones es i =
     ∙ ap (λ (ls : List Live). ls ++ map (seen zones) (drop (suc i) es)) (sym (take-map (seen zones) i es))
     ∙ ap (λ (ls : List Live). take i (map (seen zones) es) ++ ls) (sym (drop-map (seen zones) (suc i) es))
 
+seen_place : (zones : Contents) (es : List Entity) (i : ℕ) (e : Entity) → i < length es → e ≡ get_or es i e → seen zones e ≡ get_or (live_of zones es) i (seen zones e)
+seen_place zones es i e within is = ap (seen zones) is ∙ sym (get_or-map (seen zones) es i e (seen zones e) within)
+
 pub dropped : (next : ℕ) (zones zones' : Contents) (es : List Entity) (i : ℕ) (e : Entity) → i < length es → 0 < i → e ≡ get_or es i e
-    → IsSound next zones es → GivesUp zones zones' e.label
+    → IsSound next zones es → IsBare (live_of zones es) e.id e.what → GivesUp zones zones' e.label
     → Becomes next zones' (remove es i) (record { next = next; live = remove (live_of zones es) i })
-dropped next zones zones' es i e within later is sound gives =
+dropped next zones zones' es i e within later is sound bare gives =
     let exact : IsExact zones (labels_of (take i es ++ e ∷ drop (suc i) es)) =
     subst (λ (xs : List Entity). IsExact zones (labels_of xs)) (split_place es i e within is) sound.exact in
     let live : live_of zones' (remove es i) ≡ remove (live_of zones es) i =
     live_drop zones zones' (take i es) (drop (suc i) es) e exact gives ∙ live_remove zones es i in
+    let lives : List Live = live_of zones es in
+    let long : i < length lives = omega (arith, within, length-map es (seen zones)) in
+    let at : seen zones e ≡ get_or lives i (seen zones e) = seen_place zones es i e within is in
+    let own : find (has_id e.id) lives ≡ Some (seen zones e) =
+    subst (λ (x : Live). find (has_id x.id) lives ≡ Some x) (sym at) (find_own 0 next lives i (seen zones e) long sound.population.rising) in
+    let shrunk : IsPopulation (record { next = next; live = remove lives i }) =
+    record {
+      rising = rising_remove 0 next lives i sound.population.rising;
+      rooted = root_remove lives i later sound.population.rooted;
+      belong = belong_remove lives i (seen zones e) long at sound.population.belong
+          (bare_none lives e.id e.what sound.population.belong (λ test. ap (passes test) own) bare);
+    } in
     record {
       sound = record {
-        rising = rw live (rising_remove 0 next (live_of zones es) i sound.rising);
-        rooted = rw live (root_remove (live_of zones es) i later sound.rooted);
+        population = rw live shrunk;
         few = omega (arith, sound.few, length-append (take i es) (drop (suc i) es), length-take-le i es (omega arith), length-drop (suc i) es);
         exact = exact_drop zones zones' (take i es) (drop (suc i) es) e exact gives;
+        set = set_gives_up zones zones' e.label sound.set gives;
       };
       shows = ap (λ (ls : List Live). let o : Entities = record { next = next; live = ls } in o) live;
     }
+
+pub bare_place : (next : ℕ) (zones : Contents) (es : List Entity) (objects : Entities) (i : ℕ) (e : Entity) → view next zones es ≡ objects → i < length es → e ≡ get_or es i e
+    → ((d : Live) → IsBare objects.live (get_or objects.live i d).id (get_or objects.live i d).what) → IsBare (live_of zones es) e.id e.what
+bare_place next zones es objects i e shows within is bare =
+    let lives : List Live = live_of zones es in
+    let here : IsBare lives (get_or lives i (seen zones e)).id (get_or lives i (seen zones e)).what =
+    subst (λ (o : Entities). IsBare o.live (get_or o.live i (seen zones e)).id (get_or o.live i (seen zones e)).what) (sym shows) (bare (seen zones e)) in
+    subst (λ (x : Live). IsBare lives x.id x.what) (sym (seen_place zones es i e within is)) here
 
 pub held_place : (next : ℕ) (zones : Contents) (es : List Entity) (i : ℕ) (e : Entity) → i < length es → e ≡ get_or es i e
     → IsSound next zones es → IsHeld zones e.label
 held_place next zones es i e within is sound =
     is_held zones (take i es) (drop (suc i) es) e (subst (λ (xs : List Entity). IsExact zones (labels_of xs)) (split_place es i e within is) sound.exact)
+
+-- a slot of an entity is made exactly where its value isn't Unset
+pub made_exactly : (next : ℕ) (zones : Contents) (es : List Entity) (i : ℕ) (e : Entity) (slot : ℕ) → i < length es → e ≡ get_or es i e → slot < 4
+    → IsSound next zones es → (value_of zones e.label slot ≡ Unset) ↔ (handle e.label slot ≡ None)
+made_exactly next zones es i e slot within is four sound =
+    let held = held_place next zones es i e within is sound in
+    unset_exactly zones e.label slot sound.set (held.each slot four)
 
 pub made_place : (zones : Contents) (slot : ℕ) (key : Option ℕ) → IsHeldAt zones slot key → IsSome key → IsMadeAt zones slot key
 made_place zones slot None held some = cc
@@ -95,9 +134,6 @@ made_place zones slot (Some h) held some = held
 pub place_within : (next : ℕ) (zones : Contents) (es : List Entity) (id : Id) (i : ℕ) → IsPlace (view next zones es) id i → i < length es
 place_within next zones es id i place = omega (arith, place.within, length-map es (seen zones))
 
-seen_place : (zones : Contents) (es : List Entity) (i : ℕ) (e : Entity) → i < length es → e ≡ get_or es i e → seen zones e ≡ get_or (live_of zones es) i (seen zones e)
-seen_place zones es i e within is = ap (seen zones) is ∙ sym (get_or-map (seen zones) es i e (seen zones e) within)
-
 -- what contracts see of the entity at a place
 pub found_place : (next : ℕ) (zones : Contents) (es : List Entity) (id : Id) (i : ℕ) (e : Entity) → IsPlace (view next zones es) id i → e ≡ get_or es i e
     → live_at (view next zones es) id ≡ Some (seen zones e)
@@ -107,30 +143,36 @@ found_place next zones es id i e place is =
 -- the entity at a place is changed, as contracts see it
 changes : (next : ℕ) (zones zones' : Contents) (es es' : List Entity) (id : Id) (i : ℕ) (e : Entity) (change : Live → Live)
     → IsPlace (view next zones es) id i → e ≡ get_or es i e → IsSound next zones es
-    → ((x : Live) → (change x).id ≡ x.id) → ((x : Live) → is_directory (change x).what ≡ is_directory x.what)
-    → live_of zones' es' ≡ set (live_of zones es) i (change (seen zones e)) → length es' ≡ length es → IsExact zones' (labels_of es')
+    → ((x : Live) → (change x).id ≡ x.id) → ((x : Live) → Stays x.what (change x).what)
+    → live_of zones' es' ≡ set (live_of zones es) i (change (seen zones e)) → length es' ≡ length es → IsExact zones' (labels_of es') → NoneUnset zones'
     → Becomes next zones' es' (with_change change (view next zones es) id)
-changes next zones zones' es es' id i e change place is sound ids kinds shows len exact =
+changes next zones zones' es es' id i e change place is sound ids stays shows len exact set_now =
     let within : i < length es = place_within next zones es id i place in
     let long : i < length (live_of zones es) = place.within in
     let at : seen zones e ≡ get_or (live_of zones es) i (seen zones e) = seen_place zones es i e within is in
     let has : has_id id (seen zones e) ≡ true = ap (has_id id) at ∙ place.has (seen zones e) in
     let live : live_of zones' es' ≡ map (changed_at change id) (live_of zones es) =
-    shows ∙ set_changed change id 0 next (live_of zones es) i (seen zones e) long sound.rising at has in
+    shows ∙ set_changed change id 0 next (live_of zones es) i (seen zones e) long sound.population.rising at has in
+    let changed : IsPopulation (record { next = next; live = map (changed_at change id) (live_of zones es) }) =
+    record {
+      rising = rising_changed change id 0 next (live_of zones es) ids sound.population.rising;
+      rooted = root_changed change id (live_of zones es) ids (λ x. (stays x).directory) sound.population.rooted;
+      belong = belong_changed change id (live_of zones es) ids stays sound.population.belong;
+    } in
     record {
       sound = record {
-        rising = rw live (rising_changed change id 0 next (live_of zones es) ids sound.rising);
-        rooted = rw live (root_changed change id (live_of zones es) ids kinds sound.rooted);
+        population = rw live changed;
         few = omega (arith, len, sound.few);
         exact = exact;
+        set = set_now;
       };
       shows = ap (λ (ls : List Live). let o : Entities = record { next = next; live = ls } in o) live;
     }
 
 relabelled : (next : ℕ) (zones zones' : Contents) (es : List Entity) (id : Id) (i : ℕ) (e : Entity) (label : Handles) (slot h : ℕ) (v : LabelValue)
-    → IsPlace (view next zones es) id i → e ≡ get_or es i e → IsSound next zones es → Relabels zones zones' (take i es) (drop (suc i) es) e label slot h v
+    → IsPlace (view next zones es) id i → e ≡ get_or es i e → IsSound next zones es → v ≢ Unset → Relabels zones zones' (take i es) (drop (suc i) es) e label slot h v
     → Becomes next zones' (set es i (record e { label = label })) (with_change (with_value slot v) (view next zones es) id)
-relabelled next zones zones' es id i e label slot h v place is sound relabels =
+relabelled next zones zones' es id i e label slot h v place is sound value relabels =
     let e' : Entity = record e { label = label } in
     let within : i < length es = place_within next zones es id i place in
     let split : es ≡ take i es ++ e ∷ drop (suc i) es = split_place es i e within is in
@@ -141,13 +183,14 @@ relabelled next zones zones' es id i e label slot h v place is sound relabels =
     ∙ live_relabel zones zones' (take i es) (drop (suc i) es) e label slot h v relabels
     ∙ live_split zones (take i es) (drop (suc i) es) e i (with_value slot v (seen zones e)) (length-take-le i es (omega arith))
     ∙ ap (λ (xs : List Entity). set (live_of zones xs) i (with_value slot v (seen zones e))) (sym split) in
-    changes next zones zones' es (set es i e') id i e (with_value slot v) place is sound (λ x. refl) (λ x. refl) live (length-set es i e')
+    changes next zones zones' es (set es i e') id i e (with_value slot v) place is sound (λ x. refl) (λ x. stays_same x.what) live (length-set es i e')
     (rw put (exact_relabel zones zones' (take i es) (drop (suc i) es) e label slot h v exact relabels))
+    (set_writes zones zones' slot h v sound.set value relabels.writes)
 
 pub value_set : (next : ℕ) (zones zones' : Contents) (es : List Entity) (id : Id) (i : ℕ) (e : Entity) (slot : ℕ) (v : LabelValue)
-    → slot < 4 → IsPlace (view next zones es) id i → e ≡ get_or es i e → IsSound next zones es → SetsAt zones zones' slot (handle e.label slot) v
+    → slot < 4 → v ≢ Unset → IsPlace (view next zones es) id i → e ≡ get_or es i e → IsSound next zones es → SetsAt zones zones' slot (handle e.label slot) v
     → Becomes next zones' (set es i e) (with_change (with_value slot v) (view next zones es) id)
-value_set next zones zones' es id i e slot v four place is sound sets = by_key (handle e.label slot) refl sets
+value_set next zones zones' es id i e slot v four value place is sound sets = by_key (handle e.label slot) refl sets
   where
     by_key : (key : Option ℕ) → handle e.label slot ≡ key → SetsAt zones zones' slot key v
         → Becomes next zones' (set es i e) (with_change (with_value slot v) (view next zones es) id)
@@ -155,16 +198,16 @@ value_set next zones zones' es id i e slot v four place is sound sets = by_key (
     by_key (Some h) own sets =
         let exact : IsExact zones (labels_of (take i es ++ e ∷ drop (suc i) es)) =
         subst (λ (xs : List Entity). IsExact zones (labels_of xs)) (split_place es i e (place_within next zones es id i place) is) sound.exact in
-        relabelled next zones zones' es id i e e.label slot h v place is sound
+        relabelled next zones zones' es id i e e.label slot h v place is sound value
         (relabels_set zones zones' (take i es) (drop (suc i) es) e slot h v four exact own sets)
 
 pub value_made : (next : ℕ) (zones zones' : Contents) (es : List Entity) (id : Id) (i : ℕ) (e : Entity) (label : Handles) (slot : ℕ) (v : LabelValue)
-    → slot < 4 → IsPlace (view next zones es) id i → e ≡ get_or es i e → IsSound next zones es → handle e.label slot ≡ None → Makes zones zones' e.label label slot v
+    → slot < 4 → v ≢ Unset → IsPlace (view next zones es) id i → e ≡ get_or es i e → IsSound next zones es → handle e.label slot ≡ None → Makes zones zones' e.label label slot v
     → Becomes next zones' (set es i (record e { label = label })) (with_change (with_value slot v) (view next zones es) id)
-value_made next zones zones' es id i e label slot v four place is sound unset makes =
+value_made next zones zones' es id i e label slot v four value place is sound unset makes =
     let exact : IsExact zones (labels_of (take i es ++ e ∷ drop (suc i) es)) =
     subst (λ (xs : List Entity). IsExact zones (labels_of xs)) (split_place es i e (place_within next zones es id i place) is) sound.exact in
-    relabelled next zones zones' es id i e label slot makes.new v place is sound
+    relabelled next zones zones' es id i e label slot makes.new v place is sound value
     (relabels_make zones zones' (take i es) (drop (suc i) es) e label slot v four exact unset makes)
 
 labels_set : (es : List Entity) (i : ℕ) (e e' : Entity) → e ≡ get_or es i e → e'.label ≡ e.label → labels_of (set es i e') ≡ labels_of es
@@ -179,14 +222,14 @@ live_set zones (x ∷ es) (suc i) e = ap (λ (ls : List Live). seen zones x ∷ 
 
 -- what an entity holds is changed
 pub what_changed : (next : ℕ) (zones : Contents) (es : List Entity) (id : Id) (i : ℕ) (e : Entity) (w : What) (change : What → What)
-    → IsPlace (view next zones es) id i → e ≡ get_or es i e → IsSound next zones es → ((x : What) → is_directory (change x) ≡ is_directory x) → w ≡ change e.what
+    → IsPlace (view next zones es) id i → e ≡ get_or es i e → IsSound next zones es → ((x : What) → Stays x (change x)) → w ≡ change e.what
     → Becomes next zones (set es i (record e { what = w })) (with_change (with_what change) (view next zones es) id)
-what_changed next zones es id i e w change place is sound kinds changed =
+what_changed next zones es id i e w change place is sound stays changed =
     let e' : Entity = record e { what = w } in
     let live : live_of zones (set es i e') ≡ set (live_of zones es) i (with_what change (seen zones e)) =
     live_set zones es i e' ∙ ap (λ (x : What). set (live_of zones es) i (with_what (λ _. x) (seen zones e))) changed in
-    changes next zones zones es (set es i e') id i e (with_what change) place is sound (λ x. refl) (λ x. kinds x.what) live (length-set es i e')
-    (subst (λ (ls : List Handles). IsExact zones ls) (sym (labels_set es i e e' is refl)) sound.exact)
+    changes next zones zones es (set es i e') id i e (with_what change) place is sound (λ x. refl) (λ x. stays x.what) live (length-set es i e')
+    (subst (λ (ls : List Handles). IsExact zones ls) (sym (labels_set es i e e' is refl)) sound.exact) sound.set
 
 -- Look-ups by id
 
@@ -212,7 +255,7 @@ position_some zones id es some =
 
 pub place_found : (next : ℕ) (zones : Contents) (es : List Entity) (id : Id) (i : ℕ) → IsSound next zones es
     → position (λ (e : Entity). nat_eq e.id.0 id.0) es ≡ Some i → IsPlace (view next zones es) id i
-place_found next zones [] id i sound at = absurd sound.rooted
+place_found next zones [] id i sound at = absurd sound.population.rooted
 place_found next zones (r ∷ es) id i sound at =
     let all : List Entity = r ∷ es in
     let first = position-Some (λ (e : Entity). nat_eq e.id.0 id.0) all i r at in
@@ -228,7 +271,7 @@ place_found next zones (r ∷ es) id i sound at =
     }
   where
     at_root : r.id.0 ≡ 0
-    at_root = sound.rooted.0
+    at_root = sound.population.rooted.0
 
     later_place : (k : ℕ) → r.id.0 ≡ 0 → id.0 ≢ 0 → has_id id (get_or (live_of zones (r ∷ es)) k (seen zones r)) ≡ true → 0 < k
     later_place zero root ne has = absurd (ne (sym (id_is id (seen zones r) has) ∙ root))
@@ -263,11 +306,11 @@ set_same es i e is = ap (set es i) is ∙ set-get_or es i e
 
 -- after `make`, whether it found memory or not
 pub made_sound : (r : Result (Unit {0}) AllocError) (next : ℕ) (zones zones' : Contents) (es : List Entity) (id : Id) (i : ℕ) (e : Entity) (label : Handles) (slot : ℕ) (v : LabelValue)
-    → slot < 4 → IsPlace (view next zones es) id i → e ≡ get_or es i e → IsSound next zones es → handle e.label slot ≡ None
+    → slot < 4 → v ≢ Unset → IsPlace (view next zones es) id i → e ≡ get_or es i e → IsSound next zones es → handle e.label slot ≡ None
     → OnOk r (Makes zones zones' e.label label slot v) → OnErr r ((zones' ≡ zones) × (label ≡ e.label)) → IsSound next zones' (set es i (record e { label = label }))
-made_sound (Ok u) next zones zones' es id i e label slot v four place is sound unset makes same =
-    (value_made next zones zones' es id i e label slot v four place is sound unset makes).sound
-made_sound (Err error) next zones zones' es id i e label slot v four place is sound unset makes same =
+made_sound (Ok u) next zones zones' es id i e label slot v four value place is sound unset makes same =
+    (value_made next zones zones' es id i e label slot v four value place is sound unset makes).sound
+made_sound (Err error) next zones zones' es id i e label slot v four value place is sound unset makes same =
     let e' : Entity = record e { label = label } in
     let is_same : e' ≡ e = ap (λ (l : Handles). let x : Entity = record e { label = l } in x) same.1 in
     let put : set es i e' ≡ es = ap (set es i) is_same ∙ set_same es i e is in
@@ -278,17 +321,18 @@ on_err (Ok x) P p = tt
 on_err (Err e) P p = p
 
 pub opened : (zones : Contents) (e : Entity) (values : List LabelValue) → length values ≡ 4 → MakesLabel (replicate 4 []) zones e.label values
-    → e.id.0 ≡ 0 → IsTrue (is_directory e.what)
+    → e.id.0 ≡ 0 → IsTrue (is_directory e.what) → Belongs (record { id = e.id; name = e.name; label = values; what = e.what } ∷ []) e.id.0 e.what
     → Becomes 1 zones ([] ++ e ∷ []) (record { next = 1; live = record { id = e.id; name = e.name; label = values; what = e.what } ∷ [] })
-opened zones e values four makes first directory =
+opened zones e values four makes first directory belongs =
     let x : Live = record { id = e.id; name = e.name; label = values; what = e.what } in
     let live : live_of zones ([] ++ e ∷ []) ≡ x ∷ [] = live_push (replicate 4 []) zones [] e values four exact_none makes in
+    let alone : IsPopulation (record { next = 1; live = x ∷ [] }) = record { rising = (omega arith, omega (arith, first)); rooted = (first, directory); belong = belong_one x belongs } in
     record {
       sound = record {
-        rising = (omega arith, omega (arith, first));
-        rooted = (first, directory);
+        population = rw live alone;
         few = omega arith;
         exact = exact_push (replicate 4 []) zones [] e values exact_none makes;
+        set = set_makes (replicate 4 []) zones e.label values set_none makes;
       };
       shows = ap (λ (ls : List Live). let o : Entities = record { next = 1; live = ls } in o) live;
     }

@@ -4,8 +4,10 @@ use Rattle.std.proofs.lemmas.Bool.{false≢true}
 use Rattle.mf_objects.specs.declared.id.Id.{Id}
 use Rattle.mf_objects.specs.declared.entity.What.{What}
 use Rattle.mf_objects.specs.declared.entity.What.TheVariants.{Process, Vnode, Pipe, Socket}
-use Rattle.mf_objects.specs.Live.{Live, Entities, live_at, passes, is_vnode, is_pipe, is_socket, is_directory, IsLive, IsLiveWhere, reading, count_of, count_at, content_of, content_at, file_of, file_at, no_file, entry_count}
+use Rattle.mf_objects.specs.Live.{Live, Entities, live_at, passes, is_vnode, is_pipe, is_process, is_socket, is_directory, is_entry, is_made_by, IsLive, IsLiveWhere, reading, count_of, count_at, content_of, content_at, file_of, file_at, no_file, entry_count}
 use Rattle.mf_objects.specs.Changes.{FitsBytes, FitsMessage, HasMessage}
+use Rattle.mf_objects.specs.Sound.{IsPopulation}
+use Rattle.mf_objects.proofs.Belonging.{counted_none, no_entry, belongs_at, entry_directory, maker_process}
 
 message_fits : (entries : ℕ) (w : What) → is_socket w ≡ true → count_of entries w < 16 → FitsMessage w
 message_fits entries (Process cred) kind few = absurd (false≢true kind)
@@ -92,3 +94,53 @@ directory_found (Some e) dir = vnode_directory e.what dir
 -- what has the attributes of a directory is one
 pub live_directory : (objects : Entities) (id : Id) → (file_at objects id).dir ≡ true → IsLive is_directory objects id
 live_directory objects id dir = directory_found (live_at objects id) dir
+
+regular_other : (found : Option Live) → (reading file_of no_file found).dir ≡ false → passes is_directory found ≡ false
+regular_other None regular = refl
+regular_other (Some e) regular = by_what e.what regular
+  where
+    by_what : (w : What) → (file_of w).dir ≡ false → is_directory w ≡ false
+    by_what (Process cred) regular = refl
+    by_what (Vnode vnode) regular = regular
+    by_what (Pipe pipe) regular = refl
+    by_what (Socket socket) regular = refl
+
+-- what isn't a directory has no entries
+pub regular_empty : (objects : Entities) (id : Id) → IsPopulation objects → (file_at objects id).dir ≡ false → entry_count objects id ≡ 0
+regular_empty objects id population regular =
+    counted_none (λ (e : Live). is_entry id e.what) objects.live
+    (no_entry objects.live id population.belong (regular_other (live_at objects id) regular))
+
+vnode_counts : (entries : ℕ) (found : Option Live) → passes is_vnode found ≡ true → reading (count_of entries) 0 found ≡ entries
+vnode_counts entries None vnode = absurd (false≢true vnode)
+vnode_counts entries (Some e) vnode = by_what e.what vnode
+  where
+    by_what : (w : What) → is_vnode w ≡ true → count_of entries w ≡ entries
+    by_what (Process cred) vnode = refl
+    by_what (Vnode v) vnode = refl
+    by_what (Pipe pipe) vnode = refl
+    by_what (Socket socket) vnode = absurd (false≢true vnode)
+
+-- the count of a vnode is that of its entries
+pub vnode_count : (objects : Entities) (id : Id) → IsLive is_vnode objects id → count_at objects id ≡ entry_count objects id
+vnode_count objects id vnode = vnode_counts (entry_count objects id) (live_at objects id) vnode
+
+-- the directory that holds a live vnode is a live directory
+pub directory_lives : (objects : Entities) (id dir : Id) → IsPopulation objects → IsLive (is_entry dir) objects id → IsLive is_directory objects dir
+directory_lives objects id dir population entry = by_found (live_at objects id) refl entry
+  where
+    by_found : (o : Option Live) → live_at objects id ≡ o → passes (is_entry dir) o ≡ true → IsLive is_directory objects dir
+    by_found None is entry = absurd (false≢true entry)
+    by_found (Some e) is entry =
+        let older = entry_directory objects.live e.id.0 dir e.what (belongs_at objects id e population is) entry in
+        older.1
+
+-- the maker of a live pipe or socket is a live process
+pub maker_lives : (objects : Entities) (id maker : Id) → IsPopulation objects → IsLive (is_made_by maker) objects id → IsLive is_process objects maker
+maker_lives objects id maker population made = by_found (live_at objects id) refl made
+  where
+    by_found : (o : Option Live) → live_at objects id ≡ o → passes (is_made_by maker) o ≡ true → IsLive is_process objects maker
+    by_found None is made = absurd (false≢true made)
+    by_found (Some e) is made =
+        let older = maker_process objects.live e.id.0 maker e.what (belongs_at objects id e population is) made in
+        older.1

@@ -125,7 +125,7 @@ remove_filter id least next (x ∷ es) (suc i) d within rising has =
     let no_id : has_id id x ≡ false = id_differs id x (λ early. omega (arith, later, same, early)) in
     rw no_id (ap (λ (ls : List Live). x ∷ ls) (remove_filter id (x.id.0 + 1) next es i d (omega arith) rising.1 has))
 
-below_next : (low high : ℕ) (ls : List Live) → IsRising low high ls → low ≤ high
+pub below_next : (low high : ℕ) (ls : List Live) → IsRising low high ls → low ≤ high
 below_next low high [] rising = rising
 below_next low high (l ∷ ls) rising = let rest : l.id.0 + 1 ≤ high = below_next (l.id.0 + 1) high ls rising.1 in omega (arith, rising.0, rest)
 

@@ -1,5 +1,5 @@
 //! Entities, and what each kind of them holds.
-ghost use Rattle.std.specs.Prelude.{◌≡◌, ◌≤◌, nat_eq, nat_le, length, ◌∷◌, ◌&&◌, ◌||◌, OnOk, OnErr, drop};
+ghost use Rattle.std.specs.Prelude.{◌≡◌, ◌≤◌, nat_eq, nat_le, length, ◌∷◌, ◌&&◌, OnOk, OnErr, drop};
 ghost use Rattle.std.specs.Str.{bytes_eq};
 ghost use Rattle.mf_objects.specs.Live as live;
 ghost use Rattle.mf_objects.specs.Changes as change;
@@ -216,13 +216,6 @@ impl Entity {
         ensures { result ≡ nat_le n self.now.id.0 }
     {
         self.id.0 >= n
-    }
-
-    /// Whether it goes when the process of this id exits.
-    pub fn goes_with(&self, id: Id) -> bool
-        ensures { result ≡ (nat_eq self.now.id.0 id.0 || live.is_made_by id self.now.what) }
-    {
-        self.has_id(id) || self.what.is_made_by(id)
     }
 
     pub fn is_entry(&self, dir: Id) -> bool

@@ -1,9 +1,9 @@
 //! Readings of the live entities. What an entity of another kind holds is read as empty, or as all zero.
-ghost use Rattle.std.specs.Prelude.{◌≡◌, ◌≤◌, ◌<◌, length, find, count_by, option_map, nat_le, ◌&&◌, Some, IsSome, IfSome};
+ghost use Rattle.std.specs.Prelude.{◌≡◌, ◌≢◌, ◌≤◌, ◌<◌, length, find, count_by, option_map, nat_le, ◌&&◌, false, Some, IsSome, IfSome};
 ghost use Rattle.std.specs.Str.{bytes_eq};
 ghost use Rattle.mf_objects.specs.Head.{head_of};
 ghost use Rattle.mf_objects.specs.Live as live;
-ghost use Rattle.mf_objects.specs.Sound.{shown};
+ghost use Rattle.mf_objects.specs.Sound.{shown, IsPopulation};
 
 use super::Objects;
 use crate::entity::{Entity, What};
@@ -18,6 +18,7 @@ impl Objects {
     pub fn live(&self) -> u32
         ensures value { result ≡ length self.now.live }
         ensures most { result ≤ 1024 }
+        ensures population { IsPopulation self.now }
     {
         self.entities.len() as u32
     }
@@ -75,6 +76,7 @@ impl Objects {
     pub fn child(&self, dir: Id, name: &str) -> Option<Id>
         ensures found { live.IsFound (live.is_child dir name.now) self.now result }
         ensures vnode { IfSome result (λ id. live.IsLive live.is_vnode self.now id) }
+        ensures not_root { IfSome result (λ id. id.0 ≢ 0) }
     {
         child_named(&self.entities, dir, name)
     }
@@ -86,10 +88,11 @@ impl Objects {
         self.entity(id).what.kind()
     }
 
-    /// The attributes of a file or a directory.
+    /// The attributes of a file or a directory. What isn't a directory has no entries.
     pub fn file(&self, id: Id) -> FileView
         requires { IsSome (live.live_at self.now id) }
-        ensures { result ≡ live.file_at self.now id }
+        ensures value { result ≡ live.file_at self.now id }
+        ensures regular { result.dir ≡ false → live.entry_count self.now id ≡ 0 }
     {
         self.entity(id).what.file()
     }
@@ -160,7 +163,8 @@ impl Objects {
 
     pub(super) fn entity(&self, id: Id) -> &Entity
         requires { IsSome (live.live_at self.now id) }
-        ensures { live.live_at self.now id ≡ Some (shown (live.label_of (live.live_at self.now id)) result.now) }
+        ensures shown { live.live_at self.now id ≡ Some (shown (live.label_of (live.live_at self.now id)) result.now) }
+        ensures population { IsPopulation self.now }
     {
         let place = self.place(id);
         &self.entities[place]

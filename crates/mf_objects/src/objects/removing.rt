@@ -3,7 +3,7 @@ ghost use Rattle.std.specs.Prelude.{◌≡◌, ◌≢◌, ◌<◌, length, remov
 ghost use Rattle.mf_objects.specs.Live as live;
 ghost use Rattle.mf_objects.specs.declared.id.Id.{Id};
 ghost use Rattle.mf_objects.specs.Changes as change;
-ghost use Rattle.mf_objects.specs.Sound.{HasRoot};
+ghost use Rattle.mf_objects.specs.Sound.{HasRoot, IsBare};
 
 use super::Objects;
 use crate::entity::Entity;
@@ -15,10 +15,20 @@ impl Objects {
         requires { live.IsLive live.is_process self.old id }
         ensures { self.new ≡ change.without (change.goes_with id) self.old }
     {
+        self.remove_made_by(id);
+        let place = self.place(id);
+        self.remove_at(place);
+    }
+
+    /// Removes the pipes and sockets that a process made.
+    fn remove_made_by(&mut self, maker: Id)
+        ensures removed { self.new ≡ change.without (λ e. live.is_made_by maker e.what) self.old }
+        ensures rooted { HasRoot self.new.live }
+    {
         let mut place = 0;
         let mut len = self.len();
         while place < len {
-            if self.goes_at(place, id) {
+            if self.made_at(place, maker) {
                 self.remove_at(place);
                 len -= 1;
             } else {
@@ -45,17 +55,18 @@ impl Objects {
         self.entities.len()
     }
 
-    fn goes_at(&self, place: usize, id: Id) -> bool
+    fn made_at(&self, place: usize, maker: Id) -> bool
         requires { place < length self.now.live }
-        ensures { (d : live.Live) → result ≡ change.goes_with id (slice_index_or self.now.live place d) }
+        ensures { (d : live.Live) → result ≡ live.is_made_by maker (slice_index_or self.now.live place d).what }
     {
-        self.entities[place].goes_with(id)
+        self.entities[place].what.is_made_by(maker)
     }
 
-    /// Removes the entity at a place, and gives its label up.
+    /// Removes the entity at a place, to which nothing belongs, and gives its label up.
     fn remove_at(&mut self, place: usize)
         requires within { place < length self.old.live }
         requires later { 0 < place }
+        requires bare { (d : live.Live) → let e = slice_index_or self.old.live place d in IsBare self.old.live e.id e.what }
         ensures removed { self.new ≡ record self.old { live = remove self.old.live place } }
         ensures by_id { (id : Id) → ((d : live.Live) → live.has_id id (slice_index_or self.old.live place d) ≡ true)
             → self.new ≡ change.without (live.has_id id) self.old }

@@ -1,11 +1,12 @@
-use Rattle.std.proofs.Common.{◌≡◌, ◌<◌, ℕ, List, [], ◌∷◌, ◌++◌, ◌+◌, length, ap, ◌∙◌, subst, arith, refl}
+use Rattle.std.proofs.Common.{◌≡◌, ◌<◌, ℕ, List, [], ◌∷◌, ◌++◌, ◌+◌, length, ap, sym, ◌∙◌, subst, arith, refl}
 use Rattle.std.proofs.lemmas.List.{length-map}
 use Rattle.mf_objects.specs.declared.id.Id.{Id}
 use Rattle.mf_objects.specs.declared.entity.Entity.{Entity}
 use Rattle.mf_objects.specs.Live.{Live, Entities, live_at}
 use Rattle.mf_objects.specs.Changes.{with_entity, made}
-use Rattle.mf_objects.specs.Sound.{live_of, seen, IsRising}
+use Rattle.mf_objects.specs.Sound.{live_of, seen, IsRising, Belongs, MayJoin}
 use Rattle.mf_objects.proofs.Rising.{find_new}
+use Rattle.mf_objects.proofs.Belonging.{joins}
 use Rattle.mf_objects.proofs.Kept.{view, Becomes, same_zones, added, on_err}
 use Rattle.mf_objects.proofs.objects.Objects.add.Goals as goal
 
@@ -31,9 +32,11 @@ invariant_of-self-2 c =
     let e : Entity = record { id = record { 0 = c.self.inside.next }; name = c.in_ok-name.name; label = c.in_ok-label.label; what = c.args.what } in
     let room : length es < 1024 = omega (arith, c.requires.few, length-map es (seen zones), ap (λ (o : Entities). length o.live) c.self.view_is) in
     let four : length c.args.values.now ≡ 4 = omega arith in
+    let belongs : Belongs (live_of zones es) c.self.inside.next c.args.what =
+    joins (view c.self.inside.next zones es) c.args.what c.self.invariant.population.rising (subst (λ (o : Entities). MayJoin o c.args.what) (sym c.self.view_is) c.requires.joins) in
     let b : Becomes (c.self.inside.next + 1) c.make_label.new.self (es ++ e ∷ [])
     (record { next = c.self.inside.next + 1; live = live_of zones es ++ record { id = e.id; name = e.name; label = c.args.values.now; what = e.what } ∷ [] }) =
-    added c.self.inside.next zones c.make_label.new.self es e c.args.values.now refl room four c.self.invariant c.in_ok-label.ensures.ok in
+    added c.self.inside.next zones c.make_label.new.self es e c.args.values.now refl room four c.self.invariant belongs c.in_ok-label.ensures.ok in
     let pushed : c.push.new.self.items ≡ c.reserve.new.self.items ++ e ∷ [] = rw c.unwrap.ensures at c.push.ensures.items in
     let items : c.push.new.self.items ≡ es ++ e ∷ [] = pushed ∙ ap (λ (xs : List Entity). xs ++ e ∷ []) c.reserve.ensures.items in
     rw items b.sound
@@ -45,9 +48,11 @@ returns-clause-ok c =
     let e : Entity = record { id = record { 0 = c.self.inside.next }; name = c.in_ok-name.name; label = c.in_ok-label.label; what = c.args.what } in
     let room : length es < 1024 = omega (arith, c.requires.few, length-map es (seen zones), ap (λ (o : Entities). length o.live) c.self.view_is) in
     let four : length c.args.values.now ≡ 4 = omega arith in
+    let belongs : Belongs (live_of zones es) c.self.inside.next c.args.what =
+    joins (view c.self.inside.next zones es) c.args.what c.self.invariant.population.rising (subst (λ (o : Entities). MayJoin o c.args.what) (sym c.self.view_is) c.requires.joins) in
     let b : Becomes (c.self.inside.next + 1) c.make_label.new.self (es ++ e ∷ [])
     (record { next = c.self.inside.next + 1; live = live_of zones es ++ record { id = e.id; name = e.name; label = c.args.values.now; what = e.what } ∷ [] }) =
-    added c.self.inside.next zones c.make_label.new.self es e c.args.values.now refl room four c.self.invariant c.in_ok-label.ensures.ok in
+    added c.self.inside.next zones c.make_label.new.self es e c.args.values.now refl room four c.self.invariant belongs c.in_ok-label.ensures.ok in
     let pushed : c.push.new.self.items ≡ c.reserve.new.self.items ++ e ∷ [] = rw c.unwrap.ensures at c.push.ensures.items in
     let items : c.push.new.self.items ≡ es ++ e ∷ [] = pushed ∙ ap (λ (xs : List Entity). xs ++ e ∷ []) c.reserve.ensures.items in
     ap (λ (xs : List Entity). view (c.self.inside.next + 1) c.make_label.new.self xs) items
@@ -62,9 +67,11 @@ returns-clause-found c =
     let e : Entity = record { id = record { 0 = c.self.inside.next }; name = c.in_ok-name.name; label = c.in_ok-label.label; what = c.args.what } in
     let room : length es < 1024 = omega (arith, c.requires.few, length-map es (seen zones), ap (λ (o : Entities). length o.live) c.self.view_is) in
     let four : length c.args.values.now ≡ 4 = omega arith in
+    let belongs : Belongs (live_of zones es) c.self.inside.next c.args.what =
+    joins (view c.self.inside.next zones es) c.args.what c.self.invariant.population.rising (subst (λ (o : Entities). MayJoin o c.args.what) (sym c.self.view_is) c.requires.joins) in
     let b : Becomes (c.self.inside.next + 1) c.make_label.new.self (es ++ e ∷ [])
     (record { next = c.self.inside.next + 1; live = live_of zones es ++ record { id = e.id; name = e.name; label = c.args.values.now; what = e.what } ∷ [] }) =
-    added c.self.inside.next zones c.make_label.new.self es e c.args.values.now refl room four c.self.invariant c.in_ok-label.ensures.ok in
+    added c.self.inside.next zones c.make_label.new.self es e c.args.values.now refl room four c.self.invariant belongs c.in_ok-label.ensures.ok in
     let pushed : c.push.new.self.items ≡ c.reserve.new.self.items ++ e ∷ [] = rw c.unwrap.ensures at c.push.ensures.items in
     let items : c.push.new.self.items ≡ es ++ e ∷ [] = pushed ∙ ap (λ (xs : List Entity). xs ++ e ∷ []) c.reserve.ensures.items in
     let whole : view (c.self.inside.next + 1) c.make_label.new.self c.push.new.self.items ≡ with_entity c.args.self.now c.args.name.now c.args.values.now c.args.what =
@@ -73,7 +80,7 @@ returns-clause-found c =
     ∙ ap (λ (n : List ℕ). with_entity (view c.self.inside.next zones es) n c.args.values.now c.args.what) (let n = c.in_ok-name.ensures in n)
     ∙ ap (λ (o : Entities). with_entity o c.args.name.now c.args.values.now c.args.what) c.self.view_is in
     let x : Live = made c.args.self.now c.args.name.now c.args.values.now c.args.what in
-    let rising : IsRising 0 c.args.self.now.next c.args.self.now.live = subst (λ (o : Entities). IsRising 0 o.next o.live) c.self.view_is c.self.invariant.rising in
+    let rising : IsRising 0 c.args.self.now.next c.args.self.now.live = subst (λ (o : Entities). IsRising 0 o.next o.live) c.self.view_is c.self.invariant.population.rising in
     let id : Id = record { 0 = c.self.inside.next } in
     let same : id ≡ x.id = ap (λ (o : Entities). let i : Id = record { 0 = o.next } in i) c.self.view_is in
     ap (λ (o : Entities). live_at o id) whole

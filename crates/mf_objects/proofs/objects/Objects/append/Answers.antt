@@ -4,7 +4,8 @@ use Rattle.mf_objects.specs.Live.{Entities, live_at, IsLiveWhere}
 use Rattle.mf_objects.specs.Changes.{with_change, with_what, appended, FitsBytes}
 use Rattle.mf_objects.specs.Sound.{IsPlace}
 use Rattle.mf_objects.proofs.Kept.{view, what_changed}
-use Rattle.mf_objects.proofs.Found.{where_place, what_sound, appended_kind}
+use Rattle.mf_objects.proofs.Belonging.{appended_stays}
+use Rattle.mf_objects.proofs.Found.{where_place, what_sound}
 use Rattle.mf_objects.proofs.objects.Objects.append.Goals as goal
 
 pub append-requires : goal.append-requires
@@ -26,7 +27,7 @@ invariant_of-self c =
     let i = c.place-place.result in
     let e = c.index_mut-entity.result.now in
     let place : IsPlace (view next zones es) c.args.id i = subst (λ (o : Entities). IsPlace o c.args.id i) (sym c.self.view_is) c.place-place.ensures in
-    what_sound c.append.result next zones es c.args.id i e c.append.new.self (appended c.args.text.now) place c.index_mut-entity.ensures.value c.self.invariant (appended_kind c.args.text.now)
+    what_sound c.append.result next zones es c.args.id i e c.append.new.self (appended c.args.text.now) place c.index_mut-entity.ensures.value c.self.invariant (appended_stays c.args.text.now)
     c.append.ensures.ok c.append.ensures.err
 
 pub returns-clause-ok : goal.returns-clause-ok
@@ -38,5 +39,5 @@ returns-clause-ok c =
     let e = c.index_mut-entity.result.now in
     let place : IsPlace (view next zones es) c.args.id i = subst (λ (o : Entities). IsPlace o c.args.id i) (sym c.self.view_is) c.place-place.ensures in
     on_ok_weaker c.append.result (λ (changed : c.append.new.self ≡ (appended c.args.text.now) e.what).
-    (what_changed next zones es c.args.id i e c.append.new.self (appended c.args.text.now) place c.index_mut-entity.ensures.value c.self.invariant (appended_kind c.args.text.now) changed).shows
+    (what_changed next zones es c.args.id i e c.append.new.self (appended c.args.text.now) place c.index_mut-entity.ensures.value c.self.invariant (appended_stays c.args.text.now) changed).shows
     ∙ ap (λ (o : Entities). with_change (with_what (appended c.args.text.now)) o c.args.id) c.self.view_is) c.append.ensures.ok

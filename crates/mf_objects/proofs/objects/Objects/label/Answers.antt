@@ -49,4 +49,4 @@ returns c =
     subst (λ (o : Entities). IsPlace o c.args.id c.place-place.result) (sym c.self.view_is) c.place-place.ensures in
     let here = label_place c.self.inside.next zones es c.args.id c.place-place.result c.index.result.now place c.index.ensures
     ∙ ap (λ (o : Entities). label_at o c.args.id) c.self.view_is in
-    rw (c.value.ensures, c.value-2.ensures, c.value-3.ensures, c.value-4.ensures) here
+    rw (c.value.ensures.value, c.value-2.ensures.value, c.value-3.ensures.value, c.value-4.ensures.value) here

@@ -4,7 +4,8 @@ use Rattle.mf_objects.specs.Changes.{with_change, with_what, with_messages, HasM
 use Rattle.mf_objects.specs.Head.{head_of}
 use Rattle.mf_objects.specs.Sound.{IsPlace}
 use Rattle.mf_objects.proofs.Kept.{view, what_changed}
-use Rattle.mf_objects.proofs.Found.{where_place, messages_place, messages_kind}
+use Rattle.mf_objects.proofs.Belonging.{messages_stay}
+use Rattle.mf_objects.proofs.Found.{where_place, messages_place}
 use Rattle.mf_objects.proofs.objects.Objects.pop_message.Goals as goal
 
 pub pop_message-message-requires : goal.pop_message-message-requires
@@ -27,7 +28,7 @@ invariant_of-self c =
     let e = c.index_mut-entity.result.now in
     let place : IsPlace (view next zones es) c.args.id i = subst (λ (o : Entities). IsPlace o c.args.id i) (sym c.self.view_is) c.place-place.ensures in
     (what_changed next zones es c.args.id i e c.pop_message-message.new.self (with_messages (drop 1)) place c.index_mut-entity.ensures.value c.self.invariant
-    (messages_kind (drop 1)) c.pop_message-message.ensures.rest).sound
+    (messages_stay (drop 1)) c.pop_message-message.ensures.rest).sound
 
 pub returns-clause-rest : goal.returns-clause-rest
 returns-clause-rest c =
@@ -38,7 +39,7 @@ returns-clause-rest c =
     let e = c.index_mut-entity.result.now in
     let place : IsPlace (view next zones es) c.args.id i = subst (λ (o : Entities). IsPlace o c.args.id i) (sym c.self.view_is) c.place-place.ensures in
     (what_changed next zones es c.args.id i e c.pop_message-message.new.self (with_messages (drop 1)) place c.index_mut-entity.ensures.value c.self.invariant
-    (messages_kind (drop 1)) c.pop_message-message.ensures.rest).shows
+    (messages_stay (drop 1)) c.pop_message-message.ensures.rest).shows
     ∙ ap (λ (o : Entities). with_change (with_what (with_messages (drop 1))) o c.args.id) c.self.view_is
 
 pub returns-clause-oldest : goal.returns-clause-oldest

@@ -4,7 +4,8 @@ use Rattle.mf_objects.specs.Live.{Entities, live_at, IsLiveWhere}
 use Rattle.mf_objects.specs.Changes.{with_change, with_what, with_messages, with_message, FitsMessage}
 use Rattle.mf_objects.specs.Sound.{IsPlace}
 use Rattle.mf_objects.proofs.Kept.{view, what_changed}
-use Rattle.mf_objects.proofs.Found.{where_place, what_sound, messages_kind}
+use Rattle.mf_objects.proofs.Belonging.{messages_stay}
+use Rattle.mf_objects.proofs.Found.{where_place, what_sound}
 use Rattle.mf_objects.proofs.objects.Objects.push_message.Goals as goal
 
 pub push_message-requires : goal.push_message-requires
@@ -15,8 +16,8 @@ push_message-requires c =
     let i = c.place-place.result in
     let e = c.index_mut-entity.result.now in
     let place : IsPlace (view next zones es) c.args.id i = subst (λ (o : Entities). IsPlace o c.args.id i) (sym c.self.view_is) c.place-place.ensures in
-    where_place (FitsMessage) next zones es c.args.id i e place c.index_mut-entity.ensures.value
-    (subst (λ (o : Entities). IsLiveWhere (FitsMessage) (live_at o c.args.id)) (sym c.self.view_is) c.requires.room)
+    where_place FitsMessage next zones es c.args.id i e place c.index_mut-entity.ensures.value
+    (subst (λ (o : Entities). IsLiveWhere FitsMessage (live_at o c.args.id)) (sym c.self.view_is) c.requires.room)
 
 pub invariant_of-self : goal.invariant_of-self
 invariant_of-self c =
@@ -26,7 +27,7 @@ invariant_of-self c =
     let i = c.place-place.result in
     let e = c.index_mut-entity.result.now in
     let place : IsPlace (view next zones es) c.args.id i = subst (λ (o : Entities). IsPlace o c.args.id i) (sym c.self.view_is) c.place-place.ensures in
-    what_sound c.push_message.result next zones es c.args.id i e c.push_message.new.self (with_messages (with_message c.in_ok-message.message)) place c.index_mut-entity.ensures.value c.self.invariant (messages_kind (with_message c.in_ok-message.message))
+    what_sound c.push_message.result next zones es c.args.id i e c.push_message.new.self (with_messages (with_message c.in_ok-message.message)) place c.index_mut-entity.ensures.value c.self.invariant (messages_stay (with_message c.in_ok-message.message))
     c.push_message.ensures.ok c.push_message.ensures.err
 
 pub returns-clause-ok : goal.returns-clause-ok
@@ -38,6 +39,6 @@ returns-clause-ok c =
     let e = c.index_mut-entity.result.now in
     let place : IsPlace (view next zones es) c.args.id i = subst (λ (o : Entities). IsPlace o c.args.id i) (sym c.self.view_is) c.place-place.ensures in
     on_ok_weaker c.push_message.result (λ (changed : c.push_message.new.self ≡ (with_messages (with_message c.in_ok-message.message)) e.what).
-    (what_changed next zones es c.args.id i e c.push_message.new.self (with_messages (with_message c.in_ok-message.message)) place c.index_mut-entity.ensures.value c.self.invariant (messages_kind (with_message c.in_ok-message.message)) changed).shows
+    (what_changed next zones es c.args.id i e c.push_message.new.self (with_messages (with_message c.in_ok-message.message)) place c.index_mut-entity.ensures.value c.self.invariant (messages_stay (with_message c.in_ok-message.message)) changed).shows
     ∙ ap (λ (o : Entities). with_change (with_what (with_messages (with_message c.in_ok-message.message))) o c.args.id) c.self.view_is
     ∙ ap (λ (text : List ℕ). with_change (with_what (with_messages (with_message text))) c.args.self.now c.args.id) (let same = c.in_ok-message.ensures in same)) c.push_message.ensures.ok

@@ -4,7 +4,7 @@ use Rattle.mf_objects.specs.declared.entity.Entity.{Entity}
 use Rattle.mf_objects.specs.Live.{Live, Entities}
 use Rattle.mf_objects.specs.Sound.{live_of, seen, IsRising}
 use Rattle.mf_objects.proofs.Rising.{remove_filter}
-use Rattle.mf_objects.proofs.Kept.{view, held_place, dropped}
+use Rattle.mf_objects.proofs.Kept.{view, held_place, bare_place, dropped}
 use Rattle.mf_objects.proofs.objects.Objects.remove_at.Goals as goal
 
 within : (next : ℕ) (objects : Entities) (es : List Entity) (lives : List Live) (place : ℕ) → lives ≡ objects.live → length lives ≡ length es → place < length objects.live → place < length es
@@ -25,7 +25,11 @@ invariant_of-self c =
     let b =
     dropped c.self.inside.next zones c.give_up.new.self es c.args.place c.remove-label.result
     (within c.self.inside.next c.args.self.now es (live_of zones es) c.args.place (ap (λ (o : Entities). o.live) c.self.view_is) (length-map es (seen zones)) c.requires.within)
-    c.requires.later c.remove-label.ensures.value c.self.invariant c.give_up.ensures in
+    c.requires.later c.remove-label.ensures.value c.self.invariant
+    (bare_place c.self.inside.next zones es c.args.self.now c.args.place c.remove-label.result c.self.view_is
+    (within c.self.inside.next c.args.self.now es (live_of zones es) c.args.place (ap (λ (o : Entities). o.live) c.self.view_is) (length-map es (seen zones)) c.requires.within)
+    c.remove-label.ensures.value c.requires.bare)
+    c.give_up.ensures in
     rw c.remove-label.ensures.items b.sound
 
 pub returns-clause-removed : goal.returns-clause-removed
@@ -35,7 +39,11 @@ returns-clause-removed c =
     let b =
     dropped c.self.inside.next zones c.give_up.new.self es c.args.place c.remove-label.result
     (within c.self.inside.next c.args.self.now es (live_of zones es) c.args.place (ap (λ (o : Entities). o.live) c.self.view_is) (length-map es (seen zones)) c.requires.within)
-    c.requires.later c.remove-label.ensures.value c.self.invariant c.give_up.ensures in
+    c.requires.later c.remove-label.ensures.value c.self.invariant
+    (bare_place c.self.inside.next zones es c.args.self.now c.args.place c.remove-label.result c.self.view_is
+    (within c.self.inside.next c.args.self.now es (live_of zones es) c.args.place (ap (λ (o : Entities). o.live) c.self.view_is) (length-map es (seen zones)) c.requires.within)
+    c.remove-label.ensures.value c.requires.bare)
+    c.give_up.ensures in
     ap (λ (xs : List Entity). view c.self.inside.next c.give_up.new.self xs) c.remove-label.ensures.items
     ∙ b.shows
     ∙ ap (λ (o : Entities). let p : Entities = record { next = o.next; live = remove o.live c.args.place } in p) c.self.view_is
@@ -47,7 +55,11 @@ returns-clause-by_id c id has =
     let b =
     dropped c.self.inside.next zones c.give_up.new.self es c.args.place c.remove-label.result
     (within c.self.inside.next c.args.self.now es (live_of zones es) c.args.place (ap (λ (o : Entities). o.live) c.self.view_is) (length-map es (seen zones)) c.requires.within)
-    c.requires.later c.remove-label.ensures.value c.self.invariant c.give_up.ensures in
+    c.requires.later c.remove-label.ensures.value c.self.invariant
+    (bare_place c.self.inside.next zones es c.args.self.now c.args.place c.remove-label.result c.self.view_is
+    (within c.self.inside.next c.args.self.now es (live_of zones es) c.args.place (ap (λ (o : Entities). o.live) c.self.view_is) (length-map es (seen zones)) c.requires.within)
+    c.remove-label.ensures.value c.requires.bare)
+    c.give_up.ensures in
     let removed : view c.self.inside.next c.give_up.new.self c.remove-label.new.self.items ≡ (let p : Entities = record { next = c.args.self.now.next; live = remove c.args.self.now.live c.args.place } in p) =
     ap (λ (xs : List Entity). view c.self.inside.next c.give_up.new.self xs) c.remove-label.ensures.items
     ∙ b.shows
@@ -55,7 +67,7 @@ returns-clause-by_id c id has =
     let lives = live_of zones es in
     let same : lives ≡ c.args.self.now.live = ap (λ (o : Entities). o.live) c.self.view_is in
     let first : Live = seen zones c.remove-label.result in
-    let all : IsRising 0 c.self.inside.next c.args.self.now.live = subst (λ (ls : List Live). IsRising 0 c.self.inside.next ls) same c.self.invariant.rising in
+    let all : IsRising 0 c.self.inside.next c.args.self.now.live = subst (λ (ls : List Live). IsRising 0 c.self.inside.next ls) same c.self.invariant.population.rising in
     removed
     ∙ ap (λ (ls : List Live). let p : Entities = record { next = c.args.self.now.next; live = ls } in p)
     (remove_filter id 0 c.self.inside.next c.args.self.now.live c.args.place first c.requires.within all (has first))

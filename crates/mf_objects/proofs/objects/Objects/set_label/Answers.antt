@@ -24,7 +24,7 @@ invariant_of-self c =
     let place : IsPlace (view c.self.inside.next zones es) c.args.id c.place-place.result =
     subst (λ (o : Entities). IsPlace o c.args.id c.place-place.result) (sym c.self.view_is) c.place-place.ensures in
     (value_set c.self.inside.next zones c.set.new.self es c.args.id c.place-place.result c.index_mut.result.now c.args.slot c.args.value
-    c.requires.slot place c.index_mut.ensures.value c.self.invariant c.set.ensures).sound
+    c.requires.slot c.requires.value place c.index_mut.ensures.value c.self.invariant c.set.ensures).sound
 
 pub returns-then-is_made-clause-ok : goal.returns-then-is_made-clause-ok
 returns-then-is_made-clause-ok c =
@@ -33,7 +33,7 @@ returns-then-is_made-clause-ok c =
     let place : IsPlace (view c.self.inside.next zones es) c.args.id c.place-place.result =
     subst (λ (o : Entities). IsPlace o c.args.id c.place-place.result) (sym c.self.view_is) c.place-place.ensures in
     (value_set c.self.inside.next zones c.set.new.self es c.args.id c.place-place.result c.index_mut.result.now c.args.slot c.args.value
-    c.requires.slot place c.index_mut.ensures.value c.self.invariant c.set.ensures).shows
+    c.requires.slot c.requires.value place c.index_mut.ensures.value c.self.invariant c.set.ensures).shows
     ∙ ap (λ (o : Entities). with_change (with_value c.args.slot c.args.value) o c.args.id) c.self.view_is
 
 pub make-requires-clause-held : goal.make-requires-clause-held
@@ -54,7 +54,7 @@ invariant_of-self-2 c =
     let unset : handle c.index_mut.result.now.label c.args.slot ≡ None =
     unmade_none (handle c.index_mut.result.now.label c.args.slot) (λ some. let t = c.if-is_made.ensures in t.1 some) in
     made_sound c.make.result c.self.inside.next zones c.make.new.self es c.args.id c.place-place.result c.index_mut.result.now c.make.new.label c.args.slot c.args.value
-    c.requires.slot place c.index_mut.ensures.value c.self.invariant unset c.make.ensures.ok c.make.ensures.err
+    c.requires.slot c.requires.value place c.index_mut.ensures.value c.self.invariant unset c.make.ensures.ok c.make.ensures.err
 
 pub returns-clause-ok : goal.returns-clause-ok
 returns-clause-ok c =
@@ -66,7 +66,7 @@ returns-clause-ok c =
     unmade_none (handle c.index_mut.result.now.label c.args.slot) (λ some. let t = c.if-is_made.ensures in t.1 some) in
     on_ok_weaker c.make.result (λ (makes : Makes zones c.make.new.self c.index_mut.result.now.label c.make.new.label c.args.slot c.args.value).
     (value_made c.self.inside.next zones c.make.new.self es c.args.id c.place-place.result c.index_mut.result.now c.make.new.label c.args.slot c.args.value
-    c.requires.slot place c.index_mut.ensures.value c.self.invariant unset makes).shows
+    c.requires.slot c.requires.value place c.index_mut.ensures.value c.self.invariant unset makes).shows
     ∙ ap (λ (o : Entities). with_change (with_value c.args.slot c.args.value) o c.args.id) c.self.view_is) c.make.ensures.ok
 
 pub returns-clause-made : goal.returns-clause-made

@@ -21,5 +21,5 @@ returns-clause-ok c =
     c.as_str-2.ensures.value
     ∙ title
     ∙ ap (λ (p : List ℕ). title_of p c.entity-entity.result.now.name c.entity-entity.result.now.what) live_path
-    ∙ ap (λ (found : Option Live). title_in (path_at c.args.self.now c.args.id) found) (sym c.entity-entity.ensures) in
+    ∙ ap (λ (found : Option Live). title_in (path_at c.args.self.now c.args.id) found) (sym c.entity-entity.ensures.shown) in
     pushed c.push_str.result (string_bytes c.push_str.new.self) (string_bytes c.args.out.now) c.as_str-2.result.now (title_at c.args.self.now c.args.id) c.push_str.ensures.bytes whole

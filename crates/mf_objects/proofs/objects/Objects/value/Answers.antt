@@ -19,6 +19,6 @@ returns c =
     let es = c.self.inside.entities.items in
     let place : IsPlace (view c.self.inside.next zones es) c.args.id c.place-place.result =
     subst (λ (o : Entities). IsPlace o c.args.id c.place-place.result) (sym c.self.view_is) c.place-place.ensures in
-    c.value.ensures
+    c.value.ensures.value
     ∙ sym (value_place c.self.inside.next zones es c.args.id c.place-place.result c.index.result.now c.args.slot c.requires.slot place c.index.ensures)
     ∙ ap (λ (o : Entities). value_at o c.args.id c.args.slot) c.self.view_is
