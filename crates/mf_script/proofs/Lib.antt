@@ -1,7 +1,7 @@
 pub mod Splits
 pub mod Numbers
 pub mod Rows
-pub mod Groups
+pub mod Added
 pub mod Tasks
 pub mod Yields
 pub mod FormedParts

@@ -1,5 +1,5 @@
 -- Which bytes are a script, and which script they are.
-use Rattle.std.specs.Prelude.{ℕ, zero, suc, Bool, true, false, not, ◌&&◌, nat_lt, List, [], ◌∷◌, ◌++◌, length, Option, Some, None, Result, Ok, Err, codes}
+use Rattle.std.specs.Prelude.{ℕ, zero, suc, Bool, false, not, ◌&&◌, ◌||◌, nat_lt, List, [], ◌∷◌, ◌++◌, length, Option, Some, None, Result, Ok, Err, codes}
 use Rattle.std.specs.List.{list_all, list_any}
 use Rattle.std.specs.Str.{bytes_eq}
 use Rattle.mf_errno.specs.declared.module.Module.{Module}
@@ -13,23 +13,19 @@ use Rattle.mf_script.specs.declared.script.Script.{Script}
 use Rattle.mf_script.specs.Readers.{◌>>=◌, only_if, or_else}
 use Rattle.mf_script.specs.Limits.{file_limit, task_limit, line_limit}
 use Rattle.mf_script.specs.Words.{Words, Rows, rows_in, is_plain}
-use Rattle.mf_script.specs.Parts.{fixed, behind, no_more}
-use Rattle.mf_script.specs.Lines.{boot_line, file_line, call_line, task_line}
-use Rattle.mf_script.specs.Labels.{is_biba, is_mls}
-
--- whether two paths have the same components
-abbrev pub is_same_path : List (List ℕ) → List (List ℕ) → Bool
-is_same_path [] [] = true
-is_same_path [] (w ∷ ws) = false
-is_same_path (v ∷ vs) [] = false
-is_same_path (v ∷ vs) (w ∷ ws) = bytes_eq v w && is_same_path vs ws
+use Rattle.mf_script.specs.Parts.{fixed, behind, no_more, is_same_path, is_root, directory_of, has_directory}
+use Rattle.mf_script.specs.Lines.{boot_line, file_line, task_line, line_of}
+use Rattle.mf_script.specs.Labels.{is_biba, is_mls, is_partition}
 
 abbrev pub has_path : List (List ℕ) → FileLine → Bool
 has_path path f = is_same_path f.path path
 
--- there is room for the file behind these, and none of them has its path
+-- there is room for the file behind these, its path is new, which the root's never is, and its directory is there
 abbrev pub may_stand : List FileLine → FileLine → Bool
-may_stand files f = nat_lt (length files) file_limit && not (list_any (has_path f.path) files)
+may_stand files f =
+    nat_lt (length files) file_limit
+    && not (is_root f.path || list_any (has_path f.path) files)
+    && has_directory files (directory_of f.path)
 
 -- The items of the rows in front, behind those so far, and the rows from the first that is no further item.
 unfoldable pub items_in : {A : Type 0} → (List A → Words → Result (Option A) ScriptError) → List A → Rows → Result (List A × Rows) ScriptError
@@ -40,7 +36,7 @@ items_in item_at items (row ∷ rows) = item_at items row >>= λ found. or_else 
 abbrev pub may_boot : List Module → Module → Bool
 may_boot boots Biba = not (list_any is_biba boots)
 may_boot boots Mls = not (list_any is_mls boots)
-may_boot boots Partition = false
+may_boot boots Partition = not (list_any is_partition boots)
 may_boot boots Bsdextended = false
 may_boot boots Priority = false
 
@@ -62,8 +58,8 @@ file_at boots files row = or_else (behind (codes "file") row) (Ok None) (λ ws. 
 unfoldable pub line_at : List Line → Words → Result (Option Line) ScriptError
 line_at lines row = or_else (behind (codes "end") row) (do
   u ← only_if (nat_lt (length lines) line_limit)
-  call ← call_line row
-  Ok (Some (record { child = None; call = call }))) (λ ws. Ok None)
+  line ← line_of row
+  Ok (Some line)) (λ ws. Ok None)
 
 -- the end of a task
 abbrev pub end_in : Rows → Result Rows ScriptError

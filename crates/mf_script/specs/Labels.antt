@@ -51,10 +51,20 @@ is_mls Partition = false
 is_mls Bsdextended = false
 is_mls Priority = false
 
--- each policy that the request names is booted, and is one that takes requests for files and processes
+abbrev pub is_partition : Module → Bool
+is_partition Biba = false
+is_partition Mls = false
+is_partition Partition = true
+is_partition Bsdextended = false
+is_partition Priority = false
+
+-- each policy that the request names is booted
 abbrev pub is_claimed : List Module → Request → Bool
 is_claimed boots request =
-    (is_none request.biba || list_any is_biba boots) && (is_none request.mls || list_any is_mls boots) && is_none request.partition && not request.other
+    (is_none request.biba || list_any is_biba boots)
+    && (is_none request.mls || list_any is_mls boots)
+    && (is_none request.partition || list_any is_partition boots)
+    && not request.other
 
 abbrev pub has_no_range : Option RangeLabel → Bool
 has_no_range None = true
@@ -69,10 +79,14 @@ is_valid_value (Number n) = true
 abbrev pub may_ask_of_task : List Module → Request → Bool
 may_ask_of_task boots request = is_claimed boots request && list_all (λ booted. is_valid_value (task_label booted request)) boots
 
--- a script that boots these modules may ask this of a file
+-- a script that boots these modules may ask this of a file, which has no range and no partition
 abbrev pub may_ask_of_file : List Module → Request → Bool
 may_ask_of_file boots request =
-    is_claimed boots request && has_no_range request.biba && has_no_range request.mls && list_all (λ booted. is_valid_value (file_label booted request)) boots
+    is_claimed boots request
+    && is_none request.partition
+    && has_no_range request.biba
+    && has_no_range request.mls
+    && list_all (λ booted. is_valid_value (file_label booted request)) boots
 
 -- what the task lines of a script ask
 pub record IsTaskRequest (boots : List Module) (request : Request) : Type 0 where
@@ -82,6 +96,7 @@ pub record IsTaskRequest (boots : List Module) (request : Request) : Type 0 wher
 -- what the file lines of a script ask
 pub record IsFileRequest (boots : List Module) (request : Request) : Type 0 where
   pub claimed : is_claimed boots request ≡ true
+  pub no_partition : is_none request.partition ≡ true
   pub no_biba_range : has_no_range request.biba ≡ true
   pub no_mls_range : has_no_range request.mls ≡ true
   pub valid : All (λ booted. is_valid_value (file_label booted request) ≡ true) boots

@@ -2,6 +2,7 @@ pub mod Limits
 pub mod Words
 pub mod Readers
 pub mod Parts
+pub mod Calls
 pub mod Lines
 pub mod Grammar
 pub mod Labels

@@ -1,7 +1,7 @@
 -- Which scripts are well formed, and what a script says of its files and tasks.
-use Rattle.std.specs.Prelude.{◌≡◌, ◌≢◌, ◌⊎◌, ℕ, ◌<◌, ◌≤◌, List, [], ◌∷◌, length, Option, Some, None, unwrap_or, option_map, slice_get, true, false, All, AllPairs}
+use Rattle.std.specs.Prelude.{◌≡◌, ◌≢◌, ℕ, ◌<◌, ◌≤◌, List, [], ◌∷◌, ◌++◌, length, Option, Some, None, unwrap_or, option_map, slice_get, Bool, true, false, IsTrue, All, AllPairs}
 use Rattle.mf_errno.specs.declared.module.Module.{Module}
-use Rattle.mf_errno.specs.declared.module.Module.TheVariants.{Biba, Mls}
+use Rattle.mf_errno.specs.declared.module.Module.TheVariants.{Biba, Mls, Partition, Bsdextended, Priority}
 use Rattle.mf_cred.specs.declared.cred.Cred.{Cred}
 use Rattle.mf_script.specs.declared.script.Call.{Call}
 use Rattle.mf_script.specs.declared.script.Call.TheVariants as call
@@ -9,7 +9,7 @@ use Rattle.mf_script.specs.declared.script.FileLine.{FileLine}
 use Rattle.mf_script.specs.declared.script.Line.{Line}
 use Rattle.mf_script.specs.declared.script.Task.{Task}
 use Rattle.mf_script.specs.declared.script.Script.{Script}
-use Rattle.mf_script.specs.Parts.{is_name, is_process_name, is_component}
+use Rattle.mf_script.specs.Parts.{is_name, is_process_name, is_component, directory_of, has_directory}
 use Rattle.mf_script.specs.Labels.{IsFileRequest, IsTaskRequest}
 use Rattle.mf_script.specs.Limits.{file_limit, task_limit, group_limit, line_limit, content_limit, text_limit, mode_limit, path_limit}
 
@@ -21,25 +21,38 @@ lines_of s t = unwrap_or (option_map (λ task. task.lines) (slice_get s.tasks t)
 abbrev pub name_of : Script → ℕ → List ℕ
 name_of s t = unwrap_or (option_map (λ task. task.name) (slice_get s.tasks t)) []
 
--- none, one or both of mac_biba and mac_mls, in any order
+-- mac_biba, mac_mls or mac_partition
+abbrev pub is_bootable : Module → Bool
+is_bootable Biba = true
+is_bootable Mls = true
+is_bootable Partition = true
+is_bootable Bsdextended = false
+is_bootable Priority = false
+
+-- some, all or none of the modules that a script may boot, in any order
 pub record AreBoots (boots : List Module) : Type 0 where
-  pub few : length boots ≤ 2
-  pub each : All (λ m. (m ≡ Biba) ⊎ (m ≡ Mls)) boots
+  pub few : length boots ≤ 3
+  pub each : All (λ m. is_bootable m ≡ true) boots
   pub differ : AllPairs (λ m n. m ≢ n) boots
 
--- a path in the root directory: one component, which is a word of a path
-abbrev pub IsPathInRoot : List (List ℕ) → Type 0
-IsPathInRoot [] = ⊥
-IsPathInRoot (w ∷ []) = is_component w ≡ true
-IsPathInRoot (w ∷ v ∷ ws) = ⊥
+-- up to 8 components, each of which is a word of a path; the root directory has none
+pub record IsPath (path : List (List ℕ)) : Type 0 where
+  pub few : length path ≤ path_limit
+  pub each : All (λ name. is_component name ≡ true) path
 
--- a regular file in the root directory, of which the line may ask what it asks with these modules booted
+-- A file below the root directory, of which the line may ask what it asks with these modules booted. A directory has no text.
 pub record IsFormedFile (boots : List Module) (f : FileLine) : Type 0 where
-  pub path : IsPathInRoot f.path
-  pub regular : f.file.dir ≡ false
+  pub path : IsPath f.path
+  pub below_root : 1 ≤ length f.path
   pub mode : f.file.mode ≤ mode_limit
   pub label : IsFileRequest boots f.label
   pub text : length f.text ≤ content_limit
+  pub directory : f.file.dir ≡ true → f.text ≡ []
+
+-- each file stands in a directory of an earlier line: those that came earlier, and the rest
+abbrev pub AreInDirectories : List FileLine → List FileLine → Type 0
+AreInDirectories earlier [] = Unit {0}
+AreInDirectories earlier (f ∷ files) = IsTrue (has_directory earlier (directory_of f.path)) × AreInDirectories (earlier ++ f ∷ []) files
 
 -- one uid is the effective, the real and the saved one, and there are 1 to 16 groups
 pub record IsFormedCred (cred : Cred) : Type 0 where
@@ -47,11 +60,6 @@ pub record IsFormedCred (cred : Cred) : Type 0 where
   pub saved : cred.svuid ≡ cred.uid
   pub some : 1 ≤ length cred.groups
   pub few : length cred.groups ≤ group_limit
-
--- up to 8 components, each of which is a word of a path; the root directory has none
-pub record IsPath (path : List (List ℕ)) : Type 0 where
-  pub few : length path ≤ path_limit
-  pub each : All (λ name. is_component name ≡ true) path
 
 -- a name of a child, a pipe or a socket
 abbrev pub IsName : List ℕ → Type 0
@@ -111,12 +119,13 @@ pub record IsFormedTask (boots : List Module) (task : Task) : Type 0 where
   pub lines : All IsFormedLine task.lines
 
 -- The script boots what the grammar lets it boot and is within the limits; paths of files differ, and so do names of tasks, which are
--- words; each file and each task is one that a line may say.
+-- words; each file and each task is one that a line may say, and each file stands in the root or in a directory of an earlier line.
 pub record IsWellFormed (s : Script) : Type 0 where
   pub boots : AreBoots s.boots
   pub files : length s.files ≤ file_limit
   pub paths : AllPairs (λ f g. f.path ≢ g.path) s.files
   pub each_file : All (IsFormedFile s.boots) s.files
+  pub directories : AreInDirectories [] s.files
   pub tasks : length s.tasks ≤ task_limit
   pub names : (t : ℕ) → t < length s.tasks → is_name (name_of s t) ≡ true
   pub differ : (t u : ℕ) → t < length s.tasks → u < length s.tasks → name_of s t ≡ name_of s u → t ≡ u

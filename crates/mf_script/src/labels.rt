@@ -69,6 +69,12 @@ fn is_mls(booted: Module) -> bool
     matches!(booted, Module::Mls)
 }
 
+fn is_partition(booted: Module) -> bool
+    ensures { result ≡ spec.is_partition booted }
+{
+    matches!(booted, Module::Partition)
+}
+
 fn boots_biba(boots: &[Module]) -> bool
     ensures { result ≡ list_any spec.is_biba boots.now }
 {
@@ -81,13 +87,19 @@ fn boots_mls(boots: &[Module]) -> bool
     boots.iter().any(|booted| is_mls(*booted))
 }
 
-/// Whether each policy that the request names is booted, and takes requests for files and processes.
+fn boots_partition(boots: &[Module]) -> bool
+    ensures { result ≡ list_any spec.is_partition boots.now }
+{
+    boots.iter().any(|booted| is_partition(*booted))
+}
+
+/// Whether each policy that the request names is booted.
 fn is_claimed(boots: &[Module], request: &Request) -> bool
     ensures { result ≡ spec.is_claimed boots.now request.now }
 {
     (request.biba.is_none() || boots_biba(boots))
         && (request.mls.is_none() || boots_mls(boots))
-        && request.partition.is_none()
+        && (request.partition.is_none() || boots_partition(boots))
         && !request.other
 }
 
@@ -137,18 +149,20 @@ pub fn may_ask_of_file(boots: &[Module], request: &Request) -> bool
     ensures { result ≡ spec.may_ask_of_file boots.now request.now }
 {
     is_claimed(boots, request)
+        && request.partition.is_none()
         && has_no_range(&request.biba)
         && has_no_range(&request.mls)
         && are_valid_for_file(boots, request)
 }
 
-/// Whether the module may be booted behind these: `mac_biba` and `mac_mls` may, each once.
+/// Whether the module may be booted behind these: `mac_biba`, `mac_mls` and `mac_partition` may, each once.
 pub fn may_boot(boots: &[Module], booted: Module) -> bool
     ensures { result ≡ may_boot boots.now booted }
 {
     match booted {
         Module::Biba => !boots_biba(boots),
         Module::Mls => !boots_mls(boots),
-        Module::Partition | Module::Bsdextended | Module::Priority => false,
+        Module::Partition => !boots_partition(boots),
+        Module::Bsdextended | Module::Priority => false,
     }
 }

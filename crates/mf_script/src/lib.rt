@@ -1,12 +1,14 @@
 //! Scripts: what they say, and the reader of their text.
 #![tactic(auto)]
 
+mod calls;
 mod content;
 mod error;
 mod labels;
 mod lines;
 mod listing;
 mod parts;
+mod paths;
 mod reading;
 mod script;
 #[cfg(test)]

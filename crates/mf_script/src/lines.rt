@@ -1,22 +1,19 @@
-//! The lines of a script: files, tasks and their calls.
+//! The lines of a script: boots, files, tasks and their lines.
 #![tactic(auto, unfolding(crate::specs::Readers::and_then))]
 
 ghost use Rattle.std.specs.Prelude.{◌≡◌, ◌≤◌, [], ◌∷◌, length, Ok};
 ghost use Rattle.mf_script.specs.Readers.{Gives};
-ghost use Rattle.mf_script.specs.Lines.{boot_line, file_line, file_text, task_line, call_line, read_call, write_call};
+ghost use Rattle.mf_script.specs.Lines.{boot_line, file_line, file_text, task_line, line_of};
 
 use crate::content::Content;
 use crate::error::ScriptError;
-use crate::listing::{Bytes, Listing};
-use crate::parts;
-use crate::script::{Call, FileLine, Task};
+use crate::listing::Listing;
+use crate::script::{FileLine, Line, Task};
 use crate::words::Words;
+use crate::{calls, parts};
 use mf_cred::{Cred, FileView};
 use mf_errno::Module;
 use std::alloc::Global;
-
-/// The most bytes that a call may write.
-const TEXT_LIMIT: usize = 1_048_576;
 
 /// What stands behind the word `boot`.
 #[tactic(auto, unfolding(crate::specs::Lines::boot_line, crate::specs::Readers::and_then))]
@@ -38,7 +35,7 @@ pub fn file_line(
     ensures { Gives (λ f. f) result (file_line boots.now words.old) }
 {
     let path = parts::path(alloc, words)?;
-    parts::fixed(words, "reg")?;
+    let dir = parts::is_directory(words)?;
     parts::fixed(words, "uid")?;
     let uid = parts::number(words)?;
     parts::fixed(words, "gid")?;
@@ -47,7 +44,7 @@ pub fn file_line(
     let mode = parts::mode(words)?;
     parts::fixed(words, "label")?;
     let label = parts::file_request(boots, words)?;
-    let text = file_text(alloc, words)?;
+    let text = file_text(alloc, dir, words)?;
     parts::no_more(words)?;
     Ok(FileLine {
         path,
@@ -55,18 +52,21 @@ pub fn file_line(
             uid,
             gid,
             mode,
-            dir: false,
+            dir,
         },
         label,
         text,
     })
 }
 
-/// The text of a file line, where there is one.
+/// The text of a file line, where there is one. A directory has none.
 #[tactic(auto, unfolding(crate::specs::Lines::file_text, crate::specs::Readers::and_then))]
-fn file_text(alloc: Global, words: &mut Words) -> Result<Content, ScriptError>
-    ensures { Gives (λ t. (t, words.new)) result (file_text words.old) }
+fn file_text(alloc: Global, dir: bool, words: &mut Words) -> Result<Content, ScriptError>
+    ensures { Gives (λ t. (t, words.new)) result (file_text dir words.old) }
 {
+    if dir {
+        return Ok(Content::new(alloc));
+    }
     match words.next() {
         None => Ok(Content::new(alloc)),
         Some(word) => {
@@ -76,42 +76,6 @@ fn file_text(alloc: Global, words: &mut Words) -> Result<Content, ScriptError>
             let text = parts::text(alloc, words, Content::LIMIT)?;
             Ok(Content::from_vec(text))
         }
-    }
-}
-
-#[tactic(auto, unfolding(crate::specs::Lines::read_call, crate::specs::Readers::and_then))]
-fn read_call(alloc: Global, words: &mut Words) -> Result<Call, ScriptError>
-    ensures { Gives (λ c. c) result (read_call words.old) }
-{
-    let path = parts::path(alloc, words)?;
-    parts::no_more(words)?;
-    Ok(Call::Read(path))
-}
-
-#[tactic(auto, unfolding(crate::specs::Lines::write_call, crate::specs::Readers::and_then))]
-fn write_call(alloc: Global, words: &mut Words) -> Result<Call, ScriptError>
-    ensures { Gives (λ c. c) result (write_call words.old) }
-{
-    let path = parts::path(alloc, words)?;
-    let text = parts::text(alloc, words, TEXT_LIMIT)?;
-    parts::no_more(words)?;
-    Ok(Call::Write(path, Bytes::from_vec(text)))
-}
-
-/// The call of a task's line.
-#[tactic(auto, unfolding(crate::specs::Lines::call_line, crate::specs::Readers::and_then))]
-pub fn call_line(alloc: Global, words: &mut Words) -> Result<Call, ScriptError>
-    ensures { Gives (λ c. c) result (call_line words.old) }
-{
-    let word = words.next().ok_or(ScriptError::NotYet)?;
-    if word == "read" {
-        let call = read_call(alloc, words)?;
-        Ok(call)
-    } else if word == "write" {
-        let call = write_call(alloc, words)?;
-        Ok(call)
-    } else {
-        Err(ScriptError::NotYet)
     }
 }
 
@@ -140,4 +104,14 @@ pub fn task_line(alloc: Global, boots: &[Module], words: &mut Words) -> Result<T
         label,
         lines: Listing::new(alloc),
     })
+}
+
+/// A line of a task: a call, and the child that makes it where the line names one.
+#[tactic(auto, unfolding(crate::specs::Lines::line_of, crate::specs::Readers::and_then))]
+pub fn line(alloc: Global, words: &mut Words) -> Result<Line, ScriptError>
+    ensures { Gives (λ l. l) result (line_of words.old) }
+{
+    let child = parts::child(alloc, words)?;
+    let call = calls::call_line(alloc, words)?;
+    Ok(Line { child, call })
 }

@@ -4,11 +4,11 @@
 ghost use Rattle.std.specs.Prelude.{◌≡◌, ◌≢◌, ◌<◌, ◌≤◌, [], ◌∷◌, length, MatchOption, IfSome, IfOk, List, ℕ, vec_len};
 ghost use Rattle.std.specs.List.{list_all};
 ghost use Rattle.mf_script.specs.Readers.{Gives};
-ghost use Rattle.mf_script.specs.Parts.{fixed, word_by, bootable_of, number_of, parted, with_group, groups_of, mode_of, name_of, path_of, request_of, task_request, file_request, text_of, is_name, no_more, is_name_byte, is_component_byte, is_component, slash};
+ghost use Rattle.mf_script.specs.Parts.{fixed, word_by, bootable_of, number_of, parted, with_group, groups_of, mode_of, name_of, child_in, process_of, path_of, components_of, with_component, is_directory_of, any_word, request_of, task_request, file_request, text_of, is_name, is_process_name, no_more, is_name_byte, is_component_byte, is_component};
 
 use crate::error::ScriptError;
 use crate::labels::{may_ask_of_file, may_ask_of_task};
-use crate::listing::{Listing, Name, Path};
+use crate::listing::{Listing, Name, Path, Word};
 use crate::words::Words;
 use mf_cred::ArrayVec;
 use mf_elem::Request;
@@ -22,6 +22,9 @@ const GROUP_LIMIT: usize = 16;
 
 /// The greatest mode of a file, as chmod(2) has it.
 const MODE_LIMIT: u32 = 0o7777;
+
+/// The most components of a path.
+const PATH_LIMIT: usize = 8;
 
 /// The word that has to stand there.
 pub fn fixed(words: &mut Words, text: &str) -> Result<(), ScriptError>
@@ -74,12 +77,13 @@ pub fn number(words: &mut Words) -> Result<u32, ScriptError>
     Ok(value)
 }
 
-/// The text in front of the first comma, and the text behind it.
-fn split_comma(text: &str) -> Option<(&str, &str)>
-    ensures parted { MatchOption result (parted text.now ≡ text.now ∷ []) (λ halves. parted text.now ≡ halves.0.now ∷ parted halves.1.now) }
+/// The text in front of the first separator, and the text behind it.
+fn split_at(text: &str, separator: char) -> Option<(&str, &str)>
+    requires { separator < 128 }
+    ensures parted { MatchOption result (parted separator text.now ≡ text.now ∷ []) (λ halves. parted separator text.now ≡ halves.0.now ∷ parted separator halves.1.now) }
     ensures less { IfSome result (λ halves. length halves.1.now < length text.now) }
 {
-    text.split_once(',')
+    text.split_once(separator)
 }
 
 #[tactic(auto, unfolding(crate::specs::Parts::with_group, crate::specs::Readers::and_then))]
@@ -100,7 +104,7 @@ fn groups_of(word: &str) -> Result<ArrayVec<u32, 16>, ScriptError>
 {
     let mut groups = ArrayVec::new();
     let mut rest = word;
-    while let Some((group, after)) = split_comma(rest) {
+    while let Some((group, after)) = split_at(rest, ',') {
         match add_group(&mut groups, group) {
             Err(error) => return Err(error),
             Ok(()) => rest = after,
@@ -138,6 +142,8 @@ fn bootable_of(word: &str) -> Result<Module, ScriptError>
         Ok(Module::Biba)
     } else if word == Module::Mls.name() {
         Ok(Module::Mls)
+    } else if word == Module::Partition.name() {
+        Ok(Module::Partition)
     } else {
         Err(ScriptError::NotYet)
     }
@@ -248,13 +254,72 @@ fn name_of(alloc: Global, word: &str) -> Result<Name, ScriptError>
     Ok(Name::from_string(text))
 }
 
-/// The name of a task.
+/// A name of a task, a child, a pipe or a socket.
 pub fn name(alloc: Global, words: &mut Words) -> Result<Name, ScriptError>
     ensures { Gives (λ n. (n, words.new)) result (word_by name_of words.old) }
 {
     let word = words.next().ok_or(ScriptError::NotYet)?;
     let name = name_of(alloc, word)?;
     Ok(name)
+}
+
+/// The text behind the first character, where that is the one given.
+fn behind(word: &str, first: char) -> Option<&str>
+    requires { first < 128 }
+    ensures { MatchOption result ((rest : List ℕ) → word.now ≢ first ∷ rest) (λ rest. word.now ≡ first ∷ rest.now) }
+{
+    word.strip_prefix(first)
+}
+
+/// The child that the next word names, where it begins with `@`.
+#[tactic(auto, unfolding(crate::specs::Parts::child_in, crate::specs::Readers::and_then))]
+pub fn child(alloc: Global, words: &mut Words) -> Result<Option<Name>, ScriptError>
+    ensures { Gives (λ child. (child, words.new)) result (child_in words.old) }
+{
+    let mut ahead = words.ahead();
+    match ahead.next() {
+        None => Ok(None),
+        Some(word) => match behind(word, '@') {
+            None => Ok(None),
+            Some(name) => {
+                let child = name_of(alloc, name)?;
+                *words = ahead;
+                Ok(Some(child))
+            }
+        },
+    }
+}
+
+fn is_process_name(word: &str) -> bool
+    ensures { result ≡ is_process_name word.now }
+{
+    match split_at(word, '.') {
+        None => is_name(word.as_bytes()),
+        Some((task, child)) => match split_at(child, '.') {
+            None => is_name(task.as_bytes()) && is_name(child.as_bytes()),
+            Some(_) => false,
+        },
+    }
+}
+
+#[tactic(auto, unfolding(crate::specs::Parts::process_of, crate::specs::Readers::and_then))]
+fn process_of(alloc: Global, word: &str) -> Result<Name, ScriptError>
+    ensures { Gives (λ n. n) result (process_of word.now) }
+{
+    if !is_process_name(word) {
+        return Err(ScriptError::NotYet);
+    }
+    let text = String::from_str(alloc, word)?;
+    Ok(Name::from_string(text))
+}
+
+/// The full name of a process.
+pub fn process(alloc: Global, words: &mut Words) -> Result<Name, ScriptError>
+    ensures { Gives (λ n. (n, words.new)) result (word_by process_of words.old) }
+{
+    let word = words.next().ok_or(ScriptError::NotYet)?;
+    let process = process_of(alloc, word)?;
+    Ok(process)
 }
 
 fn is_component(word: &str) -> bool
@@ -268,37 +333,102 @@ fn is_component(word: &str) -> bool
         && word != ".."
 }
 
-/// The text behind a slash in front.
-fn behind_slash(word: &str) -> Option<&str>
-    ensures { MatchOption result ((rest : List ℕ) → word.now ≢ slash ∷ rest) (λ rest. word.now ≡ slash ∷ rest.now) }
+#[tactic(auto, unfolding(crate::specs::Parts::with_component, crate::specs::Readers::and_then))]
+fn add_component(
+    alloc: Global,
+    components: &mut Listing<Name>,
+    word: &str,
+) -> Result<(), ScriptError>
+    ensures { Gives (λ u. components.new) result (with_component components.old word.now) }
 {
-    word.strip_prefix('/')
+    if components.len() >= PATH_LIMIT || !is_component(word) {
+        return Err(ScriptError::NotYet);
+    }
+    let text = String::from_str(alloc, word)?;
+    components.push(Name::from_string(text))?;
+    Ok(())
+}
+
+/// The components of a path behind its first slash.
+fn components_of(alloc: Global, text: &str) -> Result<Listing<Name>, ScriptError>
+    ensures { Gives (λ components. components) result (components_of text.now) }
+{
+    let mut components = Listing::new(alloc);
+    if text.is_empty() {
+        return Ok(components);
+    }
+    let mut rest = text;
+    while let Some((component, after)) = split_at(rest, '/') {
+        match add_component(alloc, &mut components, component) {
+            Err(error) => return Err(error),
+            Ok(()) => rest = after,
+        }
+    }
+    match add_component(alloc, &mut components, rest) {
+        Err(error) => Err(error),
+        Ok(()) => Ok(components),
+    }
 }
 
 #[tactic(auto, unfolding(crate::specs::Parts::path_of, crate::specs::Readers::and_then))]
 fn path_of(alloc: Global, word: &str) -> Result<Path, ScriptError>
     ensures { Gives (λ p. p) result (path_of word.now) }
 {
-    match behind_slash(word) {
+    match behind(word, '/') {
         None => Err(ScriptError::NotYet),
-        Some(component) => {
-            if !is_component(component) {
-                return Err(ScriptError::NotYet);
-            }
-            let text = String::from_str(alloc, component)?;
-            let components = Listing::one(alloc, Name::from_string(text))?;
+        Some(text) => {
+            let components = components_of(alloc, text)?;
             Ok(Path::from_components(components))
         }
     }
 }
 
-/// A path of one component.
+/// An absolute path.
 pub fn path(alloc: Global, words: &mut Words) -> Result<Path, ScriptError>
     ensures { Gives (λ p. (p, words.new)) result (word_by path_of words.old) }
 {
     let word = words.next().ok_or(ScriptError::NotYet)?;
     let path = path_of(alloc, word)?;
     Ok(path)
+}
+
+#[tactic(auto, unfolding(crate::specs::Parts::is_directory_of))]
+fn is_directory_of(word: &str) -> Result<bool, ScriptError>
+    ensures { Gives (λ dir. dir) result (is_directory_of word.now) }
+{
+    if word == "reg" {
+        Ok(false)
+    } else if word == "dir" {
+        Ok(true)
+    } else {
+        Err(ScriptError::NotYet)
+    }
+}
+
+/// Whether a file is a directory.
+pub fn is_directory(words: &mut Words) -> Result<bool, ScriptError>
+    ensures { Gives (λ dir. (dir, words.new)) result (word_by is_directory_of words.old) }
+{
+    let word = words.next().ok_or(ScriptError::NotYet)?;
+    let dir = is_directory_of(word)?;
+    Ok(dir)
+}
+
+#[tactic(auto, unfolding(crate::specs::Parts::any_word))]
+fn any_word(alloc: Global, word: &str) -> Result<Word, ScriptError>
+    ensures { Gives (λ w. w) result (any_word word.now) }
+{
+    let text = String::from_str(alloc, word)?;
+    Ok(Word::from_string(text))
+}
+
+/// A word, as it stands there.
+pub fn word(alloc: Global, words: &mut Words) -> Result<Word, ScriptError>
+    ensures { Gives (λ w. (w, words.new)) result (word_by any_word words.old) }
+{
+    let word = words.next().ok_or(ScriptError::NotYet)?;
+    let word = any_word(alloc, word)?;
+    Ok(word)
 }
 
 #[tactic(auto, unfolding(crate::specs::Parts::text_of, crate::specs::Readers::and_then))]

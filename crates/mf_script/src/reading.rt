@@ -6,13 +6,15 @@ ghost use Rattle.std.specs.List.{list_all, list_any};
 ghost use Rattle.std.specs.Str.{IsAscii};
 ghost use Rattle.mf_script.specs.Readers.{Gives};
 ghost use Rattle.mf_script.specs.Words.{is_plain};
-ghost use Rattle.mf_script.specs.Grammar.{script_of, script_in, items_in, boot_at, file_at, line_at, task_in, task_behind, tasks_in, has_name, end_in, may_stand, has_path, is_same_path};
+ghost use Rattle.mf_script.specs.Grammar.{script_of, script_in, items_in, boot_at, file_at, line_at, task_in, task_behind, tasks_in, has_name, end_in, may_stand, has_path};
+ghost use Rattle.mf_script.specs.Parts.{has_directory};
 ghost use Rattle.mf_script.specs.WellFormed.{IsWellFormed};
 ghost use Rattle.mf_script.specs.Limits.{task_limit};
 
 use crate::error::ScriptError;
 use crate::labels::may_boot;
 use crate::listing::{Listing, Name};
+use crate::paths::{directory_of, is_same_path};
 use crate::script::{FileLine, Line, Script, Task};
 use crate::words::{Rows, Words};
 use crate::{lines, parts};
@@ -89,20 +91,6 @@ fn boots(alloc: Global, rows: &mut Rows) -> Result<Listing<Module>, ScriptError>
     Ok(boots)
 }
 
-fn is_same_path(path: &[Name], other: &[Name]) -> bool
-    ensures { result ≡ is_same_path path.now other.now }
-{
-    match path {
-        [] => other.is_empty(),
-        [name, rest @ ..] => match other {
-            [] => false,
-            [their_name, their_rest @ ..] => {
-                name.as_str() == their_name.as_str() && is_same_path(rest, their_rest)
-            }
-        },
-    }
-}
-
 fn has_path(files: &[FileLine], path: &[Name]) -> bool
     ensures { result ≡ list_any (has_path path.now) files.now }
 {
@@ -111,11 +99,24 @@ fn has_path(files: &[FileLine], path: &[Name]) -> bool
         .any(|file| is_same_path(file.path.as_slice(), path))
 }
 
-/// Whether there is room for the file behind these, and none of them has its path.
+/// Whether the path is the root or that of a directory of these lines.
+fn has_directory(files: &[FileLine], path: &[Name]) -> bool
+    ensures { result ≡ has_directory files.now path.now }
+{
+    path.is_empty()
+        || files
+            .iter()
+            .any(|file| file.file.dir && is_same_path(file.path.as_slice(), path))
+}
+
+/// Whether there is room for the file behind these, its path is new, and its directory is there. The root is always there.
 fn may_stand(files: &[FileLine], file: &FileLine) -> bool
     ensures { result ≡ may_stand files.now file.now }
 {
-    files.len() < FILE_LIMIT && !has_path(files, file.path.as_slice())
+    let path = file.path.as_slice();
+    files.len() < FILE_LIMIT
+        && !(path.is_empty() || has_path(files, path))
+        && has_directory(files, directory_of(path))
 }
 
 /// The file of a row behind these, where the row is a file line.
@@ -169,8 +170,8 @@ fn line_at(alloc: Global, lines: &[Line], row: &mut Words) -> Result<Option<Line
     if lines.len() >= LINE_LIMIT {
         return Err(ScriptError::NotYet);
     }
-    let call = lines::call_line(alloc, row)?;
-    Ok(Some(Line { child: None, call }))
+    let line = lines::line(alloc, row)?;
+    Ok(Some(line))
 }
 
 /// The lines of a task that come next.

@@ -32,11 +32,18 @@ impl<'a> Words<'a> {
         Words { rest: line }
     }
 
+    /// The same words once more, to look ahead.
+    pub fn ahead(&self) -> Words<'a>
+        ensures { result ≡ self.now }
+    {
+        Words { rest: self.rest }
+    }
+
     /// The words behind the first, where that is the text.
     pub fn behind(&self, text: &str) -> Option<Words<'a>>
         ensures { result ≡ behind text.now self.now }
     {
-        let mut ahead = Words { rest: self.rest };
+        let mut ahead = self.ahead();
         let word = ahead.next()?;
         if word == text { Some(ahead) } else { None }
     }
