@@ -2,6 +2,7 @@ pub mod Splits
 pub mod Numbers
 pub mod Rows
 pub mod Added
+pub mod Names
 pub mod Tasks
 pub mod Yields
 pub mod FormedParts

@@ -144,15 +144,19 @@ is_component w = is_some_text w && nat_le (length w) 32 && list_all is_component
 unfoldable pub with_component : List (List ℕ) → List ℕ → Result (List (List ℕ)) ScriptError
 with_component path w = only_if (nat_lt (length path) path_limit && is_component w) >>= λ u. Ok (path ++ w ∷ [])
 
--- the components of a path behind its first slash, none of the root directory
+-- components with a slash between each two
 unfoldable pub components_of : List ℕ → Result (List (List ℕ)) ScriptError
-components_of [] = Ok []
-components_of (b ∷ w) = all_added with_component [] (parted slash (b ∷ w))
+components_of w = all_added with_component [] (parted slash w)
+
+-- what stands behind the first slash of a path: nothing in that of the root directory
+unfoldable pub behind_root : List ℕ → Result (List (List ℕ)) ScriptError
+behind_root [] = Ok []
+behind_root (b ∷ w) = components_of (b ∷ w)
 
 -- `/`, or a slash before each component
 unfoldable pub path_of : List ℕ → Result (List (List ℕ)) ScriptError
 path_of [] = Err NotYet
-path_of (b ∷ w) = only_if (b == slash) >>= λ u. components_of w
+path_of (b ∷ w) = only_if (b == slash) >>= λ u. behind_root w
 
 -- whether two paths have the same components
 abbrev pub is_same_path : List (List ℕ) → List (List ℕ) → Bool

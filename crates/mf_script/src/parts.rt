@@ -4,7 +4,7 @@
 ghost use Rattle.std.specs.Prelude.{◌≡◌, ◌≢◌, ◌<◌, ◌≤◌, [], ◌∷◌, length, MatchOption, IfSome, IfOk, List, ℕ, vec_len};
 ghost use Rattle.std.specs.List.{list_all};
 ghost use Rattle.mf_script.specs.Readers.{Gives};
-ghost use Rattle.mf_script.specs.Parts.{fixed, word_by, bootable_of, number_of, parted, with_group, groups_of, mode_of, name_of, child_in, process_of, path_of, components_of, with_component, is_directory_of, any_word, request_of, task_request, file_request, text_of, is_name, is_process_name, no_more, is_name_byte, is_component_byte, is_component};
+ghost use Rattle.mf_script.specs.Parts.{fixed, word_by, bootable_of, number_of, parted, with_group, groups_of, mode_of, name_of, child_in, process_of, path_of, behind_root, components_of, with_component, is_directory_of, any_word, request_of, task_request, file_request, text_of, is_name, is_process_name, no_more, is_name_byte, is_component_byte, is_component};
 
 use crate::error::ScriptError;
 use crate::labels::{may_ask_of_file, may_ask_of_task};
@@ -237,17 +237,18 @@ fn are_component_bytes(word: &[u8]) -> bool
     word.iter().all(|byte| is_component_byte(*byte))
 }
 
-fn is_name(word: &[u8]) -> bool
+fn is_name(word: &str) -> bool
     ensures { result ≡ is_name word.now }
 {
-    !word.is_empty() && word.len() <= 32 && are_name_bytes(word)
+    let bytes = word.as_bytes();
+    !bytes.is_empty() && bytes.len() <= 32 && are_name_bytes(bytes)
 }
 
 #[tactic(auto, unfolding(crate::specs::Parts::name_of, crate::specs::Readers::and_then))]
 fn name_of(alloc: Global, word: &str) -> Result<Name, ScriptError>
     ensures { Gives (λ n. n) result (name_of word.now) }
 {
-    if !is_name(word.as_bytes()) {
+    if !is_name(word) {
         return Err(ScriptError::NotYet);
     }
     let text = String::from_str(alloc, word)?;
@@ -294,9 +295,9 @@ fn is_process_name(word: &str) -> bool
     ensures { result ≡ is_process_name word.now }
 {
     match split_at(word, '.') {
-        None => is_name(word.as_bytes()),
+        None => is_name(word),
         Some((task, child)) => match split_at(child, '.') {
-            None => is_name(task.as_bytes()) && is_name(child.as_bytes()),
+            None => is_name(task) && is_name(child),
             Some(_) => false,
         },
     }
@@ -349,15 +350,12 @@ fn add_component(
     Ok(())
 }
 
-/// The components of a path behind its first slash.
-fn components_of(alloc: Global, text: &str) -> Result<Listing<Name>, ScriptError>
-    ensures { Gives (λ components. components) result (components_of text.now) }
+#[tactic(auto, unfolding(crate::specs::Parts::components_of))]
+fn components_of(alloc: Global, word: &str) -> Result<Listing<Name>, ScriptError>
+    ensures { Gives (λ components. components) result (components_of word.now) }
 {
     let mut components = Listing::new(alloc);
-    if text.is_empty() {
-        return Ok(components);
-    }
-    let mut rest = text;
+    let mut rest = word;
     while let Some((component, after)) = split_at(rest, '/') {
         match add_component(alloc, &mut components, component) {
             Err(error) => return Err(error),
@@ -370,14 +368,26 @@ fn components_of(alloc: Global, text: &str) -> Result<Listing<Name>, ScriptError
     }
 }
 
+/// The components of a path behind its first slash.
+#[tactic(auto, unfolding(crate::specs::Parts::behind_root))]
+fn behind_root(alloc: Global, word: &str) -> Result<Listing<Name>, ScriptError>
+    ensures { Gives (λ components. components) result (behind_root word.now) }
+{
+    if word.is_empty() {
+        Ok(Listing::new(alloc))
+    } else {
+        components_of(alloc, word)
+    }
+}
+
 #[tactic(auto, unfolding(crate::specs::Parts::path_of, crate::specs::Readers::and_then))]
 fn path_of(alloc: Global, word: &str) -> Result<Path, ScriptError>
     ensures { Gives (λ p. p) result (path_of word.now) }
 {
     match behind(word, '/') {
         None => Err(ScriptError::NotYet),
-        Some(text) => {
-            let components = components_of(alloc, text)?;
+        Some(word) => {
+            let components = behind_root(alloc, word)?;
             Ok(Path::from_components(components))
         }
     }

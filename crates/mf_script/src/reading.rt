@@ -7,7 +7,7 @@ ghost use Rattle.std.specs.Str.{IsAscii};
 ghost use Rattle.mf_script.specs.Readers.{Gives};
 ghost use Rattle.mf_script.specs.Words.{is_plain};
 ghost use Rattle.mf_script.specs.Grammar.{script_of, script_in, items_in, boot_at, file_at, line_at, task_in, task_behind, tasks_in, has_name, end_in, may_stand, has_path};
-ghost use Rattle.mf_script.specs.Parts.{has_directory};
+ghost use Rattle.mf_script.specs.Parts.{is_directory_at, has_directory};
 ghost use Rattle.mf_script.specs.WellFormed.{IsWellFormed};
 ghost use Rattle.mf_script.specs.Limits.{task_limit};
 
@@ -99,14 +99,23 @@ fn has_path(files: &[FileLine], path: &[Name]) -> bool
         .any(|file| is_same_path(file.path.as_slice(), path))
 }
 
+fn is_directory_at(file: &FileLine, path: &[Name]) -> bool
+    ensures { result ≡ is_directory_at path.now file.now }
+{
+    file.file.dir && is_same_path(file.path.as_slice(), path)
+}
+
+fn lists_directory(files: &[FileLine], path: &[Name]) -> bool
+    ensures { result ≡ list_any (is_directory_at path.now) files.now }
+{
+    files.iter().any(|file| is_directory_at(file, path))
+}
+
 /// Whether the path is the root or that of a directory of these lines.
 fn has_directory(files: &[FileLine], path: &[Name]) -> bool
     ensures { result ≡ has_directory files.now path.now }
 {
-    path.is_empty()
-        || files
-            .iter()
-            .any(|file| file.file.dir && is_same_path(file.path.as_slice(), path))
+    path.is_empty() || lists_directory(files, path)
 }
 
 /// Whether there is room for the file behind these, its path is new, and its directory is there. The root is always there.
