@@ -1,9 +1,11 @@
 -- The scripts that the grammar reads are well formed.
-use Rattle.std.proofs.Common.{◌≡◌, ◌≢◌, ℕ, zero, suc, ◌+◌, get_or, ◌<◌, ◌≤◌, Bool, true, false, not, ◌||◌, List, [], ◌∷◌, ◌++◌, length, Option, Some, None, Result, Ok, refl, ap, sym, ◌∙◌, ◌⊎◌, inl, inr, arith, length-append, lit≤}
-use Rattle.std.proofs.lemmas.Bool.{ltb-true, ltb-false}
+use Rattle.std.proofs.Common.{◌≡◌, ◌≢◌, ℕ, zero, suc, ◌+◌, get_or, ◌<◌, ◌≤◌, Bool, true, false, not, ◌&&◌, ◌||◌, List, [], ◌∷◌, ◌++◌, length, Option, Some, None, Result, Ok, refl, ap, sym, ◌∙◌, ◌⊎◌, inl, inr, arith, length-append, append_assoc, lit≤}
+use Rattle.std.proofs.lemmas.Bool.{ltb-true, ltb-false, or_from, or_left, or_right}
 use Rattle.std.proofs.lemmas.Slice.Eq.{bytes_eq-Decides}
 use Rattle.std.proofs.lemmas.Option.{slice_get_cases, slice_get-get_or}
 use Rattle.std.proofs.lemmas.List.Elements.{All-nil, All-cons, All-push}
+use Rattle.std.proofs.lemmas.List.{append-nil}
+use Rattle.std.proofs.lemmas.List.Folds.{list_any-append}
 use Rattle.std.proofs.lemmas.List.Quantifiers.{all_pairs_push}
 use Rattle.std.specs.Prelude.{nat_lt, All, AllPairs, IfSome, codes, slice_get, option_map, unwrap_or}
 use Rattle.std.specs.List.{list_any}
@@ -18,12 +20,13 @@ use Rattle.mf_script.specs.declared.script.Script.{Script}
 use Rattle.mf_script.specs.Readers.{or_else}
 use Rattle.mf_script.specs.Limits.{file_limit, task_limit, line_limit}
 use Rattle.mf_script.specs.Words.{Words, Rows}
-use Rattle.mf_script.specs.Parts.{is_name, behind}
-use Rattle.mf_script.specs.Grammar.{is_same_path, has_path, may_stand, items_in, may_boot, boot_at, file_at, line_at, has_name, task_in, task_behind, tasks_in, script_in}
-use Rattle.mf_script.specs.Labels.{is_biba, is_mls}
-use Rattle.mf_script.specs.WellFormed.{IsFormedFile, IsFormedLine, IsFormedTask, IsWellFormed, lines_of, name_of}
+use Rattle.mf_script.specs.Parts.{is_name, behind, is_same_path, is_root, directory_of, has_directory}
+use Rattle.mf_script.specs.Grammar.{has_path, may_stand, items_in, may_boot, boot_at, file_at, line_at, has_name, task_in, task_behind, tasks_in, script_in}
+use Rattle.mf_script.specs.Labels.{is_biba, is_mls, is_partition}
+use Rattle.mf_script.specs.WellFormed.{is_bootable, IsFormedFile, AreInDirectories, IsFormedLine, IsFormedTask, IsWellFormed, lines_of, name_of}
 use Rattle.mf_script.proofs.Yields.{Yields, done, refused, chain, skip, checked, chosen}
-use Rattle.mf_script.proofs.FormedParts.{both, file_formed, call_formed, task_formed}
+use Rattle.mf_script.proofs.FormedParts.{both, IsFormedFileLine, file_formed, task_formed}
+use Rattle.mf_script.proofs.FormedCalls.{line_formed}
 
 flipped : (b : Bool) → not b ≡ true → b ≡ false
 flipped true e = cc
@@ -38,38 +41,65 @@ none_pass : {A : Type 0} (test : A → Bool) (P : A → Type 0) → ((x : A) →
 none_pass test P so [] e = All-nil _
 none_pass test P so (x ∷ xs) e = let failed = neither (test x) (list_any test xs) e in All-cons P x xs (so x failed.0) (none_pass test P so xs failed.1)
 
+no_pairs : {A : Type 0} (R : A → A → Type 0) → AllPairs R []
+no_pairs R i j d less within = absurd (omega arith)
+
 -- Boots
 
+one_if : Bool → ℕ
+one_if true = 1
+one_if false = 0
+
+at_most_one : (b : Bool) → one_if b ≤ 1
+unfolding one_if
+at_most_one true = lit≤ tt
+at_most_one false = lit≤ tt
+
+-- each module that is booted counts once
+kinds : List Module → ℕ
+kinds boots = one_if (list_any is_biba boots) + one_if (list_any is_mls boots) + one_if (list_any is_partition boots)
+
 record AreOnce (boots : List Module) : Type 0 where
-  each : All (λ m. (m ≡ Biba) ⊎ (m ≡ Mls)) boots
+  counted : length boots ≡ kinds boots
+  each : All (λ m. is_bootable m ≡ true) boots
   differ : AllPairs (λ m n. m ≢ n) boots
 
-no_third : (l m n : Module) → (l ≡ Biba) ⊎ (l ≡ Mls) → (m ≡ Biba) ⊎ (m ≡ Mls) → (n ≡ Biba) ⊎ (n ≡ Mls) → l ≢ m → l ≢ n → m ≢ n → ⊥
-no_third l m n (inl a) (inl b) c lm ln mn = lm (a ∙ sym b)
-no_third l m n (inr a) (inr b) c lm ln mn = lm (a ∙ sym b)
-no_third l m n (inl a) (inr b) (inl c) lm ln mn = ln (a ∙ sym c)
-no_third l m n (inl a) (inr b) (inr c) lm ln mn = mn (b ∙ sym c)
-no_third l m n (inr a) (inl b) (inl c) lm ln mn = mn (b ∙ sym c)
-no_third l m n (inr a) (inl b) (inr c) lm ln mn = ln (a ∙ sym c)
+none_booted : AreOnce []
+unfolding kinds one_if
+none_booted = record { counted = refl; each = All-nil _; differ = no_pairs (λ (m n : Module). m ≢ n) }
 
-few_boots : (boots : List Module) → AreOnce boots → length boots ≤ 2
-few_boots [] once = lit≤ tt
-few_boots (l ∷ []) once = lit≤ tt
-few_boots (l ∷ m ∷ []) once = lit≤ tt
-few_boots (l ∷ m ∷ n ∷ rest) once = absurd (no_third l m n
-    (once.each 0 l (omega arith)) (once.each 1 l (omega arith)) (once.each 2 l (omega arith))
-    (once.differ 0 1 l (omega arith) (omega arith)) (once.differ 0 2 l (omega arith) (omega arith)) (once.differ 1 2 l (omega arith) (omega arith)))
+push_yes : (test : Module → Bool) (boots : List Module) (m : Module) → test m ≡ true → list_any test (boots ++ m ∷ []) ≡ true
+push_yes test boots m e = list_any-append test boots (m ∷ []) ∙ or_right (list_any test boots) _ (or_left (test m) _ e)
+
+push_no : (test : Module → Bool) (boots : List Module) (m : Module) → test m ≡ false → list_any test (boots ++ m ∷ []) ≡ list_any test boots
+push_no test [] m e = or_from (test m) _ e refl
+push_no test (x ∷ xs) m e = ap (λ t. test x || t) (push_no test xs m e)
+
+few_boots : (boots : List Module) → AreOnce boots → length boots ≤ 3
+unfolding kinds
+few_boots boots once = omega (arith, once.counted, at_most_one (list_any is_biba boots), at_most_one (list_any is_mls boots), at_most_one (list_any is_partition boots))
+
+-- another module of one kind, where there was none of that kind
+other_kind : (test : Module → Bool) (boots : List Module) (m : Module) → test m ≡ true → ((n : Module) → test n ≡ false → n ≢ m)
+other_kind test boots m yes_m n no_n same = let here : test n ≡ true = ap test same ∙ yes_m in cc
 
 boot_once : (boots : List Module) (m : Module) → AreOnce boots → may_boot boots m ≡ true → AreOnce (boots ++ m ∷ [])
-boot_once boots Biba once e = record {
-  each = All-push (λ m. (m ≡ Biba) ⊎ (m ≡ Mls)) boots Biba once.each (inl refl);
-  differ = all_pairs_push (λ m n. m ≢ n) boots Biba once.differ (none_pass is_biba (λ m. m ≢ Biba) (λ m e same. let yes = ap is_biba same in cc) boots (flipped _ e));
+unfolding kinds one_if
+boot_once boots Biba once e = let fresh : list_any is_biba boots ≡ false = flipped _ e in record {
+  counted = rw (push_yes is_biba boots Biba refl, push_no is_mls boots Biba refl, push_no is_partition boots Biba refl) (omega (arith, length-append boots (Biba ∷ []), rw fresh at once.counted));
+  each = All-push (λ m. is_bootable m ≡ true) boots Biba once.each refl;
+  differ = all_pairs_push (λ m n. m ≢ n) boots Biba once.differ (none_pass is_biba (λ m. m ≢ Biba) (other_kind is_biba boots Biba refl) boots fresh);
 }
-boot_once boots Mls once e = record {
-  each = All-push (λ m. (m ≡ Biba) ⊎ (m ≡ Mls)) boots Mls once.each (inr refl);
-  differ = all_pairs_push (λ m n. m ≢ n) boots Mls once.differ (none_pass is_mls (λ m. m ≢ Mls) (λ m e same. let yes = ap is_mls same in cc) boots (flipped _ e));
+boot_once boots Mls once e = let fresh : list_any is_mls boots ≡ false = flipped _ e in record {
+  counted = rw (push_no is_biba boots Mls refl, push_yes is_mls boots Mls refl, push_no is_partition boots Mls refl) (omega (arith, length-append boots (Mls ∷ []), rw fresh at once.counted));
+  each = All-push (λ m. is_bootable m ≡ true) boots Mls once.each refl;
+  differ = all_pairs_push (λ m n. m ≢ n) boots Mls once.differ (none_pass is_mls (λ m. m ≢ Mls) (other_kind is_mls boots Mls refl) boots fresh);
 }
-boot_once boots Partition once e = cc
+boot_once boots Partition once e = let fresh : list_any is_partition boots ≡ false = flipped _ e in record {
+  counted = rw (push_no is_biba boots Partition refl, push_no is_mls boots Partition refl, push_yes is_partition boots Partition refl) (omega (arith, length-append boots (Partition ∷ []), rw fresh at once.counted));
+  each = All-push (λ m. is_bootable m ≡ true) boots Partition once.each refl;
+  differ = all_pairs_push (λ m n. m ≢ n) boots Partition once.differ (none_pass is_partition (λ m. m ≢ Partition) (other_kind is_partition boots Partition refl) boots fresh);
+}
 boot_once boots Bsdextended once e = cc
 boot_once boots Priority once e = cc
 
@@ -84,6 +114,7 @@ record AreFiles (boots : List Module) (files : List FileLine) : Type 0 where
   few : length files ≤ file_limit
   paths : AllPairs (λ f g. f.path ≢ g.path) files
   each : All (IsFormedFile boots) files
+  directories : AreInDirectories [] files
 
 same_path : (p : List (List ℕ)) → is_same_path p p ≡ true
 same_path [] = refl
@@ -92,13 +123,26 @@ same_path (w ∷ ws) = let here : bytes_eq w w ≡ true = (bytes_eq-Decides w w)
 other_path : (path : List (List ℕ)) (f : FileLine) → has_path path f ≡ false → f.path ≢ path
 other_path path f e same = let here : is_same_path f.path f.path ≡ true = same_path f.path in let there : is_same_path f.path path ≡ true = rw (← same) here in cc
 
-one_more : (boots : List Module) (files : List FileLine) (f : FileLine) → AreFiles boots files → IsFormedFile boots f → may_stand files f ≡ true → AreFiles boots (files ++ f ∷ [])
-one_more boots files f are formed e =
-    let room = both (nat_lt (length files) file_limit) (not (list_any (has_path f.path) files)) e in
+no_root : (path : List (List ℕ)) → is_root path ≡ false → 1 ≤ length path
+no_root [] e = cc
+no_root (w ∷ ws) e = omega arith
+
+last_in_directory : (earlier files : List FileLine) (f : FileLine) → AreInDirectories earlier files → has_directory (earlier ++ files) (directory_of f.path) ≡ true
+    → AreInDirectories earlier (files ++ f ∷ [])
+last_in_directory earlier [] f are e = (ap (λ files. has_directory files (directory_of f.path)) (sym (append-nil earlier)) ∙ e, tt)
+last_in_directory earlier (g ∷ files) f are e =
+    (are.0, last_in_directory (earlier ++ g ∷ []) files f are.1 (ap (λ files. has_directory files (directory_of f.path)) (append_assoc earlier (g ∷ []) files) ∙ e))
+
+one_more : (boots : List Module) (files : List FileLine) (f : FileLine) → AreFiles boots files → IsFormedFileLine boots f → may_stand files f ≡ true → AreFiles boots (files ++ f ∷ [])
+one_more boots files f are line e =
+    let tests = both (nat_lt (length files) file_limit && not (is_root f.path || list_any (has_path f.path) files)) (has_directory files (directory_of f.path)) e in
+    let room = both (nat_lt (length files) file_limit) (not (is_root f.path || list_any (has_path f.path) files)) tests.0 in
+    let fresh = neither (is_root f.path) (list_any (has_path f.path) files) (flipped _ room.1) in
     record {
       few = omega (arith, ltb-true _ _ room.0, length-append files (f ∷ []));
-      paths = all_pairs_push (λ (f g : FileLine). f.path ≢ g.path) files f are.paths (none_pass (has_path f.path) (λ (g : FileLine). g.path ≢ f.path) (other_path f.path) files (flipped _ room.1));
-      each = All-push (IsFormedFile boots) files f are.each formed;
+      paths = all_pairs_push (λ (f g : FileLine). f.path ≢ g.path) files f are.paths (none_pass (has_path f.path) (λ (g : FileLine). g.path ≢ f.path) (other_path f.path) files fresh.1);
+      each = All-push (IsFormedFile boots) files f are.each (record { path = line.path; below_root = no_root f.path fresh.0; mode = line.mode; label = line.label; text = line.text; directory = line.directory });
+      directories = last_in_directory [] files f are.directories tests.1;
     }
 
 file_at_formed : (boots : List Module) (files : List FileLine) (row : Words) → AreFiles boots files → Yields (λ found. IfSome found (λ f. AreFiles boots (files ++ f ∷ []))) (file_at boots files row)
@@ -116,9 +160,9 @@ line_at_formed : (lines : List Line) (row : Words) → AreLines lines → Yields
 unfolding line_at
 line_at_formed lines row are =
     chosen (behind (codes "end") row) _ _
-    (checked _ _ (λ e. chain _ _ (call_formed row) (λ call formed. done (record {
-      few = omega (arith, ltb-true _ _ e, length-append lines ((record { child = None; call = call }) ∷ []));
-      each = All-push IsFormedLine lines (record { child = None; call = call }) are.each (record { child = tt; call = formed });
+    (checked _ _ (λ e. chain _ _ (line_formed row) (λ line formed. done (record {
+      few = omega (arith, ltb-true _ _ e, length-append lines (line ∷ []));
+      each = All-push IsFormedLine lines line are.each formed;
     }))))
     (λ ws. done tt)
 
@@ -210,6 +254,7 @@ whole_script s once are few whole = record {
   files = are.few;
   paths = are.paths;
   each_file = are.each;
+  directories = are.directories;
   tasks = few;
   names = whole_names s whole;
   differ = whole_differ s whole;
@@ -217,13 +262,10 @@ whole_script s once are few whole = record {
   each_task = λ t other t_in. (whole.each t other t_in).formed;
 }
 
-no_pairs : {A : Type 0} (R : A → A → Type 0) → AllPairs R []
-no_pairs R i j d less within = absurd (omega arith)
-
 pub script_formed : (rows : Rows) → Yields IsWellFormed (script_in rows)
 unfolding script_in
 script_formed rows =
-    chain _ _ (items_formed AreOnce boot_at boot_at_formed [] rows (record { each = All-nil _; differ = no_pairs (λ (m n : Module). m ≢ n) })) (λ boots once.
-    chain _ _ (items_formed (AreFiles boots.0) (file_at boots.0) (file_at_formed boots.0) [] boots.1 (record { few = lit≤ tt; paths = no_pairs (λ (f g : FileLine). f.path ≢ g.path); each = All-nil _ })) (λ files are.
+    chain _ _ (items_formed AreOnce boot_at boot_at_formed [] rows none_booted) (λ boots once.
+    chain _ _ (items_formed (AreFiles boots.0) (file_at boots.0) (file_at_formed boots.0) [] boots.1 (record { few = lit≤ tt; paths = no_pairs (λ (f g : FileLine). f.path ≢ g.path); each = All-nil _; directories = tt })) (λ files are.
     chain _ _ (tasks_formed boots.0 [] task_limit files.1 (lit≤ tt) (record { each = All-nil _; differ = no_pairs (λ (t u : Task). t.name ≢ u.name) })) (λ tasks whole.
     done (whole_script _ once are whole.0 whole.1))))

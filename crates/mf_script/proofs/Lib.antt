@@ -6,4 +6,5 @@ pub mod Names
 pub mod Tasks
 pub mod Yields
 pub mod FormedParts
+pub mod FormedCalls
 pub mod Formed

@@ -42,3 +42,7 @@ chosen (Some x) stop more first rest = rest x
 pub by_word : {A : Type 0} {P : A → Type 0} (read : List ℕ → Result A ScriptError) → ((w : List ℕ) → Yields P (read w)) → (ws : Words) → Yields (λ x. P x.0) (word_by read ws)
 by_word read each [] = refused
 by_word read each (w ∷ ws) = chain _ _ (each w) (λ x p. done p)
+
+-- what follows from what is so
+pub widened : {A : Type 0} {P Q : A → Type 0} {read : Result A ScriptError} → Yields P read → ((x : A) → P x → Q x) → Yields Q read
+widened first so = record { of = λ x e. so x (first.of x e) }
