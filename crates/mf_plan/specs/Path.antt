@@ -1,17 +1,13 @@
 -- Where a path leads, and the directories in which its components are looked up.
-use Rattle.std.specs.Prelude.{ℕ, List, [], ◌∷◌, Option, Some, None, find, if◌then◌else◌}
+use Rattle.std.specs.Prelude.{ℕ, List, [], ◌∷◌, Option, Some, None, IfSome, Result, Ok, Err, find, if◌then◌else◌}
 use Rattle.mf_errno.specs.declared.errno.Errno.{Errno}
 use Rattle.mf_errno.specs.declared.errno.Errno.TheVariants.{Enoent, Enotdir}
 use Rattle.mf_objects.specs.declared.id.Id.{Id}
-use Rattle.mf_objects.specs.Live.{Entities, id_of, is_child}
+use Rattle.mf_objects.specs.Live.{Entities, IsLive, id_of, is_child, is_directory, is_vnode}
 use Rattle.mf_plan.specs.declared.target.Target.{Target}
 use Rattle.mf_plan.specs.declared.target.Target.TheVariants.{Root, Name, Nowhere}
+use Rattle.mf_plan.specs.declared.walk.Walk.{Walk}
 use Rattle.mf_plan.specs.Views.{is_dir}
-
--- the directories that are looked into, in order, and where this leads
-pub record Walk : Type 0 where
-  pub lookups : List Id
-  pub target : Target
 
 abbrev pub root : Id
 root = record { 0 = 0 }
@@ -34,7 +30,7 @@ going_on objects rest None = nowhere Enoent
 going_on objects rest (Some id) = if is_dir objects id then rest id else nowhere Enotdir
 
 -- the walk along some components from a directory
-abbrev pub walk_from : Entities → List (List ℕ) → Id → Walk
+unfoldable pub walk_from : Entities → List (List ℕ) → Id → Walk
 walk_from objects [] dir = record { lookups = []; target = Root }
 walk_from objects (name ∷ []) dir = record { lookups = dir ∷ []; target = Name dir (entry_of objects dir name) }
 walk_from objects (name ∷ below ∷ rest) dir =
@@ -43,3 +39,22 @@ walk_from objects (name ∷ below ∷ rest) dir =
 -- the walk along a path, from the root directory
 abbrev pub walk_along : Entities → List (List ℕ) → Walk
 walk_along objects path = walk_from objects path root
+
+-- the last component of a path, and no byte for the root directory
+abbrev pub last_name : List (List ℕ) → List ℕ
+last_name [] = []
+last_name (name ∷ []) = name
+last_name (name ∷ below ∷ rest) = last_name (below ∷ rest)
+
+-- what is so wherever a path leads: the directory of a name is live, and the entry under it a live vnode
+abbrev pub IsTarget : Entities → Target → Type 0
+IsTarget objects Root = IsLive is_directory objects root
+IsTarget objects (Name dir entry) = IsLive is_directory objects dir × IfSome entry (λ id. IsLive is_vnode objects id)
+IsTarget objects (Nowhere errno) = Unit {0}
+
+-- the directory in which a component is looked up that comes after where the components before it lead
+abbrev pub next_dir : Entities → Target → Result Id Errno
+next_dir objects Root = Ok root
+next_dir objects (Name dir None) = Err Enoent
+next_dir objects (Name dir (Some id)) = if is_dir objects id then Ok id else Err Enotdir
+next_dir objects (Nowhere errno) = Err errno

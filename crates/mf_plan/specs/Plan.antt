@@ -23,7 +23,8 @@ use Rattle.mf_plan.specs.declared.target.Target.{Target}
 use Rattle.mf_plan.specs.declared.target.Target.TheVariants.{Root, Name, Nowhere}
 use Rattle.mf_plan.specs.Loading.{loadable, load_fault, unload_fault}
 use Rattle.mf_plan.specs.Names.{caller_name, child_name}
-use Rattle.mf_plan.specs.Path.{Walk, root, walk_along}
+use Rattle.mf_plan.specs.Path.{root, walk_along}
+use Rattle.mf_plan.specs.declared.walk.Walk.{Walk}
 use Rattle.mf_plan.specs.Views.{subject_of, object_of, sender_of, process_named, pipe_named, socket_named, is_full, is_dir, has_entries, overfills_file, overfills_pipe, is_empty_pipe, is_full_socket, is_empty_socket}
 
 -- Parts of a row

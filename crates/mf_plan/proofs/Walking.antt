@@ -1,0 +1,81 @@
+-- The walk along a path, from the front: the directories so far, where they lead, and what is left.
+use Rattle.std.proofs.Common.{◌≡◌, ℕ, ◌+◌, ◌<◌, Bool, true, false, List, [], ◌∷◌, ◌++◌, Option, Some, None, Result, Ok, Err, length, get_or, drop, All, refl, ap, sym, ◌∙◌, append_assoc, length-append, arith, if◌then◌else◌}
+use Rattle.std.proofs.lemmas.List.{drop_more}
+use Rattle.std.proofs.lemmas.List.Elements.{All-push}
+use Rattle.mf_errno.specs.declared.errno.Errno.{Errno}
+use Rattle.mf_errno.specs.declared.errno.Errno.TheVariants.{Enotdir}
+use Rattle.mf_objects.specs.declared.id.Id.{Id}
+use Rattle.mf_objects.specs.Live.{Entities, IsLive, is_directory}
+use Rattle.mf_plan.specs.declared.target.Target.{Target}
+use Rattle.mf_plan.specs.declared.target.Target.TheVariants.{Root, Name, Nowhere}
+use Rattle.mf_plan.specs.declared.walk.Walk.{Walk}
+use Rattle.mf_plan.specs.Path.{root, entry_of, nowhere, looking_into, going_on, walk_from, walk_along, next_dir, IsTarget}
+use Rattle.mf_plan.specs.Views.{is_dir}
+
+-- these directories are looked into first
+abbrev pub past : List Id → Walk → Walk
+past dirs rest = record rest { lookups = dirs ++ rest.lookups }
+
+abbrev pub going_from : Entities → List (List ℕ) → Result Id Errno → Walk
+going_from objects names (Ok dir) = walk_from objects names dir
+going_from objects names (Err errno) = nowhere errno
+
+-- the walk that is left from where the components before lead
+abbrev pub onward : Entities → Target → List (List ℕ) → Walk
+onward objects target [] = record { lookups = []; target = target }
+onward objects target (name ∷ rest) = going_from objects (name ∷ rest) (next_dir objects target)
+
+-- so many components of a path are done
+pub record IsWalking (objects : Entities) (path : List (List ℕ)) (done : ℕ) (lookups : List Id) (target : Target) : Type 0 where
+  pub whole : walk_along objects path ≡ past lookups (onward objects target (drop done path))
+  pub dirs : All (λ dir. IsLive is_directory objects dir) lookups
+  pub live : IsTarget objects target
+  pub few : length lookups ≡ done
+
+from_root : (objects : Entities) (path : List (List ℕ)) → walk_along objects path ≡ past [] (onward objects Root path)
+unfolding walk_from
+from_root objects [] = refl
+from_root objects (name ∷ rest) = refl
+
+pub begin : (objects : Entities) (path : List (List ℕ)) → IsLive is_directory objects root → IsWalking objects path 0 [] Root
+begin objects path live = record { whole = from_root objects path; dirs = λ k d below. absurd (omega arith); live = live; few = refl }
+
+one_more : (objects : Entities) (name : List ℕ) (rest : List (List ℕ)) (dir : Id)
+    → walk_from objects (name ∷ rest) dir ≡ looking_into dir (onward objects (Name dir (entry_of objects dir name)) rest)
+unfolding walk_from
+one_more objects name [] dir = refl
+one_more objects name (below ∷ rest) dir = ap (looking_into dir) (by_entry (entry_of objects dir name))
+  where
+    by_test : (b : Bool) (id : Id)
+        → (if b then walk_from objects (below ∷ rest) id else nowhere Enotdir) ≡ going_from objects (below ∷ rest) (if b then Ok id else Err Enotdir)
+    by_test true id = refl
+    by_test false id = refl
+
+    by_entry : (entry : Option Id)
+        → going_on objects (walk_from objects (below ∷ rest)) entry ≡ going_from objects (below ∷ rest) (next_dir objects (Name dir entry))
+    by_entry None = refl
+    by_entry (Some id) = by_test (is_dir objects id) id
+
+past_more : (lookups : List Id) (dir : Id) (rest : Walk) → past lookups (looking_into dir rest) ≡ past (lookups ++ dir ∷ []) rest
+past_more lookups dir rest = ap (λ (dirs : List Id). let w : Walk = record rest { lookups = dirs } in w) (sym (append_assoc lookups (dir ∷ []) rest.lookups))
+
+pub step : (objects : Entities) (path : List (List ℕ)) (done : ℕ) (lookups : List Id) (target : Target) (dir : Id) (entry : Option Id) (name : List ℕ)
+    → done < length path → name ≡ get_or path done name → next_dir objects target ≡ Ok dir → entry ≡ entry_of objects dir name → IsTarget objects (Name dir entry)
+    → IsWalking objects path done lookups target → IsWalking objects path (done + 1) (lookups ++ dir ∷ []) (Name dir entry)
+step objects path done lookups target dir entry name within is next found live walking =
+    record {
+      whole = walking.whole ∙ ap (λ (w : Walk). past lookups w) further ∙ past_more lookups dir (onward objects (Name dir entry) (drop (done + 1) path));
+      dirs = All-push (λ (d : Id). IsLive is_directory objects d) lookups dir walking.dirs live.0;
+      live = live;
+      few = omega (arith, length-append lookups (dir ∷ []), walking.few);
+    }
+  where
+    rest : drop done path ≡ name ∷ drop (done + 1) path
+    rest = drop_more path done name within ∙ ap (λ (n : List ℕ). n ∷ drop (done + 1) path) (sym is)
+
+    further : onward objects target (drop done path) ≡ looking_into dir (onward objects (Name dir entry) (drop (done + 1) path))
+    further =
+        ap (onward objects target) rest
+        ∙ ap (going_from objects (name ∷ drop (done + 1) path)) next
+        ∙ one_more objects name (drop (done + 1) path) dir
+        ∙ ap (λ (e : Option Id). looking_into dir (onward objects (Name dir e) (drop (done + 1) path))) (sym found)
