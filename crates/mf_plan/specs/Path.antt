@@ -1,7 +1,7 @@
 -- Where a path leads, and the directories in which its components are looked up.
 use Rattle.std.specs.Prelude.{ℕ, List, [], ◌∷◌, Option, Some, None, IfSome, Result, Ok, Err, find, if◌then◌else◌}
 use Rattle.mf_errno.specs.declared.errno.Errno.{Errno}
-use Rattle.mf_errno.specs.declared.errno.Errno.TheVariants.{Enoent, Enotdir}
+use Rattle.mf_errno.specs.declared.errno.Errno.TheVariants.{Enoent, Eexist, Enotdir, Einval}
 use Rattle.mf_objects.specs.declared.id.Id.{Id}
 use Rattle.mf_objects.specs.Live.{Entities, IsLive, id_of, is_child, is_directory, is_vnode}
 use Rattle.mf_plan.specs.declared.target.Target.{Target}
@@ -45,6 +45,29 @@ abbrev pub last_name : List (List ℕ) → List ℕ
 last_name [] = []
 last_name (name ∷ []) = name
 last_name (name ∷ below ∷ rest) = last_name (below ∷ rest)
+
+-- What a call finds where a path leads, or with which errno it fails
+
+-- a file or directory
+abbrev pub found_at : Target → Result Id Errno
+found_at Root = Ok root
+found_at (Name dir None) = Err Enoent
+found_at (Name dir (Some id)) = Ok id
+found_at (Nowhere errno) = Err errno
+
+-- a directory in which the name is free
+abbrev pub free_at : Target → Result Id Errno
+free_at Root = Err Einval
+free_at (Name dir None) = Ok dir
+free_at (Name dir (Some id)) = Err Eexist
+free_at (Nowhere errno) = Err errno
+
+-- a directory and an entry of it
+abbrev pub entry_at : Target → Result (Id × Id) Errno
+entry_at Root = Err Einval
+entry_at (Name dir None) = Err Enoent
+entry_at (Name dir (Some id)) = Ok (dir, id)
+entry_at (Nowhere errno) = Err errno
 
 -- what is so wherever a path leads: the directory of a name is live, and the entry under it a live vnode
 abbrev pub IsTarget : Entities → Target → Type 0

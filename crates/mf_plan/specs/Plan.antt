@@ -2,7 +2,7 @@
 --
 -- A row is read from the left: `ask` is a check, `refuse_if` a test of the framework that ends the plan with an errno, and
 -- `proceed` the end of a call that may be done.
-use Rattle.std.specs.Prelude.{ℕ, Bool, true, false, not, List, [], ◌∷◌, ◌++◌, map, Option, Some, None, is_some}
+use Rattle.std.specs.Prelude.{ℕ, Bool, not, List, [], ◌∷◌, ◌++◌, map, Option, Some, None, is_some, Result, Ok, Err, if◌then◌else◌}
 use Rattle.mf_errno.specs.declared.errno.Errno.{Errno}
 use Rattle.mf_errno.specs.declared.errno.Errno.TheVariants as errno
 use Rattle.mf_errno.specs.declared.module.Module.{Module}
@@ -17,13 +17,13 @@ use Rattle.mf_objects.specs.Live.{Entities}
 use Rattle.mf_script.specs.declared.script.Call.{Call}
 use Rattle.mf_script.specs.declared.script.Call.TheVariants as call
 use Rattle.mf_plan.specs.declared.plan.Plan.{Plan}
+use Rattle.mf_plan.specs.declared.plan.Tail.{Tail}
 use Rattle.mf_plan.specs.declared.plan.Tail.TheVariants.{Do, Refuse}
 use Rattle.mf_plan.specs.declared.state.State.{State}
 use Rattle.mf_plan.specs.declared.target.Target.{Target}
-use Rattle.mf_plan.specs.declared.target.Target.TheVariants.{Root, Name, Nowhere}
 use Rattle.mf_plan.specs.Loading.{loadable, load_fault, unload_fault}
 use Rattle.mf_plan.specs.Names.{caller_name, child_name}
-use Rattle.mf_plan.specs.Path.{root, walk_along}
+use Rattle.mf_plan.specs.Path.{walk_along, found_at, free_at, entry_at}
 use Rattle.mf_plan.specs.declared.walk.Walk.{Walk}
 use Rattle.mf_plan.specs.Views.{subject_of, object_of, sender_of, process_named, pipe_named, socket_named, is_full, is_dir, has_entries, overfills_file, overfills_pipe, is_empty_pipe, is_full_socket, is_empty_socket}
 
@@ -36,8 +36,7 @@ abbrev pub refuse : Errno → Plan
 refuse e = record { items = []; tail = Refuse e }
 
 abbrev pub refuse_if : Bool → Errno → Plan → Plan
-refuse_if true e rest = refuse e
-refuse_if false e rest = rest
+refuse_if test e rest = if test then refuse e else rest
 
 abbrev pub refuse_by : Option Errno → Plan → Plan
 refuse_by None rest = rest
@@ -47,7 +46,7 @@ abbrev pub ask : Item → Plan → Plan
 ask item rest = record rest { items = item ∷ rest.items }
 
 -- a check of what a subject does to a live entity
-abbrev pub on : Entities → SubjectView → CheckOp → Id → Item
+unfoldable pub on : Entities → SubjectView → CheckOp → Id → Item
 on objects subject op id = record { op = op; subject = subject; object = Some (object_of objects id); request = None; privilege = None }
 
 -- a check of a privilege, and one of a subject that loads or unloads a module
@@ -59,36 +58,35 @@ abbrev pub about_modules : SubjectView → CheckOp → Item
 about_modules subject op = record { op = op; subject = subject; object = None; request = None; privilege = None }
 
 -- goes on with what is found, or else refuses
+
 abbrev pub found : Errno → (Id → Plan) → Option Id → Plan
 found e row None = refuse e
 found e row (Some id) = row id
 
+abbrev pub or_refuse : {A : Type 0} → (A → Plan) → Result A Errno → Plan
+or_refuse row (Ok place) = row place
+or_refuse row (Err e) = refuse e
+
 -- Paths: first the look-ups, then the rest of the row, by where the path leads
 
-abbrev pub after_lookups : Entities → SubjectView → List Id → Plan → Plan
-after_lookups objects subject dirs rest = record rest { items = map (on objects subject op.VnodeLookup) dirs ++ rest.items }
+-- these checks come first
+abbrev pub after : List Item → Plan → Plan
+after checks rest = record rest { items = checks ++ rest.items }
 
 abbrev pub along : Entities → SubjectView → (Target → Plan) → Walk → Plan
-along objects subject row walk = after_lookups objects subject walk.lookups (row walk.target)
+along objects subject row walk = after (map (on objects subject op.VnodeLookup) walk.lookups) (row walk.target)
 
 -- the file or directory must be there
 abbrev pub at_found : (Id → Plan) → Target → Plan
-at_found row Root = row root
-at_found row (Name dir entry) = found errno.Enoent row entry
-at_found row (Nowhere e) = refuse e
+at_found row target = or_refuse row (found_at target)
 
 -- the name must be free in its directory
 abbrev pub at_free : (Id → Plan) → Target → Plan
-at_free row Root = refuse errno.Einval
-at_free row (Name dir None) = row dir
-at_free row (Name dir (Some id)) = refuse errno.Eexist
-at_free row (Nowhere e) = refuse e
+at_free row target = or_refuse row (free_at target)
 
 -- there must be an entry of its directory
 abbrev pub at_entry : (Id → Id → Plan) → Target → Plan
-at_entry row Root = refuse errno.Einval
-at_entry row (Name dir entry) = found errno.Enoent (row dir) entry
-at_entry row (Nowhere e) = refuse e
+at_entry row target = or_refuse (λ place. row place.0 place.1) (entry_at target)
 
 -- Rows
 
@@ -177,3 +175,13 @@ plan_by s task call (Some caller) = plan_for s task (subject_of s.objects caller
 -- the plan of a call of the task's own process, or of its child of that name
 abbrev pub plan_of : State → List ℕ → Option (List ℕ) → Call → Plan
 plan_of s task child call = plan_by s task call (process_named s.objects (caller_name task child))
+
+-- How a plan is put together
+
+abbrev pub tail_of : Result (Unit {0}) Errno → Tail
+tail_of (Ok done) = Do
+tail_of (Err e) = Refuse e
+
+-- the plan that asks these checks and ends so
+abbrev pub ended : List Item → Result (Unit {0}) Errno → Plan
+ended checks end = record { items = checks; tail = tail_of end }

@@ -7,14 +7,14 @@ use Rattle.mf_objects.specs.Live.{Entities, id_of, live_named, is_process, is_pi
 
 -- the entity of an id as a subject, and as an object
 
-abbrev pub subject_of : Entities → Id → SubjectView
+unfoldable pub subject_of : Entities → Id → SubjectView
 subject_of objects id = record { id = id.0; cred = cred_at objects id; label = label_at objects id }
 
 abbrev pub object_of : Entities → Id → ObjectView
 object_of objects id = record { id = id.0; kind = kind_at objects id; file = file_at objects id; label = label_at objects id }
 
 -- a socket that sends: its id and label, with the credential of the process that calls
-abbrev pub sender_of : Entities → SubjectView → Id → SubjectView
+unfoldable pub sender_of : Entities → SubjectView → Id → SubjectView
 sender_of objects caller socket = record { id = socket.0; cred = caller.cred; label = label_at objects socket }
 
 -- the live process, pipe or socket of a name

@@ -1,11 +1,14 @@
 //! Plans of calls: the checks that a call asks the policies for, in order, and how it ends where none is denied.
 #![tactic(auto)]
 
+mod files;
+mod named;
 mod names;
 mod plan;
 mod reply;
 mod state;
 mod target;
+mod views;
 mod walk;
 
 pub use names::{ChildName, caller_of, child_name};

@@ -12,6 +12,9 @@ pub enum Tail {
     Refuse(Errno),
 }
 
+/// Checks in the order in which they are asked.
+pub(crate) type Checks = ArrayVec<Item, 12>;
+
 /// The checks of a call, in the order in which they are asked, and its end.
 #[derive(Drop)]
 pub struct Plan {
