@@ -19,8 +19,11 @@ number_of Partition = 2
 number_of Bsdextended = 3
 number_of Priority = 4
 
+abbrev pub is_same : Module → Module → Bool
+is_same m other = nat_eq (number_of m) (number_of other)
+
 abbrev pub is_of : Module → Entry → Bool
-is_of m entry = nat_eq (number_of m) (number_of entry.0.module)
+is_of m entry = is_same m entry.0.module
 
 -- the module is listed
 abbrev pub is_listed : Module → List Entry → Bool

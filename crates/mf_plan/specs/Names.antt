@@ -15,5 +15,5 @@ caller_name task None = task
 caller_name task (Some child) = child_name task child
 
 -- the module of that name
-abbrev pub module_named : List ℕ → Option Module
+unfoldable pub module_named : List ℕ → Option Module
 module_named name = find (λ m. bytes_eq (module_text m) name) (Biba ∷ Mls ∷ Partition ∷ Bsdextended ∷ Priority ∷ [])

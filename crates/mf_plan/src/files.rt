@@ -40,7 +40,7 @@ fn ask_lookups(objects: &Objects, me: &SubjectView, dirs: &[Id], checks: &mut Ch
 }
 
 /// One check of what is at the end of the path.
-pub(crate) fn check_file(
+pub(crate) fn on_file(
     objects: &Objects,
     me: &SubjectView,
     op: CheckOp,

@@ -2,17 +2,21 @@
 #![tactic(auto)]
 
 mod files;
+mod loading;
 mod named;
 mod names;
 mod plan;
+mod planning;
 mod reply;
 mod state;
 mod target;
 mod views;
 mod walk;
 
+pub use loading::{is_listed, load_fault, loadable, module_named, unload_fault};
 pub use names::{ChildName, caller_of, child_name};
 pub use plan::{Plan, Tail};
+pub use planning::plan_of;
 pub use reply::{Loaded, Payload, Reply};
 pub use state::State;
 pub use target::Target;

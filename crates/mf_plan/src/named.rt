@@ -2,9 +2,12 @@
 ghost use Rattle.std.specs.Prelude.{◌≡◌, ◌≤◌, [], length};
 ghost use Rattle.mf_errno.specs.declared.errno.Errno.TheVariants as errno;
 ghost use Rattle.mf_item.specs.declared.operation.CheckOp.TheVariants as op;
+ghost use Rattle.mf_script.specs.WellFormed.{IsName};
+ghost use Rattle.mf_plan.specs.Names.{child_name};
 ghost use Rattle.mf_plan.specs.Plan as spec;
 ghost use Rattle.mf_plan.specs.Views as view;
 
+use crate::names::child_name;
 use crate::plan::Checks;
 use crate::views::{is_full, on, overfills_pipe, sender_of};
 use mf_errno::Errno;
@@ -15,9 +18,8 @@ use mf_objects::{Id, Objects};
 const MOST_MESSAGES: u32 = 16;
 
 /// Makes what is to have a name, which the holder has already where there is one.
-pub(crate) fn make(objects: &Objects, holder: Option<Id>, checks: &Checks) -> Result<(), Errno>
-    requires { checks.now ≡ [] }
-    ensures { spec.ended checks.now result ≡ spec.make_row objects.now holder }
+pub(crate) fn make(objects: &Objects, holder: Option<Id>) -> Result<(), Errno>
+    ensures { spec.ended [] result ≡ spec.make_row objects.now holder }
 {
     if holder.is_some() {
         return Err(Errno::Eexist);
@@ -28,8 +30,19 @@ pub(crate) fn make(objects: &Objects, holder: Option<Id>, checks: &Checks) -> Re
     Ok(())
 }
 
+/// Makes a child of the task.
+pub(crate) fn fork(objects: &Objects, task: &str, child: &str) -> Result<(), Errno>
+    requires task { IsName task.now }
+    requires child { IsName child.now }
+    ensures { spec.ended [] result
+        ≡ spec.make_row objects.now (view.process_named objects.now (child_name task.now child.now)) }
+{
+    let name = child_name(task, child);
+    make(objects, objects.process(name.as_str()))
+}
+
 /// One check of a process.
-pub(crate) fn check_process(
+pub(crate) fn on_process(
     objects: &Objects,
     me: &SubjectView,
     op: CheckOp,

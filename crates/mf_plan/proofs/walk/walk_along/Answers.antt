@@ -9,5 +9,5 @@ pub loop-name-preserved : goal.loop-name-preserved
 loop-name-preserved c =
     rw c.push.ensures
     (step c.args.objects.now c.args.path.now c.loop-name.name-index c.loop-name.lookups c.loop-name.target c.in-Ok.dir c.child.result c.as_str.result.now
-        (omega arith) (search (rules, c.as_str.ensures, c.name-item.is)) (sym c.in-Ok.ensures.value) c.child.ensures.found.id
-        (c.in-Ok.ensures.live, c.child.ensures.vnode) c.loop-name.invariant)
+    (omega arith) (search (rules, c.as_str.ensures, c.name-item.is)) (sym c.in-Ok.ensures.value) c.child.ensures.found.id
+    (c.in-Ok.ensures.live, c.child.ensures.vnode) c.loop-name.invariant)

@@ -1,0 +1,179 @@
+//! Which modules can be loaded and unloaded, and the checks of the calls that do it.
+ghost use Rattle.std.specs.Prelude.{◌≡◌, []};
+ghost use Rattle.mf_errno.specs.declared.privilege.Priv.TheVariants as privilege;
+ghost use Rattle.mf_item.specs.declared.operation.CheckOp.TheVariants as op;
+ghost use Rattle.mf_policy.specs.Modules as facts;
+ghost use Rattle.mf_plan.specs.Loading as spec;
+ghost use Rattle.mf_plan.specs.Names as names;
+ghost use Rattle.mf_plan.specs.Plan as plan;
+
+use crate::plan::Checks;
+use crate::state::State;
+use mf_cred::Duplicate;
+use mf_errno::{Errno, Module, Priv};
+use mf_item::{CheckOp, Item, SubjectView};
+use mf_policy::{LoadFlags, SpecList};
+use mf_slots::SLOTS;
+
+/// The module of that name.
+pub fn module_named(name: &str) -> Option<Module>
+    ensures { result ≡ names.module_named name.now }
+{
+    Module::from_name(name)
+}
+
+/// The module of that name, where it is one that there is to load by now.
+pub fn loadable(name: &str) -> Option<Module>
+    ensures { result ≡ spec.loadable name.now }
+{
+    let wanted = module_named(name)?;
+    if has_spec(wanted) { Some(wanted) } else { None }
+}
+
+/// Whether the module is listed.
+pub fn is_listed(wanted: Module, specs: &SpecList) -> bool
+    ensures { result ≡ spec.is_listed wanted specs.now }
+{
+    for place in 0..specs.len() {
+        if is_same(wanted, specs.registration(place).module) {
+            return true;
+        }
+    }
+    false
+}
+
+/// Why the module can't be loaded.
+pub fn load_fault(state: &State, wanted: Module) -> Option<Errno>
+    ensures { result ≡ spec.load_fault state.now wanted }
+{
+    if state.booted && flags_of(wanted).is_notlate() {
+        return Some(Errno::Ebusy);
+    }
+    if is_listed(wanted, &state.specs) {
+        return Some(Errno::Eexist);
+    }
+    if wants_slot(wanted) && state.numbers.given() >= SLOTS {
+        return Some(Errno::Enomem);
+    }
+    None
+}
+
+/// Why the module of that name can't be unloaded.
+pub fn unload_fault(state: &State, name: &str) -> Option<Errno>
+    ensures { result ≡ spec.unload_fault state.now name.now }
+{
+    match module_named(name) {
+        Some(wanted) if is_listed(wanted, &state.specs) => {
+            if flags_of(wanted).is_unloadok() {
+                None
+            } else {
+                Some(Errno::Ebusy)
+            }
+        }
+        _ => Some(Errno::Enoent),
+    }
+}
+
+/// Loads the module of that name.
+pub(crate) fn kldload(
+    state: &State,
+    me: &SubjectView,
+    name: &str,
+    checks: &mut Checks,
+) -> Result<(), Errno>
+    requires { checks.old ≡ [] }
+    ensures { plan.ended checks.new result
+        ≡ plan.ask (plan.privileged me.now privilege.KldLoad) (plan.load_row state.now me.now (spec.loadable name.now)) }
+{
+    checks.push(privileged(me, Priv::KldLoad));
+    let Some(wanted) = loadable(name) else {
+        return Err(Errno::Enoent);
+    };
+    checks.push(about_modules(me, CheckOp::KldLoad));
+    none_or_err(load_fault(state, wanted))
+}
+
+/// Unloads the module of that name.
+pub(crate) fn kldunload(
+    state: &State,
+    me: &SubjectView,
+    name: &str,
+    checks: &mut Checks,
+) -> Result<(), Errno>
+    requires { checks.old ≡ [] }
+    ensures { plan.ended checks.new result
+        ≡ plan.ask (plan.privileged me.now privilege.KldUnload)
+        (plan.ask (plan.about_modules me.now op.KldUnload) (plan.refuse_by (spec.unload_fault state.now name.now) plan.proceed)) }
+{
+    checks.push(privileged(me, Priv::KldUnload));
+    checks.push(about_modules(me, CheckOp::KldUnload));
+    none_or_err(unload_fault(state, name))
+}
+
+fn none_or_err(fault: Option<Errno>) -> Result<(), Errno>
+    ensures { plan.ended [] result ≡ plan.refuse_by fault plan.proceed }
+{
+    match fault {
+        None => Ok(()),
+        Some(errno) => Err(errno),
+    }
+}
+
+/// The check of a privilege.
+fn privileged(me: &SubjectView, privilege: Priv) -> Item
+    ensures { result ≡ plan.privileged me.now privilege }
+{
+    Item {
+        op: CheckOp::Priv,
+        subject: me.copy(),
+        object: None,
+        request: None,
+        privilege: Some(privilege),
+    }
+}
+
+/// The check of a subject that loads or unloads a module.
+fn about_modules(me: &SubjectView, op: CheckOp) -> Item
+    ensures { result ≡ plan.about_modules me.now op }
+{
+    Item {
+        op,
+        subject: me.copy(),
+        object: None,
+        request: None,
+        privilege: None,
+    }
+}
+
+fn is_same(wanted: Module, other: Module) -> bool
+    ensures { result ≡ spec.is_same wanted other }
+{
+    wanted == other
+}
+
+fn has_spec(wanted: Module) -> bool
+    ensures { result ≡ facts.has_spec wanted }
+{
+    match wanted {
+        Module::Biba | Module::Mls | Module::Partition => true,
+        Module::Bsdextended | Module::Priority => false,
+    }
+}
+
+fn flags_of(wanted: Module) -> LoadFlags
+    ensures { result ≡ facts.flags_of wanted }
+{
+    match wanted {
+        Module::Biba | Module::Mls => LoadFlags::NOTLATE,
+        Module::Partition | Module::Bsdextended | Module::Priority => LoadFlags::UNLOADOK,
+    }
+}
+
+fn wants_slot(wanted: Module) -> bool
+    ensures { result ≡ facts.wants_slot wanted }
+{
+    match wanted {
+        Module::Biba | Module::Mls | Module::Partition => true,
+        Module::Bsdextended | Module::Priority => false,
+    }
+}
