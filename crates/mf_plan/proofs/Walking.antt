@@ -1,15 +1,16 @@
 -- The walk along a path, from the front: the directories so far, where they lead, and what is left.
-use Rattle.std.proofs.Common.{◌≡◌, ℕ, ◌+◌, ◌<◌, Bool, true, false, List, [], ◌∷◌, ◌++◌, Option, Some, None, Result, Ok, Err, length, get_or, drop, All, refl, ap, sym, ◌∙◌, append_assoc, length-append, arith, if◌then◌else◌}
+use Rattle.std.proofs.Common.{◌≡◌, ◌≢◌, ℕ, ◌+◌, ◌<◌, Bool, true, false, List, [], ◌∷◌, ◌++◌, Option, Some, None, Result, Ok, Err, length, get_or, drop, All, refl, ap, sym, ◌∙◌, subst, append_assoc, length-append, arith, if◌then◌else◌}
+use Rattle.std.specs.Prelude.{find, IfSome}
 use Rattle.std.proofs.lemmas.List.{drop_more}
 use Rattle.std.proofs.lemmas.List.Elements.{All-push}
 use Rattle.mf_errno.specs.declared.errno.Errno.{Errno}
 use Rattle.mf_errno.specs.declared.errno.Errno.TheVariants.{Enotdir}
 use Rattle.mf_objects.specs.declared.id.Id.{Id}
-use Rattle.mf_objects.specs.Live.{Entities, IsLive, is_directory}
+use Rattle.mf_objects.specs.Live.{Live, Entities, IsLive, id_of, is_child, is_directory, is_vnode}
 use Rattle.mf_plan.specs.declared.target.Target.{Target}
 use Rattle.mf_plan.specs.declared.target.Target.TheVariants.{Root, Name, Nowhere}
 use Rattle.mf_plan.specs.declared.walk.Walk.{Walk}
-use Rattle.mf_plan.specs.Path.{root, entry_of, nowhere, looking_into, going_on, walk_from, walk_along, next_dir, IsTarget}
+use Rattle.mf_plan.specs.Path.{root, entry_of, nowhere, looking_into, going_on, walk_from, walk_along, next_dir, last_of, IsTarget}
 use Rattle.mf_plan.specs.Views.{is_dir}
 
 -- these directories are looked into first
@@ -79,3 +80,40 @@ step objects path done lookups target dir entry name within is next found live w
         ∙ ap (going_from objects (name ∷ drop (done + 1) path)) next
         ∙ one_more objects name (drop (done + 1) path) dir
         ∙ ap (λ (e : Option Id). looking_into dir (onward objects (Name dir e) (drop (done + 1) path))) (sym found)
+
+-- an entry that is found is a live vnode, and not the root
+pub live_entry : (objects : Entities) (entry : Option Id) → IfSome entry (λ id. IsLive is_vnode objects id) → IfSome entry (λ id. id.0 ≢ 0)
+    → IfSome entry (λ id. IsLive is_vnode objects id × (id.0 ≢ 0))
+live_entry objects None vnode other = tt
+live_entry objects (Some id) vnode other = (vnode, other)
+
+-- a walk from this directory that ends at a name ends at the entry that the last component names
+abbrev EndsAt : Entities → List (List ℕ) → Id → Option Id → Id → Type 0
+EndsAt objects path dir entry from = (walk_from objects path from).target ≡ Name dir entry → entry_of objects dir (last_of path) ≡ entry
+
+pub last_entry : (objects : Entities) (path : List (List ℕ)) (from dir : Id) (entry : Option Id) → EndsAt objects path dir entry from
+unfolding walk_from
+last_entry objects [] from dir entry is = cc
+last_entry objects (name ∷ []) from dir entry is = let same : from ≡ dir = cc in subst (λ (d : Id). entry_of objects d name ≡ entry) same cc
+last_entry objects (name ∷ below ∷ rest) from dir entry is =
+    by_entry (λ (id : Id). last_entry objects (below ∷ rest) id dir entry) (entry_of objects from name) is
+  where
+    by_test : (b : Bool) (id : Id) → EndsAt objects (below ∷ rest) dir entry id
+        → (if b then walk_from objects (below ∷ rest) id else nowhere Enotdir).target ≡ Name dir entry
+        → entry_of objects dir (last_of (below ∷ rest)) ≡ entry
+    by_test true id onwards is = onwards is
+    by_test false id onwards is = cc
+
+    by_entry : ((id : Id) → EndsAt objects (below ∷ rest) dir entry id) → (found : Option Id)
+        → (going_on objects (walk_from objects (below ∷ rest)) found).target ≡ Name dir entry → entry_of objects dir (last_of (below ∷ rest)) ≡ entry
+    by_entry onwards None is = cc
+    by_entry onwards (Some id) is = by_test (is_dir objects id) id (onwards id) is
+
+nothing_found : (o : Option Live) → id_of o ≡ None → o ≡ None
+nothing_found None is = refl
+nothing_found (Some e) is = cc
+
+-- a name under which there is no entry is free
+pub free_name : (objects : Entities) (path : List (List ℕ)) (dir : Id) → (walk_along objects path).target ≡ Name dir None
+    → find (is_child dir (last_of path)) objects.live ≡ None
+free_name objects path dir is = nothing_found (find (is_child dir (last_of path)) objects.live) (last_entry objects path root dir None is)

@@ -3,3 +3,4 @@ pub mod Path
 pub mod Names
 pub mod Loading
 pub mod Plan
+pub mod Doing

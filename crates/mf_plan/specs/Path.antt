@@ -1,5 +1,5 @@
 -- Where a path leads, and the directories in which its components are looked up.
-use Rattle.std.specs.Prelude.{ℕ, List, [], ◌∷◌, Option, Some, None, IfSome, Result, Ok, Err, find, if◌then◌else◌}
+use Rattle.std.specs.Prelude.{◌≢◌, ℕ, List, [], ◌∷◌, Option, Some, None, IfSome, Result, Ok, Err, find, if◌then◌else◌}
 use Rattle.mf_errno.specs.declared.errno.Errno.{Errno}
 use Rattle.mf_errno.specs.declared.errno.Errno.TheVariants.{Enoent, Eexist, Enotdir, Einval}
 use Rattle.mf_objects.specs.declared.id.Id.{Id}
@@ -41,10 +41,10 @@ abbrev pub walk_along : Entities → List (List ℕ) → Walk
 walk_along objects path = walk_from objects path root
 
 -- the last component of a path, and no byte for the root directory
-abbrev pub last_name : List (List ℕ) → List ℕ
-last_name [] = []
-last_name (name ∷ []) = name
-last_name (name ∷ below ∷ rest) = last_name (below ∷ rest)
+abbrev pub last_of : List (List ℕ) → List ℕ
+last_of [] = []
+last_of (name ∷ []) = name
+last_of (name ∷ below ∷ rest) = last_of (below ∷ rest)
 
 -- What a call finds where a path leads, or with which errno it fails
 
@@ -69,10 +69,10 @@ entry_at (Name dir None) = Err Enoent
 entry_at (Name dir (Some id)) = Ok (dir, id)
 entry_at (Nowhere errno) = Err errno
 
--- what is so wherever a path leads: the directory of a name is live, and the entry under it a live vnode
+-- what is so wherever a path leads: the directory of a name is live, and the entry under it a live vnode other than the root
 abbrev pub IsTarget : Entities → Target → Type 0
 IsTarget objects Root = IsLive is_directory objects root
-IsTarget objects (Name dir entry) = IsLive is_directory objects dir × IfSome entry (λ id. IsLive is_vnode objects id)
+IsTarget objects (Name dir entry) = IsLive is_directory objects dir × IfSome entry (λ id. IsLive is_vnode objects id × (id.0 ≢ 0))
 IsTarget objects (Nowhere errno) = Unit {0}
 
 -- the directory in which a component is looked up that comes after where the components before it lead

@@ -1,5 +1,5 @@
 use Rattle.std.proofs.Common.{sym, arith, rules}
-use Rattle.mf_plan.proofs.Walking.{begin, step}
+use Rattle.mf_plan.proofs.Walking.{begin, live_entry, step}
 use Rattle.mf_plan.proofs.walk.walk_along.Goals as goal
 
 pub loop-name-init : goal.loop-name-init
@@ -10,4 +10,4 @@ loop-name-preserved c =
     rw c.push.ensures
     (step c.args.objects.now c.args.path.now c.loop-name.name-index c.loop-name.lookups c.loop-name.target c.in-Ok.dir c.child.result c.as_str.result.now
     (omega arith) (search (rules, c.as_str.ensures, c.name-item.is)) (sym c.in-Ok.ensures.value) c.child.ensures.found.id
-    (c.in-Ok.ensures.live, c.child.ensures.vnode) c.loop-name.invariant)
+    (c.in-Ok.ensures.live, live_entry c.args.objects.now c.child.result c.child.ensures.vnode c.child.ensures.not_root) c.loop-name.invariant)

@@ -1,0 +1,110 @@
+-- What is so in a state where a call is done, as far as what it changes needs it. The caller lives besides.
+use Rattle.std.specs.Prelude.{◌≡◌, ℕ, ◌<◌, true, List, length, Option, Some, None, Ok, find}
+use Rattle.mf_errno.specs.declared.module.Module.{Module}
+use Rattle.mf_objects.specs.declared.id.Id.{Id}
+use Rattle.mf_objects.specs.declared.entity.What.{What}
+use Rattle.mf_objects.specs.Changes.{FitsBytes, FitsMessage, HasMessage}
+use Rattle.mf_objects.specs.Live.{Live, Entities, IsLive, IsLiveWhere, live_at, live_named, entry_count, is_child, is_pipe, is_process, is_socket, is_vnode}
+use Rattle.mf_script.specs.declared.script.Call.{Call}
+use Rattle.mf_script.specs.declared.script.Call.TheVariants as call
+use Rattle.mf_plan.specs.declared.state.State.{State}
+use Rattle.mf_plan.specs.declared.target.Target.TheVariants.{Name}
+use Rattle.mf_plan.specs.Loading.{is_listed, loadable, load_fault, unload_fault}
+use Rattle.mf_plan.specs.Names.{child_name, module_named}
+use Rattle.mf_plan.specs.Path.{walk_along, found_at, last_of}
+use Rattle.mf_plan.specs.Views.{pipe_named, socket_named}
+
+-- a process, pipe or socket of that name can be made
+pub record CanMake (o : Entities) (holder : Option Live) : Type 0 where
+  pub few : length o.live < 1024
+  pub free : holder ≡ None
+
+-- a file or directory can be made at the end of the path
+pub record CanCreate (o : Entities) (path : List (List ℕ)) : Type 0 where
+  pub dir : Id
+  pub target : (walk_along o path).target ≡ Name dir None
+  pub few : length o.live < 1024
+  pub free : find (is_child dir (last_of path)) o.live ≡ None
+
+-- so many bytes fit the file at the end of the path
+pub record CanWrite (o : Entities) (path : List (List ℕ)) (text : List ℕ) : Type 0 where
+  pub id : Id
+  pub target : found_at (walk_along o path).target ≡ Ok id
+  pub fits : IsLive is_vnode o id → IsLiveWhere (FitsBytes (length text)) (live_at o id)
+
+-- there is a file or directory at the end of the path
+pub record CanFind (o : Entities) (path : List (List ℕ)) : Type 0 where
+  pub id : Id
+  pub target : found_at (walk_along o path).target ≡ Ok id
+
+-- there is an entry of a directory at the end of the path, and it has no entries
+pub record CanUnlink (o : Entities) (path : List (List ℕ)) : Type 0 where
+  pub dir : Id
+  pub id : Id
+  pub target : (walk_along o path).target ≡ Name dir (Some id)
+  pub empty : IsLive is_vnode o id → entry_count o id ≡ 0
+
+-- there is a pipe of that name
+pub record CanRead (o : Entities) (name : List ℕ) : Type 0 where
+  pub id : Id
+  pub named : pipe_named o name ≡ Some id
+
+-- the bytes fit the pipe of that name
+pub record CanFill (o : Entities) (name text : List ℕ) : Type 0 where
+  pub id : Id
+  pub named : pipe_named o name ≡ Some id
+  pub fits : IsLive is_pipe o id → IsLiveWhere (FitsBytes (length text)) (live_at o id)
+
+-- a message fits the socket of that name
+pub record CanDeliver (o : Entities) (name : List ℕ) : Type 0 where
+  pub id : Id
+  pub named : socket_named o name ≡ Some id
+  pub fits : IsLive is_socket o id → IsLiveWhere FitsMessage (live_at o id)
+
+-- the socket of that name has a message
+pub record CanReceive (o : Entities) (name : List ℕ) : Type 0 where
+  pub id : Id
+  pub named : socket_named o name ≡ Some id
+  pub waits : IsLive is_socket o id → IsLiveWhere HasMessage (live_at o id)
+
+-- the module of that name can be loaded
+pub record CanLoad (s : State) (name : List ℕ) : Type 0 where
+  pub wanted : Module
+  pub named : loadable name ≡ Some wanted
+  pub fault : load_fault s wanted ≡ None
+
+-- the module of that name can be unloaded
+pub record CanUnload (s : State) (name : List ℕ) : Type 0 where
+  pub wanted : Module
+  pub named : module_named name ≡ Some wanted
+  pub listed : is_listed wanted s.specs ≡ true
+  pub fault : unload_fault s name ≡ None
+
+-- The table: what the change of a call of the task needs.
+abbrev pub CanDo : State → List ℕ → Call → Type 0
+CanDo s task (call.Fork child) = CanMake s.objects (live_named is_process s.objects (child_name task child))
+CanDo s task call.Exit = Unit {0}
+CanDo s task (call.See name) = Unit {0}
+CanDo s task (call.Signal name) = Unit {0}
+CanDo s task (call.Debug name) = Unit {0}
+CanDo s task (call.Sched name) = Unit {0}
+CanDo s task (call.Exec path) = CanFind s.objects path
+CanDo s task (call.Create path) = CanCreate s.objects path
+CanDo s task (call.Mkdir path) = CanCreate s.objects path
+CanDo s task (call.Read path) = CanFind s.objects path
+CanDo s task (call.Write path text) = CanWrite s.objects path text
+CanDo s task (call.Stat path) = CanFind s.objects path
+CanDo s task (call.Readdir path) = CanFind s.objects path
+CanDo s task (call.Chmod path mode) = CanFind s.objects path
+CanDo s task (call.Unlink path) = CanUnlink s.objects path
+CanDo s task (call.Pipe name) = CanMake s.objects (live_named is_pipe s.objects name)
+CanDo s task (call.Socket name) = CanMake s.objects (live_named is_socket s.objects name)
+CanDo s task (call.Pread name) = CanRead s.objects name
+CanDo s task (call.Pwrite name text) = CanFill s.objects name text
+CanDo s task (call.Pstat name) = CanRead s.objects name
+CanDo s task (call.Send from to text) = CanDeliver s.objects to
+CanDo s task (call.Recv name) = CanReceive s.objects name
+CanDo s task (call.Seesock name) = Unit {0}
+CanDo s task call.Kldstat = Unit {0}
+CanDo s task (call.Kldload name) = CanLoad s name
+CanDo s task (call.Kldunload name) = CanUnload s name
