@@ -1,16 +1,19 @@
 -- What a plan says that ends with `Do`: the caller lives, and the state is one in which the call can be done.
-use Rattle.std.proofs.Common.{◌≡◌, ℕ, ◌<◌, ◌≤◌, ◌+◌, Bool, true, false, List, [], ◌∷◌, length, Option, Some, None, IsSome, Result, Ok, Err, cond, not, is_some, nat_eq, nat_lt, nat_le, ltb, leb, refl, ap, sym, ◌∙◌, arith, ◌&&◌}
+use Rattle.std.proofs.Common.{◌≡◌, ℕ, ◌<◌, ◌≤◌, ◌+◌, Bool, true, false, List, [], ◌∷◌, length, Option, Some, None, IsSome, Result, Ok, Err, cond, not, is_some, nat_eq, nat_lt, nat_le, ltb, leb, refl, ap, sym, ◌∙◌, arith, if◌then◌else◌}
 use Rattle.std.specs.Prelude.{find}
-use Rattle.std.proofs.lemmas.Bool.{false≢true, ltb-false, leb-false}
+use Rattle.std.proofs.lemmas.Bool.{eqb-false, leb-false, ltb-false}
 use Rattle.mf_errno.specs.declared.errno.Errno.{Errno}
 use Rattle.mf_errno.specs.declared.errno.Errno.TheVariants as errno
 use Rattle.mf_errno.specs.declared.module.Module.{Module}
+use Rattle.mf_item.specs.declared.operation.CheckOp.TheVariants as op
 use Rattle.mf_item.specs.declared.view.SubjectView.{SubjectView}
 use Rattle.mf_objects.specs.declared.id.Id.{Id}
 use Rattle.mf_objects.specs.Live.{Live, Entities, IsLive, id_of, live_named, is_vnode, is_pipe, is_process, is_socket}
 use Rattle.mf_objects.proofs.Laws.{fits_file, fits_message, fits_pipe, has_message, vnode_count}
 use Rattle.mf_script.specs.declared.script.Call.{Call}
 use Rattle.mf_script.specs.declared.script.Call.TheVariants as call
+use Rattle.mf_policy.specs.LoadFlags.{is_unloadok}
+use Rattle.mf_policy.specs.Modules.{flags_of}
 use Rattle.mf_plan.specs.declared.plan.Plan.{Plan}
 use Rattle.mf_plan.specs.declared.plan.Tail.TheVariants.{Do, Refuse}
 use Rattle.mf_plan.specs.declared.state.State.{State}
@@ -20,16 +23,16 @@ use Rattle.mf_plan.specs.Doing.{CanMake, CanCreate, CanWrite, CanFind, CanUnlink
 use Rattle.mf_plan.specs.Loading.{is_listed, loadable, load_fault, unload_fault, unload_fault_of}
 use Rattle.mf_plan.specs.Names.{caller_name, child_name, module_named}
 use Rattle.mf_plan.specs.Path.{walk_along, found_at, free_at, entry_at}
-use Rattle.mf_plan.specs.Plan.{found, or_refuse, refuse_if, refuse_by, proceed, make_row, create_row, write_row, unlink_row, deliver_row, send_row, load_row, exec_row, read_row, readdir_row, check_row, pread_row, pwrite_row, recv_row, plan_for, plan_by, plan_of}
+use Rattle.mf_plan.specs.Plan.{ask, on, found, or_refuse, refuse_if, refuse_by, proceed, make_row, create_row, write_row, unlink_row, deliver_row, send_row, load_row, exec_row, read_row, readdir_row, check_row, pread_row, pwrite_row, recv_row, plan_for, plan_by, plan_of}
 use Rattle.mf_plan.specs.Views.{subject_of, process_named, pipe_named, socket_named, is_full, is_dir, has_entries, overfills_file, overfills_pipe, is_full_socket, is_empty_socket}
 use Rattle.mf_plan.proofs.Walking.{free_name}
 
 -- What each part of a row says
 
 -- a test of the framework didn't refuse
-pub record Passes (test : Bool) (rest : Plan) : Type 0 where
-  pub passed : test ≡ false
-  pub rest : rest.tail ≡ Do
+record Passes (test : Bool) (after : Plan) : Type 0 where
+  passed : test ≡ false
+  rest : after.tail ≡ Do
 
 passes : (test : Bool) (e : Errno) (rest : Plan) → (refuse_if test e rest).tail ≡ Do → Passes test rest
 passes true e rest done = cc
@@ -40,19 +43,19 @@ no_fault None rest done = refl
 no_fault (Some e) rest done = cc
 
 -- something was found
-pub record Finds (row : Id → Plan) (looked_up : Option Id) : Type 0 where
-  pub id : Id
-  pub is : looked_up ≡ Some id
-  pub rest : (row id).tail ≡ Do
+record Finds (row : Id → Plan) (looked_up : Option Id) : Type 0 where
+  id : Id
+  is : looked_up ≡ Some id
+  rest : (row id).tail ≡ Do
 
 finds : (e : Errno) (row : Id → Plan) (looked_up : Option Id) → (found e row looked_up).tail ≡ Do → Finds row looked_up
 finds e row None done = cc
 finds e row (Some id) done = record { id = id; is = refl; rest = done }
 
-pub record Reaches {A : Type 0} (row : A → Plan) (place : Result A Errno) : Type 0 where
-  pub at : A
-  pub is : place ≡ Ok at
-  pub rest : (row at).tail ≡ Do
+record Reaches {A : Type 0} (row : A → Plan) (place : Result A Errno) : Type 0 where
+  at : A
+  is : place ≡ Ok at
+  rest : (row at).tail ≡ Do
 
 reaches : {A : Type 0} (row : A → Plan) (place : Result A Errno) → (or_refuse row place).tail ≡ Do → Reaches row place
 reaches row (Ok at) done = record { at = at; is = refl; rest = done }
@@ -88,3 +91,111 @@ creates o me path done =
     let few = passes (is_full o) errno.Enfile proceed place.rest in
     let target = free_target (walk_along o path).target place.at place.is in
     record { dir = place.at; target = target; few = leb-false 1024 (length o.live) few.passed; free = free_name o path place.at target }
+
+reads : (o : Entities) (path : List (List ℕ)) (row : Id → Plan) → (or_refuse row (found_at (walk_along o path).target)).tail ≡ Do → CanFind o path
+reads o path row done = let place = reaches row (found_at (walk_along o path).target) done in record { id = place.at; target = place.is }
+
+writes : (o : Entities) (me : SubjectView) (path : List (List ℕ)) (text : List ℕ)
+    → (or_refuse (write_row o me text) (found_at (walk_along o path).target)).tail ≡ Do → CanWrite o path text
+writes o me path text done =
+    let place = reaches (write_row o me text) (found_at (walk_along o path).target) done in
+    let id = place.at in
+    let size = refuse_if (overfills_file o text id) errno.Efbig proceed in
+    let checks = ask (on o me op.VnodeOpenWrite id) (ask (on o me op.VnodeWrite id) size) in
+    let regular = passes (is_dir o id) errno.Eisdir checks place.rest in
+    let room = passes (overfills_file o text id) errno.Efbig proceed regular.rest in
+    record {
+      id = id;
+      target = place.is;
+      fits = λ live. fits_file (length text) o id live regular.passed (ltb-false 65536 _ room.passed);
+    }
+
+unlinks : (o : Entities) (me : SubjectView) (path : List (List ℕ))
+    → (or_refuse (λ (place : Id × Id). unlink_row o me place.0 place.1) (entry_at (walk_along o path).target)).tail ≡ Do → CanUnlink o path
+unlinks o me path done =
+    let place = reaches (λ (p : Id × Id). unlink_row o me p.0 p.1) (entry_at (walk_along o path).target) done in
+    let empty = passes (has_entries o place.at.1) errno.Enotempty proceed place.rest in
+    record {
+      dir = place.at.0;
+      id = place.at.1;
+      target = entry_target (walk_along o path).target place.at place.is;
+      empty = λ live. omega (arith, vnode_count o place.at.1 live, ltb-false 0 _ empty.passed);
+    }
+
+fills : (o : Entities) (me : SubjectView) (name text : List ℕ) → (found errno.Enoent (pwrite_row o me text) (pipe_named o name)).tail ≡ Do → CanFill o name text
+fills o me name text done =
+    let pipe = finds errno.Enoent (pwrite_row o me text) (pipe_named o name) done in
+    let room = passes (overfills_pipe o text pipe.id) errno.Eagain proceed pipe.rest in
+    record { id = pipe.id; named = pipe.is; fits = λ live. fits_pipe (length text) o pipe.id live (ltb-false 16384 _ room.passed) }
+
+delivers : (o : Entities) (me : SubjectView) (from to : List ℕ) → (found errno.Enoent (send_row o me to) (socket_named o from)).tail ≡ Do → CanDeliver o to
+delivers o me from to done =
+    let sender = finds errno.Enoent (send_row o me to) (socket_named o from) done in
+    let receiver = finds errno.Enoent (deliver_row o me sender.id) (socket_named o to) sender.rest in
+    let room = passes (is_full_socket o receiver.id) errno.Enobufs proceed receiver.rest in
+    record { id = receiver.id; named = receiver.is; fits = λ live. fits_message o receiver.id live (leb-false 16 _ room.passed) }
+
+receives : (o : Entities) (me : SubjectView) (name : List ℕ) → (found errno.Enoent (recv_row o me) (socket_named o name)).tail ≡ Do → CanReceive o name
+receives o me name done =
+    let socket = finds errno.Enoent (recv_row o me) (socket_named o name) done in
+    let some = passes (is_empty_socket o socket.id) errno.Eagain proceed socket.rest in
+    record { id = socket.id; named = socket.is; waits = λ live. has_message o socket.id live (omega (arith, eqb-false _ 0 some.passed)) }
+
+takes : (o : Entities) (name : List ℕ) (row : Id → Plan) → (found errno.Enoent row (pipe_named o name)).tail ≡ Do → CanRead o name
+takes o name row done = let pipe = finds errno.Enoent row (pipe_named o name) done in record { id = pipe.id; named = pipe.is }
+
+loads : (s : State) (me : SubjectView) (name : List ℕ) (wanted : Option Module) → loadable name ≡ wanted → (load_row s me wanted).tail ≡ Do → CanLoad s name
+loads s me name None is done = cc
+loads s me name (Some m) is done = record { wanted = m; named = is; fault = no_fault (load_fault s m) proceed done }
+
+unloads : (s : State) (name : List ℕ) (wanted : Option Module) → module_named name ≡ wanted → unload_fault_of s wanted ≡ None → CanUnload s name
+unloads s name None is none = cc
+unloads s name (Some m) is none =
+    record { wanted = m; named = is; listed = by_test (is_listed m s.specs) none; fault = ap (unload_fault_of s) is ∙ none }
+  where
+    by_test : (b : Bool) → (if b then (if is_unloadok (flags_of m) then None else Some errno.Ebusy) else Some errno.Enoent) ≡ None → b ≡ true
+    by_test true none = refl
+    by_test false none = cc
+
+-- The table
+
+can_do_for : (s : State) (task : List ℕ) (me : SubjectView) (c : Call) → (plan_for s task me c).tail ≡ Do → CanDo s task c
+can_do_for s task me (call.Fork child) done = makes s.objects (live_named is_process s.objects (child_name task child)) done
+can_do_for s task me call.Exit done = tt
+can_do_for s task me (call.See name) done = tt
+can_do_for s task me (call.Signal name) done = tt
+can_do_for s task me (call.Debug name) done = tt
+can_do_for s task me (call.Sched name) done = tt
+can_do_for s task me (call.Exec path) done = reads s.objects path (exec_row s.objects me) done
+can_do_for s task me (call.Create path) done = creates s.objects me path done
+can_do_for s task me (call.Mkdir path) done = creates s.objects me path done
+can_do_for s task me (call.Read path) done = reads s.objects path (read_row s.objects me) done
+can_do_for s task me (call.Write path text) done = writes s.objects me path text done
+can_do_for s task me (call.Stat path) done = reads s.objects path (check_row s.objects me op.VnodeStat) done
+can_do_for s task me (call.Readdir path) done = reads s.objects path (readdir_row s.objects me) done
+can_do_for s task me (call.Chmod path mode) done = reads s.objects path (check_row s.objects me op.VnodeSetmode) done
+can_do_for s task me (call.Unlink path) done = unlinks s.objects me path done
+can_do_for s task me (call.Pipe name) done = makes s.objects (live_named is_pipe s.objects name) done
+can_do_for s task me (call.Socket name) done = makes s.objects (live_named is_socket s.objects name) done
+can_do_for s task me (call.Pread name) done = takes s.objects name (pread_row s.objects me) done
+can_do_for s task me (call.Pwrite name text) done = fills s.objects me name text done
+can_do_for s task me (call.Pstat name) done = takes s.objects name (check_row s.objects me op.PipeStat) done
+can_do_for s task me (call.Send from to text) done = delivers s.objects me from to done
+can_do_for s task me (call.Recv name) done = receives s.objects me name done
+can_do_for s task me (call.Seesock name) done = tt
+can_do_for s task me call.Kldstat done = tt
+can_do_for s task me (call.Kldload name) done = loads s me name (loadable name) refl done
+can_do_for s task me (call.Kldunload name) done = unloads s name (module_named name) refl (no_fault (unload_fault s name) proceed done)
+
+by_caller : (s : State) (task : List ℕ) (c : Call) (caller : Option Id) → (plan_by s task c caller).tail ≡ Do → IsSome caller × CanDo s task c
+by_caller s task c None done = cc
+by_caller s task c (Some caller) done = (refl, can_do_for s task (subject_of s.objects caller) c done)
+
+-- the process that makes a call that is done lives
+pub caller_lives : (s : State) (task : List ℕ) (child : Option (List ℕ)) (c : Call) → (plan_of s task child c).tail ≡ Do
+    → IsSome (process_named s.objects (caller_name task child))
+caller_lives s task child c done = (by_caller s task c (process_named s.objects (caller_name task child)) done).0
+
+-- a call that is done can be done
+pub can_do : (s : State) (task : List ℕ) (child : Option (List ℕ)) (c : Call) → (plan_of s task child c).tail ≡ Do → CanDo s task c
+can_do s task child c done = (by_caller s task c (process_named s.objects (caller_name task child)) done).1
