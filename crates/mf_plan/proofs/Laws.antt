@@ -107,6 +107,8 @@ writes o me path text done =
     record {
       id = id;
       target = place.is;
+      regular = regular.passed;
+      room = room.passed;
       fits = λ live. fits_file (length text) o id live regular.passed (ltb-false 65536 _ room.passed);
     }
 
@@ -119,27 +121,28 @@ unlinks o me path done =
       dir = place.at.0;
       id = place.at.1;
       target = entry_target (walk_along o path).target place.at place.is;
-      empty = λ live. omega (arith, vnode_count o place.at.1 live, ltb-false 0 _ empty.passed);
+      empty = empty.passed;
+      bare = λ live. omega (arith, vnode_count o place.at.1 live, ltb-false 0 _ empty.passed);
     }
 
 fills : (o : Entities) (me : SubjectView) (name text : List ℕ) → (found errno.Enoent (pwrite_row o me text) (pipe_named o name)).tail ≡ Do → CanFill o name text
 fills o me name text done =
     let pipe = finds errno.Enoent (pwrite_row o me text) (pipe_named o name) done in
     let room = passes (overfills_pipe o text pipe.id) errno.Eagain proceed pipe.rest in
-    record { id = pipe.id; named = pipe.is; fits = λ live. fits_pipe (length text) o pipe.id live (ltb-false 16384 _ room.passed) }
+    record { id = pipe.id; named = pipe.is; room = room.passed; fits = λ live. fits_pipe (length text) o pipe.id live (ltb-false 16384 _ room.passed) }
 
 delivers : (o : Entities) (me : SubjectView) (from to : List ℕ) → (found errno.Enoent (send_row o me to) (socket_named o from)).tail ≡ Do → CanDeliver o to
 delivers o me from to done =
     let sender = finds errno.Enoent (send_row o me to) (socket_named o from) done in
     let receiver = finds errno.Enoent (deliver_row o me sender.id) (socket_named o to) sender.rest in
     let room = passes (is_full_socket o receiver.id) errno.Enobufs proceed receiver.rest in
-    record { id = receiver.id; named = receiver.is; fits = λ live. fits_message o receiver.id live (leb-false 16 _ room.passed) }
+    record { id = receiver.id; named = receiver.is; room = room.passed; fits = λ live. fits_message o receiver.id live (leb-false 16 _ room.passed) }
 
 receives : (o : Entities) (me : SubjectView) (name : List ℕ) → (found errno.Enoent (recv_row o me) (socket_named o name)).tail ≡ Do → CanReceive o name
 receives o me name done =
     let socket = finds errno.Enoent (recv_row o me) (socket_named o name) done in
     let some = passes (is_empty_socket o socket.id) errno.Eagain proceed socket.rest in
-    record { id = socket.id; named = socket.is; waits = λ live. has_message o socket.id live (omega (arith, eqb-false _ 0 some.passed)) }
+    record { id = socket.id; named = socket.is; some = some.passed; waits = λ live. has_message o socket.id live (omega (arith, eqb-false _ 0 some.passed)) }
 
 takes : (o : Entities) (name : List ℕ) (row : Id → Plan) → (found errno.Enoent row (pipe_named o name)).tail ≡ Do → CanRead o name
 takes o name row done = let pipe = finds errno.Enoent row (pipe_named o name) done in record { id = pipe.id; named = pipe.is }

@@ -10,7 +10,7 @@ use Rattle.mf_objects.specs.Live.{Live, Entities, IsLive, id_of, is_child, is_di
 use Rattle.mf_plan.specs.declared.target.Target.{Target}
 use Rattle.mf_plan.specs.declared.target.Target.TheVariants.{Root, Name, Nowhere}
 use Rattle.mf_plan.specs.declared.walk.Walk.{Walk}
-use Rattle.mf_plan.specs.Path.{root, entry_of, nowhere, looking_into, going_on, walk_from, walk_along, next_dir, last_of, IsTarget}
+use Rattle.mf_plan.specs.Path.{root, entry_of, nowhere, looking_into, going_on, walk_from, walk_along, next_dir, last_name, IsTarget}
 use Rattle.mf_plan.specs.Views.{is_dir}
 
 -- these directories are looked into first
@@ -89,7 +89,7 @@ live_entry objects (Some id) vnode other = (vnode, other)
 
 -- a walk from this directory that ends at a name ends at the entry that the last component names
 abbrev EndsAt : Entities → List (List ℕ) → Id → Option Id → Id → Type 0
-EndsAt objects path dir entry from = (walk_from objects path from).target ≡ Name dir entry → entry_of objects dir (last_of path) ≡ entry
+EndsAt objects path dir entry from = (walk_from objects path from).target ≡ Name dir entry → entry_of objects dir (last_name path) ≡ entry
 
 pub last_entry : (objects : Entities) (path : List (List ℕ)) (from dir : Id) (entry : Option Id) → EndsAt objects path dir entry from
 unfolding walk_from
@@ -100,12 +100,12 @@ last_entry objects (name ∷ below ∷ rest) from dir entry is =
   where
     by_test : (b : Bool) (id : Id) → EndsAt objects (below ∷ rest) dir entry id
         → (if b then walk_from objects (below ∷ rest) id else nowhere Enotdir).target ≡ Name dir entry
-        → entry_of objects dir (last_of (below ∷ rest)) ≡ entry
+        → entry_of objects dir (last_name (below ∷ rest)) ≡ entry
     by_test true id onwards is = onwards is
     by_test false id onwards is = cc
 
     by_entry : ((id : Id) → EndsAt objects (below ∷ rest) dir entry id) → (found : Option Id)
-        → (going_on objects (walk_from objects (below ∷ rest)) found).target ≡ Name dir entry → entry_of objects dir (last_of (below ∷ rest)) ≡ entry
+        → (going_on objects (walk_from objects (below ∷ rest)) found).target ≡ Name dir entry → entry_of objects dir (last_name (below ∷ rest)) ≡ entry
     by_entry onwards None is = cc
     by_entry onwards (Some id) is = by_test (is_dir objects id) id (onwards id) is
 
@@ -115,5 +115,5 @@ nothing_found (Some e) is = cc
 
 -- a name under which there is no entry is free
 pub free_name : (objects : Entities) (path : List (List ℕ)) (dir : Id) → (walk_along objects path).target ≡ Name dir None
-    → find (is_child dir (last_of path)) objects.live ≡ None
-free_name objects path dir is = nothing_found (find (is_child dir (last_of path)) objects.live) (last_entry objects path root dir None is)
+    → find (is_child dir (last_name path)) objects.live ≡ None
+free_name objects path dir is = nothing_found (find (is_child dir (last_name path)) objects.live) (last_entry objects path root dir None is)

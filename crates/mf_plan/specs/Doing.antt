@@ -1,5 +1,5 @@
 -- What is so in a state where a call is done, as far as what it changes needs it. The caller lives besides.
-use Rattle.std.specs.Prelude.{◌≡◌, ℕ, ◌<◌, true, List, length, Option, Some, None, Ok, find}
+use Rattle.std.specs.Prelude.{◌≡◌, ℕ, ◌<◌, true, false, List, length, Option, Some, None, Ok, find}
 use Rattle.mf_errno.specs.declared.module.Module.{Module}
 use Rattle.mf_objects.specs.declared.id.Id.{Id}
 use Rattle.mf_objects.specs.declared.entity.What.{What}
@@ -11,8 +11,8 @@ use Rattle.mf_plan.specs.declared.state.State.{State}
 use Rattle.mf_plan.specs.declared.target.Target.TheVariants.{Name}
 use Rattle.mf_plan.specs.Loading.{is_listed, loadable, load_fault, unload_fault}
 use Rattle.mf_plan.specs.Names.{child_name, module_named}
-use Rattle.mf_plan.specs.Path.{walk_along, found_at, last_of}
-use Rattle.mf_plan.specs.Views.{pipe_named, socket_named}
+use Rattle.mf_plan.specs.Path.{walk_along, found_at, last_name}
+use Rattle.mf_plan.specs.Views.{pipe_named, socket_named, is_dir, has_entries, overfills_file, overfills_pipe, is_full_socket, is_empty_socket}
 
 -- a process, pipe or socket of that name can be made
 pub record CanMake (o : Entities) (holder : Option Live) : Type 0 where
@@ -24,12 +24,14 @@ pub record CanCreate (o : Entities) (path : List (List ℕ)) : Type 0 where
   pub dir : Id
   pub target : (walk_along o path).target ≡ Name dir None
   pub few : length o.live < 1024
-  pub free : find (is_child dir (last_of path)) o.live ≡ None
+  pub free : find (is_child dir (last_name path)) o.live ≡ None
 
--- so many bytes fit the file at the end of the path
+-- the bytes fit the regular file at the end of the path
 pub record CanWrite (o : Entities) (path : List (List ℕ)) (text : List ℕ) : Type 0 where
   pub id : Id
   pub target : found_at (walk_along o path).target ≡ Ok id
+  pub regular : is_dir o id ≡ false
+  pub room : overfills_file o text id ≡ false
   pub fits : IsLive is_vnode o id → IsLiveWhere (FitsBytes (length text)) (live_at o id)
 
 -- there is a file or directory at the end of the path
@@ -42,7 +44,8 @@ pub record CanUnlink (o : Entities) (path : List (List ℕ)) : Type 0 where
   pub dir : Id
   pub id : Id
   pub target : (walk_along o path).target ≡ Name dir (Some id)
-  pub empty : IsLive is_vnode o id → entry_count o id ≡ 0
+  pub empty : has_entries o id ≡ false
+  pub bare : IsLive is_vnode o id → entry_count o id ≡ 0
 
 -- there is a pipe of that name
 pub record CanRead (o : Entities) (name : List ℕ) : Type 0 where
@@ -53,18 +56,21 @@ pub record CanRead (o : Entities) (name : List ℕ) : Type 0 where
 pub record CanFill (o : Entities) (name text : List ℕ) : Type 0 where
   pub id : Id
   pub named : pipe_named o name ≡ Some id
+  pub room : overfills_pipe o text id ≡ false
   pub fits : IsLive is_pipe o id → IsLiveWhere (FitsBytes (length text)) (live_at o id)
 
 -- a message fits the socket of that name
 pub record CanDeliver (o : Entities) (name : List ℕ) : Type 0 where
   pub id : Id
   pub named : socket_named o name ≡ Some id
+  pub room : is_full_socket o id ≡ false
   pub fits : IsLive is_socket o id → IsLiveWhere FitsMessage (live_at o id)
 
 -- the socket of that name has a message
 pub record CanReceive (o : Entities) (name : List ℕ) : Type 0 where
   pub id : Id
   pub named : socket_named o name ≡ Some id
+  pub some : is_empty_socket o id ≡ false
   pub waits : IsLive is_socket o id → IsLiveWhere HasMessage (live_at o id)
 
 -- the module of that name can be loaded

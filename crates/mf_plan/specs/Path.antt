@@ -41,10 +41,10 @@ abbrev pub walk_along : Entities → List (List ℕ) → Walk
 walk_along objects path = walk_from objects path root
 
 -- the last component of a path, and no byte for the root directory
-abbrev pub last_of : List (List ℕ) → List ℕ
-last_of [] = []
-last_of (name ∷ []) = name
-last_of (name ∷ below ∷ rest) = last_of (below ∷ rest)
+abbrev pub last_name : List (List ℕ) → List ℕ
+last_name [] = []
+last_name (name ∷ []) = name
+last_name (name ∷ below ∷ rest) = last_name (below ∷ rest)
 
 -- What a call finds where a path leads, or with which errno it fails
 

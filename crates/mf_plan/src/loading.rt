@@ -160,7 +160,8 @@ fn has_spec(wanted: Module) -> bool
     }
 }
 
-fn flags_of(wanted: Module) -> LoadFlags
+/// When the module may be loaded and unloaded.
+pub fn flags_of(wanted: Module) -> LoadFlags
     ensures { result ≡ facts.flags_of wanted }
 {
     match wanted {
@@ -169,7 +170,8 @@ fn flags_of(wanted: Module) -> LoadFlags
     }
 }
 
-fn wants_slot(wanted: Module) -> bool
+/// Whether the module labels entities, and so has a label slot.
+pub fn wants_slot(wanted: Module) -> bool
     ensures { result ≡ facts.wants_slot wanted }
 {
     match wanted {
