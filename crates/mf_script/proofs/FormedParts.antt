@@ -1,5 +1,5 @@
 -- What the grammar reads of a word and of a row is well formed.
-use Rattle.std.proofs.Common.{All, ◌≡◌, ℕ, suc, ◌+◌, arith, length-append, ◌==◌, if◌then◌else◌, ◌≤◌, Bool, true, false, ◌&&◌, List, [], ◌∷◌, length, Result, Ok, Err, refl, lit≤, codes}
+use Rattle.std.proofs.Common.{All, ◌≡◌, ℕ, suc, ◌+◌, arith, length-append, ◌==◌, ◌≤◌, Bool, true, false, ◌&&◌, List, [], ◌∷◌, length, Result, Ok, Err, refl, lit≤}
 use Rattle.std.proofs.lemmas.Bool.{leb-true, ltb-true}
 use Rattle.std.specs.Prelude.{nat_lt, is_none}
 use Rattle.std.proofs.lemmas.List.Splits.{length-slice_split}

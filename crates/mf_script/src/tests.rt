@@ -4,21 +4,68 @@ use crate::{Call, ScriptError, read_script};
 #[test]
 fn reads_what_the_lines_say(rt: HostRuntime) -> Result<(), ScriptError> {
     let text =
-        "# a mail\n\n boot\tmac_biba \nfile /m reg uid 1 gid 2 mode 0644 label biba/high text a\\0a#\ntask www uid 80 gid 007,5,7 label biba/low\n\n\t# not yet\n read /m\nwrite /... \\41b\n\tend";
+        "# a mail\n\n boot\tmac_biba \nfile /v dir uid 1 gid 2 mode 0755 label -\nfile /v/m reg uid 1 gid 2 mode 0644 label biba/high text a\\0a#\ntask www uid 80 gid 007,5,7 label biba/low\n\n\t# not yet\n read /v/m\n@c\twrite /... \\41b\n\tend";
     let script = read_script(rt.alloc(), text.as_bytes())?;
     let files = script.files.as_slice();
-    assert_eq!(rt; files.len(), 1);
-    assert_eq!(rt; files[0].file.mode, 0o644);
-    assert_eq!(rt; files[0].text.as_slice(), b"a\n#".as_slice());
+    assert_eq!(rt; files.len(), 2);
+    assert!(rt; files[0].file.dir);
+    assert_eq!(rt; files[1].path.as_slice().len(), 2);
+    assert_eq!(rt; files[1].file.mode, 0o644);
+    assert_eq!(rt; files[1].text.as_slice(), b"a\n#".as_slice());
     let tasks = script.tasks.as_slice();
     assert_eq!(rt; tasks.len(), 1);
     assert_eq!(rt; tasks[0].name.as_str(), "www");
     assert_eq!(rt; tasks[0].cred.groups.as_slice(), [7, 5, 7].as_slice());
     let lines = tasks[0].lines.as_slice();
     assert_eq!(rt; lines.len(), 2);
+    assert!(rt; lines[0].child.is_none());
+    assert_eq!(rt;
+        lines[1].child.as_ref().map(|child| child.as_str()),
+        Some("c")
+    );
     match &lines[1].call {
         Call::Write(_, text) => assert_eq!(rt; text.as_slice(), b"Ab".as_slice()),
-        Call::Read(_) => panic!(rt; "the second line writes"),
+        _ => panic!(rt; "the second line writes"),
+    }
+    Ok(())
+}
+
+#[test]
+fn reads_every_call(rt: HostRuntime) -> Result<(), ScriptError> {
+    let calls = [
+        "fork c",
+        "exit",
+        "see t",
+        "signal t.c",
+        "debug u",
+        "sched u.c",
+        "exec /bin/sh",
+        "create /a/b/c/d/e/f/g/h",
+        "mkdir /a",
+        "read /",
+        "write /a text",
+        "stat /",
+        "readdir /",
+        "chmod / 1777",
+        "unlink /a",
+        "pipe p",
+        "socket s",
+        "pread p",
+        "pwrite p \\00\\ff",
+        "pstat p",
+        "send s d x",
+        "recv d",
+        "seesock s",
+        "kldstat",
+        "kldload mac_partition",
+        "kldunload any:word",
+    ];
+    for call in calls {
+        let text = format!(in rt.alloc(); "task t uid 0 gid 0 label -\n{call}\n@c {call}\nend")?;
+        let script = read_script(rt.alloc(), text.as_bytes())?;
+        let tasks = script.tasks.as_slice();
+        assert_eq!(rt; tasks.len(), 1);
+        assert_eq!(rt; tasks[0].lines.len(), 2, "{call}");
     }
     Ok(())
 }
@@ -37,6 +84,9 @@ fn takes_good_scripts(rt: HostRuntime) {
         "boot mac_mls\n",
         "task t uid 0 gid 0 label -\nend\ntask u uid 0 gid 0 label -\nread /a\nend",
         "task t uid 0 gid 0,1,2,3,4,5,6,7,8,9,10,11,12,13,14,14 label -\nend",
+        "boot mac_partition\nboot mac_mls\nboot mac_biba\ntask t uid 0 gid 0 label biba/5,partition/2147483647\nend",
+        "boot mac_partition\ntask t uid 0 gid 0 label partition/none\nend",
+        "file /a dir uid 0 gid 0 mode 7777 label -\nfile /a/b dir uid 0 gid 0 mode 0 label -\nfile /a/b/c reg uid 0 gid 0 mode 0 label - text x",
     ];
     for script in scripts {
         assert!(rt;
@@ -50,7 +100,8 @@ fn takes_good_scripts(rt: HostRuntime) {
 fn refuses_bad_scripts(rt: HostRuntime) {
     let scripts = [
         "boot mac_biba\nboot mac_mls\nboot mac_biba\ntask t uid 0 gid 0 label -\nend",
-        "boot mac_partition\ntask t uid 0 gid 0 label -\nend",
+        "boot mac_bsdextended\ntask t uid 0 gid 0 label -\nend",
+        "boot mac_partition\nboot mac_partition\ntask t uid 0 gid 0 label -\nend",
         "boot mac_biba mac_mls\ntask t uid 0 gid 0 label -\nend",
         "file /a reg uid 0 gid 0 mode 0 label -\nboot mac_biba\ntask t uid 0 gid 0 label -\nend",
         "task t uid 0 gid 0 label biba/5\nend",
@@ -93,6 +144,13 @@ fn refuses_bad_scripts(rt: HostRuntime) {
         "task t uid 0 gid 1,,2 label -\nend",
         "task t uid 0 gid ,1 label -\nend",
         "task t uid 0 gid 1, label -\nend",
+        "file / dir uid 0 gid 0 mode 0 label -",
+        "file /a blk uid 0 gid 0 mode 0 label -",
+        "file /a dir uid 0 gid 0 mode 0 label - text x",
+        "file /a/b reg uid 0 gid 0 mode 0 label -\nfile /a dir uid 0 gid 0 mode 0 label -",
+        "file /a reg uid 0 gid 0 mode 0 label -\nfile /a/b reg uid 0 gid 0 mode 0 label -",
+        "boot mac_partition\nfile /a reg uid 0 gid 0 mode 0 label partition/none",
+        "boot mac_mls\ntask t uid 0 gid 0 label partition/7\nend",
     ];
     for script in scripts {
         assert_eq!(rt;
@@ -101,4 +159,51 @@ fn refuses_bad_scripts(rt: HostRuntime) {
             "{script}"
         );
     }
+}
+
+#[test]
+fn refuses_bad_lines(rt: HostRuntime) -> Result<(), ScriptError> {
+    let lines = [
+        "fork",
+        "fork t.c",
+        "exit x",
+        "see a.b.c",
+        "see a.",
+        "see .a",
+        "signal /a",
+        "exec sh",
+        "create //",
+        "mkdir /a//b",
+        "read /a /b",
+        "read /1/2/3/4/5/6/7/8/9",
+        "write /a",
+        "write /a x y",
+        "write /a \\4",
+        "chmod /a",
+        "chmod /a 8",
+        "chmod /a 10000",
+        "chmod 7 /a",
+        "pipe /p",
+        "pwrite p",
+        "send s x",
+        "send s d x y",
+        "kldstat mac_biba",
+        "kldload",
+        "Read /a",
+        "@",
+        "@c",
+        "@c.d exit",
+        "@c @d exit",
+        "@c end",
+        "c exit",
+    ];
+    for line in lines {
+        let text = format!(in rt.alloc(); "task t uid 0 gid 0 label -\n{line}\nend")?;
+        assert_eq!(rt;
+            read_script(rt.alloc(), text.as_bytes()).err(),
+            Some(ScriptError::NotYet),
+            "{line}"
+        );
+    }
+    Ok(())
 }
