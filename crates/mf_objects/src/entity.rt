@@ -1,5 +1,5 @@
 //! Entities, and what each kind of them holds.
-ghost use Rattle.std.specs.Prelude.{◌≡◌, ◌≤◌, nat_eq, nat_le, length, ◌∷◌, ◌&&◌, OnOk, OnErr, drop};
+ghost use Rattle.std.specs.Prelude.{◌≡◌, ◌≤◌, nat_eq, nat_le, length, ◌∷◌, ◌&&◌, OnOk, OnErr, [], drop, slice_index_or};
 ghost use Rattle.std.specs.Str.{bytes_eq};
 ghost use Rattle.mf_objects.specs.Live as live;
 ghost use Rattle.mf_objects.specs.Changes as change;
@@ -96,6 +96,17 @@ impl What {
             What::Vnode(vnode) => vnode.content.as_slice(),
             What::Pipe(pipe) => pipe.bytes.as_slice(),
             What::Process(_) | What::Socket(_) => &[],
+        }
+    }
+
+    /// The oldest message of a socket; no bytes of what has none.
+    pub fn message(&self) -> &[u8]
+        ensures value { result.now ≡ slice_index_or (live.messages_of self.now) 0 [] }
+        ensures most { length result.now ≤ 1048576 }
+    {
+        match self {
+            What::Socket(socket) => socket.messages.first(),
+            What::Process(_) | What::Vnode(_) | What::Pipe(_) => &[],
         }
     }
 

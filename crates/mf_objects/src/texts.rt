@@ -1,5 +1,5 @@
 //! Names, bytes and messages, which contracts see as lists.
-ghost use Rattle.std.specs.Prelude.{◌≡◌, ◌≤◌, ◌<◌, ◌+◌, [], ◌∷◌, ◌++◌, length, OnOk, OnErr, IfOk, take, string_bytes};
+ghost use Rattle.std.specs.Prelude.{◌≡◌, ◌≤◌, ◌<◌, ◌+◌, [], ◌∷◌, ◌++◌, length, OnOk, OnErr, IfOk, take, slice_index_or, string_bytes};
 ghost use Rattle.std.specs.List.{position_or_len};
 ghost use Rattle.mf_objects.specs.Titles.{comes_first, with_name};
 
@@ -210,6 +210,17 @@ impl Messages {
     {
         self.items.push(message)?;
         Ok(())
+    }
+
+    /// The oldest message; no bytes where there is none.
+    pub fn first(&self) -> &[u8]
+        ensures value { result.now ≡ slice_index_or self.now 0 [] }
+        ensures most { length result.now ≤ 1048576 }
+    {
+        match self.items.first() {
+            Some(message) => message.as_slice(),
+            None => &[],
+        }
     }
 
     /// Takes the oldest message.

@@ -1,5 +1,5 @@
 //! Readings of the live entities. What an entity of another kind holds is read as empty, or as all zero.
-ghost use Rattle.std.specs.Prelude.{◌≡◌, ◌≢◌, ◌≤◌, ◌<◌, length, find, count_by, option_map, nat_le, ◌&&◌, false, Some, IsSome, IfSome};
+ghost use Rattle.std.specs.Prelude.{◌≡◌, ◌≢◌, ◌≤◌, ◌<◌, length, find, count_by, option_map, nat_le, ◌&&◌, [], false, Some, IsSome, IfSome, slice_index_or};
 ghost use Rattle.std.specs.Str.{bytes_eq};
 ghost use Rattle.mf_objects.specs.Head.{head_of};
 ghost use Rattle.mf_objects.specs.Live as live;
@@ -120,6 +120,14 @@ impl Objects {
         ensures { result ≡ head_of (live.content_at self.now id) }
     {
         Head::of(self.entity(id).what.content())
+    }
+
+    /// The beginning of the oldest message of a socket; no bytes where it has none.
+    pub fn message(&self, id: Id) -> Head
+        requires { IsSome (live.live_at self.now id) }
+        ensures { result ≡ head_of (slice_index_or (live.messages_at self.now id) 0 []) }
+    {
+        Head::of(self.entity(id).what.message())
     }
 
     /// How many entries a directory has, or messages a socket.
