@@ -1,7 +1,7 @@
 mod Changes
-mod Counts
+pub mod Counts
 mod Fresh
 mod Grants
-mod Held
+pub mod Held
 mod Maps
-mod Places
+pub mod Places
