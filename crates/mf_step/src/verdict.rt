@@ -1,5 +1,11 @@
 //! What the policies say to a plan.
+ghost use Rattle.std.specs.Prelude.{◌≡◌};
+ghost use Rattle.mf_step.specs.Verdict as spec;
+
 use mf_errno::{Errno, Module};
+use mf_list::PolicyList;
+use mf_plan::Plan;
+use mf_policy::Policy;
 
 /// A denial: the number of the denied check, from 1, the errno, and the deciding policy.
 #[derive(Clone, Copy, Debug, PartialEq, Eq)]
@@ -13,4 +19,28 @@ pub struct Denial {
 #[derive(Clone, Copy, Debug, PartialEq, Eq)]
 pub struct Verdict {
     pub denied: Option<Denial>,
+}
+
+/// Asks the policies for each check of the plan in turn, and stops at the first that is denied.
+pub fn verdict_of<P: Policy>(list: &PolicyList<P>, plan: &Plan) -> Verdict
+    ensures { result ≡ spec.verdict_of list.now.entries plan.now }
+{
+    let mut number = 1;
+    for item in plan.items.as_slice() {
+        let answer = list.ask(item);
+        match answer.errno {
+            Errno::Success => {}
+            errno => {
+                return Verdict {
+                    denied: Some(Denial {
+                        item: number,
+                        errno,
+                        by: answer.by,
+                    }),
+                };
+            }
+        }
+        number += 1;
+    }
+    Verdict { denied: None }
 }
