@@ -1,16 +1,12 @@
 -- The policy that holds a label slot, found from the front of the list.
-use Rattle.std.proofs.Common.{◌≡◌, ℕ, ◌+◌, ◌<◌, Bool, true, false, cond, List, [], ◌∷◌, Option, Some, None, find, length, get_or, drop, ap, sym, ◌∙◌}
+use Rattle.std.proofs.Common.{◌≡◌, ℕ, ◌+◌, ◌<◌, Bool, true, false, cond, List, Option, Some, find, length, get_or, drop, ap, sym, ◌∙◌}
 use Rattle.std.specs.Option.{option_map}
 use Rattle.std.proofs.lemmas.List.{drop_more}
 use Rattle.mf_errno.specs.declared.module.Module.{Module}
-use Rattle.mf_errno.specs.declared.module.Module.TheVariants as modules
 use Rattle.mf_policy.specs.declared.registration.Registration.{Registration}
-use Rattle.mf_policy.specs.declared.spec.Spec.TheVariants as means
 use Rattle.mf_policy.specs.Registration.{Entry}
+use Rattle.mf_step.proofs.Entries.{some_entry}
 use Rattle.mf_step.specs.Labels.{holds_slot, is_slot}
-
-some_entry : Entry
-some_entry = (record { «module» = modules.Biba; slot = None; fixed = false }, means.Biba)
 
 module_found : Option Entry → Option Module
 module_found found = option_map (λ (entry : Entry). entry.0.module) found

@@ -1,1 +1,4 @@
+mod Entries
 mod Holders
+mod Keeping
+mod LastName

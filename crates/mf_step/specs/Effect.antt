@@ -1,5 +1,5 @@
 -- What a call changes where it is done.
-use Rattle.std.specs.Prelude.{ℕ, ◌+◌, Bool, true, false, cond, List, [], ◌∷◌, drop, Option, Some, None}
+use Rattle.std.specs.Prelude.{ℕ, ◌+◌, Bool, true, false, if◌then◌else◌, List, [], drop, Option, Some, None}
 use Rattle.mf_errno.specs.declared.module.Module.{Module}
 use Rattle.mf_cred.specs.declared.cred.FileView.{FileView}
 use Rattle.mf_item.specs.declared.view.Kind.{Kind}
@@ -18,7 +18,7 @@ use Rattle.mf_plan.specs.declared.target.Target.{Target}
 use Rattle.mf_plan.specs.declared.target.Target.TheVariants.{Root, Name, Nowhere}
 use Rattle.mf_plan.specs.Loading.{loadable}
 use Rattle.mf_plan.specs.Names.{child_name, module_named}
-use Rattle.mf_plan.specs.Path.{walk_along}
+use Rattle.mf_plan.specs.Path.{last_name, walk_along}
 use Rattle.mf_plan.specs.Views.{pipe_named, socket_named}
 use Rattle.mf_step.specs.Labels.{created_label}
 use Rattle.mf_step.specs.Reply.{file_at_path}
@@ -38,12 +38,6 @@ with_changed s change None = s
 with_changed s change (Some id) = with_objects s (with_change (with_what change) s.objects id)
 
 -- Files
-
--- the last component of a path
-abbrev pub last_of : List (List ℕ) → List ℕ
-last_of [] = []
-last_of (name ∷ []) = name
-last_of (name ∷ below ∷ rest) = last_of (below ∷ rest)
 
 -- A new file is owned by the effective uid of its maker, and is of the group of its directory.
 abbrev pub new_file : Entities → Id → Id → ℕ → Bool → FileView
@@ -66,13 +60,16 @@ without_entry s (Nowhere errno) = s
 -- Modules
 
 -- A module is registered, as it is loaded, and takes the next slot number where it wants one.
-abbrev pub with_loaded : State → Option Module → State
-with_loaded s None = s
-with_loaded s (Some m) =
+abbrev pub with_registered : State → Module → State
+with_registered s m =
     record s {
       specs = with_newest (registration_of m s.booted s.numbers, fresh_of m) s.specs;
-      numbers = cond (wants_slot m) (s.numbers + 1) s.numbers;
+      numbers = if wants_slot m then s.numbers + 1 else s.numbers;
     }
+
+abbrev pub with_loaded : State → Option Module → State
+with_loaded s None = s
+with_loaded s (Some m) = with_registered s m
 
 -- a module leaves the list: no label changes, and its slot number is not given again
 abbrev pub with_unloaded : State → Option Module → State
@@ -89,8 +86,8 @@ effect_of s task caller (call.Signal name) = s
 effect_of s task caller (call.Debug name) = s
 effect_of s task caller (call.Sched name) = s
 effect_of s task caller (call.Exec path) = s
-effect_of s task caller (call.Create path) = with_file s caller 420 false (last_of path) (walk_along s.objects path).target
-effect_of s task caller (call.Mkdir path) = with_file s caller 493 true (last_of path) (walk_along s.objects path).target
+effect_of s task caller (call.Create path) = with_file s caller 420 false (last_name path) (walk_along s.objects path).target
+effect_of s task caller (call.Mkdir path) = with_file s caller 493 true (last_name path) (walk_along s.objects path).target
 effect_of s task caller (call.Read path) = s
 effect_of s task caller (call.Write path text) = with_changed s (appended text) (file_at_path s.objects path)
 effect_of s task caller (call.Stat path) = s

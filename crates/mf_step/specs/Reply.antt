@@ -1,5 +1,6 @@
 -- The reply to a call.
-use Rattle.std.specs.Prelude.{ℕ, ◌-◌, List, [], length, map, Option, Some, None, unwrap_or, option_map, slice_get, slice_index_or}
+use Rattle.std.specs.Prelude.{ℕ, ◌-◌, List, [], length, map, Option, Some, None, unwrap_or, option_map, slice_get, slice_index_or, if◌then◌else◌}
+use Rattle.std.specs.Result.{result_ok}
 use Rattle.mf_errno.specs.declared.module.Module.{Module}
 use Rattle.mf_item.specs.declared.operation.CheckOp.{CheckOp}
 use Rattle.mf_item.specs.declared.operation.CheckOp.TheVariants.{VnodeLookup}
@@ -22,24 +23,17 @@ use Rattle.mf_plan.specs.declared.reply.Payload.TheVariants as payload
 use Rattle.mf_plan.specs.declared.reply.Reply.{Reply}
 use Rattle.mf_plan.specs.declared.reply.Reply.TheVariants as reply
 use Rattle.mf_plan.specs.declared.state.State.{State}
-use Rattle.mf_plan.specs.declared.target.Target.{Target}
-use Rattle.mf_plan.specs.declared.target.Target.TheVariants.{Root, Name, Nowhere}
 use Rattle.mf_plan.specs.Loading.{loadable}
-use Rattle.mf_plan.specs.Path.{root, walk_along}
-use Rattle.mf_plan.specs.Views.{pipe_named, socket_named}
+use Rattle.mf_plan.specs.Path.{found_at, walk_along}
+use Rattle.mf_plan.specs.Views.{is_dir, pipe_named, socket_named}
 use Rattle.mf_step.specs.declared.verdict.Denial.{Denial}
 use Rattle.mf_step.specs.declared.verdict.Verdict.{Verdict}
 
 -- Payloads
 
--- what is there, if something is
-abbrev pub found_at : Target → Option Id
-found_at Root = Some root
-found_at (Name dir entry) = entry
-found_at (Nowhere errno) = None
-
+-- the file or directory at a path
 abbrev pub file_at_path : Entities → List (List ℕ) → Option Id
-file_at_path objects path = found_at (walk_along objects path).target
+file_at_path objects path = result_ok (found_at (walk_along objects path).target)
 
 -- a payload of what is found
 abbrev pub of_found : (Id → Payload) → Option Id → Payload
@@ -52,8 +46,9 @@ head objects id = payload.Head (head_of (content_at objects id))
 abbrev pub stat : Entities → Id → Payload
 stat objects id = payload.Stat (file_at objects id) (length (content_at objects id))
 
+-- what a directory holds
 abbrev pub names : Entities → Id → Payload
-names objects id = payload.Names (count_at objects id) (names_at objects id)
+names objects id = if is_dir objects id then payload.Names (count_at objects id) (names_at objects id) else payload.None
 
 abbrev pub size : Entities → Id → Payload
 size objects id = payload.Size (length (content_at objects id))

@@ -1,10 +1,19 @@
 //! One call of the sequential framework: what the policies say to its plan, its reply, and what it changes.
 #![tactic(auto)]
 
+mod channels;
+mod files;
+mod found;
 mod label;
+mod modules;
+mod payload;
+mod performing;
+mod processes;
 mod reply;
 mod verdict;
 
 pub use label::created_label;
+pub use payload::payload_of;
+pub use performing::perform;
 pub use reply::reply_to;
 pub use verdict::{Denial, Verdict, verdict_of};

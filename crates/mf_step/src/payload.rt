@@ -1,0 +1,135 @@
+//! What a call hands back.
+ghost use Rattle.std.specs.Prelude.{◌≡◌, ◌≤◌, IfOk, IfSome, IsSome, length, map};
+ghost use Rattle.mf_objects.specs.Live.{live_at};
+ghost use Rattle.mf_plan.specs.Loading as loading;
+ghost use Rattle.mf_script.specs.WellFormed.{IsFormedCall};
+ghost use Rattle.mf_step.specs.Reply as spec;
+
+use crate::found::file_at;
+use crate::modules::slot_for;
+use mf_cred::ArrayVec;
+use mf_objects::{Id, Objects};
+use mf_plan::{Loaded, Payload, State, loadable};
+use mf_policy::SpecList;
+use mf_script::Call;
+use std::alloc::{AllocError, Global};
+
+/// What the call hands back where it is done. Memory is taken for the names of a directory alone.
+pub fn payload_of(alloc: Global, state: &State, call: &Call) -> Result<Payload, AllocError>
+    requires formed { IsFormedCall call.now }
+    requires few { length state.now.specs ≤ 8 }
+    ensures { IfOk result (λ payload. payload ≡ spec.payload_of state.now call.now) }
+{
+    let objects = &state.objects;
+    match call {
+        Call::Read(path) => Ok(head(objects, file_at(objects, path.as_slice()))),
+        Call::Stat(path) => Ok(stat(objects, file_at(objects, path.as_slice()))),
+        Call::Readdir(path) => names(alloc, objects, file_at(objects, path.as_slice())),
+        Call::Pread(name) => Ok(head(objects, objects.pipe(name.as_str()))),
+        Call::Pstat(name) => Ok(size(objects, objects.pipe(name.as_str()))),
+        Call::Recv(name) => Ok(message(objects, objects.socket(name.as_str()))),
+        Call::Kldstat => Ok(Payload::Modules(loaded(&state.specs))),
+        Call::Kldload(name) => Ok(slot(state, name.as_str())),
+        Call::Fork(_)
+        | Call::Exit
+        | Call::See(_)
+        | Call::Signal(_)
+        | Call::Debug(_)
+        | Call::Sched(_)
+        | Call::Exec(_)
+        | Call::Create(_)
+        | Call::Mkdir(_)
+        | Call::Write(_, _)
+        | Call::Chmod(_, _)
+        | Call::Unlink(_)
+        | Call::Pipe(_)
+        | Call::Socket(_)
+        | Call::Pwrite(_, _)
+        | Call::Send(_, _, _)
+        | Call::Seesock(_)
+        | Call::Kldunload(_) => Ok(Payload::None),
+    }
+}
+
+/// The beginning of what a file or a pipe holds.
+fn head(objects: &Objects, found: Option<Id>) -> Payload
+    requires { IfSome found (λ id. IsSome (live_at objects.now id)) }
+    ensures { result ≡ spec.of_found (spec.head objects.now) found }
+{
+    match found {
+        Some(id) => Payload::Head(objects.head(id)),
+        None => Payload::None,
+    }
+}
+
+fn stat(objects: &Objects, found: Option<Id>) -> Payload
+    requires { IfSome found (λ id. IsSome (live_at objects.now id)) }
+    ensures { result ≡ spec.of_found (spec.stat objects.now) found }
+{
+    match found {
+        Some(id) => Payload::Stat(objects.file(id), objects.size(id)),
+        None => Payload::None,
+    }
+}
+
+#[tactic(auto, using(mf_objects::proofs::Laws::live_directory))]
+fn names(alloc: Global, objects: &Objects, found: Option<Id>) -> Result<Payload, AllocError>
+    requires { IfSome found (λ id. IsSome (live_at objects.now id)) }
+    ensures { IfOk result (λ payload. payload ≡ spec.of_found (spec.names objects.now) found) }
+{
+    match found {
+        Some(id) if objects.file(id).dir => Ok(Payload::Names {
+            count: objects.count(id),
+            first: objects.names(alloc, id)?,
+        }),
+        _ => Ok(Payload::None),
+    }
+}
+
+/// How many bytes a pipe holds.
+fn size(objects: &Objects, found: Option<Id>) -> Payload
+    requires { IfSome found (λ id. IsSome (live_at objects.now id)) }
+    ensures { result ≡ spec.of_found (spec.size objects.now) found }
+{
+    match found {
+        Some(id) => Payload::Size(objects.size(id)),
+        None => Payload::None,
+    }
+}
+
+/// The beginning of a socket's oldest message.
+fn message(objects: &Objects, found: Option<Id>) -> Payload
+    requires { IfSome found (λ id. IsSome (live_at objects.now id)) }
+    ensures { result ≡ spec.of_found (spec.message objects.now) found }
+{
+    match found {
+        Some(id) => Payload::Head(objects.message(id)),
+        None => Payload::None,
+    }
+}
+
+/// The listed modules in walk order.
+fn loaded(specs: &SpecList) -> ArrayVec<Loaded, 8>
+    requires { length specs.now ≤ 8 }
+    ensures { result ≡ map spec.loaded specs.now }
+{
+    let mut modules = ArrayVec::new();
+    for place in 0..specs.len() {
+        let registration = specs.registration(place);
+        modules.push(Loaded {
+            module: registration.module,
+            slot: registration.slot,
+        });
+    }
+    modules
+}
+
+/// The label slot that a module of that name gets.
+fn slot(state: &State, name: &str) -> Payload
+    ensures { result ≡ spec.slot state.now.numbers (loading.loadable name.now) }
+{
+    match loadable(name) {
+        None => Payload::None,
+        Some(module) => Payload::Slot(slot_for(module, &state.numbers)),
+    }
+}

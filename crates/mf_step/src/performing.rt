@@ -1,0 +1,117 @@
+//! What a call changes.
+ghost use Rattle.std.specs.Prelude.{◌≡◌, ◌+◌, ◌<◌, ◌≤◌, OnOk, OnErr};
+ghost use Rattle.std.specs.Option.{option_copied};
+ghost use Rattle.mf_objects.specs.Live.{IsLive, is_process};
+ghost use Rattle.mf_plan.specs.Doing.{CanDo};
+ghost use Rattle.mf_plan.specs.Plan.{plan_of};
+ghost use Rattle.mf_plan.specs.declared.plan.Tail.TheVariants.{Do};
+ghost use Rattle.mf_script.specs.WellFormed.{IsFormedCall, IsFormedChild, IsName};
+ghost use Rattle.mf_step.specs.Effect.{effect_of};
+ghost use Rattle.mf_step.specs.Step.{performed};
+
+use crate::channels::{deliver, pipe, pread, pwrite, recv, socket};
+use crate::files::{chmod, create, unlink, write};
+use crate::modules::{kldload, kldunload};
+use crate::processes::{exit, fork};
+use mf_objects::Id;
+use mf_plan::{State, caller_of, child_name};
+use mf_script::Call;
+use std::alloc::{AllocError, Global};
+
+/// The mode bits of a new file, and of a new directory.
+const FILE_MODE: u16 = 0o644;
+
+const DIRECTORY_MODE: u16 = 0o755;
+
+/// Does the call of the task's own process, or of its child of that name, whose plan ends without a refusal and of which no
+/// check is denied. After want of memory the state is as before.
+pub fn perform(
+    alloc: Global,
+    state: &mut State,
+    task: &str,
+    child: Option<&str>,
+    call: &Call,
+) -> Result<(), AllocError>
+    requires task { IsName task.now }
+    requires child { IsFormedChild (option_copied child) }
+    requires formed { IsFormedCall call.now }
+    requires proceeds { (plan_of state.old task.now (option_copied child) call.now).tail ≡ Do }
+    requires next { state.old.objects.next < 4294967295 }
+    ensures ok { OnOk result (state.new ≡ performed state.old task.now (option_copied child.entry) call.now) }
+    ensures err { OnErr result (state.new ≡ state.old) }
+    ensures next { state.new.objects.next ≤ state.old.objects.next + 1 }
+    ensures rises { state.old.objects.next ≤ state.new.objects.next }
+    ensures kept { state.new.booted ≡ state.old.booted }
+{
+    match caller_of(&state.objects, task, child) {
+        Some(caller) => perform_by(alloc, state, task, caller, call),
+        None => Ok(()),
+    }
+}
+
+/// Does the call of a live process of the task.
+fn perform_by(
+    alloc: Global,
+    state: &mut State,
+    task: &str,
+    caller: Id,
+    call: &Call,
+) -> Result<(), AllocError>
+    requires task { IsName task.now }
+    requires formed { IsFormedCall call.now }
+    requires caller { IsLive is_process state.old.objects caller }
+    requires can { CanDo state.old task.now call.now }
+    requires next { state.old.objects.next < 4294967295 }
+    ensures ok { OnOk result (state.new ≡ effect_of state.old task.now caller call.now) }
+    ensures err { OnErr result (state.new ≡ state.old) }
+{
+    match call {
+        Call::Fork(name) => {
+            let name = child_name(task, name.as_str());
+            fork(alloc, state, caller, name.as_str())
+        }
+        Call::Exit => {
+            exit(state, caller);
+            Ok(())
+        }
+        Call::Create(path) => { create(alloc, state, caller, path.as_slice(), FILE_MODE, false) }
+        Call::Mkdir(path) => { create(alloc, state, caller, path.as_slice(), DIRECTORY_MODE, true) }
+        Call::Write(path, text) => write(state, path.as_slice(), text.as_slice()),
+        Call::Chmod(path, mode) => {
+            chmod(state, path.as_slice(), *mode);
+            Ok(())
+        }
+        Call::Unlink(path) => {
+            unlink(state, path.as_slice());
+            Ok(())
+        }
+        Call::Pipe(name) => pipe(alloc, state, caller, name.as_str()),
+        Call::Socket(name) => socket(alloc, state, caller, name.as_str()),
+        Call::Pread(name) => {
+            pread(state, name.as_str());
+            Ok(())
+        }
+        Call::Pwrite(name, text) => pwrite(state, name.as_str(), text.as_slice()),
+        Call::Send(_, to, text) => deliver(alloc, state, to.as_str(), text.as_slice()),
+        Call::Recv(name) => {
+            recv(state, name.as_str());
+            Ok(())
+        }
+        Call::Kldload(name) => kldload(alloc, state, name.as_str()),
+        Call::Kldunload(name) => {
+            kldunload(state, name.as_str());
+            Ok(())
+        }
+        Call::See(_)
+        | Call::Signal(_)
+        | Call::Debug(_)
+        | Call::Sched(_)
+        | Call::Exec(_)
+        | Call::Read(_)
+        | Call::Stat(_)
+        | Call::Readdir(_)
+        | Call::Pstat(_)
+        | Call::Seesock(_)
+        | Call::Kldstat => Ok(()),
+    }
+}

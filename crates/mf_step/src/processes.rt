@@ -1,0 +1,51 @@
+//! What the calls on processes change.
+ghost use Rattle.std.specs.Prelude.{◌≡◌, ◌<◌, OnOk, OnErr, IsSome};
+ghost use Rattle.mf_item.specs.declared.view.Kind.TheVariants as kinds;
+ghost use Rattle.mf_objects.specs.Changes as change;
+ghost use Rattle.mf_objects.specs.Live.{IsLive, cred_at, is_process, label_at, live_at, live_named};
+ghost use Rattle.mf_objects.specs.declared.entity.What.TheVariants as what;
+ghost use Rattle.mf_plan.specs.Doing.{CanMake};
+ghost use Rattle.mf_step.specs.Effect as spec;
+ghost use Rattle.mf_step.specs.Labels as labels;
+
+use crate::label::created_label;
+use mf_elem::LabelValue;
+use mf_item::Kind;
+use mf_objects::Id;
+use mf_plan::State;
+use std::alloc::{AllocError, Global};
+
+/// The label of what the process makes.
+pub(crate) fn label_from(state: &State, maker: Id, kind: Kind) -> [LabelValue; 4]
+    requires { IsSome (live_at state.now.objects maker) }
+    ensures { result ≡ labels.created_label state.now.specs kind (label_at state.now.objects maker) }
+{
+    created_label(&state.specs, kind, &state.objects.label(maker))
+}
+
+/// Makes a child of the process, with its credential. After want of memory the state is as before.
+pub(crate) fn fork(
+    alloc: Global,
+    state: &mut State,
+    caller: Id,
+    name: &str,
+) -> Result<(), AllocError>
+    requires caller { IsLive is_process state.old.objects caller }
+    requires can { CanMake state.old.objects (live_named is_process state.old.objects name.now) }
+    requires next { state.old.objects.next < 4294967295 }
+    ensures ok { OnOk result (state.new ≡ spec.with_created state.old caller kinds.Process name.now (what.Process (cred_at state.old.objects caller))) }
+    ensures err { OnErr result (state.new ≡ state.old) }
+{
+    let cred = state.objects.cred(caller);
+    let label = label_from(state, caller, Kind::Process);
+    state.objects.add_process(alloc, name, &cred, &label)?;
+    Ok(())
+}
+
+/// Ends the process.
+pub(crate) fn exit(state: &mut State, caller: Id)
+    requires { IsLive is_process state.old.objects caller }
+    ensures { state.new ≡ spec.with_objects state.old (change.without (change.goes_with caller) state.old.objects) }
+{
+    state.objects.remove_process(caller);
+}
