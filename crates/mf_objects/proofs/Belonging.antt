@@ -10,8 +10,8 @@ use Rattle.mf_objects.specs.declared.id.Id.{Id}
 use Rattle.mf_objects.specs.declared.entity.What.{What}
 use Rattle.mf_objects.specs.declared.entity.What.TheVariants.{Process, Vnode, Pipe, Socket}
 use Rattle.mf_objects.specs.Live.{Live, Entities, has_id, live_at, passes, is_process, is_directory, is_entry, is_held_by, is_made_by, IsLive}
-use Rattle.mf_objects.specs.Changes.{changed_at, appended, cleared, with_mode, with_messages}
-use Rattle.mf_objects.specs.Sound.{HasOlder, Belongs, AllBelong, MayJoin, IsBare, IsPopulation, IsRising}
+use Rattle.mf_objects.specs.Changes.{changed_at, FitsBytes, appended, cleared, with_mode, with_messages}
+use Rattle.mf_objects.specs.Sound.{HasOlder, HoldsBytesAsFile, Belongs, AllBelong, MayJoin, IsBare, IsPopulation, IsRising}
 use Rattle.mf_objects.proofs.Rising.{id_is, id_differs, below_next, at_least}
 
 pub same_id : (a b : Id) → a.0 ≡ b.0 → a ≡ b
@@ -151,7 +151,7 @@ live_below test id least next (e ∷ es) rising is = one (has_id id e) refl (liv
 
 pub joins : (objects : Entities) (w : What) → IsRising 0 objects.next objects.live → MayJoin objects w → Belongs objects.live objects.next w
 joins objects (Process cred) rising join = tt
-joins objects (Vnode vnode) rising join = by_parent vnode.parent join
+joins objects (Vnode vnode) rising join = by_parent vnode.parent join.0
   where
     by_parent : (parent : Option Id) → MatchOption parent ⊥ (λ dir. IsLive is_directory objects dir)
         → MatchOption parent (objects.next ≡ 0) (λ dir. HasOlder is_directory objects.live objects.next dir)
@@ -160,7 +160,16 @@ joins objects (Vnode vnode) rising join = by_parent vnode.parent join
 joins objects (Pipe pipe) rising join = (live_below is_process pipe.maker 0 objects.next objects.live rising join, join)
 joins objects (Socket socket) rising join = (live_below is_process socket.maker 0 objects.next objects.live rising join, join)
 
+pub joins_as_file : (objects : Entities) (w : What) → MayJoin objects w → HoldsBytesAsFile w
+joins_as_file objects (Process cred) join directory = absurd (false≢true directory)
+joins_as_file objects (Vnode vnode) join directory = join.1 directory
+joins_as_file objects (Pipe pipe) join directory = absurd (false≢true directory)
+joins_as_file objects (Socket socket) join directory = absurd (false≢true directory)
+
 -- One entity less
+
+pub All-remove : (P : Live → Type 0) (es : List Live) (i : ℕ) → All P es → All P (remove es i)
+All-remove P es i all = All-append P (take i es) (drop (suc i) es) (All-take P i es all) (All-drop P (suc i) es all)
 
 find_remove : (test : Live → Bool) (es : List Live) (i : ℕ) (d : Live) → i < length es → test (get_or es i d) ≡ false → find test (remove es i) ≡ find test es
 find_remove test [] i d within miss = absurd (omega arith)
@@ -182,7 +191,7 @@ find_own least next (e ∷ es) (suc i) d within rising =
 
 pub belong_remove : (live : List Live) (i : ℕ) (x : Live) → i < length live → x ≡ get_or live i x → AllBelong live → NoneBelongs x.id live → AllBelong (remove live i)
 belong_remove live i x within is all none =
-    All-append P (take i live) (drop (suc i) live) (All-take P i live shorter) (All-drop P (suc i) live shorter)
+    All-remove P live i shorter
   where
     P : Live → Type 0
     P e = Belongs (remove live i) e.id.0 e.what
@@ -207,30 +216,34 @@ belong_remove live i x within is all none =
 
 -- One entity changed
 
--- it stays a process or a directory, and belongs to what it belonged to
+-- it stays a process or a directory, belongs to what it belonged to, and holds no bytes that it may not hold
 pub record Stays (w w' : What) : Type 0 where
   pub process : is_process w' ≡ is_process w
   pub directory : is_directory w' ≡ is_directory w
   pub belongs : (live : List Live) (n : ℕ) → Belongs live n w → Belongs live n w'
+  pub as_file : HoldsBytesAsFile w → HoldsBytesAsFile w'
 
 pub stays_same : (w : What) → Stays w w
-stays_same w = record { process = refl; directory = refl; belongs = λ live n b. b }
+stays_same w = record { process = refl; directory = refl; belongs = λ live n b. b; as_file = λ held. held }
 
-pub appended_stays : (text : List ℕ) (w : What) → Stays w (appended text w)
-appended_stays text (Process cred) = stays_same (Process cred)
-appended_stays text (Vnode vnode) = record { process = refl; directory = refl; belongs = λ live n b. b }
-appended_stays text (Pipe pipe) = record { process = refl; directory = refl; belongs = λ live n b. b }
-appended_stays text (Socket socket) = stays_same (Socket socket)
+pub appended_stays : (text : List ℕ) (w : What) → FitsBytes (length text) w → Stays w (appended text w)
+appended_stays text (Process cred) fits = absurd fits
+appended_stays text (Vnode vnode) fits =
+    record { process = refl; directory = refl; belongs = λ live n b. b; as_file = λ held directory. absurd (false≢true (sym fits.0 ∙ directory)) }
+appended_stays text (Pipe pipe) fits =
+    record { process = refl; directory = refl; belongs = λ live n b. b; as_file = λ held directory. absurd (false≢true directory) }
+appended_stays text (Socket socket) fits = absurd fits
 
 pub cleared_stays : (w : What) → Stays w (cleared w)
 cleared_stays (Process cred) = stays_same (Process cred)
 cleared_stays (Vnode vnode) = stays_same (Vnode vnode)
-cleared_stays (Pipe pipe) = record { process = refl; directory = refl; belongs = λ live n b. b }
+cleared_stays (Pipe pipe) =
+    record { process = refl; directory = refl; belongs = λ live n b. b; as_file = λ held directory. absurd (false≢true directory) }
 cleared_stays (Socket socket) = stays_same (Socket socket)
 
 pub mode_stays : (mode : ℕ) (w : What) → Stays w (with_mode mode w)
 mode_stays mode (Process cred) = stays_same (Process cred)
-mode_stays mode (Vnode vnode) = record { process = refl; directory = refl; belongs = λ live n b. b }
+mode_stays mode (Vnode vnode) = record { process = refl; directory = refl; belongs = λ live n b. b; as_file = λ held. held }
 mode_stays mode (Pipe pipe) = stays_same (Pipe pipe)
 mode_stays mode (Socket socket) = stays_same (Socket socket)
 
@@ -238,32 +251,54 @@ pub messages_stay : (change : List (List ℕ) → List (List ℕ)) (w : What) �
 messages_stay change (Process cred) = stays_same (Process cred)
 messages_stay change (Vnode vnode) = stays_same (Vnode vnode)
 messages_stay change (Pipe pipe) = stays_same (Pipe pipe)
-messages_stay change (Socket socket) = record { process = refl; directory = refl; belongs = λ live n b. b }
+messages_stay change (Socket socket) =
+    record { process = refl; directory = refl; belongs = λ live n b. b; as_file = λ held directory. absurd (false≢true directory) }
+
+-- the entity of this id stays as it is to be, where it is changed
+abbrev pub StaysAt : (Live → Live) → Id → List Live → Type 0
+StaysAt change id live = All (λ (e : Live). has_id id e ≡ true → Stays e.what (change e).what) live
+
+-- there is one entity of this id: the one at this place
+pub stays_at : (change : Live → Live) (id : Id) (next : ℕ) (live : List Live) (i : ℕ) (x : Live) → i < length live → IsRising 0 next live → x ≡ get_or live i x → has_id id x ≡ true
+    → Stays x.what (change x).what → StaysAt change id live
+stays_at change id next live i x within rising at has stays k d l other =
+    let e : Live = get_or live k d in
+    let own : find (has_id e.id) live ≡ Some e = find_own 0 next live k d l rising in
+    let own_x : find (has_id x.id) live ≡ Some x = subst (λ (y : Live). find (has_id y.id) live ≡ Some y) (sym at) (find_own 0 next live i x within rising) in
+    let same : x.id ≡ e.id = same_id x.id e.id (id_is id x has ∙ sym (id_is id e other)) in
+    subst (λ (y : Live). Stays y.what (change y).what) (inside_some x e (sym own_x ∙ ap (λ (j : Id). find (has_id j) live) same ∙ own)) stays
+  where
+    inside_some : (a b : Live) → Some a ≡ Some b → a ≡ b
+    inside_some a b e = cc
 
 -- a look-up by id, where one entity is changed and keeps its id
-passes_changed : (change : Live → Live) (test : What → Bool) (id of : Id) (es : List Live) → ((e : Live) → (change e).id ≡ e.id) → ((e : Live) → test (change e).what ≡ test e.what)
+passes_changed : (change : Live → Live) (test : What → Bool) (id of : Id) (es : List Live) → ((e : Live) → (change e).id ≡ e.id)
+    → All (λ e. has_id id e ≡ true → test (change e).what ≡ test e.what) es
     → passes test (find (has_id of) (map (changed_at change id) es)) ≡ passes test (find (has_id of) es)
 passes_changed change test id of [] ids tests = refl
 passes_changed change test id of (e ∷ es) ids tests =
     let has : has_id of (changed_at change id e) ≡ has_id of e = ap (λ (i : Id). nat_eq i.0 of.0) (same (has_id id e)) in
-    rw has (one (has_id of e) (passes_changed change test id of es ids tests))
+    let P : Live → Type 0 = λ x. has_id id x ≡ true → test (change x).what ≡ test x.what in
+    rw has (one (has_id of e) (passed (has_id id e) refl (All-head P e es tests)) (passes_changed change test id of es ids (All-tail P e es tests)))
   where
     same : (b : Bool) → (cond b (change e) e).id ≡ e.id
     same true = ids e
     same false = refl
 
-    passed : (b : Bool) → test (cond b (change e) e).what ≡ test e.what
-    passed true = tests e
-    passed false = refl
+    passed : (b : Bool) → has_id id e ≡ b → (has_id id e ≡ true → test (change e).what ≡ test e.what) → test (cond b (change e) e).what ≡ test e.what
+    passed true has here = here has
+    passed false has here = refl
 
-    one : (b : Bool) → passes test (find (has_id of) (map (changed_at change id) es)) ≡ passes test (find (has_id of) es)
+    one : (b : Bool) → test (changed_at change id e).what ≡ test e.what
+        → passes test (find (has_id of) (map (changed_at change id) es)) ≡ passes test (find (has_id of) es)
         → passes test (cond b (Some (changed_at change id e)) (find (has_id of) (map (changed_at change id) es))) ≡ passes test (cond b (Some e) (find (has_id of) es))
-    one true rest = passed (has_id id e)
-    one false rest = rest
+    one true here rest = here
+    one false here rest = rest
 
-pub belong_changed : (change : Live → Live) (id : Id) (live : List Live) → ((e : Live) → (change e).id ≡ e.id) → ((e : Live) → Stays e.what (change e).what)
+pub belong_changed : (change : Live → Live) (id : Id) (live : List Live) → ((e : Live) → (change e).id ≡ e.id) → StaysAt change id live
     → AllBelong live → AllBelong (map (changed_at change id) live)
-belong_changed change id live ids stays all = All-map P (changed_at change id) live (λ k d l. one (get_or live k d) (has_id id (get_or live k d)) (all k d l))
+belong_changed change id live ids stays all =
+    All-map P (changed_at change id) live (λ k d l. one (get_or live k d) (has_id id (get_or live k d)) refl (stays k d l) (all k d l))
   where
     live' : List Live
     live' = map (changed_at change id) live
@@ -274,11 +309,23 @@ belong_changed change id live ids stays all = All-map P (changed_at change id) l
     moved : (n : ℕ) (w : What) → Belongs live n w → Belongs live' n w
     moved n w =
         Belongs-weaker live live' n w
-        (λ dir _ is. passes_changed change is_directory id dir live ids (λ e. (stays e).directory) ∙ is)
-        (λ maker _ is. passes_changed change is_process id maker live ids (λ e. (stays e).process) ∙ is)
+        (λ dir _ is. passes_changed change is_directory id dir live ids (λ k d l has. (stays k d l has).directory) ∙ is)
+        (λ maker _ is. passes_changed change is_process id maker live ids (λ k d l has. (stays k d l has).process) ∙ is)
 
-    one : (e : Live) (b : Bool) → Belongs live e.id.0 e.what → P (cond b (change e) e)
-    one e true belongs =
+    one : (e : Live) (b : Bool) → has_id id e ≡ b → (has_id id e ≡ true → Stays e.what (change e).what) → Belongs live e.id.0 e.what → P (cond b (change e) e)
+    one e true has stays belongs =
         moved (change e).id.0 (change e).what
-        (subst (λ (i : Id). Belongs live i.0 (change e).what) (sym (ids e)) ((stays e).belongs live e.id.0 belongs))
-    one e false belongs = moved e.id.0 e.what belongs
+        (subst (λ (i : Id). Belongs live i.0 (change e).what) (sym (ids e)) ((stays has).belongs live e.id.0 belongs))
+    one e false has stays belongs = moved e.id.0 e.what belongs
+
+pub as_files_changed : (change : Live → Live) (id : Id) (live : List Live) → StaysAt change id live
+    → All (λ e. HoldsBytesAsFile e.what) live → All (λ e. HoldsBytesAsFile e.what) (map (changed_at change id) live)
+as_files_changed change id live stays all =
+    All-map P (changed_at change id) live (λ k d l. one (get_or live k d) (has_id id (get_or live k d)) refl (stays k d l) (all k d l))
+  where
+    P : Live → Type 0
+    P e = HoldsBytesAsFile e.what
+
+    one : (e : Live) (b : Bool) → has_id id e ≡ b → (has_id id e ≡ true → Stays e.what (change e).what) → P e → P (cond b (change e) e)
+    one e true has stays held = (stays has).as_file held
+    one e false has stays held = held

@@ -1,16 +1,18 @@
 -- Look-ups and readings of the live entities, as contracts see them.
-use Rattle.std.proofs.Common.{◌≡◌, ◌≢◌, ℕ, ◌≤◌, ◌+◌, List, [], ◌∷◌, Option, Some, None, get_or, set, refl, ap, sym, ◌∙◌, subst, arith, IsSome, true, false, Bool, cond, eq-eqb, option_map, ◌&&◌, Result, Ok, Err, OnOk, OnErr}
+use Rattle.std.proofs.Common.{◌≡◌, ◌≢◌, ℕ, ◌<◌, ◌≤◌, nat_le, ◌+◌, List, [], ◌∷◌, Option, Some, None, get_or, set, refl, ap, sym, ◌∙◌, subst, arith, IsSome, true, false, Bool, cond, eq-eqb, option_map, ◌&&◌, Result, Ok, Err, OnOk, OnErr}
 use Rattle.std.specs.declared.alloc.AllocError.{AllocError}
-use Rattle.std.specs.Prelude.{find, IfSome, IfNone}
+use Rattle.std.proofs.lemmas.List.Elements.{All-nil, All-cons, All-weaker}
+use Rattle.std.proofs.lemmas.Bool.Decides.{nat_tests}
+use Rattle.std.specs.Prelude.{find, All, IfSome, IfNone}
 use Rattle.mf_slots.specs.Zones.{Contents, value_of}
 use Rattle.mf_objects.specs.declared.id.Id.{Id}
 use Rattle.mf_objects.specs.declared.entity.Entity.{Entity}
 use Rattle.mf_objects.specs.declared.entity.What.{What}
 use Rattle.mf_objects.specs.declared.entity.What.TheVariants.{Process, Vnode, Pipe, Socket}
-use Rattle.mf_objects.specs.Live.{Live, Entities, has_id, live_at, id_of, is_directory, label_of, IsFound, IsLiveWhere, messages_at, messages_of, reading, label_at, IsLive, is_named, is_child, is_entry, is_vnode}
+use Rattle.mf_objects.specs.Live.{Live, Entities, has_id, is_from, live_at, id_of, IsLeast, is_directory, label_of, IsFound, IsLiveWhere, messages_at, messages_of, reading, label_at, IsLive, is_named, is_child, is_entry, is_vnode}
 use Rattle.std.specs.Str.{bytes_eq}
 use Rattle.mf_objects.specs.Sound.{seen, shown, live_of, Belongs, IsPopulation, IsSound, IsPlace, IsRising, HasRoot, label_values}
-use Rattle.mf_objects.proofs.Rising.{id_differs}
+use Rattle.mf_objects.proofs.Rising.{id_differs, at_least}
 use Rattle.mf_objects.proofs.Belonging.{Stays, entry_directory, find_all}
 use Rattle.mf_objects.proofs.Kept.{view, found_place, what_changed, set_same}
 
@@ -95,7 +97,7 @@ messages_place next zones es id i e place is = ap (reading messages_of []) (foun
 
 -- after a change that may want memory
 pub what_sound : (r : Result (Unit {0}) AllocError) (next : ℕ) (zones : Contents) (es : List Entity) (id : Id) (i : ℕ) (e : Entity) (w : What) (change : What → What)
-    → IsPlace (view next zones es) id i → e ≡ get_or es i e → IsSound next zones es → ((x : What) → Stays x (change x))
+    → IsPlace (view next zones es) id i → e ≡ get_or es i e → IsSound next zones es → Stays e.what (change e.what)
     → OnOk r (w ≡ change e.what) → OnErr r (w ≡ e.what) → IsSound next zones (set es i (record e { what = w }))
 what_sound (Ok u) next zones es id i e w change place is sound stays changed same =
     (what_changed next zones es id i e w change place is sound stays changed).sound
@@ -182,3 +184,58 @@ child_not_root dir name objects (Some id) population is = by_live (find (is_chil
         let older = entry_directory objects.live x.id.0 dir x.what belongs entry in
         let same : id ≡ x.id = inside_id id x.id (ids ∙ ap id_of e) in
         λ first. omega (arith, older.0, first, ap (λ (i : Id). i.0) same)
+
+le_true : (n m : ℕ) → nat_le n m ≡ true → n ≤ m
+le_true n m h = grind (arith, nat_tests)
+
+le_false : (n m : ℕ) → nat_le n m ≡ false → m < n
+le_false n m h = grind (arith, nat_tests)
+
+all_from : (least next : ℕ) (es : List Live) → IsRising least next es → All (λ e. least ≤ e.id.0) es
+all_from least next es rising k d l = at_least least next es k d l rising
+
+least_is : (n least next : ℕ) (es : List Live) (x : Live) → IsRising least next es → find (is_from n) es ≡ Some x → IsLeast n es x.id
+least_is n least next [] x rising is = cc
+least_is n least next (e ∷ es) x rising is = one (nat_le n e.id.0) refl (least_is n (e.id.0 + 1) next es x rising.1) is
+  where
+    P : Id → Live → Type 0
+    P id y = n ≤ y.id.0 → id.0 ≤ y.id.0
+
+    one : (b : Bool) → nat_le n e.id.0 ≡ b → (find (is_from n) es ≡ Some x → IsLeast n es x.id) → cond b (Some e) (find (is_from n) es) ≡ Some x → IsLeast n (e ∷ es) x.id
+    one true from later is =
+        subst (λ (y : Live). IsLeast n (e ∷ es) y.id) (inside_some e x is) (record {
+          from = le_true n e.id.0 from;
+          least = All-cons (P e.id) e es (λ _. omega arith)
+              (All-weaker (λ (y : Live). e.id.0 + 1 ≤ y.id.0) (P e.id) (λ y above _. omega (arith, above)) es (all_from (e.id.0 + 1) next es rising.1));
+        })
+    one false before later is =
+        let rest : IsLeast n es x.id = later is in
+        record {
+          from = rest.from;
+          least = All-cons (P x.id) e es (λ from. absurd (omega (arith, from, le_false n e.id.0 before))) rest.least;
+        }
+
+pub found_least : (n : ℕ) (objects : Entities) (found : Option Id) → IsRising 0 objects.next objects.live → IsFound (is_from n) objects found
+    → IfSome found (λ id. IsLeast n objects.live id)
+found_least n objects None rising is = tt
+found_least n objects (Some id) rising is = by_live (find (is_from n) objects.live) refl is.id
+  where
+    inside_id : (a b : Id) → Some a ≡ Some b → a ≡ b
+    inside_id a b e = cc
+
+    by_live : (o : Option Live) → find (is_from n) objects.live ≡ o → Some id ≡ id_of (find (is_from n) objects.live) → IsLeast n objects.live id
+    by_live None e ids = absurd (cc (ids ∙ ap id_of e))
+    by_live (Some x) e ids =
+        subst (λ (i : Id). IsLeast n objects.live i) (sym (inside_id id x.id (ids ∙ ap id_of e))) (least_is n 0 objects.next objects.live x rising e)
+
+all_before : (n : ℕ) (es : List Live) → find (is_from n) es ≡ None → All (λ e. e.id.0 < n) es
+all_before n [] none = All-nil (λ (e : Live). e.id.0 < n)
+all_before n (e ∷ es) none = one (nat_le n e.id.0) refl (all_before n es) none
+  where
+    one : (b : Bool) → nat_le n e.id.0 ≡ b → (find (is_from n) es ≡ None → All (λ x. x.id.0 < n) es) → cond b (Some e) (find (is_from n) es) ≡ None → All (λ x. x.id.0 < n) (e ∷ es)
+    one true from later none = absurd (cc none)
+    one false before later none = All-cons (λ (x : Live). x.id.0 < n) e es (le_false n e.id.0 before) (later none)
+
+pub none_from : (n : ℕ) (objects : Entities) (found : Option Id) → IsFound (is_from n) objects found → IfNone found (All (λ e. e.id.0 < n) objects.live)
+none_from n objects None is = all_before n objects.live is.absent
+none_from n objects (Some id) is = tt

@@ -4,6 +4,7 @@ use Rattle.std.specs.declared.alloc.AllocError.{AllocError}
 use Rattle.std.specs.Prelude.{find}
 use Rattle.std.specs.List.{position_or_len}
 use Rattle.std.proofs.lemmas.List.{set-get_or, map-append, set_split, length-set, length-map, length-take-le, length-append, length-drop, get_or-map, take-map, drop-map}
+use Rattle.std.proofs.lemmas.List.Elements.{All-push, All-cons, All-nil}
 use Rattle.std.proofs.lemmas.List.Quantifiers.{position-Some}
 use Rattle.std.proofs.lemmas.Bool.{lt-ltb, false≢true}
 use Rattle.mf_elem.specs.declared.label.LabelValue.{LabelValue}
@@ -15,10 +16,10 @@ use Rattle.mf_objects.specs.declared.entity.Entity.{Entity}
 use Rattle.mf_objects.specs.declared.entity.What.{What}
 use Rattle.mf_objects.specs.Live.{Live, Entities, has_id, live_at, passes, is_directory, label_of, value_at as live_value}
 use Rattle.mf_objects.specs.Changes.{changed_at, with_change, with_value, with_what}
-use Rattle.mf_objects.specs.Sound.{label_values, seen, labels_of, IsExact, live_of, Belongs, IsBare, IsPopulation, IsSound, IsPlace}
+use Rattle.mf_objects.specs.Sound.{label_values, seen, labels_of, IsExact, live_of, HoldsBytesAsFile, Belongs, IsBare, IsPopulation, IsSound, IsPlace}
 use Rattle.mf_objects.proofs.Zoned.{exact_same, live_same, exact_push, live_push, exact_drop, live_drop, is_held, Relabels, relabels_set, relabels_make, exact_relabel, live_relabel, split_place, live_split, exact_none}
 use Rattle.mf_objects.proofs.Rising.{rising_push, rising_remove, rising_changed, root_push, root_remove, root_changed, set_changed, find_first, id_is}
-use Rattle.mf_objects.proofs.Belonging.{Stays, stays_same, belong_one, belong_push, belong_remove, belong_changed, bare_none, find_own}
+use Rattle.mf_objects.proofs.Belonging.{Stays, StaysAt, stays_same, stays_at, as_files_changed, All-remove, belong_one, belong_push, belong_remove, belong_changed, bare_none, find_own}
 
 -- the live entities as contracts see them
 abbrev pub view : ℕ → Contents → List Entity → Entities
@@ -44,9 +45,9 @@ same_zones next zones zones' es sound same =
     }
 
 pub added : (next : ℕ) (zones zones' : Contents) (es : List Entity) (e : Entity) (values : List LabelValue) → e.id.0 ≡ next → length es < 1024 → length values ≡ 4
-    → IsSound next zones es → Belongs (live_of zones es) next e.what → MakesLabel zones zones' e.label values
+    → IsSound next zones es → Belongs (live_of zones es) next e.what → HoldsBytesAsFile e.what → MakesLabel zones zones' e.label values
     → Becomes (next + 1) zones' (es ++ e ∷ []) (record { next = next + 1; live = live_of zones es ++ record { id = e.id; name = e.name; label = values; what = e.what } ∷ [] })
-added next zones zones' es e values is room four sound belongs makes =
+added next zones zones' es e values is room four sound belongs as_file makes =
     let x : Live = record { id = e.id; name = e.name; label = values; what = e.what } in
     let live : live_of zones' (es ++ e ∷ []) ≡ live_of zones es ++ x ∷ [] = live_push zones zones' es e values four sound.exact makes in
     let joined : Belongs (live_of zones es) x.id.0 x.what = subst (λ (n : ℕ). Belongs (live_of zones es) n x.what) (sym is) belongs in
@@ -55,6 +56,7 @@ added next zones zones' es e values is room four sound belongs makes =
       rising = rising_push 0 next (live_of zones es) x is sound.population.rising;
       rooted = root_push (live_of zones es) (x ∷ []) sound.population.rooted;
       belong = belong_push (live_of zones es) x sound.population.belong joined;
+      as_files = All-push (λ (l : Live). HoldsBytesAsFile l.what) (live_of zones es) x sound.population.as_files as_file;
     } in
     record {
       sound = record {
@@ -94,6 +96,7 @@ dropped next zones zones' es i e within later is sound bare gives =
       rooted = root_remove lives i later sound.population.rooted;
       belong = belong_remove lives i (seen zones e) long at sound.population.belong
           (bare_none lives e.id e.what sound.population.belong (λ test. ap (passes test) own) bare);
+      as_files = All-remove (λ (l : Live). HoldsBytesAsFile l.what) lives i sound.population.as_files;
     } in
     record {
       sound = record {
@@ -143,7 +146,7 @@ found_place next zones es id i e place is =
 -- the entity at a place is changed, as contracts see it
 changes : (next : ℕ) (zones zones' : Contents) (es es' : List Entity) (id : Id) (i : ℕ) (e : Entity) (change : Live → Live)
     → IsPlace (view next zones es) id i → e ≡ get_or es i e → IsSound next zones es
-    → ((x : Live) → (change x).id ≡ x.id) → ((x : Live) → Stays x.what (change x).what)
+    → ((x : Live) → (change x).id ≡ x.id) → Stays e.what (change (seen zones e)).what
     → live_of zones' es' ≡ set (live_of zones es) i (change (seen zones e)) → length es' ≡ length es → IsExact zones' (labels_of es') → NoneUnset zones'
     → Becomes next zones' es' (with_change change (view next zones es) id)
 changes next zones zones' es es' id i e change place is sound ids stays shows len exact set_now =
@@ -153,11 +156,13 @@ changes next zones zones' es es' id i e change place is sound ids stays shows le
     let has : has_id id (seen zones e) ≡ true = ap (has_id id) at ∙ place.has (seen zones e) in
     let live : live_of zones' es' ≡ map (changed_at change id) (live_of zones es) =
     shows ∙ set_changed change id 0 next (live_of zones es) i (seen zones e) long sound.population.rising at has in
+    let at_id : StaysAt change id (live_of zones es) = stays_at change id next (live_of zones es) i (seen zones e) long sound.population.rising at has stays in
     let changed : IsPopulation (record { next = next; live = map (changed_at change id) (live_of zones es) }) =
     record {
       rising = rising_changed change id 0 next (live_of zones es) ids sound.population.rising;
-      rooted = root_changed change id (live_of zones es) ids (λ x. (stays x).directory) sound.population.rooted;
-      belong = belong_changed change id (live_of zones es) ids stays sound.population.belong;
+      rooted = root_changed change id (live_of zones es) ids (λ k d l has. (at_id k d l has).directory) sound.population.rooted;
+      belong = belong_changed change id (live_of zones es) ids at_id sound.population.belong;
+      as_files = as_files_changed change id (live_of zones es) at_id sound.population.as_files;
     } in
     record {
       sound = record {
@@ -183,7 +188,7 @@ relabelled next zones zones' es id i e label slot h v place is sound value relab
     ∙ live_relabel zones zones' (take i es) (drop (suc i) es) e label slot h v relabels
     ∙ live_split zones (take i es) (drop (suc i) es) e i (with_value slot v (seen zones e)) (length-take-le i es (omega arith))
     ∙ ap (λ (xs : List Entity). set (live_of zones xs) i (with_value slot v (seen zones e))) (sym split) in
-    changes next zones zones' es (set es i e') id i e (with_value slot v) place is sound (λ x. refl) (λ x. stays_same x.what) live (length-set es i e')
+    changes next zones zones' es (set es i e') id i e (with_value slot v) place is sound (λ x. refl) (stays_same e.what) live (length-set es i e')
     (rw put (exact_relabel zones zones' (take i es) (drop (suc i) es) e label slot h v exact relabels))
     (set_writes zones zones' slot h v sound.set value relabels.writes)
 
@@ -222,13 +227,13 @@ live_set zones (x ∷ es) (suc i) e = ap (λ (ls : List Live). seen zones x ∷ 
 
 -- what an entity holds is changed
 pub what_changed : (next : ℕ) (zones : Contents) (es : List Entity) (id : Id) (i : ℕ) (e : Entity) (w : What) (change : What → What)
-    → IsPlace (view next zones es) id i → e ≡ get_or es i e → IsSound next zones es → ((x : What) → Stays x (change x)) → w ≡ change e.what
+    → IsPlace (view next zones es) id i → e ≡ get_or es i e → IsSound next zones es → Stays e.what (change e.what) → w ≡ change e.what
     → Becomes next zones (set es i (record e { what = w })) (with_change (with_what change) (view next zones es) id)
 what_changed next zones es id i e w change place is sound stays changed =
     let e' : Entity = record e { what = w } in
     let live : live_of zones (set es i e') ≡ set (live_of zones es) i (with_what change (seen zones e)) =
     live_set zones es i e' ∙ ap (λ (x : What). set (live_of zones es) i (with_what (λ _. x) (seen zones e))) changed in
-    changes next zones zones es (set es i e') id i e (with_what change) place is sound (λ x. refl) (λ x. stays x.what) live (length-set es i e')
+    changes next zones zones es (set es i e') id i e (with_what change) place is sound (λ x. refl) stays live (length-set es i e')
     (subst (λ (ls : List Handles). IsExact zones ls) (sym (labels_set es i e e' is refl)) sound.exact) sound.set
 
 -- Look-ups by id
@@ -321,12 +326,14 @@ on_err (Ok x) P p = tt
 on_err (Err e) P p = p
 
 pub opened : (zones : Contents) (e : Entity) (values : List LabelValue) → length values ≡ 4 → MakesLabel (replicate 4 []) zones e.label values
-    → e.id.0 ≡ 0 → IsTrue (is_directory e.what) → Belongs (record { id = e.id; name = e.name; label = values; what = e.what } ∷ []) e.id.0 e.what
+    → e.id.0 ≡ 0 → IsTrue (is_directory e.what) → Belongs (record { id = e.id; name = e.name; label = values; what = e.what } ∷ []) e.id.0 e.what → HoldsBytesAsFile e.what
     → Becomes 1 zones ([] ++ e ∷ []) (record { next = 1; live = record { id = e.id; name = e.name; label = values; what = e.what } ∷ [] })
-opened zones e values four makes first directory belongs =
+opened zones e values four makes first directory belongs as_file =
     let x : Live = record { id = e.id; name = e.name; label = values; what = e.what } in
     let live : live_of zones ([] ++ e ∷ []) ≡ x ∷ [] = live_push (replicate 4 []) zones [] e values four exact_none makes in
-    let alone : IsPopulation (record { next = 1; live = x ∷ [] }) = record { rising = (omega arith, omega (arith, first)); rooted = (first, directory); belong = belong_one x belongs } in
+    let P : Live → Type 0 = λ l. HoldsBytesAsFile l.what in
+    let alone : IsPopulation (record { next = 1; live = x ∷ [] }) =
+    record { rising = (omega arith, omega (arith, first)); rooted = (first, directory); belong = belong_one x belongs; as_files = All-cons P x [] as_file (All-nil P) } in
     record {
       sound = record {
         population = rw live alone;

@@ -1,13 +1,13 @@
 -- What callers need to meet the conditions of the calls: from what the readings say of an entity.
-use Rattle.std.proofs.Common.{◌≡◌, ℕ, ◌<◌, ◌≤◌, ◌+◌, Option, Some, None, length, true, false, [], refl}
+use Rattle.std.proofs.Common.{◌≡◌, ℕ, ◌<◌, ◌≤◌, ◌+◌, Option, Some, None, length, true, false, [], refl, ap, sym, ◌∙◌}
 use Rattle.std.proofs.lemmas.Bool.{false≢true}
 use Rattle.mf_objects.specs.declared.id.Id.{Id}
 use Rattle.mf_objects.specs.declared.entity.What.{What}
 use Rattle.mf_objects.specs.declared.entity.What.TheVariants.{Process, Vnode, Pipe, Socket}
-use Rattle.mf_objects.specs.Live.{Live, Entities, live_at, passes, is_vnode, is_pipe, is_process, is_socket, is_directory, is_entry, is_made_by, IsLive, IsLiveWhere, reading, count_of, count_at, content_of, content_at, file_of, file_at, no_file, entry_count}
+use Rattle.mf_objects.specs.Live.{Live, Entities, has_id, live_at, passes, is_vnode, is_pipe, is_process, is_socket, is_directory, is_entry, is_made_by, IsLive, IsLiveWhere, reading, count_of, count_at, content_of, content_at, file_of, file_at, no_file, entry_count}
 use Rattle.mf_objects.specs.Changes.{FitsBytes, FitsMessage, HasMessage}
-use Rattle.mf_objects.specs.Sound.{IsPopulation}
-use Rattle.mf_objects.proofs.Belonging.{counted_none, no_entry, belongs_at, entry_directory, maker_process}
+use Rattle.mf_objects.specs.Sound.{IsPopulation, HoldsBytesAsFile}
+use Rattle.mf_objects.proofs.Belonging.{counted_none, no_entry, belongs_at, find_all, entry_directory, maker_process}
 
 message_fits : (entries : ℕ) (w : What) → is_socket w ≡ true → count_of entries w < 16 → FitsMessage w
 message_fits entries (Process cred) kind few = absurd (false≢true kind)
@@ -144,3 +144,13 @@ maker_lives objects id maker population made = by_found (live_at objects id) ref
     by_found (Some e) is made =
         let older = maker_process objects.live e.id.0 maker e.what (belongs_at objects id e population is) made in
         older.1
+
+-- a directory holds no bytes
+pub directory_empty : (objects : Entities) (id : Id) → IsPopulation objects → IsLive is_directory objects id → content_at objects id ≡ []
+directory_empty objects id population directory = by_found (live_at objects id) refl directory
+  where
+    by_found : (o : Option Live) → live_at objects id ≡ o → passes is_directory o ≡ true → content_at objects id ≡ []
+    by_found None is directory = absurd (false≢true directory)
+    by_found (Some e) is directory =
+        let held : HoldsBytesAsFile e.what = find_all (λ (x : Live). HoldsBytesAsFile x.what) (has_id id) objects.live e population.as_files is in
+        ap (reading content_of []) is ∙ held directory

@@ -5,4 +5,6 @@ pub mod Kept
 pub mod Found
 pub mod Removing
 pub mod Naming
+pub mod ByteOrder
+pub mod Paths
 pub mod Laws

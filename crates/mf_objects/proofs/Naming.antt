@@ -37,7 +37,7 @@ pub names_no : (dir : Id) (e : Entity) (es : List Entity) → is_entry dir e.wha
     → in_byte_order (raw_names dir (e ∷ es)) ≡ in_byte_order (raw_names dir es)
 names_no dir e es entry = rw entry refl
 
-path_push : (ls : List Link) (l : Link) (id : Id)
+pub path_push : (ls : List Link) (l : Link) (id : Id)
     → path_in (reverse (ls ++ l ∷ [])) id ≡ cond (nat_eq l.id.0 id.0) (below (path_in (reverse ls)) l.parent l.name) (path_in (reverse ls) id)
 unfolding path_in
 path_push ls l id = ap (λ (xs : List Link). path_in xs id) (reverse-append ls (l ∷ []))

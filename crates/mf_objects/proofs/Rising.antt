@@ -1,6 +1,7 @@
 -- Live entities by rising id: each id stands once.
 use Rattle.std.proofs.Common.{◌≡◌, ◌≢◌, ℕ, ◌<◌, ◌≤◌, ◌+◌, List, [], ◌∷◌, ◌++◌, Some, length, get_or, set, map, remove, refl, ap, sym, ◌∙◌, arith, zero, suc, eq-eqb, Bool, true, false, not, cond}
-use Rattle.std.specs.Prelude.{filter, find}
+use Rattle.std.specs.Prelude.{filter, find, All}
+use Rattle.std.proofs.lemmas.List.Elements.{All-head}
 use Rattle.std.proofs.lemmas.Bool.Decides.{nat_tests}
 use Rattle.mf_objects.specs.declared.id.Id.{Id}
 use Rattle.mf_objects.specs.Live.{Live, has_id, is_directory}
@@ -76,20 +77,21 @@ root_push [] ys root = absurd root
 root_push (e ∷ es) ys root = root
 
 pub root_changed : (change : Live → Live) (id : Id) (es : List Live) → ((e : Live) → (change e).id ≡ e.id)
-    → ((e : Live) → is_directory (change e).what ≡ is_directory e.what) → HasRoot es → HasRoot (map (changed_at change id) es)
+    → All (λ e. has_id id e ≡ true → is_directory (change e).what ≡ is_directory e.what) es → HasRoot es → HasRoot (map (changed_at change id) es)
 root_changed change id [] keeps directory root = root
 root_changed change id (e ∷ es) keeps directory root =
+    let P : Live → Type 0 = λ x. has_id id x ≡ true → is_directory (change x).what ≡ is_directory x.what in
     let same : (changed_at change id e).id ≡ e.id = one (has_id id e) in
-    let kind : is_directory (changed_at change id e).what ≡ is_directory e.what = two (has_id id e) in
+    let kind : is_directory (changed_at change id e).what ≡ is_directory e.what = two (has_id id e) refl (All-head P e es directory) in
     (ap (λ (i : Id). i.0) same ∙ root.0, kind ∙ root.1)
   where
     one : (b : Bool) → (cond b (change e) e).id ≡ e.id
     one true = keeps e
     one false = refl
 
-    two : (b : Bool) → is_directory (cond b (change e) e).what ≡ is_directory e.what
-    two true = directory e
-    two false = refl
+    two : (b : Bool) → has_id id e ≡ b → (has_id id e ≡ true → is_directory (change e).what ≡ is_directory e.what) → is_directory (cond b (change e) e).what ≡ is_directory e.what
+    two true has here = here has
+    two false has here = refl
 
 pub root_remove : (es : List Live) (i : ℕ) → 0 < i → HasRoot es → HasRoot (remove es i)
 root_remove [] i later root = absurd root

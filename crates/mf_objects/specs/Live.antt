@@ -1,5 +1,5 @@
 -- The live entities, as contracts see them: the listing of a finite map by rising id.
-use Rattle.std.specs.Prelude.{◌≡◌, ℕ, Bool, true, false, IsTrue, nat_eq, nat_le, ◌&&◌, List, [], ◌∷◌, length, Option, Some, None, find, count_by, slice_index_or, option_map, IfSome, IfNone}
+use Rattle.std.specs.Prelude.{◌≡◌, ◌≤◌, ℕ, All, Bool, true, false, IsTrue, nat_eq, nat_le, ◌&&◌, List, [], ◌∷◌, length, Option, Some, None, find, count_by, slice_index_or, option_map, IfSome, IfNone}
 use Rattle.std.specs.Str.{bytes_eq}
 use Rattle.mf_elem.specs.declared.label.LabelValue.{LabelValue}
 use Rattle.mf_elem.specs.declared.label.LabelValue.TheVariants as values
@@ -109,6 +109,11 @@ is_child dir name e = is_entry dir e.what && bytes_eq e.name name
 -- its id is at least this number
 abbrev pub is_from : ℕ → Live → Bool
 is_from n e = nat_le n e.id.0
+
+-- the least live id of at least n
+pub record IsLeast (n : ℕ) (live : List Live) (id : Id) : Type 0 where
+  pub from : n ≤ id.0
+  pub least : All (λ e. n ≤ e.id.0 → id.0 ≤ e.id.0) live
 
 abbrev pub id_of : Option Live → Option Id
 id_of found = option_map (λ e. e.id) found

@@ -7,7 +7,7 @@ use Rattle.mf_objects.specs.declared.entity.What.{What}
 use Rattle.mf_objects.specs.declared.entity.What.TheVariants.{Process, Vnode, Pipe, Socket}
 use Rattle.mf_objects.specs.declared.id.Id.{Id}
 use Rattle.mf_objects.specs.Titles.{Link, parent_of}
-use Rattle.mf_objects.specs.Live.{Live, Entities, is_directory, is_process, is_entry, is_made_by, has_id, live_at, passes, IsLive}
+use Rattle.mf_objects.specs.Live.{Live, Entities, is_directory, is_process, is_entry, is_made_by, has_id, live_at, passes, content_of, IsLive}
 
 -- the values of the four slots of a label
 unfoldable pub label_values : Contents → Handles → List LabelValue
@@ -64,11 +64,16 @@ Belongs live n (Socket socket) = HasOlder is_process live n socket.maker
 abbrev pub AllBelong : List Live → Type 0
 AllBelong live = All (λ e. Belongs live e.id.0 e.what) live
 
+-- a directory holds no bytes
+abbrev pub HoldsBytesAsFile : What → Type 0
+HoldsBytesAsFile w = IsTrue (is_directory w) → content_of w ≡ []
+
 -- what is true of the live entities at any time
 pub record IsPopulation (objects : Entities) : Type 0 where
   pub rising : IsRising 0 objects.next objects.live
   pub rooted : HasRoot objects.live
   pub belong : AllBelong objects.live
+  pub as_files : All (λ e. HoldsBytesAsFile e.what) objects.live
 
 -- the live entities as contracts see them
 abbrev pub live_of : Contents → List Entity → List Live
@@ -83,10 +88,10 @@ pub record IsSound (next : ℕ) (zones : Contents) (entities : List Entity) : Ty
 
 -- Conditions of the calls within
 
--- what a new entity is to belong to is live: its directory, or the process that makes it
+-- what a new entity is to belong to is live: its directory, or the process that makes it; and a new directory is empty
 abbrev pub MayJoin : Entities → What → Type 0
 MayJoin objects (Process cred) = Unit {0}
-MayJoin objects (Vnode vnode) = MatchOption vnode.parent ⊥ (λ dir. IsLive is_directory objects dir)
+MayJoin objects (Vnode vnode) = MatchOption vnode.parent ⊥ (λ dir. IsLive is_directory objects dir) × (IsTrue vnode.file.dir → vnode.content ≡ [])
 MayJoin objects (Pipe pipe) = IsLive is_process objects pipe.maker
 MayJoin objects (Socket socket) = IsLive is_process objects socket.maker
 

@@ -1,6 +1,7 @@
 -- The entries of directories in byte order, the paths of vnodes, and the titles of entities.
-use Rattle.std.specs.Prelude.{ℕ, Bool, List, [], ◌∷◌, ◌++◌, Option, Some, None, take, insert, filter, map, reverse, codes, if◌then◌else◌, nat_eq}
+use Rattle.std.specs.Prelude.{◌≡◌, ℕ, min, length, Bool, List, [], ◌∷◌, ◌++◌, Option, Some, None, take, insert, filter, map, reverse, codes, if◌then◌else◌, nat_eq}
 use Rattle.std.specs.List.{position_or_len}
+use Rattle.std.specs.List.Sorted.{IsSorted, IsPermutation}
 use Rattle.std.specs.Ordering.{nat_cmp, is_le}
 use Rattle.std.specs.Cmp.Lexicographic.{slice_cmp}
 use Rattle.mf_objects.specs.declared.id.Id.{Id}
@@ -31,6 +32,13 @@ first_names most names = take most (in_byte_order names)
 -- the first 16 names in byte order of the entries of a directory
 unfoldable pub names_at : Entities → Id → List (List ℕ)
 names_at objects dir = first_names 16 (entry_names dir objects.live)
+
+-- some names are the first 16 of all in byte order: with a rest behind them they are all, in order
+pub record AreFirst (names all : List (List ℕ)) : Type 0 where
+  pub rest : List (List ℕ)
+  pub ordered : IsSorted (slice_cmp nat_cmp) (names ++ rest)
+  pub same : IsPermutation all (names ++ rest)
+  pub most : length names ≡ min 16 (length all)
 
 -- what the path of an entity is made of: its id, the directory that holds it, and its name
 pub record Link : Type 0 where

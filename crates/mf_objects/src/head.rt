@@ -1,5 +1,5 @@
 //! The beginning of what a file, a pipe or a message holds.
-ghost use Rattle.std.specs.Prelude.{◌≡◌, ◌^◌, ◌<◌, length};
+ghost use Rattle.std.specs.Prelude.{◌≡◌, ◌^◌, ◌<◌, [], length};
 ghost use Rattle.mf_objects.specs.Head.{head_of};
 
 use mf_cred::{ArrayVec, Duplicate};
@@ -35,6 +35,8 @@ impl Head {
 }
 
 impl Default for Head {
+    ghost is_default = { λ head. head ≡ record { len = 0; first = [] } };
+
     fn default() -> Head {
         Head {
             len: 0,

@@ -1,5 +1,5 @@
 //! Readings of the live entities. What an entity of another kind holds is read as empty, or as all zero.
-ghost use Rattle.std.specs.Prelude.{◌≡◌, ◌≢◌, ◌≤◌, ◌<◌, length, find, count_by, option_map, nat_le, ◌&&◌, [], false, Some, IsSome, IfSome, slice_index_or};
+ghost use Rattle.std.specs.Prelude.{◌≡◌, ◌≢◌, ◌≤◌, ◌<◌, length, find, count_by, option_map, nat_le, ◌&&◌, [], false, Some, IsSome, IfSome, IfNone, All, slice_index_or};
 ghost use Rattle.std.specs.Str.{bytes_eq};
 ghost use Rattle.mf_objects.specs.Head.{head_of};
 ghost use Rattle.mf_objects.specs.Live as live;
@@ -44,6 +44,8 @@ impl Objects {
     pub fn least_from(&self, n: u32) -> Option<Id>
         ensures found { live.IsFound (live.is_from n) self.now result }
         ensures live { IfSome result (λ id. IsSome (live.live_at self.now id)) }
+        ensures least { IfSome result (λ id. live.IsLeast n self.now.live id) }
+        ensures none { IfNone result (All (λ e. e.id.0 < n) self.now.live) }
     {
         least_from(&self.entities, n)
     }
@@ -81,6 +83,7 @@ impl Objects {
         child_named(&self.entities, dir, name)
     }
 
+    /// Whether the entity is a process, a vnode, a pipe or a socket.
     pub fn kind(&self, id: Id) -> Kind
         requires { IsSome (live.live_at self.now id) }
         ensures { result ≡ live.kind_at self.now id }
@@ -110,6 +113,7 @@ impl Objects {
         requires { IsSome (live.live_at self.now id) }
         ensures value { result ≡ length (live.content_at self.now id) }
         ensures most { result ≤ 65536 }
+        ensures directory { live.IsLive live.is_directory self.now id → result ≡ 0 }
     {
         self.entity(id).what.content().len() as u32
     }

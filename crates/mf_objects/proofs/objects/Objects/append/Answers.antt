@@ -27,7 +27,10 @@ invariant_of-self c =
     let i = c.place-place.result in
     let e = c.index_mut-entity.result.now in
     let place : IsPlace (view next zones es) c.args.id i = subst (λ (o : Entities). IsPlace o c.args.id i) (sym c.self.view_is) c.place-place.ensures in
-    what_sound c.append.result next zones es c.args.id i e c.append.new.self (appended c.args.text.now) place c.index_mut-entity.ensures.value c.self.invariant (appended_stays c.args.text.now)
+    let fits : FitsBytes (length c.args.text.now) e.what =
+    where_place (FitsBytes (length c.args.text.now)) next zones es c.args.id i e place c.index_mut-entity.ensures.value
+    (subst (λ (o : Entities). IsLiveWhere (FitsBytes (length c.args.text.now)) (live_at o c.args.id)) (sym c.self.view_is) c.requires) in
+    what_sound c.append.result next zones es c.args.id i e c.append.new.self (appended c.args.text.now) place c.index_mut-entity.ensures.value c.self.invariant (appended_stays c.args.text.now e.what fits)
     c.append.ensures.ok c.append.ensures.err
 
 pub returns-clause-ok : goal.returns-clause-ok
@@ -38,6 +41,9 @@ returns-clause-ok c =
     let i = c.place-place.result in
     let e = c.index_mut-entity.result.now in
     let place : IsPlace (view next zones es) c.args.id i = subst (λ (o : Entities). IsPlace o c.args.id i) (sym c.self.view_is) c.place-place.ensures in
+    let fits : FitsBytes (length c.args.text.now) e.what =
+    where_place (FitsBytes (length c.args.text.now)) next zones es c.args.id i e place c.index_mut-entity.ensures.value
+    (subst (λ (o : Entities). IsLiveWhere (FitsBytes (length c.args.text.now)) (live_at o c.args.id)) (sym c.self.view_is) c.requires) in
     on_ok_weaker c.append.result (λ (changed : c.append.new.self ≡ (appended c.args.text.now) e.what).
-    (what_changed next zones es c.args.id i e c.append.new.self (appended c.args.text.now) place c.index_mut-entity.ensures.value c.self.invariant (appended_stays c.args.text.now) changed).shows
+    (what_changed next zones es c.args.id i e c.append.new.self (appended c.args.text.now) place c.index_mut-entity.ensures.value c.self.invariant (appended_stays c.args.text.now e.what fits) changed).shows
     ∙ ap (λ (o : Entities). with_change (with_what (appended c.args.text.now)) o c.args.id) c.self.view_is) c.append.ensures.ok

@@ -14,7 +14,7 @@ invariant_of-self c =
     let i = c.place-place.result in
     let e = c.index_mut-entity.result.now in
     let place : IsPlace (view next zones es) c.args.id i = subst (λ (o : Entities). IsPlace o c.args.id i) (sym c.self.view_is) c.place-place.ensures in
-    (what_changed next zones es c.args.id i e c.clear.new.self cleared place c.index_mut-entity.ensures.value c.self.invariant cleared_stays c.clear.ensures).sound
+    (what_changed next zones es c.args.id i e c.clear.new.self cleared place c.index_mut-entity.ensures.value c.self.invariant (cleared_stays e.what) c.clear.ensures).sound
 
 pub returns : goal.returns
 returns c =
@@ -24,5 +24,5 @@ returns c =
     let i = c.place-place.result in
     let e = c.index_mut-entity.result.now in
     let place : IsPlace (view next zones es) c.args.id i = subst (λ (o : Entities). IsPlace o c.args.id i) (sym c.self.view_is) c.place-place.ensures in
-    (what_changed next zones es c.args.id i e c.clear.new.self cleared place c.index_mut-entity.ensures.value c.self.invariant cleared_stays c.clear.ensures).shows
+    (what_changed next zones es c.args.id i e c.clear.new.self cleared place c.index_mut-entity.ensures.value c.self.invariant (cleared_stays e.what) c.clear.ensures).shows
     ∙ ap (λ (o : Entities). with_change (with_what cleared) o c.args.id) c.self.view_is

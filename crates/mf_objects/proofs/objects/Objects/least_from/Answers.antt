@@ -2,8 +2,8 @@ use Rattle.std.proofs.Common.{◌≡◌, List, ap, ◌∙◌, subst, option_map}
 use Rattle.std.specs.Prelude.{find}
 use Rattle.mf_objects.specs.declared.entity.Entity.{Entity}
 use Rattle.mf_objects.specs.Live.{Entities, IsFound, is_from}
-use Rattle.mf_objects.specs.Sound.{seen}
-use Rattle.mf_objects.proofs.Found.{found_id, live_found}
+use Rattle.mf_objects.specs.Sound.{seen, IsRising}
+use Rattle.mf_objects.proofs.Found.{found_id, live_found, found_least, none_from}
 use Rattle.mf_objects.proofs.objects.Objects.least_from.Goals as goal
 
 pub returns-clause-found : goal.returns-clause-found
@@ -25,3 +25,25 @@ returns-clause-live c =
     subst (λ (o : Entities). IsFound test o c.least_from.result) c.self.view_is
     (found_id test c.self.inside.next zones c.self.inside.entities.items c.least_from.result c.self.invariant found) in
     live_found test c.args.self.now c.least_from.result is
+
+pub returns-clause-least : goal.returns-clause-least
+returns-clause-least c =
+    let zones = c.self.inside.zones in
+    let test = is_from c.args.n in
+    let found : c.least_from.result ≡ option_map (λ (e : Entity). e.id) (find (λ (e : Entity). test (seen zones e)) c.self.inside.entities.items) =
+    c.least_from.ensures ∙ ap (λ (es : List Entity). option_map (λ (e : Entity). e.id) (find (λ (e : Entity). test (seen zones e)) es)) c.deref.ensures.value in
+    let is : IsFound test c.args.self.now c.least_from.result =
+    subst (λ (o : Entities). IsFound test o c.least_from.result) c.self.view_is
+    (found_id test c.self.inside.next zones c.self.inside.entities.items c.least_from.result c.self.invariant found) in
+    found_least c.args.n c.args.self.now c.least_from.result (subst (λ (o : Entities). IsRising 0 o.next o.live) c.self.view_is c.self.invariant.population.rising) is
+
+pub returns-clause-none : goal.returns-clause-none
+returns-clause-none c =
+    let zones = c.self.inside.zones in
+    let test = is_from c.args.n in
+    let found : c.least_from.result ≡ option_map (λ (e : Entity). e.id) (find (λ (e : Entity). test (seen zones e)) c.self.inside.entities.items) =
+    c.least_from.ensures ∙ ap (λ (es : List Entity). option_map (λ (e : Entity). e.id) (find (λ (e : Entity). test (seen zones e)) es)) c.deref.ensures.value in
+    let is : IsFound test c.args.self.now c.least_from.result =
+    subst (λ (o : Entities). IsFound test o c.least_from.result) c.self.view_is
+    (found_id test c.self.inside.next zones c.self.inside.entities.items c.least_from.result c.self.invariant found) in
+    none_from c.args.n c.args.self.now c.least_from.result is

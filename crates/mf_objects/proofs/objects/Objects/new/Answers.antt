@@ -33,7 +33,7 @@ returns c =
     let empty = c.in_ok-zones.ensures in
     let makes : MakesLabel (replicate 4 []) c.make_label.new.self c.in_ok-label.label values =
     subst (λ (z : Contents). MakesLabel z c.make_label.new.self c.in_ok-label.label values) empty c.in_ok-label.ensures.ok in
-    let b = opened c.make_label.new.self e values four makes refl refl refl in
+    let b = opened c.make_label.new.self e values four makes refl refl refl (λ _. c.new-2.ensures) in
     let pushed = c.in_ok-push.ensures.items in
     let name = c.in_ok-from_str.ensures in
     let items : c.push.new.self.items ≡ [] ++ e ∷ [] = pushed ∙ ap (λ (xs : List Entity). xs ++ e ∷ []) c.new-entities.ensures.items in

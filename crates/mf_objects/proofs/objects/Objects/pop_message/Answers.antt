@@ -28,7 +28,7 @@ invariant_of-self c =
     let e = c.index_mut-entity.result.now in
     let place : IsPlace (view next zones es) c.args.id i = subst (λ (o : Entities). IsPlace o c.args.id i) (sym c.self.view_is) c.place-place.ensures in
     (what_changed next zones es c.args.id i e c.pop_message-message.new.self (with_messages (drop 1)) place c.index_mut-entity.ensures.value c.self.invariant
-    (messages_stay (drop 1)) c.pop_message-message.ensures.rest).sound
+    (messages_stay (drop 1) e.what) c.pop_message-message.ensures.rest).sound
 
 pub returns-clause-rest : goal.returns-clause-rest
 returns-clause-rest c =
@@ -39,7 +39,7 @@ returns-clause-rest c =
     let e = c.index_mut-entity.result.now in
     let place : IsPlace (view next zones es) c.args.id i = subst (λ (o : Entities). IsPlace o c.args.id i) (sym c.self.view_is) c.place-place.ensures in
     (what_changed next zones es c.args.id i e c.pop_message-message.new.self (with_messages (drop 1)) place c.index_mut-entity.ensures.value c.self.invariant
-    (messages_stay (drop 1)) c.pop_message-message.ensures.rest).shows
+    (messages_stay (drop 1) e.what) c.pop_message-message.ensures.rest).shows
     ∙ ap (λ (o : Entities). with_change (with_what (with_messages (drop 1))) o c.args.id) c.self.view_is
 
 pub returns-clause-oldest : goal.returns-clause-oldest

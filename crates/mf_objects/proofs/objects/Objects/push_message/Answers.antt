@@ -27,7 +27,7 @@ invariant_of-self c =
     let i = c.place-place.result in
     let e = c.index_mut-entity.result.now in
     let place : IsPlace (view next zones es) c.args.id i = subst (λ (o : Entities). IsPlace o c.args.id i) (sym c.self.view_is) c.place-place.ensures in
-    what_sound c.push_message.result next zones es c.args.id i e c.push_message.new.self (with_messages (with_message c.in_ok-message.message)) place c.index_mut-entity.ensures.value c.self.invariant (messages_stay (with_message c.in_ok-message.message))
+    what_sound c.push_message.result next zones es c.args.id i e c.push_message.new.self (with_messages (with_message c.in_ok-message.message)) place c.index_mut-entity.ensures.value c.self.invariant (messages_stay (with_message c.in_ok-message.message) e.what)
     c.push_message.ensures.ok c.push_message.ensures.err
 
 pub returns-clause-ok : goal.returns-clause-ok
@@ -39,6 +39,6 @@ returns-clause-ok c =
     let e = c.index_mut-entity.result.now in
     let place : IsPlace (view next zones es) c.args.id i = subst (λ (o : Entities). IsPlace o c.args.id i) (sym c.self.view_is) c.place-place.ensures in
     on_ok_weaker c.push_message.result (λ (changed : c.push_message.new.self ≡ (with_messages (with_message c.in_ok-message.message)) e.what).
-    (what_changed next zones es c.args.id i e c.push_message.new.self (with_messages (with_message c.in_ok-message.message)) place c.index_mut-entity.ensures.value c.self.invariant (messages_stay (with_message c.in_ok-message.message)) changed).shows
+    (what_changed next zones es c.args.id i e c.push_message.new.self (with_messages (with_message c.in_ok-message.message)) place c.index_mut-entity.ensures.value c.self.invariant (messages_stay (with_message c.in_ok-message.message) e.what) changed).shows
     ∙ ap (λ (o : Entities). with_change (with_what (with_messages (with_message c.in_ok-message.message))) o c.args.id) c.self.view_is
     ∙ ap (λ (text : List ℕ). with_change (with_what (with_messages (with_message text))) c.args.self.now c.args.id) (let same = c.in_ok-message.ensures in same)) c.push_message.ensures.ok

@@ -14,7 +14,7 @@ invariant_of-self c =
     let i = c.place-place.result in
     let e = c.index_mut-entity.result.now in
     let place : IsPlace (view next zones es) c.args.id i = subst (λ (o : Entities). IsPlace o c.args.id i) (sym c.self.view_is) c.place-place.ensures in
-    (what_changed next zones es c.args.id i e c.set_mode.new.self (with_mode c.args.mode) place c.index_mut-entity.ensures.value c.self.invariant (mode_stays c.args.mode) c.set_mode.ensures).sound
+    (what_changed next zones es c.args.id i e c.set_mode.new.self (with_mode c.args.mode) place c.index_mut-entity.ensures.value c.self.invariant (mode_stays c.args.mode e.what) c.set_mode.ensures).sound
 
 pub returns : goal.returns
 returns c =
@@ -24,5 +24,5 @@ returns c =
     let i = c.place-place.result in
     let e = c.index_mut-entity.result.now in
     let place : IsPlace (view next zones es) c.args.id i = subst (λ (o : Entities). IsPlace o c.args.id i) (sym c.self.view_is) c.place-place.ensures in
-    (what_changed next zones es c.args.id i e c.set_mode.new.self (with_mode c.args.mode) place c.index_mut-entity.ensures.value c.self.invariant (mode_stays c.args.mode) c.set_mode.ensures).shows
+    (what_changed next zones es c.args.id i e c.set_mode.new.self (with_mode c.args.mode) place c.index_mut-entity.ensures.value c.self.invariant (mode_stays c.args.mode e.what) c.set_mode.ensures).shows
     ∙ ap (λ (o : Entities). with_change (with_what (with_mode c.args.mode)) o c.args.id) c.self.view_is
