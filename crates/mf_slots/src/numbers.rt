@@ -38,6 +38,13 @@ impl SlotNumbers {
         self.given
     }
 
+    /// As many numbers given.
+    pub fn copy(&self) -> SlotNumbers
+        ensures { result ≡ self.now }
+    {
+        SlotNumbers { given: self.given }
+    }
+
     /// Gives the next number, or none after these four. A number that was given doesn't come back.
     pub fn take(&mut self) -> Option<u8>
         ensures given { IfSome result (λ n. (n ≡ self.old) × (n < 4) × (self.new ≡ n + 1)) }
