@@ -10,6 +10,8 @@ mod planning;
 mod reply;
 mod state;
 mod target;
+#[cfg(test)]
+mod tests;
 mod views;
 mod walk;
 
