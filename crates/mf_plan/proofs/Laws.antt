@@ -1,6 +1,5 @@
 -- What a plan says that ends with `Do`: the caller lives, and the state is one in which the call can be done.
-use Rattle.std.proofs.Common.{◌≡◌, ℕ, ◌<◌, ◌≤◌, ◌+◌, Bool, true, false, List, [], ◌∷◌, length, Option, Some, None, IsSome, Result, Ok, Err, cond, not, is_some, nat_eq, nat_lt, nat_le, ltb, leb, refl, ap, sym, ◌∙◌, arith, if◌then◌else◌}
-use Rattle.std.specs.Prelude.{find}
+use Rattle.std.proofs.Common.{◌≡◌, ℕ, Bool, true, false, List, length, Option, Some, None, IsSome, Result, Ok, Err, is_some, refl, ap, ◌∙◌, arith, if◌then◌else◌}
 use Rattle.std.proofs.lemmas.Bool.{eqb-false, leb-false, ltb-false}
 use Rattle.mf_errno.specs.declared.errno.Errno.{Errno}
 use Rattle.mf_errno.specs.declared.errno.Errno.TheVariants as errno
@@ -8,14 +7,14 @@ use Rattle.mf_errno.specs.declared.module.Module.{Module}
 use Rattle.mf_item.specs.declared.operation.CheckOp.TheVariants as op
 use Rattle.mf_item.specs.declared.view.SubjectView.{SubjectView}
 use Rattle.mf_objects.specs.declared.id.Id.{Id}
-use Rattle.mf_objects.specs.Live.{Live, Entities, IsLive, id_of, live_named, is_vnode, is_pipe, is_process, is_socket}
+use Rattle.mf_objects.specs.Live.{Live, Entities, id_of, live_named, is_pipe, is_process, is_socket}
 use Rattle.mf_objects.proofs.Laws.{fits_file, fits_message, fits_pipe, has_message, vnode_count}
 use Rattle.mf_script.specs.declared.script.Call.{Call}
 use Rattle.mf_script.specs.declared.script.Call.TheVariants as call
 use Rattle.mf_policy.specs.LoadFlags.{is_unloadok}
 use Rattle.mf_policy.specs.Modules.{flags_of}
 use Rattle.mf_plan.specs.declared.plan.Plan.{Plan}
-use Rattle.mf_plan.specs.declared.plan.Tail.TheVariants.{Do, Refuse}
+use Rattle.mf_plan.specs.declared.plan.Tail.TheVariants.{Do}
 use Rattle.mf_plan.specs.declared.state.State.{State}
 use Rattle.mf_plan.specs.declared.target.Target.{Target}
 use Rattle.mf_plan.specs.declared.target.Target.TheVariants.{Root, Name, Nowhere}

@@ -8,7 +8,7 @@ use Rattle.mf_errno.specs.declared.errno.Errno.TheVariants.{Enotdir}
 use Rattle.mf_objects.specs.declared.id.Id.{Id}
 use Rattle.mf_objects.specs.Live.{Live, Entities, IsLive, id_of, is_child, is_directory, is_vnode}
 use Rattle.mf_plan.specs.declared.target.Target.{Target}
-use Rattle.mf_plan.specs.declared.target.Target.TheVariants.{Root, Name, Nowhere}
+use Rattle.mf_plan.specs.declared.target.Target.TheVariants.{Root, Name}
 use Rattle.mf_plan.specs.declared.walk.Walk.{Walk}
 use Rattle.mf_plan.specs.Path.{root, entry_of, nowhere, looking_into, going_on, walk_from, walk_along, next_dir, last_name, IsTarget}
 use Rattle.mf_plan.specs.Views.{is_dir}

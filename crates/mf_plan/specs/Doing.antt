@@ -2,7 +2,6 @@
 use Rattle.std.specs.Prelude.{◌≡◌, ℕ, ◌<◌, true, false, List, length, Option, Some, None, Ok, find}
 use Rattle.mf_errno.specs.declared.module.Module.{Module}
 use Rattle.mf_objects.specs.declared.id.Id.{Id}
-use Rattle.mf_objects.specs.declared.entity.What.{What}
 use Rattle.mf_objects.specs.Changes.{FitsBytes, FitsMessage, HasMessage}
 use Rattle.mf_objects.specs.Live.{Live, Entities, IsLive, IsLiveWhere, live_at, live_named, entry_count, is_child, is_pipe, is_process, is_socket, is_vnode}
 use Rattle.mf_script.specs.declared.script.Call.{Call}

@@ -1,5 +1,5 @@
 -- Which modules can be loaded and unloaded, as the list of policies and the slot numbers stand.
-use Rattle.std.specs.Prelude.{ℕ, Bool, true, false, ◌&&◌, nat_eq, nat_le, if◌then◌else◌, List, Option, Some, None, find, option_and_then}
+use Rattle.std.specs.Prelude.{ℕ, Bool, ◌&&◌, nat_eq, nat_le, if◌then◌else◌, List, Option, Some, None, option_and_then}
 use Rattle.std.specs.List.{list_any}
 use Rattle.mf_errno.specs.declared.errno.Errno.{Errno}
 use Rattle.mf_errno.specs.declared.errno.Errno.TheVariants.{Enoent, Enomem, Ebusy, Eexist}

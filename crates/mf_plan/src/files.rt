@@ -12,10 +12,10 @@ use crate::walk::walk_along;
 use mf_errno::Errno;
 use mf_item::{CheckOp, SubjectView};
 use mf_objects::{Id, Objects};
-use mf_script::Name;
+use mf_script::Path;
 
 /// Walks along the path and asks for each of its look-ups.
-fn look_up(objects: &Objects, me: &SubjectView, path: &[Name], checks: &mut Checks) -> Target
+fn look_up(objects: &Objects, me: &SubjectView, path: &Path, checks: &mut Checks) -> Target
     requires path { length path.now ≤ 8 }
     requires empty { checks.old ≡ [] }
     ensures checks { checks.new ≡ map (spec.on objects.now me.now op.VnodeLookup) (walk_along objects.now path.now).lookups }
@@ -23,7 +23,7 @@ fn look_up(objects: &Objects, me: &SubjectView, path: &[Name], checks: &mut Chec
     ensures target { result ≡ (walk_along objects.now path.now).target }
     ensures live { IsTarget objects.now result }
 {
-    let walk = walk_along(objects, path);
+    let walk = walk_along(objects, path.as_slice());
     ask_lookups(objects, me, walk.lookups.as_slice(), checks);
     walk.target
 }
@@ -44,7 +44,7 @@ pub(crate) fn on_file(
     objects: &Objects,
     me: &SubjectView,
     op: CheckOp,
-    path: &[Name],
+    path: &Path,
     checks: &mut Checks,
 ) -> Result<(), Errno>
     requires path { length path.now ≤ 8 }
@@ -60,7 +60,7 @@ pub(crate) fn on_file(
 pub(crate) fn exec(
     objects: &Objects,
     me: &SubjectView,
-    path: &[Name],
+    path: &Path,
     checks: &mut Checks,
 ) -> Result<(), Errno>
     requires path { length path.now ≤ 8 }
@@ -80,7 +80,7 @@ pub(crate) fn exec(
 pub(crate) fn create(
     objects: &Objects,
     me: &SubjectView,
-    path: &[Name],
+    path: &Path,
     checks: &mut Checks,
 ) -> Result<(), Errno>
     requires path { length path.now ≤ 8 }
@@ -99,7 +99,7 @@ pub(crate) fn create(
 pub(crate) fn read(
     objects: &Objects,
     me: &SubjectView,
-    path: &[Name],
+    path: &Path,
     checks: &mut Checks,
 ) -> Result<(), Errno>
     requires path { length path.now ≤ 8 }
@@ -119,7 +119,7 @@ pub(crate) fn read(
 pub(crate) fn write(
     objects: &Objects,
     me: &SubjectView,
-    path: &[Name],
+    path: &Path,
     text: &[u8],
     checks: &mut Checks,
 ) -> Result<(), Errno>
@@ -144,7 +144,7 @@ pub(crate) fn write(
 pub(crate) fn readdir(
     objects: &Objects,
     me: &SubjectView,
-    path: &[Name],
+    path: &Path,
     checks: &mut Checks,
 ) -> Result<(), Errno>
     requires path { length path.now ≤ 8 }
@@ -163,7 +163,7 @@ pub(crate) fn readdir(
 pub(crate) fn unlink(
     objects: &Objects,
     me: &SubjectView,
-    path: &[Name],
+    path: &Path,
     checks: &mut Checks,
 ) -> Result<(), Errno>
     requires path { length path.now ≤ 8 }

@@ -42,7 +42,8 @@ pub fn is_listed(wanted: Module, specs: &SpecList) -> bool
     false
 }
 
-/// Why the module can't be loaded.
+/// Why the module can't be loaded, and None where it can: EBUSY after boot, EEXIST while it is loaded, ENOMEM without a slot
+/// number.
 pub fn load_fault(state: &State, wanted: Module) -> Option<Errno>
     ensures { result ≡ spec.load_fault state.now wanted }
 {
@@ -58,7 +59,7 @@ pub fn load_fault(state: &State, wanted: Module) -> Option<Errno>
     None
 }
 
-/// Why the module of that name can't be unloaded.
+/// Why the module of that name can't be unloaded, and None where it can: ENOENT unless it is loaded, EBUSY where it has to stay.
 pub fn unload_fault(state: &State, name: &str) -> Option<Errno>
     ensures { result ≡ spec.unload_fault state.now name.now }
 {

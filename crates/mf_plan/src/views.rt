@@ -11,6 +11,12 @@ use mf_objects::{Id, Objects};
 /// The most entities that live at once.
 const MOST_ENTITIES: u32 = 1024;
 
+/// The most bytes that a file holds.
+const FILE_BYTES: usize = 65536;
+
+/// The most bytes that a pipe holds.
+const PIPE_BYTES: usize = 16384;
+
 /// The entity as a subject.
 #[tactic(auto, unfolding(crate::specs::Views::subject_of))]
 pub(crate) fn subject_of(objects: &Objects, id: Id) -> SubjectView
@@ -71,7 +77,7 @@ pub(crate) fn overfills_file(objects: &Objects, text: &[u8], id: Id) -> bool
     requires text { length text.now ≤ 1048576 }
     ensures { result ≡ view.overfills_file objects.now text.now id }
 {
-    objects.size(id) as usize + text.len() > 65536
+    objects.size(id) as usize + text.len() > FILE_BYTES
 }
 
 /// Whether the text doesn't fit the pipe.
@@ -80,5 +86,5 @@ pub(crate) fn overfills_pipe(objects: &Objects, text: &[u8], id: Id) -> bool
     requires text { length text.now ≤ 1048576 }
     ensures { result ≡ view.overfills_pipe objects.now text.now id }
 {
-    objects.size(id) as usize + text.len() > 16384
+    objects.size(id) as usize + text.len() > PIPE_BYTES
 }
