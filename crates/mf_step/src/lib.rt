@@ -17,3 +17,6 @@ pub use payload::payload_of;
 pub use performing::perform;
 pub use reply::reply_to;
 pub use verdict::{Denial, Verdict, verdict_of};
+
+#[cfg(test)]
+mod tests;
