@@ -8,7 +8,8 @@ use Rattle.mf_script.specs.declared.script.FileLine.{FileLine}
 use Rattle.mf_script.specs.Readers.{◌>>=◌}
 use Rattle.mf_script.specs.Limits.{content_limit}
 use Rattle.mf_script.specs.Words.{Words}
-use Rattle.mf_script.specs.Parts.{word_by, fixed, no_more, bootable_of, is_directory_of, number_of, groups_of, mode_of, name_of, child_in, path_of, task_request, file_request, text_of}
+use Rattle.mf_script.specs.Parts.{word_by, fixed, no_more, bootable_of, path_of, is_directory_of, number_of, groups_of, mode_of, name_of, child_in, text_of}
+use Rattle.mf_script.specs.Parts.{task_request, file_request}
 use Rattle.mf_script.specs.Calls.{call_line}
 
 -- behind the word `boot`: MODULE

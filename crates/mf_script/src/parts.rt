@@ -4,7 +4,9 @@
 ghost use Rattle.std.specs.Prelude.{◌≡◌, ◌≢◌, ◌<◌, ◌≤◌, [], ◌∷◌, length, MatchOption, IfSome, IfOk, List, ℕ, vec_len};
 ghost use Rattle.std.specs.List.{list_all};
 ghost use Rattle.mf_script.specs.Readers.{Gives};
-ghost use Rattle.mf_script.specs.Parts.{fixed, word_by, bootable_of, number_of, parted, with_group, groups_of, mode_of, name_of, child_in, process_of, path_of, behind_root, components_of, with_component, is_directory_of, any_word, request_of, task_request, file_request, text_of, is_name, is_process_name, no_more, is_name_byte, is_component_byte, is_component};
+ghost use Rattle.mf_script.specs.Parts.{fixed, word_by, no_more, parted, number_of, mode_of, with_group, groups_of, bootable_of, any_word, text_of};
+ghost use Rattle.mf_script.specs.Parts.{is_name_byte, is_name, name_of, child_in, is_process_name, process_of, request_of, task_request, file_request};
+ghost use Rattle.mf_script.specs.Parts.{is_component_byte, is_component, with_component, components_of, behind_root, path_of, is_directory_of};
 
 use crate::error::ScriptError;
 use crate::labels::{may_ask_of_file, may_ask_of_task};
