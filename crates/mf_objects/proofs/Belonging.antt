@@ -10,8 +10,8 @@ use Rattle.mf_objects.specs.declared.id.Id.{Id}
 use Rattle.mf_objects.specs.declared.entity.What.{What}
 use Rattle.mf_objects.specs.declared.entity.What.TheVariants.{Process, Vnode, Pipe, Socket}
 use Rattle.mf_objects.specs.Live.{Live, Entities, has_id, live_at, passes, is_process, is_directory, is_entry, is_held_by, is_made_by, IsLive}
-use Rattle.mf_objects.specs.Changes.{changed_at, FitsBytes, appended, cleared, with_mode, with_messages}
-use Rattle.mf_objects.specs.Sound.{HasOlder, HoldsBytesAsFile, Belongs, AllBelong, MayJoin, IsBare, IsPopulation, IsRising}
+use Rattle.mf_objects.specs.Changes.{MayJoin, IsBare, changed_at, FitsBytes, appended, cleared, with_mode, with_messages}
+use Rattle.mf_objects.specs.Population.{HasOlder, NoBytesIfDirectory, Belongs, AllBelong, IsPopulation, IsRising}
 use Rattle.mf_objects.proofs.Rising.{id_is, id_differs, below_next, at_least}
 
 pub same_id : (a b : Id) → a.0 ≡ b.0 → a ≡ b
@@ -160,11 +160,11 @@ joins objects (Vnode vnode) rising join = by_parent vnode.parent join.0
 joins objects (Pipe pipe) rising join = (live_below is_process pipe.maker 0 objects.next objects.live rising join, join)
 joins objects (Socket socket) rising join = (live_below is_process socket.maker 0 objects.next objects.live rising join, join)
 
-pub joins_as_file : (objects : Entities) (w : What) → MayJoin objects w → HoldsBytesAsFile w
-joins_as_file objects (Process cred) join directory = absurd (false≢true directory)
-joins_as_file objects (Vnode vnode) join directory = join.1 directory
-joins_as_file objects (Pipe pipe) join directory = absurd (false≢true directory)
-joins_as_file objects (Socket socket) join directory = absurd (false≢true directory)
+pub joins_bare : (objects : Entities) (w : What) → MayJoin objects w → NoBytesIfDirectory w
+joins_bare objects (Process cred) join directory = absurd (false≢true directory)
+joins_bare objects (Vnode vnode) join directory = join.1 directory
+joins_bare objects (Pipe pipe) join directory = absurd (false≢true directory)
+joins_bare objects (Socket socket) join directory = absurd (false≢true directory)
 
 -- One entity less
 
@@ -221,29 +221,29 @@ pub record Stays (w w' : What) : Type 0 where
   pub process : is_process w' ≡ is_process w
   pub directory : is_directory w' ≡ is_directory w
   pub belongs : (live : List Live) (n : ℕ) → Belongs live n w → Belongs live n w'
-  pub as_file : HoldsBytesAsFile w → HoldsBytesAsFile w'
+  pub no_bytes : NoBytesIfDirectory w → NoBytesIfDirectory w'
 
 pub stays_same : (w : What) → Stays w w
-stays_same w = record { process = refl; directory = refl; belongs = λ live n b. b; as_file = λ held. held }
+stays_same w = record { process = refl; directory = refl; belongs = λ live n b. b; no_bytes = λ held. held }
 
 pub appended_stays : (text : List ℕ) (w : What) → FitsBytes (length text) w → Stays w (appended text w)
 appended_stays text (Process cred) fits = absurd fits
 appended_stays text (Vnode vnode) fits =
-    record { process = refl; directory = refl; belongs = λ live n b. b; as_file = λ held directory. absurd (false≢true (sym fits.0 ∙ directory)) }
+    record { process = refl; directory = refl; belongs = λ live n b. b; no_bytes = λ held directory. absurd (false≢true (sym fits.0 ∙ directory)) }
 appended_stays text (Pipe pipe) fits =
-    record { process = refl; directory = refl; belongs = λ live n b. b; as_file = λ held directory. absurd (false≢true directory) }
+    record { process = refl; directory = refl; belongs = λ live n b. b; no_bytes = λ held directory. absurd (false≢true directory) }
 appended_stays text (Socket socket) fits = absurd fits
 
 pub cleared_stays : (w : What) → Stays w (cleared w)
 cleared_stays (Process cred) = stays_same (Process cred)
 cleared_stays (Vnode vnode) = stays_same (Vnode vnode)
 cleared_stays (Pipe pipe) =
-    record { process = refl; directory = refl; belongs = λ live n b. b; as_file = λ held directory. absurd (false≢true directory) }
+    record { process = refl; directory = refl; belongs = λ live n b. b; no_bytes = λ held directory. absurd (false≢true directory) }
 cleared_stays (Socket socket) = stays_same (Socket socket)
 
 pub mode_stays : (mode : ℕ) (w : What) → Stays w (with_mode mode w)
 mode_stays mode (Process cred) = stays_same (Process cred)
-mode_stays mode (Vnode vnode) = record { process = refl; directory = refl; belongs = λ live n b. b; as_file = λ held. held }
+mode_stays mode (Vnode vnode) = record { process = refl; directory = refl; belongs = λ live n b. b; no_bytes = λ held. held }
 mode_stays mode (Pipe pipe) = stays_same (Pipe pipe)
 mode_stays mode (Socket socket) = stays_same (Socket socket)
 
@@ -252,7 +252,7 @@ messages_stay change (Process cred) = stays_same (Process cred)
 messages_stay change (Vnode vnode) = stays_same (Vnode vnode)
 messages_stay change (Pipe pipe) = stays_same (Pipe pipe)
 messages_stay change (Socket socket) =
-    record { process = refl; directory = refl; belongs = λ live n b. b; as_file = λ held directory. absurd (false≢true directory) }
+    record { process = refl; directory = refl; belongs = λ live n b. b; no_bytes = λ held directory. absurd (false≢true directory) }
 
 -- the entity of this id stays as it is to be, where it is changed
 abbrev pub StaysAt : (Live → Live) → Id → List Live → Type 0
@@ -318,14 +318,14 @@ belong_changed change id live ids stays all =
         (subst (λ (i : Id). Belongs live i.0 (change e).what) (sym (ids e)) ((stays has).belongs live e.id.0 belongs))
     one e false has stays belongs = moved e.id.0 e.what belongs
 
-pub as_files_changed : (change : Live → Live) (id : Id) (live : List Live) → StaysAt change id live
-    → All (λ e. HoldsBytesAsFile e.what) live → All (λ e. HoldsBytesAsFile e.what) (map (changed_at change id) live)
-as_files_changed change id live stays all =
+pub directories_changed : (change : Live → Live) (id : Id) (live : List Live) → StaysAt change id live
+    → All (λ e. NoBytesIfDirectory e.what) live → All (λ e. NoBytesIfDirectory e.what) (map (changed_at change id) live)
+directories_changed change id live stays all =
     All-map P (changed_at change id) live (λ k d l. one (get_or live k d) (has_id id (get_or live k d)) refl (stays k d l) (all k d l))
   where
     P : Live → Type 0
-    P e = HoldsBytesAsFile e.what
+    P e = NoBytesIfDirectory e.what
 
     one : (e : Live) (b : Bool) → has_id id e ≡ b → (has_id id e ≡ true → Stays e.what (change e).what) → P e → P (cond b (change e) e)
-    one e true has stays held = (stays has).as_file held
+    one e true has stays held = (stays has).no_bytes held
     one e false has stays held = held

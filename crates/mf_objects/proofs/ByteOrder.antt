@@ -12,7 +12,7 @@ use Rattle.std.proofs.lemmas.List.{length-take, take-append-drop}
 use Rattle.std.proofs.lemmas.List.Edits.{length-insert, get_or-insert_below, get_or-insert_at, get_or-insert_above}
 use Rattle.std.proofs.lemmas.List.Sums.{prefix_len-le-length, prefix_len_stops, fails_before_first}
 use Rattle.std.proofs.lemmas.List.Sorted.{length_permutation, IsPermutation-refl, IsPermutation-cons, IsPermutation-trans, IsPermutation-insert}
-use Rattle.mf_objects.specs.Titles.{comes_first, with_name, in_byte_order, first_names, AreFirst}
+use Rattle.mf_objects.specs.Titles.{comes_first, with_name, in_byte_order, first_names, IsFirstNames}
 
 flipped : (o : Ordering) → is_le o ≡ true → is_lt (ordering_reverse o) ≡ false
 flipped Less le = refl
@@ -43,7 +43,7 @@ sorted_with name names sorted k d low high =
     let long : k + 1 < length names + 1 = omega (arith, high, length-insert names p name most) in
     let Goal : List ℕ → List ℕ → Type 0 = λ x y. is_lt (slice_cmp nat_cmp x y) ≡ false in
     let put : (x y : List ℕ) → get_or (insert names p name) (k + 1) d ≡ x → get_or (insert names p name) k d ≡ y → Goal x y
-        → Goal (get_or (insert names p name) (k + 1) d) (get_or (insert names p name) k d) =
+    → Goal (get_or (insert names p name) (k + 1) d) (get_or (insert names p name) k d) =
     λ x y e f goal. subst (λ z. Goal z (get_or (insert names p name) k d)) (sym e) (subst (λ z. Goal x z) (sym f) goal) in
     elim (cases_lt (k + 1) p) [
       | inl before ↦
@@ -82,7 +82,7 @@ byte_order_permutation (name ∷ names) =
     (IsPermutation-cons name names (in_byte_order names) (byte_order_permutation names))
     (IsPermutation-insert (in_byte_order names) (position_or_len (comes_first name) (in_byte_order names)) name)
 
-pub first_are_first : (names : List (List ℕ)) → AreFirst (first_names 16 names) names
+pub first_are_first : (names : List (List ℕ)) → IsFirstNames (first_names 16 names) names
 first_are_first names =
     let ordered : List (List ℕ) = in_byte_order names in
     let whole : take 16 ordered ++ drop 16 ordered ≡ ordered = take-append-drop 16 ordered in

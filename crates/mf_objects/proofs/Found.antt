@@ -11,7 +11,8 @@ use Rattle.mf_objects.specs.declared.entity.What.{What}
 use Rattle.mf_objects.specs.declared.entity.What.TheVariants.{Process, Vnode, Pipe, Socket}
 use Rattle.mf_objects.specs.Live.{Live, Entities, has_id, is_from, live_at, id_of, IsLeast, is_directory, label_of, IsFound, IsLiveWhere, messages_at, messages_of, reading, label_at, IsLive, is_named, is_child, is_entry, is_vnode}
 use Rattle.std.specs.Str.{bytes_eq}
-use Rattle.mf_objects.specs.Sound.{seen, shown, live_of, Belongs, IsPopulation, IsSound, IsPlace, IsRising, HasRoot, label_values}
+use Rattle.mf_objects.specs.Population.{Belongs, IsPopulation, IsRising, HasRoot}
+use Rattle.mf_objects.specs.Sound.{seen, shown, live_of, IsSound, IsPlace, label_values}
 use Rattle.mf_objects.proofs.Rising.{id_differs, at_least}
 use Rattle.mf_objects.proofs.Belonging.{Stays, entry_directory, find_all}
 use Rattle.mf_objects.proofs.Kept.{view, found_place, what_changed, set_same}

@@ -15,11 +15,12 @@ use Rattle.mf_objects.specs.declared.id.Id.{Id}
 use Rattle.mf_objects.specs.declared.entity.Entity.{Entity}
 use Rattle.mf_objects.specs.declared.entity.What.{What}
 use Rattle.mf_objects.specs.Live.{Live, Entities, has_id, live_at, passes, is_directory, label_of, value_at as live_value}
-use Rattle.mf_objects.specs.Changes.{changed_at, with_change, with_value, with_what}
-use Rattle.mf_objects.specs.Sound.{label_values, seen, labels_of, IsExact, live_of, HoldsBytesAsFile, Belongs, IsBare, IsPopulation, IsSound, IsPlace}
+use Rattle.mf_objects.specs.Changes.{IsBare, changed_at, with_change, with_value, with_what}
+use Rattle.mf_objects.specs.Population.{NoBytesIfDirectory, Belongs, IsPopulation}
+use Rattle.mf_objects.specs.Sound.{label_values, seen, labels_of, IsExact, live_of, IsSound, IsPlace}
 use Rattle.mf_objects.proofs.Zoned.{exact_same, live_same, exact_push, live_push, exact_drop, live_drop, is_held, Relabels, relabels_set, relabels_make, exact_relabel, live_relabel, split_place, live_split, exact_none}
 use Rattle.mf_objects.proofs.Rising.{rising_push, rising_remove, rising_changed, root_push, root_remove, root_changed, set_changed, find_first, id_is}
-use Rattle.mf_objects.proofs.Belonging.{Stays, StaysAt, stays_same, stays_at, as_files_changed, All-remove, belong_one, belong_push, belong_remove, belong_changed, bare_none, find_own}
+use Rattle.mf_objects.proofs.Belonging.{Stays, StaysAt, stays_same, stays_at, directories_changed, All-remove, belong_one, belong_push, belong_remove, belong_changed, bare_none, find_own}
 
 -- the live entities as contracts see them
 abbrev pub view : ℕ → Contents → List Entity → Entities
@@ -45,9 +46,9 @@ same_zones next zones zones' es sound same =
     }
 
 pub added : (next : ℕ) (zones zones' : Contents) (es : List Entity) (e : Entity) (values : List LabelValue) → e.id.0 ≡ next → length es < 1024 → length values ≡ 4
-    → IsSound next zones es → Belongs (live_of zones es) next e.what → HoldsBytesAsFile e.what → MakesLabel zones zones' e.label values
+    → IsSound next zones es → Belongs (live_of zones es) next e.what → NoBytesIfDirectory e.what → MakesLabel zones zones' e.label values
     → Becomes (next + 1) zones' (es ++ e ∷ []) (record { next = next + 1; live = live_of zones es ++ record { id = e.id; name = e.name; label = values; what = e.what } ∷ [] })
-added next zones zones' es e values is room four sound belongs as_file makes =
+added next zones zones' es e values is room four sound belongs no_bytes makes =
     let x : Live = record { id = e.id; name = e.name; label = values; what = e.what } in
     let live : live_of zones' (es ++ e ∷ []) ≡ live_of zones es ++ x ∷ [] = live_push zones zones' es e values four sound.exact makes in
     let joined : Belongs (live_of zones es) x.id.0 x.what = subst (λ (n : ℕ). Belongs (live_of zones es) n x.what) (sym is) belongs in
@@ -56,7 +57,7 @@ added next zones zones' es e values is room four sound belongs as_file makes =
       rising = rising_push 0 next (live_of zones es) x is sound.population.rising;
       rooted = root_push (live_of zones es) (x ∷ []) sound.population.rooted;
       belong = belong_push (live_of zones es) x sound.population.belong joined;
-      as_files = All-push (λ (l : Live). HoldsBytesAsFile l.what) (live_of zones es) x sound.population.as_files as_file;
+      directories = All-push (λ (l : Live). NoBytesIfDirectory l.what) (live_of zones es) x sound.population.directories no_bytes;
     } in
     record {
       sound = record {
@@ -96,7 +97,7 @@ dropped next zones zones' es i e within later is sound bare gives =
       rooted = root_remove lives i later sound.population.rooted;
       belong = belong_remove lives i (seen zones e) long at sound.population.belong
           (bare_none lives e.id e.what sound.population.belong (λ test. ap (passes test) own) bare);
-      as_files = All-remove (λ (l : Live). HoldsBytesAsFile l.what) lives i sound.population.as_files;
+      directories = All-remove (λ (l : Live). NoBytesIfDirectory l.what) lives i sound.population.directories;
     } in
     record {
       sound = record {
@@ -162,7 +163,7 @@ changes next zones zones' es es' id i e change place is sound ids stays shows le
       rising = rising_changed change id 0 next (live_of zones es) ids sound.population.rising;
       rooted = root_changed change id (live_of zones es) ids (λ k d l has. (at_id k d l has).directory) sound.population.rooted;
       belong = belong_changed change id (live_of zones es) ids at_id sound.population.belong;
-      as_files = as_files_changed change id (live_of zones es) at_id sound.population.as_files;
+      directories = directories_changed change id (live_of zones es) at_id sound.population.directories;
     } in
     record {
       sound = record {
@@ -326,14 +327,14 @@ on_err (Ok x) P p = tt
 on_err (Err e) P p = p
 
 pub opened : (zones : Contents) (e : Entity) (values : List LabelValue) → length values ≡ 4 → MakesLabel (replicate 4 []) zones e.label values
-    → e.id.0 ≡ 0 → IsTrue (is_directory e.what) → Belongs (record { id = e.id; name = e.name; label = values; what = e.what } ∷ []) e.id.0 e.what → HoldsBytesAsFile e.what
+    → e.id.0 ≡ 0 → IsTrue (is_directory e.what) → Belongs (record { id = e.id; name = e.name; label = values; what = e.what } ∷ []) e.id.0 e.what → NoBytesIfDirectory e.what
     → Becomes 1 zones ([] ++ e ∷ []) (record { next = 1; live = record { id = e.id; name = e.name; label = values; what = e.what } ∷ [] })
-opened zones e values four makes first directory belongs as_file =
+opened zones e values four makes first directory belongs no_bytes =
     let x : Live = record { id = e.id; name = e.name; label = values; what = e.what } in
     let live : live_of zones ([] ++ e ∷ []) ≡ x ∷ [] = live_push (replicate 4 []) zones [] e values four exact_none makes in
-    let P : Live → Type 0 = λ l. HoldsBytesAsFile l.what in
+    let P : Live → Type 0 = λ l. NoBytesIfDirectory l.what in
     let alone : IsPopulation (record { next = 1; live = x ∷ [] }) =
-    record { rising = (omega arith, omega (arith, first)); rooted = (first, directory); belong = belong_one x belongs; as_files = All-cons P x [] as_file (All-nil P) } in
+    record { rising = (omega arith, omega (arith, first)); rooted = (first, directory); belong = belong_one x belongs; directories = All-cons P x [] no_bytes (All-nil P) } in
     record {
       sound = record {
         population = rw live alone;

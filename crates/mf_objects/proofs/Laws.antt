@@ -1,12 +1,12 @@
 -- What callers need to meet the conditions of the calls: from what the readings say of an entity.
-use Rattle.std.proofs.Common.{◌≡◌, ℕ, ◌<◌, ◌≤◌, ◌+◌, Option, Some, None, length, true, false, [], refl, ap, sym, ◌∙◌}
+use Rattle.std.proofs.Common.{◌≡◌, ℕ, ◌<◌, ◌≤◌, ◌+◌, Option, Some, None, length, true, false, [], refl, ap, ◌∙◌}
 use Rattle.std.proofs.lemmas.Bool.{false≢true}
 use Rattle.mf_objects.specs.declared.id.Id.{Id}
 use Rattle.mf_objects.specs.declared.entity.What.{What}
 use Rattle.mf_objects.specs.declared.entity.What.TheVariants.{Process, Vnode, Pipe, Socket}
 use Rattle.mf_objects.specs.Live.{Live, Entities, has_id, live_at, passes, is_vnode, is_pipe, is_process, is_socket, is_directory, is_entry, is_made_by, IsLive, IsLiveWhere, reading, count_of, count_at, content_of, content_at, file_of, file_at, no_file, entry_count}
 use Rattle.mf_objects.specs.Changes.{FitsBytes, FitsMessage, HasMessage}
-use Rattle.mf_objects.specs.Sound.{IsPopulation, HoldsBytesAsFile}
+use Rattle.mf_objects.specs.Population.{IsPopulation, NoBytesIfDirectory}
 use Rattle.mf_objects.proofs.Belonging.{counted_none, no_entry, belongs_at, find_all, entry_directory, maker_process}
 
 message_fits : (entries : ℕ) (w : What) → is_socket w ≡ true → count_of entries w < 16 → FitsMessage w
@@ -152,5 +152,5 @@ directory_empty objects id population directory = by_found (live_at objects id) 
     by_found : (o : Option Live) → live_at objects id ≡ o → passes is_directory o ≡ true → content_at objects id ≡ []
     by_found None is directory = absurd (false≢true directory)
     by_found (Some e) is directory =
-        let held : HoldsBytesAsFile e.what = find_all (λ (x : Live). HoldsBytesAsFile x.what) (has_id id) objects.live e population.as_files is in
+        let held : NoBytesIfDirectory e.what = find_all (λ (x : Live). NoBytesIfDirectory x.what) (has_id id) objects.live e population.directories is in
         ap (reading content_of []) is ∙ held directory

@@ -1,18 +1,17 @@
 -- The path of an entry is that of its directory, a slash and its name; that of the root is nothing.
-use Rattle.std.proofs.Common.{◌≡◌, ℕ, ◌<◌, ◌≤◌, ◌+◌, List, [], ◌∷◌, ◌++◌, Some, None, Option, length, map, reverse, refl, ap, sym, ◌∙◌, subst, arith, nat_eq, Bool, true, false, cond}
+use Rattle.std.proofs.Common.{◌≡◌, ℕ, ◌<◌, ◌+◌, List, [], ◌∷◌, ◌++◌, Some, None, Option, map, reverse, refl, ap, sym, ◌∙◌, subst, arith, nat_eq, Bool, true, false, cond}
 use Rattle.std.specs.Prelude.{All, find, codes, MatchOption}
-use Rattle.std.proofs.lemmas.Bool.{false≢true}
 use Rattle.std.proofs.lemmas.Bool.Decides.{nat_tests}
-use Rattle.std.proofs.lemmas.List.{append-nil, append_assoc, map-append}
+use Rattle.std.proofs.lemmas.List.{append-nil, append_assoc}
 use Rattle.std.proofs.lemmas.List.Elements.{All-nil, All-cons, All-head, All-tail}
 use Rattle.mf_objects.specs.declared.id.Id.{Id}
 use Rattle.mf_objects.specs.declared.entity.What.{What}
 use Rattle.mf_objects.specs.declared.entity.What.TheVariants.{Process, Vnode, Pipe, Socket}
 use Rattle.mf_objects.specs.Live.{Live, Entities, has_id, live_at, is_directory}
-use Rattle.mf_objects.specs.Sound.{Belongs, HasOlder, HasRoot, IsPopulation, IsRising}
+use Rattle.mf_objects.specs.Population.{Belongs, HasOlder, HasRoot, IsPopulation, IsRising}
 use Rattle.mf_objects.specs.Titles.{Link, link, parent_of, path_in, path_at, below}
-use Rattle.mf_objects.proofs.Belonging.{belongs_at, find_own}
-use Rattle.mf_objects.proofs.Naming.{path_push, path_nothing}
+use Rattle.mf_objects.proofs.Belonging.{belongs_at}
+use Rattle.mf_objects.proofs.Naming.{path_push}
 
 differs : (a b : ℕ) → a < b → nat_eq b a ≡ false
 differs a b less = grind (arith, nat_tests)
@@ -70,7 +69,7 @@ in_directory links least next (x ∷ es) id dir e rising is parent older =
         let before : dir.0 < x.id.0 = subst (λ (l : Live). dir.0 < l.id.0) (sym same) older in
         let above : path_in (reverse (links ++ link x ∷ map link es)) dir ≡ path_in (reverse links) dir =
         skip links (link x ∷ map link es) dir (All-cons (λ (l : Link). nat_eq l.id.0 dir.0 ≡ false) (link x) (map link es) (differs dir.0 x.id.0 before)
-            (younger dir (x.id.0 + 1) next es (omega (arith, before)) rising.1)) in
+        (younger dir (x.id.0 + 1) next es (omega (arith, before)) rising.1)) in
         at_entity links x es id next rising.1 this (omega (arith, same_number this))
         ∙ ap (λ (o : Option Id). below (path_in (reverse links)) o x.name) up
         ∙ ap (λ (p : List ℕ). p ++ codes "/" ++ x.name) (sym above)

@@ -7,8 +7,9 @@ use Rattle.mf_objects.specs.declared.id.Id.{Id}
 use Rattle.mf_objects.specs.declared.entity.What.{What}
 use Rattle.mf_objects.specs.declared.entity.What.TheVariants.{Process, Vnode, Pipe, Socket}
 use Rattle.mf_objects.specs.Live.{Live, Entities, has_id, live_at, passes, is_process, is_vnode, is_directory, is_entry, is_made_by, IsLive, entry_count}
-use Rattle.mf_objects.specs.Changes.{goes_with, without}
-use Rattle.mf_objects.specs.Sound.{HasRoot, IsBare, IsPlace}
+use Rattle.mf_objects.specs.Changes.{IsBare, goes_with, without}
+use Rattle.mf_objects.specs.Population.{HasRoot}
+use Rattle.mf_objects.specs.Sound.{IsPlace}
 use Rattle.mf_objects.proofs.Rising.{root_remove, id_is}
 use Rattle.mf_objects.proofs.Belonging.{counted_none, same_id}
 

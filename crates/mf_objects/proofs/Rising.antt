@@ -6,7 +6,7 @@ use Rattle.std.proofs.lemmas.Bool.Decides.{nat_tests}
 use Rattle.mf_objects.specs.declared.id.Id.{Id}
 use Rattle.mf_objects.specs.Live.{Live, has_id, is_directory}
 use Rattle.mf_objects.specs.Changes.{changed_at}
-use Rattle.mf_objects.specs.Sound.{IsRising, HasRoot}
+use Rattle.mf_objects.specs.Population.{IsRising, HasRoot}
 
 pub rising_weaker : (low least next : ℕ) (es : List Live) → low ≤ least → IsRising least next es → IsRising low next es
 rising_weaker low least next [] l rising = omega arith

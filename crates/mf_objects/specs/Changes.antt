@@ -1,13 +1,13 @@
 -- What the calls change.
-use Rattle.std.specs.Prelude.{◌≡◌, ℕ, ◌+◌, ◌<◌, ◌≤◌, length, Bool, true, false, not, ◌||◌, List, [], ◌∷◌, ◌++◌, map, filter, slice_set, if◌then◌else◌, Some, None}
+use Rattle.std.specs.Prelude.{◌≡◌, ℕ, ◌+◌, ◌<◌, ◌≤◌, length, Bool, true, false, not, ◌||◌, List, [], ◌∷◌, ◌++◌, map, filter, slice_set, if◌then◌else◌, Some, None, IsTrue, MatchOption, count_by}
 use Rattle.mf_elem.specs.declared.label.LabelValue.{LabelValue}
 use Rattle.mf_cred.specs.declared.cred.FileView.{FileView}
 use Rattle.mf_objects.specs.declared.id.Id.{Id}
 use Rattle.mf_objects.specs.declared.entity.What.{What}
 use Rattle.mf_objects.specs.declared.entity.What.TheVariants.{Process, Vnode, Pipe, Socket}
-use Rattle.mf_objects.specs.Live.{Live, Entities, has_id, is_made_by}
+use Rattle.mf_objects.specs.Live.{Live, Entities, has_id, is_directory, is_process, is_entry, is_made_by, IsLive}
 
--- the entity that is made next, if it is this
+-- the entity that a call makes: it gets the next id
 abbrev pub made : Entities → List ℕ → List LabelValue → What → Live
 made objects name values what = record { id = record { 0 = objects.next }; name = name; label = values; what = what }
 
@@ -57,6 +57,20 @@ HasMessage (Process cred) = ⊥
 HasMessage (Vnode vnode) = ⊥
 HasMessage (Pipe pipe) = ⊥
 HasMessage (Socket socket) = 0 < length socket.messages
+
+-- what a new entity is to belong to is live: its directory, or the process that makes it; and a new directory is empty
+abbrev pub MayJoin : Entities → What → Type 0
+MayJoin objects (Process cred) = Unit {0}
+MayJoin objects (Vnode vnode) = MatchOption vnode.parent ⊥ (λ dir. IsLive is_directory objects dir) × (IsTrue vnode.file.dir → vnode.content ≡ [])
+MayJoin objects (Pipe pipe) = IsLive is_process objects pipe.maker
+MayJoin objects (Socket socket) = IsLive is_process objects socket.maker
+
+-- nothing that lives belongs to the entity of this id
+abbrev pub IsBare : List Live → Id → What → Type 0
+IsBare live id (Process cred) = count_by (λ e. is_made_by id e.what) live ≡ 0
+IsBare live id (Vnode vnode) = count_by (λ e. is_entry id e.what) live ≡ 0
+IsBare live id (Pipe pipe) = Unit {0}
+IsBare live id (Socket socket) = Unit {0}
 
 -- bytes are appended to a file or a pipe
 abbrev pub appended : List ℕ → What → What

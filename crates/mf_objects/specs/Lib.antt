@@ -1,5 +1,6 @@
 pub mod Head
 pub mod Live
+pub mod Population
 pub mod Changes
 pub mod Titles
 pub mod Sound

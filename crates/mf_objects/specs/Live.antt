@@ -124,7 +124,7 @@ pub record IsFound (test : Live → Bool) (objects : Entities) (found : Option I
   pub live : IfSome found (λ id. live_at objects id ≡ find test objects.live)
   pub absent : IfNone found (find test objects.live ≡ None)
 
--- What an entity holds: of no live entity, or of one of another kind, what a fresh one holds
+-- What an entity holds. What doesn't live, or is of another kind, holds nothing: no bytes, no messages, numbers that are 0.
 
 abbrev pub kind_of : What → Kind
 kind_of (Process cred) = kinds.Process

@@ -34,7 +34,7 @@ unfoldable pub names_at : Entities → Id → List (List ℕ)
 names_at objects dir = first_names 16 (entry_names dir objects.live)
 
 -- some names are the first 16 of all in byte order: with a rest behind them they are all, in order
-pub record AreFirst (names all : List (List ℕ)) : Type 0 where
+pub record IsFirstNames (names all : List (List ℕ)) : Type 0 where
   pub rest : List (List ℕ)
   pub ordered : IsSorted (slice_cmp nat_cmp) (names ++ rest)
   pub same : IsPermutation all (names ++ rest)

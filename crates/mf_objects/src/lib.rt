@@ -9,5 +9,5 @@ mod texts;
 
 pub use head::Head;
 pub use id::Id;
-pub use objects::Objects;
+pub use objects::{MOST_ENTITIES, Objects};
 pub use texts::{Name, NameList};

@@ -2,7 +2,7 @@
 ghost use Rattle.std.specs.Prelude.{◌≡◌, ◌<◌, ◌≤◌, [], length, IsTrue, IsSome, OnOk, OnErr, IfOk, Some, None, nat_eq, position, find};
 ghost use Rattle.mf_objects.specs.Live as live;
 ghost use Rattle.mf_objects.specs.Changes as change;
-ghost use Rattle.mf_objects.specs.Sound.{IsPlace, MayJoin};
+ghost use Rattle.mf_objects.specs.Sound.{IsPlace};
 ghost use Rattle.mf_objects.specs.declared.entity.What.TheVariants as what;
 
 mod changing;
@@ -180,7 +180,7 @@ impl Objects {
     ) -> Result<Id, AllocError>
         requires few { length self.old.live < 1024 }
         requires next { self.old.next < 4294967295 }
-        requires joins { MayJoin self.old what }
+        requires joins { change.MayJoin self.old what }
         ensures ok { OnOk result (self.new ≡ change.with_entity self.old name.now values.now what) }
         ensures found { IfOk result (λ id. live.live_at self.new id ≡ Some (change.made self.old name.now values.now what)) }
         ensures id { IfOk result (λ id. id.0 ≡ self.old.next) }

@@ -21,6 +21,7 @@ impl Model for Name {
 }
 
 impl Name {
+    /// The name that this text spells.
     pub fn from_str(alloc: Global, text: &str) -> Result<Name, AllocError>
         ensures { IfOk result (λ name. name ≡ text.now) }
     {
@@ -28,12 +29,14 @@ impl Name {
         Ok(Name { text })
     }
 
+    /// The name that is this text, without memory.
     pub fn from_string(text: String) -> Name
         ensures { result ≡ string_bytes text }
     {
         Name { text }
     }
 
+    /// Its text.
     pub fn as_str(&self) -> &str
         ensures { result.now ≡ self.now }
     {
@@ -63,6 +66,7 @@ impl Model for NameList {
 }
 
 impl NameList {
+    /// No names.
     pub fn new(alloc: Global) -> NameList
         ensures { result ≡ [] }
     {
@@ -71,12 +75,14 @@ impl NameList {
         }
     }
 
+    /// How many names there are.
     pub fn len(&self) -> usize
         ensures { result ≡ length self.now }
     {
         self.names.len()
     }
 
+    /// The names in order.
     pub fn as_slice(&self) -> &[Name]
         ensures { result.now ≡ self.now }
     {
@@ -130,6 +136,7 @@ impl<const MOST: usize> Model for Bytes<MOST> {
 }
 
 impl<const MOST: usize> Bytes<MOST> {
+    /// No bytes.
     pub fn new(alloc: Global) -> Self
         ensures { result ≡ [] }
     {
@@ -138,6 +145,7 @@ impl<const MOST: usize> Bytes<MOST> {
         }
     }
 
+    /// The bytes of a text.
     pub fn copy_of(alloc: Global, text: &[u8]) -> Result<Self, AllocError>
         requires { length text.now ≤ MOST }
         ensures { IfOk result (λ bytes. bytes ≡ text.now) }
@@ -146,6 +154,7 @@ impl<const MOST: usize> Bytes<MOST> {
         Ok(Bytes { items })
     }
 
+    /// The bytes in order.
     pub fn as_slice(&self) -> &[u8]
         ensures value { result.now ≡ self.now }
         ensures most { length self.now ≤ MOST }
@@ -163,6 +172,7 @@ impl<const MOST: usize> Bytes<MOST> {
         Ok(())
     }
 
+    /// Leaves no bytes.
     pub fn clear(&mut self)
         ensures { self.new ≡ [] }
     {
@@ -187,6 +197,7 @@ impl Model for Messages {
 }
 
 impl Messages {
+    /// No messages.
     pub fn new(alloc: Global) -> Messages
         ensures { result ≡ [] }
     {
@@ -195,6 +206,7 @@ impl Messages {
         }
     }
 
+    /// How many messages wait.
     pub fn len(&self) -> usize
         ensures value { result ≡ length self.now }
         ensures most { length self.now ≤ 16 }

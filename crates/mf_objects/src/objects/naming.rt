@@ -19,7 +19,7 @@ impl Objects {
     pub fn names(&self, alloc: Global, dir: Id) -> Result<NameList, AllocError>
         requires { live.IsLive live.is_directory self.now dir }
         ensures value { IfOk result (λ names. names ≡ title.names_at self.now dir) }
-        ensures first { IfOk result (λ names. title.AreFirst names (title.entry_names dir self.now.live)) }
+        ensures first { IfOk result (λ names. title.IsFirstNames names (title.entry_names dir self.now.live)) }
     {
         let mut names = entry_names(alloc, &self.entities, dir)?;
         names.truncate(MOST_NAMES);

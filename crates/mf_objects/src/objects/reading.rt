@@ -3,7 +3,8 @@ ghost use Rattle.std.specs.Prelude.{◌≡◌, ◌≢◌, ◌≤◌, ◌<◌, le
 ghost use Rattle.std.specs.Str.{bytes_eq};
 ghost use Rattle.mf_objects.specs.Head.{head_of};
 ghost use Rattle.mf_objects.specs.Live as live;
-ghost use Rattle.mf_objects.specs.Sound.{shown, IsPopulation};
+ghost use Rattle.mf_objects.specs.Population.{IsPopulation};
+ghost use Rattle.mf_objects.specs.Sound.{shown};
 
 use super::Objects;
 use crate::entity::{Entity, What};
@@ -14,7 +15,7 @@ use mf_elem::LabelValue;
 use mf_item::Kind;
 
 impl Objects {
-    /// How many entities live.
+    /// How many entities live. The last clause says what is true of the live entities at any time.
     pub fn live(&self) -> u32
         ensures value { result ≡ length self.now.live }
         ensures most { result ≤ 1024 }

@@ -3,7 +3,7 @@ ghost use Rattle.std.specs.Prelude.{◌≡◌, ◌≢◌, ◌<◌, length, remov
 ghost use Rattle.mf_objects.specs.Live as live;
 ghost use Rattle.mf_objects.specs.declared.id.Id.{Id};
 ghost use Rattle.mf_objects.specs.Changes as change;
-ghost use Rattle.mf_objects.specs.Sound.{HasRoot, IsBare};
+ghost use Rattle.mf_objects.specs.Population.{HasRoot};
 
 use super::Objects;
 use crate::entity::Entity;
@@ -66,7 +66,7 @@ impl Objects {
     fn remove_at(&mut self, place: usize)
         requires within { place < length self.old.live }
         requires later { 0 < place }
-        requires bare { (d : live.Live) → let e = slice_index_or self.old.live place d in IsBare self.old.live e.id e.what }
+        requires bare { (d : live.Live) → let e = slice_index_or self.old.live place d in change.IsBare self.old.live e.id e.what }
         ensures removed { self.new ≡ record self.old { live = remove self.old.live place } }
         ensures by_id { (id : Id) → ((d : live.Live) → live.has_id id (slice_index_or self.old.live place d) ≡ true)
             → self.new ≡ change.without (live.has_id id) self.old }

@@ -1,5 +1,6 @@
 //! Files, processes, pipes and sockets through their lives.
 use super::*;
+use mf_item::Kind;
 use std::process::Abort;
 use std::test::Fail;
 
@@ -28,6 +29,15 @@ fn add_file(
     }
 }
 
+fn add_process(rt: &impl Abort, alloc: Global, objects: &mut Objects) -> Result<(), AllocError> {
+    assert!(rt; objects.live() < MOST_ENTITIES && objects.next_id() < u32::MAX);
+    if objects.process("t").is_none() {
+        let t = objects.add_process(alloc, "t", &Cred::default(), &labelled(3))?;
+        assert!(rt; objects.kind(t) == Kind::Process && objects.cred(t).uid == 0);
+    }
+    Ok(())
+}
+
 #[test]
 fn names_in_byte_order(rt: HostRuntime) -> Result<(), Fail> {
     let alloc = rt.alloc();
@@ -47,22 +57,31 @@ fn names_in_byte_order(rt: HostRuntime) -> Result<(), Fail> {
 }
 
 #[test]
+#[tactic(auto, using(crate::proofs::Laws::fits_pipe))]
 fn an_exit_takes_its_pipes(rt: HostRuntime) -> Result<(), Fail> {
     let alloc = rt.alloc();
     let mut objects = Objects::new(alloc, &labelled(7))?;
-    assert!(rt; objects.live() < MOST_ENTITIES && objects.next_id() < u32::MAX);
-    if objects.process("t").is_none() {
-        let t = objects.add_process(alloc, "t", &Cred::default(), &labelled(3))?;
-        assert_eq!(rt; objects.value(t, 0), LabelValue::Number(3));
-    }
+    add_process(&rt, alloc, &mut objects)?;
     assert!(rt; objects.live() < MOST_ENTITIES && objects.next_id() < u32::MAX);
     if let Some(t) = objects.process("t") {
         if objects.pipe("p").is_none() {
             let p = objects.add_pipe(alloc, "p", t, &labelled(3))?;
+            assert_eq!(rt; objects.label(p)[0], LabelValue::Number(3));
             let mut title = String::new(alloc);
             objects.title(alloc, p, &mut title)?;
             assert_eq!(rt; title.as_str(), "pipe:p");
         }
+    }
+    if let Some(p) = objects.pipe("p") {
+        assert!(rt; objects.size(p) < 10);
+        objects.append(p, b"text")?;
+    }
+    if let Some(p) = objects.pipe("p") {
+        assert_eq!(rt; objects.size(p), 4);
+        objects.clear(p);
+    }
+    if let Some(p) = objects.least_from(2) {
+        assert_eq!(rt; objects.size(p), 0);
     }
     if let Some(t) = objects.process("t") {
         objects.remove_process(t);
@@ -76,10 +95,7 @@ fn an_exit_takes_its_pipes(rt: HostRuntime) -> Result<(), Fail> {
 fn the_oldest_message_first(rt: HostRuntime) -> Result<(), Fail> {
     let alloc = rt.alloc();
     let mut objects = Objects::new(alloc, &labelled(7))?;
-    assert!(rt; objects.live() < MOST_ENTITIES && objects.next_id() < u32::MAX);
-    if objects.process("t").is_none() {
-        let _t = objects.add_process(alloc, "t", &Cred::default(), &labelled(3))?;
-    }
+    add_process(&rt, alloc, &mut objects)?;
     assert!(rt; objects.live() < MOST_ENTITIES && objects.next_id() < u32::MAX);
     if let Some(t) = objects.process("t") {
         if objects.socket("s").is_none() {

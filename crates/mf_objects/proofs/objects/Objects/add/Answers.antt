@@ -3,10 +3,11 @@ use Rattle.std.proofs.lemmas.List.{length-map}
 use Rattle.mf_objects.specs.declared.id.Id.{Id}
 use Rattle.mf_objects.specs.declared.entity.Entity.{Entity}
 use Rattle.mf_objects.specs.Live.{Live, Entities, live_at}
-use Rattle.mf_objects.specs.Changes.{with_entity, made}
-use Rattle.mf_objects.specs.Sound.{live_of, seen, IsRising, Belongs, MayJoin}
+use Rattle.mf_objects.specs.Changes.{MayJoin, with_entity, made}
+use Rattle.mf_objects.specs.Population.{IsRising, Belongs}
+use Rattle.mf_objects.specs.Sound.{live_of, seen}
 use Rattle.mf_objects.proofs.Rising.{find_new}
-use Rattle.mf_objects.proofs.Belonging.{joins, joins_as_file}
+use Rattle.mf_objects.proofs.Belonging.{joins, joins_bare}
 use Rattle.mf_objects.proofs.Kept.{view, Becomes, same_zones, added, on_err}
 use Rattle.mf_objects.proofs.objects.Objects.add.Goals as goal
 
@@ -36,7 +37,7 @@ invariant_of-self-2 c =
     joins (view c.self.inside.next zones es) c.args.what c.self.invariant.population.rising (subst (λ (o : Entities). MayJoin o c.args.what) (sym c.self.view_is) c.requires.joins) in
     let b : Becomes (c.self.inside.next + 1) c.make_label.new.self (es ++ e ∷ [])
     (record { next = c.self.inside.next + 1; live = live_of zones es ++ record { id = e.id; name = e.name; label = c.args.values.now; what = e.what } ∷ [] }) =
-    added c.self.inside.next zones c.make_label.new.self es e c.args.values.now refl room four c.self.invariant belongs (joins_as_file c.args.self.now c.args.what c.requires.joins) c.in_ok-label.ensures.ok in
+    added c.self.inside.next zones c.make_label.new.self es e c.args.values.now refl room four c.self.invariant belongs (joins_bare c.args.self.now c.args.what c.requires.joins) c.in_ok-label.ensures.ok in
     let pushed : c.push.new.self.items ≡ c.reserve.new.self.items ++ e ∷ [] = rw c.unwrap.ensures at c.push.ensures.items in
     let items : c.push.new.self.items ≡ es ++ e ∷ [] = pushed ∙ ap (λ (xs : List Entity). xs ++ e ∷ []) c.reserve.ensures.items in
     rw items b.sound
@@ -52,7 +53,7 @@ returns-clause-ok c =
     joins (view c.self.inside.next zones es) c.args.what c.self.invariant.population.rising (subst (λ (o : Entities). MayJoin o c.args.what) (sym c.self.view_is) c.requires.joins) in
     let b : Becomes (c.self.inside.next + 1) c.make_label.new.self (es ++ e ∷ [])
     (record { next = c.self.inside.next + 1; live = live_of zones es ++ record { id = e.id; name = e.name; label = c.args.values.now; what = e.what } ∷ [] }) =
-    added c.self.inside.next zones c.make_label.new.self es e c.args.values.now refl room four c.self.invariant belongs (joins_as_file c.args.self.now c.args.what c.requires.joins) c.in_ok-label.ensures.ok in
+    added c.self.inside.next zones c.make_label.new.self es e c.args.values.now refl room four c.self.invariant belongs (joins_bare c.args.self.now c.args.what c.requires.joins) c.in_ok-label.ensures.ok in
     let pushed : c.push.new.self.items ≡ c.reserve.new.self.items ++ e ∷ [] = rw c.unwrap.ensures at c.push.ensures.items in
     let items : c.push.new.self.items ≡ es ++ e ∷ [] = pushed ∙ ap (λ (xs : List Entity). xs ++ e ∷ []) c.reserve.ensures.items in
     ap (λ (xs : List Entity). view (c.self.inside.next + 1) c.make_label.new.self xs) items
@@ -71,7 +72,7 @@ returns-clause-found c =
     joins (view c.self.inside.next zones es) c.args.what c.self.invariant.population.rising (subst (λ (o : Entities). MayJoin o c.args.what) (sym c.self.view_is) c.requires.joins) in
     let b : Becomes (c.self.inside.next + 1) c.make_label.new.self (es ++ e ∷ [])
     (record { next = c.self.inside.next + 1; live = live_of zones es ++ record { id = e.id; name = e.name; label = c.args.values.now; what = e.what } ∷ [] }) =
-    added c.self.inside.next zones c.make_label.new.self es e c.args.values.now refl room four c.self.invariant belongs (joins_as_file c.args.self.now c.args.what c.requires.joins) c.in_ok-label.ensures.ok in
+    added c.self.inside.next zones c.make_label.new.self es e c.args.values.now refl room four c.self.invariant belongs (joins_bare c.args.self.now c.args.what c.requires.joins) c.in_ok-label.ensures.ok in
     let pushed : c.push.new.self.items ≡ c.reserve.new.self.items ++ e ∷ [] = rw c.unwrap.ensures at c.push.ensures.items in
     let items : c.push.new.self.items ≡ es ++ e ∷ [] = pushed ∙ ap (λ (xs : List Entity). xs ++ e ∷ []) c.reserve.ensures.items in
     let whole : view (c.self.inside.next + 1) c.make_label.new.self c.push.new.self.items ≡ with_entity c.args.self.now c.args.name.now c.args.values.now c.args.what =

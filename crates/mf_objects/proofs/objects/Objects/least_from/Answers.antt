@@ -2,7 +2,8 @@ use Rattle.std.proofs.Common.{◌≡◌, List, ap, ◌∙◌, subst, option_map}
 use Rattle.std.specs.Prelude.{find}
 use Rattle.mf_objects.specs.declared.entity.Entity.{Entity}
 use Rattle.mf_objects.specs.Live.{Entities, IsFound, is_from}
-use Rattle.mf_objects.specs.Sound.{seen, IsRising}
+use Rattle.mf_objects.specs.Population.{IsRising}
+use Rattle.mf_objects.specs.Sound.{seen}
 use Rattle.mf_objects.proofs.Found.{found_id, live_found, found_least, none_from}
 use Rattle.mf_objects.proofs.objects.Objects.least_from.Goals as goal
 

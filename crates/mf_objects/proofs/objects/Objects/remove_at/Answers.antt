@@ -2,7 +2,8 @@ use Rattle.std.proofs.Common.{◌≡◌, ◌<◌, ℕ, List, length, remove, ap,
 use Rattle.std.proofs.lemmas.List.{length-map}
 use Rattle.mf_objects.specs.declared.entity.Entity.{Entity}
 use Rattle.mf_objects.specs.Live.{Live, Entities}
-use Rattle.mf_objects.specs.Sound.{live_of, seen, IsRising}
+use Rattle.mf_objects.specs.Population.{IsRising}
+use Rattle.mf_objects.specs.Sound.{live_of, seen}
 use Rattle.mf_objects.proofs.Rising.{remove_filter}
 use Rattle.mf_objects.proofs.Kept.{view, held_place, bare_place, dropped}
 use Rattle.mf_objects.proofs.objects.Objects.remove_at.Goals as goal

@@ -1,0 +1,42 @@
+-- What is true of the live entities at any time.
+use Rattle.std.specs.Prelude.{◌≡◌, ℕ, ◌+◌, ◌<◌, ◌≤◌, Bool, IsTrue, List, [], ◌∷◌, All, find, MatchOption}
+use Rattle.mf_objects.specs.declared.id.Id.{Id}
+use Rattle.mf_objects.specs.declared.entity.What.{What}
+use Rattle.mf_objects.specs.declared.entity.What.TheVariants.{Process, Vnode, Pipe, Socket}
+use Rattle.mf_objects.specs.Live.{Live, Entities, has_id, passes, is_directory, is_process, content_of}
+
+-- the ids rise, are at least the first number and stay below the second
+abbrev pub IsRising : ℕ → ℕ → List Live → Type 0
+IsRising least next [] = least ≤ next
+IsRising least next (e ∷ es) = (least ≤ e.id.0) × IsRising (e.id.0 + 1) next es
+
+-- the first entity is the root directory, whose id is 0
+abbrev pub HasRoot : List Live → Type 0
+HasRoot [] = ⊥
+HasRoot (e ∷ es) = (e.id.0 ≡ 0) × IsTrue (is_directory e.what)
+
+-- a live entity of this id passes the test, and is older than the one of the number
+abbrev pub HasOlder : (What → Bool) → List Live → ℕ → Id → Type 0
+HasOlder test live n id = (id.0 < n) × IsTrue (passes test (find (has_id id) live))
+
+-- the directory in which the entity of this number lies, or the process that made it, is live and older. The root alone lies
+-- in no directory.
+abbrev pub Belongs : List Live → ℕ → What → Type 0
+Belongs live n (Process cred) = Unit {0}
+Belongs live n (Vnode vnode) = MatchOption vnode.parent (n ≡ 0) (λ dir. HasOlder is_directory live n dir)
+Belongs live n (Pipe pipe) = HasOlder is_process live n pipe.maker
+Belongs live n (Socket socket) = HasOlder is_process live n socket.maker
+
+abbrev pub AllBelong : List Live → Type 0
+AllBelong live = All (λ e. Belongs live e.id.0 e.what) live
+
+-- a directory holds no bytes
+abbrev pub NoBytesIfDirectory : What → Type 0
+NoBytesIfDirectory w = IsTrue (is_directory w) → content_of w ≡ []
+
+-- what is true of the live entities at any time
+pub record IsPopulation (objects : Entities) : Type 0 where
+  pub rising : IsRising 0 objects.next objects.live
+  pub rooted : HasRoot objects.live
+  pub belong : AllBelong objects.live
+  pub directories : All (λ e. NoBytesIfDirectory e.what) objects.live
