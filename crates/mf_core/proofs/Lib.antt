@@ -1,2 +1,7 @@
 pub mod Consistency
-pub mod Bootable
+pub mod LastNames
+pub mod Counting
+pub mod Boots
+pub mod SameLists
+pub mod Insides
+pub mod Calls

@@ -1,5 +1,5 @@
 -- The registrations at boot, and the opening state of a script.
-use Rattle.std.specs.Prelude.{ℕ, ◌+◌, false, true, cond, List, [], ◌∷◌, map, Option, Some, None, find}
+use Rattle.std.specs.Prelude.{ℕ, ◌+◌, ◌≤◌, Bool, false, true, cond, List, [], ◌∷◌, length, map, fold, Option, Some, None, find}
 use Rattle.mf_errno.specs.declared.module.Module.{Module}
 use Rattle.mf_elem.specs.declared.label.LabelValue.{LabelValue}
 use Rattle.mf_elem.specs.declared.label.LabelValue.TheVariants.{Unset}
@@ -22,39 +22,44 @@ use Rattle.mf_script.specs.Labels.{task_label, file_label}
 use Rattle.mf_plan.specs.declared.state.State.{State}
 use Rattle.mf_plan.specs.declared.target.Target.{Target}
 use Rattle.mf_plan.specs.declared.target.Target.TheVariants.{Root, Name, Nowhere}
-use Rattle.mf_plan.specs.Path.{walk_along}
+use Rattle.mf_plan.specs.Path.{last_name, walk_along}
 use Rattle.mf_plan.specs.Views.{process_named}
-use Rattle.mf_step.specs.Effect.{last_of}
-use Rattle.mf_step.specs.Labels.{holds_slot}
+use Rattle.mf_step.specs.Labels.{is_slot}
 
 -- Registrations
 
 -- how many slot numbers were given after a registration of the module
-abbrev pub given_after : Module → ℕ → ℕ
-given_after m given = cond (wants_slot m) (given + 1) given
+abbrev pub given_after : ℕ → Module → ℕ
+given_after given m = cond (wants_slot m) (given + 1) given
 
 -- the registrations of these modules at boot, in order, where so many slot numbers were given before
 abbrev pub registrations_from : ℕ → List Module → List Registration
 registrations_from given [] = []
-registrations_from given (m ∷ ms) = registration_of m false given ∷ registrations_from (given_after m given) ms
+registrations_from given (m ∷ ms) = registration_of m false given ∷ registrations_from (given_after given m) ms
 
 -- the registrations at boot, in the script's order
 abbrev pub boots_of : Script → List Registration
 boots_of s = registrations_from 0 s.boots
 
 -- how many slot numbers these modules take
-abbrev pub given_from : ℕ → List Module → ℕ
-given_from given [] = given
-given_from given (m ∷ ms) = given_from (given_after m given) ms
+abbrev pub given_by : List Module → ℕ
+given_by modules = fold given_after 0 modules
 
--- the list of policies after these registrations, each of a policy as it is loaded
-abbrev pub listed_after : List Entry → List Registration → List Entry
-listed_after specs [] = specs
-listed_after specs (r ∷ rs) = listed_after (with_newest (r, fresh_of r.module) specs) rs
+-- the list of policies after a registration, of a policy as it is loaded
+abbrev pub with_registered : List Entry → Registration → List Entry
+with_registered specs r = with_newest (r, fresh_of r.module) specs
+
+-- the list of policies after these registrations
+abbrev pub listed_by : List Registration → List Entry
+listed_by boots = fold with_registered [] boots
 
 -- the policies that are listed at the end of boot, in walk order
 abbrev pub booted_specs : Script → List Entry
-booted_specs s = listed_after [] (boots_of s)
+booted_specs s = listed_by (boots_of s)
+
+-- the registrations of listed policies
+abbrev pub registrations_in : List Entry → List Registration
+registrations_in specs = map (λ entry. entry.0) specs
 
 -- Labels
 
@@ -65,59 +70,60 @@ boot_value kinds.Vnode request m = file_label m request
 boot_value kinds.Pipe request m = Unset
 boot_value kinds.Socket request m = Unset
 
-abbrev pub value_by : Kind → Request → Option Entry → LabelValue
+abbrev pub value_by : Kind → Request → Option Registration → LabelValue
 value_by kind request None = Unset
-value_by kind request (Some entry) = boot_value kind request entry.0.module
+value_by kind request (Some r) = boot_value kind request r.module
 
--- the value in a slot: that of the policy which holds the slot
-abbrev pub value_in : List Entry → Kind → Request → ℕ → LabelValue
-value_in specs kind request slot = value_by kind request (find (holds_slot slot) specs)
+abbrev pub holds : ℕ → Registration → Bool
+holds slot r = is_slot slot r.slot
 
-abbrev pub boot_label : List Entry → Kind → Request → List LabelValue
-boot_label specs kind request = map (value_in specs kind request) (0 ∷ 1 ∷ 2 ∷ 3 ∷ [])
+-- the value in a slot: that of the listed policy which holds the slot
+abbrev pub value_in : List Registration → Kind → Request → ℕ → LabelValue
+value_in listed kind request slot = value_by kind request (find (holds slot) listed)
+
+abbrev pub boot_label : List Registration → Kind → Request → List LabelValue
+boot_label listed kind request = map (value_in listed kind request) (0 ∷ 1 ∷ 2 ∷ 3 ∷ [])
 
 -- Entities
 
 -- the root directory alone, with the label of a file for which nothing is asked: biba/high, mls/low
-abbrev pub root_alone : List Entry → Entities
-root_alone specs = objects.opening (boot_label specs kinds.Vnode no_request)
+abbrev pub root_alone : List Registration → Entities
+root_alone listed = objects.opening (boot_label listed kinds.Vnode no_request)
 
 -- A file is made in the directory that its path names. In a well-formed script that is there, and the name is free.
-abbrev pub with_file_at : List Entry → Entities → FileLine → Target → Entities
-with_file_at specs o f (Name dir None) = objects.with_entity o (last_of f.path) (boot_label specs kinds.Vnode f.label) (objects.new_vnode dir f.file f.text)
-with_file_at specs o f (Name dir (Some id)) = o
-with_file_at specs o f Root = o
-with_file_at specs o f (Nowhere errno) = o
+abbrev pub with_file_at : List Registration → Entities → FileLine → Target → Entities
+with_file_at listed o f (Name dir None) =
+    objects.with_entity o (last_name f.path) (boot_label listed kinds.Vnode f.label) (objects.new_vnode dir f.file f.text)
+with_file_at listed o f (Name dir (Some id)) = o
+with_file_at listed o f Root = o
+with_file_at listed o f (Nowhere errno) = o
 
-abbrev pub with_file : List Entry → Entities → FileLine → Entities
-with_file specs o f = with_file_at specs o f (walk_along o f.path).target
-
-abbrev pub with_files : List Entry → Entities → List FileLine → Entities
-with_files specs o [] = o
-with_files specs o (f ∷ fs) = with_files specs (with_file specs o f) fs
+abbrev pub with_file : List Registration → Entities → FileLine → Entities
+with_file listed o f = with_file_at listed o f (walk_along o f.path).target
 
 -- The process of a task is made under its name, which in a well-formed script is free.
-abbrev pub with_task_at : List Entry → Entities → Task → Option Id → Entities
-with_task_at specs o t None = objects.with_entity o t.name (boot_label specs kinds.Process t.label) (Process t.cred)
-with_task_at specs o t (Some id) = o
+abbrev pub with_task_at : List Registration → Entities → Task → Option Id → Entities
+with_task_at listed o t None = objects.with_entity o t.name (boot_label listed kinds.Process t.label) (Process t.cred)
+with_task_at listed o t (Some id) = o
 
-abbrev pub with_task : List Entry → Entities → Task → Entities
-with_task specs o t = with_task_at specs o t (process_named o t.name)
+abbrev pub with_task : List Registration → Entities → Task → Entities
+with_task listed o t = with_task_at listed o t (process_named o t.name)
 
-abbrev pub with_tasks : List Entry → Entities → List Task → Entities
-with_tasks specs o [] = o
-with_tasks specs o (t ∷ ts) = with_tasks specs (with_task specs o t) ts
-
--- the root, then the files, then the processes of the tasks
-abbrev pub opening_objects : List Entry → Script → Entities
-opening_objects specs s = with_tasks specs (with_files specs (root_alone specs) s.files) s.tasks
+-- the root, then the files one after another, then the processes of the tasks
+abbrev pub opening_objects : List Registration → Script → Entities
+opening_objects listed s = fold (with_task listed) (fold (with_file listed) (root_alone listed) s.files) s.tasks
 
 -- the state at the end of boot
 abbrev pub opening_state : Script → State
 opening_state s =
     record {
-      objects = opening_objects (booted_specs s) s;
+      objects = opening_objects (registrations_in (booted_specs s)) s;
       specs = booted_specs s;
-      numbers = given_from 0 s.boots;
+      numbers = given_by s.boots;
       booted = true;
     }
+
+-- at most so many entities live, and at most so many ids were given
+pub record HasAtMost (o : Entities) (n : ℕ) : Type 0 where
+  pub live : length o.live ≤ n
+  pub ids : o.next ≤ n

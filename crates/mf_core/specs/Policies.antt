@@ -1,10 +1,19 @@
 -- What a core has to do with the list of policies and the catalogue that came with it.
-use Rattle.std.specs.Prelude.{◌≡◌, ℕ, cond, List}
+use Rattle.std.specs.Prelude.{◌≡◌, ℕ, ◌<◌, true, false, cond, List, All, Result, Ok, Err}
 use Rattle.mf_errno.specs.declared.module.Module.{Module}
-use Rattle.mf_policy.specs.Modules.{has_spec}
+use Rattle.mf_policy.specs.Modules.{fresh_of, has_spec}
+use Rattle.mf_policy.specs.declared.registration.Registration.{Registration}
 use Rattle.mf_policy.specs.Registration.{Entry}
-use Rattle.mf_list.specs.Lists.{ListView, CatalogueView, IsReady, same_module}
+use Rattle.mf_list.specs.Lists.{ListView, CatalogueView, IsReady, in_catalogue, is_listed, same_module}
 use Rattle.mf_list.specs.Held.{how_many, times_held}
+use Rattle.mf_list.specs.Registration.{entries_without, register_verdict_by_name, unregister_verdict_by_name, with_newest}
+use Rattle.mf_list.specs.declared.faults.RegisterFault.{RegisterFault}
+use Rattle.mf_list.specs.declared.faults.UnregisterFault.{UnregisterFault}
+use Rattle.mf_script.specs.declared.script.Call.{Call}
+use Rattle.mf_script.specs.declared.script.Call.TheVariants as call
+use Rattle.mf_plan.specs.declared.reply.Reply.{Reply}
+use Rattle.mf_plan.specs.declared.reply.Reply.TheVariants as reply
+use Rattle.mf_plan.specs.Names.{module_named}
 
 -- how often a module is handed in: once where there is such a module by now
 abbrev pub times_wanted : Module → ℕ
@@ -20,3 +29,37 @@ pub record AreOf (specs : List Entry) (list : ListView) (catalogue : CatalogueVi
   pub listed : list.entries ≡ specs
   pub held : (m : Module) → times_held m list catalogue ≡ times_wanted m
   pub ready : IsReady list catalogue
+
+-- the list after the answer to a registration, and after the answer to an unregistration
+
+abbrev pub registered : List Entry → Result Registration RegisterFault → List Entry
+registered listed (Ok r) = with_newest (r, fresh_of r.module) listed
+registered listed (Err fault) = listed
+
+abbrev pub unregistered : List Entry → Result Registration UnregisterFault → List Entry
+unregistered listed (Ok r) = entries_without r.module listed
+unregistered listed (Err fault) = listed
+
+-- The listed policies after a call that is done after boot, where so many slot numbers were given: kldload registers the module of that
+-- name, and kldunload takes it off the list.
+abbrev pub listed_after : Call → ListView → CatalogueView → ℕ → List Entry
+listed_after (call.Kldload name) list catalogue given =
+    registered list.entries (register_verdict_by_name (module_named name) true list catalogue given)
+listed_after (call.Kldunload name) list catalogue given = unregistered list.entries (unregister_verdict_by_name (module_named name) list)
+listed_after other list catalogue given = list.entries
+
+-- a call that is denied or refused changes no list
+abbrev pub listed_after_reply : Reply → List Entry → List Entry → List Entry
+listed_after_reply (reply.Ok payload) before done = done
+listed_after_reply (reply.Denied errno op item by) before done = before
+listed_after_reply (reply.Refused errno) before done = before
+
+-- A module can be registered at boot: it is there, it isn't listed, and a slot number is left.
+pub record CanBoot (m : Module) (list : ListView) (catalogue : CatalogueView) (given : ℕ) : Type 0 where
+  pub there : in_catalogue m catalogue.modules ≡ true
+  pub free : is_listed m list.entries ≡ false
+  pub slot : given < 4
+
+-- the registrations are of modules that there are by now
+abbrev pub AreAllThere : List Registration → Type 0
+AreAllThere listed = All (λ r. has_spec r.module ≡ true) listed

@@ -1,10 +1,11 @@
 -- What contracts see of a core, and what a core keeps true.
-use Rattle.std.specs.Prelude.{◌≡◌, ◌≢◌, ℕ, ◌+◌, ◌*◌, ◌-◌, ◌<◌, ◌≤◌, List, [], ◌∷◌, length, Option, Some, None}
+use Rattle.std.specs.Prelude.{◌≡◌, ◌≢◌, ℕ, ◌+◌, ◌*◌, ◌-◌, ◌<◌, ◌≤◌, true, List, [], ◌∷◌, length, Option, Some, None}
 use Rattle.mf_script.specs.declared.script.Line.{Line}
 use Rattle.mf_script.specs.declared.script.Task.{Task}
 use Rattle.mf_script.specs.declared.script.Script.{Script}
 use Rattle.mf_script.specs.WellFormed.{lines_of, name_of}
 use Rattle.mf_policy.specs.Registration.{Entry}
+use Rattle.mf_list.specs.Held.{IsListedOnce}
 use Rattle.mf_plan.specs.declared.state.State.{State}
 use Rattle.mf_plan.specs.declared.plan.Plan.{Plan}
 use Rattle.mf_plan.specs.declared.reply.Reply.{Reply}
@@ -12,6 +13,7 @@ use Rattle.mf_core.specs.declared.progress.Phase.{Phase}
 use Rattle.mf_core.specs.declared.progress.Phase.TheVariants as phase
 use Rattle.mf_core.specs.declared.progress.Progress.{Progress}
 use Rattle.mf_core.specs.declared.progress.Turn.{Turn}
+use Rattle.mf_core.specs.declared.progress.Turn.TheVariants as turn
 use Rattle.mf_core.specs.declared.progress.Commit.{Commit}
 use Rattle.mf_core.specs.declared.progress.Commit.TheVariants as commit
 use Rattle.mf_core.specs.declared.progress.Outcome.{Outcome}
@@ -20,7 +22,7 @@ use Rattle.mf_core.specs.declared.history.Event.TheVariants as event
 use Rattle.mf_core.specs.declared.history.History.{History}
 use Rattle.mf_plan.specs.Plan.{plan_of}
 use Rattle.mf_core.specs.Progress.{progress_at, open_entries, Moves}
-use Rattle.mf_core.specs.LegalHistory.{RunState, run_state_of, turn_of, next_line, next_reply, next_number, appended, IsLegal}
+use Rattle.mf_core.specs.LegalHistory.{RunState, run_state_of, turn_at_line, turn_of, next_line, next_reply, next_number, appended, IsLegal}
 
 -- a script, and the history of its run so far
 pub record Run : Type 0 where
@@ -109,12 +111,24 @@ HasLine phase.Entered lines n = lines < n
 HasLine phase.Done lines n = lines < n
 HasLine phase.Stopped lines n = lines < n
 
--- The history is legal, it determines the state and the progress, and there is room for all events that may come. Each event gives
--- at most one id, and the opening at most 273: to the root, 256 files and 16 tasks.
+-- an open entry is at a line whose call is no change
+abbrev pub IsAtEntry : Phase → Option Line → Type 0
+IsAtEntry phase.Idle next = Unit {0}
+IsAtEntry phase.Entered next = turn_at_line next ≡ turn.Entry
+IsAtEntry phase.Done next = turn_at_line next ≡ turn.Entry
+IsAtEntry phase.Stopped next = Unit {0}
+
+-- The history is legal, and it determines the state and the progress. Boot has ended, and no module is listed twice. There is room for all
+-- events that may come, which are three for each line: at most 196,608 for 16 tasks with 4,096 lines each. Each event gives at most one
+-- id, and the opening at most 273: to the root, 256 files and 16 tasks.
 pub record IsConsistent (script : Script) (history : History) (state : State) (progress : List Progress) : Type 0 where
   pub legal : IsLegal script history
   pub here : run_state_of script history.events.list ≡ record { state = state; progress = progress }
   pub places : length progress ≡ length script.tasks
   pub lines : (t : ℕ) → t < length script.tasks → HasLine (progress_at progress t).phase (progress_at progress t).lines (length (lines_of script t))
+  pub entries : (t : ℕ) → t < length script.tasks → IsAtEntry (progress_at progress t).phase (next_line script progress t)
+  pub booted : state.booted ≡ true
+  pub once : IsListedOnce state.specs
   pub room : length history.events.list + events_left script.tasks progress ≤ history.events.room
+  pub most : history.events.room ≤ 196608
   pub ids : state.objects.next ≤ 273 + length history.events.list

@@ -1,24 +1,32 @@
 //! The core: a history that is legal for its script, with the state that it determines.
-ghost use Rattle.std.specs.Prelude.{◌≡◌, ◌<◌, ◌⊎◌, Some, IfOk, OnErr, [], ℕ, length};
+ghost use Rattle.std.specs.Prelude.{◌≡◌, ◌<◌, ◌⊎◌, ℕ, [], All, IfOk, length, map, Some};
 ghost use Rattle.std.specs.Option.{option_copied};
+ghost use Rattle.mf_policy.specs.Modules.{module_of};
+ghost use Rattle.mf_list.specs.Lists.{IsFresh};
+ghost use Rattle.mf_script.specs.WellFormed.{IsWellFormed, lines_of};
+ghost use Rattle.mf_step.specs.Verdict as step;
 ghost use Rattle.mf_core.specs.declared.history.Event.TheVariants as event;
 ghost use Rattle.mf_core.specs.declared.progress.Turn.TheVariants as turn;
 ghost use Rattle.mf_core.specs.declared.progress.Phase.TheVariants as phase;
-ghost use Rattle.mf_script.specs.WellFormed.{IsWellFormed};
-ghost use Rattle.mf_core.specs.Answer.{verdict_of};
-ghost use Rattle.mf_core.specs.Opening.{boots_of};
-ghost use Rattle.mf_core.specs.Progress.{progress_at, first_progress, left, Moves};
 ghost use Rattle.mf_core.specs.LegalHistory as spec;
 ghost use Rattle.mf_core.specs.LegalHistory.{appended, IsLegal};
-ghost use Rattle.mf_core.specs.Run.{policies_of, progress_of, turn_at, next_plan, Commits, MovesOn};
+ghost use Rattle.mf_core.specs.Opening.{boots_of};
+ghost use Rattle.mf_core.specs.Policies.{AreAllModules, AreOf};
+ghost use Rattle.mf_core.specs.Progress.{progress_at, first_progress, open_entries, left, Moves};
+ghost use Rattle.mf_core.specs.Run.{specs_of, progress_of, turn_at, next_plan};
 
-use crate::answers::Verdict;
+mod changing;
+
+use crate::booting::{loaded_specs, register_boots, unlisted};
 use crate::history::{Event, EventList, History};
-use crate::plan::Plan;
-use crate::progress::{Commit, Phase, ProgressList, Turn};
-use crate::state::State;
-use crate::{answers, opening, planning, replying};
+use crate::opening::{line_count, opening_objects};
+use crate::progress::{Phase, ProgressList, Turn};
+use crate::step::{child_of, is_change};
+use mf_list::{Catalogue, PolicyList};
+use mf_plan::{Plan, State, plan_of};
+use mf_policy::Policy;
 use mf_script::{Line, Script};
+use mf_step::{Verdict, verdict_of};
 use std::alloc::{AllocError, Global};
 use std::marker::Model;
 
@@ -42,25 +50,42 @@ impl<'s> Model for Core<'s> {
 }
 
 impl<'s> Core<'s> {
-    /// The core before the first event of the script.
-    pub fn new(alloc: Global, script: &'s Script) -> Result<Core<'s>, AllocError>
-        requires { IsWellFormed script.now }
-        ensures script { IfOk result (λ core. core.script ≡ script.now) }
-        ensures boots { IfOk result (λ core. core.history.boots ≡ boots_of script.now) }
-        ensures history { IfOk result (λ core. core.history.events.list ≡ []) }
-        ensures progress { IfOk result (λ core. (t : ℕ) → progress_at (progress_of core) t ≡ first_progress) }
+    /// The core before the first event of the script. These are all modules, each as it is loaded. Those that the script boots
+    /// are registered in its order; the others stay in the catalogue.
+    pub fn new<P: Policy>(
+        alloc: Global,
+        script: &'s Script,
+        modules: Vec<P>,
+    ) -> Result<(Core<'s>, PolicyList<P>, Catalogue<P>), AllocError>
+        requires formed { IsWellFormed script.now }
+        requires modules { AreAllModules (map (λ p. module_of (P.spec p)) modules.items) }
+        requires fresh { All (λ p. IsFresh (P.spec p)) modules.items }
+        ensures script { IfOk result (λ r. r.0.script ≡ script.now) }
+        ensures boots { IfOk result (λ r. r.0.history.boots ≡ boots_of script.now) }
+        ensures history { IfOk result (λ r. r.0.history.events.list ≡ []) }
+        ensures progress { IfOk result (λ r. (t : ℕ) → progress_at (progress_of r.0) t ≡ first_progress) }
+        ensures policies { IfOk result (λ r. AreOf (specs_of r.0) r.1 r.2) }
     {
-        let boots = opening::boots(alloc, &script.boots)?;
-        let room = 3 * opening::line_count(script);
-        let events = EventList::with_room(alloc, room)?;
-        let state = opening::opening_state(alloc, script, boots.as_slice())?;
+        let (mut list, mut catalogue) = unlisted(alloc, modules)?;
+        let (boots, numbers) = register_boots(alloc, &script.boots, &mut list, &mut catalogue)?;
+        let listed = list.listed();
+        let specs = loaded_specs(alloc, listed.as_slice())?;
+        let objects = opening_objects(alloc, script, listed.as_slice())?;
+        let state = State {
+            objects,
+            specs,
+            numbers,
+            booted: true,
+        };
+        let events = EventList::with_room(alloc, 3 * line_count(script))?;
         let progress = ProgressList::for_tasks(alloc, &script.tasks)?;
-        Ok(Core {
+        let core = Core {
             script,
             history: History { boots, events },
             state,
             progress,
-        })
+        };
+        Ok((core, list, catalogue))
     }
 
     /// What the task may do next. Tasks count from 0.
@@ -83,6 +108,7 @@ impl<'s> Core<'s> {
         requires turn { turn_at self.old task ≡ turn.Entry }
         ensures event { self.new ≡ record self.old { history = appended self.old.history (event.Enter task) } }
         ensures progress { Moves (progress_of self.old) (progress_of self.new) task (record (progress_at (progress_of self.old) task) { phase = phase.Entered }) }
+        ensures specs { specs_of self.new ≡ specs_of self.old }
     {
         self.history.events.push(Event::Enter(task));
         self.progress.set_phase(task as usize, Phase::Entered);
@@ -94,6 +120,7 @@ impl<'s> Core<'s> {
         requires turn { (turn_at self.old task ≡ turn.Done) ⊎ (turn_at self.old task ≡ turn.Entered) }
         ensures event { self.new ≡ record self.old { history = appended self.old.history (event.Leave task) } }
         ensures progress { Moves (progress_of self.old) (progress_of self.new) task (left (progress_at (progress_of self.old) task)) }
+        ensures specs { specs_of self.new ≡ specs_of self.old }
     {
         self.history.events.push(Event::Leave(task));
         self.progress.leave(task as usize);
@@ -105,43 +132,34 @@ impl<'s> Core<'s> {
         requires turn { turn_at self.now task ≡ turn.Entered }
         ensures { next_plan self.now task ≡ Some result }
     {
-        let progress = self.progress.at(task as usize);
-        let caller = self.script.name_of(task);
-        let line = self.script.line_at(task, progress.lines);
-        planning::plan_of(&self.state, caller, &line.call)
+        let lines = self.progress.at(task as usize).lines;
+        self.plan_at(task, lines)
+    }
+
+    /// The plan of the call of the task's next line, which stands after `lines` of its lines.
+    fn plan_at(&self, task: u32, lines: u32) -> Plan
+        requires task { task < length self.now.script.tasks }
+        requires line { lines < length (lines_of self.now.script task) }
+        requires lines { lines ≡ (progress_at (progress_of self.now) task).lines }
+        ensures { next_plan self.now task ≡ Some result }
+    {
+        let line = self.script.line_at(task, lines);
+        let name = self.script.name_of(task);
+        plan_of(&self.state, name, child_of(line), &line.call)
     }
 
     /// What the listed policies say to a plan: the denial of the first check that is denied.
-    pub fn walk(&self, plan: &Plan) -> Verdict
-        ensures { result ≡ verdict_of (policies_of self.now) plan.now }
+    pub fn walk<P: Policy>(list: &PolicyList<P>, plan: &Plan) -> Verdict
+        ensures { result ≡ step.verdict_of list.now.entries plan.now }
     {
-        answers::verdict_of(&self.state.policies, plan)
+        verdict_of(list, plan)
     }
 
-    /// Does the call of the task's entry, where `plan` is still its plan. After want of memory nothing has changed.
-    pub fn done(&mut self, task: u32, plan: &Plan, verdict: &Verdict) -> Result<Commit, AllocError>
-        requires task { task < length self.old.script.tasks }
-        requires turn { turn_at self.old task ≡ turn.Entered }
-        requires verdict { verdict.now ≡ verdict_of (policies_of self.old) plan.now }
-        ensures commit { IfOk result (λ commit. Commits self.old task plan.now commit self.new) }
-        ensures progress { IfOk result (λ commit. MovesOn commit (progress_of self.old) task (progress_of self.new)) }
-        ensures err { OnErr result (self.new ≡ self.old) }
+    /// How many entries are open.
+    pub fn open_entries(&self) -> u32
+        ensures { result ≡ open_entries (progress_of self.now) }
     {
-        let progress = self.progress.at(task as usize);
-        let caller = self.script.name_of(task);
-        let line = self.script.line_at(task, progress.lines);
-        let current = planning::plan_of(&self.state, caller, &line.call);
-        if !current.same(plan) {
-            return Ok(Commit::Stale);
-        }
-        let payload = replying::payload_of(&self.state, &line.call);
-        let reply = replying::reply_to(plan, verdict, payload);
-        self.state.apply(&reply, &line.call)?;
-        self.history
-            .events
-            .push(Event::Done(task, progress.lines + 1, reply));
-        self.progress.set_phase(task as usize, Phase::Done);
-        Ok(Commit::Done)
+        self.progress.open_entries()
     }
 
     /// The history so far.
@@ -158,6 +176,7 @@ fn turn_at_line(line: Option<&Line>) -> Turn
 {
     match line {
         None => Turn::Finished,
+        Some(line) if is_change(&line.call) => Turn::Change,
         Some(_) => Turn::Entry,
     }
 }

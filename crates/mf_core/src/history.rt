@@ -1,7 +1,7 @@
 //! Histories: the registrations at boot, and the events of the tasks in the order in which they came.
 ghost use Rattle.std.specs.Prelude.{◌≡◌, ◌<◌, [], ◌∷◌, ◌++◌, length, IfOk};
 
-use crate::reply::Reply;
+use mf_plan::Reply;
 use mf_policy::Registration;
 use mf_script::Listing;
 use std::alloc::{AllocError, Global};

@@ -1,26 +1,19 @@
-//! The sequential framework: plans of calls, the answers of the policies, replies, effects, and the legal history of a run.
+//! The sequential framework: the core of a run, its opening state, and the legal history that it keeps.
 #![tactic(auto)]
 
-mod answers;
+mod booting;
+mod following;
 mod framework;
 mod history;
 mod opening;
-mod plan;
-mod planning;
-mod policies;
 mod progress;
-mod reply;
-mod replying;
-mod state;
+mod step;
 
-pub use answers::{Denial, Verdict};
 pub use framework::Core;
 pub use history::{BootList, Event, EventList, History};
-pub use plan::{Plan, Tail};
-pub use policies::{Answer, Policies};
-pub use progress::{Commit, Phase, Progress, ProgressList, Turn};
-pub use reply::{Head, Payload, Reply};
-pub use state::{Entities, Entity, State};
+pub use mf_plan::{Payload, Plan, Reply};
+pub use mf_step::{Denial, Verdict};
+pub use progress::{Commit, Outcome, Phase, Progress, ProgressList, Turn};
 
 #[cfg(test)]
 mod tests;

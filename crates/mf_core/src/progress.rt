@@ -1,6 +1,6 @@
 //! How far each task of a script is.
-ghost use Rattle.std.specs.Prelude.{◌≡◌, ◌<◌, ◌+◌, ◌^◌, length, map, IfOk};
-ghost use Rattle.mf_core.specs.Progress.{left};
+ghost use Rattle.std.specs.Prelude.{◌≡◌, ◌<◌, ◌≤◌, ◌+◌, ◌^◌, length, map, IfOk};
+ghost use Rattle.mf_core.specs.Progress.{left, open_in};
 
 use mf_script::{Listing, Task};
 use std::alloc::{AllocError, Global};
@@ -41,6 +41,13 @@ pub enum Commit {
     Stale,
 }
 
+/// How a change went: it is made, or it waits, since so many entries are open.
+#[derive(Clone, Copy, Debug, PartialEq, Eq)]
+pub enum Outcome {
+    Done,
+    Waits(u32),
+}
+
 /// The progress of each task of a script, in their order. Contracts see the list.
 #[derive(Drop)]
 pub struct ProgressList {
@@ -57,7 +64,7 @@ impl Model for ProgressList {
 }
 
 impl ProgressList {
-    ghost use Rattle.mf_core.specs.Progress.{progress_at, first_progress, with_phase, with_left};
+    ghost use Rattle.mf_core.specs.Progress.{progress_at, first_progress, open_entries, with_phase, with_left, with_line};
 
     /// Each task before its first line.
     pub fn for_tasks(alloc: Global, tasks: &Listing<Task>) -> Result<Self, AllocError>
@@ -98,6 +105,41 @@ impl ProgressList {
     {
         let progress = self.at(task);
         self.items[task] = left(progress);
+    }
+
+    /// One more line of the task is done.
+    pub fn advance(&mut self, task: usize)
+        requires task { task < length self.old }
+        requires room { (progress_at self.old task).lines + 1 < 2 ^ 32 }
+        ensures { self.new ≡ with_line self.old task }
+    {
+        let lines = self.items[task].lines + 1;
+        self.items[task] = Progress {
+            lines,
+            phase: Phase::Idle,
+        };
+    }
+
+    /// How many entries are open.
+    pub fn open_entries(&self) -> u32
+        requires { length self.now ≤ 16 }
+        ensures { result ≡ open_entries self.now }
+    {
+        let mut count = 0;
+        for progress in &self.items {
+            count += open_in(progress.phase);
+        }
+        count
+    }
+}
+
+/// 1 where the entry of the phase is open, and else 0.
+fn open_in(phase: Phase) -> u32
+    ensures { result ≡ open_in phase }
+{
+    match phase {
+        Phase::Idle | Phase::Stopped => 0,
+        Phase::Entered | Phase::Done => 1,
     }
 }
 

@@ -1,6 +1,10 @@
-use Rattle.std.proofs.Common.{◌≡◌, ◌++◌, map, take}
-use Rattle.mf_core.specs.Opening.{file_entity}
+use Rattle.std.proofs.Common.{◌≡◌, ◌+◌, take}
+use Rattle.std.specs.Prelude.{fold}
+use Rattle.mf_core.specs.Opening.{HasAtMost, with_file}
 use Rattle.mf_core.proofs.opening.add_files.Given as goal
 
 abbrev pub invariant-loop-file : goal.invariant-loop-file
-invariant-loop-file l = l.entities ≡ l.fn.entities ++ map (file_entity l.boots) (take l.file-index l.files)
+invariant-loop-file l = record {
+  value : l.objects ≡ fold (with_file l.listed) l.fn.objects (take l.file-index l.file-items);
+  few : HasAtMost l.objects (1 + l.file-index);
+}

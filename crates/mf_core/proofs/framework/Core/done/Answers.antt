@@ -1,27 +1,51 @@
-use Rattle.std.proofs.Common.{◌≡◌, refl, ap, sym, ◌∙◌, ◌+◌, slice_get, Some, subst, List, ℕ}
-use Rattle.mf_core.specs.declared.progress.Progress.{Progress}
-use Rattle.mf_core.specs.Plan.{plan_of}
-use Rattle.mf_core.specs.Answer.{verdict_of}
-use Rattle.mf_script.specs.WellFormed.{lines_of}
-use Rattle.mf_core.proofs.Consistency.{policies_here, moves_on, consistent_commit, done_room, turn_here, below_here}
+use Rattle.std.proofs.Common.{refl}
+use Rattle.mf_list.proofs.Counts.{listed_few}
+use Rattle.mf_core.proofs.Calls.{WasDone, done_consistent, done_specs}
+use Rattle.mf_core.proofs.Consistency.{done_room}
+use Rattle.mf_core.proofs.Insides.{below_here, moves_on, turn_here}
 use Rattle.mf_core.proofs.framework.Core.done.Goals as goal
 
+pub step-requires-clause-few : goal.step-requires-clause-few
+step-requires-clause-few g c = listed_few _ c.self.invariant.once
+
 pub push-requires : goal.push-requires
-push-requires c =
-    let lt = below_here _ _ _ _ c.self.view_is c.requires.task in
-    let turn = turn_here _ _ _ _ _ _ _ c.self.view_is c.self.invariant c.requires.turn in
+push-requires g c =
+    let lt = below_here _ _ _ _ _ c.self.view_is c.self.invariant _ c.requires.task in
+    let turn = turn_here _ _ _ _ _ c.self.view_is c.self.invariant _ _ c.requires.turn in
     done_room _ _ _ _ _ c.self.invariant lt turn
 
 pub invariant_of-self-2 : goal.invariant_of-self-2
-invariant_of-self-2 c =
-    let lt = below_here _ _ _ _ c.self.view_is c.requires.task in
-    let turn = turn_here _ _ _ _ _ _ _ c.self.view_is c.self.invariant c.requires.turn in
-    let P : Progress → Type 0 = λ progress. slice_get (lines_of c.self.inside.script.now c.args.task) progress.lines ≡ Some c.line_at-line.result.now in
-    let next = subst P c.at-progress.ensures c.line_at-line.ensures in
-    let plan = ap (λ (name : List ℕ). plan_of c.self.inside.state name c.line_at-line.result.now.call) (sym c.name_of-caller.ensures) ∙ (sym c.plan_of-current.ensures ∙ c.same.ensures.0 c.if-not-same.false) in
-    let policies = policies_here _ _ _ _ _ c.self.view_is c.self.invariant in
-    rw (c.push.ensures, c.set_phase.ensures) (consistent_commit _ _ _ _ _ c.self.invariant lt c.line_at-line.result.now c.args.plan.now c.args.verdict.now c.payload_of-payload.result _ _ _ turn
-    (ap (λ x. x.lines + 1) c.at-progress.ensures) next plan (c.requires.verdict ∙ ap (λ policies. verdict_of policies c.args.plan.now) policies) c.payload_of-payload.ensures c.reply_to-reply.ensures c.in_ok-apply.ensures.ok)
+invariant_of-self-2 g c =
+    let was : WasDone c.self.inside.script.now c.self.inside.state c.self.inside.progress c.args.task c.at-lines.result c.line_at-line.result.now c.name_of-name.result.now c.in_ok-reply.reply c.step.new.state =
+        record {
+          here = c.at-lines.ensures;
+          next = c.line_at-line.ensures;
+          named = c.name_of-name.ensures;
+          replied = c.in_ok-reply.ensures.reply;
+          moved = c.in_ok-reply.ensures.state;
+          booted = c.step.ensures.booted;
+          ids = c.step.ensures.ids;
+        } in
+    done_consistent c.args.self.now c.self.inside.script.now c.self.inside.history c.self.inside.state c.self.inside.progress c.self.view_is c.self.invariant
+    c.args.task c.at-lines.result c.line_at-line.result.now c.name_of-name.result.now c.in_ok-reply.reply c.step.new.state c.push.new.self c.requires.task was
+    c.set_phase.new.self c.requires.turn c.push.ensures c.set_phase.ensures
 
 pub returns-clause-progress : goal.returns-clause-progress
-returns-clause-progress c = moves_on _ c.self.inside.script.now c.self.inside.history _ _ c.push.new.self _ c.args.task _ c.self.view_is c.self.invariant c.requires.task c.push.ensures refl
+returns-clause-progress g c =
+    moves_on _ c.self.inside.script.now c.self.inside.history _ _ c.self.view_is c.self.invariant c.push.new.self _ c.args.task _ c.push.ensures c.requires.task refl
+
+pub returns-clause-specs : goal.returns-clause-specs
+returns-clause-specs g c =
+    let was : WasDone c.self.inside.script.now c.self.inside.state c.self.inside.progress c.args.task c.at-lines.result c.line_at-line.result.now c.name_of-name.result.now c.in_ok-reply.reply c.step.new.state =
+        record {
+          here = c.at-lines.ensures;
+          next = c.line_at-line.ensures;
+          named = c.name_of-name.ensures;
+          replied = c.in_ok-reply.ensures.reply;
+          moved = c.in_ok-reply.ensures.state;
+          booted = c.step.ensures.booted;
+          ids = c.step.ensures.ids;
+        } in
+    done_specs c.args.self.now c.self.inside.script.now c.self.inside.history c.self.inside.state c.self.inside.progress c.self.view_is c.self.invariant
+    c.args.task c.at-lines.result c.line_at-line.result.now c.name_of-name.result.now c.in_ok-reply.reply c.step.new.state c.push.new.self c.requires.task was
+    c.requires.turn c.push.ensures

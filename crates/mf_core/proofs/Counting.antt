@@ -1,0 +1,97 @@
+-- How often modules are listed and held.
+use Rattle.std.proofs.Common.{◌≡◌, ◌≢◌, ℕ, zero, suc, ◌+◌, ◌<◌, ◌≤◌, Bool, true, false, cond, not, ◌&&◌, ◌||◌, List, [], ◌∷◌, ◌++◌, length, get_or, take, map, refl, ap, sym, ◌∙◌, subst, arith}
+use Rattle.std.specs.Prelude.{All}
+use Rattle.std.specs.List.{list_any}
+use Rattle.std.proofs.lemmas.List.Elements.{All-nil, All-cons}
+use Rattle.mf_errno.specs.declared.module.Module.{Module}
+use Rattle.mf_errno.specs.declared.module.Module.TheVariants.{Biba, Mls, Partition, Bsdextended, Priority}
+use Rattle.mf_policy.specs.declared.registration.Registration.{Registration}
+use Rattle.mf_policy.specs.Modules.{has_spec}
+use Rattle.mf_policy.specs.Registration.{Entry}
+use Rattle.mf_list.specs.Held.{how_many, are_distinct}
+use Rattle.mf_list.specs.Lists.{in_catalogue, is_of, same_module}
+use Rattle.mf_list.proofs.Places.{same_module-is}
+use Rattle.mf_core.specs.Opening.{registrations_in}
+use Rattle.mf_core.specs.Policies.{AreAllModules, AreAllThere, times_wanted}
+
+pub same_module-self : (m : Module) → same_module m m ≡ true
+same_module-self Biba = refl
+same_module-self Mls = refl
+same_module-self Partition = refl
+same_module-self Bsdextended = refl
+same_module-self Priority = refl
+
+pub same_module-other : (a b : Module) → a ≢ b → same_module a b ≡ false
+same_module-other a b other =
+    elim (same_module a b) as (λ r. same_module a b ≡ r → r ≡ false) [
+      | true ↦ λ same. absurd (other (same_module-is a b same))
+      | false ↦ λ _. refl
+    ] refl
+
+-- nothing passes where none is counted, and something does where one is
+
+pub none_passes : {X : Type 0} (p : X → Bool) (xs : List X) → how_many p xs ≡ 0 → list_any p xs ≡ false
+none_passes p [] none = refl
+none_passes p (x ∷ xs) none =
+    elim (p x) as (λ b. cond b 1 0 + how_many p xs ≡ 0 → (b || list_any p xs) ≡ false) [
+      | true ↦ λ none. absurd (omega arith)
+      | false ↦ λ none. none_passes p xs (omega arith)
+    ] none
+
+pub some_passes : {X : Type 0} (p : X → Bool) (xs : List X) → 0 < how_many p xs → list_any p xs ≡ true
+some_passes p [] some = absurd (omega arith)
+some_passes p (x ∷ xs) some =
+    elim (p x) as (λ b. 0 < cond b 1 0 + how_many p xs → (b || list_any p xs) ≡ true) [
+      | true ↦ λ some. refl
+      | false ↦ λ some. some_passes p xs (omega arith)
+    ] some
+
+pub none_counted : {X : Type 0} (p : X → Bool) (xs : List X) → list_any p xs ≡ false → how_many p xs ≡ 0
+none_counted p [] none = refl
+none_counted p (x ∷ xs) none =
+    elim (p x) as (λ b. (b || list_any p xs) ≡ false → cond b 1 0 + how_many p xs ≡ 0) [
+      | true ↦ λ none. cc
+      | false ↦ λ none. omega (arith, none_counted p xs none)
+    ] none
+
+-- the first elements are not counted where none of them passes
+pub none_before : {X : Type 0} (p : X → Bool) (xs : List X) (n : ℕ) → n ≤ length xs
+    → ((i : ℕ) (d : X) → i < n → p (get_or xs i d) ≡ false) → how_many p (take n xs) ≡ 0
+none_before p xs zero within none = refl
+none_before p [] (suc n) within none = absurd (omega arith)
+none_before p (x ∷ xs) (suc n) within none =
+    omega (arith, ap {B = ℕ} (λ (b : Bool). cond b 1 0) (none 0 x (omega arith)), none_before p xs n (omega arith) (λ i d lt. none (suc i) d (omega arith)))
+
+-- Modules
+
+-- where each module that there is stands once, none stands twice
+
+pub wanted_once : (m : Module) → times_wanted m ≤ 1
+wanted_once Biba = omega arith
+wanted_once Mls = omega arith
+wanted_once Partition = omega arith
+wanted_once Bsdextended = omega arith
+wanted_once Priority = omega arith
+
+distinct_if_once : (ms : List Module) → ((m : Module) → how_many (same_module m) ms ≤ 1) → are_distinct ms ≡ true
+distinct_if_once [] once = refl
+distinct_if_once (m ∷ ms) once =
+    let here : how_many (same_module m) ms ≡ 0 = omega (arith, once m, ap {B = ℕ} (λ (b : Bool). cond b 1 0) (same_module-self m)) in
+    rw (none_passes (same_module m) ms here) (distinct_if_once ms (λ k. omega (arith, once k)))
+
+pub distinct_modules : (ms : List Module) → AreAllModules ms → are_distinct ms ≡ true
+distinct_modules ms all = distinct_if_once ms (λ m. omega (arith, all m, wanted_once m))
+
+wanted_there : (b : Bool) → 1 ≤ cond b 1 0 → b ≡ true
+wanted_there true some = refl
+wanted_there false some = absurd (omega arith)
+
+-- a list in which no module stands more often than it is wanted is of modules that there are
+pub listed_there : (es : List Entry) → ((m : Module) → how_many (is_of m) es ≤ times_wanted m) → AreAllThere (registrations_in es)
+listed_there [] few = All-nil (λ (r : Registration). has_spec r.module ≡ true)
+listed_there (e ∷ es) few =
+    let P : Registration → Type 0 = λ r. has_spec r.module ≡ true in
+    let here = few e.0.module in
+    let own = ap {B = ℕ} (λ (b : Bool). cond b 1 0) (same_module-self e.0.module) in
+    All-cons P e.0 (registrations_in es) (wanted_there (has_spec e.0.module) (omega (arith, here, own)))
+    (listed_there es (λ m. omega (arith, few m)))

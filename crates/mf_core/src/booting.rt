@@ -1,0 +1,85 @@
+//! Registration at boot.
+ghost use Rattle.std.specs.Prelude.{◌≡◌, [], false, All, IfOk, map};
+ghost use Rattle.mf_policy.specs.Modules.{fresh_of, module_of};
+ghost use Rattle.mf_list.specs.Lists.{IsFresh, IsReady};
+ghost use Rattle.mf_list.specs.Registration.{Registers, registration_of};
+ghost use Rattle.mf_script.specs.WellFormed.{AreBoots};
+ghost use Rattle.mf_core.specs.Opening as spec;
+ghost use Rattle.mf_core.specs.Policies.{AreAllModules, AreAllThere, AreOf, CanBoot};
+
+use crate::history::BootList;
+use mf_errno::Module;
+use mf_list::{Catalogue, PolicyList};
+use mf_policy::{Policy, Registration, Spec, SpecList};
+use mf_script::Listing;
+use mf_slots::SlotNumbers;
+use std::alloc::{AllocError, Global};
+
+/// An empty list, and these policies in a catalogue.
+pub fn unlisted<P: Policy>(
+    alloc: Global,
+    modules: Vec<P>,
+) -> Result<(PolicyList<P>, Catalogue<P>), AllocError>
+    requires modules { AreAllModules (map (λ p. module_of (P.spec p)) modules.items) }
+    requires fresh { All (λ p. IsFresh (P.spec p)) modules.items }
+    ensures { IfOk result (λ r. AreOf [] r.0 r.1) }
+{
+    let mut list = PolicyList::new(alloc);
+    let mut catalogue = Catalogue::new(modules);
+    list.ready(&mut catalogue)?;
+    Ok((list, catalogue))
+}
+
+/// Registers these modules in order. Answers the registrations, and the slot numbers with those that they took.
+pub fn register_boots<P: Policy>(
+    alloc: Global,
+    modules: &Listing<Module>,
+    list: &mut PolicyList<P>,
+    catalogue: &mut Catalogue<P>,
+) -> Result<(BootList, SlotNumbers), AllocError>
+    requires boots { AreBoots modules.now }
+    requires policies { AreOf [] list.old catalogue.old }
+    ensures boots { IfOk result (λ r. r.0 ≡ spec.registrations_from 0 modules.now) }
+    ensures numbers { IfOk result (λ r. r.1 ≡ spec.given_by modules.now) }
+    ensures policies { IfOk result (λ r. AreOf (spec.listed_by r.0) list.new catalogue.new) }
+{
+    let mut boots = Listing::new(alloc);
+    let mut numbers = SlotNumbers::new();
+    for booted in modules.as_slice() {
+        let registration = register_boot(list, catalogue, &mut numbers, *booted);
+        boots.push(registration)?;
+    }
+    Ok((boots, numbers))
+}
+
+/// Registers a module before the end of boot.
+fn register_boot<P: Policy>(
+    list: &mut PolicyList<P>,
+    catalogue: &mut Catalogue<P>,
+    numbers: &mut SlotNumbers,
+    booted: Module,
+) -> Registration
+    requires ready { IsReady list.old catalogue.old }
+    requires can { CanBoot booted list.old catalogue.old numbers.old }
+    ensures registration { result ≡ registration_of booted false numbers.old }
+    ensures moves { Registers result list.old list.new catalogue.old catalogue.new numbers.old numbers.new }
+    ensures ready { IsReady list.new catalogue.new }
+{
+    match list.register(catalogue, numbers, booted.name(), false) {
+        Ok(registration) => registration,
+        Err(_) => unreachable!(),
+    }
+}
+
+/// These registrations, each of a policy as it is loaded.
+pub fn loaded_specs(alloc: Global, listed: &[Registration]) -> Result<SpecList, AllocError>
+    requires { AreAllThere listed.now }
+    ensures { IfOk result (λ specs. specs ≡ map (λ r. (r, fresh_of r.«module»)) listed.now) }
+{
+    let mut specs = SpecList::new(alloc);
+    for registration in listed {
+        let fresh = Spec::fresh(alloc, registration.module)?;
+        specs.insert(specs.len(), *registration, fresh)?;
+    }
+    Ok(specs)
+}

@@ -1,0 +1,96 @@
+//! The calls of a core that do the call of a line: commits of entries, and changes.
+ghost use Rattle.std.specs.Prelude.{◌≡◌, ◌<◌, ◌↔◌, length, IfOk, IsTrue, OnErr};
+ghost use Rattle.mf_step.specs.Verdict.{verdict_of};
+ghost use Rattle.mf_core.specs.declared.progress.Turn.TheVariants as turn;
+ghost use Rattle.mf_core.specs.Policies.{AreOf};
+ghost use Rattle.mf_core.specs.Run.{specs_of, progress_of, turn_at, Changes, Commits, IsCurrent, MovesBy, MovesOn};
+
+use super::Core;
+use crate::following::follow;
+use crate::history::Event;
+use crate::progress::{Commit, Outcome, Phase};
+use crate::step::{child_of, step};
+use mf_list::{Catalogue, PolicyList};
+use mf_plan::{Plan, plan_of};
+use mf_policy::Policy;
+use mf_step::Verdict;
+use std::alloc::{AllocError, Global};
+
+impl<'s> Core<'s> {
+    /// Does the call of the task's entry, where `plan` is still its plan and the list has still the policies of now, with the
+    /// meanings that they have now. After want of memory nothing has changed.
+    pub fn done<P: Policy>(
+        &mut self,
+        alloc: Global,
+        task: u32,
+        list: &PolicyList<P>,
+        plan: &Plan,
+        verdict: &Verdict,
+    ) -> Result<Commit, AllocError>
+        requires task { task < length self.old.script.tasks }
+        requires turn { turn_at self.old task ≡ turn.Entered }
+        requires verdict { verdict.now ≡ verdict_of list.now.entries plan.now }
+        ensures commit { IfOk result (λ commit. Commits self.old task list.now.entries plan.now commit self.new) }
+        ensures progress { IfOk result (λ commit. MovesOn commit (progress_of self.old) task (progress_of self.new)) }
+        ensures specs { specs_of self.new ≡ specs_of self.old }
+        ensures err { OnErr result (self.new ≡ self.old) }
+    {
+        if !self.is_current(task, list, plan) {
+            return Ok(Commit::Stale);
+        }
+        let lines = self.progress.at(task as usize).lines;
+        let line = self.script.line_at(task, lines);
+        let name = self.script.name_of(task);
+        let reply = step(alloc, &mut self.state, name, line, plan, verdict)?;
+        self.history
+            .events
+            .push(Event::Done(task, lines + 1, reply));
+        self.progress.set_phase(task as usize, Phase::Done);
+        Ok(Commit::Done)
+    }
+
+    /// Whether the plan is that of the task's call, and the list has the policies of now.
+    fn is_current<P: Policy>(&self, task: u32, list: &PolicyList<P>, plan: &Plan) -> bool
+        requires task { task < length self.now.script.tasks }
+        requires turn { turn_at self.now task ≡ turn.Entered }
+        ensures { IsTrue result ↔ IsCurrent self.now task list.now.entries plan.now }
+    {
+        self.plan(task).same(plan) && list.same_specs(&self.state.specs)
+    }
+
+    /// Makes the change of the task's next line, where no entry is open. The list and the catalogue are those that came with
+    /// this core. After want of memory nothing has changed.
+    pub fn change<P: Policy>(
+        &mut self,
+        alloc: Global,
+        task: u32,
+        list: &mut PolicyList<P>,
+        catalogue: &mut Catalogue<P>,
+    ) -> Result<Outcome, AllocError>
+        requires task { task < length self.old.script.tasks }
+        requires turn { turn_at self.old task ≡ turn.Change }
+        requires policies { AreOf (specs_of self.old) list.old catalogue.old }
+        ensures outcome { IfOk result (λ outcome. Changes self.old task outcome self.new) }
+        ensures progress { IfOk result (λ outcome. MovesBy outcome (progress_of self.old) task (progress_of self.new)) }
+        ensures policies { AreOf (specs_of self.new) list.new catalogue.new }
+        ensures err { OnErr result (self.new ≡ self.old) }
+    {
+        let waiting = self.open_entries();
+        if waiting > 0 {
+            return Ok(Outcome::Waits(waiting));
+        }
+        let lines = self.progress.at(task as usize).lines;
+        let line = self.script.line_at(task, lines);
+        let name = self.script.name_of(task);
+        let plan = plan_of(&self.state, name, child_of(line), &line.call);
+        let verdict = Core::walk(list, &plan);
+        let mut numbers = self.state.numbers.copy();
+        let reply = step(alloc, &mut self.state, name, line, &plan, &verdict)?;
+        follow(list, catalogue, &mut numbers, &reply, &line.call);
+        self.history
+            .events
+            .push(Event::Changed(task, lines + 1, reply));
+        self.progress.advance(task as usize);
+        Ok(Outcome::Done)
+    }
+}
