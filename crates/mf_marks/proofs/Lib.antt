@@ -1,0 +1,11 @@
+mod Finding
+mod Shape
+mod Entities
+mod Listing
+mod Boots
+mod Openings
+mod Kept
+mod Marked
+mod Leading
+mod Files
+mod Whole

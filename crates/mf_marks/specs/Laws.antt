@@ -1,0 +1,62 @@
+-- What is true of the opening state, and of label slots and their marks over every legal history.
+use Rattle.std.specs.Prelude.{◌≡◌, ◌≢◌, ℕ, ◌<◌, ◌+◌, true, List, [], ◌∷◌, length, Some, None, Contains}
+use Rattle.mf_elem.specs.declared.label.LabelValue.{LabelValue}
+use Rattle.mf_elem.specs.declared.label.LabelValue.TheVariants.{Unset, Range, Number}
+use Rattle.mf_item.specs.declared.view.Kind.{Kind}
+use Rattle.mf_policy.specs.declared.registration.Registration.{Registration}
+use Rattle.mf_objects.specs.declared.id.Id.{Id}
+use Rattle.mf_objects.specs.Live.{Live, live_at}
+use Rattle.mf_script.specs.declared.script.Script.{Script}
+use Rattle.mf_script.specs.WellFormed.{IsWellFormed}
+use Rattle.mf_plan.specs.declared.state.State.{State}
+use Rattle.mf_core.specs.declared.history.History.{History}
+use Rattle.mf_core.specs.Opening.{opening_state}
+use Rattle.mf_core.specs.LegalHistory.{run_state_of, IsLegal}
+use Rattle.mf_marks.specs.Marks.{Mark, labellers, value_in, is_set, marks_of}
+use Rattle.mf_marks.specs.Marks.Mark.{Made, Ended, Left}
+
+-- The slot was never made; or it was made, and may have ended once, under one and the same registration.
+pub data AreOnce : List Mark → Type 0 where
+  never : AreOnce []
+  made : (r : Registration) → AreOnce (Made r ∷ [])
+  ended : (r : Registration) → AreOnce (Made r ∷ Ended r ∷ [])
+  left : (r : Registration) → AreOnce (Made r ∷ Left r ∷ [])
+
+-- the state at the end of a history
+abbrev pub state_of : Script → History → State
+state_of s h = (run_state_of s h.events.list).state
+
+-- Each of the four label slots of each entity is made at most once and ended at most once.
+abbrev pub SlotsAreMadeOnce : Type 0
+SlotsAreMadeOnce = (s : Script) (h : History) (id : Id) (slot : ℕ) → IsLegal s h → slot < 4 → AreOnce (marks_of s h.events.list id slot)
+
+-- an unset slot has no mark, and a set one has been made, by some registration, and hasn't ended
+abbrev pub AreMarksOf : LabelValue → List Mark → Type 0
+AreMarksOf Unset marks = marks ≡ []
+AreMarksOf (Range label) marks = (r : Registration) × (marks ≡ Made r ∷ [])
+AreMarksOf (Number n) marks = (r : Registration) × (marks ≡ Made r ∷ [])
+
+-- A slot of a live entity is unset exactly where it has no mark.
+abbrev pub SetSlotsAreMarked : Type 0
+SetSlotsAreMarked = (s : Script) (h : History) (id : Id) (e : Live) (slot : ℕ) → IsLegal s h → live_at (state_of s h).objects id ≡ Some e → slot < 4
+    → AreMarksOf (value_in slot e) (marks_of s h.events.list id slot)
+
+-- A slot of an entity that has gone isn't left as it was made: it was never made, or it has ended.
+abbrev pub GoneSlotsHaveEnded : Type 0
+GoneSlotsHaveEnded = (s : Script) (h : History) (id : Id) (slot : ℕ) (r : Registration) → IsLegal s h → live_at (state_of s h).objects id ≡ None → slot < 4
+    → marks_of s h.events.list id slot ≢ Made r ∷ []
+
+-- The registration alone is listed with this slot, and labels entities of every kind; and the slot of each live entity is set.
+pub record LabelsAll (r : Registration) (slot : ℕ) (state : State) : Type 0 where
+  pub listed : (kind : Kind) → labellers state.specs kind slot ≡ r ∷ []
+  pub set : (id : Id) (e : Live) → live_at state.objects id ≡ Some e → is_set (value_in slot e) ≡ true
+
+-- What was booted for good, with a label slot, labels all entities at any time.
+abbrev pub BootedPoliciesLast : Type 0
+BootedPoliciesLast = (s : Script) (h : History) (r : Registration) (slot : ℕ) → IsLegal s h → Contains h.boots r → r.fixed ≡ true → r.slot ≡ Some slot → slot < 4
+    → LabelsAll r slot (state_of s h)
+
+-- In the opening state of a well-formed script no file and no task is missing: beside the root directory as many entities live as there
+-- are files and tasks.
+abbrev pub OpeningIsWhole : Type 0
+OpeningIsWhole = (s : Script) → IsWellFormed s → length (opening_state s).objects.live ≡ 1 + length s.files + length s.tasks
