@@ -1,1 +1,3 @@
 pub mod ReplyText
+pub mod HistoryText
+pub mod OneText

@@ -1,10 +1,14 @@
-use crate::print_reply;
+use crate::{print_event, print_history, print_reply, text_tells_history};
+use mf_core::{Event, EventList, History};
 use mf_cred::{ArrayVec, FileView};
 use mf_errno::{Errno, Module};
 use mf_item::CheckOp;
 use mf_objects::{Head, NameList};
 use mf_plan::{Loaded, Payload, Reply};
+use mf_policy::Registration;
+use mf_script::{Listing, read_script};
 use std::alloc::AllocError;
+use std::test::Fail;
 
 const DIRECTORY: FileView = FileView {
     uid: 0,
@@ -86,5 +90,31 @@ fn replies_and_their_texts(rt: HostRuntime) -> Result<(), AllocError> {
         print_reply(rt.alloc(), reply, &mut out)?;
         assert_eq!(rt; out.as_str(), *text);
     }
+    Ok(())
+}
+
+#[test]
+fn lines_of_a_history(rt: HostRuntime) -> Result<(), Fail> {
+    let script = read_script(rt.alloc(), b"task t uid 0 gid 0 label -\nend\n")?;
+    let mut boots = Listing::new(rt.alloc());
+    boots.push(Registration {
+        module: Module::Biba,
+        slot: Some(0),
+        fixed: true,
+    })?;
+    let mut events = EventList::with_room(rt.alloc(), 4)?;
+    events.push(Event::Enter(0));
+    events.push(Event::Done(0, 1, Reply::Ok(Payload::None)));
+    events.push(Event::Leave(0));
+    events.push(Event::Changed(0, 2, Reply::Refused(Errno::Eexist)));
+    let history = History { boots, events };
+    let mut out = String::new(rt.alloc());
+    print_history(rt.alloc(), &script, &history, &mut out)?;
+    print_event(rt.alloc(), &script, &Event::Enter(0), &mut out)?;
+    assert_eq!(rt;
+        out.as_str(),
+        "boot mac_biba 0\nenter t\ndone t 1 ok\nleave t\nchanged t 2 no EEXIST - -\nenter t\n"
+    );
+    text_tells_history();
     Ok(())
 }

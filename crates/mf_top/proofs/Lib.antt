@@ -2,5 +2,4 @@ pub mod Fronts
 pub mod Told
 pub mod Pieces
 pub mod Words
-pub mod OneHistory
 pub mod NoFaults

@@ -9,7 +9,7 @@ use Rattle.mf_top.specs.declared.refusal.Refusal.{Refusal}
 use Rattle.mf_top.specs.declared.refusal.Refusal.TheVariants as refusal
 use Rattle.mf_top.specs.Outside.{Seen, FaultsRose, Took, TookPart}
 use Rattle.mf_top.specs.Reading.{IsTooLong, most_script}
-use Rattle.mf_top.specs.HistoryText.{history_text}
+use Rattle.mf_hist.specs.HistoryText.{history_text}
 
 -- the text is that of a history which is legal and complete for the script
 abbrev pub IsRunOf : Script → List ℕ → Type 0

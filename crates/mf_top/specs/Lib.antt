@@ -4,8 +4,6 @@ pub mod Held
 pub mod Memory
 pub mod Sure
 pub mod Reading
-pub mod HistoryText
-pub mod OneText
 pub mod Answers
 pub mod Refusals
 pub mod Outcomes

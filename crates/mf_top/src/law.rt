@@ -1,20 +1,14 @@
-//! Laws of the program: what its texts tell, and which of its answers never come where nothing fails.
+//! Which of the program's answers never come where nothing fails.
 ghost use Rattle.std.specs.Prelude.{◌≢◌, List, ℕ, Result, map, string_bytes};
 ghost use Rattle.mf_top.specs.declared.refusal.Refusal.{Refusal};
 ghost use Rattle.mf_top.specs.Answers.{IsOutcome, IsWritten};
 ghost use Rattle.mf_top.specs.Sure.{seen_source, seen_sink};
-ghost use Rattle.mf_top.specs.OneText.{TextTellsHistory};
 
 use crate::io::{SureSink, SureSource};
 use crate::top::macsim;
 use std::alloc::Global;
 use std::sync::Wait;
 use std::thread::Threads;
-
-/// Two different legal histories of one script have different texts.
-pub fn text_tells_history()
-    ensures { TextTellsHistory }
-{}
 
 /// The program over a source and a sink that never fail: it answers neither 4 nor 5.
 pub fn run_surely<R: Threads + Wait + Sync>(

@@ -3,7 +3,6 @@
 
 pub mod io;
 pub mod law;
-mod print;
 mod read;
 mod refusal;
 mod run;

@@ -8,7 +8,7 @@ use Rattle.mf_script.specs.declared.script.Task.{Task}
 use Rattle.mf_script.specs.WellFormed.{lines_of, name_of, IsWellFormed}
 use Rattle.mf_script.specs.Parts.{is_name, is_name_byte, is_some_text}
 use Rattle.std.specs.List.{list_all}
-use Rattle.mf_core.specs.declared.reply.Reply.{Reply}
+use Rattle.mf_plan.specs.declared.reply.Reply.{Reply}
 use Rattle.mf_core.specs.declared.progress.Progress.{Progress}
 use Rattle.mf_core.specs.declared.progress.Turn.{Turn}
 use Rattle.mf_core.specs.declared.progress.Turn.TheVariants as turn
@@ -20,8 +20,9 @@ use Rattle.std.proofs.Common.{inl, inr}
 use Rattle.mf_core.specs.declared.progress.Phase.TheVariants as phase
 use Rattle.mf_core.specs.Progress.{first_progress, progress_at}
 use Rattle.mf_core.specs.LegalHistory.{RunState, turn_in, turn_of, MayCome, AllMayCome, after, opening, next_reply}
-use Rattle.mf_top.specs.HistoryText.{event_text, reply_text, boot_text}
-use Rattle.mf_top.specs.OneText.{TextTellsHistory}
+use Rattle.mf_hist.specs.HistoryText.{event_text, boot_text}
+use Rattle.mf_hist.specs.ReplyText.{reply_text}
+use Rattle.mf_hist.specs.OneText.{TextTellsHistory}
 
 -- the byte isn't among these
 abbrev pub Lacks : ℕ → List ℕ → Type 0

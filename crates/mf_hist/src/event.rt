@@ -1,14 +1,28 @@
 //! The line of an event.
-ghost use Rattle.std.specs.Prelude.{◌≡◌, ◌++◌, OnOk, string_bytes};
+ghost use Rattle.std.specs.Prelude.{◌≡◌, ◌++◌, OnOk, OnErr, string_bytes};
 ghost use Rattle.mf_script.specs.WellFormed.{name_of};
-ghost use Rattle.mf_top.specs.HistoryText.{event_text};
+ghost use Rattle.mf_hist.specs.HistoryText.{event_text};
 
-use crate::print::reply::push_reply;
+use crate::reply::push_reply;
 use mf_core::Event;
 use mf_script::Script;
 use std::alloc::{AllocError, Global};
 
-/// Appends the line of the event of a history of the script.
+/// Appends the line of an event of the script's tasks. Without memory `out` is as before.
+pub fn print_event(
+    alloc: Global,
+    script: &Script,
+    event: &Event,
+    out: &mut String,
+) -> Result<(), AllocError>
+    ensures ok { OnOk result (string_bytes out.new ≡ string_bytes out.old ++ event_text script.now event.now) }
+    ensures err { OnErr result (string_bytes out.new ≡ string_bytes out.old) }
+{
+    let mut text = String::new(alloc);
+    push_event(alloc, script, event, &mut text)?;
+    out.push_str(text.as_str())
+}
+
 pub(crate) fn push_event(
     alloc: Global,
     script: &Script,

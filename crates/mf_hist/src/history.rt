@@ -1,22 +1,37 @@
 //! The text of a whole history.
-ghost use Rattle.std.specs.Prelude.{◌≡◌, ◌++◌, OnOk, IfOk, string_bytes};
+ghost use Rattle.std.specs.Prelude.{◌≡◌, ◌++◌, OnOk, OnErr, IfOk, string_bytes};
 ghost use Rattle.std.specs.List.{flat_map};
-ghost use Rattle.mf_top.specs.HistoryText.{event_text, slot_text, boot_text, history_text};
+ghost use Rattle.mf_hist.specs.HistoryText.{event_text, boot_text, history_text};
 
-use crate::print::event::push_event;
+use crate::event::push_event;
+use crate::reply::push_slot;
 use mf_core::{Event, History};
 use mf_policy::Registration;
 use mf_script::Script;
 use std::alloc::{AllocError, Global};
 
-/// The text of a history of the script: a line for each registration at boot, then a line for each event.
-pub fn history_text(alloc: Global, script: &Script, history: &History) -> Result<String, AllocError>
+/// Appends the text of a history of the script: a line for each registration at boot, then a line for each event. Without memory
+/// `out` is as before.
+pub fn print_history(
+    alloc: Global,
+    script: &Script,
+    history: &History,
+    out: &mut String,
+) -> Result<(), AllocError>
+    ensures ok { OnOk result (string_bytes out.new ≡ string_bytes out.old ++ history_text script.now history.now) }
+    ensures err { OnErr result (string_bytes out.new ≡ string_bytes out.old) }
+{
+    let text = text_of(alloc, script, history)?;
+    out.push_str(text.as_str())
+}
+
+fn text_of(alloc: Global, script: &Script, history: &History) -> Result<String, AllocError>
     ensures { IfOk result (λ text. string_bytes text ≡ history_text script.now history.now) }
 {
-    let mut out = String::new(alloc);
-    push_boots(history.boots.as_slice(), &mut out)?;
-    push_events(alloc, script, history.events.as_slice(), &mut out)?;
-    Ok(out)
+    let mut text = String::new(alloc);
+    push_boots(history.boots.as_slice(), &mut text)?;
+    push_events(alloc, script, history.events.as_slice(), &mut text)?;
+    Ok(text)
 }
 
 fn push_boots(boots: &[Registration], out: &mut String) -> Result<(), AllocError>
@@ -36,15 +51,6 @@ fn push_boot(boot: &Registration, out: &mut String) -> Result<(), AllocError>
     out.push_str(" ")?;
     push_slot(boot.slot, out)?;
     out.push_str("\n")
-}
-
-fn push_slot(slot: Option<u8>, out: &mut String) -> Result<(), AllocError>
-    ensures { OnOk result (string_bytes out.new ≡ string_bytes out.old ++ slot_text slot) }
-{
-    match slot {
-        None => out.push_str("-"),
-        Some(number) => write!(out, "{number}"),
-    }
 }
 
 fn push_events(

@@ -1,0 +1,7 @@
+//! What texts tell.
+ghost use Rattle.mf_hist.specs.OneText.{TextTellsHistory};
+
+/// Two different legal histories of one script have different texts.
+pub fn text_tells_history()
+    ensures { TextTellsHistory }
+{}
