@@ -1,9 +1,16 @@
 //! Runs the script on the standard input, and prints its history on the standard output.
 #![tactic(auto)]
 
-use mf_top::io::{StdSink, StdSource};
+use mf_biba::Biba;
+use mf_mls::Mls;
+use mf_partition::Partition;
+use mf_policy::Policy;
+use mf_top::io::{Sink, Source, StdSink, StdSource};
 use mf_top::macsim;
+use std::alloc::{AllocError, Global};
 use std::process::ExitCode;
+use std::sync::Wait;
+use std::thread::Threads;
 use std::{env, io};
 
 /// The exit status for want of memory.
@@ -27,12 +34,27 @@ fn words_of(rt: &HostRuntime) -> io::Result<Vec<String>> {
     Ok(words)
 }
 
+/// Runs the program over the policy modules that there are. The answer is its exit status.
+fn run<S: Source, K: Sink, R: Threads + Wait + Sync>(
+    rt: &R,
+    alloc: Global,
+    words: &[String],
+    source: &mut S,
+    sink: &mut K,
+) -> Result<u8, AllocError> {
+    let mut modules: Vec<Box<dyn Policy + Send + Sync>> = Vec::new(alloc);
+    modules.push(Box::new(alloc, Biba::new())?)?;
+    modules.push(Box::new(alloc, Mls::new())?)?;
+    modules.push(Box::new(alloc, Partition::new())?)?;
+    Ok(macsim(rt, alloc, words, source, sink, modules))
+}
+
 fn main(rt: HostRuntime) -> ExitCode {
     let Ok(words) = words_of(&rt) else {
         return ExitCode::from(NO_MEMORY);
     };
     let mut source = StdSource::new(rt.stdin());
     let mut sink = StdSink::new(rt.stdout());
-    let status = macsim(&rt, rt.alloc(), words.as_slice(), &mut source, &mut sink);
-    ExitCode::from(status)
+    let status = run(&rt, rt.alloc(), words.as_slice(), &mut source, &mut sink);
+    ExitCode::from(status.unwrap_or(NO_MEMORY))
 }

@@ -3,3 +3,6 @@ pub mod Told
 pub mod Pieces
 pub mod Words
 pub mod NoFaults
+pub mod Idle
+pub mod Kept
+pub mod Modules

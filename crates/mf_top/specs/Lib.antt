@@ -4,6 +4,7 @@ pub mod Held
 pub mod Memory
 pub mod Sure
 pub mod Reading
+pub mod Turns
 pub mod Answers
 pub mod Refusals
 pub mod Outcomes

@@ -12,5 +12,6 @@ mod write;
 pub use refusal::Refusal;
 pub use top::macsim;
 
+
 #[cfg(test)]
 mod tests;

@@ -1,8 +1,14 @@
 //! Runs of the whole program, over memory and over standard streams.
 
-use crate::io::{MemSink, MemSource, StdSink, StdSource, SureSink, SureSource};
+mod rows;
+
+use crate::io::{MemSink, MemSource, Sink, Source, StdSink, StdSource, SureSink, SureSource};
 use crate::law::run_surely;
 use crate::top::macsim;
+use mf_biba::Biba;
+use mf_mls::Mls;
+use mf_partition::Partition;
+use mf_policy::Policy;
 use std::alloc::{AllocError, Global};
 use std::process::Abort;
 use std::sync::Wait;
@@ -43,6 +49,36 @@ fn words_of(alloc: Global, word: &str) -> Result<Vec<String>, AllocError> {
     Ok(words)
 }
 
+/// Runs the program over the policy modules that there are. The answer is its exit status.
+fn run<S: Source, K: Sink, R: Threads + Wait + Sync>(
+    rt: &R,
+    alloc: Global,
+    words: &[String],
+    source: &mut S,
+    sink: &mut K,
+) -> Result<u8, AllocError> {
+    let mut modules: Vec<Box<dyn Policy + Send + Sync>> = Vec::new(alloc);
+    modules.push(Box::new(alloc, Biba::new())?)?;
+    modules.push(Box::new(alloc, Mls::new())?)?;
+    modules.push(Box::new(alloc, Partition::new())?)?;
+    Ok(macsim(rt, alloc, words, source, sink, modules))
+}
+
+/// The same over a source and a sink that never fail.
+fn run_over_sure<R: Threads + Wait + Sync>(
+    rt: &R,
+    alloc: Global,
+    words: &[String],
+    source: &mut SureSource,
+    sink: &mut SureSink,
+) -> Result<u8, AllocError> {
+    let mut modules: Vec<Box<dyn Policy + Send + Sync>> = Vec::new(alloc);
+    modules.push(Box::new(alloc, Biba::new())?)?;
+    modules.push(Box::new(alloc, Mls::new())?)?;
+    modules.push(Box::new(alloc, Partition::new())?)?;
+    Ok(run_surely(rt, alloc, words, source, sink, modules))
+}
+
 /// Runs the case over a source that gives at most 64 bytes a call and a sink that takes at most 10.
 fn run_case<R: Abort + Threads + Wait + Sync>(
     rt: &R,
@@ -54,7 +90,7 @@ fn run_case<R: Abort + Threads + Wait + Sync>(
     let mut source = MemSource::new(bytes, 64, case.source_fails.to_vec(alloc)?);
     let mut sink = MemSink::new(alloc, 1000, 10, case.sink_fails.to_vec(alloc)?)?;
     let words = words_of(alloc, case.word)?;
-    let status = macsim(rt, alloc, &words, &mut source, &mut sink);
+    let status = run(rt, alloc, &words, &mut source, &mut sink)?;
     assert_eq!(rt; status, case.status, "{name}");
     assert_eq!(rt; sink.taken(), case.text.as_bytes(), "{name}");
     Ok(())
@@ -171,7 +207,7 @@ fn one_byte_too_long(rt: HostRuntime) -> Result<(), Fail> {
     let mut source = MemSource::new(bytes, 65_536, vec![in rt.alloc()]?);
     let mut sink = MemSink::new(rt.alloc(), 100, 100, vec![in rt.alloc()]?)?;
     let words = words_of(rt.alloc(), "run")?;
-    let status = macsim(&rt, rt.alloc(), &words, &mut source, &mut sink);
+    let status = run(&rt, rt.alloc(), &words, &mut source, &mut sink)?;
     assert_eq!(rt; status, 6);
     assert_eq!(rt; sink.taken(), b"macsim: too long\n".as_slice());
     Ok(())
@@ -182,12 +218,12 @@ fn sure_and_standard_streams(rt: HostRuntime) -> Result<(), Fail> {
     let words = words_of(rt.alloc(), "run")?;
     let mut source = SureSource::new(DENIAL.as_bytes().to_vec(rt.alloc())?);
     let mut sink = SureSink::new(rt.alloc(), 40)?;
-    let status = run_surely(&rt, rt.alloc(), &words, &mut source, &mut sink);
+    let status = run_over_sure(&rt, rt.alloc(), &words, &mut source, &mut sink)?;
     assert_eq!(rt; status, 0);
     let mut written = Vec::new(rt.alloc());
     let mut source = StdSource::new(DENIAL.as_bytes());
     let mut sink = StdSink::new(&mut written);
-    let status = macsim(&rt, rt.alloc(), &words, &mut source, &mut sink);
+    let status = run(&rt, rt.alloc(), &words, &mut source, &mut sink)?;
     assert_eq!(rt; status, 0);
     assert_eq!(rt; written.as_slice(), DENIED.as_bytes());
     Ok(())

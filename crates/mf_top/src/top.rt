@@ -1,5 +1,8 @@
 //! The program's call.
-ghost use Rattle.std.specs.Prelude.{◌≡◌, ◌⊎◌, ◌∷◌, [], List, ℕ, map, codes, Result, string_bytes, IsTrue, ◌↔◌};
+ghost use Rattle.std.specs.Prelude.{◌≡◌, ◌⊎◌, ◌∷◌, [], All, List, ℕ, map, codes, Result, string_bytes, IsTrue, ◌↔◌};
+ghost use Rattle.mf_policy.specs.Modules.{module_of};
+ghost use Rattle.mf_list.specs.Lists.{IsFresh};
+ghost use Rattle.mf_core.specs.Policies.{AreAllModules};
 ghost use Rattle.mf_top.specs.declared.refusal.Refusal.{Refusal};
 ghost use Rattle.mf_top.specs.Outside.{seen};
 ghost use Rattle.mf_top.specs.Answers.{WroteHistory, IsRunWords, IsOutcome, IsWritten, IsFaultless, status_of, text_of};
@@ -8,6 +11,7 @@ ghost use Rattle.mf_top.specs.Outcomes.{bytes_of_outcome};
 use crate::io::{Failed, Sink, Source};
 use crate::refusal::Refusal;
 use crate::{read, run, write};
+use mf_policy::Policy;
 use mf_script::read_script;
 use std::alloc::Global;
 use std::sync::Wait;
@@ -17,14 +21,19 @@ const RUN: &str = "run";
 
 /// Runs the script that the source holds, and writes its history to the sink. The answer is the program's exit status: 0, the
 /// status of a `Refusal`, or 5 where a write failed. `words` are those after the program's name. Nothing is written before the
-/// whole source is read and the run has ended.
-pub fn macsim<S: Source, K: Sink, R: Threads + Wait + Sync>(
+/// whole source is read and the run has ended. `modules` are the policy modules that can be loaded, each module that there is by
+/// now once, and as it is loaded.
+pub fn macsim<S: Source, K: Sink, P: Policy, R: Threads + Wait + Sync>(
     rt: &R,
     alloc: Global,
     words: &[String],
     source: &mut S,
     sink: &mut K,
+    modules: Vec<P>,
 ) -> u8
+    requires modules { AreAllModules (map (λ p. module_of (P.spec p)) modules.items) }
+    requires fresh { All (λ p. IsFresh (P.spec p)) modules.items }
+
     // With 0 the source held a script to its end, and the sink took the text of one history that is legal and
     // complete for it, and nothing else.
     ensures headline { result ≡ 0 → WroteHistory (seen S.left S.faults source.old source.new) (seen K.taken K.faults sink.old sink.new) }
@@ -38,7 +47,7 @@ pub fn macsim<S: Source, K: Sink, R: Threads + Wait + Sync>(
     ensures complete { IsFaultless (map string_bytes words.now) (seen S.left S.faults source.old source.new) (seen K.taken K.faults sink.old sink.new)
         → (result ≡ 0) ⊎ (result ≡ 9) }
 {
-    let outcome = outcome_of(alloc, words, source);
+    let outcome = outcome_of(alloc, words, source, modules);
     match write::write_all(sink, text_of(&outcome).as_bytes()) {
         Ok(()) => status_of(&outcome),
         Err(Failed) => 5,
@@ -46,11 +55,18 @@ pub fn macsim<S: Source, K: Sink, R: Threads + Wait + Sync>(
 }
 
 /// What is to be written: the text of the run's history, or why there is none.
-fn outcome_of<S: Source>(alloc: Global, words: &[String], source: &mut S) -> Result<String, Refusal>
+fn outcome_of<S: Source, P: Policy>(
+    alloc: Global,
+    words: &[String],
+    source: &mut S,
+    modules: Vec<P>,
+) -> Result<String, Refusal>
+    requires modules { AreAllModules (map (λ p. module_of (P.spec p)) modules.items) }
+    requires fresh { All (λ p. IsFresh (P.spec p)) modules.items }
     ensures { IsOutcome (map string_bytes words.now) (seen S.left S.faults source.old source.new) (bytes_of_outcome result) }
 {
     if is_run(words) {
-        run_source(alloc, source)
+        run_source(alloc, source, modules)
     } else {
         Err(Refusal::Usage)
     }
@@ -66,12 +82,18 @@ fn is_run(words: &[String]) -> bool
 }
 
 /// The text of the history of what the source holds.
-fn run_source<S: Source>(alloc: Global, source: &mut S) -> Result<String, Refusal>
+fn run_source<S: Source, P: Policy>(
+    alloc: Global,
+    source: &mut S,
+    modules: Vec<P>,
+) -> Result<String, Refusal>
+    requires modules { AreAllModules (map (λ p. module_of (P.spec p)) modules.items) }
+    requires fresh { All (λ p. IsFresh (P.spec p)) modules.items }
     ensures { IsOutcome (codes "run" ∷ []) (seen S.left S.faults source.old source.new) (bytes_of_outcome result) }
 {
     let bytes = read::read_all(alloc, source)?;
     let script = read_script(alloc, &bytes)?;
-    let text = run::run_script(alloc, &script)?;
+    let text = run::run_script(alloc, &script, modules)?;
     Ok(text)
 }
 
