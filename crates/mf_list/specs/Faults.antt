@@ -1,4 +1,4 @@
--- The errors of kldload(2) and kldunload(2) that a refusal is answered with.
+-- The errno with which a load or an unload is refused.
 use Rattle.mf_errno.specs.declared.errno.Errno.{Errno}
 use Rattle.mf_errno.specs.declared.errno.Errno.TheVariants.{Enoent, Enomem, Ebusy, Eexist}
 use Rattle.mf_list.specs.declared.faults.RegisterFault.{RegisterFault}

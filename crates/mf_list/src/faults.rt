@@ -34,7 +34,7 @@ pub enum UnregisterFault {
 }
 
 impl RegisterFault {
-    /// The error that kldload(2) answers.
+    /// The errno with which a load is refused.
     pub fn errno(self) -> Errno
         ensures { result ≡ register_errno self }
     {
@@ -48,7 +48,7 @@ impl RegisterFault {
 }
 
 impl UnregisterFault {
-    /// The error that kldunload(2) answers.
+    /// The errno with which an unload is refused.
     pub fn errno(self) -> Errno
         ensures { result ≡ unregister_errno self }
     {

@@ -23,7 +23,7 @@ pub data Mark : Type 0 where
   Made : (r : Registration) → Mark
   -- the entity goes while this registration, under which the slot was made, is listed
   Ended : (r : Registration) → Mark
-  -- the entity goes after it has left the list
+  -- the entity goes after that registration has left the list
   Left : (r : Registration) → Mark
 
 -- Who labels

@@ -70,7 +70,7 @@ passes test (Some e) = test e.what
 abbrev pub IsLive : (What → Bool) → Entities → Id → Type 0
 IsLive test objects id = IsTrue (passes test (live_at objects id))
 
--- the live entity of this id is what the fact says
+-- an entity was found, and the fact holds of what it is
 abbrev pub IsLiveWhere : (What → Type 0) → Option Live → Type 0
 IsLiveWhere P None = ⊥
 IsLiveWhere P (Some e) = P e.what

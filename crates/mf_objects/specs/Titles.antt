@@ -83,6 +83,6 @@ abbrev pub title_in : List ℕ → Option Live → List ℕ
 title_in path None = []
 title_in path (Some e) = title_of path e.name e.what
 
--- how histories name the entity: its kind with its name, or with its path
+-- how outputs name the entity: its kind with its name, or with its path
 abbrev pub title_at : Entities → Id → List ℕ
 title_at objects id = title_in (path_at objects id) (live_at objects id)

@@ -29,25 +29,11 @@ impl Name {
         Ok(Name { text })
     }
 
-    /// The name that is this text, without memory.
-    pub fn from_string(text: String) -> Name
-        ensures { result ≡ string_bytes text }
-    {
-        Name { text }
-    }
-
     /// Its text.
     pub fn as_str(&self) -> &str
         ensures { result.now ≡ self.now }
     {
         self.text.as_str()
-    }
-
-    /// An equal name.
-    pub fn copy(&self, alloc: Global) -> Result<Name, AllocError>
-        ensures { IfOk result (λ name. name ≡ self.now) }
-    {
-        Name::from_str(alloc, self.as_str())
     }
 }
 

@@ -29,11 +29,11 @@ is_of m entry = is_same m entry.0.module
 abbrev pub is_listed : Module → List Entry → Bool
 is_listed m specs = list_any (is_of m) specs
 
--- the module, where there is one to load by now
+-- the module, where its policy is built in
 abbrev pub if_there : Module → Option Module
 if_there m = if has_spec m then Some m else None
 
--- the module of that name that can be asked for
+-- the module of that name, where its policy is built in
 abbrev pub loadable : List ℕ → Option Module
 loadable name = option_and_then if_there (module_named name)
 

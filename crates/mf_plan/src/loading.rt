@@ -22,7 +22,7 @@ pub fn module_named(name: &str) -> Option<Module>
     Module::from_name(name)
 }
 
-/// The module of that name, where it is one that there is to load by now.
+/// The module of that name, where its policy is built in.
 pub fn loadable(name: &str) -> Option<Module>
     ensures { result ≡ spec.loadable name.now }
 {

@@ -31,8 +31,8 @@ pub enum Payload {
     Slot(Option<u8>),
 }
 
-/// The reply to a call. `Denied` is a policy's refusal: the errno, the operation and the number, from 1, of the check that
-/// was denied, and the deciding policy. `Refused` is the framework's own.
+/// The reply to a call. `Denied` is a denied check: the errno, the operation and the number of the check, from 1, and the policy
+/// that decided it; nobody decides a privilege that no policy granted. `Refused` is the framework's own refusal.
 #[derive(Drop)]
 pub enum Reply {
     Ok(Payload),

@@ -30,7 +30,7 @@ is_bootable Partition = true
 is_bootable Bsdextended = false
 is_bootable Priority = false
 
--- some, all or none of the modules that a script may boot, in any order
+-- some, all or none of the modules that a script may boot, each at most once, in any order
 pub record AreBoots (boots : List Module) : Type 0 where
   pub few : length boots ≤ 3
   pub each : All (λ m. is_bootable m ≡ true) boots
@@ -62,7 +62,7 @@ pub record IsFormedCred (cred : Cred) : Type 0 where
   pub some : 1 ≤ length cred.groups
   pub few : length cred.groups ≤ group_limit
 
--- a name of a child, a pipe or a socket
+-- a name of a task, a child, a pipe or a socket
 abbrev pub IsName : List ℕ → Type 0
 IsName name = is_name name ≡ true
 

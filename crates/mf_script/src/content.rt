@@ -1,7 +1,7 @@
 //! The content of a file.
-ghost use Rattle.std.specs.Prelude.{◌≡◌, ◌≤◌, ◌+◌, [], ◌++◌, length, OnOk, OnErr, IfOk, vec_len};
+ghost use Rattle.std.specs.Prelude.{◌≡◌, ◌≤◌, [], length, vec_len};
 
-use std::alloc::{AllocError, Global};
+use std::alloc::Global;
 use std::marker::Model;
 
 /// What a file holds, at most 65,536 bytes. Contracts see the bytes.
@@ -41,30 +41,11 @@ impl Content {
         Content { bytes }
     }
 
-    /// The bytes of the text.
-    pub fn copy_of(alloc: Global, text: &[u8]) -> Result<Self, AllocError>
-        requires { length text.now ≤ 65536 }
-        ensures { IfOk result (λ content. content ≡ text.now) }
-    {
-        let bytes = Vec::from_slice(alloc, text)?;
-        Ok(Content { bytes })
-    }
-
     /// The bytes in order.
     pub fn as_slice(&self) -> &[u8]
         ensures value { result.now ≡ self.now }
         ensures most { length self.now ≤ 65536 }
     {
         self.bytes.as_slice()
-    }
-
-    /// Appends the text. After want of memory the content is as before.
-    pub fn append(&mut self, text: &[u8]) -> Result<(), AllocError>
-        requires { length self.old + length text.now ≤ 65536 }
-        ensures ok { OnOk result (self.new ≡ self.old ++ text.now) }
-        ensures err { OnErr result (self.new ≡ self.old) }
-    {
-        self.bytes.extend_from_slice(text)?;
-        Ok(())
     }
 }

@@ -1,5 +1,5 @@
 //! Lists and texts that contracts see as lists.
-ghost use Rattle.std.specs.Prelude.{◌≡◌, ◌<◌, [], ◌∷◌, ◌++◌, length, OnOk, OnErr, IfOk, string_bytes};
+ghost use Rattle.std.specs.Prelude.{◌≡◌, [], ◌∷◌, ◌++◌, length, OnOk, OnErr, string_bytes};
 
 use std::alloc::{AllocError, Global};
 use std::marker::Model;
@@ -44,15 +44,6 @@ impl<T> Listing<T> {
 }
 
 impl<T: Drop> Listing<T> {
-    /// The one item.
-    pub fn one(alloc: Global, item: T) -> Result<Self, AllocError>
-        ensures { IfOk result (λ items. items ≡ item ∷ []) }
-    {
-        let mut items = Listing::new(alloc);
-        items.push(item)?;
-        Ok(items)
-    }
-
     /// Appends the item. After want of memory the list is as before.
     pub fn push(&mut self, item: T) -> Result<(), AllocError>
         ensures ok { OnOk result (self.new ≡ self.old ++ item ∷ []) }
@@ -63,7 +54,7 @@ impl<T: Drop> Listing<T> {
     }
 }
 
-/// A name of a task, or a component of a path. Contracts see its bytes.
+/// A name of a process, a pipe or a socket, or a component of a path. Contracts see its bytes.
 #[derive(Drop)]
 pub struct Name {
     text: String,
@@ -90,23 +81,6 @@ impl Name {
         ensures { result.now ≡ self.now }
     {
         self.text.as_str()
-    }
-
-    /// The name without a byte, which is that of the root directory.
-    pub fn empty(alloc: Global) -> Self
-        ensures { result ≡ [] }
-    {
-        Name {
-            text: String::new(alloc),
-        }
-    }
-
-    /// An equal name.
-    pub fn copy(&self, alloc: Global) -> Result<Self, AllocError>
-        ensures { IfOk result (λ name. name ≡ self.now) }
-    {
-        let text = String::from_str(alloc, self.as_str())?;
-        Ok(Name { text })
     }
 }
 

@@ -7,7 +7,7 @@ use mf_list::PolicyList;
 use mf_plan::Plan;
 use mf_policy::Policy;
 
-/// A denial: the number of the denied check, from 1, the errno, and the deciding policy.
+/// A denial: the number of the denied check, from 1, the errno, and the policy that decided it. Nobody decides a privilege.
 #[derive(Clone, Copy, Debug, PartialEq, Eq)]
 pub struct Denial {
     pub item: u8,
