@@ -67,6 +67,7 @@ impl<P: Policy> Policies<P> {
         ensures ready { OnOk result (IsReady self.new.list self.new.catalogue) }
         ensures entries { self.new.list.entries ≡ self.old.list.entries }
         ensures modules { self.new.catalogue.modules ≡ self.old.catalogue.modules }
+        ensures kept { IsReady self.old.list self.old.catalogue → IsReady self.new.list self.new.catalogue }
     {
         self.list.ready(&mut self.catalogue)
     }

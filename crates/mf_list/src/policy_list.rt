@@ -48,6 +48,7 @@ impl<P: Policy> PolicyList<P> {
         ensures ready { OnOk result (IsReady self.new catalogue.new) }
         ensures entries { self.new.entries ≡ self.old.entries }
         ensures modules { catalogue.new.modules ≡ catalogue.old.modules }
+        ensures kept { IsReady self.old catalogue.old → IsReady self.new catalogue.new }
     {
         self.policies.reserve(catalogue.len())?;
         catalogue.reserve(self.policies.len())?;
