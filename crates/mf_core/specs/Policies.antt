@@ -14,21 +14,28 @@ use Rattle.mf_script.specs.declared.script.Call.TheVariants as call
 use Rattle.mf_plan.specs.declared.reply.Reply.{Reply}
 use Rattle.mf_plan.specs.declared.reply.Reply.TheVariants as reply
 use Rattle.mf_plan.specs.Names.{module_named}
+use Rattle.mf_core.specs.declared.progress.Outcome.{Outcome}
+use Rattle.mf_core.specs.declared.progress.Outcome.TheVariants as outcome
 
--- how often a module is handed in: once where there is such a module by now
+-- how often a module is handed in: once where its policy is built in
 abbrev pub times_wanted : Module → ℕ
 times_wanted m = cond (has_spec m) 1 0
 
--- each module that there is, once
+-- each module whose policy is built in, once
 abbrev pub AreAllModules : List Module → Type 0
 AreAllModules modules = (m : Module) → how_many (same_module m) modules ≡ times_wanted m
 
--- The list is the one whose policies these are, each module that isn't listed is in the catalogue, and each of the two has room for
--- what the other holds.
+-- The list is the one whose policies these are. Each module whose policy is built in stands once, in the list or in the catalogue, and
+-- no other does; and each of the two has room for what the other holds.
 pub record AreOf (specs : List Entry) (list : ListView) (catalogue : CatalogueView) : Type 0 where
   pub listed : list.entries ≡ specs
   pub held : (m : Module) → times_held m list catalogue ≡ times_wanted m
   pub ready : IsReady list catalogue
+
+-- while a change waits, list and catalogue stay as they are
+abbrev pub StaysWhileWaiting : Outcome → ListView → ListView → CatalogueView → CatalogueView → Type 0
+StaysWhileWaiting outcome.Done list list' catalogue catalogue' = Unit {0}
+StaysWhileWaiting (outcome.Waits n) list list' catalogue catalogue' = (list' ≡ list) × (catalogue' ≡ catalogue)
 
 -- the list after the answer to a registration, and after the answer to an unregistration
 
@@ -60,6 +67,6 @@ pub record CanBoot (m : Module) (list : ListView) (catalogue : CatalogueView) (g
   pub free : is_listed m list.entries ≡ false
   pub slot : given < 4
 
--- the registrations are of modules that there are by now
+-- the registrations are of modules whose policies are built in
 abbrev pub AreAllThere : List Registration → Type 0
 AreAllThere listed = All (λ r. has_spec r.module ≡ true) listed

@@ -50,8 +50,8 @@ impl<'s> Model for Core<'s> {
 }
 
 impl<'s> Core<'s> {
-    /// The core before the first event of the script. These are all modules, each as it is loaded. Those that the script boots
-    /// are registered in its order; the others stay in the catalogue.
+    /// The core before the first event of the script. `modules` are all whose policies are built in, each once and as it is
+    /// loaded. Those that the script boots are registered in its order; the others stay in the catalogue.
     pub fn new<P: Policy>(
         alloc: Global,
         script: &'s Script,

@@ -2,7 +2,7 @@
 ghost use Rattle.std.specs.Prelude.{◌≡◌, ◌<◌, ◌↔◌, length, IfOk, IsTrue, OnErr};
 ghost use Rattle.mf_step.specs.Verdict.{verdict_of};
 ghost use Rattle.mf_core.specs.declared.progress.Turn.TheVariants as turn;
-ghost use Rattle.mf_core.specs.Policies.{AreOf};
+ghost use Rattle.mf_core.specs.Policies.{AreOf, StaysWhileWaiting};
 ghost use Rattle.mf_core.specs.Run.{specs_of, progress_of, turn_at, Changes, Commits, IsCurrent, MovesBy, MovesOn};
 
 use super::Core;
@@ -73,7 +73,8 @@ impl<'s> Core<'s> {
         ensures outcome { IfOk result (λ outcome. Changes self.old task outcome self.new) }
         ensures progress { IfOk result (λ outcome. MovesBy outcome (progress_of self.old) task (progress_of self.new)) }
         ensures policies { AreOf (specs_of self.new) list.new catalogue.new }
-        ensures err { OnErr result (self.new ≡ self.old) }
+        ensures waits { IfOk result (λ outcome. StaysWhileWaiting outcome list.old list.new catalogue.old catalogue.new) }
+        ensures err { OnErr result ((self.new ≡ self.old) × (list.new ≡ list.old) × (catalogue.new ≡ catalogue.old)) }
     {
         let waiting = self.open_entries();
         if waiting > 0 {
