@@ -4,5 +4,5 @@ pub mod Pieces
 pub mod Words
 pub mod NoFaults
 pub mod Idle
-pub mod Kept
+pub mod Current
 pub mod Modules

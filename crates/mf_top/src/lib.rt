@@ -12,6 +12,5 @@ mod write;
 pub use refusal::Refusal;
 pub use top::macsim;
 
-
 #[cfg(test)]
 mod tests;

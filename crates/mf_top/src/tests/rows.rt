@@ -9,6 +9,7 @@ use std::test::Fail;
 use std::thread::Threads;
 
 /// A task `t` with its lines, each beside its reply.
+#[derive(Clone, Copy)]
 struct Rows {
     /// What stands before the task in the script.
     before: &'static str,
@@ -30,18 +31,19 @@ const PLAIN: Rows = Rows {
 };
 
 /// A script, and the text of its history.
-struct Run {
+#[derive(Drop)]
+struct Transcript {
     script: String,
     text: String,
     lines: u32,
 }
 
-impl Run {
+impl Transcript {
     /// The script up to the task's first line.
-    fn new(alloc: Global, rows: &Rows) -> Result<Run, AllocError> {
+    fn new(alloc: Global, rows: &Rows) -> Result<Transcript, AllocError> {
         let before = rows.before;
         let task = rows.task;
-        Ok(Run {
+        Ok(Transcript {
             script: format!(in alloc; "{before}task t {task}\n")?,
             text: String::from_str(alloc, rows.boots)?,
             lines: 0,
@@ -84,11 +86,11 @@ fn run_rows<R: Abort + Threads + Wait + Sync>(
     alloc: Global,
     rows: &Rows,
 ) -> Result<(), AllocError> {
-    let mut run = Run::new(alloc, rows)?;
+    let mut transcript = Transcript::new(alloc, rows)?;
     for (line, reply) in rows.rows {
-        run.add(line, reply)?;
+        transcript.add(line, reply)?;
     }
-    run.end(rt, alloc, rows.behind)
+    transcript.end(rt, alloc, rows.behind)
 }
 
 #[test]
@@ -164,36 +166,36 @@ fn limits_of_objects(rt: HostRuntime) -> Result<(), Fail> {
         before: "file /f reg uid 0 gid 0 mode 644 label -\n",
         ..PLAIN
     };
-    let mut run = Run::new(alloc, &rows)?;
+    let mut transcript = Transcript::new(alloc, &rows)?;
     let most = vec![in alloc; b'a'; 65_536]?;
     let most = String::from_utf8_lossy(alloc, &most)?;
-    run.add(&format!(in alloc; "write /f {most}")?, "ok")?;
-    run.add("write /f a", "no EFBIG - -")?;
-    run.add("pipe p", "ok")?;
+    transcript.add(&format!(in alloc; "write /f {most}")?, "ok")?;
+    transcript.add("write /f a", "no EFBIG - -")?;
+    transcript.add("pipe p", "ok")?;
     let most = vec![in alloc; b'a'; 16_384]?;
     let most = String::from_utf8_lossy(alloc, &most)?;
-    run.add(&format!(in alloc; "pwrite p {most}")?, "ok")?;
-    run.add("pwrite p a", "no EAGAIN - -")?;
-    run.add("socket s", "ok")?;
-    run.add("socket d", "ok")?;
+    transcript.add(&format!(in alloc; "pwrite p {most}")?, "ok")?;
+    transcript.add("pwrite p a", "no EAGAIN - -")?;
+    transcript.add("socket s", "ok")?;
+    transcript.add("socket d", "ok")?;
     for _message in 0..16 {
-        run.add("send s d x", "ok")?;
+        transcript.add("send s d x", "ok")?;
     }
-    run.add("send s d x", "no ENOBUFS - -")?;
-    run.end(&rt, alloc, "")?;
+    transcript.add("send s d x", "no ENOBUFS - -")?;
+    transcript.end(&rt, alloc, "")?;
     Ok(())
 }
 
 #[test]
 fn table_of_entities_full(rt: HostRuntime) -> Result<(), Fail> {
     let alloc = rt.alloc();
-    let mut run = Run::new(alloc, &PLAIN)?;
+    let mut transcript = Transcript::new(alloc, &PLAIN)?;
     for number in 1..1023 {
-        run.add(&format!(in alloc; "pipe p{number}")?, "ok")?;
+        transcript.add(&format!(in alloc; "pipe p{number}")?, "ok")?;
     }
-    run.add("pipe p1023", "no ENFILE - -")?;
-    run.add("pipe p1", "no EEXIST - -")?;
-    run.end(&rt, alloc, "")?;
+    transcript.add("pipe p1023", "no ENFILE - -")?;
+    transcript.add("pipe p1", "no EEXIST - -")?;
+    transcript.end(&rt, alloc, "")?;
     Ok(())
 }
 
