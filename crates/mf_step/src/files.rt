@@ -1,5 +1,5 @@
 //! What the calls on files and directories change.
-ghost use Rattle.std.specs.Prelude.{◌≡◌, ◌<◌, ◌≤◌, [], OnOk, OnErr, None, find, length};
+ghost use Rattle.std.specs.Prelude.{◌≡◌, ◌<◌, ◌≤◌, [], OnOk, OnErr, None, find, length, false, true};
 ghost use Rattle.mf_item.specs.declared.view.Kind.TheVariants as kinds;
 ghost use Rattle.mf_objects.specs.Changes as change;
 ghost use Rattle.mf_objects.specs.Live.{IsLive, is_child, is_directory, is_process};
@@ -17,8 +17,49 @@ use mf_plan::{State, Target, target_of};
 use mf_script::Name;
 use std::alloc::{AllocError, Global};
 
-/// Makes an empty file or directory at the path, where the name is free. After want of memory the state is as before.
+/// The mode bits of a new file, and of a new directory.
+const FILE_MODE: u16 = 0o644;
+
+const DIRECTORY_MODE: u16 = 0o755;
+
+/// Makes an empty regular file. After want of memory the state is as before.
 pub(crate) fn create(
+    alloc: Global,
+    state: &mut State,
+    caller: Id,
+    path: &[Name],
+) -> Result<(), AllocError>
+    requires caller { IsLive is_process state.old.objects caller }
+    requires path { length path.now ≤ 8 }
+    requires can { doing.CanCreate state.old.objects path.now }
+    requires next { state.old.objects.next < 4294967295 }
+    ensures ok { OnOk result (state.new
+        ≡ spec.with_file state.old caller 420 false (walks.last_name path.now) (walks.walk_along state.old.objects path.now).target) }
+    ensures err { OnErr result (state.new ≡ state.old) }
+{
+    make(alloc, state, caller, path, FILE_MODE, false)
+}
+
+/// Makes an empty directory. After want of memory the state is as before.
+pub(crate) fn mkdir(
+    alloc: Global,
+    state: &mut State,
+    caller: Id,
+    path: &[Name],
+) -> Result<(), AllocError>
+    requires caller { IsLive is_process state.old.objects caller }
+    requires path { length path.now ≤ 8 }
+    requires can { doing.CanCreate state.old.objects path.now }
+    requires next { state.old.objects.next < 4294967295 }
+    ensures ok { OnOk result (state.new
+        ≡ spec.with_file state.old caller 493 true (walks.last_name path.now) (walks.walk_along state.old.objects path.now).target) }
+    ensures err { OnErr result (state.new ≡ state.old) }
+{
+    make(alloc, state, caller, path, DIRECTORY_MODE, true)
+}
+
+/// Makes an empty file or directory at the path, where the name is free.
+fn make(
     alloc: Global,
     state: &mut State,
     caller: Id,

@@ -10,11 +10,11 @@ ghost use Rattle.mf_step.specs.Effect.{effect_of};
 ghost use Rattle.mf_step.specs.Step.{performed};
 
 use crate::channels::{deliver, pipe, pread, pwrite, recv, socket};
-use crate::files::{chmod, create, unlink, write};
+use crate::files::{chmod, create, mkdir, unlink, write};
 use crate::modules::{kldload, kldunload};
 use crate::processes::{exit, fork};
 use mf_objects::Id;
-use mf_plan::{State, caller_of, child_name};
+use mf_plan::{State, caller_of};
 use mf_script::Call;
 use std::alloc::{AllocError, Global};
 
@@ -66,42 +66,21 @@ fn perform_by(
     ensures err { OnErr result (state.new ≡ state.old) }
 {
     match call {
-        Call::Fork(name) => {
-            let name = child_name(task, name.as_str());
-            fork(alloc, state, caller, name.as_str())
-        }
-        Call::Exit => {
-            exit(state, caller);
-            Ok(())
-        }
-        Call::Create(path) => { create(alloc, state, caller, path.as_slice(), FILE_MODE, false) }
-        Call::Mkdir(path) => { create(alloc, state, caller, path.as_slice(), DIRECTORY_MODE, true) }
-        Call::Write(path, text) => write(state, path.as_slice(), text.as_slice()),
-        Call::Chmod(path, mode) => {
-            chmod(state, path.as_slice(), *mode);
-            Ok(())
-        }
-        Call::Unlink(path) => {
-            unlink(state, path.as_slice());
-            Ok(())
-        }
-        Call::Pipe(name) => pipe(alloc, state, caller, name.as_str()),
-        Call::Socket(name) => socket(alloc, state, caller, name.as_str()),
-        Call::Pread(name) => {
-            pread(state, name.as_str());
-            Ok(())
-        }
-        Call::Pwrite(name, text) => pwrite(state, name.as_str(), text.as_slice()),
-        Call::Send(_, to, text) => deliver(alloc, state, to.as_str(), text.as_slice()),
-        Call::Recv(name) => {
-            recv(state, name.as_str());
-            Ok(())
-        }
-        Call::Kldload(name) => kldload(alloc, state, name.as_str()),
-        Call::Kldunload(name) => {
-            kldunload(state, name.as_str());
-            Ok(())
-        }
+        Call::Fork(child) => fork(alloc, state, task, caller, child.as_str())?,
+        Call::Exit => exit(state, caller),
+        Call::Create(path) => create(alloc, state, caller, path.as_slice())?,
+        Call::Mkdir(path) => mkdir(alloc, state, caller, path.as_slice())?,
+        Call::Write(path, text) => write(state, path.as_slice(), text.as_slice())?,
+        Call::Chmod(path, mode) => chmod(state, path.as_slice(), *mode),
+        Call::Unlink(path) => unlink(state, path.as_slice()),
+        Call::Pipe(name) => pipe(alloc, state, caller, name.as_str())?,
+        Call::Socket(name) => socket(alloc, state, caller, name.as_str())?,
+        Call::Pread(name) => pread(state, name.as_str()),
+        Call::Pwrite(name, text) => pwrite(state, name.as_str(), text.as_slice())?,
+        Call::Send(_, to, text) => deliver(alloc, state, to.as_str(), text.as_slice())?,
+        Call::Recv(name) => recv(state, name.as_str()),
+        Call::Kldload(name) => kldload(alloc, state, name.as_str())?,
+        Call::Kldunload(name) => kldunload(state, name.as_str()),
         Call::See(_)
         | Call::Signal(_)
         | Call::Debug(_)
@@ -112,6 +91,7 @@ fn perform_by(
         | Call::Readdir(_)
         | Call::Pstat(_)
         | Call::Seesock(_)
-        | Call::Kldstat => Ok(()),
+        | Call::Kldstat => {}
     }
+    Ok(())
 }

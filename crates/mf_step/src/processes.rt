@@ -5,6 +5,8 @@ ghost use Rattle.mf_objects.specs.Changes as change;
 ghost use Rattle.mf_objects.specs.Live.{IsLive, cred_at, is_process, label_at, live_at, live_named};
 ghost use Rattle.mf_objects.specs.declared.entity.What.TheVariants as what;
 ghost use Rattle.mf_plan.specs.Doing.{CanMake};
+ghost use Rattle.mf_plan.specs.Names as names;
+ghost use Rattle.mf_script.specs.WellFormed.{IsName};
 ghost use Rattle.mf_step.specs.Effect as spec;
 ghost use Rattle.mf_step.specs.Labels as labels;
 
@@ -12,7 +14,7 @@ use crate::label::created_label;
 use mf_elem::LabelValue;
 use mf_item::Kind;
 use mf_objects::Id;
-use mf_plan::State;
+use mf_plan::{State, child_name};
 use std::alloc::{AllocError, Global};
 
 /// The label of what the process makes.
@@ -23,22 +25,29 @@ pub(crate) fn label_from(state: &State, maker: Id, kind: Kind) -> [LabelValue; 4
     created_label(&state.specs, kind, &state.objects.label(maker))
 }
 
-/// Makes a child of the process, with its credential. After want of memory the state is as before.
+/// Makes a child of that name for the task, by the process that calls and with its credential. After want of memory the state is as before.
 pub(crate) fn fork(
     alloc: Global,
     state: &mut State,
+    task: &str,
     caller: Id,
-    name: &str,
+    child: &str,
 ) -> Result<(), AllocError>
+    requires task { IsName task.now }
+    requires child { IsName child.now }
     requires caller { IsLive is_process state.old.objects caller }
-    requires can { CanMake state.old.objects (live_named is_process state.old.objects name.now) }
+    requires can { CanMake state.old.objects (live_named is_process state.old.objects (names.child_name task.now child.now)) }
     requires next { state.old.objects.next < 4294967295 }
-    ensures ok { OnOk result (state.new ≡ spec.with_created state.old caller kinds.Process name.now (what.Process (cred_at state.old.objects caller))) }
+    ensures ok { OnOk result (state.new
+        ≡ spec.with_created state.old caller kinds.Process (names.child_name task.now child.now) (what.Process (cred_at state.old.objects caller))) }
     ensures err { OnErr result (state.new ≡ state.old) }
 {
+    let name = child_name(task, child);
     let cred = state.objects.cred(caller);
     let label = label_from(state, caller, Kind::Process);
-    state.objects.add_process(alloc, name, &cred, &label)?;
+    state
+        .objects
+        .add_process(alloc, name.as_str(), &cred, &label)?;
     Ok(())
 }
 
