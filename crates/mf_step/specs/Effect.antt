@@ -44,6 +44,7 @@ abbrev pub new_file : Entities → Id → Id → ℕ → Bool → FileView
 new_file objects maker dir mode is_dir =
     record { uid = (cred_at objects maker).uid; gid = (file_at objects dir).gid; mode = mode; dir = is_dir }
 
+-- a new file or directory, where its name is free; no plan that may be done leads elsewhere
 abbrev pub with_file : State → Id → ℕ → Bool → List ℕ → Target → State
 with_file s maker mode is_dir name (Name dir None) =
     with_created s maker kinds.Vnode name (new_vnode dir (new_file s.objects maker dir mode is_dir) [])
@@ -51,6 +52,7 @@ with_file s maker mode is_dir name (Name dir (Some id)) = s
 with_file s maker mode is_dir name Root = s
 with_file s maker mode is_dir name (Nowhere errno) = s
 
+-- without an entry of a directory; no plan that may be done leads elsewhere
 abbrev pub without_entry : State → Target → State
 without_entry s (Name dir (Some id)) = with_objects s (without (has_id id) s.objects)
 without_entry s (Name dir None) = s
@@ -67,6 +69,7 @@ with_registered s m =
       numbers = if wants_slot m then s.numbers + 1 else s.numbers;
     }
 
+-- nothing is loaded where there is no such module
 abbrev pub with_loaded : State → Option Module → State
 with_loaded s None = s
 with_loaded s (Some m) = with_registered s m
@@ -105,3 +108,16 @@ effect_of s task caller (call.Seesock name) = s
 effect_of s task caller call.Kldstat = s
 effect_of s task caller (call.Kldload name) = with_loaded s (loadable name)
 effect_of s task caller (call.Kldunload name) = with_unloaded s (module_named name)
+
+-- the calls whose changes take memory
+abbrev pub change_takes_memory : Call → Bool
+change_takes_memory (call.Fork child) = true
+change_takes_memory (call.Create path) = true
+change_takes_memory (call.Mkdir path) = true
+change_takes_memory (call.Write path text) = true
+change_takes_memory (call.Pipe name) = true
+change_takes_memory (call.Socket name) = true
+change_takes_memory (call.Pwrite name text) = true
+change_takes_memory (call.Send from to text) = true
+change_takes_memory (call.Kldload name) = true
+change_takes_memory other = false

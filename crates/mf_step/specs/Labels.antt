@@ -16,10 +16,10 @@ effective_alone (Range label) = Range (record label { range = None })
 effective_alone (Number n) = Number n
 
 -- the partition, where an unset one counts as 0
-abbrev pub partition_of : LabelValue → LabelValue
-partition_of Unset = Number 0
-partition_of (Range label) = Number 0
-partition_of (Number n) = Number n
+abbrev pub inherited_partition : LabelValue → LabelValue
+inherited_partition Unset = Number 0
+inherited_partition (Range label) = Number 0
+inherited_partition (Number n) = Number n
 
 -- A child process has its maker's whole element and range; another entity has the maker's effective element alone.
 abbrev pub inherited_range : Kind → LabelValue → LabelValue
@@ -32,7 +32,7 @@ inherited_range kinds.Socket value = effective_alone value
 abbrev pub inherited : Module → Kind → LabelValue → LabelValue
 inherited Biba kind value = inherited_range kind value
 inherited Mls kind value = inherited_range kind value
-inherited Partition kind value = partition_of value
+inherited Partition kind value = inherited_partition value
 inherited Bsdextended kind value = Unset
 inherited Priority kind value = Unset
 
@@ -43,7 +43,7 @@ is_slot slot (Some own) = nat_eq own slot
 abbrev pub holds_slot : ℕ → Entry → Bool
 holds_slot slot entry = is_slot slot entry.0.slot
 
--- the module labels entities of that kind
+-- what a module gives a created entity of that kind: nothing where it doesn't label that kind
 abbrev pub value_by : Module → Kind → LabelValue → LabelValue
 value_by m kind value = if labels_kind m kind then inherited m kind value else Unset
 

@@ -1,5 +1,5 @@
 -- The reply to a call.
-use Rattle.std.specs.Prelude.{ℕ, ◌-◌, List, [], length, map, Option, Some, None, unwrap_or, option_map, slice_get, slice_index_or, if◌then◌else◌}
+use Rattle.std.specs.Prelude.{ℕ, ◌-◌, Bool, true, false, List, [], length, map, Option, Some, None, unwrap_or, option_map, slice_get, slice_index_or, if◌then◌else◌}
 use Rattle.std.specs.Result.{result_ok}
 use Rattle.mf_errno.specs.declared.module.Module.{Module}
 use Rattle.mf_item.specs.declared.operation.CheckOp.{CheckOp}
@@ -35,10 +35,10 @@ use Rattle.mf_step.specs.declared.verdict.Verdict.{Verdict}
 abbrev pub file_at_path : Entities → List (List ℕ) → Option Id
 file_at_path objects path = result_ok (found_at (walk_along objects path).target)
 
--- a payload of what is found
-abbrev pub of_found : (Id → Payload) → Option Id → Payload
-of_found read None = payload.None
-of_found read (Some id) = read id
+-- what is read of an entity, where it is found
+abbrev pub payload_of_found : (Id → Payload) → Option Id → Payload
+payload_of_found read None = payload.None
+payload_of_found read (Some id) = read id
 
 abbrev pub head : Entities → Id → Payload
 head objects id = payload.Head (head_of (content_at objects id))
@@ -76,23 +76,28 @@ payload_of s (call.Sched name) = payload.None
 payload_of s (call.Exec path) = payload.None
 payload_of s (call.Create path) = payload.None
 payload_of s (call.Mkdir path) = payload.None
-payload_of s (call.Read path) = of_found (head s.objects) (file_at_path s.objects path)
+payload_of s (call.Read path) = payload_of_found (head s.objects) (file_at_path s.objects path)
 payload_of s (call.Write path text) = payload.None
-payload_of s (call.Stat path) = of_found (stat s.objects) (file_at_path s.objects path)
-payload_of s (call.Readdir path) = of_found (names s.objects) (file_at_path s.objects path)
+payload_of s (call.Stat path) = payload_of_found (stat s.objects) (file_at_path s.objects path)
+payload_of s (call.Readdir path) = payload_of_found (names s.objects) (file_at_path s.objects path)
 payload_of s (call.Chmod path mode) = payload.None
 payload_of s (call.Unlink path) = payload.None
 payload_of s (call.Pipe name) = payload.None
 payload_of s (call.Socket name) = payload.None
-payload_of s (call.Pread name) = of_found (head s.objects) (pipe_named s.objects name)
+payload_of s (call.Pread name) = payload_of_found (head s.objects) (pipe_named s.objects name)
 payload_of s (call.Pwrite name text) = payload.None
-payload_of s (call.Pstat name) = of_found (size s.objects) (pipe_named s.objects name)
+payload_of s (call.Pstat name) = payload_of_found (size s.objects) (pipe_named s.objects name)
 payload_of s (call.Send from to text) = payload.None
-payload_of s (call.Recv name) = of_found (message s.objects) (socket_named s.objects name)
+payload_of s (call.Recv name) = payload_of_found (message s.objects) (socket_named s.objects name)
 payload_of s (call.Seesock name) = payload.None
 payload_of s call.Kldstat = payload.Modules (map loaded s.specs)
 payload_of s (call.Kldload name) = slot s.numbers (loadable name)
 payload_of s (call.Kldunload name) = payload.None
+
+-- the listing of a directory takes memory
+abbrev pub payload_takes_memory : Call → Bool
+payload_takes_memory (call.Readdir path) = true
+payload_takes_memory other = false
 
 -- Replies
 

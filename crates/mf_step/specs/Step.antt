@@ -16,6 +16,7 @@ use Rattle.mf_step.specs.Effect.{effect_of}
 abbrev pub step_reply : State → List ℕ → Option (List ℕ) → Call → Reply
 step_reply s task child call = reply_to (plan_of s task child call) (verdict_of s.specs (plan_of s task child call)) (payload_of s call)
 
+-- where the process that calls doesn't live, nothing changes
 abbrev pub performed_by : State → List ℕ → Call → Option Id → State
 performed_by s task call None = s
 performed_by s task call (Some caller) = effect_of s task caller call

@@ -59,7 +59,7 @@ fn value_by(module: Module, kind: Kind, value: LabelValue) -> LabelValue
     }
     match module {
         Module::Biba | Module::Mls => inherited_range(kind, value),
-        Module::Partition => partition_of(value),
+        Module::Partition => inherited_partition(value),
         Module::Bsdextended | Module::Priority => LabelValue::Unset,
     }
 }
@@ -85,8 +85,8 @@ fn effective_alone(value: LabelValue) -> LabelValue
     }
 }
 
-fn partition_of(value: LabelValue) -> LabelValue
-    ensures { result ≡ spec.partition_of value }
+fn inherited_partition(value: LabelValue) -> LabelValue
+    ensures { result ≡ spec.inherited_partition value }
 {
     match value {
         LabelValue::Number(number) => LabelValue::Number(number),

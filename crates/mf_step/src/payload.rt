@@ -1,5 +1,5 @@
 //! What a call hands back.
-ghost use Rattle.std.specs.Prelude.{◌≡◌, ◌≤◌, IfOk, IfSome, IsSome, length, map};
+ghost use Rattle.std.specs.Prelude.{◌≡◌, ◌≤◌, IfOk, IsOk, IfSome, IsSome, false, length, map};
 ghost use Rattle.mf_objects.specs.Live.{live_at};
 ghost use Rattle.mf_plan.specs.Loading as loading;
 ghost use Rattle.mf_script.specs.WellFormed.{IsFormedCall};
@@ -18,7 +18,8 @@ use std::alloc::{AllocError, Global};
 pub fn payload_of(alloc: Global, state: &State, call: &Call) -> Result<Payload, AllocError>
     requires formed { IsFormedCall call.now }
     requires few { length state.now.specs ≤ 8 }
-    ensures { IfOk result (λ payload. payload ≡ spec.payload_of state.now call.now) }
+    ensures value { IfOk result (λ payload. payload ≡ spec.payload_of state.now call.now) }
+    ensures memory { spec.payload_takes_memory call.now ≡ false → IsOk result }
 {
     let objects = &state.objects;
     match call {
@@ -54,7 +55,7 @@ pub fn payload_of(alloc: Global, state: &State, call: &Call) -> Result<Payload, 
 /// The beginning of what a file or a pipe holds.
 fn head(objects: &Objects, found: Option<Id>) -> Payload
     requires { IfSome found (λ id. IsSome (live_at objects.now id)) }
-    ensures { result ≡ spec.of_found (spec.head objects.now) found }
+    ensures { result ≡ spec.payload_of_found (spec.head objects.now) found }
 {
     match found {
         Some(id) => Payload::Head(objects.head(id)),
@@ -64,7 +65,7 @@ fn head(objects: &Objects, found: Option<Id>) -> Payload
 
 fn stat(objects: &Objects, found: Option<Id>) -> Payload
     requires { IfSome found (λ id. IsSome (live_at objects.now id)) }
-    ensures { result ≡ spec.of_found (spec.stat objects.now) found }
+    ensures { result ≡ spec.payload_of_found (spec.stat objects.now) found }
 {
     match found {
         Some(id) => Payload::Stat(objects.file(id), objects.size(id)),
@@ -75,7 +76,7 @@ fn stat(objects: &Objects, found: Option<Id>) -> Payload
 #[tactic(auto, using(mf_objects::proofs::Laws::live_directory))]
 fn names(alloc: Global, objects: &Objects, found: Option<Id>) -> Result<Payload, AllocError>
     requires { IfSome found (λ id. IsSome (live_at objects.now id)) }
-    ensures { IfOk result (λ payload. payload ≡ spec.of_found (spec.names objects.now) found) }
+    ensures { IfOk result (λ payload. payload ≡ spec.payload_of_found (spec.names objects.now) found) }
 {
     match found {
         Some(id) if objects.file(id).dir => Ok(Payload::Names {
@@ -89,7 +90,7 @@ fn names(alloc: Global, objects: &Objects, found: Option<Id>) -> Result<Payload,
 /// How many bytes a pipe holds.
 fn size(objects: &Objects, found: Option<Id>) -> Payload
     requires { IfSome found (λ id. IsSome (live_at objects.now id)) }
-    ensures { result ≡ spec.of_found (spec.size objects.now) found }
+    ensures { result ≡ spec.payload_of_found (spec.size objects.now) found }
 {
     match found {
         Some(id) => Payload::Size(objects.size(id)),
@@ -100,7 +101,7 @@ fn size(objects: &Objects, found: Option<Id>) -> Payload
 /// The beginning of a socket's oldest message.
 fn message(objects: &Objects, found: Option<Id>) -> Payload
     requires { IfSome found (λ id. IsSome (live_at objects.now id)) }
-    ensures { result ≡ spec.of_found (spec.message objects.now) found }
+    ensures { result ≡ spec.payload_of_found (spec.message objects.now) found }
 {
     match found {
         Some(id) => Payload::Head(objects.message(id)),

@@ -1,12 +1,12 @@
 //! What a call changes.
-ghost use Rattle.std.specs.Prelude.{◌≡◌, ◌+◌, ◌<◌, ◌≤◌, OnOk, OnErr};
+ghost use Rattle.std.specs.Prelude.{◌≡◌, ◌+◌, ◌<◌, ◌≤◌, IsOk, OnOk, OnErr, false};
 ghost use Rattle.std.specs.Option.{option_copied};
 ghost use Rattle.mf_objects.specs.Live.{IsLive, is_process};
 ghost use Rattle.mf_plan.specs.Doing.{CanDo};
 ghost use Rattle.mf_plan.specs.Plan.{plan_of};
 ghost use Rattle.mf_plan.specs.declared.plan.Tail.TheVariants.{Do};
 ghost use Rattle.mf_script.specs.WellFormed.{IsFormedCall, IsFormedChild, IsName};
-ghost use Rattle.mf_step.specs.Effect.{effect_of};
+ghost use Rattle.mf_step.specs.Effect.{change_takes_memory, effect_of};
 ghost use Rattle.mf_step.specs.Step.{performed};
 
 use crate::channels::{deliver, pipe, pread, pwrite, recv, socket};
@@ -42,6 +42,7 @@ pub fn perform(
     ensures next { state.new.objects.next ≤ state.old.objects.next + 1 }
     ensures rises { state.old.objects.next ≤ state.new.objects.next }
     ensures kept { state.new.booted ≡ state.old.booted }
+    ensures memory { change_takes_memory call.now ≡ false → IsOk result }
 {
     match caller_of(&state.objects, task, child) {
         Some(caller) => perform_by(alloc, state, task, caller, call),
@@ -64,6 +65,7 @@ fn perform_by(
     requires next { state.old.objects.next < 4294967295 }
     ensures ok { OnOk result (state.new ≡ effect_of state.old task.now caller call.now) }
     ensures err { OnErr result (state.new ≡ state.old) }
+    ensures memory { change_takes_memory call.now ≡ false → IsOk result }
 {
     match call {
         Call::Fork(child) => fork(alloc, state, task, caller, child.as_str())?,
