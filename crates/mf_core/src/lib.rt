@@ -14,6 +14,3 @@ pub use history::{BootList, Event, EventList, History};
 pub use mf_plan::{Payload, Plan, Reply};
 pub use mf_step::{Denial, Verdict};
 pub use progress::{Commit, Outcome, Phase, Progress, ProgressList, Turn};
-
-#[cfg(test)]
-mod tests;
