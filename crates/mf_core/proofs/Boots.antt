@@ -75,12 +75,11 @@ booting_none modules list catalogue policies =
     }
 
 module _ (modules : List Module) (n : ℕ) (m : Module) (boots : List Registration) (given : ℕ) (list : ListView) (catalogue : CatalogueView)
-  (may : AreBoots modules) (within : n < length modules) (here : m ≡ get_or modules n m) (booting : IsBooting modules n boots given list catalogue) where
-
+    (may : AreBoots modules) (within : n < length modules) (here : m ≡ get_or modules n m) (booting : IsBooting modules n boots given list catalogue) where
   not_listed : how_many (is_of m) list.entries ≡ 0
   not_listed =
       let other : (i : ℕ) (d : Module) → i < n → same_module m (get_or modules i d) ≡ false =
-          λ i d lt. same_module-other m (get_or modules i d) (λ same. may.differ i n d lt within (sym same ∙ here ∙ get_or_default modules n m d within)) in
+      λ i d lt. same_module-other m (get_or modules i d) (λ same. may.differ i n d lt within (sym same ∙ here ∙ get_or_default modules n m d within)) in
       booting.counts m ∙ none_before (same_module m) modules n (omega arith) other
 
   wanted : times_wanted m ≡ 1
@@ -105,7 +104,7 @@ module _ (modules : List Module) (n : ℕ) (m : Module) (boots : List Registrati
       let more : take (n + 1) modules ≡ take n modules ++ m ∷ [] = take_more modules n m within ∙ ap (λ (k : Module). take n modules ++ k ∷ []) (sym here) in
       let of : r.module ≡ m = ap (λ (r : Registration). r.module) is in
       let slots : given' ≡ given_after given m =
-          moves.slots ∙ ap (λ (r : Registration). cond (is_some r.slot) (given + 1) given) is ∙ slot_given (wants_slot m) given in
+      moves.slots ∙ ap (λ (r : Registration). cond (is_some r.slot) (given + 1) given) is ∙ slot_given (wants_slot m) given in
       record {
         registered =
             ap (λ (rs : List Registration). rs ++ r ∷ []) booting.registered
@@ -135,7 +134,7 @@ reloaded-newest : (r : Registration) (es : List Entry) → reloaded (with_newest
 reloaded-newest r [] = refl
 reloaded-newest r (x ∷ es) =
     elim (not r.fixed && x.0.fixed) as (λ b. reloaded (cond b (x ∷ with_newest (r, fresh_of r.module) es) ((r, fresh_of r.module) ∷ x ∷ es))
-        ≡ cond b ((x.0, fresh_of x.0.module) ∷ with_newest (r, fresh_of r.module) (reloaded es)) ((r, fresh_of r.module) ∷ (x.0, fresh_of x.0.module) ∷ reloaded es)) [
+    ≡ cond b ((x.0, fresh_of x.0.module) ∷ with_newest (r, fresh_of r.module) (reloaded es)) ((r, fresh_of r.module) ∷ (x.0, fresh_of x.0.module) ∷ reloaded es)) [
       | true ↦ ap (λ (es : List Entry). (x.0, fresh_of x.0.module) ∷ es) (reloaded-newest r es)
       | false ↦ refl
     ]
@@ -166,7 +165,7 @@ pub opening_is : (s : Script) (boots listed : List Registration) (list : ListVie
 opening_is s boots listed list catalogue objects specs numbers boots_are policies listed_is objects_are specs_are numbers_are =
     let in_order : listed ≡ registrations_in (booted_specs s) = listed_is ∙ ap registrations_in (policies.listed ∙ ap listed_by boots_are) in
     let specs_same : specs ≡ booted_specs s =
-        specs_are ∙ ap (λ (rs : List Registration). map (λ (r : Registration). (r, fresh_of r.module)) rs) in_order ∙ reloaded-booted (boots_of s) in
+    specs_are ∙ ap (λ (rs : List Registration). map (λ (r : Registration). (r, fresh_of r.module)) rs) in_order ∙ reloaded-booted (boots_of s) in
     let objects_same : objects ≡ opening_objects (registrations_in (booted_specs s)) s = objects_are ∙ ap (λ (rs : List Registration). opening_objects rs s) in_order in
     let with_objects : Entities → State = λ o. record { objects = o; specs = specs; numbers = numbers; booted = true } in
     let with_specs : List Entry → State = λ es. record { objects = opening_objects (registrations_in (booted_specs s)) s; specs = es; numbers = numbers; booted = true } in
@@ -179,6 +178,6 @@ pub booted_once : (boots : List Registration) (list : ListView) (catalogue : Cat
     → specs ≡ map (λ (r : Registration). (r, fresh_of r.module)) listed → IsListedOnce specs
 booted_once boots list catalogue listed specs policies listed_is specs_are =
     let same : specs ≡ listed_by boots =
-        specs_are ∙ ap (λ (rs : List Registration). map (λ (r : Registration). (r, fresh_of r.module)) rs) (listed_is ∙ ap registrations_in policies.listed)
-        ∙ reloaded-booted boots in
+    specs_are ∙ ap (λ (rs : List Registration). map (λ (r : Registration). (r, fresh_of r.module)) rs) (listed_is ∙ ap registrations_in policies.listed)
+    ∙ reloaded-booted boots in
     λ m. omega (arith, policies.held m, ap (how_many (is_of m)) policies.listed, ap (how_many (is_of m)) same, wanted_once m)

@@ -37,9 +37,8 @@ pub record WasDone (s : Script) (state : State) (progress : List Progress) (t : 
   pub ids : state'.objects.next ≤ state.objects.next + 1
 
 module _ (k : Run) (s : Script) (h : History) (state : State) (progress : List Progress) (is : record { script = s; history = h } ≡ k) (consistent : IsConsistent s h state progress)
-  (t : ℕ) (at : Progress) (line : Line) (name : List ℕ) (reply : Reply) (state' : State) (log : Log) (lt : t < length k.script.tasks)
-  (was : WasDone s state progress t at line name reply state') where
-
+    (t : ℕ) (at : Progress) (line : Line) (name : List ℕ) (reply : Reply) (state' : State) (log : Log) (lt : t < length k.script.tasks)
+    (was : WasDone s state progress t at line name reply state') where
   below : t < length s.tasks
   below = below_here k s h state progress is consistent t lt
 
@@ -92,11 +91,10 @@ module _ (k : Run) (s : Script) (h : History) (state : State) (progress : List P
   changed more = changed_here k s h state progress is consistent log t (at.lines + 1) reply more number_is replied_is
 
   module _ (list list' : ListView) (catalogue catalogue' : CatalogueView) (given : ℕ) (turn : turn_at k t ≡ turns.Change)
-    (policies : AreOf (specs_of k) list catalogue) (numbers : given ≡ state.numbers)
-    (entries : list'.entries ≡ listed_after_reply reply list.entries (listed_after line.call list catalogue given))
-    (held : (m : Module) → times_held m list' catalogue' ≡ times_held m list catalogue) (ready : IsReady list' catalogue')
-    (more : log ≡ record h.events { list = h.events.list ++ events.Changed t (at.lines + 1) reply ∷ [] }) where
-
+      (policies : AreOf (specs_of k) list catalogue) (numbers : given ≡ state.numbers)
+      (entries : list'.entries ≡ listed_after_reply reply list.entries (listed_after line.call list catalogue given))
+      (held : (m : Module) → times_held m list' catalogue' ≡ times_held m list catalogue) (ready : IsReady list' catalogue')
+      (more : log ≡ record h.events { list = h.events.list ++ events.Changed t (at.lines + 1) reply ∷ [] }) where
     follows_change : AreOf state'.specs list' catalogue'
     follows_change =
         let A : List Entry → Type 0 = λ specs. AreOf specs list catalogue in

@@ -80,7 +80,7 @@ consistent_on s h state progress e state' t y consistent lt may next goes follow
     let M : RunState → Type 0 = λ m. MayCome s m e in
     let places : t < length progress = omega (arith, consistent.places) in
     let left : events_left s.tasks (set progress t y) + 1 ≤ events_left s.tasks progress =
-        events_left-set s.tasks progress t y lt consistent.places goes.more goes.fits in
+    events_left-set s.tasks progress t y lt consistent.places goes.more goes.fits in
     let longer = length-append h.events.list (e ∷ []) in
     record {
       legal = record { formed = consistent.legal.formed; boots = consistent.legal.boots; events = AllMayCome-append s (opening s) h.events.list e consistent.legal.events (subst M (sym consistent.here) may) };

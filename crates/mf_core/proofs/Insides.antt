@@ -74,10 +74,10 @@ module _ (k : Run) (s : Script) (h : History) (state : State) (progress : List P
       let run : Run = record { script = s; history = h } in
       let P : Run → Type 0 = λ k. next_plan k t ≡ Some plan in
       let here : next_plan run t ≡ Some plan =
-          ap (λ (m : RunState). plan_at run t (next_line s m.progress t)) consistent.here
-          ∙ ap (plan_at run t) next
-          ∙ ap (λ (m : RunState). Some (plan_of m.state (name_of s t) line.child line.call)) consistent.here
-          ∙ ap (λ (p : Plan). Some p) (sym planned) in
+      ap (λ (m : RunState). plan_at run t (next_line s m.progress t)) consistent.here
+      ∙ ap (plan_at run t) next
+      ∙ ap (λ (m : RunState). Some (plan_of m.state (name_of s t) line.child line.call)) consistent.here
+      ∙ ap (λ (p : Plan). Some p) (sym planned) in
       subst P is here
 
   pub current_here : (t : ℕ) (line : Line) (plan : Plan) → next_line s progress t ≡ Some line → next_plan k t ≡ Some plan
@@ -123,7 +123,7 @@ module _ (k : Run) (s : Script) (h : History) (state : State) (progress : List P
       let K : Run → Type 0 = λ k. progress_of (record { script = s; history = appended h e }) ≡ (after k.script (run_state k) e).progress in
       let grown = ap (λ (m : RunState). m.progress) (run_state_after-append s (opening s) h.events.list e) in
       let all : progress_of (record { script = s; history = record h { events = log } }) ≡ set (progress_of k) t y =
-          ap (λ (l : Log). (run_state_of s l.list).progress) more ∙ (subst K is grown ∙ next) in
+      ap (λ (l : Log). (run_state_of s l.list).progress) more ∙ (subst K is grown ∙ next) in
       let place : t < length (progress_of k) = omega (arith, places_here) in
       record {
         at = ap (λ (xs : List Progress). progress_at xs t) all ∙ get_or-set_same (progress_of k) t y first_progress place;

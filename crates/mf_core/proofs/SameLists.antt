@@ -214,7 +214,7 @@ listed_same : (m : Module) (es : List Entry) → loading.is_listed m es ≡ list
 listed_same m [] = refl
 listed_same m (e ∷ es) =
     let here : loading.is_of m e ≡ lists.is_of m e =
-        ap (λ n. nat_eq n (loading.number_of e.0.module)) (number_same m) ∙ ap (λ n. nat_eq (lists.number_of m) n) (number_same e.0.module) in
+    ap (λ n. nat_eq n (loading.number_of e.0.module)) (number_same m) ∙ ap (λ n. nat_eq (lists.number_of m) n) (number_same e.0.module) in
     ap (λ b. b || loading.is_listed m es) here ∙ ap (λ b. lists.is_of m e || b) (listed_same m es)
 
 -- where there is no fault, each test passed
@@ -299,7 +299,7 @@ unloads s name list catalogue policies can =
     let m = can.wanted in
     let listed : lists.is_listed m list.entries ≡ true = ap (lists.is_listed m) policies.listed ∙ (sym (listed_same m s.specs) ∙ can.listed) in
     let ok : is_unloadok (flags_of m) ≡ true =
-        unloadable (loading.is_listed m s.specs) (is_unloadok (flags_of m)) (sym (ap (unload_fault_of s) can.named) ∙ can.fault) in
+    unloadable (loading.is_listed m s.specs) (is_unloadok (flags_of m)) (sym (ap (unload_fault_of s) can.named) ∙ can.fault) in
     let found = has_entry m list.entries listed in
     let verdict : unregister_verdict m list ≡ Ok found.entry.0 = rw (found.is, unregister_verdict) (rw ok refl) in
     ap (λ (o : Option Module). unregistered list.entries (unregister_verdict_by_name o list)) can.named

@@ -60,9 +60,7 @@ fn value_in(listed: &[Registration], kind: Kind, request: &Request, slot: u8) ->
 fn holder(listed: &[Registration], slot: u8) -> Option<&Registration>
     ensures { option_copied result ≡ find (spec.holds slot) listed.now }
 {
-    listed
-        .iter()
-        .find(|registration| holds(registration, slot))
+    listed.iter().find(|registration| holds(registration, slot))
 }
 
 fn holds(registration: &Registration, slot: u8) -> bool

@@ -19,15 +19,15 @@ push-requires g c =
 pub invariant_of-self-2 : goal.invariant_of-self-2
 invariant_of-self-2 g c =
     let was : WasDone c.self.inside.script.now c.self.inside.state c.self.inside.progress c.args.task c.at-lines.result c.line_at-line.result.now c.name_of-name.result.now c.in_ok-reply.reply c.step.new.state =
-        record {
-          here = c.at-lines.ensures;
-          next = c.line_at-line.ensures;
-          named = c.name_of-name.ensures;
-          replied = c.in_ok-reply.ensures.reply;
-          moved = c.in_ok-reply.ensures.state;
-          booted = c.step.ensures.booted;
-          ids = c.step.ensures.ids;
-        } in
+    record {
+      here = c.at-lines.ensures;
+      next = c.line_at-line.ensures;
+      named = c.name_of-name.ensures;
+      replied = c.in_ok-reply.ensures.reply;
+      moved = c.in_ok-reply.ensures.state;
+      booted = c.step.ensures.booted;
+      ids = c.step.ensures.ids;
+    } in
     let none : open_entries (progress_of c.args.self.now) ≡ 0 = omega (arith, c.open_entries-waiting.ensures, c.if-waiting-gt0.false) in
     changed_consistent c.args.self.now c.self.inside.script.now c.self.inside.history c.self.inside.state c.self.inside.progress c.self.view_is c.self.invariant
     c.args.task c.at-lines.result c.line_at-line.result.now c.name_of-name.result.now c.in_ok-reply.reply c.step.new.state c.push.new.self c.requires.task was
@@ -38,19 +38,21 @@ invariant_of-self-2 g c =
 pub returns-clause-outcome : goal.returns-clause-outcome
 returns-clause-outcome g c =
     let was : WasDone c.self.inside.script.now c.self.inside.state c.self.inside.progress c.args.task c.at-lines.result c.line_at-line.result.now c.name_of-name.result.now c.in_ok-reply.reply c.step.new.state =
-        record {
-          here = c.at-lines.ensures;
-          next = c.line_at-line.ensures;
-          named = c.name_of-name.ensures;
-          replied = c.in_ok-reply.ensures.reply;
-          moved = c.in_ok-reply.ensures.state;
-          booted = c.step.ensures.booted;
-          ids = c.step.ensures.ids;
-        } in
-    let none : open_entries (progress_of c.args.self.now) ≡ 0 = omega (arith, c.open_entries-waiting.ensures, c.if-waiting-gt0.false) in
-    (none, changed c.args.self.now c.self.inside.script.now c.self.inside.history c.self.inside.state c.self.inside.progress c.self.view_is c.self.invariant
-    c.args.task c.at-lines.result c.line_at-line.result.now c.name_of-name.result.now c.in_ok-reply.reply c.step.new.state c.push.new.self c.requires.task was
-    c.push.ensures)
+    record {
+      here = c.at-lines.ensures;
+      next = c.line_at-line.ensures;
+      named = c.name_of-name.ensures;
+      replied = c.in_ok-reply.ensures.reply;
+      moved = c.in_ok-reply.ensures.state;
+      booted = c.step.ensures.booted;
+      ids = c.step.ensures.ids;
+    } in
+    let none : open_entries (progress_of c.args.self.now) ≡ 0 = omega (arith, c.open_entries-waiting.ensures, c.if-waiting-gt0.false) in (
+      none,
+      changed c.args.self.now c.self.inside.script.now c.self.inside.history c.self.inside.state c.self.inside.progress c.self.view_is c.self.invariant
+          c.args.task c.at-lines.result c.line_at-line.result.now c.name_of-name.result.now c.in_ok-reply.reply c.step.new.state c.push.new.self c.requires.task was
+          c.push.ensures,
+    )
 
 pub returns-clause-progress : goal.returns-clause-progress
 returns-clause-progress g c =
@@ -59,15 +61,15 @@ returns-clause-progress g c =
 pub returns-clause-policies : goal.returns-clause-policies
 returns-clause-policies g c =
     let was : WasDone c.self.inside.script.now c.self.inside.state c.self.inside.progress c.args.task c.at-lines.result c.line_at-line.result.now c.name_of-name.result.now c.in_ok-reply.reply c.step.new.state =
-        record {
-          here = c.at-lines.ensures;
-          next = c.line_at-line.ensures;
-          named = c.name_of-name.ensures;
-          replied = c.in_ok-reply.ensures.reply;
-          moved = c.in_ok-reply.ensures.state;
-          booted = c.step.ensures.booted;
-          ids = c.step.ensures.ids;
-        } in
+    record {
+      here = c.at-lines.ensures;
+      next = c.line_at-line.ensures;
+      named = c.name_of-name.ensures;
+      replied = c.in_ok-reply.ensures.reply;
+      moved = c.in_ok-reply.ensures.state;
+      booted = c.step.ensures.booted;
+      ids = c.step.ensures.ids;
+    } in
     changed_policies c.args.self.now c.self.inside.script.now c.self.inside.history c.self.inside.state c.self.inside.progress c.self.view_is c.self.invariant
     c.args.task c.at-lines.result c.line_at-line.result.now c.name_of-name.result.now c.in_ok-reply.reply c.step.new.state c.push.new.self c.requires.task was
     c.args.list.now c.follow.new.list c.args.catalogue.now c.follow.new.catalogue c.copy-numbers.result c.requires.turn c.requires.policies c.copy-numbers.ensures

@@ -17,15 +17,15 @@ push-requires g c =
 pub invariant_of-self-2 : goal.invariant_of-self-2
 invariant_of-self-2 g c =
     let was : WasDone c.self.inside.script.now c.self.inside.state c.self.inside.progress c.args.task c.at-lines.result c.line_at-line.result.now c.name_of-name.result.now c.in_ok-reply.reply c.step.new.state =
-        record {
-          here = c.at-lines.ensures;
-          next = c.line_at-line.ensures;
-          named = c.name_of-name.ensures;
-          replied = c.in_ok-reply.ensures.reply;
-          moved = c.in_ok-reply.ensures.state;
-          booted = c.step.ensures.booted;
-          ids = c.step.ensures.ids;
-        } in
+    record {
+      here = c.at-lines.ensures;
+      next = c.line_at-line.ensures;
+      named = c.name_of-name.ensures;
+      replied = c.in_ok-reply.ensures.reply;
+      moved = c.in_ok-reply.ensures.state;
+      booted = c.step.ensures.booted;
+      ids = c.step.ensures.ids;
+    } in
     done_consistent c.args.self.now c.self.inside.script.now c.self.inside.history c.self.inside.state c.self.inside.progress c.self.view_is c.self.invariant
     c.args.task c.at-lines.result c.line_at-line.result.now c.name_of-name.result.now c.in_ok-reply.reply c.step.new.state c.push.new.self c.requires.task was
     c.set_phase.new.self c.requires.turn c.push.ensures c.set_phase.ensures
@@ -37,15 +37,15 @@ returns-clause-progress g c =
 pub returns-clause-specs : goal.returns-clause-specs
 returns-clause-specs g c =
     let was : WasDone c.self.inside.script.now c.self.inside.state c.self.inside.progress c.args.task c.at-lines.result c.line_at-line.result.now c.name_of-name.result.now c.in_ok-reply.reply c.step.new.state =
-        record {
-          here = c.at-lines.ensures;
-          next = c.line_at-line.ensures;
-          named = c.name_of-name.ensures;
-          replied = c.in_ok-reply.ensures.reply;
-          moved = c.in_ok-reply.ensures.state;
-          booted = c.step.ensures.booted;
-          ids = c.step.ensures.ids;
-        } in
+    record {
+      here = c.at-lines.ensures;
+      next = c.line_at-line.ensures;
+      named = c.name_of-name.ensures;
+      replied = c.in_ok-reply.ensures.reply;
+      moved = c.in_ok-reply.ensures.state;
+      booted = c.step.ensures.booted;
+      ids = c.step.ensures.ids;
+    } in
     done_specs c.args.self.now c.self.inside.script.now c.self.inside.history c.self.inside.state c.self.inside.progress c.self.view_is c.self.invariant
     c.args.task c.at-lines.result c.line_at-line.result.now c.name_of-name.result.now c.in_ok-reply.reply c.step.new.state c.push.new.self c.requires.task was
     c.requires.turn c.push.ensures

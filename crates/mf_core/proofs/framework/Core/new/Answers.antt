@@ -18,7 +18,7 @@ invariant_of-core g c =
     let objects = c.in_ok-objects.ensures.value ∙ ap (λ (rs : List Registration). opening_objects rs s) same in
     let once = booted_once c.in_ok-boots.boots _ _ c.as_slice.result.now _ c.in_ok-boots.ensures.policies listed c.in_ok-specs.ensures in
     let opening = opening_is s c.in_ok-boots.boots c.as_slice.result.now _ _ c.in_ok-objects.objects c.in_ok-specs.specs c.in_ok-boots.numbers
-        c.in_ok-boots.ensures.boots c.in_ok-boots.ensures.policies listed objects c.in_ok-specs.ensures c.in_ok-boots.ensures.numbers in
+    c.in_ok-boots.ensures.boots c.in_ok-boots.ensures.policies listed objects c.in_ok-specs.ensures c.in_ok-boots.ensures.numbers in
     consistent_first s _ _ _ c.line_count.result c.requires.formed c.in_ok-boots.ensures.boots c.in_ok-events.ensures c.line_count.ensures.value c.line_count.ensures.most
     opening once c.in_ok-objects.ensures.few.ids c.in_ok-progress.ensures
 
