@@ -72,6 +72,9 @@ named_or_none name (m ∷ ms) = by_test (bytes_eq (module_text m) name) (bytes_e
     by_test true decides rest = decides.0 refl
     by_test false decides rest = later (find (λ (m : Module). bytes_eq (module_text m) name) ms) (λ same. let no : false ≡ true = decides.1 same in cc) rest
 
+all_modules : List Module
+all_modules = Biba ∷ Mls ∷ Partition ∷ Bsdextended ∷ Priority ∷ []
+
 each_module : (P : Module → Type 0) → All P (Biba ∷ Mls ∷ Partition ∷ Bsdextended ∷ Priority ∷ []) → (m : Module) → P m
 each_module P all Biba = all 0 Biba (omega arith)
 each_module P all Mls = all 1 Biba (omega arith)
@@ -94,37 +97,17 @@ is_named name =
 
 -- What registering and unregistering make of the list
 
-entries_registered : (list list' : ListView) (catalogue catalogue' : CatalogueView) (given given' : ℕ) (o : Result Registration RegisterFault)
+pub entries_registered : (list list' : ListView) (catalogue catalogue' : CatalogueView) (given given' : ℕ) (o : Result Registration RegisterFault)
     → IfOk o (λ r. Registers r list list' catalogue catalogue' given given') → OnErr o ((list' ≡ list) × (catalogue' ≡ catalogue) × (given' ≡ given))
     → list'.entries ≡ registered list.entries o
 entries_registered list list' catalogue catalogue' given given' (Ok r) moves err = moves.entries
 entries_registered list list' catalogue catalogue' given given' (Err fault) ok same = ap (λ (l : ListView). l.entries) same.0
 
-entries_unregistered : (list list' : ListView) (catalogue catalogue' : CatalogueView) (o : Result Registration UnregisterFault)
+pub entries_unregistered : (list list' : ListView) (catalogue catalogue' : CatalogueView) (o : Result Registration UnregisterFault)
     → IfOk o (λ r. Unregisters r.module list list' catalogue catalogue') → OnErr o ((list' ≡ list) × (catalogue' ≡ catalogue))
     → list'.entries ≡ unregistered list.entries o
 entries_unregistered list list' catalogue catalogue' (Ok r) moves err = moves.entries
 entries_unregistered list list' catalogue catalogue' (Err fault) ok same = ap (λ (l : ListView). l.entries) same.0
-
--- kldload registers, and kldunload unregisters
-
-pub entries_loaded : (list list' : ListView) (catalogue catalogue' : CatalogueView) (given given' : ℕ) (o : Result Registration RegisterFault) (name text : List ℕ) (c : Call)
-    → c ≡ call.Kldload name → text ≡ name → o ≡ register_verdict_by_name (module_named text) true list catalogue given
-    → IfOk o (λ r. Registers r list list' catalogue catalogue' given given') → OnErr o ((list' ≡ list) × (catalogue' ≡ catalogue) × (given' ≡ given))
-    → list'.entries ≡ listed_after c list catalogue given
-entries_loaded list list' catalogue catalogue' given given' o name text c is named verdict ok err =
-    entries_registered list list' catalogue catalogue' given given' o ok err
-    ∙ ap (registered list.entries) (verdict ∙ ap (λ (n : List ℕ). register_verdict_by_name (module_named n) true list catalogue given) named)
-    ∙ sym (ap (λ (c : Call). listed_after c list catalogue given) is)
-
-pub entries_unloaded : (list list' : ListView) (catalogue catalogue' : CatalogueView) (given : ℕ) (o : Result Registration UnregisterFault) (name text : List ℕ) (c : Call)
-    → c ≡ call.Kldunload name → text ≡ name → o ≡ unregister_verdict_by_name (module_named text) list
-    → IfOk o (λ r. Unregisters r.module list list' catalogue catalogue') → OnErr o ((list' ≡ list) × (catalogue' ≡ catalogue))
-    → list'.entries ≡ listed_after c list catalogue given
-entries_unloaded list list' catalogue catalogue' given o name text c is named verdict ok err =
-    entries_unregistered list list' catalogue catalogue' o ok err
-    ∙ ap (unregistered list.entries) (verdict ∙ ap (λ (n : List ℕ). unregister_verdict_by_name (module_named n) list) named)
-    ∙ sym (ap (λ (c : Call). listed_after c list catalogue given) is)
 
 -- Entries leave the list of policies as it is
 
