@@ -6,3 +6,4 @@ pub mod NoFaults
 pub mod Idle
 pub mod Current
 pub mod Modules
+pub mod Whole
