@@ -1,6 +1,6 @@
 -- Registration at boot, one module after another.
-use Rattle.std.proofs.Common.{◌≡◌, ◌≢◌, ℕ, zero, suc, ◌+◌, ◌<◌, ◌≤◌, Bool, true, false, cond, not, ◌&&◌, ◌||◌, List, [], ◌∷◌, ◌++◌, length, get_or, take, map, is_some, Result, Ok, Err, refl, ap, sym, ◌∙◌, subst, arith}
-use Rattle.std.specs.Prelude.{All, fold}
+use Rattle.std.proofs.Common.{◌≡◌, ℕ, ◌+◌, ◌<◌, ◌≤◌, Bool, true, false, cond, not, ◌&&◌, List, [], ◌∷◌, ◌++◌, length, get_or, take, map, is_some, Ok, refl, ap, sym, ◌∙◌, subst, arith}
+use Rattle.std.specs.Prelude.{fold}
 use Rattle.std.proofs.lemmas.List.{take_more, get_or_default}
 use Rattle.std.proofs.lemmas.Bool.{lt-leb}
 use Rattle.std.proofs.lemmas.List.Sums.{fold-append}
@@ -8,12 +8,11 @@ use Rattle.std.proofs.lemmas.List.Elements.{All-get_or}
 use Rattle.mf_errno.specs.declared.module.Module.{Module}
 use Rattle.mf_errno.specs.declared.module.Module.TheVariants.{Biba, Mls, Partition, Bsdextended, Priority}
 use Rattle.mf_policy.specs.declared.registration.Registration.{Registration}
-use Rattle.mf_policy.specs.Modules.{fresh_of, has_spec, wants_slot}
-use Rattle.mf_policy.specs.Registration.{Entry}
-use Rattle.mf_list.specs.Held.{how_many, times_held, IsListedOnce}
-use Rattle.mf_list.specs.Lists.{ListView, CatalogueView, IsReady, in_catalogue, is_listed, is_of, same_module}
+use Rattle.mf_policy.specs.Modules.{fresh_of, has_spec, wants_slot, same_module}
+use Rattle.mf_policy.specs.Registration.{Entry, is_of}
+use Rattle.mf_list.specs.Held.{how_many, IsListedOnce}
+use Rattle.mf_list.specs.Lists.{ListView, CatalogueView, IsReady}
 use Rattle.mf_list.specs.Registration.{Registers, register_verdict, registration_of, slot_for, with_newest}
-use Rattle.mf_list.specs.declared.faults.RegisterFault.{RegisterFault}
 use Rattle.mf_list.proofs.Counts.{how_many-newest, how_many-push}
 use Rattle.mf_list.proofs.Held.{held_after_register}
 use Rattle.mf_objects.specs.Live.{Entities}
@@ -22,7 +21,7 @@ use Rattle.mf_script.specs.WellFormed.{AreBoots, is_bootable}
 use Rattle.mf_plan.specs.declared.state.State.{State}
 use Rattle.mf_core.specs.Opening.{booted_specs, boots_of, given_after, given_by, listed_by, opening_objects, opening_state, registrations_from, registrations_in, with_registered}
 use Rattle.mf_core.specs.Policies.{AreAllThere, AreOf, CanBoot, times_wanted}
-use Rattle.mf_core.proofs.Counting.{listed_there, none_before, none_counted, none_passes, same_module-other, some_passes, wanted_once}
+use Rattle.mf_core.proofs.Counting.{listed_there, none_before, none_passes, same_module-other, some_passes, wanted_once}
 
 and_false : (b : Bool) → (b && false) ≡ false
 and_false true = refl

@@ -1,5 +1,5 @@
 -- What doing the call of a line makes of a core: of the call of an entry, and of a change.
-use Rattle.std.proofs.Common.{◌≡◌, ℕ, ◌+◌, ◌<◌, ◌≤◌, List, [], ◌∷◌, ◌++◌, length, Option, Some, slice_get, refl, sym, ◌∙◌, ap, subst, arith}
+use Rattle.std.proofs.Common.{◌≡◌, ℕ, ◌+◌, ◌<◌, ◌≤◌, List, [], ◌∷◌, ◌++◌, length, Some, slice_get, sym, ◌∙◌, ap, subst}
 use Rattle.mf_errno.specs.declared.module.Module.{Module}
 use Rattle.mf_policy.specs.Registration.{Entry}
 use Rattle.mf_list.specs.Held.{times_held, IsListedOnce}
@@ -13,16 +13,15 @@ use Rattle.mf_step.specs.Step.{step_reply, step_state}
 use Rattle.mf_core.specs.declared.progress.Phase.TheVariants as phases
 use Rattle.mf_core.specs.declared.progress.Progress.{Progress}
 use Rattle.mf_core.specs.declared.progress.Turn.TheVariants as turns
-use Rattle.mf_core.specs.declared.history.Event.{Event}
 use Rattle.mf_core.specs.declared.history.Event.TheVariants as events
 use Rattle.mf_core.specs.declared.history.History.{History}
 use Rattle.mf_core.specs.Log.{Log}
 use Rattle.mf_core.specs.Laws.{none_open-entries}
-use Rattle.mf_core.specs.LegalHistory.{is_change, next_line, next_reply, next_state}
+use Rattle.mf_core.specs.LegalHistory.{next_line, next_reply, next_state}
 use Rattle.mf_core.specs.Policies.{AreOf, listed_after, listed_after_reply}
 use Rattle.mf_core.specs.Progress.{progress_at, open_entries, with_line, with_phase, NoneOpen}
 use Rattle.mf_core.specs.Run.{Run, IsChanged, IsConsistent, progress_of, specs_of, turn_at}
-use Rattle.mf_core.proofs.Consistency.{Follows, changing_call, consistent_change, consistent_done, entered_call, moved, replied}
+use Rattle.mf_core.proofs.Consistency.{changing_call, consistent_change, consistent_done, entered_call, moved, replied}
 use Rattle.mf_core.proofs.Insides.{below_here, changed_here, progress_here, same_specs_on, specs_here, specs_on, turn_here}
 use Rattle.mf_core.proofs.SameLists.{change_follows, entry_specs_same, goes_on, listed_once}
 

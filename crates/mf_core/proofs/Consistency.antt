@@ -1,5 +1,5 @@
 -- A core stays consistent with each event that may come.
-use Rattle.std.proofs.Common.{◌≡◌, ℕ, zero, suc, ◌+◌, ◌*◌, ◌-◌, ◌<◌, ◌≤◌, ◌⊎◌, inl, inr, Bool, true, false, List, [], ◌∷◌, ◌++◌, length, map, get_or, set, Option, Some, None, unwrap_or, slice_get, option_map, refl, sym, ◌∙◌, ap, subst, arith, length-append, length-set, get_or-set_same, get_or-set_other}
+use Rattle.std.proofs.Common.{◌≡◌, ℕ, zero, suc, ◌+◌, ◌*◌, ◌-◌, ◌<◌, ◌≤◌, ◌⊎◌, inl, inr, Bool, true, false, List, [], ◌∷◌, length, map, get_or, set, Option, Some, None, unwrap_or, slice_get, option_map, refl, sym, ◌∙◌, ap, subst, arith, length-append, length-set}
 use Rattle.std.specs.Prelude.{if◌then◌else◌}
 use Rattle.std.specs.List.{sum_by}
 use Rattle.std.proofs.lemmas.List.Sums.{sum_by-cons}
@@ -10,23 +10,20 @@ use Rattle.mf_script.specs.declared.script.Script.{Script}
 use Rattle.mf_script.specs.WellFormed.{lines_of, name_of, IsWellFormed}
 use Rattle.mf_list.specs.Held.{IsListedOnce}
 use Rattle.mf_plan.specs.declared.state.State.{State}
-use Rattle.mf_plan.specs.declared.plan.Plan.{Plan}
 use Rattle.mf_plan.specs.declared.reply.Reply.{Reply}
-use Rattle.mf_plan.specs.Plan.{plan_of}
 use Rattle.mf_step.specs.Step.{step_reply, step_state}
 use Rattle.mf_core.specs.declared.progress.Phase.{Phase}
 use Rattle.mf_core.specs.declared.progress.Phase.TheVariants as phases
 use Rattle.mf_core.specs.declared.progress.Progress.{Progress}
-use Rattle.mf_core.specs.declared.progress.Turn.{Turn}
 use Rattle.mf_core.specs.declared.progress.Turn.TheVariants as turns
 use Rattle.mf_core.specs.declared.history.Event.{Event}
 use Rattle.mf_core.specs.declared.history.Event.TheVariants as events
 use Rattle.mf_core.specs.declared.history.History.{History}
 use Rattle.mf_core.specs.Log.{Log}
 use Rattle.mf_core.specs.Opening.{boots_of, opening_state}
-use Rattle.mf_core.specs.Progress.{progress_at, first_progress, with_phase, with_line, left_at, with_left, NoneOpen, Moves}
+use Rattle.mf_core.specs.Progress.{progress_at, first_progress, with_phase, with_line, left_at, with_left, NoneOpen}
 use Rattle.mf_core.specs.LegalHistory.{RunState, MayCome, AllMayCome, after, is_change, run_state_of, opening, appended, reply_at, state_at, turn_at_line, turn_in, turn_of, next_line, next_reply, next_state}
-use Rattle.mf_core.specs.Run.{Run, turn_at, specs_of, progress_of, run_state, IsAtEntry, IsConsistent, HasLine, events_left, events_by, lines_in}
+use Rattle.mf_core.specs.Run.{IsAtEntry, IsConsistent, HasLine, events_left, events_by, lines_in}
 use Rattle.mf_core.specs.Laws.{AllMayCome-append, run_state_after-append, progress_at-first, line_at_entry, line_at_change, entry_call, change_call}
 
 -- one event less is left where at least one more came at a task

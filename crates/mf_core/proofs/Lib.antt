@@ -1,5 +1,4 @@
 pub mod Consistency
-pub mod LastNames
 pub mod Counting
 pub mod Boots
 pub mod SameLists

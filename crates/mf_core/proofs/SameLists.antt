@@ -1,24 +1,21 @@
 -- The list of policies and the catalogue go on as the state's list does.
-use Rattle.std.proofs.Common.{◌≡◌, ◌≢◌, ℕ, ◌+◌, ◌≤◌, drop, Bool, true, false, cond, not, ◌&&◌, ◌||◌, List, [], ◌∷◌, Option, Some, None, IsSome, option_and_then, nat_eq, IfOk, OnErr, MatchOption, Result, Ok, Err, refl, ap, sym, ◌∙◌, subst, arith}
+use Rattle.std.proofs.Common.{◌≡◌, ◌≢◌, ℕ, ◌+◌, ◌≤◌, drop, Bool, true, false, cond, ◌&&◌, ◌||◌, List, [], ◌∷◌, Option, Some, None, IsSome, option_and_then, IfOk, OnErr, MatchOption, Result, Ok, Err, refl, ap, sym, ◌∙◌, arith}
 use Rattle.std.specs.Prelude.{All, find, if◌then◌else◌, nat_le}
-use Rattle.std.specs.List.{list_any}
 use Rattle.std.specs.Str.{bytes_eq}
 use Rattle.std.proofs.lemmas.Slice.Eq.{bytes_eq-Decides}
 use Rattle.std.proofs.lemmas.List.Elements.{All-nil, All-cons}
 use Rattle.mf_errno.specs.Module.{IsModuleNamed, module_text}
-use Rattle.mf_errno.specs.declared.errno.Errno.{Errno}
 use Rattle.mf_errno.specs.declared.errno.Errno.TheVariants.{Enoent, Enomem, Ebusy, Eexist}
 use Rattle.mf_errno.specs.declared.module.Module.{Module}
 use Rattle.mf_errno.specs.declared.module.Module.TheVariants.{Biba, Mls, Partition, Bsdextended, Priority}
 use Rattle.mf_policy.specs.declared.registration.Registration.{Registration}
 use Rattle.mf_policy.specs.LoadFlags.{is_notlate, is_unloadok}
-use Rattle.mf_policy.specs.Modules.{flags_of, fresh_of, has_spec, wants_slot}
-use Rattle.mf_policy.specs.Registration.{Entry}
+use Rattle.mf_policy.specs.Modules.{flags_of, fresh_of, has_spec, wants_slot, same_module}
+use Rattle.mf_policy.specs.Registration.{Entry, is_listed, is_of}
 use Rattle.mf_list.specs.declared.faults.RegisterFault.{RegisterFault}
 use Rattle.mf_list.specs.declared.faults.UnregisterFault.{UnregisterFault}
 use Rattle.mf_list.specs.Held.{how_many, times_held, IsListedOnce}
-use Rattle.mf_list.specs.Lists as lists
-use Rattle.mf_list.specs.Lists.{ListView, CatalogueView, IsReady, entry_in, in_catalogue, is_of, same_module}
+use Rattle.mf_list.specs.Lists.{ListView, CatalogueView, IsReady, entry_in, in_catalogue}
 use Rattle.mf_list.specs.Registration.{Registers, Unregisters, entries_without, register_verdict, register_verdict_by_name, registration_of, unregister_verdict, unregister_verdict_by_name, with_newest}
 use Rattle.mf_list.proofs.Places.{same_module-is}
 use Rattle.mf_objects.specs.declared.id.Id.{Id}
@@ -34,11 +31,10 @@ use Rattle.mf_plan.specs.declared.state.State.{State}
 use Rattle.mf_plan.specs.declared.target.Target.{Target}
 use Rattle.mf_plan.specs.declared.target.Target.TheVariants.{Root, Name, Nowhere}
 use Rattle.mf_plan.specs.Doing.{CanDo, CanLoad, CanUnload}
-use Rattle.mf_plan.specs.Loading as loading
-use Rattle.mf_plan.specs.Loading.{if_there, loadable, load_fault, unload_fault, unload_fault_of}
+use Rattle.mf_plan.specs.Loading.{if_there, loadable, unload_fault_of}
 use Rattle.mf_plan.specs.Names.{caller_name, module_named}
 use Rattle.mf_plan.specs.Path.{walk_along, last_name}
-use Rattle.mf_plan.specs.Plan.{plan_of, plan_by}
+use Rattle.mf_plan.specs.Plan.{plan_of}
 use Rattle.mf_plan.specs.Views.{process_named, pipe_named, socket_named}
 use Rattle.mf_plan.proofs.Laws.{can_do, caller_lives}
 use Rattle.mf_objects.specs.declared.entity.What.{What}
@@ -185,21 +181,6 @@ ok_do plan verdict p q ok = ok_denied plan verdict.denied p q ok
 
 -- A change that is done
 
-number_same : (m : Module) → loading.number_of m ≡ lists.number_of m
-number_same Biba = refl
-number_same Mls = refl
-number_same Partition = refl
-number_same Bsdextended = refl
-number_same Priority = refl
-
--- the two ways to say that a module is listed
-listed_same : (m : Module) (es : List Entry) → loading.is_listed m es ≡ lists.is_listed m es
-listed_same m [] = refl
-listed_same m (e ∷ es) =
-    let here : loading.is_of m e ≡ lists.is_of m e =
-    ap (λ n. nat_eq n (loading.number_of e.0.module)) (number_same m) ∙ ap (λ n. nat_eq (lists.number_of m) n) (number_same e.0.module) in
-    ap (λ b. b || loading.is_listed m es) here ∙ ap (λ b. lists.is_of m e || b) (listed_same m es)
-
 -- where there is no fault, each test passed
 record NoFault (a b c : Bool) : Type 0 where
   late : a ≡ false
@@ -229,7 +210,7 @@ is_there name m (Some k) is there =
 
 -- a module that is there and isn't listed is in the catalogue
 in_the_catalogue : (m : Module) (specs : List Entry) (list : ListView) (catalogue : CatalogueView) → AreOf specs list catalogue → has_spec m ≡ true
-    → lists.is_listed m list.entries ≡ false → in_catalogue m catalogue.modules ≡ true
+    → is_listed m list.entries ≡ false → in_catalogue m catalogue.modules ≡ true
 in_the_catalogue m specs list catalogue policies there unlisted =
     let once : times_wanted m ≡ 1 = ap {B = ℕ} (λ (b : Bool). cond b 1 0) there in
     let none : how_many (is_of m) list.entries ≡ 0 = none_counted (is_of m) list.entries unlisted in
@@ -241,9 +222,9 @@ loads : (s : State) (name : List ℕ) (list : ListView) (catalogue : CatalogueVi
 loads s name list catalogue policies booted can =
     let m = can.wanted in
     let there = is_there name m (module_named name) refl can.named in
-    let none = no_fault (s.booted && is_notlate (flags_of m)) (loading.is_listed m s.specs) (wants_slot m && nat_le 4 s.numbers) can.fault in
+    let none = no_fault (s.booted && is_notlate (flags_of m)) (is_listed m s.specs) (wants_slot m && nat_le 4 s.numbers) can.fault in
     let late : is_notlate (flags_of m) ≡ false = ap (λ b. b && is_notlate (flags_of m)) (sym booted) ∙ none.late in
-    let unlisted : lists.is_listed m list.entries ≡ false = ap (lists.is_listed m) policies.listed ∙ (sym (listed_same m s.specs) ∙ none.listed) in
+    let unlisted : is_listed m list.entries ≡ false = ap (is_listed m) policies.listed ∙ none.listed in
     let waits : in_catalogue m catalogue.modules ≡ true = in_the_catalogue m s.specs list catalogue policies there.there unlisted in
     let verdict : register_verdict m true list catalogue s.numbers ≡ Ok (registration_of m true s.numbers) = rw (unlisted, waits, late, none.full) refl in
     ap (λ (o : Option Module). registered list.entries (register_verdict_by_name o true list catalogue s.numbers)) there.named
@@ -258,15 +239,15 @@ record HasEntry (m : Module) (es : List Entry) : Type 0 where
   is : entry_in m es ≡ Some entry
   of : entry.0.module ≡ m
 
-entry_by : (m : Module) (e : Entry) (es : List Entry) (b : Bool) → is_of m e ≡ b → (b || lists.is_listed m es) ≡ true
-    → (lists.is_listed m es ≡ true → HasEntry m es) → HasEntry m (e ∷ es)
+entry_by : (m : Module) (e : Entry) (es : List Entry) (b : Bool) → is_of m e ≡ b → (b || is_listed m es) ≡ true
+    → (is_listed m es ≡ true → HasEntry m es) → HasEntry m (e ∷ es)
 entry_by m e es true is listed further =
     record { entry = e; is = ap (λ b. cond b (Some e) (entry_in m es)) is; of = sym (same_module-is m e.0.module is) }
 entry_by m e es false is listed further =
     let rest = further listed in
     record { entry = rest.entry; is = ap (λ b. cond b (Some e) (entry_in m es)) is ∙ rest.is; of = rest.of }
 
-has_entry : (m : Module) (es : List Entry) → lists.is_listed m es ≡ true → HasEntry m es
+has_entry : (m : Module) (es : List Entry) → is_listed m es ≡ true → HasEntry m es
 has_entry m [] listed = cc
 has_entry m (e ∷ es) listed = entry_by m e es (is_of m e) refl listed (has_entry m es)
 
@@ -280,9 +261,9 @@ unloads : (s : State) (name : List ℕ) (list : ListView) (catalogue : Catalogue
     → unregistered list.entries (unregister_verdict_by_name (module_named name) list) ≡ (with_unloaded s (module_named name)).specs
 unloads s name list catalogue policies can =
     let m = can.wanted in
-    let listed : lists.is_listed m list.entries ≡ true = ap (lists.is_listed m) policies.listed ∙ (sym (listed_same m s.specs) ∙ can.listed) in
+    let listed : is_listed m list.entries ≡ true = ap (is_listed m) policies.listed ∙ can.listed in
     let ok : is_unloadok (flags_of m) ≡ true =
-    unloadable (loading.is_listed m s.specs) (is_unloadok (flags_of m)) (sym (ap (unload_fault_of s) can.named) ∙ can.fault) in
+    unloadable (is_listed m s.specs) (is_unloadok (flags_of m)) (sym (ap (unload_fault_of s) can.named) ∙ can.fault) in
     let found = has_entry m list.entries listed in
     let verdict : unregister_verdict m list ≡ Ok found.entry.0 = rw (found.is, unregister_verdict) (rw ok refl) in
     ap (λ (o : Option Module). unregistered list.entries (unregister_verdict_by_name o list)) can.named

@@ -1,10 +1,10 @@
 -- What a core has to do with the list of policies and the catalogue that came with it.
 use Rattle.std.specs.Prelude.{◌≡◌, ℕ, ◌<◌, true, false, cond, List, All, Result, Ok, Err}
 use Rattle.mf_errno.specs.declared.module.Module.{Module}
-use Rattle.mf_policy.specs.Modules.{fresh_of, has_spec}
+use Rattle.mf_policy.specs.Modules.{fresh_of, has_spec, same_module}
 use Rattle.mf_policy.specs.declared.registration.Registration.{Registration}
-use Rattle.mf_policy.specs.Registration.{Entry}
-use Rattle.mf_list.specs.Lists.{ListView, CatalogueView, IsReady, in_catalogue, is_listed, same_module}
+use Rattle.mf_policy.specs.Registration.{Entry, is_listed}
+use Rattle.mf_list.specs.Lists.{ListView, CatalogueView, IsReady, in_catalogue}
 use Rattle.mf_list.specs.Held.{how_many, times_held}
 use Rattle.mf_list.specs.Registration.{entries_without, register_verdict_by_name, unregister_verdict_by_name, with_newest}
 use Rattle.mf_list.specs.declared.faults.RegisterFault.{RegisterFault}

@@ -3,7 +3,6 @@ ghost use Rattle.std.specs.Prelude.{◌≡◌, ◌≤◌, ◌<◌, ◌+◌, ℕ,
 ghost use Rattle.std.specs.List.{sum_by};
 ghost use Rattle.std.specs.Option.{option_copied};
 ghost use Rattle.mf_script.specs.WellFormed.{IsWellFormed};
-ghost use Rattle.mf_plan.specs.Path.{last_name};
 ghost use Rattle.mf_core.specs.Opening as spec;
 ghost use Rattle.mf_core.specs.Opening.{HasAtMost};
 ghost use Rattle.mf_core.specs.Run.{lines_in};
@@ -14,7 +13,8 @@ use mf_item::Kind;
 use mf_objects::Objects;
 use mf_plan::{Target, target_of};
 use mf_policy::Registration;
-use mf_script::{FileLine, Name, Script, Task, file_label, task_label};
+use mf_script::{FileLine, Script, Task, file_label, task_label};
+use mf_step::last_name;
 use std::alloc::{AllocError, Global};
 
 /// The root, then the files, then the processes of the tasks, where these policies are listed.
@@ -121,16 +121,6 @@ fn add_file(
             Ok(())
         }
         Target::Root | Target::Name(_, Some(_)) | Target::Nowhere(_) => Ok(()),
-    }
-}
-
-/// The last component of a path, and no byte for the root directory.
-fn last_name(path: &[Name]) -> &str
-    ensures { result.now ≡ last_name path.now }
-{
-    match path.last() {
-        None => "",
-        Some(name) => name.as_str(),
     }
 }
 

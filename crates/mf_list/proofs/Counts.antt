@@ -4,9 +4,10 @@ use Rattle.std.specs.List.{list_any, remove}
 use Rattle.mf_errno.specs.declared.module.Module.{Module}
 use Rattle.mf_errno.specs.declared.module.Module.TheVariants.{Biba, Mls, Partition, Bsdextended, Priority}
 use Rattle.mf_policy.specs.declared.spec.Spec.{Spec}
-use Rattle.mf_policy.specs.Registration.{Entry}
+use Rattle.mf_policy.specs.Registration.{Entry, is_listed, is_of}
 use Rattle.mf_list.specs.Held.{how_many, are_distinct, IsListedOnce}
-use Rattle.mf_list.specs.Lists.{in_catalogue, is_listed, is_of, same_module}
+use Rattle.mf_list.specs.Lists.{in_catalogue}
+use Rattle.mf_policy.specs.Modules.{same_module}
 use Rattle.mf_list.specs.Registration.{entries_without, modules_without, with_meaning, with_newest}
 use Rattle.mf_list.proofs.Places.{same_module-is}
 

@@ -4,14 +4,14 @@ use Rattle.mf_errno.specs.declared.module.Module.{Module}
 use Rattle.mf_policy.specs.declared.registration.Registration.{Registration}
 use Rattle.mf_policy.specs.declared.spec.Change.{Change}
 use Rattle.mf_policy.specs.declared.spec.Changed.{Changed}
-use Rattle.mf_policy.specs.Modules.{fresh_of}
-use Rattle.mf_policy.specs.Registration.{Entry}
+use Rattle.mf_policy.specs.Modules.{fresh_of, same_module}
+use Rattle.mf_policy.specs.Registration.{Entry, is_of}
 use Rattle.mf_policy.specs.Settings.{change_of}
 use Rattle.std.specs.declared.alloc.AllocError.{AllocError}
 use Rattle.mf_list.specs.declared.faults.RegisterFault.{RegisterFault}
 use Rattle.mf_list.specs.declared.faults.UnregisterFault.{UnregisterFault}
 use Rattle.mf_list.specs.Held.{how_many, times_held}
-use Rattle.mf_list.specs.Lists.{ListView, CatalogueView, entry_in, is_of, same_module}
+use Rattle.mf_list.specs.Lists.{ListView, CatalogueView, entry_in}
 use Rattle.mf_list.specs.Registration.{Registers, Unregisters, change_at, change_in}
 use Rattle.mf_list.proofs.Counts.{how_many-meaning, how_many-newest, how_many-push, how_many-without_entry, how_many-without_module}
 

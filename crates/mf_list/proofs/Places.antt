@@ -7,9 +7,10 @@ use Rattle.std.proofs.lemmas.Bool.{ltb-true, ltb-false}
 use Rattle.std.proofs.lemmas.Grind.{common_steps}
 use Rattle.mf_errno.specs.declared.module.Module.{Module}
 use Rattle.mf_errno.specs.declared.module.Module.TheVariants.{Biba, Mls, Partition, Bsdextended, Priority}
-use Rattle.mf_policy.specs.Registration.{Entry}
+use Rattle.mf_policy.specs.Registration.{Entry, is_listed, is_of}
 use Rattle.mf_policy.specs.declared.registration.Registration.{Registration}
-use Rattle.mf_list.specs.Lists.{entry_in, in_catalogue, is_dynamic, is_listed, is_of, same_module}
+use Rattle.mf_list.specs.Lists.{entry_in, in_catalogue, is_dynamic}
+use Rattle.mf_policy.specs.Modules.{same_module}
 use Rattle.mf_list.specs.Places.{IsAbsent, IsEntryPlace, IsModulePlace}
 use Rattle.mf_list.specs.Registration.{with_meaning, with_newest, without_first}
 

@@ -1,11 +1,10 @@
 -- What contracts see of the list of policies and of the catalogue.
-use Rattle.std.specs.Prelude.{◌≡◌, ℕ, ◌<◌, ◌≤◌, Bool, true, false, cond, not, nat_eq, List, [], ◌∷◌, Option, Some, None, length}
+use Rattle.std.specs.Prelude.{◌≡◌, ℕ, ◌<◌, ◌≤◌, Bool, true, false, cond, not, List, [], ◌∷◌, Option, Some, None, length}
 use Rattle.std.specs.List.{list_any}
 use Rattle.mf_errno.specs.declared.module.Module.{Module}
-use Rattle.mf_errno.specs.declared.module.Module.TheVariants.{Biba, Mls, Partition, Bsdextended, Priority}
 use Rattle.mf_policy.specs.declared.spec.Spec.{Spec}
-use Rattle.mf_policy.specs.Registration.{Entry}
-use Rattle.mf_policy.specs.Modules.{fresh_of, module_of, wants_slot}
+use Rattle.mf_policy.specs.Modules.{fresh_of, module_of, same_module, wants_slot}
+use Rattle.mf_policy.specs.Registration.{Entry, is_of}
 
 -- the listed policies in walk order, and how many more fit without memory
 pub record ListView : Type 0 where
@@ -38,25 +37,7 @@ pub record IsEntry (entry : Entry) : Type 0 where
   pub module_is : module_of entry.1 ≡ entry.0.module
   pub has_slot : HasSlot (wants_slot entry.0.module) entry.0.slot
 
--- a number for each module, which tells it from the others
-abbrev pub number_of : Module → ℕ
-number_of Biba = 0
-number_of Mls = 1
-number_of Partition = 2
-number_of Bsdextended = 3
-number_of Priority = 4
-
-abbrev pub same_module : Module → Module → Bool
-same_module m other = nat_eq (number_of m) (number_of other)
-
--- whether the entry is the module's
-abbrev pub is_of : Module → Entry → Bool
-is_of m entry = same_module m entry.0.module
-
--- whether the module is listed, and whether it is in the catalogue
-abbrev pub is_listed : Module → List Entry → Bool
-is_listed m entries = list_any (is_of m) entries
-
+-- whether the module is in the catalogue
 abbrev pub in_catalogue : Module → List Module → Bool
 in_catalogue m modules = list_any (same_module m) modules
 

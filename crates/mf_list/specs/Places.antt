@@ -2,8 +2,8 @@
 use Rattle.std.specs.Prelude.{◌≡◌, ℕ, ◌<◌, true, false, Some, None, List, length, slice_index_or, slice_set}
 use Rattle.std.specs.List.{remove}
 use Rattle.mf_errno.specs.declared.module.Module.{Module}
-use Rattle.mf_policy.specs.Registration.{Entry}
-use Rattle.mf_list.specs.Lists.{entry_in, in_catalogue, is_listed}
+use Rattle.mf_policy.specs.Registration.{Entry, is_listed}
+use Rattle.mf_list.specs.Lists.{entry_in, in_catalogue}
 use Rattle.mf_list.specs.Registration.{entries_without, modules_without, with_meaning}
 
 -- where the module's entry stands in a list

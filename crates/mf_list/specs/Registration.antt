@@ -6,14 +6,14 @@ use Rattle.mf_policy.specs.declared.spec.Spec.{Spec}
 use Rattle.mf_policy.specs.declared.spec.Change.{Change}
 use Rattle.mf_policy.specs.declared.spec.Changed.{Changed}
 use Rattle.mf_policy.specs.LoadFlags.{is_notlate, is_unloadok}
-use Rattle.mf_policy.specs.Modules.{flags_of, fresh_of, wants_slot}
-use Rattle.mf_policy.specs.Registration.{Entry}
+use Rattle.mf_policy.specs.Modules.{flags_of, fresh_of, wants_slot, same_module}
+use Rattle.mf_policy.specs.Registration.{Entry, is_listed, is_of}
 use Rattle.mf_policy.specs.Settings.{change_of, no_setting}
 use Rattle.mf_list.specs.declared.faults.RegisterFault.{RegisterFault}
 use Rattle.mf_list.specs.declared.faults.RegisterFault.TheVariants.{Unknown, NotLate, Exists, NoSlot}
 use Rattle.mf_list.specs.declared.faults.UnregisterFault.{UnregisterFault}
 use Rattle.mf_list.specs.declared.faults.UnregisterFault.TheVariants.{NotLoaded, Pinned}
-use Rattle.mf_list.specs.Lists.{ListView, CatalogueView, entry_in, in_catalogue, is_listed, is_of, same_module}
+use Rattle.mf_list.specs.Lists.{ListView, CatalogueView, entry_in, in_catalogue}
 
 -- the slot of a module where so many numbers were given: the next one where it wants one
 abbrev pub slot_for : Bool → ℕ → Option ℕ

@@ -4,14 +4,13 @@ ghost use Rattle.mf_errno.specs.Module.{IsModuleNamed};
 ghost use Rattle.mf_errno.specs.declared.module.Module.{Module};
 ghost use Rattle.mf_policy.specs.Modules as facts;
 ghost use Rattle.mf_list.specs.Held.{are_distinct};
-ghost use Rattle.mf_list.specs.Lists.{IsFresh, in_catalogue, same_module};
+ghost use Rattle.mf_list.specs.Lists.{IsFresh, in_catalogue};
 ghost use Rattle.mf_list.specs.Places.{IsModulePlace};
 ghost use Rattle.mf_list.specs.Registration.{is_known, modules_without};
 
-use crate::listed::is_same_module;
 use crate::policy_list::PolicyList;
 use mf_errno::Module;
-use mf_policy::Policy;
+use mf_policy::{Policy, same_module};
 use std::alloc::{AllocError, Global};
 use std::marker::Model;
 
@@ -73,7 +72,7 @@ impl<P: Policy> Catalogue<P> {
     }
 
     fn position_of(&self, wanted: Module) -> Option<usize>
-        ensures { result ≡ position (same_module wanted) self.now.modules }
+        ensures { result ≡ position (facts.same_module wanted) self.now.modules }
     {
         first_of(self.policies.as_slice(), wanted)
     }
@@ -128,13 +127,13 @@ impl<P: Policy> Catalogue<P> {
 
 /// The first place of the module.
 fn first_of<P: Policy>(policies: &[P], wanted: Module) -> Option<usize>
-    ensures { result ≡ position (λ p. same_module wanted (facts.module_of (P.spec p))) policies.now }
+    ensures { result ≡ position (λ p. facts.same_module wanted (facts.module_of (P.spec p))) policies.now }
 {
     policies.iter().position(|policy| is_of(policy, wanted))
 }
 
 fn is_of<P: Policy>(policy: &P, wanted: Module) -> bool
-    ensures { result ≡ same_module wanted (facts.module_of (P.spec policy.now)) }
+    ensures { result ≡ facts.same_module wanted (facts.module_of (P.spec policy.now)) }
 {
-    is_same_module(wanted, policy.module())
+    same_module(wanted, policy.module())
 }

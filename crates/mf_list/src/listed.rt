@@ -1,13 +1,14 @@
 //! A policy in the list.
 ghost use Rattle.std.specs.Prelude.{◌≡◌, IsTrue, ◌↔◌, IfOk, OnErr};
 ghost use Rattle.mf_policy.specs.Modules as facts;
+ghost use Rattle.mf_policy.specs.Registration.{is_of};
 ghost use Rattle.mf_policy.specs.Settings.{change_of};
 ghost use Rattle.mf_list.specs.Asked.{answer_of, grant_of};
-ghost use Rattle.mf_list.specs.Lists.{IsEntry, is_dynamic, is_of, same_module};
+ghost use Rattle.mf_list.specs.Lists.{IsEntry, is_dynamic};
 
 use mf_errno::{Errno, Module};
 use mf_item::Item;
-use mf_policy::{Change, Changed, LoadFlags, Policy, Registration, Spec};
+use mf_policy::{Change, Changed, LoadFlags, Policy, Registration, Spec, same_module};
 use std::alloc::{AllocError, Global};
 use std::marker::Model;
 
@@ -52,7 +53,7 @@ impl<P: Policy> Listed<P> {
     pub fn is_of(&self, wanted: Module) -> bool
         ensures { result ≡ is_of wanted self.now }
     {
-        is_same_module(wanted, self.registration.module)
+        same_module(wanted, self.registration.module)
     }
 
     /// Whether it is in the dynamic list.
@@ -120,11 +121,4 @@ impl<P: Policy> Listed<P> {
         policy.reset();
         policy
     }
-}
-
-/// Whether the two are one module.
-pub fn is_same_module(wanted: Module, other: Module) -> bool
-    ensures { result ≡ same_module wanted other }
-{
-    wanted == other
 }

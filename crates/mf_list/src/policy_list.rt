@@ -1,8 +1,8 @@
 //! The listed policies in walk order.
 ghost use Rattle.std.specs.Prelude.{◌≡◌, ◌+◌, ◌<◌, ◌≤◌, [], IsTrue, ◌↔◌, length, map, OnOk, OnErr, IfOk, false, true, MatchOption, position, slice_index_or};
 ghost use Rattle.std.specs.List.{insert, position_or_len, remove};
-ghost use Rattle.mf_policy.specs.Registration.{Entry};
-ghost use Rattle.mf_list.specs.Lists.{IsReady, is_dynamic, is_listed, is_of};
+ghost use Rattle.mf_policy.specs.Registration.{Entry, is_listed, is_of};
+ghost use Rattle.mf_list.specs.Lists.{IsReady, is_dynamic};
 ghost use Rattle.mf_list.specs.Places.{IsAbsent, IsEntryPlace};
 ghost use Rattle.mf_list.specs.Registration.{change_in, with_newest};
 

@@ -3,8 +3,8 @@ ghost use Rattle.std.specs.Prelude.{◌≡◌, ◌+◌, ◌<◌, ◌++◌, ◌�
 ghost use Rattle.mf_errno.specs.Module.{IsModuleNamed};
 ghost use Rattle.mf_errno.specs.declared.module.Module.{Module};
 ghost use Rattle.mf_policy.specs.Modules as facts;
-ghost use Rattle.mf_policy.specs.Registration.{Entry};
-ghost use Rattle.mf_list.specs.Lists.{HasSlot, IsReady, in_catalogue, is_listed};
+ghost use Rattle.mf_policy.specs.Registration.{Entry, is_listed};
+ghost use Rattle.mf_list.specs.Lists.{HasSlot, IsReady, in_catalogue};
 ghost use Rattle.mf_list.specs.Places.{IsEntryPlace};
 ghost use Rattle.mf_list.specs.Registration.{Registers, Unregisters, entries_without, modules_without, register_verdict, register_verdict_by_name, slot_for, unregister_verdict, unregister_verdict_by_name, with_newest};
 

@@ -11,6 +11,7 @@ use mf_partition::Partition;
 use mf_policy::{Change, Changed, LoadFlags, Policy, Registration, Spec, SpecList};
 use mf_slots::SlotNumbers;
 use std::alloc::{AllocError, Global};
+use std::sync::atomic::{AtomicU64, Ordering};
 
 /// One of the policies, without a box.
 #[derive(Drop)]
@@ -271,5 +272,72 @@ fn root_has_every_privilege(rt: HostRuntime) -> Result<(), AllocError> {
         let answer = policies.list().ask(&item);
         assert_eq!(rt; answer, Answer { errno, by: None });
     }
+    Ok(())
+}
+
+/// mac_partition, which counts how often it is reset.
+#[derive(Drop)]
+struct Counted<'a> {
+    policy: Partition,
+    resets: &'a AtomicU64,
+}
+
+impl<'a> Policy for Counted<'a> {
+    ghost use Rattle.mf_policy.specs.declared.spec.Spec.TheVariants as means;
+
+    ghost spec = { λ _. means.Partition };
+
+    fn module(&self) -> Module {
+        self.policy.module()
+    }
+
+    fn flags(&self) -> LoadFlags {
+        self.policy.flags()
+    }
+
+    fn wants_slot(&self) -> bool {
+        self.policy.wants_slot()
+    }
+
+    fn same(&self, other: &Spec) -> bool {
+        self.policy.same(other)
+    }
+
+    fn check(&self, slot: u8, item: &Item) -> Errno {
+        self.policy.check(slot, item)
+    }
+
+    fn grant(&self, cred: &Cred, privilege: Priv) -> bool {
+        self.policy.grant(cred, privilege)
+    }
+
+    fn change(&mut self, alloc: Global, change: &Change) -> Result<Changed, AllocError> {
+        self.policy.change(alloc, change)
+    }
+
+    fn reset(&mut self) {
+        self.resets.fetch_add(1, Ordering::SeqCst);
+        self.policy.reset();
+    }
+}
+
+/// No module has a setting yet, so no contract tells a policy that is reset from one that isn't.
+#[test]
+fn a_policy_that_goes_back_is_reset(rt: HostRuntime) -> Result<(), AllocError> {
+    let resets = AtomicU64::new(0);
+    let mut modules = Vec::new(rt.alloc());
+    modules.push(Counted {
+        policy: Partition::new(),
+        resets: &resets,
+    })?;
+    let mut policies = Policies::new(rt.alloc(), modules);
+    policies.ready()?;
+    let mut numbers = SlotNumbers::new();
+    let loaded = policies.register(&mut numbers, "mac_partition", true);
+    assert_eq!(rt; loaded, Ok(of_partition(0)));
+    assert_eq!(rt; resets.load(Ordering::SeqCst), 0);
+    let left = policies.unregister("mac_partition");
+    assert_eq!(rt; left, Ok(of_partition(0)));
+    assert_eq!(rt; resets.load(Ordering::SeqCst), 1);
     Ok(())
 }

@@ -5,7 +5,7 @@ mod Listing
 mod Boots
 mod Openings
 mod Kept
-mod Marked
+pub mod Marked
 mod Leading
 mod Files
 mod Whole

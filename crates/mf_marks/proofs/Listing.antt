@@ -11,9 +11,9 @@ use Rattle.mf_item.specs.declared.view.Kind.{Kind}
 use Rattle.mf_policy.specs.declared.registration.Registration.{Registration}
 use Rattle.mf_policy.specs.declared.spec.Spec.{Spec}
 use Rattle.mf_policy.specs.LoadFlags.{is_notlate, is_unloadok}
-use Rattle.mf_policy.specs.Modules.{flags_of, fresh_of, wants_slot, labels_kind}
-use Rattle.mf_policy.specs.Registration.{Entry}
-use Rattle.mf_list.specs.Lists.{is_of, same_module}
+use Rattle.mf_policy.specs.Modules.{flags_of, fresh_of, wants_slot, labels_kind, same_module}
+use Rattle.mf_policy.specs.Registration.{Entry, is_of}
+use Rattle.mf_list.proofs.Places.{same_module-is}
 use Rattle.mf_list.specs.Registration.{slot_for, registration_of, with_newest, entries_without}
 use Rattle.mf_plan.specs.declared.state.State.{State}
 use Rattle.mf_plan.specs.Loading.{load_fault}
@@ -139,33 +139,6 @@ fixed_lasting Mls fixed = tt
 fixed_lasting Partition fixed = cc
 fixed_lasting Bsdextended fixed = cc
 fixed_lasting Priority fixed = cc
-
-same_module-is : (m n : Module) → same_module m n ≡ true → m ≡ n
-same_module-is Biba Biba same = refl
-same_module-is Biba Mls same = cc
-same_module-is Biba Partition same = cc
-same_module-is Biba Bsdextended same = cc
-same_module-is Biba Priority same = cc
-same_module-is Mls Biba same = cc
-same_module-is Mls Mls same = refl
-same_module-is Mls Partition same = cc
-same_module-is Mls Bsdextended same = cc
-same_module-is Mls Priority same = cc
-same_module-is Partition Biba same = cc
-same_module-is Partition Mls same = cc
-same_module-is Partition Partition same = refl
-same_module-is Partition Bsdextended same = cc
-same_module-is Partition Priority same = cc
-same_module-is Bsdextended Biba same = cc
-same_module-is Bsdextended Mls same = cc
-same_module-is Bsdextended Partition same = cc
-same_module-is Bsdextended Bsdextended same = refl
-same_module-is Bsdextended Priority same = cc
-same_module-is Priority Biba same = cc
-same_module-is Priority Mls same = cc
-same_module-is Priority Partition same = cc
-same_module-is Priority Bsdextended same = cc
-same_module-is Priority Priority same = refl
 
 -- what may be unloaded is another module than one that stays
 other_module : (m n : Module) → is_unloadok (flags_of m) ≡ true → IsLasting n → same_module m n ≡ false

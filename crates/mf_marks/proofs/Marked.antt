@@ -173,7 +173,7 @@ agree_once slot id next None marks agree = agree.0
 agree_once slot id next (Some e) marks agree = value_once (value_in slot e) marks agree
 
 pub made_at_most_once : SlotsAreMadeOnce
-made_at_most_once s h id slot legal four =
+made_at_most_once s h legal id slot four =
     let last : State = state_of s h in
     agree_once slot id last.objects.next (live_at last.objects id) (marks_of s h.events.list id slot) (marked s h.events.list id slot four).agree
 

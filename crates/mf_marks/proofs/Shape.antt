@@ -20,7 +20,8 @@ use Rattle.mf_plan.specs.declared.reply.Payload.{Payload}
 use Rattle.mf_plan.specs.declared.state.State.{State}
 use Rattle.mf_plan.specs.declared.target.Target.{Target}
 use Rattle.mf_plan.specs.declared.target.Target.TheVariants.{Root, Name, Nowhere}
-use Rattle.mf_plan.specs.Loading.{loadable, is_listed, load_fault, unload_fault_of}
+use Rattle.mf_plan.specs.Loading.{loadable, load_fault, unload_fault_of}
+use Rattle.mf_policy.specs.Registration.{is_listed}
 use Rattle.mf_plan.specs.Names.{caller_name, child_name, module_named}
 use Rattle.mf_plan.specs.Path.{last_name, walk_along}
 use Rattle.mf_plan.specs.Plan.{proceed, refuse_by, load_row, plan_for, plan_by}

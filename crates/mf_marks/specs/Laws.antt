@@ -26,9 +26,13 @@ pub data AreOnce : List Mark → Type 0 where
 abbrev pub state_of : Script → History → State
 state_of s h = (run_state_of s h.events.list).state
 
--- Each of the four label slots of each entity is made at most once and ended at most once.
+-- In this history each of the four label slots of each entity is made at most once and ended at most once.
+abbrev pub AreMadeOnce : Script → History → Type 0
+AreMadeOnce s h = (id : Id) (slot : ℕ) → slot < 4 → AreOnce (marks_of s h.events.list id slot)
+
+-- It is so in every legal history.
 abbrev pub SlotsAreMadeOnce : Type 0
-SlotsAreMadeOnce = (s : Script) (h : History) (id : Id) (slot : ℕ) → IsLegal s h → slot < 4 → AreOnce (marks_of s h.events.list id slot)
+SlotsAreMadeOnce = (s : Script) (h : History) → IsLegal s h → AreMadeOnce s h
 
 -- an unset slot has no mark, and a set one has been made, by some registration, and hasn't ended
 abbrev pub AreMarksOf : LabelValue → List Mark → Type 0

@@ -19,7 +19,8 @@ use Rattle.mf_plan.specs.declared.state.State.{State}
 use Rattle.mf_plan.specs.declared.target.Target.{Target}
 use Rattle.mf_plan.specs.declared.target.Target.TheVariants.{Root, Name, Nowhere}
 use Rattle.mf_plan.specs.Doing.{CanMake, CanCreate, CanWrite, CanFind, CanUnlink, CanRead, CanFill, CanDeliver, CanReceive, CanLoad, CanUnload, CanDo}
-use Rattle.mf_plan.specs.Loading.{is_listed, loadable, load_fault, unload_fault, unload_fault_of}
+use Rattle.mf_plan.specs.Loading.{loadable, load_fault, unload_fault, unload_fault_of}
+use Rattle.mf_policy.specs.Registration.{is_listed}
 use Rattle.mf_plan.specs.Names.{caller_name, child_name, module_named}
 use Rattle.mf_plan.specs.Path.{walk_along, found_at, free_at, entry_at}
 use Rattle.mf_plan.specs.Plan.{ask, on, found, or_refuse, refuse_if, refuse_by, proceed, make_row, create_row, write_row, unlink_row, deliver_row, send_row, load_row, exec_row, read_row, readdir_row, check_row, pread_row, pwrite_row, recv_row, plan_for, plan_by, plan_of}

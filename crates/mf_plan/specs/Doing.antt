@@ -8,7 +8,8 @@ use Rattle.mf_script.specs.declared.script.Call.{Call}
 use Rattle.mf_script.specs.declared.script.Call.TheVariants as call
 use Rattle.mf_plan.specs.declared.state.State.{State}
 use Rattle.mf_plan.specs.declared.target.Target.TheVariants.{Name}
-use Rattle.mf_plan.specs.Loading.{is_listed, loadable, load_fault, unload_fault}
+use Rattle.mf_plan.specs.Loading.{loadable, load_fault, unload_fault}
+use Rattle.mf_policy.specs.Registration.{is_listed}
 use Rattle.mf_plan.specs.Names.{child_name, module_named}
 use Rattle.mf_plan.specs.Path.{walk_along, found_at, last_name}
 use Rattle.mf_plan.specs.Views.{pipe_named, socket_named, is_dir, has_entries, overfills_file, overfills_pipe, is_full_socket, is_empty_socket}

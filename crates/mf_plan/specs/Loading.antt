@@ -1,33 +1,13 @@
 -- Which modules can be loaded and unloaded, as the list of policies and the slot numbers stand.
-use Rattle.std.specs.Prelude.{ℕ, Bool, ◌&&◌, nat_eq, nat_le, if◌then◌else◌, List, Option, Some, None, option_and_then}
-use Rattle.std.specs.List.{list_any}
+use Rattle.std.specs.Prelude.{ℕ, ◌&&◌, nat_le, if◌then◌else◌, List, Option, Some, None, option_and_then}
 use Rattle.mf_errno.specs.declared.errno.Errno.{Errno}
 use Rattle.mf_errno.specs.declared.errno.Errno.TheVariants.{Enoent, Enomem, Ebusy, Eexist}
 use Rattle.mf_errno.specs.declared.module.Module.{Module}
-use Rattle.mf_errno.specs.declared.module.Module.TheVariants.{Biba, Mls, Partition, Bsdextended, Priority}
 use Rattle.mf_policy.specs.LoadFlags.{is_notlate, is_unloadok}
 use Rattle.mf_policy.specs.Modules.{flags_of, has_spec, wants_slot}
-use Rattle.mf_policy.specs.Registration.{Entry}
+use Rattle.mf_policy.specs.Registration.{is_listed}
 use Rattle.mf_plan.specs.declared.state.State.{State}
 use Rattle.mf_plan.specs.Names.{module_named}
-
--- a number for each module, which tells it from the others
-abbrev pub number_of : Module → ℕ
-number_of Biba = 0
-number_of Mls = 1
-number_of Partition = 2
-number_of Bsdextended = 3
-number_of Priority = 4
-
-abbrev pub is_same : Module → Module → Bool
-is_same m other = nat_eq (number_of m) (number_of other)
-
-abbrev pub is_of : Module → Entry → Bool
-is_of m entry = is_same m entry.0.module
-
--- the module is listed
-abbrev pub is_listed : Module → List Entry → Bool
-is_listed m specs = list_any (is_of m) specs
 
 -- the module, where its policy is built in
 abbrev pub if_there : Module → Option Module

@@ -15,9 +15,7 @@ mod tests;
 mod views;
 mod walk;
 
-pub use loading::{
-    flags_of, is_listed, load_fault, loadable, module_named, unload_fault, wants_slot,
-};
+pub use loading::{is_listed, load_fault, loadable, module_named, unload_fault};
 pub use names::{ChildName, caller_of, child_name};
 pub use plan::{Plan, Tail};
 pub use planning::plan_of;

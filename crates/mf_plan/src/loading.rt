@@ -2,7 +2,7 @@
 ghost use Rattle.std.specs.Prelude.{◌≡◌, []};
 ghost use Rattle.mf_errno.specs.declared.privilege.Priv.TheVariants as privilege;
 ghost use Rattle.mf_item.specs.declared.operation.CheckOp.TheVariants as op;
-ghost use Rattle.mf_policy.specs.Modules as facts;
+ghost use Rattle.mf_policy.specs.Registration.{is_listed};
 ghost use Rattle.mf_plan.specs.Loading as spec;
 ghost use Rattle.mf_plan.specs.Names as names;
 ghost use Rattle.mf_plan.specs.Plan as plan;
@@ -12,7 +12,7 @@ use crate::state::State;
 use mf_cred::Duplicate;
 use mf_errno::{Errno, Module, Priv};
 use mf_item::{CheckOp, Item, SubjectView};
-use mf_policy::{LoadFlags, SpecList};
+use mf_policy::{SpecList, flags_of, has_spec, same_module, wants_slot};
 use mf_slots::SLOTS;
 
 /// The module of that name.
@@ -32,10 +32,10 @@ pub fn loadable(name: &str) -> Option<Module>
 
 /// Whether the module is listed.
 pub fn is_listed(wanted: Module, specs: &SpecList) -> bool
-    ensures { result ≡ spec.is_listed wanted specs.now }
+    ensures { result ≡ is_listed wanted specs.now }
 {
     for place in 0..specs.len() {
-        if is_same(wanted, specs.registration(place).module) {
+        if same_module(wanted, specs.registration(place).module) {
             return true;
         }
     }
@@ -143,40 +143,5 @@ fn about_modules(me: &SubjectView, op: CheckOp) -> Item
         object: None,
         request: None,
         privilege: None,
-    }
-}
-
-fn is_same(wanted: Module, other: Module) -> bool
-    ensures { result ≡ spec.is_same wanted other }
-{
-    wanted == other
-}
-
-fn has_spec(wanted: Module) -> bool
-    ensures { result ≡ facts.has_spec wanted }
-{
-    match wanted {
-        Module::Biba | Module::Mls | Module::Partition => true,
-        Module::Bsdextended | Module::Priority => false,
-    }
-}
-
-/// When the module may be loaded and unloaded.
-pub fn flags_of(wanted: Module) -> LoadFlags
-    ensures { result ≡ facts.flags_of wanted }
-{
-    match wanted {
-        Module::Biba | Module::Mls => LoadFlags::NOTLATE,
-        Module::Partition | Module::Bsdextended | Module::Priority => LoadFlags::UNLOADOK,
-    }
-}
-
-/// Whether the module labels entities, and so has a label slot.
-pub fn wants_slot(wanted: Module) -> bool
-    ensures { result ≡ facts.wants_slot wanted }
-{
-    match wanted {
-        Module::Biba | Module::Mls | Module::Partition => true,
-        Module::Bsdextended | Module::Priority => false,
     }
 }

@@ -1,7 +1,19 @@
--- A listed policy, as a value.
+-- The listed policies, as values.
+use Rattle.std.specs.Prelude.{Bool, List}
+use Rattle.std.specs.List.{list_any}
+use Rattle.mf_errno.specs.declared.module.Module.{Module}
 use Rattle.mf_policy.specs.declared.registration.Registration.{Registration}
 use Rattle.mf_policy.specs.declared.spec.Spec.{Spec}
+use Rattle.mf_policy.specs.Modules.{same_module}
 
 -- how a policy is registered, and what it means
 abbrev pub Entry : Type 0
 Entry = Registration × Spec
+
+-- whether the entry is the module's
+abbrev pub is_of : Module → Entry → Bool
+is_of m entry = same_module m entry.0.module
+
+-- whether the module is listed
+abbrev pub is_listed : Module → List Entry → Bool
+is_listed m entries = list_any (is_of m) entries

@@ -1,9 +1,40 @@
-//! What the modules label.
+//! What is fixed of each module.
 ghost use Rattle.std.specs.Prelude.{◌≡◌};
 ghost use Rattle.mf_policy.specs.Modules as facts;
 
+use crate::LoadFlags;
 use mf_errno::Module;
 use mf_item::Kind;
+
+/// Whether a policy of the module is built in.
+pub fn has_spec(module: Module) -> bool
+    ensures { result ≡ facts.has_spec «module» }
+{
+    match module {
+        Module::Biba | Module::Mls | Module::Partition => true,
+        Module::Bsdextended | Module::Priority => false,
+    }
+}
+
+/// When the module may be loaded and unloaded.
+pub fn flags_of(module: Module) -> LoadFlags
+    ensures { result ≡ facts.flags_of «module» }
+{
+    match module {
+        Module::Biba | Module::Mls => LoadFlags::NOTLATE,
+        Module::Partition | Module::Bsdextended | Module::Priority => LoadFlags::UNLOADOK,
+    }
+}
+
+/// Whether the module labels entities, and so has a label slot.
+pub fn wants_slot(module: Module) -> bool
+    ensures { result ≡ facts.wants_slot «module» }
+{
+    match module {
+        Module::Biba | Module::Mls | Module::Partition => true,
+        Module::Bsdextended | Module::Priority => false,
+    }
+}
 
 /// Whether the module labels entities of that kind: mac_biba and mac_mls label all, mac_partition processes and sockets,
 /// and a module without a label slot none.
@@ -15,6 +46,13 @@ pub fn labels_kind(module: Module, kind: Kind) -> bool
         Module::Partition => matches!(kind, Kind::Process | Kind::Socket),
         Module::Bsdextended | Module::Priority => false,
     }
+}
+
+/// Whether two modules are one.
+pub fn same_module(module: Module, other: Module) -> bool
+    ensures { result ≡ facts.same_module «module» other }
+{
+    module == other
 }
 
 #[cfg(test)]

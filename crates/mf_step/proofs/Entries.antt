@@ -7,9 +7,9 @@ use Rattle.mf_errno.specs.declared.module.Module.{Module}
 use Rattle.mf_errno.specs.declared.module.Module.TheVariants as modules
 use Rattle.mf_policy.specs.declared.registration.Registration.{Registration}
 use Rattle.mf_policy.specs.declared.spec.Spec.TheVariants as means
-use Rattle.mf_policy.specs.Registration.{Entry}
+use Rattle.mf_policy.specs.Registration.{Entry, is_of}
 use Rattle.mf_plan.specs.declared.reply.Loaded.{Loaded}
-use Rattle.mf_list.specs.Lists.{is_of, same_module}
+use Rattle.mf_policy.specs.Modules.{same_module}
 use Rattle.mf_list.specs.Registration.{entries_without, with_newest}
 use Rattle.mf_step.specs.Reply.{loaded}
 

@@ -12,6 +12,7 @@ mod processes;
 mod reply;
 mod verdict;
 
+pub use found::last_name;
 pub use label::created_label;
 pub use payload::payload_of;
 pub use performing::perform;

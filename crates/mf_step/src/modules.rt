@@ -1,7 +1,6 @@
 //! What the calls that load and unload modules change.
 ghost use Rattle.std.specs.Prelude.{◌≡◌, ◌<◌, ◌≤◌, OnOk, OnErr, IfSome, IsTrue, MatchOption, false, length};
 ghost use Rattle.std.specs.List.{insert, remove};
-ghost use Rattle.mf_list.specs.Lists.{same_module};
 ghost use Rattle.mf_list.specs.Registration as registration;
 ghost use Rattle.mf_plan.specs.Doing.{CanLoad};
 ghost use Rattle.mf_plan.specs.Loading as loading;
@@ -11,8 +10,8 @@ ghost use Rattle.mf_policy.specs.Registration.{Entry};
 ghost use Rattle.mf_step.specs.Effect as spec;
 
 use mf_errno::Module;
-use mf_plan::{State, flags_of, loadable, module_named, wants_slot};
-use mf_policy::{Registration, Spec, SpecList};
+use mf_plan::{State, loadable, module_named};
+use mf_policy::{Registration, Spec, SpecList, flags_of, same_module, wants_slot};
 use mf_slots::SlotNumbers;
 use std::alloc::{AllocError, Global};
 
@@ -110,15 +109,9 @@ fn place_of(specs: &SpecList, wanted: Module) -> Option<usize>
         (λ place. remove specs.now place ≡ registration.entries_without wanted specs.now) }
 {
     for place in 0..specs.len() {
-        if is_same(wanted, specs.registration(place).module) {
+        if same_module(wanted, specs.registration(place).module) {
             return Some(place);
         }
     }
     None
-}
-
-fn is_same(wanted: Module, other: Module) -> bool
-    ensures { result ≡ same_module wanted other }
-{
-    wanted == other
 }

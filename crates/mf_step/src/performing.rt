@@ -18,11 +18,6 @@ use mf_plan::{State, caller_of};
 use mf_script::Call;
 use std::alloc::{AllocError, Global};
 
-/// The mode bits of a new file, and of a new directory.
-const FILE_MODE: u16 = 0o644;
-
-const DIRECTORY_MODE: u16 = 0o755;
-
 /// Does the call of the task's own process, or of its child of that name, whose plan ends without a refusal and of which no
 /// check is denied. After want of memory the state is as before.
 pub fn perform(

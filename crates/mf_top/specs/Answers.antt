@@ -5,15 +5,16 @@ use Rattle.mf_script.specs.declared.error.ScriptError.TheVariants as script_erro
 use Rattle.mf_script.specs.Grammar.{script_of}
 use Rattle.mf_core.specs.declared.history.History.{History}
 use Rattle.mf_core.specs.LegalHistory.{IsLegal, IsComplete}
+use Rattle.mf_marks.specs.Laws.{AreMadeOnce}
 use Rattle.mf_top.specs.declared.refusal.Refusal.{Refusal}
 use Rattle.mf_top.specs.declared.refusal.Refusal.TheVariants as refusal
 use Rattle.mf_top.specs.Outside.{Seen, FaultsRose, Took, TookPart}
 use Rattle.mf_top.specs.Reading.{IsTooLong, most_script}
 use Rattle.mf_hist.specs.HistoryText.{history_text}
 
--- the text is that of a history which is legal and complete for the script
+-- the text is that of a history which is legal and complete for the script, and in which each label slot is made and ended at most once
 abbrev pub IsRunOf : Script → List ℕ → Type 0
-IsRunOf s text = (h : History) × IsLegal s h × IsComplete s h × (text ≡ history_text s h)
+IsRunOf s text = (h : History) × IsLegal s h × IsComplete s h × AreMadeOnce s h × (text ≡ history_text s h)
 
 -- the bytes are a script and no more than one may have, and the text is that of a legal and complete history of it
 abbrev pub IsRunText : List ℕ → List ℕ → Type 0

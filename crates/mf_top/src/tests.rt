@@ -1,6 +1,7 @@
 //! Runs of the whole program, over memory and over standard streams.
 
 mod rows;
+mod steps;
 
 use crate::io::{MemSink, MemSource, Sink, Source, StdSink, StdSource, SureSink, SureSource};
 use crate::law::run_surely;

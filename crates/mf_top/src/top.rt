@@ -35,7 +35,7 @@ pub fn macsim<S: Source, K: Sink, P: Policy, R: Threads + Wait + Sync>(
     requires fresh { All (λ p. IsFresh (P.spec p)) modules.items }
 
     // With 0 the source held a script to its end, and the sink took the text of one history that is legal and
-    // complete for it, and nothing else.
+    // complete for it, and in which each label slot is made and ended at most once, and nothing else.
     ensures headline { result ≡ 0 → WroteHistory (seen S.left S.faults source.old source.new) (seen K.taken K.faults sink.old sink.new) }
 
     // Each status has its cause, and what was taken is its text, or with 5 a beginning of another's.

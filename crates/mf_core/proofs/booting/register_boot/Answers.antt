@@ -1,6 +1,5 @@
-use Rattle.std.proofs.Common.{◌≡◌, false, Some, Result, Ok, Err, sym, ◌∙◌}
+use Rattle.std.proofs.Common.{◌≡◌, Some, Result, Ok, Err, sym, ◌∙◌}
 use Rattle.mf_list.specs.declared.faults.RegisterFault.{RegisterFault}
-use Rattle.mf_list.specs.Registration.{register_verdict, registration_of}
 use Rattle.mf_policy.specs.declared.registration.Registration.{Registration}
 use Rattle.mf_core.proofs.Boots.{boot_verdict}
 use Rattle.mf_core.proofs.booting.register_boot.Goals as goal

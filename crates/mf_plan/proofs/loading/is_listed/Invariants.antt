@@ -1,6 +1,6 @@
 use Rattle.std.proofs.Common.{◌≡◌, false, take}
 use Rattle.std.specs.List.{list_any}
-use Rattle.mf_plan.specs.Loading.{is_of}
+use Rattle.mf_policy.specs.Registration.{is_of}
 use Rattle.mf_plan.proofs.loading.is_listed.Given as goal
 
 abbrev pub invariant-loop-place : goal.invariant-loop-place

@@ -1,4 +1,4 @@
-use Rattle.std.proofs.Common.{ℕ, List, length, ap, sym, arith, ◌∙◌}
+use Rattle.std.proofs.Common.{List, length, ap, sym, arith, ◌∙◌}
 use Rattle.mf_script.specs.declared.script.Script.{Script}
 use Rattle.mf_script.specs.WellFormed.{lines_of}
 use Rattle.mf_core.specs.declared.progress.Progress.{Progress}

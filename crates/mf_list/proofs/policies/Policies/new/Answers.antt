@@ -1,7 +1,6 @@
 use Rattle.std.proofs.Common.{◌≡◌, true, ap, ◌∙◌, arith, List}
-use Rattle.mf_policy.specs.Registration.{Entry}
+use Rattle.mf_policy.specs.Registration.{Entry, is_of}
 use Rattle.mf_list.specs.Held.{are_distinct, how_many}
-use Rattle.mf_list.specs.Lists.{is_of}
 use Rattle.mf_list.proofs.Counts.{once_if_distinct}
 use Rattle.mf_list.proofs.policies.Policies.new.Goals as goal
 
