@@ -8,7 +8,7 @@ use Rattle.mf_core.specs.LegalHistory.{IsLegal, IsComplete}
 use Rattle.mf_marks.specs.Laws.{AreMadeOnce}
 use Rattle.mf_top.specs.declared.refusal.Refusal.{Refusal}
 use Rattle.mf_top.specs.declared.refusal.Refusal.TheVariants as refusal
-use Rattle.mf_top.specs.Outside.{Seen, FaultsRose, Took, TookPart}
+use Rattle.mf_top.specs.Outside.{Seen, FaultsRose, HadNoFault, Took, TookPart}
 use Rattle.mf_top.specs.Reading.{IsTooLong, most_script}
 use Rattle.mf_hist.specs.HistoryText.{history_text}
 
@@ -32,12 +32,12 @@ IsRunWords words = words ≡ codes "run" ∷ []
 
 -- An outcome before anything is written, and its cause: the words, and what is seen of the source.
 abbrev pub IsOutcome : List (List ℕ) → Seen → Result (List ℕ) Refusal → Type 0
-IsOutcome words source (Ok text) = IsRunWords words × IfSome source.before (λ bytes. IsRunText bytes text × (source.after ≡ Some []))
-IsOutcome words source (Err refusal.Usage) = ¬ IsRunWords words × (source.after ≡ source.before)
-IsOutcome words source (Err refusal.NotYet) = IsRunWords words
+IsOutcome words source (Ok text) = IsRunWords words × HadNoFault source × IfSome source.before (λ bytes. IsRunText bytes text × (source.after ≡ Some []))
+IsOutcome words source (Err refusal.Usage) = ¬ IsRunWords words × HadNoFault source × (source.after ≡ source.before)
+IsOutcome words source (Err refusal.NotYet) = IsRunWords words × HadNoFault source
     × IfSome source.before (λ bytes. (length bytes ≤ most_script) × (script_of bytes ≡ Err script_error.NotYet) × (source.after ≡ Some []))
 IsOutcome words source (Err refusal.ReadFault) = IsRunWords words × FaultsRose source
-IsOutcome words source (Err refusal.TooLong) = IsRunWords words × IsTooLong source.before source.after
+IsOutcome words source (Err refusal.TooLong) = IsRunWords words × HadNoFault source × IsTooLong source.before source.after
 IsOutcome words source (Err refusal.Memory) = IsRunWords words
 
 abbrev pub refusal_status : Refusal → ℕ
@@ -62,10 +62,10 @@ abbrev pub text_of : Result (List ℕ) Refusal → List ℕ
 text_of (Ok text) = text
 text_of (Err r) = refusal_text r
 
--- The sink took the outcome's whole text; or its faults rose, and it took a beginning of that text.
+-- No write failed, and the sink took the outcome's whole text; or its faults rose, and it took a beginning of that text.
 abbrev pub IsWritten : Seen → Result (List ℕ) Refusal → ℕ → Type 0
 IsWritten sink outcome status =
-    ((status ≡ status_of outcome) × Took sink.before sink.after (text_of outcome))
+    ((status ≡ status_of outcome) × HadNoFault sink × Took sink.before sink.after (text_of outcome))
     ⊎ ((status ≡ 5) × FaultsRose sink × TookPart sink.before sink.after (text_of outcome))
 
 -- The right words, told bytes of a script, and no fault of source or sink.

@@ -1,5 +1,5 @@
 -- What a source has left, what a sink has taken, and how often each has failed.
-use Rattle.std.specs.Prelude.{◌≡◌, ◌⊎◌, ℕ, ◌<◌, ◌≤◌, List, [], ◌++◌, take, Option, Some, None, IfSome, IsSomeAnd, ◌↔◌, Result, OnErr}
+use Rattle.std.specs.Prelude.{◌≡◌, ◌⊎◌, ℕ, ◌<◌, ◌≤◌, List, [], ◌++◌, take, Option, Some, None, IfSome, IsSomeAnd, ◌↔◌, Result, OnOk, OnErr}
 use Rattle.mf_top.specs.declared.io.source.Failed.{Failed}
 
 -- the last value of a count of 64 bits
@@ -23,9 +23,14 @@ seen told faults old new = record { before = told old; after = told new; faults_
 abbrev pub FaultsRose : Seen → Type 0
 FaultsRose s = HasRisen s.faults_before s.faults_after
 
--- A count of faults that doesn't fall, and has risen where the call failed.
+-- no call failed: the count of faults stands where it stood
+abbrev pub HadNoFault : Seen → Type 0
+HadNoFault s = s.faults_after ≡ s.faults_before
+
+-- A count of faults that doesn't fall, stays where the call didn't fail, and has risen where it failed.
 pub record HasCause {T : Type 0} (before now : ℕ) (result : Result T Failed) : Type 0 where
   pub later : before ≤ now
+  pub stays : OnOk result (now ≡ before)
   pub failed : OnErr result (HasRisen before now)
 
 -- Where the source tells its bytes: n of them went to the front of the buffer, and none only at the end.
