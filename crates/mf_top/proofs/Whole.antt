@@ -1,5 +1,5 @@
 -- The text of a whole run.
-use Rattle.std.proofs.Common.{◌≡◌, ℕ, List, [], ◌++◌, sym, ◌∙◌, ap, subst}
+use Rattle.std.proofs.Common.{◌≡◌, ℕ, List, [], ◌++◌, ◌∙◌, ap, subst}
 use Rattle.mf_script.specs.declared.script.Script.{Script}
 use Rattle.mf_core.specs.declared.history.History.{History}
 use Rattle.mf_core.specs.LegalHistory.{IsLegal, IsComplete}

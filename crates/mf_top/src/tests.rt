@@ -50,7 +50,7 @@ fn words_of(alloc: Global, word: &str) -> Result<Vec<String>, AllocError> {
     Ok(words)
 }
 
-/// Runs the program over the policy modules that there are. The answer is its exit status.
+/// Runs the program over the policy modules that are built in, and returns its exit status.
 fn run<S: Source, K: Sink, R: Threads + Wait + Sync>(
     rt: &R,
     alloc: Global,

@@ -1,12 +1,14 @@
 //! Steps of a core, one by one, where a change waits for an open entry.
-ghost use Rattle.std.specs.Prelude.{◌≡◌, All, length, map};
+ghost use Rattle.std.specs.Prelude.{◌≡◌, All, OnOk, length, map};
 ghost use Rattle.mf_policy.specs.Modules.{module_of};
 ghost use Rattle.mf_list.specs.Lists.{IsFresh};
 ghost use Rattle.mf_script.specs.WellFormed.{IsWellFormed};
-ghost use Rattle.mf_core.specs.Policies.{AreAllModules};
+ghost use Rattle.mf_core.specs.Policies.{AreAllModules, AreOf};
+ghost use Rattle.mf_core.specs.Run.{specs_of};
 
 use mf_biba::Biba;
 use mf_core::{Commit, Core, Outcome, Turn};
+use mf_list::{Catalogue, PolicyList};
 use mf_mls::Mls;
 use mf_partition::Partition;
 use mf_policy::Policy;
@@ -25,6 +27,54 @@ kldunload mac_partition
 end
 ";
 
+/// Task 0 begins its entry.
+fn begin_entry<R: Abort>(rt: &R, core: &mut Core)
+    requires { length core.old.script.tasks ≡ 2 }
+    ensures script { core.new.script ≡ core.old.script }
+    ensures specs { specs_of core.new ≡ specs_of core.old }
+{
+    assert_eq!(rt; core.turn(0), Turn::Entry);
+    core.enter(0);
+}
+
+/// Task 0 does the call of its entry, and leaves.
+fn finish_entry<P: Policy, R: Abort>(
+    rt: &R,
+    alloc: Global,
+    core: &mut Core,
+    list: &PolicyList<P>,
+) -> Result<(), AllocError>
+    requires { length core.old.script.tasks ≡ 2 }
+    ensures script { OnOk result (core.new.script ≡ core.old.script) }
+    ensures specs { OnOk result (specs_of core.new ≡ specs_of core.old) }
+{
+    assert_eq!(rt; core.turn(0), Turn::Entered);
+    let plan = core.plan(0);
+    let verdict = Core::walk(list, &plan);
+    let done = core.done(alloc, 0, list, &plan, &verdict)?;
+    assert_eq!(rt; done, Commit::Done);
+    assert_eq!(rt; core.turn(0), Turn::Done);
+    core.leave(0);
+    Ok(())
+}
+
+/// Task 1 makes its change, or finds that it must wait.
+fn try_change<P: Policy, R: Abort>(
+    rt: &R,
+    alloc: Global,
+    core: &mut Core,
+    list: &mut PolicyList<P>,
+    catalogue: &mut Catalogue<P>,
+) -> Result<Outcome, AllocError>
+    requires tasks { length core.old.script.tasks ≡ 2 }
+    requires policies { AreOf (specs_of core.old) list.old catalogue.old }
+    ensures script { OnOk result (core.new.script ≡ core.old.script) }
+    ensures policies { AreOf (specs_of core.new) list.new catalogue.new }
+{
+    assert_eq!(rt; core.turn(1), Turn::Change);
+    core.change(alloc, 1, list, catalogue)
+}
+
 /// Task 1 would change the list of policies while task 0 is in its entry.
 fn change_during_entry<P: Policy, R: Abort>(
     rt: &R,
@@ -38,23 +88,13 @@ fn change_during_entry<P: Policy, R: Abort>(
     requires fresh { All (λ p. IsFresh (P.spec p)) modules.items }
 {
     let (mut core, mut list, mut catalogue) = Core::new(alloc, script, modules)?;
-    assert_eq!(rt; core.turn(0), Turn::Entry);
-    core.enter(0);
-    assert_eq!(rt; core.turn(1), Turn::Change);
-    let waits = core.change(alloc, 1, &mut list, &mut catalogue)?;
-    assert_eq!(rt; waits, Outcome::Waits(1));
-    assert_eq!(rt; core.turn(0), Turn::Entered);
-    let plan = core.plan(0);
-    let verdict = Core::walk(&list, &plan);
-    let done = core.done(alloc, 0, &list, &plan, &verdict)?;
-    assert_eq!(rt; done, Commit::Done);
-    assert_eq!(rt; core.turn(0), Turn::Done);
-    core.leave(0);
-    assert_eq!(rt; core.turn(1), Turn::Change);
-    let made = core.change(alloc, 1, &mut list, &mut catalogue)?;
-    assert_eq!(rt; made, Outcome::Done);
+    begin_entry(rt, &mut core);
+    let early = try_change(rt, alloc, &mut core, &mut list, &mut catalogue)?;
+    assert_eq!(rt; early, Outcome::Waits(1));
+    finish_entry(rt, alloc, &mut core, &list)?;
+    let late = try_change(rt, alloc, &mut core, &mut list, &mut catalogue)?;
+    assert_eq!(rt; late, Outcome::Done);
     assert_eq!(rt; list.listed().len(), 0);
-    assert_eq!(rt; core.turn(1), Turn::Finished);
     Ok(())
 }
 

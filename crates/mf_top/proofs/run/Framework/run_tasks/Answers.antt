@@ -1,4 +1,4 @@
-use Rattle.std.proofs.Common.{◌≢◌, ◌<◌, ◌≤◌, refl, ◌∙◌, ap, below_more, arith}
+use Rattle.std.proofs.Common.{◌≢◌, refl, ◌∙◌, ap, below_more, arith}
 use Rattle.mf_core.specs.declared.progress.Progress.{Progress}
 use Rattle.mf_top.proofs.Idle.{turn_kept}
 use Rattle.mf_top.proofs.run.Framework.run_tasks.Goals as goal
