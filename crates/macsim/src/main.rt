@@ -13,7 +13,7 @@ use std::sync::Wait;
 use std::thread::Threads;
 use std::{env, io};
 
-/// The exit status for want of memory.
+/// The exit status if memory runs out.
 const NO_MEMORY: u8 = 9;
 
 /// The words after the program's name. There are none where one of them isn't UTF-8, since the program takes no such word.
@@ -34,7 +34,7 @@ fn words_of(rt: &HostRuntime) -> io::Result<Vec<String>> {
     Ok(words)
 }
 
-/// Runs the program over the policy modules that there are. The answer is its exit status.
+/// Runs the program over the policy modules that are built in, and returns its exit status.
 fn run<S: Source, K: Sink, R: Threads + Wait + Sync>(
     rt: &R,
     alloc: Global,

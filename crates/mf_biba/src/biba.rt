@@ -20,7 +20,7 @@ use std::alloc::{AllocError, Global};
 pub struct Biba;
 
 impl Biba {
-    /// The policy as it is loaded.
+    /// The policy in its initial state.
     pub fn new() -> Biba {
         Biba
     }
@@ -210,7 +210,8 @@ mod tests {
         }
     }
 
-    /// mac_biba(4): a subject with `equal` is exempt. That only a privileged subject loads a module is a rule of this model.
+    /// mac_biba(4): a subject with `equal` is exempt. That only a privileged subject loads a module is FreeBSD's rule
+    /// too, but not in the manual.
     #[test]
     fn equal_is_exempt_and_loads_modules(rt: HostRuntime) {
         let policy = Biba::new();

@@ -1,4 +1,5 @@
--- How the answers of several policies make one, as mac(9) composes them, and which policy decides it, which is this model's own.
+-- How the answers of several policies are composed, as by the kernel's `mac_error_select`, and which policy decides the
+-- answer, which is this model's own.
 use Rattle.std.specs.Prelude.{ℕ, cond, List, [], ◌∷◌, Option, None, position}
 use Rattle.mf_errno.specs.declared.errno.Errno.{Errno}
 use Rattle.mf_errno.specs.declared.errno.Errno.TheVariants.{Success}
@@ -10,7 +11,8 @@ abbrev pub last_failure : List Errno → Errno
 last_failure [] = Success
 last_failure (answer ∷ later) = cond (is_same Success (last_failure later)) answer (last_failure later)
 
--- the first error of the precedence that stands among the answers; where none does, the last answer that is no success; else success
+-- the first error of the precedence that is among the answers; where none is, the last answer that is no success; else
+-- success
 unfoldable pub composition : List Errno → Errno
 composition answers = first_standing precedence answers (last_failure answers)
 

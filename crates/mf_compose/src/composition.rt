@@ -5,7 +5,8 @@ ghost use Rattle.mf_compose.specs.Composition as spec;
 
 use mf_errno::{Errno, select};
 
-/// The one answer that several policies give together, as mac(9) composes them; success where none answers.
+/// The one answer that several policies give together, composed as by the kernel's `mac_error_select`; success where no
+/// policy answers.
 #[tactic(auto, using(crate::proofs::Composed::composition_more, crate::proofs::Composed::composition_of_none))]
 pub fn fold(answers: &[Errno]) -> Errno
     ensures { result ≡ spec.composition answers.now }

@@ -1,4 +1,5 @@
-//! How the answers of several policies make one: every policy has to agree, and one grant is enough.
+//! How the answers of several policies are composed: an operation needs the consent of every policy, and one grant of a
+//! privilege is enough.
 #![tactic(auto)]
 
 mod composition;

@@ -45,7 +45,7 @@ boots_of s = registrations_from 0 s.boots
 abbrev pub given_by : List Module → ℕ
 given_by modules = fold given_after 0 modules
 
--- the list of policies after a registration, of a policy as it is loaded
+-- the list of policies after a registration, with the policy's initial spec
 abbrev pub with_registered : List Entry → Registration → List Entry
 with_registered specs r = with_newest (r, fresh_of r.module) specs
 
@@ -63,7 +63,7 @@ registrations_in specs = map (λ entry. entry.0) specs
 
 -- Labels
 
--- what a policy gives an entity of that kind for which the script asks this
+-- the value that a policy gives an entity of that kind at boot, by the script's request
 abbrev pub boot_value : Kind → Request → Module → LabelValue
 boot_value kinds.Process request m = task_label m request
 boot_value kinds.Vnode request m = file_label m request

@@ -33,7 +33,7 @@ pub record Run : Type 0 where
 abbrev pub run_state : Run → RunState
 run_state run = run_state_of run.script run.history.events.list
 
--- the listed policies with what they mean, in walk order
+-- the listed policies with their specs, in walk order
 abbrev pub specs_of : Run → List Entry
 specs_of run = (run_state run).state.specs
 
@@ -49,7 +49,7 @@ abbrev pub plan_at : Run → ℕ → Option Line → Option Plan
 plan_at run t None = None
 plan_at run t (Some line) = Some (plan_of (run_state run).state (name_of run.script t) line.child line.call)
 
--- the plan, in the state of now, of the call of the task's next line
+-- the plan of the call of the task's next line, made from the present state
 abbrev pub next_plan : Run → ℕ → Option Plan
 next_plan run t = plan_at run t (next_line run.script (run_state run).progress t)
 
@@ -58,7 +58,7 @@ abbrev pub IsDone : Run → ℕ → Run → Type 0
 IsDone old t new = (reply : Reply) × (next_reply old.script (run_state old) t ≡ Some reply)
     × (new ≡ record old { history = appended old.history (event.Done t (next_number (run_state old) t) reply) })
 
--- the plan is that of the task's call, and these are the listed policies
+-- the plan is that of the task's call, and these are the listed policies with their specs
 abbrev pub IsCurrent : Run → ℕ → List Entry → Plan → Type 0
 IsCurrent run t listed plan = (next_plan run t ≡ Some plan) × (listed ≡ specs_of run)
 

@@ -15,7 +15,7 @@ use mf_script::Listing;
 use mf_slots::SlotNumbers;
 use std::alloc::{AllocError, Global};
 
-/// An empty list, and these policies in a catalogue.
+/// An empty list, and a catalogue of these policies.
 pub fn unlisted<P: Policy>(
     alloc: Global,
     modules: Vec<P>,
@@ -30,7 +30,7 @@ pub fn unlisted<P: Policy>(
     Ok((list, catalogue))
 }
 
-/// Registers these modules in order. Answers the registrations, and the slot numbers with those that they took.
+/// Registers these modules in order, and returns the registrations and the slot numbers.
 pub fn register_boots<P: Policy>(
     alloc: Global,
     modules: &Listing<Module>,
@@ -71,7 +71,7 @@ fn register_boot<P: Policy>(
     }
 }
 
-/// These registrations, each of a policy as it is loaded.
+/// These registrations, each with the initial spec of its module.
 pub fn loaded_specs(alloc: Global, listed: &[Registration]) -> Result<SpecList, AllocError>
     requires { AreAllThere listed.now }
     ensures { IfOk result (λ specs. specs ≡ map (λ r. (r, fresh_of r.«module»)) listed.now) }

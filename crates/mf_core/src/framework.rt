@@ -50,8 +50,8 @@ impl<'s> Model for Core<'s> {
 }
 
 impl<'s> Core<'s> {
-    /// The core before the first event of the script. `modules` are all whose policies are built in, each once and as it is
-    /// loaded. Those that the script boots are registered in its order; the others stay in the catalogue.
+    /// The core before the first event of the script. `modules` has a policy of each module that is built in, once, in
+    /// its initial state. Those that the script boots are registered in its order; the others stay in the catalogue.
     pub fn new<P: Policy>(
         alloc: Global,
         script: &'s Script,
@@ -102,7 +102,7 @@ impl<'s> Core<'s> {
         }
     }
 
-    /// The task begins an entry.
+    /// Begins an entry of the task.
     pub fn enter(&mut self, task: u32)
         requires task { task < length self.old.script.tasks }
         requires turn { turn_at self.old task ≡ turn.Entry }
@@ -114,7 +114,7 @@ impl<'s> Core<'s> {
         self.progress.set_phase(task as usize, Phase::Entered);
     }
 
-    /// The task leaves its entry. Where its call isn't done, it stops.
+    /// Ends the task's entry. Where its call isn't done, the task stops.
     pub fn leave(&mut self, task: u32)
         requires task { task < length self.old.script.tasks }
         requires turn { (turn_at self.old task ≡ turn.Done) ⊎ (turn_at self.old task ≡ turn.Entered) }
@@ -126,7 +126,7 @@ impl<'s> Core<'s> {
         self.progress.leave(task as usize);
     }
 
-    /// The plan, in the state of now, of the call of the task's entry.
+    /// The plan of the call that the task has entered for, made from the present state.
     pub fn plan(&self, task: u32) -> Plan
         requires task { task < length self.now.script.tasks }
         requires turn { turn_at self.now task ≡ turn.Entered }
@@ -136,7 +136,7 @@ impl<'s> Core<'s> {
         self.plan_at(task, lines)
     }
 
-    /// The plan of the call of the task's next line, which stands after `lines` of its lines.
+    /// The plan of the call of the task's line at index `lines`, from 0.
     fn plan_at(&self, task: u32, lines: u32) -> Plan
         requires task { task < length self.now.script.tasks }
         requires line { lines < length (lines_of self.now.script task) }
@@ -148,7 +148,7 @@ impl<'s> Core<'s> {
         plan_of(&self.state, name, child_of(line), &line.call)
     }
 
-    /// What the listed policies say to a plan: the denial of the first check that is denied.
+    /// The listed policies' verdict on a plan: the first denial, if a check is denied.
     pub fn walk<P: Policy>(list: &PolicyList<P>, plan: &Plan) -> Verdict
         ensures { result ≡ step.verdict_of list.now.entries plan.now }
     {

@@ -7,13 +7,16 @@ use mf_script::Listing;
 use std::alloc::{AllocError, Global};
 use std::marker::Model;
 
-/// An event of a task. Tasks count from 0, and the lines of a task from 1. `Enter` and `Leave` begin and end an entry, which
-/// spans a whole call; `Done` is its call; `Changed` is the call of a line that changes the policies.
+/// An event of a task. Tasks count from 0, and the lines of a task from 1.
 #[derive(Drop)]
 pub enum Event {
+    /// The task begins an entry, which spans a whole call.
     Enter(u32),
+    /// The call of the task's entry, at that line, with its reply.
     Done(u32, u32, Reply),
+    /// The task ends its entry.
     Leave(u32),
+    /// The call of that line, which changes the policies outside of any entry, with its reply.
     Changed(u32, u32, Reply),
 }
 
@@ -63,7 +66,7 @@ impl EventList {
 /// The registrations at boot, in the order in which they were made.
 pub type BootList = Listing<Registration>;
 
-/// What has come so far.
+/// A history so far: the registrations at boot, and the events.
 #[derive(Drop)]
 pub struct History {
     pub boots: BootList,

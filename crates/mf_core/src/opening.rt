@@ -17,7 +17,8 @@ use mf_script::{FileLine, Script, Task, file_label, task_label};
 use mf_step::last_name;
 use std::alloc::{AllocError, Global};
 
-/// The root, then the files, then the processes of the tasks, where these policies are listed.
+/// The root, then the files, then the processes of the tasks, where these policies are listed: at most 1, 256 and 16
+/// entities.
 pub fn opening_objects(
     alloc: Global,
     script: &Script,
@@ -34,7 +35,7 @@ pub fn opening_objects(
     Ok(objects)
 }
 
-/// The label at boot of an entity of that kind for which the script asks this: in each slot the value of the policy that
+/// The label at boot of an entity of that kind, by the script's request: in each slot the value of the policy that
 /// holds it.
 fn boot_label(listed: &[Registration], kind: Kind, request: &Request) -> [LabelValue; 4]
     ensures { result ≡ spec.boot_label listed.now kind request.now }
@@ -69,7 +70,7 @@ fn holds(registration: &Registration, slot: u8) -> bool
     registration.slot == Some(slot)
 }
 
-/// What the module's policy gives an entity of that kind for which the script asks this.
+/// The value that the module's policy gives an entity of that kind at boot, by the script's request.
 fn boot_value(kind: Kind, request: &Request, module: Module) -> LabelValue
     ensures { result ≡ spec.boot_value kind request.now «module» }
 {

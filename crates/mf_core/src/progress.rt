@@ -6,12 +6,16 @@ use mf_script::{Listing, Task};
 use std::alloc::{AllocError, Global};
 use std::marker::Model;
 
-/// What a task is at: between its lines, in an entry that isn't done, in an entry that is done, or stopped for good.
+/// What a task is at.
 #[derive(Clone, Copy, Debug, PartialEq, Eq)]
 pub enum Phase {
+    /// Between its lines.
     Idle,
+    /// In an entry whose call isn't done.
     Entered,
+    /// In an entry whose call is done.
     Done,
+    /// Stopped for good.
     Stopped,
 }
 
@@ -22,29 +26,38 @@ pub struct Progress {
     pub phase: Phase,
 }
 
-/// What a task may do next: begin an entry, make a change, do the call of its entry, leave its entry, or nothing, where it
-/// has no more lines or is stopped.
+/// What a task may do next.
 #[derive(Clone, Copy, Debug, PartialEq, Eq)]
 pub enum Turn {
+    /// Begin an entry.
     Entry,
+    /// Make a change of the policies.
     Change,
+    /// Do the call of its entry, or leave the entry without it.
     Entered,
+    /// Leave its entry, whose call is done.
     Done,
+    /// Nothing: it has no more lines.
     Finished,
+    /// Nothing: it left an entry whose call wasn't done.
     Stopped,
 }
 
-/// How a commit went: the call is done, or its plan is out of date.
+/// How a commit went.
 #[derive(Clone, Copy, Debug, PartialEq, Eq)]
 pub enum Commit {
+    /// The call is done: its reply is the last event.
     Done,
+    /// The plan or the list is out of date. Nothing changed.
     Stale,
 }
 
-/// How a change went: it is made, or it waits, since so many entries are open.
+/// How a change went.
 #[derive(Clone, Copy, Debug, PartialEq, Eq)]
 pub enum Outcome {
+    /// The change is made: its reply is the last event.
     Done,
+    /// It waits: so many entries are open. Nothing changed.
     Waits(u32),
 }
 
@@ -88,7 +101,7 @@ impl ProgressList {
         self.items[task]
     }
 
-    /// Puts the task into another phase.
+    /// Sets the phase of the task.
     pub fn set_phase(&mut self, task: usize, phase: Phase)
         requires { task < length self.old }
         ensures { self.new ≡ with_phase self.old task phase }

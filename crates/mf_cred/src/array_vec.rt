@@ -1,11 +1,11 @@
-//! A list of at most `N` items that never takes memory.
+//! A list of at most `N` items inside the value itself, which needs no allocator.
 ghost use Rattle.std.specs.Prelude.{◌≡◌, ◌<◌, ◌≤◌, [], ◌∷◌, ◌++◌, length, slice_get, option_copied, nat_eq, IsTrue, ◌↔◌};
 
 use std::marker::Model;
 
-/// A plain value, of which an equal one can be made without memory.
+/// A value that can be copied without an allocator, and so without failing.
 pub trait Duplicate: Default + Drop {
-    /// An equal value.
+    /// A copy.
     fn copy(&self) -> Self
         ensures { result ≡ self.now };
 }
@@ -82,7 +82,7 @@ impl<T: Duplicate, const N: usize> ArrayVec<T, N> {
         self.inner.as_slice()
     }
 
-    /// An equal list, without memory.
+    /// A copy.
     pub fn copy(&self) -> Self
         ensures { result ≡ self.now }
     {

@@ -3,8 +3,8 @@ ghost use Rattle.std.specs.Prelude.{◌≡◌, nat_eq, IsTrue, ◌↔◌, Contai
 
 use crate::{ArrayVec, Duplicate};
 
-/// The credential of a process, as ucred(9) has it: effective, real and saved uid, and its groups, of which the first is
-/// the effective one.
+/// The credential of a process, a part of `struct ucred`: effective, real and saved uid, and its groups, of which the
+/// first is the effective one.
 #[derive(Drop)]
 pub struct Cred {
     pub uid: u32,
@@ -28,7 +28,7 @@ impl Cred {
         self.uid == 0
     }
 
-    /// Whether the two are one credential.
+    /// Whether the two are equal.
     pub fn same(&self, other: &Cred) -> bool
         ensures { IsTrue result ↔ (self.now ≡ other.now) }
     {

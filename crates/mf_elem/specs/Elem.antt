@@ -1,4 +1,5 @@
--- Dominance of elements, and ranges, as mac_biba(4) and mac_mls(4) have them.
+-- Dominance of elements, and ranges, as mac_biba(4) and mac_mls(4) have them. That elements of one level have the same
+-- compartments too is this model's own choice.
 use Rattle.std.specs.Prelude.{Bool, true, false, nat_le, nat_eq, ◌&&◌}
 use Rattle.std.specs.FinSet as set
 use Rattle.mf_elem.specs.Comps.{compartments_of}
@@ -30,7 +31,7 @@ dominates Equal (Grade other others) = true
 dominates Equal High = true
 dominates Equal Equal = true
 
--- Whether two elements are of the same level: one is equal, or they are one element, its compartments too.
+-- Whether two elements are of the same level: one is equal, or they are the same element, its compartments too.
 abbrev pub same_level : Elem → Elem → Bool
 same_level Equal b = true
 same_level Low Equal = true

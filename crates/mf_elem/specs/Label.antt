@@ -41,7 +41,8 @@ abbrev pub is_whole_range : Option (Elem × Elem) → Bool
 is_whole_range None = false
 is_whole_range (Some ends) = is_low ends.0 && is_high ends.1
 
--- a subject with this label is exempt from its policy's protections
+-- A subject with this label is privileged: it may ask for `equal` in a relabel, and mac_biba lets it load modules.
+-- Privilege alone doesn't exempt it from the other checks.
 abbrev pub is_privileged : RangeLabel → Bool
 is_privileged label = has_equal label || is_whole_range label.range
 

@@ -3,8 +3,8 @@ ghost use Rattle.std.specs.Prelude.{◌≡◌, ◌+◌, ◌<◌, ◌≤◌, ◌�
 ghost use Rattle.std.specs.FinSet as set;
 ghost use Rattle.mf_elem.specs.Comps.{numbers_of, words_of, compartments_of, comps_of};
 
-/// The compartments of a grade: a set of numbers from 1 to 256. The number n is the bit n - 1, counted through the words, so
-/// two values with the same set are equal.
+/// The compartments of a grade, numbered 1 to 256 as in mac_mls(4); mac_biba(4) numbers them 0 to 255. Compartment n is
+/// bit n - 1, counted through the words, so equal sets are equal values.
 #[derive(Clone, Copy, PartialEq, Eq, Debug)]
 pub struct Comps {
     words: [u64; 4],
@@ -19,7 +19,7 @@ impl Comps {
         Comps { words: [0; 4] }
     }
 
-    /// With one compartment more.
+    /// The set with compartment `n` added.
     pub fn with(mut self, n: u16) -> Comps
         requires least { 1 ≤ n }
         requires greatest { n ≤ 256 }

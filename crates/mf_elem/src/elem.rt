@@ -18,7 +18,8 @@ pub enum Elem {
     Grade(u16, Comps),
 }
 
-/// Whether the first dominates the second. This isn't transitive through `equal`: low dominates equal, and equal high.
+/// Whether the first dominates the second. Not transitive: low dominates equal and equal dominates high, but low
+/// doesn't dominate high.
 pub fn dominates(a: &Elem, b: &Elem) -> bool
     ensures { result ≡ spec.dominates a.now b.now }
 {
@@ -31,7 +32,7 @@ pub fn dominates(a: &Elem, b: &Elem) -> bool
     }
 }
 
-/// Whether the two are of the same level: one is `equal`, or they are one element, compartments too.
+/// Whether the two are of the same level: one is `equal`, or they are equal, their compartments too.
 pub fn same_level(a: &Elem, b: &Elem) -> bool
     ensures { result ≡ spec.same_level a.now b.now }
 {
@@ -45,8 +46,8 @@ pub fn same_level(a: &Elem, b: &Elem) -> bool
     }
 }
 
-/// Whether the element lies in the range from `low` to `high`, whose ends belong to it. Nothing is asked of the ends: a range
-/// with its ends exchanged is a range too, and holds no grade.
+/// Whether the element lies in the range from `low` to `high`, whose ends belong to it. The ends needn't be in order: a
+/// range whose low end is above its high end holds no grade.
 pub fn in_range(e: &Elem, low: &Elem, high: &Elem) -> bool
     ensures { result ≡ spec.in_range e.now low.now high.now }
 {

@@ -5,19 +5,22 @@ ghost use Rattle.mf_elem.specs.declared.label.LabelValue.TheVariants.{Unset};
 
 use crate::{Elem, in_range};
 
-/// A Biba or MLS label: the effective element, and the range of elements that a subject may take, low end first. A label that
-/// is asked for may have one of the two alone.
+/// A Biba or MLS label: the effective element, and the range of elements that a subject may take, low end first. In a
+/// request either may be missing.
 #[derive(Clone, Copy, PartialEq, Eq, Debug)]
 pub struct RangeLabel {
     pub effective: Option<Elem>,
     pub range: Option<(Elem, Elem)>,
 }
 
-/// The value of one label slot: of Biba or MLS a range label, of mac_partition a partition number, or not yet initialised.
+/// The value of one label slot.
 #[derive(Clone, Copy, PartialEq, Eq, Debug)]
 pub enum LabelValue {
+    /// Not initialised.
     Unset,
+    /// A label of Biba or MLS.
     Range(RangeLabel),
+    /// A partition number of mac_partition; 0 is no partition.
     Number(u32),
 }
 
@@ -64,15 +67,16 @@ impl Request {
     }
 }
 
-/// Whether some part of the label that is there is `equal`.
+/// Whether the effective element or an end of the range is `equal`.
 pub fn has_equal(l: &RangeLabel) -> bool
     ensures { result ≡ spec.has_equal l.now }
 {
     is_equal_effective(&l.effective) || has_equal_end(&l.range)
 }
 
-/// Whether a subject of this label is exempt from its policy's protections: some part is `equal`, or its range is exactly
-/// low to high.
+/// Whether a subject with this label is privileged: some part is `equal`, or its range is exactly low to high. Such a
+/// subject may ask for `equal` in a relabel, and mac_biba lets it load modules. Privilege alone doesn't exempt it from
+/// the other checks.
 pub fn privileged(l: &RangeLabel) -> bool
     ensures { result ≡ spec.is_privileged l.now }
 {

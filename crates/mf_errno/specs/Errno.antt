@@ -43,6 +43,6 @@ text_of Eagain = codes "EAGAIN"
 text_of Enobufs = codes "ENOBUFS"
 text_of Enotempty = codes "ENOTEMPTY"
 
--- whether two errors are one
+-- whether the two errors are equal
 abbrev pub is_same : Errno → Errno → Bool
 is_same a b = nat_eq (number_of a) (number_of b)

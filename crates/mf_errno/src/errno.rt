@@ -1,8 +1,8 @@
-//! The error numbers of errno(2) that the framework, its policies and its calls answer.
+//! The error numbers of errno(2) that policies answer and calls return.
 ghost use Rattle.std.specs.Prelude.{◌≡◌};
 ghost use Rattle.mf_errno.specs.Errno.{number_of, text_of};
 
-/// What a policy or a call answers: success, or the error.
+/// What a policy answers or a call returns: success, or an error.
 #[derive(Clone, Copy, Debug, PartialEq, Eq)]
 pub enum Errno {
     Success,

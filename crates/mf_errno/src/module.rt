@@ -1,4 +1,4 @@
-//! The policy modules of mac(4) that there are here.
+//! The policy modules that the model knows, a part of those of mac(4).
 ghost use Rattle.std.specs.Prelude.{◌≡◌};
 ghost use Rattle.mf_errno.specs.Module.{IsModuleNamed, module_text};
 

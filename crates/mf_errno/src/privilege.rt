@@ -1,4 +1,4 @@
-//! The privileges of priv(9) that policies are asked to grant.
+//! The privileges of sys/priv.h that policies are asked to grant.
 ghost use Rattle.std.specs.Prelude.{◌≡◌};
 ghost use Rattle.mf_errno.specs.Privilege.{IsPrivilegeNamed, privilege_text};
 
@@ -13,7 +13,7 @@ pub enum Priv {
 }
 
 impl Priv {
-    /// The name of the privilege in priv(9), without its `PRIV_`.
+    /// The name of the privilege in sys/priv.h, without its `PRIV_`.
     pub fn name(self) -> &'static str
         ensures { result.now ≡ privilege_text self }
     {

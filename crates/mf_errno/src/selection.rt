@@ -4,8 +4,8 @@ ghost use Rattle.mf_errno.specs.Selection as spec;
 
 use crate::Errno;
 
-/// The answer that counts of a newer one and the one that counted so far: the first of EDEADLK, EINVAL, ESRCH, ENOENT,
-/// EACCES and EPERM that is either of them; else the newer one, unless that is success.
+/// The more significant of two answers: EDEADLK, EINVAL, ESRCH, ENOENT, EACCES and EPERM win in this order; of any
+/// other two the newer wins, unless it is success.
 #[tactic(auto, unfolding(crate::specs::Selection::select))]
 pub fn select(newer: Errno, older: Errno) -> Errno
     ensures { result ≡ spec.select newer older }

@@ -8,7 +8,7 @@ use mf_core::Event;
 use mf_script::Script;
 use std::alloc::{AllocError, Global};
 
-/// Appends the line of an event of the script's tasks. Without memory `out` is as before.
+/// Appends the line of an event of the script's tasks. If memory runs out, `out` is unchanged.
 pub fn print_event(
     alloc: Global,
     script: &Script,

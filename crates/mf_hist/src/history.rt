@@ -10,8 +10,8 @@ use mf_policy::Registration;
 use mf_script::Script;
 use std::alloc::{AllocError, Global};
 
-/// Appends the text of a history of the script: a line for each registration at boot, then a line for each event. Without memory
-/// `out` is as before.
+/// Appends the text of a history of the script: a line for each registration at boot, then a line for each event. If
+/// memory runs out, `out` is unchanged.
 pub fn print_history(
     alloc: Global,
     script: &Script,

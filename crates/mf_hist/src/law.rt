@@ -1,4 +1,4 @@
-//! What texts tell.
+//! A text determines its history.
 ghost use Rattle.mf_hist.specs.OneText.{TextTellsHistory};
 
 /// Two different legal histories of one script have different texts.

@@ -1,3 +1,4 @@
+//! The texts of replies, and the lines of a history.
 use crate::{print_event, print_history, print_reply, text_tells_history};
 use mf_core::{Event, EventList, History};
 use mf_cred::{ArrayVec, FileView};

@@ -1,4 +1,4 @@
-//! One question to the policies.
+//! A check that the policies are asked for.
 ghost use Rattle.std.specs.Prelude.{◌≡◌, ◌↔◌, IsTrue};
 
 use crate::{CheckOp, ObjectView, SubjectView};
@@ -6,7 +6,7 @@ use mf_cred::Duplicate;
 use mf_elem::Request;
 use mf_errno::Priv;
 
-/// One question: whether the subject may do the operation on the object. A request is there exactly for relabels, a
+/// One check: whether the subject may do the operation on the object. A request is there exactly for relabels, a
 /// privilege exactly for `Priv`; an object for all operations but `CredRelabel`, `KldLoad`, `KldUnload` and `Priv`.
 #[derive(Drop)]
 pub struct Item {

@@ -2,8 +2,9 @@
 ghost use Rattle.std.specs.Prelude.{◌≡◌};
 ghost use Rattle.mf_item.specs.Operation.{operation_text};
 
-/// An operation that policies are asked about, as the entry points of mac(9) have them. For `VnodeCreate` and
-/// `VnodeUnlinkDir` the object is the directory, for `VnodeUnlink` the entry.
+/// An operation that policies are asked about, modelled on the MAC Framework's check entry points. An open is one
+/// operation for reading and one for writing; an unlink is a check of the directory and one of the entry. For
+/// `VnodeCreate` and `VnodeUnlinkDir` the object is the directory, for `VnodeUnlink` the entry.
 #[derive(Clone, Copy, Debug, PartialEq, Eq)]
 pub enum CheckOp {
     VnodeLookup,

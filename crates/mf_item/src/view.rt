@@ -1,4 +1,4 @@
-//! Subjects and objects as policies see them: plain copies of what they are when the question is put.
+//! Subjects and objects as policies see them: copies of what they are at the time of the check.
 ghost use Rattle.std.specs.Prelude.{◌≡◌, ◌↔◌, IsTrue};
 
 use mf_cred::{Cred, Duplicate, FileView};

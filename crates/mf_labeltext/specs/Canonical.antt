@@ -66,7 +66,7 @@ policy_text Priority = codes "priority"
 abbrev pub element_text : Module × LabelValue → List ℕ
 element_text part = policy_text part.0 ++ slash ∷ value_text part.1
 
--- the policies that label anything
+-- the two are the same policy, which labels something
 abbrev pub is_same_policy : Module → Module → Bool
 is_same_policy Biba Biba = true
 is_same_policy Mls Mls = true

@@ -104,7 +104,7 @@ label_in text = label_of text (cut open_parenthesis text)
 unfoldable pub partition_in : List ℕ → Option ℕ
 partition_in text = if bytes_eq text (codes "none") then Some 0 else number 0 2147483647 text
 
--- what is asked for with the element of this name and value
+-- the request with the element of this name and value added
 unfoldable pub asked : List ℕ → List ℕ → Request → Option Request
 asked name value request =
     if bytes_eq name (codes "biba") then (label_in value >>= λ label. Some (record request { biba = Some label }))
@@ -127,7 +127,7 @@ element_of place request None = Err (NoSlash place)
 element_of place request (Some halves) =
     if is_name halves.0 then ok_or (asked halves.0 halves.1 request) (BadValue (place + length halves.0 + 1)) else Err (NoSlash place)
 
--- what is asked for with the element at a place
+-- the request with the element at a place added
 unfoldable pub element_in : ℕ → Request → List ℕ → Result Request LabelFault
 element_in place request [] = Err (EmptyElement place)
 element_in place request (c ∷ cs) = element_of place request (cut slash (c ∷ cs))
@@ -136,7 +136,7 @@ abbrev pub and_then : {A : Type 0} → Result A LabelFault → (A → Result A L
 and_then (Ok x) f = f x
 and_then (Err fault) f = Err fault
 
--- what is asked for with the elements, of which the first stands at a place
+-- the request with the elements added, of which the first stands at a place
 unfoldable pub elements_in : ℕ → Request → List (List ℕ) → Result Request LabelFault
 elements_in place request [] = Ok request
 elements_in place request (element ∷ elements) = and_then (element_in place request element) (λ next. elements_in (place + length element + 1) next elements)

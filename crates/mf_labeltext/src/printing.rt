@@ -9,8 +9,8 @@ use mf_elem::{Comps, Elem, LabelValue, RangeLabel};
 use mf_errno::Module;
 use std::alloc::{AllocError, Global};
 
-/// Appends the canonical text of an element: the word `low`, `high` or `equal`, or the grade and its compartments, rising and
-/// without leading zeros. Without memory `out` is as before.
+/// Appends the canonical text of an element: the word `low`, `high` or `equal`, or the grade and its compartments,
+/// rising and without leading zeros. If memory runs out, `out` is unchanged.
 pub fn print_elem(alloc: Global, element: &Elem, out: &mut String) -> Result<(), AllocError>
     ensures ok { OnOk result (string_bytes out.new ≡ string_bytes out.old ++ elem_text element.now) }
     ensures err { OnErr result (string_bytes out.new ≡ string_bytes out.old) }
@@ -20,9 +20,9 @@ pub fn print_elem(alloc: Global, element: &Elem, out: &mut String) -> Result<(),
     out.push_str(text.as_str())
 }
 
-/// Appends the canonical text of a label's parts: their elements in the order biba, mls, partition, whatever their order here, or
-/// `-` for no part. A partition that is 0 or Unset is `none`. Parts of other policies, which label nothing, have no text. Without
-/// memory `out` is as before.
+/// Appends the canonical text of a label's parts: their elements in the order biba, mls, partition, whatever their
+/// order here, or `-` for no part. A partition that is 0 or Unset is `none`. Parts of other policies, which label
+/// nothing, have no text. If memory runs out, `out` is unchanged.
 pub fn print_label(
     alloc: Global,
     parts: &[(Module, LabelValue)],
@@ -98,7 +98,7 @@ fn elements(alloc: Global, parts: &[(Module, LabelValue)]) -> Result<String, All
     Ok(text)
 }
 
-/// A comma, but not in front of the first element.
+/// A comma, unless this is the first element.
 fn push_comma_behind(elements: usize, out: &mut String) -> Result<(), AllocError>
     ensures { OnOk result (string_bytes out.new ≡ string_bytes out.old ++ comma_behind elements) }
 {
@@ -184,7 +184,7 @@ fn push_elem(element: &Elem, out: &mut String) -> Result<(), AllocError>
     }
 }
 
-/// The compartments, rising, behind a colon and with a plus between each two.
+/// A colon and the compartments, rising, with a plus between each two.
 #[tactic(auto, unfolding(crate::specs::Canonical::rising))]
 fn push_comps(comps: &Comps, out: &mut String) -> Result<(), AllocError>
     ensures { OnOk result (string_bytes out.new ≡ string_bytes out.old ++ comps_text (rising comps.now)) }

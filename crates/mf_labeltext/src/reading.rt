@@ -46,7 +46,7 @@ fn read_elements(text: &[u8]) -> Result<Request, LabelFault>
     read_element(text.len() - rest.len(), &request, rest)
 }
 
-/// What is asked for with one element more, which stands at a place.
+/// The request with the element added. The element's first byte is byte `place` of the text.
 #[tactic(auto, unfolding(crate::specs::Reading::element_in))]
 fn read_element(place: usize, request: &Request, element: &[u8]) -> Result<Request, LabelFault>
     requires { place + length element.now < 2 ^ 64 }
@@ -64,7 +64,7 @@ fn read_element(place: usize, request: &Request, element: &[u8]) -> Result<Reque
     }
 }
 
-/// What is asked for with the element of this name and value.
+/// The request with the element of this name and value added.
 #[tactic(auto, unfolding(crate::specs::Reading::asked))]
 fn ask(name: &[u8], value: &[u8], request: &Request) -> Option<Request>
     ensures { result ≡ asked name.now value.now request.now }

@@ -66,7 +66,7 @@ fn read_elem(text: &[u8]) -> Option<Elem>
     }
 }
 
-/// The ends of a range, of which the text is what stands behind its opening parenthesis.
+/// The ends of a range. The text begins after its opening parenthesis.
 #[tactic(auto, unfolding(crate::specs::Reading::range_in))]
 fn read_range(text: &[u8]) -> Option<(Elem, Elem)>
     ensures { result ≡ range_in text.now }

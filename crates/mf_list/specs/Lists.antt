@@ -6,12 +6,12 @@ use Rattle.mf_policy.specs.declared.spec.Spec.{Spec}
 use Rattle.mf_policy.specs.Modules.{fresh_of, module_of, same_module, wants_slot}
 use Rattle.mf_policy.specs.Registration.{Entry, is_of}
 
--- the listed policies in walk order, and how many more fit without memory
+-- the listed policies in walk order, and for how many more room is reserved
 pub record ListView : Type 0 where
   pub entries : List Entry
   pub spare : ℕ
 
--- the modules that are not listed, and how many more fit without memory
+-- the modules that are not listed, and for how many more room is reserved
 pub record CatalogueView : Type 0 where
   pub modules : List Module
   pub spare : ℕ
@@ -21,7 +21,7 @@ pub record IsReady (list : ListView) (catalogue : CatalogueView) : Type 0 where
   pub for_catalogue : length catalogue.modules ≤ list.spare
   pub for_list : length list.entries ≤ catalogue.spare
 
--- a policy as it is loaded
+-- a spec in its initial state
 abbrev pub IsFresh : Spec → Type 0
 IsFresh meaning = meaning ≡ fresh_of (module_of meaning)
 
@@ -32,7 +32,7 @@ HasSlot true None = ⊥
 HasSlot false (Some slot) = ⊥
 HasSlot false None = Unit {0}
 
--- the meaning is of the module that is registered, and the slot is one that it wants
+-- the spec is of the module that is registered, and the slot is one that it wants
 pub record IsEntry (entry : Entry) : Type 0 where
   pub module_is : module_of entry.1 ≡ entry.0.module
   pub has_slot : HasSlot (wants_slot entry.0.module) entry.0.slot

@@ -90,7 +90,7 @@ pub record Unregisters (m : Module) (list list' : ListView) (catalogue catalogue
   pub entries : list'.entries ≡ entries_without m list.entries
   pub modules : catalogue'.modules ≡ catalogue.modules ++ m ∷ []
 
--- the list where the module's policy has that meaning
+-- the list where the module's policy has that spec
 abbrev pub with_meaning : Module → Spec → List Entry → List Entry
 with_meaning m meaning [] = []
 with_meaning m meaning (x ∷ xs) = cond (is_of m x) ((x.0, meaning) ∷ xs) (x ∷ with_meaning m meaning xs)

@@ -10,8 +10,8 @@ use mf_errno::{Errno, Module};
 use mf_item::{CheckOp, Item};
 use mf_policy::Policy;
 
-/// What the policies answer together: the composed errno, and the policy that decides it. Nobody decides a success, nor
-/// whether a privilege is held.
+/// What the policies answer together: the composed errno, and the policy that decides it. No policy decides a success,
+/// nor a check of a privilege.
 #[derive(Clone, Copy, Debug, PartialEq, Eq)]
 pub struct Answer {
     pub errno: Errno,
@@ -19,9 +19,10 @@ pub struct Answer {
 }
 
 impl<P: Policy> PolicyList<P> {
-    /// The composition of all policies' answers, as mac(9) composes them, and the policy that decides it: the first one in
-    /// walk order whose answer is the composition. Every policy is asked, also after a denial. About a privilege the answer
-    /// is the kernel's: EPERM unless all policies answer success, and the subject is root or some policy grants it.
+    /// The composition of all policies' answers, composed as by the kernel's `mac_error_select`, and the policy that
+    /// decides it: the first one in walk order whose answer is the composition. Every policy is asked, also after a
+    /// denial. For a privilege all policies must answer success, and the subject must be root or be granted it by a
+    /// policy; a refusal is always EPERM, whatever the policies answered.
     pub fn ask(&self, item: &Item) -> Answer
         ensures { result ≡ spec.asked self.now.entries item.now }
     {
@@ -74,7 +75,7 @@ fn module_at<P: Policy>(policies: &[Listed<P>], place: Option<usize>) -> Option<
     Some(policy.registration().module)
 }
 
-/// The answers of the policies in walk order, and success in the places that are left.
+/// The answers of the policies in walk order. The rest of the array is success.
 fn answers<P: Policy>(policies: &[Listed<P>], item: &Item) -> [Errno; 8]
     requires { length policies.now ≤ 8 }
     ensures { take (length policies.now) result ≡ spec.answers policies.now item.now }
@@ -86,7 +87,7 @@ fn answers<P: Policy>(policies: &[Listed<P>], item: &Item) -> [Errno; 8]
     answers
 }
 
-/// Which policies grant the privilege, in walk order, and no grant in the places that are left.
+/// Which policies grant the privilege, in walk order. The rest of the array is false.
 fn grants<P: Policy>(policies: &[Listed<P>], item: &Item) -> [bool; 8]
     requires { length policies.now ≤ 8 }
     ensures { take (length policies.now) result ≡ map (spec.grant_of item.now.privilege item.now.subject.cred) policies.now }

@@ -14,7 +14,8 @@ use mf_policy::{Policy, same_module};
 use std::alloc::{AllocError, Global};
 use std::marker::Model;
 
-/// The policies that aren't listed, each as it is loaded. Contracts see their modules, and how many more fit without memory.
+/// The policies that aren't listed, each in its initial state. Contracts see their modules, and for how many more room
+/// is reserved.
 #[derive(Drop)]
 pub struct Catalogue<P: Policy> {
     policies: Vec<P>,
@@ -33,7 +34,7 @@ impl<P: Policy> Model for Catalogue<P> {
 }
 
 impl<P: Policy> Catalogue<P> {
-    /// These policies.
+    /// A catalogue of these policies.
     pub fn new(modules: Vec<P>) -> Catalogue<P>
         requires distinct { IsTrue (are_distinct (map (λ p. facts.module_of (P.spec p)) modules.items)) }
         requires fresh { All (λ p. IsFresh (P.spec p)) modules.items }
@@ -86,7 +87,7 @@ impl<P: Policy> Catalogue<P> {
         Some(&self.policies[place])
     }
 
-    /// Takes room for `more` policies.
+    /// Reserves room for `more` policies.
     pub(crate) fn reserve(&mut self, more: usize) -> Result<(), AllocError>
         ensures room { OnOk result (more ≤ self.new.spare) }
         ensures modules { self.new.modules ≡ self.old.modules }
@@ -95,7 +96,7 @@ impl<P: Policy> Catalogue<P> {
         self.policies.reserve(more)
     }
 
-    /// Puts a policy in, for which there is room.
+    /// Adds a policy, for which there must be room.
     pub(crate) fn put(&mut self, policy: P)
         requires room { 0 < self.old.spare }
         requires fresh { IsFresh (P.spec policy) }
@@ -108,7 +109,7 @@ impl<P: Policy> Catalogue<P> {
         }
     }
 
-    /// Takes the module's policy out.
+    /// Removes the module's policy and returns it, where it is here.
     pub(crate) fn take(&mut self, wanted: Module) -> Option<P>
         ensures variant { is_some result ≡ in_catalogue wanted self.old.modules }
         ensures value { IfSome result (λ p. P.spec p ≡ facts.fresh_of wanted) }

@@ -5,7 +5,7 @@ ghost use Rattle.mf_list.specs.Faults.{register_errno, unregister_errno};
 use mf_errno::Errno;
 use thiserror::Error;
 
-/// Why a module isn't registered: the first of these that is so.
+/// Why a module isn't registered: the first of these that applies.
 #[derive(Clone, Copy, Debug, PartialEq, Eq, Error)]
 pub enum RegisterFault {
     /// Neither the list nor the catalogue has a module of that name.
@@ -22,7 +22,7 @@ pub enum RegisterFault {
     NoSlot,
 }
 
-/// Why a module isn't unregistered: the first of these that is so.
+/// Why a module isn't unregistered: the first of these that applies.
 #[derive(Clone, Copy, Debug, PartialEq, Eq, Error)]
 pub enum UnregisterFault {
     /// No module of that name is listed.

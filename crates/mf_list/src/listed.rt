@@ -12,7 +12,7 @@ use mf_policy::{Change, Changed, LoadFlags, Policy, Registration, Spec, same_mod
 use std::alloc::{AllocError, Global};
 use std::marker::Model;
 
-/// A policy with its registration. Contracts see the registration and what the policy means.
+/// A policy with its registration. Contracts see the registration and the policy's spec.
 #[derive(Drop)]
 pub struct Listed<P: Policy> {
     registration: Registration,
@@ -31,7 +31,7 @@ impl<P: Policy> Model for Listed<P> {
 }
 
 impl<P: Policy> Listed<P> {
-    /// The policy that is registered so.
+    /// The policy with this registration.
     pub fn new(registration: Registration, policy: P) -> Listed<P>
         requires { IsEntry (registration, P.spec policy) }
         ensures { result ≡ (registration, P.spec policy) }
@@ -42,6 +42,7 @@ impl<P: Policy> Listed<P> {
         }
     }
 
+    /// How it is registered.
     pub fn registration(&self) -> Registration
         ensures value { result ≡ self.now.0 }
         ensures entry { IsEntry self.now }
@@ -49,7 +50,7 @@ impl<P: Policy> Listed<P> {
         self.registration
     }
 
-    /// Whether it is the module's.
+    /// Whether it is the policy of `wanted`.
     pub fn is_of(&self, wanted: Module) -> bool
         ensures { result ≡ is_of wanted self.now }
     {
@@ -63,19 +64,21 @@ impl<P: Policy> Listed<P> {
         !self.registration.fixed
     }
 
+    /// The flags of its module.
     pub fn flags(&self) -> LoadFlags
         ensures { result ≡ facts.flags_of self.now.0.«module» }
     {
         self.policy.flags()
     }
 
+    /// Whether its module labels entities, and so has a label slot.
     pub fn wants_slot(&self) -> bool
         ensures { result ≡ facts.wants_slot self.now.0.«module» }
     {
         self.policy.wants_slot()
     }
 
-    /// Whether it is registered so and means this.
+    /// Whether its registration and its spec are these.
     pub fn is(&self, registration: Registration, meaning: &Spec) -> bool
         ensures { IsTrue result ↔ (self.now ≡ (registration, meaning.now)) }
     {
@@ -109,7 +112,7 @@ impl<P: Policy> Listed<P> {
         self.policy.change(alloc, change)
     }
 
-    /// The policy, as it is loaded.
+    /// The policy, put back into its initial state.
     pub fn into_fresh(self) -> P
         ensures fresh { P.spec result ≡ facts.fresh_of self.0.«module» }
         ensures of { facts.module_of (P.spec result) ≡ self.0.«module» }

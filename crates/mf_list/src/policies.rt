@@ -16,8 +16,8 @@ use mf_slots::SlotNumbers;
 use std::alloc::{AllocError, Global};
 use std::marker::Model;
 
-/// The listed policies and the others. Each module that was handed in is held at every moment, once: in the list, or in the
-/// catalogue, and there as it is loaded.
+/// The listed policies and the others. Each module that was handed in is held at every moment, once: in the list, or in
+/// the catalogue, and there in its initial state.
 #[derive(Drop)]
 pub struct Policies<P: Policy> {
     list: PolicyList<P>,
@@ -62,7 +62,8 @@ impl<P: Policy> Policies<P> {
         self.catalogue.knows(&self.list, name)
     }
 
-    /// Takes the room that registering needs.
+    /// Reserves, in list and catalogue each, room for all policies of the other, so that registering and unregistering
+    /// don't allocate.
     pub fn ready(&mut self) -> Result<(), AllocError>
         ensures ready { OnOk result (IsReady self.new.list self.new.catalogue) }
         ensures entries { self.new.list.entries ≡ self.old.list.entries }

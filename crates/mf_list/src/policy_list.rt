@@ -14,8 +14,8 @@ use mf_policy::{Change, Changed, Policy, Registration, SpecList};
 use std::alloc::{AllocError, Global};
 use std::marker::Model;
 
-/// The listed policies in walk order: the static list, of those that can't leave, before the dynamic list; in each the newest
-/// first. A module is listed at most once. Contracts see the entries, and how many more fit without memory.
+/// The listed policies in walk order: the static list, of those that can't leave, before the dynamic list; in each the
+/// newest first. A module is listed at most once. Contracts see the entries, and for how many more room is reserved.
 #[derive(Drop)]
 pub struct PolicyList<P: Policy> {
     policies: Vec<Listed<P>>,
@@ -43,7 +43,8 @@ impl<P: Policy> PolicyList<P> {
         }
     }
 
-    /// Takes room in each for what the other holds, so that registering takes no memory.
+    /// Reserves, in list and catalogue each, room for all policies of the other, so that registering and unregistering
+    /// don't allocate.
     pub fn ready(&mut self, catalogue: &mut Catalogue<P>) -> Result<(), AllocError>
         ensures ready { OnOk result (IsReady self.new catalogue.new) }
         ensures entries { self.new.entries ≡ self.old.entries }
@@ -66,8 +67,8 @@ impl<P: Policy> PolicyList<P> {
         registrations
     }
 
-    /// Changes a setting of the module's policy. A module that isn't listed answers ENOENT. After want of memory the list is
-    /// as before.
+    /// Changes a setting of the module's policy. The result is ENOENT where the module isn't listed. If memory runs
+    /// out, the list is unchanged.
     pub fn change(
         &mut self,
         alloc: Global,
@@ -87,7 +88,7 @@ impl<P: Policy> PolicyList<P> {
         }
     }
 
-    /// Whether the registrations with their meanings, in walk order, are these.
+    /// Whether the registrations with their specs, in walk order, are these.
     pub fn same_specs(&self, specs: &SpecList) -> bool
         ensures { IsTrue result ↔ (self.now.entries ≡ specs.now) }
     {
@@ -137,7 +138,7 @@ impl<P: Policy> PolicyList<P> {
         self.policies.iter().position(|policy| policy.is_of(wanted))
     }
 
-    /// Puts a policy in its place, for which there is room.
+    /// Inserts a policy in its place. There must be room for it.
     pub(crate) fn put(&mut self, listed: Listed<P>)
         requires room { 0 < self.old.spare }
         requires absent { is_listed listed.0.«module» self.old.entries ≡ false }
@@ -152,7 +153,7 @@ impl<P: Policy> PolicyList<P> {
         }
     }
 
-    /// Takes out the policy at a place.
+    /// Removes the policy at a place and returns it.
     pub(crate) fn take(&mut self, place: usize) -> Listed<P>
         requires { place < length self.old.entries }
         ensures value { (other : Entry) → result ≡ slice_index_or self.old.entries place other }

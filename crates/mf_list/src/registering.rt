@@ -24,8 +24,9 @@ struct LoadFacts {
 }
 
 impl<P: Policy> PolicyList<P> {
-    /// Lists the module of that name, with the next slot number where it wants one; `booted` says that boot has ended. Each of
-    /// list and catalogue must have room for what the other holds, and keeps it. A refusal changes nothing.
+    /// Lists the module of that name, with the next slot number where it wants one. `booted` says whether boot has
+    /// ended. Each of list and catalogue must have room for what the other holds, and keeps it. A refusal changes
+    /// nothing.
     pub fn register(
         &mut self,
         catalogue: &mut Catalogue<P>,
@@ -64,7 +65,7 @@ impl<P: Policy> PolicyList<P> {
         Ok(registration)
     }
 
-    /// The answer to a registration. Nothing is changed yet.
+    /// Decides a registration, and changes nothing.
     fn judge(
         &self,
         catalogue: &Catalogue<P>,
@@ -130,9 +131,9 @@ impl<P: Policy> PolicyList<P> {
         }
     }
 
-    /// Takes the module of that name off the list. Its policy goes back into the catalogue as it was first loaded; its slot
-    /// number isn't given again. Each of list and catalogue must have room for what the other holds, and keeps it. A refusal
-    /// changes nothing.
+    /// Takes the module of that name off the list. Its policy goes back into the catalogue in its initial state; its
+    /// slot number isn't given again. Each of list and catalogue must have room for what the other holds, and keeps it.
+    /// A refusal changes nothing.
     pub fn unregister(
         &mut self,
         catalogue: &mut Catalogue<P>,
@@ -170,7 +171,7 @@ impl<P: Policy> PolicyList<P> {
         Ok(self.leave(catalogue, place, wanted))
     }
 
-    /// Takes the module's policy off the list and puts it back as it was first loaded.
+    /// Takes the module's policy off the list and puts it into the catalogue in its initial state.
     fn leave(&mut self, catalogue: &mut Catalogue<P>, place: usize, wanted: Module) -> Registration
         requires place { IsEntryPlace wanted self.old.entries place }
         requires ready { IsReady self.old catalogue.old }

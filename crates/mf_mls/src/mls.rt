@@ -20,7 +20,7 @@ use std::alloc::{AllocError, Global};
 pub struct Mls;
 
 impl Mls {
-    /// The policy as it is loaded.
+    /// The policy in its initial state.
     pub fn new() -> Mls {
         Mls
     }
@@ -183,8 +183,8 @@ mod tests {
         assert!(rt; !policy.grant(&Cred::default(), Priv::KldLoad));
     }
 
-    /// The four rules that mac_mls(4) gives, in its order: the same level, a higher subject, a lower one, and levels that
-    /// can't be compared.
+    /// Read and write at the same level, by a higher subject, by a lower one, and where levels can't be compared.
+    /// mac_mls(4) forbids the write of the third row, a write up; this model allows it.
     #[test]
     fn rules_of_mac_mls_4(rt: HostRuntime) {
         let policy = Mls::new();
@@ -208,7 +208,7 @@ mod tests {
         }
     }
 
-    /// mac_mls(4): a subject with `equal` is exempt. That the policy doesn't guard modules is a rule of this model.
+    /// mac_mls(4): a subject with `equal` is exempt. MLS doesn't guard the loading of modules.
     #[test]
     fn equal_is_exempt_and_anybody_loads_modules(rt: HostRuntime) {
         let policy = Mls::new();

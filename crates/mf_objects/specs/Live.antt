@@ -182,7 +182,7 @@ content_at objects id = reading content_of [] (live_at objects id)
 abbrev pub messages_at : Entities → Id → List (List ℕ)
 messages_at objects id = reading messages_of [] (live_at objects id)
 
--- how many messages a socket has, or else how many entries are in the directory of this id
+-- how many messages a socket has, and for all else this number of entries
 abbrev pub count_of : ℕ → What → ℕ
 count_of entries (Process cred) = entries
 count_of entries (Vnode vnode) = entries

@@ -35,7 +35,7 @@ pub struct Socket {
     pub messages: Messages,
 }
 
-/// What an entity is.
+/// What an entity is, with the data of its kind.
 #[derive(Drop)]
 pub enum What {
     Process(Cred),
@@ -54,6 +54,7 @@ pub struct Entity {
 }
 
 impl What {
+    /// The kind of entity that this is.
     pub fn kind(&self) -> Kind
         ensures { result ≡ live.kind_of self.now }
     {
@@ -65,6 +66,7 @@ impl What {
         }
     }
 
+    /// The attributes of a file or a directory; all zero for anything else.
     pub fn file(&self) -> FileView
         ensures { result ≡ live.file_of self.now }
     {
@@ -79,6 +81,7 @@ impl What {
         }
     }
 
+    /// The credential of a process; uid 0 and group 0 for anything else.
     pub fn cred(&self) -> Cred
         ensures { result ≡ live.cred_of self.now }
     {
@@ -88,6 +91,7 @@ impl What {
         }
     }
 
+    /// The bytes that a file or a pipe holds; none for anything else.
     pub fn content(&self) -> &[u8]
         ensures value { result.now ≡ live.content_of self.now }
         ensures most { length result.now ≤ 65536 }
@@ -99,7 +103,7 @@ impl What {
         }
     }
 
-    /// The oldest message of a socket; no bytes of what has none.
+    /// The oldest message of a socket; no bytes where there is none.
     pub fn message(&self) -> &[u8]
         ensures value { result.now ≡ slice_index_or (live.messages_of self.now) 0 [] }
         ensures most { length result.now ≤ 1048576 }
@@ -120,6 +124,7 @@ impl What {
         }
     }
 
+    /// Whether it is a file or a directory that this directory holds.
     pub fn is_entry(&self, dir: Id) -> bool
         ensures { result ≡ live.is_entry dir self.now }
     {
@@ -129,6 +134,7 @@ impl What {
         }
     }
 
+    /// Whether it is a pipe or a socket that this process made.
     pub fn is_made_by(&self, maker: Id) -> bool
         ensures { result ≡ live.is_made_by maker self.now }
     {
@@ -139,7 +145,7 @@ impl What {
         }
     }
 
-    /// Appends to a regular file or a pipe. After want of memory it is as before.
+    /// Appends to a regular file or a pipe. If memory runs out, it is unchanged.
     pub fn append(&mut self, text: &[u8]) -> Result<(), AllocError>
         requires { change.FitsBytes (length text.now) self.old }
         ensures ok { OnOk result (self.new ≡ change.appended text.now self.old) }
@@ -162,7 +168,7 @@ impl What {
         }
     }
 
-    /// Appends a message to those of a socket. After want of memory they are as before.
+    /// Appends a message to those of a socket. If memory runs out, they are unchanged.
     pub fn push_message(&mut self, message: Bytes<1048576>) -> Result<(), AllocError>
         requires { change.FitsMessage self.old }
         ensures ok { OnOk result (self.new ≡ change.with_messages (change.with_message message) self.old) }
@@ -174,7 +180,7 @@ impl What {
         }
     }
 
-    /// Takes the oldest message of a socket.
+    /// Removes the oldest message of a socket and returns it.
     pub fn pop_message(&mut self) -> Bytes<1048576>
         requires { change.HasMessage self.old }
         ensures rest { self.new ≡ change.with_messages (drop 1) self.old }
@@ -186,6 +192,7 @@ impl What {
         }
     }
 
+    /// Gives a file or a directory these mode bits.
     pub fn set_mode(&mut self, mode: u16)
         ensures { self.new ≡ change.with_mode mode self.old }
     {
@@ -217,42 +224,49 @@ fn no_cred() -> Cred
 }
 
 impl Entity {
+    /// Whether it has this id.
     pub fn has_id(&self, id: Id) -> bool
         ensures { result ≡ nat_eq self.now.id.0 id.0 }
     {
         self.id.0 == id.0
     }
 
+    /// Whether its id is at least `n`.
     pub fn is_from(&self, n: u32) -> bool
         ensures { result ≡ nat_le n self.now.id.0 }
     {
         self.id.0 >= n
     }
 
+    /// Whether it is a file or a directory that this directory holds.
     pub fn is_entry(&self, dir: Id) -> bool
         ensures { result ≡ live.is_entry dir self.now.what }
     {
         self.what.is_entry(dir)
     }
 
+    /// Whether it is the entry of this name in the directory.
     pub fn is_child(&self, dir: Id, name: &str) -> bool
         ensures { result ≡ (live.is_entry dir self.now.what && bytes_eq self.now.name name.now) }
     {
         self.what.is_entry(dir) && self.name.as_str() == name
     }
 
+    /// Whether it is the process of this name.
     pub fn is_process_named(&self, name: &str) -> bool
         ensures { result ≡ (live.is_process self.now.what && bytes_eq self.now.name name.now) }
     {
         matches!(self.what, What::Process(_)) && self.name.as_str() == name
     }
 
+    /// Whether it is the pipe of this name.
     pub fn is_pipe_named(&self, name: &str) -> bool
         ensures { result ≡ (live.is_pipe self.now.what && bytes_eq self.now.name name.now) }
     {
         matches!(self.what, What::Pipe(_)) && self.name.as_str() == name
     }
 
+    /// Whether it is the socket of this name.
     pub fn is_socket_named(&self, name: &str) -> bool
         ensures { result ≡ (live.is_socket self.now.what && bytes_eq self.now.name name.now) }
     {

@@ -4,7 +4,7 @@ ghost use Rattle.mf_objects.specs.Head.{head_of};
 
 use mf_cred::{ArrayVec, Duplicate};
 
-/// The bytes of which a head keeps the value.
+/// The most bytes that a head keeps.
 pub const HEAD_BYTES: usize = 64;
 
 /// How many bytes something holds, and the first 64 of them.

@@ -170,7 +170,8 @@ impl Objects {
         )
     }
 
-    /// Adds an entity under the next id. Every growth is taken before the first change.
+    /// Adds an entity under the next id. All memory is taken before the first change, so that a failure changes
+    /// nothing.
     fn add(
         &mut self,
         alloc: Global,

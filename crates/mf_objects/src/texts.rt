@@ -37,7 +37,7 @@ impl Name {
     }
 }
 
-/// Some names in a row. Contracts see their list.
+/// Names in order. Contracts see their list.
 #[derive(Drop)]
 pub struct NameList {
     names: Vec<Name>,
@@ -75,7 +75,7 @@ impl NameList {
         self.names.as_slice()
     }
 
-    /// Inserts a name before the first that isn't before it in byte order. After want of memory the names are as before.
+    /// Inserts a name before the first that isn't before it in byte order. If memory runs out, the names are unchanged.
     pub(crate) fn insert(&mut self, name: Name) -> Result<(), AllocError>
         ensures ok { OnOk result (self.new ≡ with_name name self.old) }
         ensures err { OnErr result (self.new ≡ self.old) }
@@ -148,7 +148,7 @@ impl<const MOST: usize> Bytes<MOST> {
         self.items.as_slice()
     }
 
-    /// Appends the text. After want of memory the bytes are as before.
+    /// Appends the text. If memory runs out, the bytes are unchanged.
     pub fn append(&mut self, text: &[u8]) -> Result<(), AllocError>
         requires { length self.old + length text.now ≤ MOST }
         ensures ok { OnOk result (self.new ≡ self.old ++ text.now) }
@@ -158,7 +158,7 @@ impl<const MOST: usize> Bytes<MOST> {
         Ok(())
     }
 
-    /// Leaves no bytes.
+    /// Removes all bytes.
     pub fn clear(&mut self)
         ensures { self.new ≡ [] }
     {
@@ -200,7 +200,7 @@ impl Messages {
         self.items.len()
     }
 
-    /// Appends a message. After want of memory the messages are as before.
+    /// Appends a message. If memory runs out, the messages are unchanged.
     pub fn push(&mut self, message: Bytes<1048576>) -> Result<(), AllocError>
         requires { length self.old < 16 }
         ensures ok { OnOk result (self.new ≡ self.old ++ message ∷ []) }
@@ -221,7 +221,7 @@ impl Messages {
         }
     }
 
-    /// Takes the oldest message.
+    /// Removes the oldest message and returns it.
     pub fn pop(&mut self) -> Bytes<1048576>
         requires { 0 < length self.old }
         ensures { self.old ≡ result ∷ self.new }

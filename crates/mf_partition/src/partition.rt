@@ -11,13 +11,14 @@ use mf_item::{CheckOp, Item, ObjectView};
 use mf_policy::{Change, Changed, LoadFlags, Policy, Spec, errno_unless};
 use std::alloc::{AllocError, Global};
 
-/// The partition policy of mac_partition(4): processes and sockets have a partition's number, where 0 is no partition, and a
-/// process in a partition doesn't see what is outside it. It has no settings.
+/// The partition policy of mac_partition(4): processes and sockets have a partition's number, where 0 is no partition,
+/// and a process in a partition doesn't see what is outside it. The manual speaks of processes only; that sockets have
+/// a partition of their own is this model's choice. It has no settings.
 #[derive(Debug, Drop)]
 pub struct Partition;
 
 impl Partition {
-    /// The policy as it is loaded.
+    /// The policy in its initial state.
     pub fn new() -> Partition {
         Partition
     }

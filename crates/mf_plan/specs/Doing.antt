@@ -1,4 +1,5 @@
--- What is so in a state where a call is done, as far as what it changes needs it. The caller lives besides.
+-- What holds in a state where the call's plan ends without a refusal, as far as the call's change needs it. That the
+-- caller lives is asked besides.
 use Rattle.std.specs.Prelude.{◌≡◌, ℕ, ◌<◌, true, false, List, length, Option, Some, None, Ok, find}
 use Rattle.mf_errno.specs.declared.module.Module.{Module}
 use Rattle.mf_objects.specs.declared.id.Id.{Id}

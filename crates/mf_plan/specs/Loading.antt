@@ -17,8 +17,8 @@ if_there m = if has_spec m then Some m else None
 abbrev pub loadable : List ℕ → Option Module
 loadable name = option_and_then if_there (module_named name)
 
--- why the module isn't loaded, by the first test that fits: boot has ended and it must be loaded before; it is loaded; it wants a
--- label slot and all four were given
+-- why the module can't be loaded, by the first test that fits: boot has ended and it has the flag NOTLATE; it is
+-- loaded; it wants a label slot and all four were given
 abbrev pub load_fault : State → Module → Option Errno
 load_fault s m =
     if s.booted && is_notlate (flags_of m) then Some Ebusy
@@ -26,7 +26,7 @@ load_fault s m =
     else if wants_slot m && nat_le 4 s.numbers then Some Enomem
     else None
 
--- why the module isn't unloaded: it isn't loaded; it can't be unloaded
+-- why the module can't be unloaded: it isn't loaded; it lacks the flag UNLOADOK
 abbrev pub unload_fault_of : State → Option Module → Option Errno
 unload_fault_of s None = Some Enoent
 unload_fault_of s (Some m) = if is_listed m s.specs then (if is_unloadok (flags_of m) then None else Some Ebusy) else Some Enoent

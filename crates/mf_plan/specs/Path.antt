@@ -75,7 +75,7 @@ IsTarget objects Root = IsLive is_directory objects root
 IsTarget objects (Name dir entry) = IsLive is_directory objects dir × IfSome entry (λ id. IsLive is_vnode objects id × (id.0 ≢ 0))
 IsTarget objects (Nowhere errno) = Unit {0}
 
--- the directory in which a component is looked up that comes after where the components before it lead
+-- the directory in which the next component is looked up, by where the components so far lead
 abbrev pub next_dir : Entities → Target → Result Id Errno
 next_dir objects Root = Ok root
 next_dir objects (Name dir None) = Err Enoent

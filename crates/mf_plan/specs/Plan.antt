@@ -182,6 +182,6 @@ abbrev pub tail_of : Result (Unit {0}) Errno → Tail
 tail_of (Ok done) = Do
 tail_of (Err e) = Refuse e
 
--- the plan that asks these checks and ends so
+-- the plan with these checks and this end
 abbrev pub ended : List Item → Result (Unit {0}) Errno → Plan
 ended checks end = record { items = checks; tail = tail_of end }

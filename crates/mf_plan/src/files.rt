@@ -14,7 +14,7 @@ use mf_item::{CheckOp, SubjectView};
 use mf_objects::{Id, Objects};
 use mf_script::Path;
 
-/// Walks along the path and asks for each of its look-ups.
+/// Walks along the path, and adds the check of each look-up.
 fn look_up(objects: &Objects, me: &SubjectView, path: &Path, checks: &mut Checks) -> Target
     requires path { length path.now ≤ 8 }
     requires empty { checks.old ≡ [] }
@@ -76,7 +76,7 @@ pub(crate) fn exec(
     Ok(())
 }
 
-/// Makes a file or a directory.
+/// The checks and tests of `create` and `mkdir`.
 pub(crate) fn create(
     objects: &Objects,
     me: &SubjectView,

@@ -42,8 +42,8 @@ pub fn is_listed(wanted: Module, specs: &SpecList) -> bool
     false
 }
 
-/// Why the module can't be loaded, and None where it can: EBUSY after boot, EEXIST while it is loaded, ENOMEM without a slot
-/// number.
+/// Why the module can't be loaded, None where it can: EBUSY where boot has ended and it has the flag NOTLATE, EEXIST
+/// where it is loaded, ENOMEM where it wants a label slot and all were given.
 pub fn load_fault(state: &State, wanted: Module) -> Option<Errno>
     ensures { result ≡ spec.load_fault state.now wanted }
 {
@@ -59,7 +59,8 @@ pub fn load_fault(state: &State, wanted: Module) -> Option<Errno>
     None
 }
 
-/// Why the module of that name can't be unloaded, and None where it can: ENOENT unless it is loaded, EBUSY where it has to stay.
+/// Why the module of that name can't be unloaded, None where it can: ENOENT where it isn't loaded, EBUSY where it lacks
+/// the flag UNLOADOK.
 pub fn unload_fault(state: &State, name: &str) -> Option<Errno>
     ensures { result ≡ spec.unload_fault state.now name.now }
 {
@@ -75,7 +76,7 @@ pub fn unload_fault(state: &State, name: &str) -> Option<Errno>
     }
 }
 
-/// Loads the module of that name.
+/// The checks and tests of `kldload`.
 pub(crate) fn kldload(
     state: &State,
     me: &SubjectView,
@@ -94,7 +95,7 @@ pub(crate) fn kldload(
     none_or_err(load_fault(state, wanted))
 }
 
-/// Unloads the module of that name.
+/// The checks and tests of `kldunload`.
 pub(crate) fn kldunload(
     state: &State,
     me: &SubjectView,

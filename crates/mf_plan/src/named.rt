@@ -17,7 +17,8 @@ use mf_objects::{Id, Objects};
 /// The most messages that a socket holds.
 const MOST_MESSAGES: u32 = 16;
 
-/// Makes what is to have a name, which the holder has already where there is one.
+/// The tests of a call that makes an entity: EEXIST where `holder` has its name already, ENFILE where no further entity
+/// can be made.
 pub(crate) fn make(objects: &Objects, holder: Option<Id>) -> Result<(), Errno>
     ensures { spec.ended [] result ≡ spec.make_row objects.now holder }
 {
@@ -30,7 +31,7 @@ pub(crate) fn make(objects: &Objects, holder: Option<Id>) -> Result<(), Errno>
     Ok(())
 }
 
-/// Makes a child of the task.
+/// The tests of `fork`.
 pub(crate) fn fork(objects: &Objects, task: &str, child: &str) -> Result<(), Errno>
     requires task { IsName task.now }
     requires child { IsName child.now }
@@ -120,7 +121,8 @@ pub(crate) fn pwrite(
     Ok(())
 }
 
-/// Sends from the first socket to the second, which is looked up after the first one was asked about.
+/// The checks and tests of `send`. The receiver is looked up after the check of the sender, so a denial wins over its
+/// ENOENT.
 pub(crate) fn send(
     objects: &Objects,
     me: &SubjectView,

@@ -10,7 +10,7 @@ use arrayvec::ArrayString;
 use mf_objects::{Id, Objects};
 use std::marker::Model;
 
-/// The full name of a task's child: that of the task, a dot, and its own. It lies in the value itself. Contracts see its
+/// The full name of a task's child: that of the task, a dot, and its own. It needs no allocator. Contracts see its
 /// bytes.
 #[derive(Drop)]
 pub struct ChildName {

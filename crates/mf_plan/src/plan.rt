@@ -5,14 +5,16 @@ use mf_cred::ArrayVec;
 use mf_errno::Errno;
 use mf_item::Item;
 
-/// How a call ends where no check is denied: it is done, or the framework refuses it.
+/// How a call ends where no check is denied.
 #[derive(Clone, Copy, Debug, PartialEq, Eq)]
 pub enum Tail {
+    /// The call is done.
     Do,
+    /// The framework refuses it.
     Refuse(Errno),
 }
 
-/// Checks in the order in which they are asked.
+/// Checks in the order in which they are asked. A plan has at most 10: 8 look-ups and 2 more.
 pub(crate) type Checks = ArrayVec<Item, 12>;
 
 /// The checks of a call, in the order in which they are asked, and its end.
@@ -23,14 +25,14 @@ pub struct Plan {
 }
 
 impl Plan {
-    /// Whether the two are one plan.
+    /// Whether the two are equal.
     pub fn same(&self, other: &Plan) -> bool
         ensures { IsTrue result ↔ (self.now ≡ other.now) }
     {
         same_items(self.items.as_slice(), other.items.as_slice()) && self.tail == other.tail
     }
 
-    /// An equal plan.
+    /// A copy.
     pub fn copy(&self) -> Plan
         ensures { result ≡ self.now }
     {

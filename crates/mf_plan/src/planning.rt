@@ -16,8 +16,8 @@ use mf_errno::Errno;
 use mf_item::{CheckOp, SubjectView};
 use mf_script::Call;
 
-/// The plan of a call of the task's own process, or of its child of that name. Where that process doesn't live, it asks for
-/// nothing and ends with ESRCH.
+/// The plan of a call of the task's own process, or of its child of that name. Where that process isn't live, the plan
+/// has no check and ends with ESRCH.
 pub fn plan_of(state: &State, task: &str, child: Option<&str>, call: &Call) -> Plan
     requires task { IsName task.now }
     requires child { IsFormedChild (option_copied child) }
@@ -47,7 +47,7 @@ fn tail_of(end: Result<(), Errno>) -> Tail
     }
 }
 
-/// Asks for the checks of a call of a live process, in order.
+/// Collects the checks of a call of a live process, in order.
 fn ask_for(
     state: &State,
     task: &str,

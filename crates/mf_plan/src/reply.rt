@@ -17,30 +17,38 @@ impl Duplicate for Loaded {
     }
 }
 
-/// What a call that is done hands back. `Head` is what was read: how many bytes, and the first 64. `Size` is a number of bytes.
-/// `Stat` has the attributes, and the size in bytes, which is 0 for a directory. `Names` has the number of all entries, and the
-/// names of the first 16 in byte order. `Modules` has the loaded modules in walk order. `Slot` is the label slot that a module got.
+/// What a call that is done hands back.
 #[derive(Drop)]
 pub enum Payload {
+    /// Nothing.
     None,
+    /// What was read: how many bytes, and the first 64.
     Head(Head),
+    /// How many bytes there are.
     Size(u32),
+    /// The attributes, and the size in bytes, which is 0 for a directory.
     Stat(FileView, u32),
+    /// The number of all entries, and the names of the first 16 in byte order.
     Names { count: u32, first: NameList },
+    /// The loaded modules in walk order.
     Modules(ArrayVec<Loaded, 8>),
+    /// The label slot that the module got, where it wants one.
     Slot(Option<u8>),
 }
 
-/// The reply to a call. `Denied` is a denied check: the errno, the operation and the number of the check, from 1, and the policy
-/// that decided it; nobody decides a privilege that no policy granted. `Refused` is the framework's own refusal.
+/// The reply to a call.
 #[derive(Drop)]
 pub enum Reply {
+    /// The call is done, and hands this back.
     Ok(Payload),
+    /// A check was denied: the errno, the operation, the number of the check from 1, and the policy that decided it. No
+    /// policy decides a check of a privilege.
     Denied {
         errno: Errno,
         op: CheckOp,
         item: u8,
         by: Option<Module>,
     },
+    /// The framework itself refused the call.
     Refused(Errno),
 }

@@ -3,7 +3,7 @@ use mf_objects::Objects;
 use mf_policy::SpecList;
 use mf_slots::SlotNumbers;
 
-/// The state of the kernel: the live entities, the listed policies in walk order with what they mean, how many label slots
+/// The state of the kernel: the live entities, the listed policies in walk order with their specs, how many label slots
 /// were given, and whether boot has ended.
 #[derive(Drop)]
 pub struct State {

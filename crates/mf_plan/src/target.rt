@@ -6,12 +6,14 @@ ghost use Rattle.mf_plan.specs.Path as spec;
 use mf_errno::Errno;
 use mf_objects::{Id, Objects};
 
-/// Where a path leads: to the root directory, to a name in a directory, under which there is an entry or none, or nowhere,
-/// since an earlier component names no entry (ENOENT) or a regular file (ENOTDIR).
+/// Where a path leads.
 #[derive(Clone, Copy, Debug, PartialEq, Eq)]
 pub enum Target {
+    /// To the root directory.
     Root,
+    /// To a name in a directory, with its entry where there is one.
     Name(Id, Option<Id>),
+    /// Nowhere: an earlier component names no entry (ENOENT) or a regular file (ENOTDIR).
     Nowhere(Errno),
 }
 

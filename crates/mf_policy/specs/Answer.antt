@@ -1,4 +1,4 @@
--- What a policy answers to an item, by its meaning and the table of operations.
+-- What a policy answers to an item, by its spec and the table of operations.
 use Rattle.std.specs.Prelude.{ℕ, Bool, true, false, cond, ◌||◌, nat_eq, Option, Some, None, unwrap_or, slice_index_or}
 use Rattle.mf_errno.specs.declared.errno.Errno.{Errno}
 use Rattle.mf_errno.specs.declared.errno.Errno.TheVariants.{Success, Esrch, Eacces, Eperm}
@@ -137,13 +137,13 @@ partition_answer slot item =
     let object = partition_of (object_slot item.object slot) in
     partition_verdict (partition_test_of item.op) item.subject.cred subject object (partition_asked item.request)
 
--- what a policy of this meaning, which holds this slot, answers to an item
+-- what a policy of this spec, which holds this slot, answers to an item
 abbrev pub answer : Spec → ℕ → Item → Errno
 answer means.Biba slot item = lattice_answer biba slot item
 answer means.Mls slot item = lattice_answer mls slot item
 answer means.Partition slot item = partition_answer slot item
 
--- whether a policy of this meaning grants the privilege to a process of that credential
+-- whether a policy of this spec grants the privilege to a process of that credential
 abbrev pub grants : Spec → Cred → Priv → Bool
 grants means.Biba cred privilege = false
 grants means.Mls cred privilege = false

@@ -1,4 +1,4 @@
--- The fixed facts of each module, and what a fresh one means.
+-- The facts of each module that never change, and its spec in its initial state.
 use Rattle.std.specs.Prelude.{ℕ, Bool, true, false, nat_eq}
 use Rattle.mf_errno.specs.declared.module.Module.{Module}
 use Rattle.mf_errno.specs.declared.module.Module.TheVariants as modules
@@ -9,20 +9,21 @@ use Rattle.mf_policy.specs.declared.spec.Spec.TheVariants as means
 use Rattle.mf_policy.specs.declared.load_flags.LoadFlags.{LoadFlags}
 use Rattle.mf_policy.specs.LoadFlags.{notlate, unloadok}
 
--- the module that a meaning is of
+-- the module of a spec
 abbrev pub module_of : Spec → Module
 module_of means.Biba = modules.Biba
 module_of means.Mls = modules.Mls
 module_of means.Partition = modules.Partition
 
--- whether a meaning of the module is there
+-- whether a policy of the module is built in
 abbrev pub has_spec : Module → Bool
 has_spec modules.Biba = true
 has_spec modules.Mls = true
 has_spec modules.Partition = true
 has_spec other = false
 
--- the meaning of a module as it is loaded; of one that has none here it says nothing
+-- The spec of a module in its initial state. A module whose policy isn't built in has none: Biba's stands there, and no
+-- clause speaks of it.
 abbrev pub fresh_of : Module → Spec
 fresh_of modules.Biba = means.Biba
 fresh_of modules.Mls = means.Mls

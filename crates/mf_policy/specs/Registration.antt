@@ -6,7 +6,7 @@ use Rattle.mf_policy.specs.declared.registration.Registration.{Registration}
 use Rattle.mf_policy.specs.declared.spec.Spec.{Spec}
 use Rattle.mf_policy.specs.Modules.{same_module}
 
--- how a policy is registered, and what it means
+-- a registration, and the policy's spec
 abbrev pub Entry : Type 0
 Entry = Registration × Spec
 

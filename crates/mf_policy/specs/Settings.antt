@@ -9,6 +9,6 @@ use Rattle.mf_policy.specs.declared.spec.Changed.{Changed}
 abbrev pub no_setting : Changed
 no_setting = record { errno = Enoent; number = None }
 
--- the answer to a change, and the meaning after it; none of these policies has a setting
+-- the answer to a change, and the spec after it; none of these policies has a setting
 abbrev pub change_of : Spec → Change → Changed × Spec
 change_of meaning change = (no_setting, meaning)

@@ -1,4 +1,4 @@
-//! How Biba and MLS read an item.
+//! The labels in a check, as Biba and MLS read them.
 ghost use Rattle.std.specs.Prelude.{◌≡◌, ◌<◌};
 ghost use Rattle.mf_policy.specs.Answer as spec;
 
@@ -16,7 +16,7 @@ pub fn slot_label(value: &LabelValue) -> RangeLabel
     }
 }
 
-/// The label in a slot of the object, with nothing in it where there is no object.
+/// The label in a slot of the object; an empty one where there is no object.
 pub fn object_label(object: &Option<ObjectView>, slot: u8) -> RangeLabel
     requires { slot < 4 }
     ensures { result ≡ spec.label_of (spec.object_slot object.now slot) }
@@ -27,7 +27,7 @@ pub fn object_label(object: &Option<ObjectView>, slot: u8) -> RangeLabel
     }
 }
 
-/// The label that a policy's part of a request asks for. Without a part it has nothing in it.
+/// The label that a policy's part of a request asks for; an empty one where it has no part.
 pub fn asked(part: &Option<RangeLabel>) -> RangeLabel
     ensures { result ≡ spec.asked_of part.now }
 {

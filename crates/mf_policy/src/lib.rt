@@ -1,4 +1,4 @@
-//! The interface of a policy module, what policies mean, and what Biba and MLS share.
+//! The interface of a policy module, the specs of policies, and what Biba and MLS share.
 #![tactic(auto)]
 
 mod labels;

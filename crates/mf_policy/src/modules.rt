@@ -1,4 +1,4 @@
-//! What is fixed of each module.
+//! The facts of a module that never change: its flags, and what it labels.
 ghost use Rattle.std.specs.Prelude.{◌≡◌};
 ghost use Rattle.mf_policy.specs.Modules as facts;
 

@@ -1,4 +1,4 @@
-//! The interface of a policy module, after the entry points of mac(9).
+//! The interface of a policy module, modelled on the MAC Framework's entry points (mac(9)).
 ghost use Rattle.std.specs.Prelude.{◌≡◌, ◌<◌, ◌↔◌, IsTrue, IfOk, OnErr};
 ghost use Rattle.mf_policy.specs.Answer.{answer, grants};
 ghost use Rattle.mf_policy.specs.Modules as facts;
@@ -10,7 +10,7 @@ use mf_errno::{Errno, Module, Priv};
 use mf_item::Item;
 use std::alloc::{AllocError, Global};
 
-/// A policy module. Its whole meaning is its `Spec`.
+/// A policy module. Its `spec` determines every answer that it gives.
 pub trait Policy: Send + Sync + Drop {
     ghost use Rattle.mf_policy.specs.declared.spec.Spec.{Spec};
 
@@ -28,7 +28,7 @@ pub trait Policy: Send + Sync + Drop {
     fn wants_slot(&self) -> bool
         ensures { result ≡ facts.wants_slot (facts.module_of (spec self.now)) };
 
-    /// Whether the policy means this.
+    /// Whether the policy's spec is `other`.
     fn same(&self, other: &Spec) -> bool
         ensures { IsTrue result ↔ (spec self.now ≡ other.now) };
 
@@ -41,12 +41,12 @@ pub trait Policy: Send + Sync + Drop {
     fn grant(&self, cred: &Cred, privilege: Priv) -> bool
         ensures { result ≡ grants (spec self.now) cred.now privilege };
 
-    /// Changes a setting. A policy without that setting answers ENOENT.
+    /// Changes a setting. A policy without that setting returns ENOENT. If memory runs out, the policy is unchanged.
     fn change(&mut self, alloc: Global, change: &Change) -> Result<Changed, AllocError>
         ensures ok { IfOk result (λ changed. (changed, spec self.new) ≡ change_of (spec self.old) change.now) }
         ensures err { OnErr result (spec self.new ≡ spec self.old) };
 
-    /// Makes the policy as it is when the module is loaded.
+    /// Puts every setting back to its value at load time.
     fn reset(&mut self)
         ensures { spec self.new ≡ facts.fresh_of (facts.module_of (spec self.old)) };
 }

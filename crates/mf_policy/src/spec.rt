@@ -1,4 +1,4 @@
-//! What a policy means, and the settings that change it.
+//! The specs of policies, and the settings that change them.
 ghost use Rattle.std.specs.Prelude.{◌≡◌, ◌↔◌, IsTrue, IfOk, OnErr};
 ghost use Rattle.mf_policy.specs.Modules as facts;
 ghost use Rattle.mf_policy.specs.Settings.{change_of};
@@ -6,7 +6,7 @@ ghost use Rattle.mf_policy.specs.Settings.{change_of};
 use mf_errno::{Errno, Module};
 use std::alloc::{AllocError, Global};
 
-/// The meaning of a policy: its module, with the settings that decide its answers.
+/// What determines a policy's answers: its module, with the values of its settings.
 #[derive(Debug, Drop)]
 pub enum Spec {
     Biba,
@@ -17,7 +17,8 @@ pub enum Spec {
 /// A change of a setting.
 #[derive(Clone, Copy, Debug, PartialEq, Eq)]
 pub enum Change {
-    /// Whether the file system firewall stops at the first rule that matches, as ugidfw(8) has it.
+    /// Whether the file system firewall stops at the first rule that matches, as the sysctl
+    /// `security.mac.bsdextended.firstmatch_enabled` of mac_bsdextended(4) sets it.
     FirstMatch(bool),
 }
 
@@ -29,7 +30,7 @@ pub struct Changed {
 }
 
 impl Spec {
-    /// The meaning of the module as it is loaded. The module must be one that has a meaning here.
+    /// The spec of the module in its initial state. A policy of the module must be built in.
     pub fn fresh(_alloc: Global, module: Module) -> Result<Spec, AllocError>
         requires { IsTrue (facts.has_spec «module») }
         ensures { IfOk result (λ meaning. meaning ≡ facts.fresh_of «module») }
@@ -42,7 +43,7 @@ impl Spec {
         }
     }
 
-    /// An equal meaning.
+    /// A copy.
     pub fn copy(&self, _alloc: Global) -> Result<Spec, AllocError>
         ensures { IfOk result (λ meaning. meaning ≡ self.now) }
     {

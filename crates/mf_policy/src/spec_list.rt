@@ -1,4 +1,4 @@
-//! The listed registrations with their meanings.
+//! The listed registrations with the specs of their policies.
 ghost use Rattle.std.specs.Prelude.{◌≡◌, ◌<◌, ◌≤◌, [], nat_eq, length, slice_index_or, slice_set, OnOk, OnErr};
 ghost use Rattle.std.specs.List.{insert, remove};
 ghost use Rattle.mf_policy.specs.Registration.{Entry};
@@ -7,7 +7,7 @@ use crate::{Registration, Spec};
 use std::alloc::{AllocError, Global};
 use std::marker::Model;
 
-/// A list of registrations, each with the meaning of its policy.
+/// The registrations of policies, each with the policy's spec.
 #[derive(Drop)]
 pub struct SpecList {
     entries: Vec<(Registration, Spec)>,
@@ -54,7 +54,7 @@ impl SpecList {
         self.entries[place].0
     }
 
-    /// The meaning at a place.
+    /// The spec at a place.
     pub fn spec(&self, place: usize) -> &Spec
         requires { place < length self.now }
         ensures { (other : Entry) → result.now ≡ (slice_index_or self.now place other).1 }
@@ -62,7 +62,7 @@ impl SpecList {
         &self.entries[place].1
     }
 
-    /// Puts a meaning in the place of the one there.
+    /// Replaces the spec at a place.
     pub fn put(&mut self, place: usize, spec: Spec)
         requires { place < length self.old }
         ensures len { length self.new ≡ length self.old }
@@ -71,7 +71,7 @@ impl SpecList {
         self.entries[place].1 = spec;
     }
 
-    /// Puts an entry in before a place, or at the end. After want of memory the list is as before.
+    /// Inserts an entry before a place, or at the end. If memory runs out, the list is unchanged.
     pub fn insert(
         &mut self,
         place: usize,
@@ -86,7 +86,7 @@ impl SpecList {
         Ok(())
     }
 
-    /// Takes out the entry at a place.
+    /// Removes the entry at a place.
     pub fn remove(&mut self, place: usize)
         requires { place < length self.old }
         ensures { self.new ≡ remove self.old place }

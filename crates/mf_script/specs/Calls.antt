@@ -10,7 +10,7 @@ use Rattle.mf_script.specs.Limits.{text_limit}
 use Rattle.mf_script.specs.Words.{Words}
 use Rattle.mf_script.specs.Parts.{word_by, no_more, name_of, process_of, path_of, mode_of, text_of, any_word}
 
--- a reader of the arguments behind a call's name, which answers the words after them too
+-- a reader of the arguments behind a call's name, which returns the words after them too
 abbrev pub Arguments : Type 0
 Arguments = Words → Result (Call × Words) ScriptError
 

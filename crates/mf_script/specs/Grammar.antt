@@ -20,7 +20,7 @@ use Rattle.mf_script.specs.Labels.{is_biba, is_mls, is_partition}
 abbrev pub has_path : List (List ℕ) → FileLine → Bool
 has_path path f = is_same_path f.path path
 
--- there is room for the file behind these, its path is new, which the root's never is, and its directory is there
+-- there is room for the file after these, its path is new, which the root's never is, and its directory is there
 abbrev pub may_stand : List FileLine → FileLine → Bool
 may_stand files f =
     nat_lt (length files) file_limit
@@ -32,7 +32,7 @@ unfoldable pub items_in : {A : Type 0} → (List A → Words → Result (Option 
 items_in item_at items [] = Ok (items, [])
 items_in item_at items (row ∷ rows) = item_at items row >>= λ found. or_else found (Ok (items, row ∷ rows)) (λ item. items_in item_at (items ++ item ∷ []) rows)
 
--- the module may be booted behind these: each at most once
+-- a boot line may name the module after these: each at most once
 abbrev pub may_boot : List Module → Module → Bool
 may_boot boots Biba = not (list_any is_biba boots)
 may_boot boots Mls = not (list_any is_mls boots)
@@ -40,21 +40,21 @@ may_boot boots Partition = not (list_any is_partition boots)
 may_boot boots Bsdextended = false
 may_boot boots Priority = false
 
--- the module of a row behind these, where the row is a boot line
+-- the module that the row boots after these; none where it is no boot line
 unfoldable pub boot_at : List Module → Words → Result (Option Module) ScriptError
 boot_at boots row = or_else (behind (codes "boot") row) (Ok None) (λ ws. do
   booted ← boot_line ws
   u ← only_if (may_boot boots booted)
   Ok (Some booted))
 
--- the file of a row behind these, where the row is a file line
+-- the file of the row after these; none where it is no file line
 unfoldable pub file_at : List Module → List FileLine → Words → Result (Option FileLine) ScriptError
 file_at boots files row = or_else (behind (codes "file") row) (Ok None) (λ ws. do
   file ← file_line boots ws
   u ← only_if (may_stand files file)
   Ok (Some file))
 
--- the line of a row behind these, where the row isn't the end of a task
+-- the line of the row after these; none where it ends the task
 unfoldable pub line_at : List Line → Words → Result (Option Line) ScriptError
 line_at lines row = or_else (behind (codes "end") row) (do
   u ← only_if (nat_lt (length lines) line_limit)
@@ -80,7 +80,7 @@ task_in boots row rows = do
 abbrev pub has_name : List ℕ → Task → Bool
 has_name name task = bytes_eq task.name name
 
--- the task of this row behind these, none of which has its name, and the rows after its end
+-- the task of the row, whose name none of these may have, and the rows after its end
 unfoldable pub task_behind : List Module → List Task → Words → Rows → Result (Task × Rows) ScriptError
 task_behind boots tasks row rows = do
   task ← task_in boots row rows

@@ -20,8 +20,8 @@ abbrev pub replaced : RangeLabel → Option RangeLabel → RangeLabel
 replaced label None = label
 replaced label (Some given) = record { effective = given_or given.effective label.effective; range = given_or given.range label.range }
 
--- What a module keeps of a task's process at boot: biba/high(low-high), mls/low(low-high) or partition 0, with the parts of the
--- request in place of its own.
+-- The value at boot in a module's slot of a task's process: what the request gives, and for the rest
+-- biba/high(low-high), mls/low(low-high) or partition 0.
 abbrev pub task_label : Module → Request → LabelValue
 task_label Biba request = Range (replaced (record { effective = Some High; range = Some (Low, High) }) request.biba)
 task_label Mls request = Range (replaced (record { effective = Some Low; range = Some (Low, High) }) request.mls)
@@ -29,7 +29,7 @@ task_label Partition request = Number (unwrap_or request.partition 0)
 task_label Bsdextended request = Unset
 task_label Priority request = Unset
 
--- what a module keeps of a file at boot: biba/high or mls/low, with the parts of the request in place of its own
+-- the value at boot in a module's slot of a file: what the request gives, and for the rest biba/high or mls/low
 abbrev pub file_label : Module → Request → LabelValue
 file_label Biba request = Range (replaced (record { effective = Some High; range = None }) request.biba)
 file_label Mls request = Range (replaced (record { effective = Some Low; range = None }) request.mls)

@@ -1,4 +1,4 @@
--- The parts of a row. Each reader takes words from the front, and answers what it read and the words after it.
+-- The parts of a row. Each reader takes words from the front, and returns what it read and the words after it.
 use Rattle.std.specs.Prelude.{ℕ, Bool, true, false, not, ◌&&◌, ◌||◌, ◌==◌, ◌-◌, nat_lt, nat_le, if◌then◌else◌}
 use Rattle.std.specs.Prelude.{List, [], ◌∷◌, ◌++◌, length, take, Option, Some, None, Result, Ok, Err, codes}
 use Rattle.std.specs.List.{list_all, list_any, slice_split}
@@ -25,7 +25,7 @@ abbrev pub word_by : {A : Type 0} → (List ℕ → Result A ScriptError) → Wo
 word_by read [] = Err NotYet
 word_by read (w ∷ ws) = read w >>= λ x. Ok (x, ws)
 
--- that very word
+-- the next word, which must be that one
 abbrev pub fixed : List ℕ → Words → Result Words ScriptError
 fixed text [] = Err NotYet
 fixed text (w ∷ ws) = only_if (bytes_eq w text) >>= λ u. Ok ws

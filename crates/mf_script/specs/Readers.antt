@@ -27,7 +27,7 @@ abbrev pub or_else : {A B : Type 0} → Option A → B → (A → B) → B
 or_else None stop more = stop
 or_else (Some x) stop more = more x
 
--- the error is the grammar's, or want of memory
+-- the error is the grammar's, or memory ran out
 abbrev pub Fails : {Y : Type 0} → ScriptError → Result Y ScriptError → Type 0
 Fails Memory read = Unit {0}
 Fails NotYet read = read ≡ Err NotYet

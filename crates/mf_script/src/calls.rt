@@ -94,7 +94,7 @@ fn call(alloc: Global, name: &str, words: &mut Words) -> Result<Call, ScriptErro
     }
 }
 
-/// A call with its arguments, and no more.
+/// A call with its arguments, after which the row must end.
 #[tactic(auto, unfolding(crate::specs::Calls::call_line, crate::specs::Readers::and_then))]
 pub fn call_line(alloc: Global, words: &mut Words) -> Result<Call, ScriptError>
     ensures { Gives (λ c. c) result (call_line words.old) }

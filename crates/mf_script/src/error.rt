@@ -8,9 +8,10 @@ use thiserror::Error;
 /// Why bytes are not read as a script.
 #[derive(Clone, Copy, Debug, PartialEq, Eq, Error)]
 pub enum ScriptError {
-    /// The grammar doesn't read them as a script.
+    /// The bytes are no script.
     #[error("script not yet")]
     NotYet,
+    /// Memory ran out.
     #[error("no memory")]
     Memory,
 }

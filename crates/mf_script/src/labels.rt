@@ -7,8 +7,8 @@ ghost use Rattle.mf_script.specs.Labels as spec;
 use mf_elem::{Elem, LabelValue, RangeLabel, Request, is_valid};
 use mf_errno::Module;
 
-/// What a module keeps of a task's process at boot, with the parts of the request in place of its own: `biba/high(low-high)`,
-/// `mls/low(low-high)`, partition 0, and nothing of a module without a label.
+/// The value at boot in the module's slot of a task's process: what the request gives, and for the rest
+/// `biba/high(low-high)`, `mls/low(low-high)` or partition 0. Unset for a module that labels nothing.
 pub fn task_label(booted: Module, request: &Request) -> LabelValue
     ensures { result ≡ spec.task_label booted request.now }
 {
@@ -26,8 +26,8 @@ pub fn task_label(booted: Module, request: &Request) -> LabelValue
     }
 }
 
-/// What a module keeps of a file at boot, with the parts of the request in place of its own: `biba/high`, `mls/low`, and nothing
-/// of a module that doesn't label files.
+/// The value at boot in the module's slot of a file: what the request gives, and for the rest `biba/high` or `mls/low`.
+/// Unset for a module that doesn't label files.
 pub fn file_label(booted: Module, request: &Request) -> LabelValue
     ensures { result ≡ spec.file_label booted request.now }
 {
@@ -155,7 +155,7 @@ pub fn may_ask_of_file(boots: &[Module], request: &Request) -> bool
         && are_valid_for_file(boots, request)
 }
 
-/// Whether the module may be booted behind these: `mac_biba`, `mac_mls` and `mac_partition` may, each once.
+/// Whether a boot line may name the module after `boots`: mac_biba, mac_mls and mac_partition may stand, each once.
 pub fn may_boot(boots: &[Module], booted: Module) -> bool
     ensures { result ≡ may_boot boots.now booted }
 {

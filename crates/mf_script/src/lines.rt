@@ -15,7 +15,7 @@ use mf_cred::{Cred, FileView};
 use mf_errno::Module;
 use std::alloc::Global;
 
-/// What stands behind the word `boot`.
+/// The rest of a boot line, after the word `boot`.
 #[tactic(auto, unfolding(crate::specs::Lines::boot_line, crate::specs::Readers::and_then))]
 pub fn boot_line(words: &mut Words) -> Result<Module, ScriptError>
     ensures { Gives (λ m. m) result (boot_line words.old) }
@@ -25,7 +25,7 @@ pub fn boot_line(words: &mut Words) -> Result<Module, ScriptError>
     Ok(booted)
 }
 
-/// What stands behind the word `file`.
+/// The rest of a file line, after the word `file`.
 #[tactic(auto, unfolding(crate::specs::Lines::file_line, crate::specs::Readers::and_then))]
 pub fn file_line(
     alloc: Global,
@@ -59,7 +59,7 @@ pub fn file_line(
     })
 }
 
-/// The text of a file line, where there is one. A directory has none.
+/// The text of a file line, where it has one. A directory has none.
 #[tactic(auto, unfolding(crate::specs::Lines::file_text, crate::specs::Readers::and_then))]
 fn file_text(alloc: Global, dir: bool, words: &mut Words) -> Result<Content, ScriptError>
     ensures { Gives (λ t. (t, words.new)) result (file_text dir words.old) }

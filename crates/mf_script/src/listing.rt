@@ -4,7 +4,7 @@ ghost use Rattle.std.specs.Prelude.{◌≡◌, [], ◌∷◌, ◌++◌, length, 
 use std::alloc::{AllocError, Global};
 use std::marker::Model;
 
-/// Some items in a row. Contracts see them as their list.
+/// Items in order. Contracts see their list.
 #[derive(Drop)]
 pub struct Listing<T> {
     items: Vec<T>,
@@ -44,7 +44,7 @@ impl<T> Listing<T> {
 }
 
 impl<T: Drop> Listing<T> {
-    /// Appends the item. After want of memory the list is as before.
+    /// Appends the item. If memory runs out, the list is unchanged.
     pub fn push(&mut self, item: T) -> Result<(), AllocError>
         ensures ok { OnOk result (self.new ≡ self.old ++ item ∷ []) }
         ensures err { OnErr result (self.new ≡ self.old) }
@@ -69,7 +69,7 @@ impl Model for Name {
 }
 
 impl Name {
-    /// The name that the text is.
+    /// The name with this text.
     pub fn from_string(text: String) -> Self
         ensures { result ≡ string_bytes text }
     {
@@ -159,7 +159,7 @@ impl Model for Word {
 }
 
 impl Word {
-    /// The word that the text is.
+    /// The word with this text.
     pub fn from_string(text: String) -> Self
         ensures { result ≡ string_bytes text }
     {

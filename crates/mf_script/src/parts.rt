@@ -1,4 +1,4 @@
-//! The parts of a row, each one word.
+//! Readers of the parts of a row, most of them one word.
 #![tactic(auto, unfolding(crate::specs::Readers::and_then))]
 
 ghost use Rattle.std.specs.Prelude.{◌≡◌, ◌≢◌, ◌<◌, ◌≤◌, [], ◌∷◌, length, MatchOption, IfSome, IfOk, List, ℕ, vec_len};
@@ -28,7 +28,7 @@ const MODE_LIMIT: u32 = 0o7777;
 /// The most components of a path.
 const PATH_LIMIT: usize = 8;
 
-/// The word that has to stand there.
+/// Reads the next word, which must be `text`.
 pub fn fixed(words: &mut Words, text: &str) -> Result<(), ScriptError>
     ensures { Gives (λ u. words.new) result (fixed text.now words.old) }
 {
@@ -40,7 +40,7 @@ pub fn fixed(words: &mut Words, text: &str) -> Result<(), ScriptError>
     }
 }
 
-/// The end of the row.
+/// Refuses any further word.
 pub fn no_more(words: &mut Words) -> Result<(), ScriptError>
     ensures { Gives (λ u. u) result (no_more words.old) }
 {
@@ -79,7 +79,7 @@ pub fn number(words: &mut Words) -> Result<u32, ScriptError>
     Ok(value)
 }
 
-/// The text in front of the first separator, and the text behind it.
+/// The text before the first separator, and the text after it.
 fn split_at(text: &str, separator: char) -> Option<(&str, &str)>
     requires { separator < 128 }
     ensures parted { MatchOption result (parted separator text.now ≡ text.now ∷ []) (λ halves. parted separator text.now ≡ halves.0.now ∷ parted separator halves.1.now) }
@@ -197,7 +197,7 @@ fn request_for_file(boots: &[Module], word: &str) -> Result<Request, ScriptError
     }
 }
 
-/// What a script that boots these modules asks of a task, `-` for nothing.
+/// What a script that boots these modules asks of a task; `-` asks for nothing.
 pub fn task_request(boots: &[Module], words: &mut Words) -> Result<Request, ScriptError>
     ensures { Gives (λ r. (r, words.new)) result (word_by (task_request boots.now) words.old) }
 {
@@ -206,7 +206,7 @@ pub fn task_request(boots: &[Module], words: &mut Words) -> Result<Request, Scri
     Ok(request)
 }
 
-/// What a script that boots these modules asks of a file, `-` for nothing.
+/// What a script that boots these modules asks of a file; `-` asks for nothing.
 pub fn file_request(boots: &[Module], words: &mut Words) -> Result<Request, ScriptError>
     ensures { Gives (λ r. (r, words.new)) result (word_by (file_request boots.now) words.old) }
 {
@@ -266,7 +266,7 @@ pub fn name(alloc: Global, words: &mut Words) -> Result<Name, ScriptError>
     Ok(name)
 }
 
-/// The text behind the first character, where that is the one given.
+/// The text after the first character, where that is `first`.
 fn behind(word: &str, first: char) -> Option<&str>
     requires { first < 128 }
     ensures { MatchOption result ((rest : List ℕ) → word.now ≢ first ∷ rest) (λ rest. word.now ≡ first ∷ rest.now) }
@@ -370,7 +370,7 @@ fn components_of(alloc: Global, word: &str) -> Result<Listing<Name>, ScriptError
     }
 }
 
-/// The components of a path behind its first slash.
+/// The components of a path, from the text after its first slash.
 #[tactic(auto, unfolding(crate::specs::Parts::behind_root))]
 fn behind_root(alloc: Global, word: &str) -> Result<Listing<Name>, ScriptError>
     ensures { Gives (λ components. components) result (behind_root word.now) }
@@ -455,7 +455,7 @@ fn text_of(alloc: Global, word: &str, most: usize) -> Result<Vec<u8>, ScriptErro
     }
 }
 
-/// The bytes that a text stands for, at most so many.
+/// The bytes that a text stands for, at most `most`.
 pub fn text(alloc: Global, words: &mut Words, most: usize) -> Result<Vec<u8>, ScriptError>
     ensures gives { Gives (λ t. (t.items, words.new)) result (word_by (text_of most) words.old) }
     ensures most { IfOk result (λ t. vec_len t ≤ most) }

@@ -4,7 +4,7 @@ ghost use Rattle.mf_script.specs.Parts.{is_same_path, directory_of};
 
 use crate::listing::Name;
 
-/// Whether the two are one path.
+/// Whether the two have the same components.
 pub fn is_same_path(path: &[Name], other: &[Name]) -> bool
     ensures { result ≡ is_same_path path.now other.now }
 {

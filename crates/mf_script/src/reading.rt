@@ -31,7 +31,7 @@ const TASK_LIMIT: usize = 16;
 /// The most lines of a task.
 const LINE_LIMIT: usize = 4096;
 
-/// The script that the bytes are. Reading takes time in proportion to the bytes, and to the pairs of files and of tasks.
+/// Reads a script. The time is linear in the bytes, and quadratic in the numbers of files and of tasks.
 #[tactic(auto, unfolding(crate::specs::Grammar::script_of, crate::specs::Readers::and_then))]
 pub fn read_script(alloc: Global, bytes: &[u8]) -> Result<Script, ScriptError>
     ensures exact { Gives (λ s. s) result (script_of bytes.now) }
@@ -57,7 +57,7 @@ fn are_plain(bytes: &[u8]) -> bool
     bytes.iter().all(|byte| is_plain(*byte))
 }
 
-/// The module of a row behind these, where the row is a boot line.
+/// The module that the row boots after `boots`; None where it is no boot line.
 #[tactic(auto, unfolding(crate::specs::Grammar::boot_at, crate::specs::Readers::and_then))]
 fn boot_at(boots: &[Module], row: &Words) -> Result<Option<Module>, ScriptError>
     ensures { Gives (λ m. m) result (boot_at boots.now row.now) }
@@ -112,14 +112,15 @@ fn lists_directory(files: &[FileLine], path: &[Name]) -> bool
     files.iter().any(|file| is_directory_at(file, path))
 }
 
-/// Whether the path is the root or that of a directory of these lines.
+/// Whether the path is the root, or that of a directory among these files.
 fn has_directory(files: &[FileLine], path: &[Name]) -> bool
     ensures { result ≡ has_directory files.now path.now }
 {
     path.is_empty() || lists_directory(files, path)
 }
 
-/// Whether there is room for the file behind these, its path is new, and its directory is there. The root is always there.
+/// Whether the file may come after these: there is room, its path is new, and its directory is there. The root is
+/// always there.
 fn may_stand(files: &[FileLine], file: &FileLine) -> bool
     ensures { result ≡ may_stand files.now file.now }
 {
@@ -129,7 +130,7 @@ fn may_stand(files: &[FileLine], file: &FileLine) -> bool
         && has_directory(files, directory_of(path))
 }
 
-/// The file of a row behind these, where the row is a file line.
+/// The file of the row after `files`; None where it is no file line.
 #[tactic(auto, unfolding(crate::specs::Grammar::file_at, crate::specs::Readers::and_then))]
 fn file_at(
     alloc: Global,
@@ -169,7 +170,7 @@ fn files(alloc: Global, boots: &[Module], rows: &mut Rows) -> Result<Listing<Fil
     Ok(files)
 }
 
-/// The line of a row behind these, where the row isn't the end of a task.
+/// The line of the row after `lines`; None where it ends the task.
 #[tactic(auto, unfolding(crate::specs::Grammar::line_at, crate::specs::Readers::and_then))]
 fn line_at(alloc: Global, lines: &[Line], row: &mut Words) -> Result<Option<Line>, ScriptError>
     ensures { Gives (λ l. l) result (line_at lines.now row.old) }
@@ -237,7 +238,7 @@ fn has_name(tasks: &[Task], name: &Name) -> bool
     tasks.iter().any(|task| task.name.as_str() == name.as_str())
 }
 
-/// The task of this row behind these, none of which has its name.
+/// The task of the row, whose name none of `tasks` may have.
 #[tactic(auto, unfolding(crate::specs::Grammar::task_behind, crate::specs::Readers::and_then))]
 fn task_behind(
     alloc: Global,

@@ -17,13 +17,13 @@ pub enum Call {
     Exit,
     /// Asks whether the process is visible, as p_cansee(9) does.
     See(Name),
-    /// Asks whether the process may be signalled, as p_cansignal(9) does.
+    /// Asks whether the process may be signalled, as the kernel's `p_cansignal` does.
     Signal(Name),
     /// Asks whether the process may be debugged, as p_candebug(9) does.
     Debug(Name),
-    /// Asks whether the scheduling of the process may be changed, as p_cansched(9) does.
+    /// Asks whether the scheduling of the process may be changed, as the kernel's `p_cansched` does.
     Sched(Name),
-    /// Executes the file.
+    /// Asks whether the file may be executed. Nothing is run.
     Exec(Path),
     /// Makes an empty regular file.
     Create(Path),
@@ -111,7 +111,7 @@ impl Script {
         tasks[task as usize].name.as_str()
     }
 
-    /// The line of the task that stands after `lines` of its lines.
+    /// The line of the task at index `lines`, from 0.
     pub fn line_at(&self, task: u32, lines: u32) -> &Line
         requires task { task < length self.now.tasks }
         requires line { lines < length (lines_of self.now task) }
@@ -122,7 +122,7 @@ impl Script {
         &lines_of_task[lines as usize]
     }
 
-    /// The line of the task that stands after `lines` of its lines, where there is one.
+    /// The line of the task at index `lines`, from 0; None past the last line.
     pub fn next_line(&self, task: u32, lines: u32) -> Option<&Line>
         requires { task < length self.now.tasks }
         ensures { option_copied result ≡ slice_get (lines_of self.now task) lines }

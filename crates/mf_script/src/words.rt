@@ -6,7 +6,7 @@ ghost use Rattle.mf_script.specs.Parts.{behind};
 
 use std::marker::Model;
 
-/// The words of a line that are left. Contracts see their list.
+/// The remaining words of a line. Contracts see their list.
 #[derive(Drop)]
 pub struct Words<'a> {
     rest: &'a [u8],
@@ -25,6 +25,7 @@ impl<'a> Model for Words<'a> {
 }
 
 impl<'a> Words<'a> {
+    /// The words of a line.
     pub fn of(line: &'a [u8]) -> Self
         requires { IsAscii line.now }
         ensures { result ≡ words_in line.now }
@@ -32,14 +33,14 @@ impl<'a> Words<'a> {
         Words { rest: line }
     }
 
-    /// The same words once more, to look ahead.
+    /// A copy, to look ahead with.
     pub fn ahead(&self) -> Words<'a>
         ensures { result ≡ self.now }
     {
         Words { rest: self.rest }
     }
 
-    /// The words behind the first, where that is the text.
+    /// The words after the first, where the first is `text`.
     pub fn behind(&self, text: &str) -> Option<Words<'a>>
         ensures { result ≡ behind text.now self.now }
     {
@@ -62,7 +63,7 @@ impl<'a> Words<'a> {
     }
 }
 
-/// The text that ASCII bytes are.
+/// The text of these ASCII bytes.
 fn ascii_text(bytes: &[u8]) -> &str
     requires { IsAscii bytes.now }
     ensures { result.now ≡ bytes.now }
@@ -79,7 +80,7 @@ fn is_blank(byte: u8) -> bool
     byte == b' ' || byte == b'\t'
 }
 
-/// The bytes from the first that is no blank.
+/// The bytes without the blanks at the front.
 fn skip_blanks(bytes: &[u8]) -> &[u8]
     ensures words { words_in result.now ≡ words_in bytes.now }
     ensures start { result.now ≢ [] → goes_on result.now ≡ true }
@@ -95,7 +96,7 @@ fn skip_blanks(bytes: &[u8]) -> &[u8]
     rest
 }
 
-/// The word in front, and the bytes after it.
+/// The first word, and the bytes after it.
 fn split_word(bytes: &[u8]) -> (&[u8], &[u8])
     requires { bytes.now ≢ [] → goes_on bytes.now ≡ true }
     ensures none { result.0.now ≡ [] → words_in bytes.now ≡ [] × (words_in result.1.now ≡ []) }
@@ -129,7 +130,7 @@ fn line_len(bytes: &[u8]) -> usize
     bytes.len()
 }
 
-/// The line in front, and the bytes behind its newline.
+/// The first line, and the bytes after its newline.
 fn split_line(bytes: &[u8]) -> (&[u8], &[u8])
     requires { bytes.now ≢ [] }
     ensures lines { lines_in bytes.now ≡ result.0.now ∷ lines_in result.1.now }
@@ -153,7 +154,8 @@ fn behind_newline(bytes: &[u8], end: usize) -> &[u8]
     }
 }
 
-/// The rows of a script that are left. Contracts see them as lists of words.
+/// The remaining rows of a script. A row is a line that has a word, and whose first word doesn't begin with `#`.
+/// Contracts see them as lists of words.
 #[derive(Drop)]
 pub struct Rows<'a> {
     rest: &'a [u8],
@@ -172,6 +174,7 @@ impl<'a> Model for Rows<'a> {
 }
 
 impl<'a> Rows<'a> {
+    /// The rows of a script's bytes.
     pub fn of(bytes: &'a [u8]) -> Self
         requires { IsAscii bytes.now }
         ensures { result ≡ rows_in bytes.now }
@@ -179,7 +182,7 @@ impl<'a> Rows<'a> {
         Rows { rest: bytes }
     }
 
-    /// The same rows once more, to look ahead.
+    /// A copy, to look ahead with.
     pub fn ahead(&self) -> Rows<'a>
         ensures { result ≡ self.now }
     {

@@ -91,17 +91,17 @@ abbrev pub SetsAt : Contents → Contents → ℕ → Option ℕ → LabelValue 
 SetsAt zones zones' slot None v = ⊥
 SetsAt zones zones' slot (Some h) v = Writes zones zones' slot h (Some v)
 
--- what was under this handle of a slot, if there is one, is gone, and all else is as before
+-- the value under this handle of a slot, if there is one, is freed, and all else is as before
 pub record Frees (zones zones' : Contents) (slot : ℕ) (key : Option ℕ) : Type 0 where
   pub freed : (h : ℕ) → key ≡ Some h → under zones' slot h ≡ None
   pub others : (s k : ℕ) → (s ≡ slot → key ≡ Some k → ⊥) → under zones' s k ≡ under zones s k
 
--- the label's slots below n are given up, and all else is as before
+-- the values of the label's slots below n are freed, and all else is as before
 pub record GivesUpBelow (n : ℕ) (zones zones' : Contents) (label : Handles) : Type 0 where
   pub freed : (slot h : ℕ) → slot < n → handle label slot ≡ Some h → under zones' slot h ≡ None
   pub others : (s k : ℕ) → (s < n → handle label s ≡ Some k → ⊥) → under zones' s k ≡ under zones s k
 
--- the label's made slots are given up, and all else is as before
+-- all values of the label are freed, and all else is as before
 abbrev pub GivesUp : Contents → Contents → Handles → Type 0
 GivesUp zones zones' label = GivesUpBelow 4 zones zones' label
 

@@ -3,10 +3,10 @@ ghost use Rattle.std.specs.Prelude.{◌≡◌, ◌+◌, ◌<◌, ◌≤◌, Matc
 
 use std::marker::Model;
 
-/// The slots of a label, and so the numbers that can be given.
+/// How many slots a label has.
 pub const SLOTS: u8 = 4;
 
-/// The slot numbers 0 to 3, given in turn to the policies that label, as mac(9) has it. Contracts see how many were given.
+/// The slot numbers 0 to 3. Each policy that labels gets the next one. Contracts see how many were given.
 #[derive(Drop)]
 pub struct SlotNumbers {
     given: u8,
@@ -23,7 +23,7 @@ impl Model for SlotNumbers {
 }
 
 impl SlotNumbers {
-    /// No number given.
+    /// No number is given yet.
     pub fn new() -> SlotNumbers
         ensures { result ≡ 0 }
     {
@@ -38,14 +38,14 @@ impl SlotNumbers {
         self.given
     }
 
-    /// As many numbers given.
+    /// A copy.
     pub fn copy(&self) -> SlotNumbers
         ensures { result ≡ self.now }
     {
         SlotNumbers { given: self.given }
     }
 
-    /// Gives the next number, or none after these four. A number that was given doesn't come back.
+    /// The next slot number, None where all four were given. A number is never given again.
     pub fn take(&mut self) -> Option<u8>
         ensures given { IfSome result (λ n. (n ≡ self.old) × (n < 4) × (self.new ≡ n + 1)) }
         ensures none { IfNone result ((self.old ≡ 4) × (self.new ≡ self.old)) }

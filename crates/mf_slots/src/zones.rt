@@ -8,7 +8,7 @@ use slab::Slab;
 use std::alloc::{AllocError, Global};
 use std::marker::Model;
 
-/// The zones of uma(9) from which label values come: one for each slot number.
+/// The zones, modelled on uma(9), from which label values come: one for each slot number.
 #[derive(Drop)]
 pub struct Zones {
     zones: Vec<Slab<LabelValue>>,
@@ -69,7 +69,7 @@ impl Zones {
         Ok(Zones { zones })
     }
 
-    /// Makes a slot of the label that is Unset. After want of memory nothing is changed.
+    /// Stores `value` in a slot of the label that is Unset. If memory runs out, nothing is changed.
     pub fn make(&mut self, label: &mut Label, slot: u8, value: LabelValue) -> Result<(), AllocError>
         requires slot { slot < 4 }
         requires unset { handle label.old slot ≡ None }
@@ -84,8 +84,8 @@ impl Zones {
         Ok(())
     }
 
-    /// Makes a label with these values; a slot that is to be Unset isn't made. After want of memory every handle has what
-    /// it had.
+    /// Makes a label with these values; a slot that is to be Unset isn't made. If memory runs out, every other label
+    /// reads as before.
     pub fn make_label(&mut self, values: &[LabelValue; 4]) -> Result<Label, AllocError>
         ensures ok { IfOk result (λ label. MakesLabel self.old self.new label values.now) }
         ensures err { OnErr result (IsSame self.old self.new) }
@@ -159,7 +159,7 @@ impl Zones {
         found.copied().unwrap_or(LabelValue::Unset)
     }
 
-    /// Gives up every made slot of the label.
+    /// Frees all values of the label.
     pub fn give_up(&mut self, label: Label)
         requires { IsHeld self.old label }
         ensures { GivesUp self.old self.new label }
@@ -170,7 +170,7 @@ impl Zones {
         }
     }
 
-    /// Gives up what is under the key, if there is one.
+    /// Frees the value under the key, if there is one.
     fn free(&mut self, slot: usize, key: Option<usize>)
         requires { slot < 4 }
         ensures { Frees self.old self.new slot key }

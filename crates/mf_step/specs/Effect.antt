@@ -61,7 +61,7 @@ without_entry s (Nowhere errno) = s
 
 -- Modules
 
--- A module is registered, as it is loaded, and takes the next slot number where it wants one.
+-- A module is registered, in its initial state, and takes the next slot number where it wants one.
 abbrev pub with_registered : State → Module → State
 with_registered s m =
     record s {

@@ -43,7 +43,7 @@ is_slot slot (Some own) = nat_eq own slot
 abbrev pub holds_slot : ℕ → Entry → Bool
 holds_slot slot entry = is_slot slot entry.0.slot
 
--- what a module gives a created entity of that kind: nothing where it doesn't label that kind
+-- what a module gives a created entity of that kind: Unset where it doesn't label that kind
 abbrev pub value_by : Module → Kind → LabelValue → LabelValue
 value_by m kind value = if labels_kind m kind then inherited m kind value else Unset
 

@@ -1,4 +1,4 @@
--- What the policies say to a plan: the walk over its checks.
+-- The policies' verdict on a plan: the walk over its checks.
 use Rattle.std.specs.Prelude.{ℕ, ◌+◌, List, [], ◌∷◌, Option, Some, None}
 use Rattle.mf_errno.specs.declared.errno.Errno.{Errno}
 use Rattle.mf_errno.specs.declared.errno.Errno.TheVariants.{Success}
@@ -19,6 +19,6 @@ abbrev pub denial_from : List Entry → ℕ → List Item → Option Denial
 denial_from policies n [] = None
 denial_from policies n (i ∷ is) = denial_at n (asked policies i).errno (asked policies i).by (denial_from policies (n + 1) is)
 
--- what these policies say to a plan
+-- the verdict of these policies on a plan
 abbrev pub verdict_of : List Entry → Plan → Verdict
 verdict_of policies p = record { denied = denial_from policies 1 p.items }

@@ -13,7 +13,7 @@ use mf_objects::Id;
 use mf_plan::State;
 use std::alloc::{AllocError, Global};
 
-/// Makes a pipe. After want of memory the state is as before.
+/// Makes a pipe. If memory runs out, the state is unchanged.
 pub(crate) fn pipe(
     alloc: Global,
     state: &mut State,
@@ -31,7 +31,7 @@ pub(crate) fn pipe(
     Ok(())
 }
 
-/// Makes a socket. After want of memory the state is as before.
+/// Makes a socket. If memory runs out, the state is unchanged.
 pub(crate) fn socket(
     alloc: Global,
     state: &mut State,
@@ -58,7 +58,7 @@ pub(crate) fn pread(state: &mut State, name: &str)
     }
 }
 
-/// Puts the bytes into the pipe. After want of memory the state is as before.
+/// Puts the bytes into the pipe. If memory runs out, the state is unchanged.
 pub(crate) fn pwrite(state: &mut State, name: &str, text: &[u8]) -> Result<(), AllocError>
     requires { doing.CanFill state.old.objects name.now text.now }
     ensures ok { OnOk result (state.new ≡ spec.with_changed state.old (change.appended text.now) (view.pipe_named state.old.objects name.now)) }
@@ -70,7 +70,7 @@ pub(crate) fn pwrite(state: &mut State, name: &str, text: &[u8]) -> Result<(), A
     }
 }
 
-/// Puts a message into the socket. After want of memory the state is as before.
+/// Puts a message into the socket. If memory runs out, the state is unchanged.
 pub(crate) fn deliver(
     alloc: Global,
     state: &mut State,

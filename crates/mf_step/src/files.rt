@@ -22,7 +22,7 @@ const FILE_MODE: u16 = 0o644;
 
 const DIRECTORY_MODE: u16 = 0o755;
 
-/// Makes an empty regular file. After want of memory the state is as before.
+/// Makes an empty regular file. If memory runs out, the state is unchanged.
 pub(crate) fn create(
     alloc: Global,
     state: &mut State,
@@ -40,7 +40,7 @@ pub(crate) fn create(
     make(alloc, state, caller, path, FILE_MODE, false)
 }
 
-/// Makes an empty directory. After want of memory the state is as before.
+/// Makes an empty directory. If memory runs out, the state is unchanged.
 pub(crate) fn mkdir(
     alloc: Global,
     state: &mut State,
@@ -114,7 +114,7 @@ fn add_file(
     Ok(())
 }
 
-/// Appends to the file. After want of memory the state is as before.
+/// Appends to the file. If memory runs out, the state is unchanged.
 pub(crate) fn write(state: &mut State, path: &[Name], text: &[u8]) -> Result<(), AllocError>
     requires path { length path.now ≤ 8 }
     requires can { doing.CanWrite state.old.objects path.now text.now }

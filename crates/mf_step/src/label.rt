@@ -50,7 +50,7 @@ fn is_slot(own: Option<u8>, slot: u8) -> bool
     own == Some(slot)
 }
 
-/// What the module's policy gives, where this is the value of the maker.
+/// The value that the policy gives an entity whose maker has `value` in this slot.
 fn value_by(module: Module, kind: Kind, value: LabelValue) -> LabelValue
     ensures { result ≡ spec.value_by «module» kind value }
 {

@@ -1,4 +1,4 @@
-//! One call of the sequential framework: what the policies say to its plan, its reply, and what it changes.
+//! One call of the sequential framework: the policies' verdict on its plan, its reply, and what it changes.
 #![tactic(auto)]
 
 mod channels;

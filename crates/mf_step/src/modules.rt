@@ -15,7 +15,7 @@ use mf_policy::{Registration, Spec, SpecList, flags_of, same_module, wants_slot}
 use mf_slots::SlotNumbers;
 use std::alloc::{AllocError, Global};
 
-/// Registers the module of that name as it is loaded. After want of memory the state is as before.
+/// Registers the module of that name, in its initial state. If memory runs out, the state is unchanged.
 pub(crate) fn kldload(alloc: Global, state: &mut State, name: &str) -> Result<(), AllocError>
     requires { CanLoad state.old name.now }
     ensures ok { OnOk result (state.new ≡ spec.with_loaded state.old (loading.loadable name.now)) }

@@ -14,7 +14,7 @@ use mf_policy::SpecList;
 use mf_script::Call;
 use std::alloc::{AllocError, Global};
 
-/// What the call hands back where it is done. Memory is taken for the names of a directory alone.
+/// What the call hands back where it is done. Only the names of a directory take memory.
 pub fn payload_of(alloc: Global, state: &State, call: &Call) -> Result<Payload, AllocError>
     requires formed { IsFormedCall call.now }
     requires few { length state.now.specs ≤ 8 }

@@ -18,8 +18,8 @@ use mf_plan::{State, caller_of};
 use mf_script::Call;
 use std::alloc::{AllocError, Global};
 
-/// Does the call of the task's own process, or of its child of that name, whose plan ends without a refusal and of which no
-/// check is denied. After want of memory the state is as before.
+/// Does the call of the task's own process, or of its child of that name. Its plan must end without a refusal, and no
+/// check of it be denied. If memory runs out, the state is unchanged.
 pub fn perform(
     alloc: Global,
     state: &mut State,

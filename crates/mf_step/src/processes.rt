@@ -17,7 +17,7 @@ use mf_objects::Id;
 use mf_plan::{State, child_name};
 use std::alloc::{AllocError, Global};
 
-/// The label of what the process makes.
+/// The label of an entity that the process makes.
 pub(crate) fn label_from(state: &State, maker: Id, kind: Kind) -> [LabelValue; 4]
     requires { IsSome (live_at state.now.objects maker) }
     ensures { result ≡ labels.created_label state.now.specs kind (label_at state.now.objects maker) }
@@ -25,7 +25,7 @@ pub(crate) fn label_from(state: &State, maker: Id, kind: Kind) -> [LabelValue; 4
     created_label(&state.specs, kind, &state.objects.label(maker))
 }
 
-/// Makes a child of that name for the task, by the process that calls and with its credential. After want of memory the state is as before.
+/// Makes the task's child of that name, with the caller's credential. If memory runs out, the state is unchanged.
 pub(crate) fn fork(
     alloc: Global,
     state: &mut State,

@@ -6,7 +6,7 @@ use crate::verdict::Verdict;
 use mf_item::{CheckOp, Item};
 use mf_plan::{Payload, Plan, Reply, Tail};
 
-/// The reply to a call of that plan, on which the policies say this, and which hands back the payload where it is done.
+/// The reply to a call, by its plan and the policies' verdict; `payload` is what it hands back where it is done.
 pub fn reply_to(plan: &Plan, verdict: &Verdict, payload: Payload) -> Reply
     ensures { result ≡ spec.reply_to plan.now verdict.now payload }
 {

@@ -1,4 +1,4 @@
-//! What the policies say to a plan.
+//! The policies' verdict on a plan.
 ghost use Rattle.std.specs.Prelude.{◌≡◌};
 ghost use Rattle.mf_step.specs.Verdict as spec;
 
@@ -7,7 +7,8 @@ use mf_list::PolicyList;
 use mf_plan::Plan;
 use mf_policy::Policy;
 
-/// A denial: the number of the denied check, from 1, the errno, and the policy that decided it. Nobody decides a privilege.
+/// A denial: the number of the denied check, from 1, the errno, and the policy that decided it. No policy decides a
+/// check of a privilege.
 #[derive(Clone, Copy, Debug, PartialEq, Eq)]
 pub struct Denial {
     pub item: u8,
@@ -15,7 +16,7 @@ pub struct Denial {
     pub by: Option<Module>,
 }
 
-/// What the policies say to a plan.
+/// The policies' verdict on a plan: the first denial, if a check is denied.
 #[derive(Clone, Copy, Debug, PartialEq, Eq)]
 pub struct Verdict {
     pub denied: Option<Denial>,

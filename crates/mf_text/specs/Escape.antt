@@ -46,7 +46,7 @@ StandsForByteThen text byte rest =
 abbrev pub bytes_of : List ℕ → Result (List ℕ) ℕ
 bytes_of text = bytes_from 0 text
 
--- a fault other than want of memory, at the place that reading gives
+-- a fault other than that memory ran out, at the place that reading gives
 abbrev pub IsFaultOf : TextFault → Result (List ℕ) ℕ → Type 0
 IsFaultOf (BadEscape place) read = read ≡ Err place
 IsFaultOf Memory read = Unit {0}

@@ -14,6 +14,7 @@ const BACKSLASH: u8 = b'\\';
 pub enum TextFault {
     /// The place of the first backslash without two hexadecimal digits after it, from 0.
     BadEscape(usize),
+    /// Memory ran out.
     Memory,
 }
 
@@ -74,7 +75,7 @@ fn split_byte(text: &[u8]) -> Option<(u8, &[u8])>
     Some((*first, rest))
 }
 
-/// The byte of two hexadecimal digits behind a backslash, and the text after them.
+/// The byte of the two hexadecimal digits after a backslash, and the text after them.
 #[tactic(auto, unfolding(crate::specs::Escape::bytes_from))]
 fn split_escape(text: &[u8]) -> Option<(u8, &[u8])>
     ensures reads { MatchOption result (BeginsWithBadEscape (BACKSLASH ∷ text.now)) (λ split. StandsForByteThen (BACKSLASH ∷ text.now) split.0 split.1.now) }
@@ -87,8 +88,9 @@ fn split_escape(text: &[u8]) -> Option<(u8, &[u8])>
     Some(((high * 16 + low) as u8, rest))
 }
 
-/// Appends the canonical text of the bytes: the printable bytes of ASCII but the backslash as themselves, each other byte, the
-/// blank too, as a backslash and two hexadecimal digits in lower case. Without memory `out` is as before.
+/// Appends the canonical text of the bytes: the printable bytes of ASCII but the backslash as themselves, each other
+/// byte, the blank too, as a backslash and two hexadecimal digits in lower case. If memory runs out, `out` is
+/// unchanged.
 pub fn escape(alloc: Global, bytes: &[u8], out: &mut String) -> Result<(), AllocError>
     ensures ok { OnOk result (string_bytes out.new ≡ string_bytes out.old ++ canonical bytes.now) }
     ensures err { OnErr result (string_bytes out.new ≡ string_bytes out.old) }
@@ -137,7 +139,7 @@ fn hexadecimal_digit(value: u8) -> char
     })
 }
 
-/// What `unescape` reads of the text that `escape` writes are the bytes that it was written from.
+/// Unescaping the text that `escape` writes gives the bytes that it was written from.
 pub fn escape_and_back()
     ensures { CanonicalTextStandsForItsBytes }
 {}

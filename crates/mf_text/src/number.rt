@@ -5,7 +5,7 @@ ghost use Rattle.std.specs.Char.{is_digit, digit_value};
 ghost use Rattle.std.specs.Str.Parse.{digits_value};
 ghost use Rattle.mf_text.specs.Number.{number_in, within};
 
-/// Above every value that is asked for. Larger values count as this one.
+/// Greater than every `u32`: a value that saturates here is out of every range.
 const CEILING: u64 = 1 << 32;
 
 /// What is wrong with the text of a number.
@@ -84,7 +84,7 @@ fn first_other(text: &[u8], base: u32) -> Option<usize>
     text.iter().position(|byte| !is_digit(*byte, base))
 }
 
-/// The value of the digits, or the ceiling where that is less.
+/// The value of the digits, saturated at `CEILING`.
 fn saturated_value(digits: &[u8], base: u32) -> u64
     requires lower { 2 ≤ base }
     requires upper { base ≤ 10 }

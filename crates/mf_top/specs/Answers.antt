@@ -1,4 +1,4 @@
--- What the program may answer, and why.
+-- What the program may return and write, and why.
 use Rattle.std.specs.Prelude.{◌≡◌, ◌⊎◌, ℕ, ◌≤◌, List, [], ◌∷◌, length, Some, IfSome, IsSomeAnd, Result, Ok, Err, codes}
 use Rattle.mf_script.specs.declared.script.Script.{Script}
 use Rattle.mf_script.specs.declared.error.ScriptError.TheVariants as script_error
@@ -20,8 +20,8 @@ IsRunOf s text = (h : History) × IsLegal s h × IsComplete s h × AreMadeOnce s
 abbrev pub IsRunText : List ℕ → List ℕ → Type 0
 IsRunText bytes text = (length bytes ≤ most_script) × (s : Script) × (script_of bytes ≡ Ok s) × IsRunOf s text
 
--- Where source and sink tell their bytes: the source held a script to its end, and the sink took the text of one history
--- that is legal and complete for it, and nothing else.
+-- Where the bytes of source and sink are known: the source held a script to its end, and the sink took the text of one
+-- history that is legal and complete for it, and nothing else.
 abbrev pub WroteHistory : Seen → Seen → Type 0
 WroteHistory source sink = IfSome source.before (λ bytes.
     (source.after ≡ Some []) × ((text : List ℕ) × IsRunText bytes text × Took sink.before sink.after text))
@@ -68,7 +68,7 @@ IsWritten sink outcome status =
     ((status ≡ status_of outcome) × HadNoFault sink × Took sink.before sink.after (text_of outcome))
     ⊎ ((status ≡ 5) × FaultsRose sink × TookPart sink.before sink.after (text_of outcome))
 
--- The right words, told bytes of a script, and no fault of source or sink.
+-- The right words, known bytes of a script, and no fault of source or sink.
 pub record IsFaultless (words : List (List ℕ)) (source sink : Seen) : Type 0 where
   pub run : IsRunWords words
   pub script : IsSomeAnd source.before (λ bytes. (length bytes ≤ most_script) × ((s : Script) × (script_of bytes ≡ Ok s)))

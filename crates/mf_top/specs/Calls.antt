@@ -8,7 +8,7 @@ use Rattle.mf_top.specs.declared.io.calls.Calls.{Calls}
 abbrev pub fails_next : Calls → Bool
 fails_next c = nat_lt c.made last_count && list_any (λ number. number == c.made + 1) c.fails.items
 
--- a count of 64 bits after one more: it stays at its last value
+-- a count of 64 bits after one more: it stays at its greatest value
 abbrev pub counted : ℕ → ℕ
 counted n = min (n + 1) last_count
 

@@ -13,7 +13,7 @@ pub record Store : Type 0 where
   pub room : ℕ
   pub calls : Calls
 
--- what a sink that never fails has taken, as long as it tells, and how many bytes it tells at most
+-- what a sink that never fails has taken, as long as that is known, and how many bytes are known at most
 pub record SureStore : Type 0 where
   pub taken : Option (List ℕ)
   pub room : ℕ

@@ -2,15 +2,15 @@
 use Rattle.std.specs.Prelude.{◌≡◌, ◌⊎◌, ℕ, ◌<◌, ◌≤◌, List, [], ◌++◌, take, Option, Some, None, IfSome, IsSomeAnd, ◌↔◌, Result, OnOk, OnErr}
 use Rattle.mf_top.specs.declared.io.source.Failed.{Failed}
 
--- the last value of a count of 64 bits
+-- the greatest value of a count of 64 bits
 abbrev pub last_count : ℕ
 last_count = 18446744073709551615
 
--- the count of faults rose, or stands at its last value
+-- the count of faults rose, or stands at its greatest value
 abbrev pub HasRisen : ℕ → ℕ → Type 0
 HasRisen before now = (before < now) ⊎ (now ≡ last_count)
 
--- What is seen of a source or a sink around a call: the bytes that it tells, and its count of faults.
+-- What is seen of a source or a sink around a call: its bytes, where they are known, and its count of faults.
 pub record Seen : Type 0 where
   pub before : Option (List ℕ)
   pub after : Option (List ℕ)
@@ -33,13 +33,13 @@ pub record HasCause {T : Type 0} (before now : ℕ) (result : Result T Failed) :
   pub stays : OnOk result (now ≡ before)
   pub failed : OnErr result (HasRisen before now)
 
--- Where the source tells its bytes: n of them went to the front of the buffer, and none only at the end.
+-- Where the source's bytes are known: n of them went to the front of the buffer, and none only at the end.
 pub record Gave (before : Option (List ℕ)) (now : Option (List ℕ)) (room n : ℕ) (buffer : List ℕ) : Type 0 where
   pub fits : n ≤ room
   pub bytes : IfSome before (λ all. IsSomeAnd now (λ rest. all ≡ take n buffer ++ rest))
   pub last : IfSome before (λ all. 0 < room → (n ≡ 0) ↔ (all ≡ []))
 
--- Where the sink tells its bytes before and now: the piece came behind them. One that tells none tells none from then on.
+-- Where the sink's bytes are known before and now: the piece came behind them. Bytes that aren't known stay unknown.
 abbrev pub Took : Option (List ℕ) → Option (List ℕ) → List ℕ → Type 0
 Took None now piece = now ≡ None
 Took (Some all) None piece = Unit {0}

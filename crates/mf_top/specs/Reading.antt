@@ -5,14 +5,14 @@ use Rattle.std.specs.Prelude.{◌≡◌, ℕ, ◌+◌, ◌<◌, List, [], ◌++�
 abbrev pub most_script : ℕ
 most_script = 1048576
 
--- where the source tells its bytes: they are these, and all of them are taken
+-- where the source's bytes are known: they are these, and all of them are taken
 abbrev pub IsWhole : Option (List ℕ) → Option (List ℕ) → List ℕ → Type 0
 IsWhole before now bytes = IfSome before (λ all. (bytes ≡ all) × (now ≡ Some []))
 
--- where the source tells its bytes: they are more than a script may have, and one more than that was taken
+-- where the source's bytes are known: they are more than a script may have, and one more than that was taken
 abbrev pub IsTooLong : Option (List ℕ) → Option (List ℕ) → Type 0
 IsTooLong before now = IfSome before (λ all. (most_script < length all) × IsSomeAnd now (λ rest. (taken : List ℕ) × (length taken ≡ most_script + 1) × (all ≡ taken ++ rest)))
 
--- where the source tells its bytes: n of them came behind those so far, and none only at the end
+-- where the source's bytes are known: n of them came behind those so far, and none only at the end
 abbrev pub GaveOn : Option (List ℕ) → Option (List ℕ) → List ℕ → List ℕ → ℕ → Type 0
 GaveOn before now old new n = IfSome before (λ all. (piece : List ℕ) × (new ≡ old ++ piece) × IsSomeAnd now (λ rest. all ≡ piece ++ rest) × ((n ≡ 0) → (all ≡ []) × (piece ≡ [])))

@@ -10,11 +10,11 @@ pub record SureSupplies (before after buffer_before buffer_now : List ℕ) (resu
   pub bytes : buffer_now ≡ take (length buffer_before) before ++ drop (length before) buffer_before
   pub leaves : after ≡ drop (length buffer_before) before
 
--- bytes that are told as long as they have room
+-- bytes that are known as long as they have room
 abbrev pub told_within : ℕ → List ℕ → Option (List ℕ)
 told_within room bytes = if nat_le (length bytes) room then Some bytes else None
 
--- what is told after a piece: nothing, once nothing was told
+-- what is known after a piece: nothing, once nothing was known
 abbrev pub told_after : ℕ → Option (List ℕ) → List ℕ → Option (List ℕ)
 told_after room None piece = None
 told_after room (Some all) piece = told_within room (all ++ piece)

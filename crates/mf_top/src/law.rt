@@ -1,4 +1,4 @@
-//! Which of the program's answers never come where nothing fails.
+//! Which of the program's exit statuses never come where nothing fails.
 ghost use Rattle.std.specs.Prelude.{◌≢◌, All, List, ℕ, Result, map, string_bytes};
 ghost use Rattle.mf_policy.specs.Modules.{module_of};
 ghost use Rattle.mf_list.specs.Lists.{IsFresh};
@@ -14,7 +14,7 @@ use std::alloc::Global;
 use std::sync::Wait;
 use std::thread::Threads;
 
-/// The program over a source and a sink that never fail: it answers neither 4 nor 5.
+/// The program over a source and a sink that never fail: it returns neither 4 nor 5.
 pub fn run_surely<P: Policy, R: Threads + Wait + Sync>(
     rt: &R,
     alloc: Global,

@@ -17,7 +17,7 @@ pub enum ReadError {
     Failed,
     /// The source holds more than a script may have.
     TooLong,
-    /// Want of memory.
+    /// Memory ran out.
     Memory,
 }
 
@@ -56,7 +56,7 @@ pub fn read_all<S: Source>(alloc: Global, source: &mut S) -> Result<Vec<u8>, Rea
     Err(ReadError::TooLong)
 }
 
-/// Appends at most `room` bytes more, and answers how many.
+/// Appends at most `room` bytes more, and returns how many.
 fn read_some<S: Source>(
     source: &mut S,
     bytes: &mut Vec<u8>,

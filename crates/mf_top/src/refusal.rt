@@ -10,15 +10,15 @@ use std::alloc::AllocError;
 /// Why no history is written.
 #[derive(Clone, Copy, Debug, PartialEq, Eq)]
 pub enum Refusal {
-    /// The words are none that the program takes.
+    /// The words aren't `run`.
     Usage,
-    /// The source holds no script.
+    /// The source's bytes are no script.
     NotYet,
     /// A read of the source failed.
     ReadFault,
     /// The source holds more than a script may have.
     TooLong,
-    /// Want of memory.
+    /// Memory ran out.
     Memory,
 }
 

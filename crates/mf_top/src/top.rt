@@ -19,10 +19,10 @@ use std::thread::Threads;
 
 const RUN: &str = "run";
 
-/// Runs the script that the source holds, and writes its history to the sink. The answer is the program's exit status: 0, the
-/// status of a `Refusal`, or 5 where a write failed. `words` are those after the program's name. Nothing is written before the
-/// whole source is read and the run has ended. `modules` are the policy modules that can be loaded, each module that there is by
-/// now once, and as it is loaded.
+/// Runs the script that the source holds, and writes its history to the sink. Returns the program's exit status: 0, the
+/// status of a `Refusal`, or 5 where a write failed. `words` are those after the program's name. Nothing is written
+/// before the whole source is read and the run has ended. `modules` has a policy of each module that is built in, once,
+/// in its initial state.
 pub fn macsim<S: Source, K: Sink, P: Policy, R: Threads + Wait + Sync>(
     rt: &R,
     alloc: Global,
@@ -43,7 +43,7 @@ pub fn macsim<S: Source, K: Sink, P: Policy, R: Threads + Wait + Sync>(
         × IsOutcome (map string_bytes words.now) (seen S.left S.faults source.old source.new) outcome
         × IsWritten (seen K.taken K.faults sink.old sink.new) outcome result }
 
-    // A script in the right words, over a source and a sink that don't fail, gives 0, or 9 for want of memory.
+    // A script in the right words, over a source and a sink that don't fail, gives 0, or 9 if memory runs out.
     ensures complete { IsFaultless (map string_bytes words.now) (seen S.left S.faults source.old source.new) (seen K.taken K.faults sink.old sink.new)
         → (result ≡ 0) ⊎ (result ≡ 9) }
 {

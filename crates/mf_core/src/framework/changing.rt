@@ -1,4 +1,4 @@
-//! The calls of a core that do the call of a line: commits of entries, and changes.
+//! The calls of a core that do the call of a line: commits of entries, and changes of the policies.
 ghost use Rattle.std.specs.Prelude.{◌≡◌, ◌<◌, ◌↔◌, length, IfOk, IsTrue, OnErr};
 ghost use Rattle.mf_step.specs.Verdict.{verdict_of};
 ghost use Rattle.mf_core.specs.declared.progress.Turn.TheVariants as turn;
@@ -17,8 +17,9 @@ use mf_step::Verdict;
 use std::alloc::{AllocError, Global};
 
 impl<'s> Core<'s> {
-    /// Does the call of the task's entry, where `plan` is still its plan and the list has still the policies of now, with the
-    /// meanings that they have now. After want of memory nothing has changed.
+    /// Commits the call that the task has entered for. The plan must still be that of `plan()`, and the list have the
+    /// policies and specs of the core's state; else the result is `Stale` and nothing changes. If memory runs out,
+    /// nothing changes.
     pub fn done<P: Policy>(
         &mut self,
         alloc: Global,
@@ -49,7 +50,7 @@ impl<'s> Core<'s> {
         Ok(Commit::Done)
     }
 
-    /// Whether the plan is that of the task's call, and the list has the policies of now.
+    /// Whether the plan is that of the task's call, and the list has the policies and specs of the core's state.
     fn is_current<P: Policy>(&self, task: u32, list: &PolicyList<P>, plan: &Plan) -> bool
         requires task { task < length self.now.script.tasks }
         requires turn { turn_at self.now task ≡ turn.Entered }
@@ -58,8 +59,9 @@ impl<'s> Core<'s> {
         self.plan(task).same(plan) && list.same_specs(&self.state.specs)
     }
 
-    /// Makes the change of the task's next line, where no entry is open. The list and the catalogue are those that came with
-    /// this core. After want of memory nothing has changed.
+    /// Makes the change of the task's next line. While entries are open nothing changes, and the result is `Waits` with
+    /// their number. The list and the catalogue must be those that came with this core. If memory runs out, nothing
+    /// changes.
     pub fn change<P: Policy>(
         &mut self,
         alloc: Global,

@@ -48,7 +48,7 @@ impl Objects {
         entity.what.push_message(message)
     }
 
-    /// Takes the oldest message of a socket.
+    /// Removes the oldest message of a socket and returns its head.
     pub fn pop_message(&mut self, id: Id) -> Head
         requires { live.IsLiveWhere change.HasMessage (live.live_at self.old id) }
         ensures rest { self.new ≡ change.with_change (change.with_what (change.with_messages (drop 1))) self.old id }

@@ -26,7 +26,8 @@ impl Objects {
         Ok(names)
     }
 
-    /// Appends the entity's title: its kind, a colon, and its name or its path. After want of memory the text is as before.
+    /// Appends the entity's title: its kind, a colon, and its name or its path. If memory runs out, the text is
+    /// unchanged.
     pub fn title(&self, alloc: Global, id: Id, out: &mut String) -> Result<(), AllocError>
         requires { IsSome (live.live_at self.now id) }
         ensures ok { OnOk result (string_bytes out.new ≡ string_bytes out.old ++ title.title_at self.now id) }

@@ -1,4 +1,5 @@
-//! Readings of the live entities. What an entity of another kind holds is read as empty, or as all zero.
+//! Readings of the live entities. A reader of another kind's data gives nothing, or zeros: `head` of a process has no
+//! bytes.
 ghost use Rattle.std.specs.Prelude.{◌≡◌, ◌≢◌, ◌≤◌, ◌<◌, length, find, count_by, option_map, nat_le, ◌&&◌, [], false, Some, IsSome, IfSome, IfNone, All, slice_index_or};
 ghost use Rattle.std.specs.Str.{bytes_eq};
 ghost use Rattle.mf_objects.specs.Head.{head_of};
@@ -15,7 +16,7 @@ use mf_elem::LabelValue;
 use mf_item::Kind;
 
 impl Objects {
-    /// How many entities live. The last clause says what is true of the live entities at any time.
+    /// How many entities live. The clause `population` is the invariant of the live entities.
     pub fn live(&self) -> u32
         ensures value { result ≡ length self.now.live }
         ensures most { result ≤ 1024 }
@@ -36,7 +37,7 @@ impl Objects {
         ensures value { result ≡ record { 0 = 0 } }
         ensures directory { live.IsLive live.is_directory self.now result }
     {
-        // Reading a field shows the proof what is true of every population.
+        // Reading a field brings the type's invariant into the proof.
         let _next = self.next;
         Id(0)
     }

@@ -62,7 +62,7 @@ impl Objects {
         self.entities[place].what.is_made_by(maker)
     }
 
-    /// Removes the entity at a place, to which nothing belongs, and gives its label up.
+    /// Removes the entity at a place, which no other belongs to, and frees its label.
     fn remove_at(&mut self, place: usize)
         requires within { place < length self.old.live }
         requires later { 0 < place }

@@ -3,16 +3,16 @@ ghost use Rattle.std.specs.Prelude.{◌≡◌, ◌≤◌, [], IsTrue, ◌↔◌}
 
 use crate::io::source::Failed;
 
-/// The calls of an object over memory.
+/// The calls of a source or a sink over memory.
 #[derive(Drop)]
 pub struct Calls {
     /// The most bytes of one call, at least 1.
     pub most: usize,
     /// The numbers of the calls that fail, counted from 1.
     pub fails: Vec<u64>,
-    /// How many calls were made. It stays at its last value.
+    /// How many calls were made, a count that stays at its greatest value.
     pub made: u64,
-    /// How many calls have failed. It stays at its last value.
+    /// How many calls have failed, a count that stays at its greatest value.
     pub faults: u64,
 }
 
@@ -31,7 +31,7 @@ impl Calls {
         }
     }
 
-    /// Counts a call, and says whether it is one of those that fail.
+    /// Counts a call, and returns whether it is one of those that fail.
     pub fn next_fails(&mut self) -> bool
         ensures fails { result ≡ fails_next self.old }
         ensures counted { self.new ≡ one_more self.old }

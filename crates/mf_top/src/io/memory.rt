@@ -10,7 +10,8 @@ use crate::io::source::{Failed, Source};
 use std::alloc::{AllocError, Global};
 use std::marker::Model;
 
-/// Copies what fits, at most so many bytes, from the front of what is left to the front of the buffer, and answers how many.
+/// Copies what fits, at most so many bytes, from the front of what is left to the front of the buffer, and returns how
+/// many.
 pub(crate) fn copy_front(left: &[u8], buffer: &mut [u8], most: usize) -> usize
     ensures count { result ≡ min (min most (length buffer.old)) (length left.now) }
     ensures bytes { buffer.new ≡ take result left.now ++ drop result buffer.old }

@@ -4,15 +4,15 @@ ghost use Rattle.mf_top.specs.Outside.{HasCause, Took};
 
 use crate::io::source::Failed;
 
-/// A sink of bytes. It may tell, for proofs, the bytes that it took, and counts its faults.
+/// A sink of bytes. Its ghost members give the bytes that it took, and how many calls failed.
 pub trait Sink {
-    /// The bytes taken, where the sink tells them.
+    /// The bytes taken; None where the sink can't know them.
     ghost taken: { Self → Option (List ℕ) };
 
-    /// How many calls have failed, a number of 64 bits that stays at its last value.
+    /// How many calls have failed, a count of 64 bits that stays at its greatest value.
     ghost faults: { Self → ℕ };
 
-    /// Takes bytes from the front of the piece, and answers how many: at least one of a piece that isn't empty.
+    /// Takes bytes from the front of the piece, and returns how many: at least one of a piece that isn't empty.
     fn write(&mut self, piece: &[u8]) -> Result<usize, Failed>
         ensures fits { IfOk result (λ n. n ≤ length piece.now) }
         ensures some { IfOk result (λ n. 0 < length piece.now → 0 < n) }

@@ -1,4 +1,4 @@
-//! The trusted edge: readers and writers of the outside, which tell no bytes.
+//! The trusted edge: a source over a reader and a sink over a writer. Proofs know nothing of their bytes.
 ghost use Rattle.std.specs.Prelude.{◌≡◌, None};
 
 use crate::io::sink::Sink;

@@ -75,7 +75,8 @@ impl Model for SureSink {
 }
 
 impl SureSink {
-    /// A sink that tells its bytes as long as they are at most so many. It takes their memory now and none later.
+    /// A sink that knows the bytes that it took as long as they are at most `room`. It takes their memory now and none
+    /// later.
     pub fn new(alloc: Global, room: usize) -> Result<Self, AllocError>
         ensures { IfOk result (λ s. s ≡ record { taken = Some []; room = room }) }
     {
@@ -94,7 +95,7 @@ impl Sink for SureSink {
 
     ghost faults = { λ s. 0 };
 
-    /// Takes every piece whole. It never fails, and tells none of its bytes once they have no room.
+    /// Takes every piece whole. It never fails, and no longer knows its bytes once they have no room.
     fn write(&mut self, piece: &[u8]) -> Result<usize, Failed>
         ensures bytes { Took self.old.taken self.new.taken piece.now }
         ensures cause { HasCause 0 0 result }
