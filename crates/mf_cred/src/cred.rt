@@ -78,18 +78,6 @@ pub struct FileView {
     pub dir: bool,
 }
 
-impl FileView {
-    /// Whether the two are the same attributes.
-    pub fn same(&self, other: &FileView) -> bool
-        ensures { IsTrue result ↔ (self.now ≡ other.now) }
-    {
-        self.uid == other.uid
-            && self.gid == other.gid
-            && self.mode == other.mode
-            && self.dir == other.dir
-    }
-}
-
 #[cfg(test)]
 mod tests {
     use super::*;

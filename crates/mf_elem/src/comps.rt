@@ -1,5 +1,5 @@
 //! Compartments: a set of numbers from 1 to 256.
-ghost use Rattle.std.specs.Prelude.{◌≡◌, ◌+◌, ◌<◌, ◌≤◌, ◌↔◌, IsTrue, length};
+ghost use Rattle.std.specs.Prelude.{◌≡◌, ◌+◌, ◌<◌, ◌≤◌, length};
 ghost use Rattle.std.specs.FinSet as set;
 ghost use Rattle.mf_elem.specs.Comps.{numbers_of, words_of, compartments_of, comps_of};
 
@@ -46,14 +46,6 @@ impl Comps {
     {
         is_covered(&other.words, &self.words)
     }
-
-    /// Whether the two are one set, and so one value.
-    pub fn same(&self, other: &Comps) -> bool
-        ensures equal { IsTrue result ↔ (self.now ≡ other.now) }
-        ensures same_set { IsTrue result ↔ (compartments_of self.now ≡ compartments_of other.now) }
-    {
-        are_same(&self.words, &other.words)
-    }
 }
 
 /// Sets the bit of a place.
@@ -80,21 +72,6 @@ fn is_covered(theirs: &[u64], mine: &[u64]) -> bool
     true
 }
 
-/// Whether the words are the same, and so the sets.
-fn are_same(mine: &[u64], theirs: &[u64]) -> bool
-    requires four { length mine.now ≡ 4 }
-    requires four_too { length theirs.now ≡ 4 }
-    ensures equal { IsTrue result ↔ (mine.now ≡ theirs.now) }
-    ensures same_set { IsTrue result ↔ (numbers_of mine.now ≡ numbers_of theirs.now) }
-{
-    for k in 0..4 {
-        if mine[k] != theirs[k] {
-            return false;
-        }
-    }
-    true
-}
-
 #[cfg(test)]
 mod tests {
     use super::*;
@@ -105,6 +82,6 @@ mod tests {
         let ends = none.with(256).with(1);
         assert!(rt; ends.has(1) && ends.has(256) && !ends.has(2));
         assert!(rt; ends.contains(&none) && !none.contains(&ends));
-        assert!(rt; ends.same(&none.with(1).with(256)));
+        assert_eq!(rt; ends, none.with(1).with(256));
     }
 }

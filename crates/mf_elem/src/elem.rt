@@ -1,5 +1,5 @@
 //! Elements of a label, which of them dominate which, and which lie in a range.
-ghost use Rattle.std.specs.Prelude.{◌≡◌, ◌↔◌, IsTrue};
+ghost use Rattle.std.specs.Prelude.{◌≡◌};
 ghost use Rattle.mf_elem.specs.Elem as spec;
 
 use crate::Comps;
@@ -59,21 +59,6 @@ pub fn range_in_range(l: &Elem, h: &Elem, low: &Elem, high: &Elem) -> bool
     ensures { result ≡ spec.range_in_range l.now h.now low.now high.now }
 {
     dominates(high, h) && dominates(l, low)
-}
-
-impl Elem {
-    /// Whether the two are one element.
-    pub fn same(&self, other: &Elem) -> bool
-        ensures { IsTrue result ↔ (self.now ≡ other.now) }
-    {
-        match (self, other) {
-            (Elem::Low, Elem::Low) | (Elem::High, Elem::High) | (Elem::Equal, Elem::Equal) => true,
-            (Elem::Grade(grade, comps), Elem::Grade(their_grade, theirs)) => {
-                *grade == *their_grade && comps.same(theirs)
-            }
-            _ => false,
-        }
-    }
 }
 
 #[cfg(test)]

@@ -131,7 +131,7 @@ impl RangeLabel {
     pub fn same(&self, other: &RangeLabel) -> bool
         ensures { IsTrue result ↔ (self.now ≡ other.now) }
     {
-        same_effective(&self.effective, &other.effective) && same_range(&self.range, &other.range)
+        self.effective == other.effective && self.range == other.range
     }
 }
 
@@ -146,28 +146,6 @@ impl LabelValue {
             (LabelValue::Number(number), LabelValue::Number(theirs)) => *number == *theirs,
             _ => false,
         }
-    }
-}
-
-fn same_effective(element: &Option<Elem>, other: &Option<Elem>) -> bool
-    ensures { IsTrue result ↔ (element.now ≡ other.now) }
-{
-    match (element, other) {
-        (None, None) => true,
-        (Some(element), Some(theirs)) => element.same(theirs),
-        _ => false,
-    }
-}
-
-fn same_range(range: &Option<(Elem, Elem)>, other: &Option<(Elem, Elem)>) -> bool
-    ensures { IsTrue result ↔ (range.now ≡ other.now) }
-{
-    match (range, other) {
-        (None, None) => true,
-        (Some((low, high)), Some((their_low, their_high))) => {
-            low.same(their_low) && high.same(their_high)
-        }
-        _ => false,
     }
 }
 

@@ -26,7 +26,7 @@ impl Item {
             && self.subject.same(&other.subject)
             && same_object(&self.object, &other.object)
             && same_request(&self.request, &other.request)
-            && same_privilege(&self.privilege, &other.privilege)
+            && same_privilege(self.privilege, other.privilege)
     }
 }
 
@@ -50,14 +50,10 @@ fn same_request(request: &Option<Request>, other: &Option<Request>) -> bool
     }
 }
 
-fn same_privilege(privilege: &Option<Priv>, other: &Option<Priv>) -> bool
-    ensures { IsTrue result ↔ (privilege.now ≡ other.now) }
+fn same_privilege(privilege: Option<Priv>, other: Option<Priv>) -> bool
+    ensures { IsTrue result ↔ (privilege ≡ other) }
 {
-    match (privilege, other) {
-        (None, None) => true,
-        (Some(privilege), Some(theirs)) => privilege == theirs,
-        _ => false,
-    }
+    privilege == other
 }
 
 impl Default for Item {

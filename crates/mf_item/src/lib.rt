@@ -7,4 +7,4 @@ mod view;
 
 pub use item::Item;
 pub use operation::CheckOp;
-pub use view::{Kind, Labels, ObjectView, SubjectView, same_labels};
+pub use view::{Kind, Labels, ObjectView, SubjectView};

@@ -70,13 +70,12 @@ impl ObjectView {
     {
         self.id == other.id
             && self.kind == other.kind
-            && self.file.same(&other.file)
+            && self.file == other.file
             && same_labels(&self.label, &other.label)
     }
 }
 
-/// Whether the two are one label.
-pub fn same_labels(label: &[LabelValue; 4], other: &[LabelValue; 4]) -> bool
+fn same_labels(label: &[LabelValue; 4], other: &[LabelValue; 4]) -> bool
     ensures { IsTrue result ↔ (label.now ≡ other.now) }
 {
     let [first, second, third, fourth] = label;

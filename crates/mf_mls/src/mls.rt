@@ -1,6 +1,6 @@
 //! MLS: a subject may observe what it dominates, and modify what dominates it.
 ghost use Rattle.std.specs.Prelude.{◌≡◌};
-ghost use Rattle.mf_policy.specs.Answer.{mls, labels_answer, part_of, plain_answer};
+ghost use Rattle.mf_policy.specs.Answer.{mls, labels_answer, part_of};
 ghost use Rattle.mf_policy.specs.Operations.{test_of};
 ghost use Rattle.mf_policy.specs.declared.spec.Spec.TheVariants as means;
 
@@ -9,7 +9,7 @@ use mf_elem::{Elem, RangeLabel, Request, dominates, same_level};
 use mf_errno::{Errno, Module, Priv};
 use mf_item::{CheckOp, Item};
 use mf_policy::{
-    Change, Changed, LoadFlags, Policy, Spec, asked, credential_relabel, errno_unless,
+    Change, Changed, LoadFlags, Policy, Spec, asked, credential_relabel, element_answer,
     object_label, object_relabel, slot_label,
 };
 use std::alloc::{AllocError, Global};
@@ -94,50 +94,11 @@ fn check_labelled(
         (CheckOp::VnodeRelabel | CheckOp::PipeRelabel | CheckOp::SocketRelabel, Some(object)) => {
             object_relabel(subject, object, part)
         }
-        (_, Some(object)) => check_elements(op, element, object),
-    }
-}
-
-fn check_elements(op: CheckOp, subject: &Elem, object: &Elem) -> Errno
-    ensures { result ≡ plain_answer mls (test_of op) subject.now object.now }
-{
-    let may_observe = dominates(subject, object);
-    let may_modify = dominates(object, subject);
-    match op {
-        CheckOp::VnodeLookup
-        | CheckOp::VnodeOpenRead
-        | CheckOp::VnodeRead
-        | CheckOp::VnodeExec
-        | CheckOp::VnodeStat
-        | CheckOp::VnodeReaddir
-        | CheckOp::PipeRead
-        | CheckOp::PipeStat
-        | CheckOp::SocketReceive => errno_unless(may_observe, Errno::Eacces),
-        CheckOp::VnodeOpenWrite
-        | CheckOp::VnodeWrite
-        | CheckOp::VnodeCreate
-        | CheckOp::VnodeUnlinkDir
-        | CheckOp::VnodeUnlink
-        | CheckOp::VnodeSetmode
-        | CheckOp::PipeWrite
-        | CheckOp::SocketSend => errno_unless(may_modify, Errno::Eacces),
-        CheckOp::SocketDeliver => errno_unless(same_level(subject, object), Errno::Eacces),
-        CheckOp::ProcVisible => errno_unless(may_observe, Errno::Esrch),
-        CheckOp::SocketVisible => errno_unless(may_observe, Errno::Enoent),
-        CheckOp::ProcSignal | CheckOp::ProcDebug | CheckOp::ProcSched => {
-            if may_observe {
-                errno_unless(may_modify, Errno::Eacces)
-            } else {
-                Errno::Esrch
-            }
+        (_, Some(object)) => {
+            let may_observe = dominates(element, object);
+            let may_modify = dominates(object, element);
+            element_answer(op, may_observe, may_modify, same_level(element, object))
         }
-        CheckOp::VnodeRelabel
-        | CheckOp::PipeRelabel
-        | CheckOp::SocketRelabel
-        | CheckOp::CredRelabel
-        | CheckOp::KldLoad
-        | CheckOp::KldUnload
-        | CheckOp::Priv => Errno::Success,
     }
 }
 

@@ -76,17 +76,13 @@ abbrev pub errno_unless : Bool → Errno → Errno
 errno_unless true errno = Success
 errno_unless false errno = errno
 
--- the answer about two elements; the tests that look at more than these ask nothing here
-abbrev pub plain_answer : LatticePolicy → Test → Elem → Elem → Errno
-plain_answer policy (Observe errno) subject object = errno_unless (policy.may_observe subject object) errno
-plain_answer policy Modify subject object = errno_unless (policy.may_modify subject object) Eacces
-plain_answer policy ObserveAndModify subject object =
-    cond (policy.may_observe subject object) (errno_unless (policy.may_modify subject object) Eacces) Esrch
-plain_answer policy SameLevel subject object = errno_unless (same_level subject object) Eacces
-plain_answer policy RelabelObject subject object = Success
-plain_answer policy RelabelCredential subject object = Success
-plain_answer policy GuardModules subject object = Success
-plain_answer policy Pass subject object = Success
+-- The answer by whether the subject may observe the object, may modify it, and is of its level. Tests of other things pass.
+abbrev pub element_answer : Test → Bool → Bool → Bool → Errno
+element_answer (Observe errno) may_observe may_modify same_level = errno_unless may_observe errno
+element_answer Modify may_observe may_modify same_level = errno_unless may_modify Eacces
+element_answer ObserveAndModify may_observe may_modify same_level = cond may_observe (errno_unless may_modify Eacces) Esrch
+element_answer SameLevel may_observe may_modify same_level = errno_unless same_level Eacces
+element_answer test may_observe may_modify same_level = Success
 
 -- the answer to a subject of this label that asks for that one, by the elements of subject and object, each of which may be unset
 abbrev pub labels_answer : LatticePolicy → Test → RangeLabel → RangeLabel → Option Elem → Option Elem → Errno
@@ -96,7 +92,8 @@ labels_answer policy GuardModules label asked (Some subject) object =
     cond policy.guards_modules (errno_unless (is_privileged label) Eperm) Success
 labels_answer policy test label asked (Some subject) None = Success
 labels_answer policy RelabelObject label asked (Some subject) (Some object) = object_relabel label object asked
-labels_answer policy test label asked (Some subject) (Some object) = plain_answer policy test subject object
+labels_answer policy test label asked (Some subject) (Some object) =
+    element_answer test (policy.may_observe subject object) (policy.may_modify subject object) (same_level subject object)
 
 -- what such a policy, which holds this slot, answers to an item
 abbrev pub lattice_answer : LatticePolicy → ℕ → Item → Errno

@@ -1,6 +1,7 @@
 //! The interface of a policy module, the specs of policies, and what Biba and MLS share.
 #![tactic(auto)]
 
+mod elements;
 mod labels;
 mod load_flags;
 mod modules;
@@ -10,6 +11,7 @@ mod relabel;
 mod spec;
 mod spec_list;
 
+pub use elements::element_answer;
 pub use labels::{asked, errno_unless, object_label, slot_label};
 pub use load_flags::LoadFlags;
 pub use modules::{flags_of, has_spec, labels_kind, same_module, wants_slot};
