@@ -2,13 +2,14 @@
 use Rattle.std.proofs.Common.{◌≡◌, ◌≢◌, ℕ, zero, suc, ◌+◌, ◌<◌, ◌≤◌, Bool, true, false, cond, ◌||◌, List, [], ◌∷◌, length, get_or, take, refl, ap, arith}
 use Rattle.std.specs.List.{list_any}
 use Rattle.std.proofs.lemmas.List.Elements.{All-nil, All-cons}
+use Rattle.mf_errno.specs.Module.{same_module}
 use Rattle.mf_errno.specs.declared.module.Module.{Module}
 use Rattle.mf_errno.specs.declared.module.Module.TheVariants.{Biba, Mls, Partition, Bsdextended, Priority}
 use Rattle.mf_policy.specs.declared.registration.Registration.{Registration}
-use Rattle.mf_policy.specs.Modules.{has_spec, same_module}
+use Rattle.mf_policy.specs.Modules.{has_spec}
 use Rattle.mf_policy.specs.Registration.{Entry, is_of}
 use Rattle.mf_list.specs.Held.{how_many, are_distinct}
-use Rattle.mf_list.proofs.Places.{same_module-is}
+use Rattle.mf_errno.proofs.Modules.{same_module-is}
 use Rattle.mf_core.specs.Opening.{registrations_in}
 use Rattle.mf_core.specs.Policies.{AreAllModules, AreAllThere, times_wanted}
 

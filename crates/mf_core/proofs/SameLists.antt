@@ -1,23 +1,19 @@
 -- The list of policies and the catalogue go on as the state's list does.
-use Rattle.std.proofs.Common.{◌≡◌, ◌≢◌, ℕ, ◌+◌, ◌≤◌, drop, Bool, true, false, cond, ◌&&◌, ◌||◌, List, [], ◌∷◌, Option, Some, None, IsSome, option_and_then, IfOk, OnErr, MatchOption, Result, Ok, Err, refl, ap, sym, ◌∙◌, arith}
-use Rattle.std.specs.Prelude.{All, find, if◌then◌else◌, nat_le}
-use Rattle.std.specs.Str.{bytes_eq}
-use Rattle.std.proofs.lemmas.Slice.Eq.{bytes_eq-Decides}
-use Rattle.std.proofs.lemmas.List.Elements.{All-nil, All-cons}
-use Rattle.mf_errno.specs.Module.{IsModuleNamed, module_text}
+use Rattle.std.proofs.Common.{◌≡◌, ℕ, ◌+◌, ◌≤◌, drop, Bool, true, false, cond, ◌&&◌, ◌||◌, List, [], ◌∷◌, Option, Some, None, IsSome, option_and_then, IfOk, OnErr, Result, Ok, Err, refl, ap, sym, ◌∙◌, arith}
+use Rattle.std.specs.Prelude.{find, if◌then◌else◌, nat_le}
+use Rattle.mf_errno.specs.Module.{module_named, same_module}
 use Rattle.mf_errno.specs.declared.errno.Errno.TheVariants.{Enoent, Enomem, Ebusy, Eexist}
 use Rattle.mf_errno.specs.declared.module.Module.{Module}
-use Rattle.mf_errno.specs.declared.module.Module.TheVariants.{Biba, Mls, Partition, Bsdextended, Priority}
 use Rattle.mf_policy.specs.declared.registration.Registration.{Registration}
 use Rattle.mf_policy.specs.LoadFlags.{is_notlate, is_unloadok}
-use Rattle.mf_policy.specs.Modules.{flags_of, fresh_of, has_spec, wants_slot, same_module}
+use Rattle.mf_policy.specs.Modules.{flags_of, fresh_of, has_spec, wants_slot}
 use Rattle.mf_policy.specs.Registration.{Entry, is_listed, is_of}
 use Rattle.mf_list.specs.declared.faults.RegisterFault.{RegisterFault}
 use Rattle.mf_list.specs.declared.faults.UnregisterFault.{UnregisterFault}
 use Rattle.mf_list.specs.Held.{how_many, times_held, IsListedOnce}
-use Rattle.mf_list.specs.Lists.{ListView, CatalogueView, IsReady, entry_in, in_catalogue}
+use Rattle.mf_list.specs.Lists.{ListView, CatalogueView, IsReady, in_catalogue}
 use Rattle.mf_list.specs.Registration.{Registers, Unregisters, entries_without, register_verdict, register_verdict_by_name, registration_of, unregister_verdict, unregister_verdict_by_name, with_newest}
-use Rattle.mf_list.proofs.Places.{same_module-is}
+use Rattle.mf_errno.proofs.Modules.{same_module-is}
 use Rattle.mf_objects.specs.declared.id.Id.{Id}
 use Rattle.mf_script.specs.declared.script.Call.{Call}
 use Rattle.mf_script.specs.declared.script.Call.TheVariants as call
@@ -32,7 +28,7 @@ use Rattle.mf_plan.specs.declared.target.Target.{Target}
 use Rattle.mf_plan.specs.declared.target.Target.TheVariants.{Root, Name, Nowhere}
 use Rattle.mf_plan.specs.Doing.{CanDo, CanLoad, CanUnload}
 use Rattle.mf_plan.specs.Loading.{if_there, loadable, unload_fault_of}
-use Rattle.mf_plan.specs.Names.{caller_name, module_named}
+use Rattle.mf_plan.specs.Names.{caller_name}
 use Rattle.mf_plan.specs.Path.{walk_along, last_name}
 use Rattle.mf_plan.specs.Plan.{plan_of}
 use Rattle.mf_plan.specs.Views.{process_named, pipe_named, socket_named}
@@ -49,47 +45,6 @@ use Rattle.mf_core.specs.LegalHistory.{is_change}
 use Rattle.mf_core.specs.Policies.{AreOf, listed_after, listed_after_reply, registered, times_wanted, unregistered}
 use Rattle.mf_core.proofs.Counting.{none_counted, some_passes, wanted_once}
 use Rattle.mf_core.proofs.Consistency.{Follows}
-
--- Names of modules
-
-named_or_none : (name : List ℕ) (ms : List Module)
-    → MatchOption (find (λ (m : Module). bytes_eq (module_text m) name) ms) (All (λ (m : Module). module_text m ≢ name) ms) (λ m. module_text m ≡ name)
-named_or_none name [] = All-nil (λ (m : Module). module_text m ≢ name)
-named_or_none name (m ∷ ms) = by_test (bytes_eq (module_text m) name) (bytes_eq-Decides (module_text m) name) (named_or_none name ms)
-  where
-    later : (found : Option Module) → module_text m ≢ name → MatchOption found (All (λ (m : Module). module_text m ≢ name) ms) (λ m. module_text m ≡ name)
-        → MatchOption found (All (λ (m : Module). module_text m ≢ name) (m ∷ ms)) (λ m. module_text m ≡ name)
-    later None other none = All-cons (λ (m : Module). module_text m ≢ name) m ms other none
-    later (Some k) other is = is
-
-    by_test : (b : Bool) → (b ≡ true → module_text m ≡ name) × (module_text m ≡ name → b ≡ true)
-        → MatchOption (find (λ (m : Module). bytes_eq (module_text m) name) ms) (All (λ (m : Module). module_text m ≢ name) ms) (λ m. module_text m ≡ name)
-        → MatchOption (cond b (Some m) (find (λ (m : Module). bytes_eq (module_text m) name) ms)) (All (λ (m : Module). module_text m ≢ name) (m ∷ ms)) (λ m. module_text m ≡ name)
-    by_test true decides rest = decides.0 refl
-    by_test false decides rest = later (find (λ (m : Module). bytes_eq (module_text m) name) ms) (λ same. let no : false ≡ true = decides.1 same in cc) rest
-
-all_modules : List Module
-all_modules = Biba ∷ Mls ∷ Partition ∷ Bsdextended ∷ Priority ∷ []
-
-each_module : (P : Module → Type 0) → All P (Biba ∷ Mls ∷ Partition ∷ Bsdextended ∷ Priority ∷ []) → (m : Module) → P m
-each_module P all Biba = all 0 Biba (omega arith)
-each_module P all Mls = all 1 Biba (omega arith)
-each_module P all Partition = all 2 Biba (omega arith)
-each_module P all Bsdextended = all 3 Biba (omega arith)
-each_module P all Priority = all 4 Biba (omega arith)
-
-by_found : (name : List ℕ) (found : Option Module)
-    → MatchOption found (All (λ (m : Module). module_text m ≢ name) (Biba ∷ Mls ∷ Partition ∷ Bsdextended ∷ Priority ∷ [])) (λ m. module_text m ≡ name)
-    → IsModuleNamed name found
-by_found name None none = each_module (λ m. module_text m ≢ name) none
-by_found name (Some m) is = is
-
--- the module of a name is the one that has it
-pub is_named : (name : List ℕ) → IsModuleNamed name (module_named name)
-unfolding module_named
-is_named name =
-    by_found name (find (λ (m : Module). bytes_eq (module_text m) name) (Biba ∷ Mls ∷ Partition ∷ Bsdextended ∷ Priority ∷ []))
-    (named_or_none name (Biba ∷ Mls ∷ Partition ∷ Bsdextended ∷ Priority ∷ []))
 
 -- What registering and unregistering make of the list
 
@@ -236,16 +191,16 @@ loads s name list catalogue policies booted can =
 -- the entry of a listed module
 record HasEntry (m : Module) (es : List Entry) : Type 0 where
   entry : Entry
-  is : entry_in m es ≡ Some entry
+  is : find (is_of m) es ≡ Some entry
   of : entry.0.module ≡ m
 
 entry_by : (m : Module) (e : Entry) (es : List Entry) (b : Bool) → is_of m e ≡ b → (b || is_listed m es) ≡ true
     → (is_listed m es ≡ true → HasEntry m es) → HasEntry m (e ∷ es)
 entry_by m e es true is listed further =
-    record { entry = e; is = ap (λ b. cond b (Some e) (entry_in m es)) is; of = sym (same_module-is m e.0.module is) }
+    record { entry = e; is = ap (λ b. cond b (Some e) (find (is_of m) es)) is; of = sym (same_module-is m e.0.module is) }
 entry_by m e es false is listed further =
     let rest = further listed in
-    record { entry = rest.entry; is = ap (λ b. cond b (Some e) (entry_in m es)) is ∙ rest.is; of = rest.of }
+    record { entry = rest.entry; is = ap (λ b. cond b (Some e) (find (is_of m) es)) is ∙ rest.is; of = rest.of }
 
 has_entry : (m : Module) (es : List Entry) → is_listed m es ≡ true → HasEntry m es
 has_entry m [] listed = cc

@@ -1,7 +1,8 @@
 -- What a core has to do with the list of policies and the catalogue that came with it.
 use Rattle.std.specs.Prelude.{◌≡◌, ℕ, ◌<◌, true, false, cond, List, All, Result, Ok, Err}
+use Rattle.mf_errno.specs.Module.{module_named, same_module}
 use Rattle.mf_errno.specs.declared.module.Module.{Module}
-use Rattle.mf_policy.specs.Modules.{fresh_of, has_spec, same_module}
+use Rattle.mf_policy.specs.Modules.{fresh_of, has_spec}
 use Rattle.mf_policy.specs.declared.registration.Registration.{Registration}
 use Rattle.mf_policy.specs.Registration.{Entry, is_listed}
 use Rattle.mf_list.specs.Lists.{ListView, CatalogueView, IsReady, in_catalogue}
@@ -13,7 +14,6 @@ use Rattle.mf_script.specs.declared.script.Call.{Call}
 use Rattle.mf_script.specs.declared.script.Call.TheVariants as call
 use Rattle.mf_plan.specs.declared.reply.Reply.{Reply}
 use Rattle.mf_plan.specs.declared.reply.Reply.TheVariants as reply
-use Rattle.mf_plan.specs.Names.{module_named}
 use Rattle.mf_core.specs.declared.progress.Outcome.{Outcome}
 use Rattle.mf_core.specs.declared.progress.Outcome.TheVariants as outcome
 

@@ -1,6 +1,6 @@
 //! The policy modules that the model knows, a part of those of mac(4).
 ghost use Rattle.std.specs.Prelude.{◌≡◌};
-ghost use Rattle.mf_errno.specs.Module.{IsModuleNamed, module_text};
+ghost use Rattle.mf_errno.specs.Module.{module_named, module_text, same_module};
 
 /// A policy module.
 #[derive(Clone, Copy, Debug, PartialEq, Eq)]
@@ -27,8 +27,9 @@ impl Module {
     }
 
     /// The module of that name. None for every other text.
+    #[tactic(auto, unfolding(crate::specs::Module::module_named))]
     pub fn from_name(name: &str) -> Option<Module>
-        ensures { IsModuleNamed name.now result }
+        ensures { result ≡ module_named name.now }
     {
         match name {
             "mac_biba" => Some(Module::Biba),
@@ -38,6 +39,13 @@ impl Module {
             "mac_priority" => Some(Module::Priority),
             _ => None,
         }
+    }
+
+    /// Whether the two are one module.
+    pub fn is(self, other: Module) -> bool
+        ensures { result ≡ same_module self other }
+    {
+        self == other
     }
 }
 

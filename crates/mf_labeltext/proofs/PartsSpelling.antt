@@ -1,6 +1,7 @@
 -- The elements of parts in order spell what the parts ask for.
 use Rattle.std.proofs.Common.{◌≡◌, ◌≢◌, ℕ, ◌≤◌, true, false, cond, List, [], ◌∷◌, ◌++◌, length, map, Option, Some, None, refl, ap, ◌∙◌, subst, arith, codes}
 use Rattle.std.specs.List.{AllByRecursion, join_with_byte}
+use Rattle.mf_errno.specs.Module.{same_module}
 use Rattle.mf_errno.specs.declared.module.Module.{Module}
 use Rattle.mf_errno.specs.declared.module.Module.TheVariants.{Biba, Mls, Partition, Bsdextended, Priority}
 use Rattle.mf_elem.specs.declared.label.RangeLabel.{RangeLabel}
@@ -9,7 +10,7 @@ use Rattle.mf_elem.specs.declared.label.LabelValue.TheVariants.{Unset, Range, Nu
 use Rattle.mf_elem.specs.declared.label.Request.{Request}
 use Rattle.mf_labeltext.specs.LabelGrammar.{SpellElements, HasNoComma, Spells}
 use Rattle.mf_elem.specs.Label.{no_request}
-use Rattle.mf_labeltext.specs.Canonical.{label_text, partition_text, element_text, is_same_policy, parts_of, in_order, elements_text, canonical}
+use Rattle.mf_labeltext.specs.Canonical.{label_text, partition_text, element_text, parts_of, in_order, elements_text, canonical}
 use Rattle.mf_labeltext.specs.RoundTrip.{value_of, range_of, number_of, request_of, IsValueOf, IsPart, AreParts}
 use Rattle.mf_labeltext.proofs.Cutting.{IsFree}
 use Rattle.mf_labeltext.proofs.Spelling.{inner_free, partition_inner}
@@ -61,12 +62,12 @@ after_append before (part ∷ front) back = after_append (with_value before part
 -- ---- the parts of one policy
 -- parts of the policy, as a label may have them
 abbrev AreOf : Module → Parts → Type 0
-AreOf policy parts = AllByRecursion (λ part. (is_same_policy policy part.0 ≡ true) × IsPart part) parts
+AreOf policy parts = AllByRecursion (λ part. (same_module policy part.0 ≡ true) × IsPart part) parts
 
 are_of : (policy : Module) (parts : Parts) → AllByRecursion IsPart parts → AreOf policy (parts_of policy parts)
 are_of policy [] all = tt
 are_of policy (part ∷ parts) all =
-    elim (is_same_policy policy part.0) as (λ b. is_same_policy policy part.0 ≡ b → AreOf policy (cond b (part ∷ parts_of policy parts) (parts_of policy parts))) [
+    elim (same_module policy part.0) as (λ b. same_module policy part.0 ≡ b → AreOf policy (cond b (part ∷ parts_of policy parts) (parts_of policy parts))) [
       | true ↦ λ same. ((same, all.0), are_of policy parts all.1)
       | false ↦ λ other. are_of policy parts all.1
     ] refl
@@ -82,7 +83,7 @@ first_value (part ∷ parts) = Some part.1
 first_of : (policy : Module) (parts : Parts) → first_value (parts_of policy parts) ≡ value_of policy parts
 first_of policy [] = refl
 first_of policy (part ∷ parts) =
-    elim (is_same_policy policy part.0) as (λ b. first_value (cond b (part ∷ parts_of policy parts) (parts_of policy parts)) ≡ cond b (Some part.1) (value_of policy parts)) [
+    elim (same_module policy part.0) as (λ b. first_value (cond b (part ∷ parts_of policy parts) (parts_of policy parts)) ≡ cond b (Some part.1) (value_of policy parts)) [
       | true ↦ refl
       | false ↦ first_of policy parts
     ]
@@ -91,7 +92,7 @@ first_of policy (part ∷ parts) =
 abbrev asking : Option RangeLabel → Option RangeLabel → Option ℕ → Request
 asking biba mls partition = record { biba = biba; mls = mls; partition = partition; other = false }
 
-with_biba : (policy : Module) (value : LabelValue) → is_same_policy Biba policy ≡ true → with_value no_request policy value ≡ asking (range_of (Some value)) None None
+with_biba : (policy : Module) (value : LabelValue) → same_module Biba policy ≡ true → with_value no_request policy value ≡ asking (range_of (Some value)) None None
 unfolding with_value
 with_biba Biba value same = refl
 with_biba Mls value same = absurd cc
@@ -99,7 +100,7 @@ with_biba Partition value same = absurd cc
 with_biba Bsdextended value same = absurd cc
 with_biba Priority value same = absurd cc
 
-with_mls : (biba : Option RangeLabel) (policy : Module) (value : LabelValue) → is_same_policy Mls policy ≡ true → with_value (asking biba None None) policy value ≡ asking biba (range_of (Some value)) None
+with_mls : (biba : Option RangeLabel) (policy : Module) (value : LabelValue) → same_module Mls policy ≡ true → with_value (asking biba None None) policy value ≡ asking biba (range_of (Some value)) None
 unfolding with_value
 with_mls biba Biba value same = absurd cc
 with_mls biba Mls value same = refl
@@ -107,7 +108,7 @@ with_mls biba Partition value same = absurd cc
 with_mls biba Bsdextended value same = absurd cc
 with_mls biba Priority value same = absurd cc
 
-with_partition : (biba mls : Option RangeLabel) (policy : Module) (value : LabelValue) → is_same_policy Partition policy ≡ true
+with_partition : (biba mls : Option RangeLabel) (policy : Module) (value : LabelValue) → same_module Partition policy ≡ true
     → with_value (asking biba mls None) policy value ≡ asking biba mls (number_of (Some value))
 unfolding with_value
 with_partition biba mls Biba value same = absurd cc

@@ -1,8 +1,9 @@
 -- The canonical text of labels.
-use Rattle.std.specs.Prelude.{ℕ, List, [], ◌∷◌, ◌++◌, Option, Some, None, Bool, true, false, map, filter, codes, ◌==◌, if◌then◌else◌}
+use Rattle.std.specs.Prelude.{ℕ, List, [], ◌∷◌, ◌++◌, Option, Some, None, map, filter, codes, ◌==◌, if◌then◌else◌}
 use Rattle.std.specs.List.{join_with_byte}
 use Rattle.std.specs.Fmt.{decimal}
 use Rattle.std.specs.FinSet as set
+use Rattle.mf_errno.specs.Module.{same_module}
 use Rattle.mf_errno.specs.declared.module.Module.{Module}
 use Rattle.mf_errno.specs.declared.module.Module.TheVariants.{Biba, Mls, Partition, Bsdextended, Priority}
 use Rattle.mf_elem.specs.Comps.{compartments_of}
@@ -66,16 +67,9 @@ policy_text Priority = codes "priority"
 abbrev pub element_text : Module × LabelValue → List ℕ
 element_text part = policy_text part.0 ++ slash ∷ value_text part.1
 
--- the two are the same policy, which labels something
-abbrev pub is_same_policy : Module → Module → Bool
-is_same_policy Biba Biba = true
-is_same_policy Mls Mls = true
-is_same_policy Partition Partition = true
-is_same_policy a b = false
-
--- the parts of one of these policies
+-- the parts of one policy
 abbrev pub parts_of : Module → List (Module × LabelValue) → List (Module × LabelValue)
-parts_of policy parts = filter (λ part. is_same_policy policy part.0) parts
+parts_of policy parts = filter (λ part. same_module policy part.0) parts
 
 unfoldable pub in_order : List (Module × LabelValue) → List (Module × LabelValue)
 in_order parts = parts_of Biba parts ++ parts_of Mls parts ++ parts_of Partition parts

@@ -3,7 +3,7 @@
 -- A text is label elements, parted by commas. An element is the name of a policy, a slash and a value. The value of biba and
 -- mls is an effective element, a range "(low end-high end)", or both, one behind the other; that of partition is a number, or
 -- "none", which is 0. Of several elements of one policy the last one counts.
-use Rattle.std.specs.Prelude.{◌≡◌, ◌≢◌, ℕ, ◌≤◌, ◌⊎◌, List, [], ◌∷◌, ◌++◌, Option, Some, None, codes, true, false}
+use Rattle.std.specs.Prelude.{◌≡◌, ◌≢◌, ℕ, ◌≤◌, ◌⊎◌, List, [], ◌∷◌, ◌++◌, Option, Some, None, codes, true}
 use Rattle.std.specs.List.{join_with_byte, AllByRecursion}
 use Rattle.std.specs.Int.{IsInRange}
 use Rattle.std.specs.Str.Parse.{IsNumeral, digits_value}

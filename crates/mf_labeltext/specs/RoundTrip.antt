@@ -1,6 +1,7 @@
 -- The canonical text of the parts of a label asks for just these parts.
 use Rattle.std.specs.Prelude.{◌≢◌, ℕ, ◌≤◌, List, [], ◌∷◌, length, Option, Some, None, false, if◌then◌else◌}
 use Rattle.std.specs.List.{AllByRecursion}
+use Rattle.mf_errno.specs.Module.{same_module}
 use Rattle.mf_errno.specs.declared.module.Module.{Module}
 use Rattle.mf_errno.specs.declared.module.Module.TheVariants.{Biba, Mls, Partition}
 use Rattle.mf_elem.specs.Comps.{AreWords}
@@ -11,12 +12,12 @@ use Rattle.mf_elem.specs.declared.label.LabelValue.{LabelValue}
 use Rattle.mf_elem.specs.declared.label.LabelValue.TheVariants.{Unset, Range, Number}
 use Rattle.mf_elem.specs.declared.label.Request.{Request}
 use Rattle.mf_labeltext.specs.LabelGrammar.{Spells}
-use Rattle.mf_labeltext.specs.Canonical.{is_same_policy, parts_of, canonical}
+use Rattle.mf_labeltext.specs.Canonical.{parts_of, canonical}
 
 -- ---- what parts ask for
 abbrev pub value_of : Module → List (Module × LabelValue) → Option LabelValue
 value_of policy [] = None
-value_of policy (part ∷ parts) = if is_same_policy policy part.0 then Some part.1 else value_of policy parts
+value_of policy (part ∷ parts) = if same_module policy part.0 then Some part.1 else value_of policy parts
 
 abbrev pub range_of : Option LabelValue → Option RangeLabel
 range_of None = None

@@ -2,7 +2,7 @@
 ghost use Rattle.std.specs.Prelude.{◌≡◌, ◌<◌, ◌∷◌, ◌++◌, map, string_bytes, IfOk, OnOk, OnErr};
 ghost use Rattle.std.specs.Fmt.{decimal};
 ghost use Rattle.std.specs.List.{join_with_byte};
-ghost use Rattle.mf_labeltext.specs.Canonical.{rising, comps_text, elem_text, range_text, label_text, partition_text, value_text, policy_text, element_text, is_same_policy, parts_of, in_order, comma_behind, elements_text, canonical};
+ghost use Rattle.mf_labeltext.specs.Canonical.{rising, comps_text, elem_text, range_text, label_text, partition_text, value_text, policy_text, element_text, parts_of, in_order, comma_behind, elements_text, canonical};
 ghost use Rattle.mf_labeltext.specs.RoundTrip.{CanonicalTextSpellsItsParts};
 
 use mf_elem::{Comps, Elem, LabelValue, RangeLabel};
@@ -68,22 +68,11 @@ fn push_parts_of(
     ensures { OnOk result (ordered.new.items ≡ ordered.old.items ++ parts_of policy parts.now) }
 {
     for part in parts {
-        if is_same_policy(policy, part.0) {
+        if policy.is(part.0) {
             ordered.push(*part)?;
         }
     }
     Ok(())
-}
-
-fn is_same_policy(policy: Module, other: Module) -> bool
-    ensures { result ≡ is_same_policy policy other }
-{
-    match (policy, other) {
-        (Module::Biba, Module::Biba)
-        | (Module::Mls, Module::Mls)
-        | (Module::Partition, Module::Partition) => true,
-        _ => false,
-    }
 }
 
 /// The elements of one or more parts, with a comma between each two.

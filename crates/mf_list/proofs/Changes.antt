@@ -1,12 +1,11 @@
 -- What a change of a policy's setting does to the list.
-use Rattle.std.proofs.Common.{◌≡◌, ℕ, List, Option, Some, Result, Ok, Err, IfOk, get_or, set, ap, sym, ◌∙◌}
+use Rattle.std.proofs.Common.{◌≡◌, ℕ, List, Option, Some, Result, Ok, Err, IfOk, find, get_or, set, ap, sym, ◌∙◌}
 use Rattle.mf_errno.specs.declared.module.Module.{Module}
 use Rattle.mf_policy.specs.declared.spec.Change.{Change}
 use Rattle.mf_policy.specs.declared.spec.Changed.{Changed}
-use Rattle.mf_policy.specs.Registration.{Entry}
+use Rattle.mf_policy.specs.Registration.{Entry, is_of}
 use Rattle.mf_policy.specs.declared.spec.Spec.{Spec}
 use Rattle.mf_policy.specs.Settings.{change_of}
-use Rattle.mf_list.specs.Lists.{entry_in}
 use Rattle.mf_list.specs.Places.{IsEntryPlace}
 use Rattle.mf_list.specs.Registration.{change_at, change_in, with_meaning}
 use Rattle.std.specs.declared.alloc.AllocError.{AllocError}
@@ -18,7 +17,7 @@ one_entry o a b is_a is_b = cc
 pub stays_at : (m : Module) (entries : List Entry) (place : ℕ) (old new : Entry)
     → IsEntryPlace m entries place → old ≡ get_or entries place old → new.0 ≡ old.0 → new.0 ≡ (get_or entries place new).0
 stays_at m entries place old new at is same =
-    same ∙ ap (λ (e : Entry). e.0) is ∙ ap (λ (e : Entry). e.0) (one_entry (entry_in m entries) (get_or entries place old) (get_or entries place new) (at.entry old) (at.entry new))
+    same ∙ ap (λ (e : Entry). e.0) is ∙ ap (λ (e : Entry). e.0) (one_entry (find (is_of m) entries) (get_or entries place old) (get_or entries place new) (at.entry old) (at.entry new))
 
 pub changed_in : (m : Module) (change : Change) (entries : List Entry) (place : ℕ) (o : Result Changed AllocError) (old new : Entry)
     → IsEntryPlace m entries place → old ≡ get_or entries place old → new.0 ≡ old.0

@@ -1,15 +1,15 @@
 -- How often a module is held, through registrations and changes.
 use Rattle.std.proofs.Common.{◌≡◌, ℕ, ◌+◌, ◌≤◌, Bool, true, false, cond, not, ◌&&◌, ◌||◌, List, [], ◌∷◌, ◌++◌, length, refl, ap, sym, subst, arith, suc, zero}
 use Rattle.std.specs.List.{list_any, remove}
+use Rattle.mf_errno.specs.Module.{same_module}
 use Rattle.mf_errno.specs.declared.module.Module.{Module}
 use Rattle.mf_errno.specs.declared.module.Module.TheVariants.{Biba, Mls, Partition, Bsdextended, Priority}
 use Rattle.mf_policy.specs.declared.spec.Spec.{Spec}
 use Rattle.mf_policy.specs.Registration.{Entry, is_listed, is_of}
 use Rattle.mf_list.specs.Held.{how_many, are_distinct, IsListedOnce}
 use Rattle.mf_list.specs.Lists.{in_catalogue}
-use Rattle.mf_policy.specs.Modules.{same_module}
 use Rattle.mf_list.specs.Registration.{entries_without, modules_without, with_meaning, with_newest}
-use Rattle.mf_list.proofs.Places.{same_module-is}
+use Rattle.mf_errno.proofs.Modules.{same_module-is}
 
 pub how_many-newest : (p : Entry → Bool) (e : Entry) (es : List Entry) → how_many p (with_newest e es) ≡ cond (p e) 1 0 + how_many p es
 how_many-newest p e [] = refl

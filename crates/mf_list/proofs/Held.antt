@@ -1,17 +1,18 @@
 -- That list and catalogue together hold the same modules as before.
-use Rattle.std.proofs.Common.{◌≡◌, ℕ, List, Option, Some, None, Result, Ok, Err, IfOk, OnErr, refl, ap, ◌∙◌, arith}
+use Rattle.std.proofs.Common.{◌≡◌, ℕ, List, Option, Some, None, Result, Ok, Err, IfOk, OnErr, find, refl, ap, ◌∙◌, arith}
+use Rattle.mf_errno.specs.Module.{same_module}
 use Rattle.mf_errno.specs.declared.module.Module.{Module}
 use Rattle.mf_policy.specs.declared.registration.Registration.{Registration}
 use Rattle.mf_policy.specs.declared.spec.Change.{Change}
 use Rattle.mf_policy.specs.declared.spec.Changed.{Changed}
-use Rattle.mf_policy.specs.Modules.{fresh_of, same_module}
+use Rattle.mf_policy.specs.Modules.{fresh_of}
 use Rattle.mf_policy.specs.Registration.{Entry, is_of}
 use Rattle.mf_policy.specs.Settings.{change_of}
 use Rattle.std.specs.declared.alloc.AllocError.{AllocError}
 use Rattle.mf_list.specs.declared.faults.RegisterFault.{RegisterFault}
 use Rattle.mf_list.specs.declared.faults.UnregisterFault.{UnregisterFault}
 use Rattle.mf_list.specs.Held.{how_many, times_held}
-use Rattle.mf_list.specs.Lists.{ListView, CatalogueView, entry_in}
+use Rattle.mf_list.specs.Lists.{ListView, CatalogueView}
 use Rattle.mf_list.specs.Registration.{Registers, Unregisters, change_at, change_in}
 use Rattle.mf_list.proofs.Counts.{how_many-meaning, how_many-newest, how_many-push, how_many-without_entry, how_many-without_module}
 
@@ -51,5 +52,5 @@ pub listed_after_change : (m k : Module) (change : Change) (list list' : ListVie
     → OnErr o (list' ≡ list)
     → how_many (is_of m) list'.entries ≡ how_many (is_of m) list.entries
 listed_after_change m k change list list' (Ok changed) is err =
-    ap (λ (p : Changed × List Entry). how_many (is_of m) p.1) is ∙ changed_at m k change list.entries (entry_in k list.entries)
+    ap (λ (p : Changed × List Entry). how_many (is_of m) p.1) is ∙ changed_at m k change list.entries (find (is_of k) list.entries)
 listed_after_change m k change list list' (Err e) ok same = ap (λ (l : ListView). how_many (is_of m) l.entries) same

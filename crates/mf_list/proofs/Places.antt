@@ -1,16 +1,16 @@
 -- The place of a module among others, and the list without it.
-use Rattle.std.proofs.Common.{MatchOption, ◌≡◌, ℕ, ◌+◌, ◌<◌, Bool, true, false, cond, not, ltb, ◌&&◌, ◌||◌, Option, Some, None, subst, get_or, set, List, [], ◌∷◌, length, refl, ap, sym, ◌∙◌, one-add, arith, suc}
+use Rattle.std.proofs.Common.{MatchOption, ◌≡◌, ℕ, ◌+◌, ◌<◌, Bool, true, false, cond, not, ltb, ◌&&◌, ◌||◌, Option, Some, None, subst, get_or, set, List, [], ◌∷◌, find, length, refl, ap, sym, ◌∙◌, one-add, arith, suc}
 use Rattle.std.specs.List.{list_any, position, position_or_len, prefix_len, remove, insert}
 use Rattle.std.proofs.lemmas.List.Quantifiers.{position-Some}
 use Rattle.std.proofs.lemmas.List.Sums.{prefix_len-le-length}
 use Rattle.std.proofs.lemmas.Bool.{ltb-true, ltb-false}
 use Rattle.std.proofs.lemmas.Grind.{common_steps}
+use Rattle.mf_errno.specs.Module.{same_module}
 use Rattle.mf_errno.specs.declared.module.Module.{Module}
-use Rattle.mf_errno.specs.declared.module.Module.TheVariants.{Biba, Mls, Partition, Bsdextended, Priority}
+use Rattle.mf_errno.proofs.Modules.{same_module-is}
 use Rattle.mf_policy.specs.Registration.{Entry, is_listed, is_of}
 use Rattle.mf_policy.specs.declared.registration.Registration.{Registration}
-use Rattle.mf_list.specs.Lists.{entry_in, in_catalogue, is_dynamic}
-use Rattle.mf_policy.specs.Modules.{same_module}
+use Rattle.mf_list.specs.Lists.{in_catalogue, is_dynamic}
 use Rattle.mf_list.specs.Places.{IsAbsent, IsEntryPlace, IsModulePlace}
 use Rattle.mf_list.specs.Registration.{with_meaning, with_newest, without_first}
 
@@ -51,14 +51,6 @@ pub insert_static : (e : Entry) (es : List Entry) → e.0.fixed ≡ true → ins
 insert_static e [] h = refl
 insert_static e (x ∷ xs) h = sym (ap (λ f. cond (not f && x.0.fixed) (x ∷ with_newest e xs) (e ∷ x ∷ xs)) h)
 
-pub same_module-is : (a b : Module) → same_module a b ≡ true → a ≡ b
-same_module-is Biba Biba h = refl
-same_module-is Mls Mls h = refl
-same_module-is Partition Partition h = refl
-same_module-is Bsdextended Bsdextended h = refl
-same_module-is Priority Priority h = refl
-same_module-is a b h = cc
-
 -- what `position` found, and that it found nothing
 found : {X : Type 0} (p : X → Bool) (xs : List X) (i : ℕ) → position p xs ≡ Some i → (position_or_len p xs ≡ i) × (list_any p xs ≡ true)
 found p xs i h =
@@ -98,11 +90,11 @@ get_later : (x : Entry) (xs : List Entry) (i : ℕ) (d : Entry) → (get_or (x �
 get_later x xs i d = rw (one-add i) refl
 
 -- the entry at the first place
-entry_at : (m : Module) (entries : List Entry) (d : Entry) → position_or_len (is_of m) entries < length entries → entry_in m entries ≡ Some (get_or entries (position_or_len (is_of m) entries) d)
+entry_at : (m : Module) (entries : List Entry) (d : Entry) → position_or_len (is_of m) entries < length entries → find (is_of m) entries ≡ Some (get_or entries (position_or_len (is_of m) entries) d)
 entry_at m [] d h = absurd (omega arith)
 entry_at m (x ∷ xs) d h =
     let P : ℕ = position_or_len (is_of m) xs in
-    elim (is_of m x) as (λ b. (cond (not b) (1 + P) 0) < suc (length xs) → cond b (Some x) (entry_in m xs) ≡ Some (get_or (x ∷ xs) (cond (not b) (1 + P) 0) d)) [
+    elim (is_of m x) as (λ b. (cond (not b) (1 + P) 0) < suc (length xs) → cond b (Some x) (find (is_of m) xs) ≡ Some (get_or (x ∷ xs) (cond (not b) (1 + P) 0) d)) [
       | true ↦ λ _. refl
       | false ↦ λ l. entry_at m xs d (omega arith) ∙ entry_later x xs P d
     ] h
@@ -117,10 +109,10 @@ written_at m (x ∷ xs) e h same =
       | false ↦ λ l s. set_later x xs P e ∙ ap (λ (ys : List Entry). x ∷ ys) (written_at m xs e (omega arith) (s ∙ get_later x xs P e))
     ] h same
 
-no_entry : (m : Module) (entries : List Entry) → is_listed m entries ≡ false → entry_in m entries ≡ None
+no_entry : (m : Module) (entries : List Entry) → is_listed m entries ≡ false → find (is_of m) entries ≡ None
 no_entry m [] h = refl
 no_entry m (x ∷ xs) h =
-    elim (is_of m x) as (λ b. (b || list_any (is_of m) xs) ≡ false → cond b (Some x) (entry_in m xs) ≡ None) [
+    elim (is_of m x) as (λ b. (b || list_any (is_of m) xs) ≡ false → cond b (Some x) (find (is_of m) xs) ≡ None) [
       | true ↦ λ l. cc
       | false ↦ λ l. no_entry m xs l
     ] h
@@ -133,7 +125,7 @@ entry_by_position m entries i h =
     record {
       within = subst (λ (k : ℕ). k < length entries) f.0 within;
       listed = f.1;
-      entry = λ d. subst (λ (k : ℕ). entry_in m entries ≡ Some (get_or entries k d)) f.0 (entry_at m entries d within);
+      entry = λ d. subst (λ (k : ℕ). find (is_of m) entries ≡ Some (get_or entries k d)) f.0 (entry_at m entries d within);
       here = λ d. sym (same_module-is m (get_or entries i d).0.module (position-Some (is_of m) entries i d h).1);
       rest = subst (λ (k : ℕ). remove entries k ≡ without_first (is_of m) entries) f.0 (remove_at_place (is_of m) entries);
       written = λ e same.

@@ -1,9 +1,9 @@
 -- How often list and catalogue hold a module.
 use Rattle.std.specs.Prelude.{◌≡◌, ℕ, ◌+◌, ◌≤◌, Bool, true, cond, not, ◌&&◌, List, [], ◌∷◌}
+use Rattle.mf_errno.specs.Module.{same_module}
 use Rattle.mf_errno.specs.declared.module.Module.{Module}
 use Rattle.mf_policy.specs.Registration.{Entry, is_of}
 use Rattle.mf_list.specs.Lists.{ListView, CatalogueView, in_catalogue}
-use Rattle.mf_policy.specs.Modules.{same_module}
 
 -- how many elements pass
 abbrev pub how_many : {X : Type 0} → (X → Bool) → List X → ℕ

@@ -1,10 +1,11 @@
 -- What contracts see of the list of policies and of the catalogue.
-use Rattle.std.specs.Prelude.{◌≡◌, ℕ, ◌<◌, ◌≤◌, Bool, true, false, cond, not, List, [], ◌∷◌, Option, Some, None, length}
+use Rattle.std.specs.Prelude.{◌≡◌, ℕ, ◌<◌, ◌≤◌, Bool, true, false, not, List, Option, Some, None, length}
 use Rattle.std.specs.List.{list_any}
+use Rattle.mf_errno.specs.Module.{same_module}
 use Rattle.mf_errno.specs.declared.module.Module.{Module}
 use Rattle.mf_policy.specs.declared.spec.Spec.{Spec}
-use Rattle.mf_policy.specs.Modules.{fresh_of, module_of, same_module, wants_slot}
-use Rattle.mf_policy.specs.Registration.{Entry, is_of}
+use Rattle.mf_policy.specs.Modules.{fresh_of, module_of, wants_slot}
+use Rattle.mf_policy.specs.Registration.{Entry}
 
 -- the listed policies in walk order, and for how many more room is reserved
 pub record ListView : Type 0 where
@@ -40,11 +41,6 @@ pub record IsEntry (entry : Entry) : Type 0 where
 -- whether the module is in the catalogue
 abbrev pub in_catalogue : Module → List Module → Bool
 in_catalogue m modules = list_any (same_module m) modules
-
--- the module's entry
-abbrev pub entry_in : Module → List Entry → Option Entry
-entry_in m [] = None
-entry_in m (x ∷ xs) = cond (is_of m x) (Some x) (entry_in m xs)
 
 -- whether the entry is in the dynamic list
 abbrev pub is_dynamic : Entry → Bool

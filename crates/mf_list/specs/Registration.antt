@@ -1,19 +1,20 @@
 -- Registration: which calls are refused, and what becomes of list, catalogue and slot numbers.
-use Rattle.std.specs.Prelude.{◌≡◌, ℕ, ◌+◌, Bool, true, false, cond, not, ◌&&◌, ◌||◌, nat_le, List, [], ◌∷◌, ◌++◌, Option, Some, None, is_some, Result, Ok, Err}
+use Rattle.std.specs.Prelude.{◌≡◌, ℕ, ◌+◌, Bool, true, false, cond, not, ◌&&◌, ◌||◌, nat_le, List, [], ◌∷◌, ◌++◌, Option, Some, None, find, is_some, Result, Ok, Err}
+use Rattle.mf_errno.specs.Module.{same_module}
 use Rattle.mf_errno.specs.declared.module.Module.{Module}
 use Rattle.mf_policy.specs.declared.registration.Registration.{Registration}
 use Rattle.mf_policy.specs.declared.spec.Spec.{Spec}
 use Rattle.mf_policy.specs.declared.spec.Change.{Change}
 use Rattle.mf_policy.specs.declared.spec.Changed.{Changed}
 use Rattle.mf_policy.specs.LoadFlags.{is_notlate, is_unloadok}
-use Rattle.mf_policy.specs.Modules.{flags_of, fresh_of, wants_slot, same_module}
+use Rattle.mf_policy.specs.Modules.{flags_of, fresh_of, wants_slot}
 use Rattle.mf_policy.specs.Registration.{Entry, is_listed, is_of}
 use Rattle.mf_policy.specs.Settings.{change_of, no_setting}
 use Rattle.mf_list.specs.declared.faults.RegisterFault.{RegisterFault}
 use Rattle.mf_list.specs.declared.faults.RegisterFault.TheVariants.{Unknown, NotLate, Exists, NoSlot}
 use Rattle.mf_list.specs.declared.faults.UnregisterFault.{UnregisterFault}
 use Rattle.mf_list.specs.declared.faults.UnregisterFault.TheVariants.{NotLoaded, Pinned}
-use Rattle.mf_list.specs.Lists.{ListView, CatalogueView, entry_in, in_catalogue}
+use Rattle.mf_list.specs.Lists.{ListView, CatalogueView, in_catalogue}
 
 -- the slot of a module where so many numbers were given: the next one where it wants one
 abbrev pub slot_for : Bool → ℕ → Option ℕ
@@ -45,7 +46,7 @@ register_verdict_by_name (Some m) booted list catalogue given = register_verdict
 -- the answer to an unregistration, by the first test that fits
 abbrev pub unregister_verdict : Module → ListView → Result Registration UnregisterFault
 unregister_verdict m list =
-    elim (entry_in m list.entries) [
+    elim (find (is_of m) list.entries) [
       | None ↦ Err NotLoaded
       | Some entry ↦ cond (is_unloadok (flags_of m)) (Ok entry.0) (Err Pinned)
     ]
@@ -103,4 +104,4 @@ change_at m change entries (Some entry) =
 
 -- the answer to a change of the module's policy, and the list after it; a module that isn't listed has no setting
 abbrev pub change_in : Module → Change → List Entry → Changed × List Entry
-change_in m change entries = change_at m change entries (entry_in m entries)
+change_in m change entries = change_at m change entries (find (is_of m) entries)

@@ -1,7 +1,6 @@
 //! The policies that are not listed.
-ghost use Rattle.std.specs.Prelude.{◌≡◌, ◌+◌, ◌<◌, ◌≤◌, ◌++◌, ◌∷◌, [], All, map, IsTrue, length, position, OnOk, OnErr, OnSome, IfSome, IfNone, is_some, Some, None, MatchOption, Option, false};
-ghost use Rattle.mf_errno.specs.Module.{IsModuleNamed};
-ghost use Rattle.mf_errno.specs.declared.module.Module.{Module};
+ghost use Rattle.std.specs.Prelude.{◌≡◌, ◌+◌, ◌<◌, ◌≤◌, ◌++◌, ◌∷◌, [], All, map, IsTrue, length, position, OnOk, OnErr, OnSome, IfSome, IfNone, is_some, Some, None, MatchOption, false};
+ghost use Rattle.mf_errno.specs.Module.{module_named, same_module};
 ghost use Rattle.mf_policy.specs.Modules as facts;
 ghost use Rattle.mf_list.specs.Held.{are_distinct};
 ghost use Rattle.mf_list.specs.Lists.{IsFresh, in_catalogue};
@@ -10,7 +9,7 @@ ghost use Rattle.mf_list.specs.Registration.{is_known, modules_without};
 
 use crate::policy_list::PolicyList;
 use mf_errno::Module;
-use mf_policy::{Policy, same_module};
+use mf_policy::Policy;
 use std::alloc::{AllocError, Global};
 use std::marker::Model;
 
@@ -45,7 +44,7 @@ impl<P: Policy> Catalogue<P> {
 
     /// Whether the list or the catalogue has the module of that name.
     pub fn knows(&self, list: &PolicyList<P>, name: &str) -> bool
-        ensures { (named : Option Module) → IsModuleNamed name.now named → result ≡ is_known named list.now self.now }
+        ensures { result ≡ is_known (module_named name.now) list.now self.now }
     {
         match Module::from_name(name) {
             Some(wanted) => list.holds(wanted) || self.holds(wanted),
@@ -73,7 +72,7 @@ impl<P: Policy> Catalogue<P> {
     }
 
     fn position_of(&self, wanted: Module) -> Option<usize>
-        ensures { result ≡ position (facts.same_module wanted) self.now.modules }
+        ensures { result ≡ position (same_module wanted) self.now.modules }
     {
         first_of(self.policies.as_slice(), wanted)
     }
@@ -128,13 +127,13 @@ impl<P: Policy> Catalogue<P> {
 
 /// The first place of the module.
 fn first_of<P: Policy>(policies: &[P], wanted: Module) -> Option<usize>
-    ensures { result ≡ position (λ p. facts.same_module wanted (facts.module_of (P.spec p))) policies.now }
+    ensures { result ≡ position (λ p. same_module wanted (facts.module_of (P.spec p))) policies.now }
 {
     policies.iter().position(|policy| is_of(policy, wanted))
 }
 
 fn is_of<P: Policy>(policy: &P, wanted: Module) -> bool
-    ensures { result ≡ facts.same_module wanted (facts.module_of (P.spec policy.now)) }
+    ensures { result ≡ same_module wanted (facts.module_of (P.spec policy.now)) }
 {
-    same_module(wanted, policy.module())
+    wanted.is(policy.module())
 }

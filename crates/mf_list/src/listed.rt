@@ -8,7 +8,7 @@ ghost use Rattle.mf_list.specs.Lists.{IsEntry, is_dynamic};
 
 use mf_errno::{Errno, Module};
 use mf_item::Item;
-use mf_policy::{Change, Changed, LoadFlags, Policy, Registration, Spec, same_module};
+use mf_policy::{Change, Changed, LoadFlags, Policy, Registration, Spec};
 use std::alloc::{AllocError, Global};
 use std::marker::Model;
 
@@ -54,7 +54,7 @@ impl<P: Policy> Listed<P> {
     pub fn is_of(&self, wanted: Module) -> bool
         ensures { result ≡ is_of wanted self.now }
     {
-        same_module(wanted, self.registration.module)
+        wanted.is(self.registration.module)
     }
 
     /// Whether it is in the dynamic list.

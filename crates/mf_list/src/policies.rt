@@ -1,7 +1,6 @@
 //! The list and the catalogue together, as one value.
-ghost use Rattle.std.specs.Prelude.{◌≡◌, [], All, map, IsTrue, Option, OnOk, OnErr, IfOk};
-ghost use Rattle.mf_errno.specs.Module.{IsModuleNamed};
-ghost use Rattle.mf_errno.specs.declared.module.Module.{Module};
+ghost use Rattle.std.specs.Prelude.{◌≡◌, [], All, map, IsTrue, OnOk, OnErr, IfOk};
+ghost use Rattle.mf_errno.specs.Module.{module_named};
 ghost use Rattle.mf_policy.specs.Modules as facts;
 ghost use Rattle.mf_list.specs.Held.{HoldsTheSame, are_distinct};
 ghost use Rattle.mf_list.specs.Lists.{IsFresh, IsReady};
@@ -57,7 +56,7 @@ impl<P: Policy> Policies<P> {
 
     /// Whether there is a module of that name, listed or not.
     pub fn knows(&self, name: &str) -> bool
-        ensures { (named : Option Module) → IsModuleNamed name.now named → result ≡ is_known named self.now.list self.now.catalogue }
+        ensures { result ≡ is_known (module_named name.now) self.now.list self.now.catalogue }
     {
         self.catalogue.knows(&self.list, name)
     }
@@ -81,7 +80,7 @@ impl<P: Policy> Policies<P> {
         booted: bool,
     ) -> Result<Registration, RegisterFault>
         requires { IsReady self.old.list self.old.catalogue }
-        ensures verdict { (named : Option Module) → IsModuleNamed name.now named → result ≡ register_verdict_by_name named booted self.old.list self.old.catalogue numbers.old }
+        ensures verdict { result ≡ register_verdict_by_name (module_named name.now) booted self.old.list self.old.catalogue numbers.old }
         ensures ok { IfOk result (λ r. Registers r self.old.list self.new.list self.old.catalogue self.new.catalogue numbers.old numbers.new) }
         ensures err { OnErr result ((self.new ≡ self.old) × (numbers.new ≡ numbers.old)) }
         ensures held { HoldsTheSame self.old self.new }
@@ -94,7 +93,7 @@ impl<P: Policy> Policies<P> {
     /// Takes the module of that name off the list, as `PolicyList::unregister` does.
     pub fn unregister(&mut self, name: &str) -> Result<Registration, UnregisterFault>
         requires { IsReady self.old.list self.old.catalogue }
-        ensures verdict { (named : Option Module) → IsModuleNamed name.now named → result ≡ unregister_verdict_by_name named self.old.list }
+        ensures verdict { result ≡ unregister_verdict_by_name (module_named name.now) self.old.list }
         ensures ok { IfOk result (λ r. Unregisters r.«module» self.old.list self.new.list self.old.catalogue self.new.catalogue) }
         ensures err { OnErr result (self.new ≡ self.old) }
         ensures held { HoldsTheSame self.old self.new }

@@ -1,7 +1,6 @@
 //! Registration: policies come from the catalogue into the list, and go back.
-ghost use Rattle.std.specs.Prelude.{◌≡◌, ◌+◌, ◌<◌, ◌++◌, ◌∷◌, [], OnErr, IfOk, Option, true, false, ◌||◌, ◌&&◌, nat_le, if◌then◌else◌, Ok, Err, Some, None, IfSome, is_some, slice_index_or};
-ghost use Rattle.mf_errno.specs.Module.{IsModuleNamed};
-ghost use Rattle.mf_errno.specs.declared.module.Module.{Module};
+ghost use Rattle.std.specs.Prelude.{◌≡◌, ◌+◌, ◌<◌, ◌++◌, ◌∷◌, [], OnErr, IfOk, true, false, ◌||◌, ◌&&◌, nat_le, if◌then◌else◌, Ok, Err, Some, None, IfSome, is_some, slice_index_or};
+ghost use Rattle.mf_errno.specs.Module.{module_named};
 ghost use Rattle.mf_policy.specs.Modules as facts;
 ghost use Rattle.mf_policy.specs.Registration.{Entry, is_listed};
 ghost use Rattle.mf_list.specs.Lists.{HasSlot, IsReady, in_catalogue};
@@ -35,7 +34,7 @@ impl<P: Policy> PolicyList<P> {
         booted: bool,
     ) -> Result<Registration, RegisterFault>
         requires { IsReady self.old catalogue.old }
-        ensures verdict { (named : Option Module) → IsModuleNamed name.now named → result ≡ register_verdict_by_name named booted self.old catalogue.old numbers.old }
+        ensures verdict { result ≡ register_verdict_by_name (module_named name.now) booted self.old catalogue.old numbers.old }
         ensures ok { IfOk result (λ r. Registers r self.old self.new catalogue.old catalogue.new numbers.old numbers.new) }
         ensures err { OnErr result ((self.new ≡ self.old) × (catalogue.new ≡ catalogue.old) × (numbers.new ≡ numbers.old)) }
         ensures ready { IsReady self.new catalogue.new }
@@ -140,7 +139,7 @@ impl<P: Policy> PolicyList<P> {
         name: &str,
     ) -> Result<Registration, UnregisterFault>
         requires { IsReady self.old catalogue.old }
-        ensures verdict { (named : Option Module) → IsModuleNamed name.now named → result ≡ unregister_verdict_by_name named self.old }
+        ensures verdict { result ≡ unregister_verdict_by_name (module_named name.now) self.old }
         ensures ok { IfOk result (λ r. Unregisters r.«module» self.old self.new catalogue.old catalogue.new) }
         ensures err { OnErr result ((self.new ≡ self.old) × (catalogue.new ≡ catalogue.old)) }
         ensures ready { IsReady self.new catalogue.new }

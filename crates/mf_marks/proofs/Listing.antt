@@ -3,6 +3,7 @@ use Rattle.std.proofs.Common.{◌≡◌, ℕ, ◌<◌, ◌≤◌, ◌+◌, Bool,
 use Rattle.std.specs.Prelude.{find, filter, if◌then◌else◌}
 use Rattle.std.specs.List.{AllByRecursion}
 use Rattle.std.proofs.lemmas.Bool.Decides.{nat_tests}
+use Rattle.mf_errno.specs.Module.{same_module}
 use Rattle.mf_errno.specs.declared.errno.Errno.{Errno}
 use Rattle.mf_errno.specs.declared.errno.Errno.TheVariants.{Ebusy}
 use Rattle.mf_errno.specs.declared.module.Module.{Module}
@@ -11,9 +12,9 @@ use Rattle.mf_item.specs.declared.view.Kind.{Kind}
 use Rattle.mf_policy.specs.declared.registration.Registration.{Registration}
 use Rattle.mf_policy.specs.declared.spec.Spec.{Spec}
 use Rattle.mf_policy.specs.LoadFlags.{is_notlate, is_unloadok}
-use Rattle.mf_policy.specs.Modules.{flags_of, fresh_of, wants_slot, labels_kind, same_module}
+use Rattle.mf_policy.specs.Modules.{flags_of, fresh_of, wants_slot, labels_kind}
 use Rattle.mf_policy.specs.Registration.{Entry, is_of}
-use Rattle.mf_list.proofs.Places.{same_module-is}
+use Rattle.mf_errno.proofs.Modules.{same_module-is}
 use Rattle.mf_list.specs.Registration.{slot_for, registration_of, with_newest, entries_without}
 use Rattle.mf_plan.specs.declared.state.State.{State}
 use Rattle.mf_plan.specs.Loading.{load_fault}

@@ -1,5 +1,6 @@
 -- What a call may do to the state, by the shape of its effect.
 use Rattle.std.proofs.Common.{◌≡◌, ℕ, Bool, true, false, cond, List, [], Option, Some, None, drop, refl}
+use Rattle.mf_errno.specs.Module.{module_named}
 use Rattle.mf_errno.specs.declared.errno.Errno.{Errno}
 use Rattle.mf_errno.specs.declared.errno.Errno.TheVariants as errno
 use Rattle.mf_errno.specs.declared.module.Module.{Module}
@@ -22,7 +23,7 @@ use Rattle.mf_plan.specs.declared.target.Target.{Target}
 use Rattle.mf_plan.specs.declared.target.Target.TheVariants.{Root, Name, Nowhere}
 use Rattle.mf_plan.specs.Loading.{loadable, load_fault, unload_fault_of}
 use Rattle.mf_policy.specs.Registration.{is_listed}
-use Rattle.mf_plan.specs.Names.{caller_name, child_name, module_named}
+use Rattle.mf_plan.specs.Names.{caller_name, child_name}
 use Rattle.mf_plan.specs.Path.{last_name, walk_along}
 use Rattle.mf_plan.specs.Plan.{proceed, refuse_by, load_row, plan_for, plan_by}
 use Rattle.mf_plan.specs.Views.{subject_of, process_named, pipe_named, socket_named}

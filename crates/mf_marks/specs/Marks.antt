@@ -5,7 +5,8 @@ use Rattle.mf_elem.specs.declared.label.LabelValue.{LabelValue}
 use Rattle.mf_elem.specs.declared.label.LabelValue.TheVariants.{Unset, Range, Number}
 use Rattle.mf_item.specs.declared.view.Kind.{Kind}
 use Rattle.mf_policy.specs.declared.registration.Registration.{Registration}
-use Rattle.mf_policy.specs.Modules.{labels_kind, same_module}
+use Rattle.mf_errno.specs.Module.{same_module}
+use Rattle.mf_policy.specs.Modules.{labels_kind}
 use Rattle.mf_policy.specs.Registration.{Entry}
 use Rattle.mf_objects.specs.declared.id.Id.{Id}
 use Rattle.mf_objects.specs.Live.{Live, kind_of, live_at}

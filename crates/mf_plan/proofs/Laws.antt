@@ -1,6 +1,7 @@
 -- What a plan says that ends with `Do`: the caller lives, and the state is one in which the call can be done.
 use Rattle.std.proofs.Common.{◌≡◌, ℕ, Bool, true, false, List, length, Option, Some, None, IsSome, Result, Ok, Err, is_some, refl, ap, ◌∙◌, arith, if◌then◌else◌}
 use Rattle.std.proofs.lemmas.Bool.{eqb-false, leb-false, ltb-false}
+use Rattle.mf_errno.specs.Module.{module_named}
 use Rattle.mf_errno.specs.declared.errno.Errno.{Errno}
 use Rattle.mf_errno.specs.declared.errno.Errno.TheVariants as errno
 use Rattle.mf_errno.specs.declared.module.Module.{Module}
@@ -21,7 +22,7 @@ use Rattle.mf_plan.specs.declared.target.Target.TheVariants.{Root, Name, Nowhere
 use Rattle.mf_plan.specs.Doing.{CanMake, CanCreate, CanWrite, CanFind, CanUnlink, CanRead, CanFill, CanDeliver, CanReceive, CanLoad, CanUnload, CanDo}
 use Rattle.mf_plan.specs.Loading.{loadable, load_fault, unload_fault, unload_fault_of}
 use Rattle.mf_policy.specs.Registration.{is_listed}
-use Rattle.mf_plan.specs.Names.{caller_name, child_name, module_named}
+use Rattle.mf_plan.specs.Names.{caller_name, child_name}
 use Rattle.mf_plan.specs.Path.{walk_along, found_at, free_at, entry_at}
 use Rattle.mf_plan.specs.Plan.{ask, on, found, or_refuse, refuse_if, refuse_by, proceed, make_row, create_row, write_row, unlink_row, deliver_row, send_row, load_row, exec_row, read_row, readdir_row, check_row, pread_row, pwrite_row, recv_row, plan_for, plan_by, plan_of}
 use Rattle.mf_plan.specs.Views.{subject_of, process_named, pipe_named, socket_named, is_full, is_dir, has_entries, overfills_file, overfills_pipe, is_full_socket, is_empty_socket}

@@ -1,6 +1,7 @@
 -- What holds in a state where the call's plan ends without a refusal, as far as the call's change needs it. That the
 -- caller lives is asked besides.
 use Rattle.std.specs.Prelude.{◌≡◌, ℕ, ◌<◌, true, false, List, length, Option, Some, None, Ok, find}
+use Rattle.mf_errno.specs.Module.{module_named}
 use Rattle.mf_errno.specs.declared.module.Module.{Module}
 use Rattle.mf_objects.specs.declared.id.Id.{Id}
 use Rattle.mf_objects.specs.Changes.{FitsBytes, FitsMessage, HasMessage}
@@ -11,7 +12,7 @@ use Rattle.mf_plan.specs.declared.state.State.{State}
 use Rattle.mf_plan.specs.declared.target.Target.TheVariants.{Name}
 use Rattle.mf_plan.specs.Loading.{loadable, load_fault, unload_fault}
 use Rattle.mf_policy.specs.Registration.{is_listed}
-use Rattle.mf_plan.specs.Names.{child_name, module_named}
+use Rattle.mf_plan.specs.Names.{child_name}
 use Rattle.mf_plan.specs.Path.{walk_along, found_at, last_name}
 use Rattle.mf_plan.specs.Views.{pipe_named, socket_named, is_dir, has_entries, overfills_file, overfills_pipe, is_full_socket, is_empty_socket}
 

@@ -1,5 +1,6 @@
 -- Which modules can be loaded and unloaded, as the list of policies and the slot numbers stand.
 use Rattle.std.specs.Prelude.{ℕ, ◌&&◌, nat_le, if◌then◌else◌, List, Option, Some, None, option_and_then}
+use Rattle.mf_errno.specs.Module.{module_named}
 use Rattle.mf_errno.specs.declared.errno.Errno.{Errno}
 use Rattle.mf_errno.specs.declared.errno.Errno.TheVariants.{Enoent, Enomem, Ebusy, Eexist}
 use Rattle.mf_errno.specs.declared.module.Module.{Module}
@@ -7,7 +8,6 @@ use Rattle.mf_policy.specs.LoadFlags.{is_notlate, is_unloadok}
 use Rattle.mf_policy.specs.Modules.{flags_of, has_spec, wants_slot}
 use Rattle.mf_policy.specs.Registration.{is_listed}
 use Rattle.mf_plan.specs.declared.state.State.{State}
-use Rattle.mf_plan.specs.Names.{module_named}
 
 -- the module, where its policy is built in
 abbrev pub if_there : Module → Option Module

@@ -15,7 +15,7 @@ mod tests;
 mod views;
 mod walk;
 
-pub use loading::{is_listed, load_fault, loadable, module_named, unload_fault};
+pub use loading::{is_listed, load_fault, loadable, unload_fault};
 pub use names::{ChildName, caller_of, child_name};
 pub use plan::{Plan, Tail};
 pub use planning::plan_of;

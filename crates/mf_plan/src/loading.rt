@@ -4,7 +4,6 @@ ghost use Rattle.mf_errno.specs.declared.privilege.Priv.TheVariants as privilege
 ghost use Rattle.mf_item.specs.declared.operation.CheckOp.TheVariants as op;
 ghost use Rattle.mf_policy.specs.Registration.{is_listed};
 ghost use Rattle.mf_plan.specs.Loading as spec;
-ghost use Rattle.mf_plan.specs.Names as names;
 ghost use Rattle.mf_plan.specs.Plan as plan;
 
 use crate::plan::Checks;
@@ -12,21 +11,14 @@ use crate::state::State;
 use mf_cred::Duplicate;
 use mf_errno::{Errno, Module, Priv};
 use mf_item::{CheckOp, Item, SubjectView};
-use mf_policy::{SpecList, flags_of, has_spec, same_module, wants_slot};
+use mf_policy::{SpecList, flags_of, has_spec, wants_slot};
 use mf_slots::SLOTS;
-
-/// The module of that name.
-pub fn module_named(name: &str) -> Option<Module>
-    ensures { result ≡ names.module_named name.now }
-{
-    Module::from_name(name)
-}
 
 /// The module of that name, where its policy is built in.
 pub fn loadable(name: &str) -> Option<Module>
     ensures { result ≡ spec.loadable name.now }
 {
-    let wanted = module_named(name)?;
+    let wanted = Module::from_name(name)?;
     if has_spec(wanted) { Some(wanted) } else { None }
 }
 
@@ -35,7 +27,7 @@ pub fn is_listed(wanted: Module, specs: &SpecList) -> bool
     ensures { result ≡ is_listed wanted specs.now }
 {
     for place in 0..specs.len() {
-        if same_module(wanted, specs.registration(place).module) {
+        if wanted.is(specs.registration(place).module) {
             return true;
         }
     }
@@ -64,7 +56,7 @@ pub fn load_fault(state: &State, wanted: Module) -> Option<Errno>
 pub fn unload_fault(state: &State, name: &str) -> Option<Errno>
     ensures { result ≡ spec.unload_fault state.now name.now }
 {
-    match module_named(name) {
+    match Module::from_name(name) {
         Some(wanted) if is_listed(wanted, &state.specs) => {
             if flags_of(wanted).is_unloadok() {
                 None

@@ -1,5 +1,5 @@
 -- The facts of each module that never change, and its spec in its initial state.
-use Rattle.std.specs.Prelude.{ℕ, Bool, true, false, nat_eq}
+use Rattle.std.specs.Prelude.{Bool, true, false}
 use Rattle.mf_errno.specs.declared.module.Module.{Module}
 use Rattle.mf_errno.specs.declared.module.Module.TheVariants as modules
 use Rattle.mf_item.specs.declared.view.Kind.{Kind}
@@ -57,15 +57,3 @@ labels_kind modules.Partition kinds.Vnode = false
 labels_kind modules.Partition kinds.Pipe = false
 labels_kind modules.Bsdextended kind = false
 labels_kind modules.Priority kind = false
-
--- a number for each module, which tells it from the others
-abbrev pub module_number : Module → ℕ
-module_number modules.Biba = 0
-module_number modules.Mls = 1
-module_number modules.Partition = 2
-module_number modules.Bsdextended = 3
-module_number modules.Priority = 4
-
--- whether two modules are one
-abbrev pub same_module : Module → Module → Bool
-same_module m other = nat_eq (module_number m) (module_number other)

@@ -14,7 +14,7 @@ mod spec_list;
 pub use elements::element_answer;
 pub use labels::{asked, errno_unless, object_label, slot_label};
 pub use load_flags::LoadFlags;
-pub use modules::{flags_of, has_spec, labels_kind, same_module, wants_slot};
+pub use modules::{flags_of, has_spec, labels_kind, wants_slot};
 pub use policy::Policy;
 pub use registration::Registration;
 pub use relabel::{credential_relabel, object_relabel};

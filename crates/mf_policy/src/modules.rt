@@ -48,13 +48,6 @@ pub fn labels_kind(module: Module, kind: Kind) -> bool
     }
 }
 
-/// Whether two modules are one.
-pub fn same_module(module: Module, other: Module) -> bool
-    ensures { result ≡ facts.same_module «module» other }
-{
-    module == other
-}
-
 #[cfg(test)]
 mod tests {
     use super::*;

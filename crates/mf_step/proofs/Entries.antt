@@ -3,13 +3,13 @@ use Rattle.std.proofs.Common.{◌≡◌, ℕ, ◌+◌, ◌<◌, Bool, true, fals
 use Rattle.std.specs.List.{insert, remove}
 use Rattle.std.proofs.lemmas.List.{take_more, drop_more, take-append-drop, map-append}
 use Rattle.std.proofs.Math.Seq.{drop-length}
+use Rattle.mf_errno.specs.Module.{same_module}
 use Rattle.mf_errno.specs.declared.module.Module.{Module}
 use Rattle.mf_errno.specs.declared.module.Module.TheVariants as modules
 use Rattle.mf_policy.specs.declared.registration.Registration.{Registration}
 use Rattle.mf_policy.specs.declared.spec.Spec.TheVariants as means
 use Rattle.mf_policy.specs.Registration.{Entry, is_of}
 use Rattle.mf_plan.specs.declared.reply.Loaded.{Loaded}
-use Rattle.mf_policy.specs.Modules.{same_module}
 use Rattle.mf_list.specs.Registration.{entries_without, with_newest}
 use Rattle.mf_step.specs.Reply.{loaded}
 

@@ -1,5 +1,6 @@
 -- What no call changes: whether boot has ended. And how far the next id goes on.
 use Rattle.std.proofs.Common.{◌≡◌, ℕ, ◌+◌, ◌≤◌, List, Option, Some, None, Result, Ok, Err, OnOk, OnErr, Bool, true, false, drop, refl, sym, subst, arith}
+use Rattle.mf_errno.specs.Module.{module_named}
 use Rattle.mf_errno.specs.declared.module.Module.{Module}
 use Rattle.mf_objects.specs.declared.id.Id.{Id}
 use Rattle.mf_objects.specs.declared.entity.What.{What}
@@ -10,7 +11,6 @@ use Rattle.mf_plan.specs.declared.state.State.{State}
 use Rattle.mf_plan.specs.declared.target.Target.{Target}
 use Rattle.mf_plan.specs.declared.target.Target.TheVariants.{Root, Name, Nowhere}
 use Rattle.mf_plan.specs.Loading.{loadable}
-use Rattle.mf_plan.specs.Names.{module_named}
 use Rattle.mf_plan.specs.Path.{last_name, walk_along}
 use Rattle.mf_plan.specs.Views.{pipe_named, socket_named}
 use Rattle.mf_step.specs.Effect.{effect_of, with_changed, with_file, with_loaded, with_unloaded, without_entry}

@@ -1,5 +1,6 @@
 -- What a call changes where it is done.
 use Rattle.std.specs.Prelude.{ℕ, ◌+◌, Bool, true, false, if◌then◌else◌, List, [], drop, Option, Some, None}
+use Rattle.mf_errno.specs.Module.{module_named}
 use Rattle.mf_errno.specs.declared.module.Module.{Module}
 use Rattle.mf_cred.specs.declared.cred.FileView.{FileView}
 use Rattle.mf_item.specs.declared.view.Kind.{Kind}
@@ -17,7 +18,7 @@ use Rattle.mf_plan.specs.declared.state.State.{State}
 use Rattle.mf_plan.specs.declared.target.Target.{Target}
 use Rattle.mf_plan.specs.declared.target.Target.TheVariants.{Root, Name, Nowhere}
 use Rattle.mf_plan.specs.Loading.{loadable}
-use Rattle.mf_plan.specs.Names.{child_name, module_named}
+use Rattle.mf_plan.specs.Names.{child_name}
 use Rattle.mf_plan.specs.Path.{last_name, walk_along}
 use Rattle.mf_plan.specs.Views.{pipe_named, socket_named}
 use Rattle.mf_step.specs.Labels.{created_label}

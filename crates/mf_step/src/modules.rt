@@ -1,17 +1,17 @@
 //! What the calls that load and unload modules change.
 ghost use Rattle.std.specs.Prelude.{◌≡◌, ◌<◌, ◌≤◌, OnOk, OnErr, IfSome, IsTrue, MatchOption, false, length};
 ghost use Rattle.std.specs.List.{insert, remove};
+ghost use Rattle.mf_errno.specs.Module.{module_named};
 ghost use Rattle.mf_list.specs.Registration as registration;
 ghost use Rattle.mf_plan.specs.Doing.{CanLoad};
 ghost use Rattle.mf_plan.specs.Loading as loading;
-ghost use Rattle.mf_plan.specs.Names as names;
 ghost use Rattle.mf_policy.specs.Modules as facts;
 ghost use Rattle.mf_policy.specs.Registration.{Entry};
 ghost use Rattle.mf_step.specs.Effect as spec;
 
 use mf_errno::Module;
-use mf_plan::{State, loadable, module_named};
-use mf_policy::{Registration, Spec, SpecList, flags_of, same_module, wants_slot};
+use mf_plan::{State, loadable};
+use mf_policy::{Registration, Spec, SpecList, flags_of, wants_slot};
 use mf_slots::SlotNumbers;
 use std::alloc::{AllocError, Global};
 
@@ -87,9 +87,9 @@ fn static_len(specs: &SpecList) -> usize
 
 /// Takes the module of that name off the list.
 pub(crate) fn kldunload(state: &mut State, name: &str)
-    ensures { state.new ≡ spec.with_unloaded state.old (names.module_named name.now) }
+    ensures { state.new ≡ spec.with_unloaded state.old (module_named name.now) }
 {
-    if let Some(wanted) = module_named(name) {
+    if let Some(wanted) = Module::from_name(name) {
         unload(&mut state.specs, wanted);
     }
 }
@@ -109,7 +109,7 @@ fn place_of(specs: &SpecList, wanted: Module) -> Option<usize>
         (λ place. remove specs.now place ≡ registration.entries_without wanted specs.now) }
 {
     for place in 0..specs.len() {
-        if same_module(wanted, specs.registration(place).module) {
+        if wanted.is(specs.registration(place).module) {
             return Some(place);
         }
     }

@@ -2,9 +2,9 @@ use Rattle.std.proofs.Common.{ℕ, List, true, ap, sym, ◌∙◌}
 use Rattle.mf_script.specs.declared.script.Call.{Call}
 use Rattle.mf_list.proofs.Held.{held_after_register, held_after_unregister}
 use Rattle.mf_list.specs.Registration.{register_verdict_by_name, unregister_verdict_by_name}
-use Rattle.mf_plan.specs.Names.{module_named}
+use Rattle.mf_errno.specs.Module.{module_named}
 use Rattle.mf_core.specs.Policies.{listed_after, registered, unregistered}
-use Rattle.mf_core.proofs.SameLists.{entries_registered, entries_unregistered, is_named}
+use Rattle.mf_core.proofs.SameLists.{entries_registered, entries_unregistered}
 use Rattle.mf_core.proofs.following.follow_call.Goals as goal
 
 pub returns-in-Kldload-clause-entries : goal.returns-in-Kldload-clause-entries
@@ -13,7 +13,7 @@ returns-in-Kldload-clause-entries g c =
     let catalogue = c.args.catalogue.now in
     let given = c.args.numbers.now in
     entries_registered _ _ _ _ _ _ c.register.result c.register.ensures.ok c.register.ensures.err
-    ∙ ap (registered list.entries) (c.register.ensures.verdict (module_named c.as_str.result.now) (is_named c.as_str.result.now))
+    ∙ ap (registered list.entries) {y = register_verdict_by_name (module_named c.as_str.result.now) true list catalogue given} c.register.ensures.verdict
     ∙ ap (λ (name : List ℕ). registered list.entries (register_verdict_by_name (module_named name) true list catalogue given)) c.as_str.ensures
     ∙ sym (ap (λ (call : Call). listed_after call list catalogue given) c.in-Kldload.is)
 
@@ -27,7 +27,7 @@ returns-in-Kldunload-clause-entries g c =
     let catalogue = c.args.catalogue.now in
     let given = c.args.numbers.now in
     entries_unregistered _ _ _ _ c.unregister.result c.unregister.ensures.ok c.unregister.ensures.err
-    ∙ ap (unregistered list.entries) (c.unregister.ensures.verdict (module_named c.as_str-in-Kldunload.result.now) (is_named c.as_str-in-Kldunload.result.now))
+    ∙ ap (unregistered list.entries) c.unregister.ensures.verdict
     ∙ ap (λ (name : List ℕ). unregistered list.entries (unregister_verdict_by_name (module_named name) list)) c.as_str-in-Kldunload.ensures
     ∙ sym (ap (λ (call : Call). listed_after call list catalogue given) c.in-Kldunload.is)
 

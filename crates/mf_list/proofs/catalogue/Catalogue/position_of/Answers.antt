@@ -1,6 +1,7 @@
 use Rattle.std.proofs.Common.{◌∙◌, ap, sym}
 use Rattle.std.specs.List.{position}
-use Rattle.mf_policy.specs.Modules.{module_of, same_module}
+use Rattle.mf_errno.specs.Module.{same_module}
+use Rattle.mf_policy.specs.Modules.{module_of}
 use Rattle.mf_list.specs.Lists.{CatalogueView}
 use Rattle.mf_list.proofs.Maps.{map-position}
 use Rattle.mf_list.proofs.catalogue.Catalogue.position_of.Goals as goal

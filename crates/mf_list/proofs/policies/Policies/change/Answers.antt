@@ -1,6 +1,6 @@
 use Rattle.std.proofs.Common.{ℕ, ◌+◌, ◌∙◌, ap, arith}
 use Rattle.mf_list.specs.Held.{PoliciesView, how_many, times_held}
-use Rattle.mf_policy.specs.Modules.{same_module}
+use Rattle.mf_errno.specs.Module.{same_module}
 use Rattle.mf_list.proofs.Held.{listed_after_change}
 use Rattle.mf_list.proofs.policies.Policies.change.Goals as goal
 
