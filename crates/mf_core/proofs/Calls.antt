@@ -16,7 +16,7 @@ use Rattle.mf_core.specs.declared.progress.Turn.TheVariants as turns
 use Rattle.mf_core.specs.declared.history.Event.TheVariants as events
 use Rattle.mf_core.specs.declared.history.History.{History}
 use Rattle.mf_core.specs.Log.{Log}
-use Rattle.mf_core.specs.Laws.{none_open-entries}
+use Rattle.mf_core.proofs.Laws.{none_open-entries}
 use Rattle.mf_core.specs.LegalHistory.{next_line, next_reply, next_state}
 use Rattle.mf_core.specs.Policies.{AreOf, listed_after, listed_after_reply}
 use Rattle.mf_core.specs.Progress.{progress_at, open_entries, with_line, with_phase, NoneOpen}

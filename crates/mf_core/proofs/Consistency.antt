@@ -24,7 +24,7 @@ use Rattle.mf_core.specs.Opening.{boots_of, opening_state}
 use Rattle.mf_core.specs.Progress.{progress_at, first_progress, with_phase, with_line, left_at, with_left, NoneOpen}
 use Rattle.mf_core.specs.LegalHistory.{RunState, MayCome, AllMayCome, after, is_change, run_state_of, opening, appended, reply_at, state_at, turn_at_line, turn_in, turn_of, next_line, next_reply, next_state}
 use Rattle.mf_core.specs.Run.{IsAtEntry, IsConsistent, HasLine, events_left, events_by, lines_in}
-use Rattle.mf_core.specs.Laws.{AllMayCome-append, run_state_after-append, progress_at-first, line_at_entry, line_at_change, entry_call, change_call}
+use Rattle.mf_core.proofs.Laws.{AllMayCome-append, run_state_after-append, progress_at-first, line_at_entry, line_at_change, entry_call, change_call}
 
 -- one event less is left where at least one more came at a task
 pub events_left-set : (ts : List Task) (xs : List Progress) (t : ℕ) (y : Progress) → t < length ts → length xs ≡ length ts

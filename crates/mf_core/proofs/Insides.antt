@@ -21,7 +21,7 @@ use Rattle.mf_core.specs.Log.{Log}
 use Rattle.mf_core.specs.Progress.{progress_at, first_progress, Moves}
 use Rattle.mf_core.specs.LegalHistory.{RunState, after, appended, opening, run_state_of, turn_of, next_line, next_number, next_reply}
 use Rattle.mf_core.specs.Run.{Run, IsChanged, IsConsistent, next_plan, plan_at, progress_of, run_state, specs_of, turn_at}
-use Rattle.mf_core.specs.Laws.{run_state_after-append}
+use Rattle.mf_core.proofs.Laws.{run_state_after-append}
 
 -- a line of a well-formed script
 line_in : (boots : List _) (tasks : List Task) (t n : ℕ) (line : Line) → All (IsFormedTask boots) tasks

@@ -1,3 +1,4 @@
+pub mod Laws
 pub mod Consistency
 pub mod Counting
 pub mod Boots

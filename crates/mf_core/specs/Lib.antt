@@ -4,4 +4,3 @@ pub mod Progress
 pub mod LegalHistory
 pub mod Policies
 pub mod Run
-pub mod Laws

@@ -15,11 +15,11 @@ mod tests;
 mod views;
 mod walk;
 
-pub use loading::{is_listed, load_fault, loadable, unload_fault};
+pub use loading::loadable;
 pub use names::{ChildName, caller_of, child_name};
 pub use plan::{Plan, Tail};
 pub use planning::plan_of;
 pub use reply::{Loaded, Payload, Reply};
 pub use state::State;
 pub use target::Target;
-pub use walk::{Lookups, Walk, target_of, walk_along};
+pub use walk::{Walk, target_of, walk_along};

@@ -23,7 +23,7 @@ pub fn loadable(name: &str) -> Option<Module>
 }
 
 /// Whether the module is listed.
-pub fn is_listed(wanted: Module, specs: &SpecList) -> bool
+pub(crate) fn is_listed(wanted: Module, specs: &SpecList) -> bool
     ensures { result ≡ is_listed wanted specs.now }
 {
     for place in 0..specs.len() {
@@ -36,7 +36,7 @@ pub fn is_listed(wanted: Module, specs: &SpecList) -> bool
 
 /// Why the module can't be loaded, None where it can: EBUSY where boot has ended and it has the flag NOTLATE, EEXIST
 /// where it is loaded, ENOMEM where it wants a label slot and all were given.
-pub fn load_fault(state: &State, wanted: Module) -> Option<Errno>
+pub(crate) fn load_fault(state: &State, wanted: Module) -> Option<Errno>
     ensures { result ≡ spec.load_fault state.now wanted }
 {
     if state.booted && flags_of(wanted).is_notlate() {
@@ -53,7 +53,7 @@ pub fn load_fault(state: &State, wanted: Module) -> Option<Errno>
 
 /// Why the module of that name can't be unloaded, None where it can: ENOENT where it isn't loaded, EBUSY where it lacks
 /// the flag UNLOADOK.
-pub fn unload_fault(state: &State, name: &str) -> Option<Errno>
+pub(crate) fn unload_fault(state: &State, name: &str) -> Option<Errno>
     ensures { result ≡ spec.unload_fault state.now name.now }
 {
     match Module::from_name(name) {
@@ -80,9 +80,7 @@ pub(crate) fn kldload(
         ≡ plan.ask (plan.privileged me.now privilege.KldLoad) (plan.load_row state.now me.now (spec.loadable name.now)) }
 {
     checks.push(privileged(me, Priv::KldLoad));
-    let Some(wanted) = loadable(name) else {
-        return Err(Errno::Enoent);
-    };
+    let wanted = loadable(name).ok_or(Errno::Enoent)?;
     checks.push(about_modules(me, CheckOp::KldLoad));
     none_or_err(load_fault(state, wanted))
 }

@@ -54,9 +54,7 @@ pub(crate) fn on_process(
     ensures { spec.ended checks.new result
         ≡ spec.found errno.Esrch (spec.check_row objects.now me.now op) (view.process_named objects.now name.now) }
 {
-    let Some(id) = objects.process(name) else {
-        return Err(Errno::Esrch);
-    };
+    let id = objects.process(name).ok_or(Errno::Esrch)?;
     checks.push(on(objects, me, op, id));
     Ok(())
 }
@@ -72,9 +70,7 @@ pub(crate) fn pstat(
     ensures { spec.ended checks.new result
         ≡ spec.found errno.Enoent (spec.check_row objects.now me.now op.PipeStat) (view.pipe_named objects.now name.now) }
 {
-    let Some(id) = objects.pipe(name) else {
-        return Err(Errno::Enoent);
-    };
+    let id = objects.pipe(name).ok_or(Errno::Enoent)?;
     checks.push(on(objects, me, CheckOp::PipeStat, id));
     Ok(())
 }
@@ -89,9 +85,7 @@ pub(crate) fn pread(
     ensures { spec.ended checks.new result
         ≡ spec.found errno.Enoent (spec.pread_row objects.now me.now) (view.pipe_named objects.now name.now) }
 {
-    let Some(id) = objects.pipe(name) else {
-        return Err(Errno::Enoent);
-    };
+    let id = objects.pipe(name).ok_or(Errno::Enoent)?;
     checks.push(on(objects, me, CheckOp::PipeRead, id));
     if objects.size(id) == 0 {
         return Err(Errno::Eagain);
@@ -111,9 +105,7 @@ pub(crate) fn pwrite(
     ensures { spec.ended checks.new result
         ≡ spec.found errno.Enoent (spec.pwrite_row objects.now me.now text.now) (view.pipe_named objects.now name.now) }
 {
-    let Some(id) = objects.pipe(name) else {
-        return Err(Errno::Enoent);
-    };
+    let id = objects.pipe(name).ok_or(Errno::Enoent)?;
     checks.push(on(objects, me, CheckOp::PipeWrite, id));
     if overfills_pipe(objects, text, id) {
         return Err(Errno::Eagain);
@@ -134,13 +126,9 @@ pub(crate) fn send(
     ensures { spec.ended checks.new result
         ≡ spec.found errno.Enoent (spec.send_row objects.now me.now to.now) (view.socket_named objects.now from.now) }
 {
-    let Some(from) = objects.socket(from) else {
-        return Err(Errno::Enoent);
-    };
+    let from = objects.socket(from).ok_or(Errno::Enoent)?;
     checks.push(on(objects, me, CheckOp::SocketSend, from));
-    let Some(to) = objects.socket(to) else {
-        return Err(Errno::Enoent);
-    };
+    let to = objects.socket(to).ok_or(Errno::Enoent)?;
     let sender = sender_of(objects, me, from);
     checks.push(on(objects, &sender, CheckOp::SocketDeliver, to));
     if objects.count(to) >= MOST_MESSAGES {
@@ -159,9 +147,7 @@ pub(crate) fn recv(
     ensures { spec.ended checks.new result
         ≡ spec.found errno.Enoent (spec.recv_row objects.now me.now) (view.socket_named objects.now name.now) }
 {
-    let Some(id) = objects.socket(name) else {
-        return Err(Errno::Enoent);
-    };
+    let id = objects.socket(name).ok_or(Errno::Enoent)?;
     checks.push(on(objects, me, CheckOp::SocketReceive, id));
     if objects.count(id) == 0 {
         return Err(Errno::Eagain);
@@ -180,9 +166,7 @@ pub(crate) fn seesock(
     ensures { spec.ended checks.new result
         ≡ spec.found errno.Enoent (spec.check_row objects.now me.now op.SocketVisible) (view.socket_named objects.now name.now) }
 {
-    let Some(id) = objects.socket(name) else {
-        return Err(Errno::Enoent);
-    };
+    let id = objects.socket(name).ok_or(Errno::Enoent)?;
     checks.push(on(objects, me, CheckOp::SocketVisible, id));
     Ok(())
 }

@@ -12,7 +12,7 @@ use Rattle.mf_core.specs.declared.progress.Progress.{Progress}
 use Rattle.mf_core.specs.declared.progress.Turn.{Turn}
 use Rattle.mf_core.specs.declared.progress.Turn.TheVariants as turn
 use Rattle.mf_core.specs.LegalHistory.{is_change, next_line, turn_in, turn_of}
-use Rattle.mf_core.specs.Laws.{none_open_at, open_entries-none}
+use Rattle.mf_core.proofs.Laws.{none_open_at, open_entries-none}
 use Rattle.mf_core.specs.Progress.{progress_at, IsClosed, open_entries}
 use Rattle.mf_core.specs.Run.{Run, progress_of, turn_at, Changes}
 use Rattle.mf_top.specs.Turns.{AreIdle, IsLine}

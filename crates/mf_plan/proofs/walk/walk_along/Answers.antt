@@ -3,7 +3,7 @@ use Rattle.mf_plan.proofs.Walking.{begin, live_entry, step}
 use Rattle.mf_plan.proofs.walk.walk_along.Goals as goal
 
 pub loop-name-init : goal.loop-name-init
-loop-name-init c = rw c.none-lookups.ensures (begin c.args.objects.now c.args.path.now (rw c.root.ensures.value at c.root.ensures.directory))
+loop-name-init c = rw c.new-lookups.ensures (begin c.args.objects.now c.args.path.now (rw c.root-root.ensures.value at c.root-root.ensures.directory))
 
 pub loop-name-preserved : goal.loop-name-preserved
 loop-name-preserved c =

@@ -1,6 +1,6 @@
 use Rattle.std.proofs.Common.{List, ap, sym, ◌∙◌}
 use Rattle.mf_policy.specs.declared.registration.Registration.{Registration}
-use Rattle.mf_core.specs.Laws.{progress_at-first}
+use Rattle.mf_core.proofs.Laws.{progress_at-first}
 use Rattle.mf_core.specs.Opening.{opening_objects}
 use Rattle.mf_core.proofs.Boots.{booted_once, opening_is, there_listed}
 use Rattle.mf_core.proofs.Consistency.{consistent_first}

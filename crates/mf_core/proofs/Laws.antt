@@ -56,15 +56,6 @@ pub line_at_change : (next : Option Line) → turn_at_line next ≡ turn.Change 
 line_at_change None e = cc
 line_at_change (Some line) e = (line, refl, change_call line e)
 
-finished_call : (line : Line) (b : Bool) → (if b then turn.Change else turn.Entry) ≡ turn.Finished → Some line ≡ None
-finished_call line true e = cc
-finished_call line false e = cc
-
--- a finished task has no next line
-pub no_line_at_finish : (next : Option Line) → turn_at_line next ≡ turn.Finished → next ≡ None
-no_line_at_finish None e = refl
-no_line_at_finish (Some line) e = finished_call line (is_change line.call) e
-
 -- Open entries
 
 closed_opens : (p : Phase) → IsClosed p → open_in p ≡ 0
