@@ -16,12 +16,6 @@ impl Duplicate for u32 {
     }
 }
 
-impl Duplicate for u8 {
-    fn copy(&self) -> u8 {
-        *self
-    }
-}
-
 /// A list of at most `N` items, which contracts see as the list of its items.
 #[derive(Drop)]
 pub struct ArrayVec<T, const N: usize> {
@@ -38,7 +32,7 @@ impl<T, const N: usize> Model for ArrayVec<T, N> {
     ghost invariant = { λ v. length v.inner.items ≤ N };
 }
 
-impl<T: Duplicate, const N: usize> ArrayVec<T, N> {
+impl<T: Default + Drop, const N: usize> ArrayVec<T, N> {
     /// No items.
     pub fn new() -> Self
         ensures { result ≡ [] }
@@ -81,8 +75,10 @@ impl<T: Duplicate, const N: usize> ArrayVec<T, N> {
     {
         self.inner.as_slice()
     }
+}
 
-    /// A copy.
+impl<T: Duplicate, const N: usize> ArrayVec<T, N> {
+    /// A copy, which needs no allocator.
     pub fn copy(&self) -> Self
         ensures { result ≡ self.now }
     {
@@ -94,7 +90,7 @@ impl<T: Duplicate, const N: usize> ArrayVec<T, N> {
     }
 }
 
-impl<T: Duplicate, const N: usize> Default for ArrayVec<T, N> {
+impl<T: Default + Drop, const N: usize> Default for ArrayVec<T, N> {
     ghost is_default = { λ items. items ≡ [] };
 
     fn default() -> Self {

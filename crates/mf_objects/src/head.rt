@@ -2,7 +2,7 @@
 ghost use Rattle.std.specs.Prelude.{◌≡◌, ◌^◌, ◌<◌, [], length};
 ghost use Rattle.mf_objects.specs.Head.{head_of};
 
-use mf_cred::{ArrayVec, Duplicate};
+use mf_cred::ArrayVec;
 
 /// The most bytes that a head keeps.
 pub const HEAD_BYTES: usize = 64;
@@ -30,26 +30,6 @@ impl Head {
         Head {
             len: bytes.len() as u32,
             first,
-        }
-    }
-}
-
-impl Default for Head {
-    ghost is_default = { λ head. head ≡ record { len = 0; first = [] } };
-
-    fn default() -> Head {
-        Head {
-            len: 0,
-            first: ArrayVec::new(),
-        }
-    }
-}
-
-impl Duplicate for Head {
-    fn copy(&self) -> Head {
-        Head {
-            len: self.len,
-            first: self.first.copy(),
         }
     }
 }

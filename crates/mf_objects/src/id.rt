@@ -1,8 +1,6 @@
 //! Ids of live entities.
 ghost use Rattle.std.specs.Prelude.{◌≡◌};
 
-use mf_cred::Duplicate;
-
 /// The id of an entity. Ids are given from 0 on in the order of creation, and never again.
 #[derive(Clone, Copy, PartialEq, Eq, Debug, Default)]
 pub struct Id(pub(crate) u32);
@@ -13,11 +11,5 @@ impl Id {
         ensures { result ≡ self.0 }
     {
         self.0
-    }
-}
-
-impl Duplicate for Id {
-    fn copy(&self) -> Id {
-        *self
     }
 }

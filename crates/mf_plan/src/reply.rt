@@ -1,5 +1,5 @@
 //! Replies to calls.
-use mf_cred::{ArrayVec, Duplicate, FileView};
+use mf_cred::{ArrayVec, FileView};
 use mf_errno::{Errno, Module};
 use mf_item::CheckOp;
 use mf_objects::{Head, NameList};
@@ -9,12 +9,6 @@ use mf_objects::{Head, NameList};
 pub struct Loaded {
     pub module: Module,
     pub slot: Option<u8>,
-}
-
-impl Duplicate for Loaded {
-    fn copy(&self) -> Loaded {
-        *self
-    }
 }
 
 /// What a call that is done hands back.

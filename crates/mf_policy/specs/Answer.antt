@@ -16,7 +16,7 @@ use Rattle.mf_item.specs.declared.view.ObjectView.{ObjectView}
 use Rattle.mf_policy.specs.declared.spec.Spec.{Spec}
 use Rattle.mf_policy.specs.declared.spec.Spec.TheVariants as means
 use Rattle.mf_policy.specs.Operations.{Test, PartitionTest, test_of, partition_test_of}
-use Rattle.mf_policy.specs.Operations.Test.{Observe, Modify, ObserveAndModify, SameLevel, RelabelObject, RelabelCredential, GuardModules, Pass}
+use Rattle.mf_policy.specs.Operations.Test.{Observe, Modify, ObserveAndModify, SameLevel, RelabelObject, RelabelCredential, GuardModules}
 use Rattle.mf_policy.specs.Operations.PartitionTest.{Agree, Join, Ignore}
 use Rattle.mf_policy.specs.Relabel.{credential_relabel, object_relabel}
 

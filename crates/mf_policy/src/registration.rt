@@ -1,7 +1,6 @@
 //! How a listed policy is registered.
 ghost use Rattle.std.specs.Prelude.{◌≡◌, None, false};
 
-use mf_cred::Duplicate;
 use mf_errno::Module;
 
 /// How a policy is registered: its module, the number of its label slot, in 0..=3, where it has one, and whether it is in
@@ -24,11 +23,5 @@ impl Default for Registration {
             slot: None,
             fixed: false,
         }
-    }
-}
-
-impl Duplicate for Registration {
-    fn copy(&self) -> Registration {
-        *self
     }
 }
