@@ -7,7 +7,7 @@ use Rattle.std.proofs.lemmas.Option.{slice_get_within}
 use Rattle.mf_script.specs.declared.script.Line.{Line}
 use Rattle.mf_script.specs.declared.script.Task.{Task}
 use Rattle.mf_script.specs.declared.script.Script.{Script}
-use Rattle.mf_script.specs.WellFormed.{lines_of, name_of, IsWellFormed}
+use Rattle.mf_script.specs.WellFormed.{is_change, line_count, lines_of, name_of, IsWellFormed}
 use Rattle.mf_list.specs.Held.{IsListedOnce}
 use Rattle.mf_plan.specs.declared.state.State.{State}
 use Rattle.mf_plan.specs.declared.reply.Reply.{Reply}
@@ -22,8 +22,8 @@ use Rattle.mf_core.specs.declared.history.History.{History}
 use Rattle.mf_core.specs.Log.{Log}
 use Rattle.mf_core.specs.Opening.{boots_of, opening_state}
 use Rattle.mf_core.specs.Progress.{progress_at, first_progress, with_phase, with_line, left_at, with_left, NoneOpen}
-use Rattle.mf_core.specs.LegalHistory.{RunState, MayCome, AllMayCome, after, is_change, run_state_of, opening, appended, reply_at, state_at, turn_at_line, turn_in, turn_of, next_line, next_reply, next_state}
-use Rattle.mf_core.specs.Run.{IsAtEntry, IsConsistent, HasLine, events_left, events_by, lines_in}
+use Rattle.mf_core.specs.LegalHistory.{RunState, MayCome, AllMayCome, after, run_state_of, opening, appended, reply_at, state_at, turn_at_line, turn_in, turn_of, next_line, next_reply, next_state}
+use Rattle.mf_core.specs.Run.{IsAtEntry, IsConsistent, HasLine, events_left, events_by}
 use Rattle.mf_core.proofs.Laws.{AllMayCome-append, run_state_after-append, progress_at-first, line_at_entry, line_at_change, entry_call, change_call}
 
 -- one event less is left where at least one more came at a task
@@ -284,12 +284,12 @@ places_first : (ts : List Task) → length (map (λ (x : Task). first_progress) 
 places_first [] = refl
 places_first (x ∷ ts) = ap suc (places_first ts)
 
-events_first : (ts : List Task) → events_left ts (map (λ (x : Task). first_progress) ts) ≡ 3 * sum_by lines_in ts
+events_first : (ts : List Task) → events_left ts (map (λ (x : Task). first_progress) ts) ≡ 3 * sum_by line_count ts
 events_first [] = refl
-events_first (x ∷ ts) = omega (arith, events_first ts, sum_by-cons lines_in x ts)
+events_first (x ∷ ts) = omega (arith, events_first ts, sum_by-cons line_count x ts)
 
 pub consistent_first : (s : Script) (h : History) (state : State) (progress : List Progress) (n : ℕ) → IsWellFormed s
-    → h.boots ≡ boots_of s → h.events ≡ record { list = []; room = 3 * n } → n ≡ sum_by lines_in s.tasks → n ≤ 65536
+    → h.boots ≡ boots_of s → h.events ≡ record { list = []; room = 3 * n } → n ≡ sum_by line_count s.tasks → n ≤ 65536
     → state ≡ opening_state s → IsListedOnce state.specs → state.objects.next ≤ 273 → progress ≡ map (λ (x : Task). first_progress) s.tasks
     → IsConsistent s h state progress
 consistent_first s h state progress n formed boots events count few state_is once ids progress_is =

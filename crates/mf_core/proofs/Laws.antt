@@ -6,13 +6,14 @@ use Rattle.std.proofs.lemmas.List.Sums.{sum_by-cons}
 use Rattle.mf_script.specs.declared.script.Line.{Line}
 use Rattle.mf_script.specs.declared.script.Task.{Task}
 use Rattle.mf_script.specs.declared.script.Script.{Script}
+use Rattle.mf_script.specs.WellFormed.{is_change}
 use Rattle.mf_core.specs.declared.progress.Phase.{Phase}
 use Rattle.mf_core.specs.declared.progress.Phase.TheVariants.{Idle, Entered, Done, Stopped}
 use Rattle.mf_core.specs.declared.progress.Progress.{Progress}
 use Rattle.mf_core.specs.declared.progress.Turn.TheVariants as turn
 use Rattle.mf_core.specs.declared.history.Event.{Event}
 use Rattle.mf_core.specs.Progress.{progress_at, first_progress, IsClosed, NoneOpen, open_in, open_entries}
-use Rattle.mf_core.specs.LegalHistory.{RunState, MayCome, AllMayCome, after, is_change, run_state_after, turn_at_line}
+use Rattle.mf_core.specs.LegalHistory.{RunState, MayCome, AllMayCome, after, run_state_after, turn_at_line}
 
 pub AllMayCome-append : (s : Script) (r : RunState) (es : List Event) (e : Event) → AllMayCome s r es → MayCome s (run_state_after s r es) e → AllMayCome s r (es ++ e ∷ [])
 AllMayCome-append s r [] e all may = (may, tt)

@@ -41,7 +41,7 @@ use Rattle.mf_step.specs.Effect.{effect_of, with_changed, with_file, with_loaded
 use Rattle.mf_step.specs.Reply.{denied_reply, file_at_path, payload_of, reply_to, tail_reply}
 use Rattle.mf_step.specs.Step.{after_reply, performed, performed_by, step_reply, step_state}
 use Rattle.mf_step.specs.Verdict.{verdict_of}
-use Rattle.mf_core.specs.LegalHistory.{is_change}
+use Rattle.mf_script.specs.WellFormed.{is_change}
 use Rattle.mf_core.specs.Policies.{AreOf, listed_after, listed_after_reply, registered, times_wanted, unregistered}
 use Rattle.mf_core.proofs.Counting.{none_counted, some_passes, wanted_once}
 use Rattle.mf_core.proofs.Consistency.{Follows}

@@ -1,10 +1,8 @@
 -- Which histories are legal for a script, and the state that a history determines.
-use Rattle.std.specs.Prelude.{◌≡◌, ◌⊎◌, ℕ, ◌+◌, ◌<◌, Bool, true, false, if◌then◌else◌, List, [], ◌∷◌, ◌++◌, length, map, Option, Some, None, slice_get}
-use Rattle.mf_script.specs.declared.script.Call.{Call}
-use Rattle.mf_script.specs.declared.script.Call.TheVariants as call
+use Rattle.std.specs.Prelude.{◌≡◌, ◌⊎◌, ℕ, ◌+◌, ◌<◌, if◌then◌else◌, List, [], ◌∷◌, ◌++◌, length, map, Option, Some, None, slice_get}
 use Rattle.mf_script.specs.declared.script.Line.{Line}
 use Rattle.mf_script.specs.declared.script.Script.{Script}
-use Rattle.mf_script.specs.WellFormed.{lines_of, name_of, IsWellFormed}
+use Rattle.mf_script.specs.WellFormed.{is_change, lines_of, name_of, IsWellFormed}
 use Rattle.mf_plan.specs.declared.state.State.{State}
 use Rattle.mf_plan.specs.declared.reply.Reply.{Reply}
 use Rattle.mf_core.specs.declared.progress.Phase.{Phase}
@@ -32,12 +30,6 @@ opening s = record { state = opening_state s; progress = map (λ t. first_progre
 -- the line after those that the task has done
 abbrev pub next_line : Script → List Progress → ℕ → Option Line
 next_line s list t = slice_get (lines_of s t) (progress_at list t).lines
-
--- whether the call changes the list of policies, and so isn't an entry
-abbrev pub is_change : Call → Bool
-is_change (call.Kldload name) = true
-is_change (call.Kldunload name) = true
-is_change other = false
 
 abbrev pub turn_at_line : Option Line → Turn
 turn_at_line None = turn.Finished

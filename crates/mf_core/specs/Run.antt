@@ -95,9 +95,6 @@ events_in phase.Stopped = 2
 abbrev pub events_by : Progress → ℕ
 events_by progress = 3 * progress.lines + events_in progress.phase
 
-abbrev pub lines_in : Task → ℕ
-lines_in t = length t.lines
-
 -- how many events the tasks may still bring
 abbrev pub events_left : List Task → List Progress → ℕ
 events_left [] list = 0

@@ -19,9 +19,8 @@ mod changing;
 
 use crate::booting::{loaded_specs, register_boots, unlisted};
 use crate::history::{Event, EventList, History};
-use crate::opening::{line_count, opening_objects};
+use crate::opening::opening_objects;
 use crate::progress::{Phase, ProgressList, Turn};
-use crate::step::{child_of, is_change};
 use mf_list::{Catalogue, PolicyList};
 use mf_plan::{Plan, State, plan_of};
 use mf_policy::Policy;
@@ -77,7 +76,7 @@ impl<'s> Core<'s> {
             numbers,
             booted: true,
         };
-        let events = EventList::with_room(alloc, 3 * line_count(script))?;
+        let events = EventList::with_room(alloc, 3 * script.line_count())?;
         let progress = ProgressList::for_tasks(alloc, &script.tasks)?;
         let core = Core {
             script,
@@ -145,7 +144,7 @@ impl<'s> Core<'s> {
     {
         let line = self.script.line_at(task, lines);
         let name = self.script.name_of(task);
-        plan_of(&self.state, name, child_of(line), &line.call)
+        plan_of(&self.state, name, line.child_name(), &line.call)
     }
 
     /// The listed policies' verdict on a plan: the first denial, if a check is denied.
@@ -176,7 +175,7 @@ fn turn_at_line(line: Option<&Line>) -> Turn
 {
     match line {
         None => Turn::Finished,
-        Some(line) if is_change(&line.call) => Turn::Change,
+        Some(line) if line.call.is_change() => Turn::Change,
         Some(_) => Turn::Entry,
     }
 }

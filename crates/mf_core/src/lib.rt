@@ -7,7 +7,6 @@ mod framework;
 mod history;
 mod opening;
 mod progress;
-mod step;
 
 pub use framework::Core;
 pub use history::{BootList, Event, EventList, History};

@@ -1,11 +1,9 @@
 //! The live entities of a script at the end of boot.
 ghost use Rattle.std.specs.Prelude.{◌≡◌, ◌≤◌, ◌<◌, ◌+◌, ℕ, [], find, fold, length, IfOk, IsTrue, OnOk};
-ghost use Rattle.std.specs.List.{sum_by};
 ghost use Rattle.std.specs.Option.{option_copied};
 ghost use Rattle.mf_script.specs.WellFormed.{IsWellFormed};
 ghost use Rattle.mf_core.specs.Opening as spec;
 ghost use Rattle.mf_core.specs.Opening.{HasAtMost};
-ghost use Rattle.mf_core.specs.Run.{lines_in};
 
 use mf_elem::{LabelValue, Request};
 use mf_errno::Module;
@@ -163,17 +161,4 @@ fn add_task(
             Ok(())
         }
     }
-}
-
-/// The number of lines of all tasks together.
-pub fn line_count(script: &Script) -> usize
-    requires { IsWellFormed script.now }
-    ensures value { result ≡ sum_by lines_in script.now.tasks }
-    ensures most { result ≤ 65536 }
-{
-    let mut count = 0;
-    for task in script.tasks.as_slice() {
-        count += task.lines.len();
-    }
-    count
 }

@@ -150,11 +150,7 @@ fn plan_of_line(state: &State, task: &str, line: &Line) -> Plan
     requires task { IsName task.now }
     requires line { IsFormedLine line.now }
 {
-    let child = match &line.child {
-        None => None,
-        Some(name) => Some(name.as_str()),
-    };
-    plan_of(state, task, child, &line.call)
+    plan_of(state, task, line.child_name(), &line.call)
 }
 
 /// The operations of the checks, and the end.

@@ -18,6 +18,16 @@ use Rattle.mf_script.specs.Limits.{file_limit, task_limit, group_limit, line_lim
 abbrev pub lines_of : Script → ℕ → List Line
 lines_of s t = unwrap_or (option_map (λ task. task.lines) (slice_get s.tasks t)) []
 
+-- how many lines a task has
+abbrev pub line_count : Task → ℕ
+line_count task = length task.lines
+
+-- whether the call changes the list of policies, and so isn't an entry
+abbrev pub is_change : Call → Bool
+is_change (call.Kldload name) = true
+is_change (call.Kldunload name) = true
+is_change other = false
+
 -- the name of a task, where there is one of that number
 abbrev pub name_of : Script → ℕ → List ℕ
 name_of s t = unwrap_or (option_map (λ task. task.name) (slice_get s.tasks t)) []

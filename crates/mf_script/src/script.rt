@@ -65,11 +65,34 @@ pub enum Call {
     Kldunload(Word),
 }
 
+impl Call {
+    ghost use Rattle.mf_script.specs.WellFormed.{is_change};
+
+    /// Whether the call changes the list of policies, and so isn't an entry.
+    pub fn is_change(&self) -> bool
+        ensures { result ≡ is_change self.now }
+    {
+        matches!(self, Call::Kldload(_) | Call::Kldunload(_))
+    }
+}
+
 /// A line of a task: a call of the task's own process, or of the child of that name.
 #[derive(Drop)]
 pub struct Line {
     pub child: Option<Name>,
     pub call: Call,
+}
+
+impl Line {
+    /// The name of the child that makes the call, where it isn't the task's own process.
+    pub fn child_name(&self) -> Option<&str>
+        ensures { option_copied result ≡ self.now.child }
+    {
+        match &self.child {
+            None => None,
+            Some(name) => Some(name.as_str()),
+        }
+    }
 }
 
 /// A task: the name, the credential and the label request of its process, and its lines.
@@ -99,16 +122,18 @@ pub struct Script {
 }
 
 impl Script {
-    ghost use Rattle.std.specs.Prelude.{slice_get, Some};
-    ghost use Rattle.mf_script.specs.WellFormed.{lines_of, name_of};
+    ghost use Rattle.std.specs.Prelude.{slice_get, Some, ◌≤◌};
+    ghost use Rattle.std.specs.List.{sum_by};
+    ghost use Rattle.mf_script.specs.WellFormed.{IsWellFormed, line_count, lines_of, name_of};
 
-    /// The name of the task. Tasks count from 0.
+    /// The name of the task of that number, from 0. No text where the script has no such task.
     pub fn name_of(&self, task: u32) -> &str
-        requires { task < length self.now.tasks }
         ensures { result.now ≡ name_of self.now task }
     {
-        let tasks = self.tasks.as_slice();
-        tasks[task as usize].name.as_str()
+        match self.tasks.as_slice().get(task as usize) {
+            None => "",
+            Some(found) => found.name.as_str(),
+        }
     }
 
     /// The line of the task at index `lines`, from 0.
@@ -129,5 +154,18 @@ impl Script {
     {
         let tasks = self.tasks.as_slice();
         tasks[task as usize].lines.as_slice().get(lines as usize)
+    }
+
+    /// The number of lines of all tasks together.
+    pub fn line_count(&self) -> usize
+        requires { IsWellFormed self.now }
+        ensures value { result ≡ sum_by line_count self.now.tasks }
+        ensures most { result ≤ 65536 }
+    {
+        let mut count = 0;
+        for task in self.tasks.as_slice() {
+            count += task.lines.len();
+        }
+        count
     }
 }

@@ -5,7 +5,7 @@ ghost use Rattle.mf_plan.specs.Path as walks;
 ghost use Rattle.mf_step.specs.Reply as spec;
 
 use mf_objects::{Id, Objects};
-use mf_plan::{Target, target_of};
+use mf_plan::target_of;
 use mf_script::Name;
 
 /// The file or directory at a path.
@@ -14,11 +14,7 @@ pub fn file_at(objects: &Objects, path: &[Name]) -> Option<Id>
     ensures value { result ≡ spec.file_at_path objects.now path.now }
     ensures live { IfSome result (λ id. IsLive is_vnode objects.now id) }
 {
-    match target_of(objects, path) {
-        Target::Root => Some(objects.root()),
-        Target::Name(_, entry) => entry,
-        Target::Nowhere(_) => None,
-    }
+    target_of(objects, path).found(objects).ok()
 }
 
 /// The last component of a path.

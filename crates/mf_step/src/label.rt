@@ -9,7 +9,11 @@ use mf_item::Kind;
 use mf_policy::{SpecList, labels_kind};
 
 /// The label of an entity that is created while these policies are listed, by a process whose label is `maker`.
-pub fn created_label(specs: &SpecList, kind: Kind, maker: &[LabelValue; 4]) -> [LabelValue; 4]
+pub(crate) fn created_label(
+    specs: &SpecList,
+    kind: Kind,
+    maker: &[LabelValue; 4],
+) -> [LabelValue; 4]
     ensures { result ≡ spec.created_label specs.now kind maker.now }
 {
     [

@@ -10,13 +10,14 @@ mod payload;
 mod performing;
 mod processes;
 mod reply;
+mod stepping;
 mod verdict;
 
 pub use found::last_name;
-pub use label::created_label;
 pub use payload::payload_of;
 pub use performing::perform;
 pub use reply::reply_to;
+pub use stepping::step;
 pub use verdict::{Denial, Verdict, verdict_of};
 
 #[cfg(test)]

@@ -3,7 +3,7 @@ use Rattle.std.proofs.Common.{◌≡◌, ◌↔◌, ℕ, Bool, true, false, List
 use Rattle.std.specs.Prelude.{if◌then◌else◌}
 use Rattle.mf_script.specs.declared.script.Line.{Line}
 use Rattle.mf_script.specs.declared.script.Script.{Script}
-use Rattle.mf_script.specs.WellFormed.{lines_of}
+use Rattle.mf_script.specs.WellFormed.{is_change, lines_of}
 use Rattle.mf_core.specs.declared.progress.Outcome.{Outcome}
 use Rattle.mf_core.specs.declared.progress.Outcome.TheVariants as outcome
 use Rattle.mf_core.specs.declared.progress.Phase.{Phase}
@@ -11,7 +11,7 @@ use Rattle.mf_core.specs.declared.progress.Phase.TheVariants as phase
 use Rattle.mf_core.specs.declared.progress.Progress.{Progress}
 use Rattle.mf_core.specs.declared.progress.Turn.{Turn}
 use Rattle.mf_core.specs.declared.progress.Turn.TheVariants as turn
-use Rattle.mf_core.specs.LegalHistory.{is_change, next_line, turn_in, turn_of}
+use Rattle.mf_core.specs.LegalHistory.{next_line, turn_in, turn_of}
 use Rattle.mf_core.proofs.Laws.{none_open_at, open_entries-none}
 use Rattle.mf_core.specs.Progress.{progress_at, IsClosed, open_entries}
 use Rattle.mf_core.specs.Run.{Run, progress_of, turn_at, Changes}

@@ -9,11 +9,10 @@ use super::Core;
 use crate::following::follow;
 use crate::history::Event;
 use crate::progress::{Commit, Outcome, Phase};
-use crate::step::{child_of, step};
 use mf_list::{Catalogue, PolicyList};
 use mf_plan::{Plan, plan_of};
 use mf_policy::Policy;
-use mf_step::Verdict;
+use mf_step::{Verdict, step};
 use std::alloc::{AllocError, Global};
 
 impl<'s> Core<'s> {
@@ -85,7 +84,7 @@ impl<'s> Core<'s> {
         let lines = self.progress.at(task as usize).lines;
         let line = self.script.line_at(task, lines);
         let name = self.script.name_of(task);
-        let plan = plan_of(&self.state, name, child_of(line), &line.call);
+        let plan = plan_of(&self.state, name, line.child_name(), &line.call);
         let verdict = Core::walk(list, &plan);
         let mut numbers = self.state.numbers.copy();
         let reply = step(alloc, &mut self.state, name, line, &plan, &verdict)?;

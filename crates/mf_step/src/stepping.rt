@@ -1,33 +1,17 @@
 //! One call of the sequential framework.
 ghost use Rattle.std.specs.Prelude.{◌≡◌, ◌<◌, ◌≤◌, ◌+◌, length, IfOk, OnOk, OnErr};
-ghost use Rattle.std.specs.Option.{option_copied};
 ghost use Rattle.mf_script.specs.WellFormed.{IsName, IsFormedLine};
 ghost use Rattle.mf_plan.specs.Plan.{plan_of};
 ghost use Rattle.mf_step.specs.Step.{step_reply, step_state};
 ghost use Rattle.mf_step.specs.Verdict.{verdict_of};
-ghost use Rattle.mf_core.specs.LegalHistory.{is_change};
 
+use crate::payload::payload_of;
+use crate::performing::perform;
+use crate::reply::reply_to;
+use crate::verdict::Verdict;
 use mf_plan::{Plan, Reply, State};
-use mf_script::{Call, Line};
-use mf_step::{Verdict, payload_of, perform, reply_to};
+use mf_script::Line;
 use std::alloc::{AllocError, Global};
-
-/// The name of the child that makes the call of the line, where it isn't the task's own process.
-pub fn child_of(line: &Line) -> Option<&str>
-    ensures { option_copied result ≡ line.now.child }
-{
-    match &line.child {
-        None => None,
-        Some(name) => Some(name.as_str()),
-    }
-}
-
-/// Whether the call changes the list of policies, and so isn't an entry.
-pub fn is_change(call: &Call) -> bool
-    ensures { result ≡ is_change call.now }
-{
-    matches!(call, Call::Kldload(_) | Call::Kldunload(_))
-}
 
 /// Does the call of a line of the task where its reply is Ok, and answers its reply. After want of memory nothing has changed.
 pub fn step(
@@ -53,7 +37,7 @@ pub fn step(
     let payload = payload_of(alloc, state, &line.call)?;
     let reply = reply_to(plan, verdict, payload);
     if let Reply::Ok(_) = reply {
-        perform(alloc, state, task, child_of(line), &line.call)?;
+        perform(alloc, state, task, line.child_name(), &line.call)?;
     }
     Ok(reply)
 }

@@ -1,10 +1,10 @@
 use Rattle.std.proofs.Common.{◌≡◌, ◌≤◌, ◌*◌, take}
 use Rattle.std.specs.List.{sum_by}
-use Rattle.mf_core.specs.Run.{lines_in}
-use Rattle.mf_core.proofs.opening.line_count.Given as goal
+use Rattle.mf_script.specs.WellFormed.{line_count}
+use Rattle.mf_script.proofs.script.Script.line_count.Given as goal
 
 abbrev pub invariant-loop-task : goal.invariant-loop-task
 invariant-loop-task l = record {
-  value : l.count ≡ sum_by lines_in (take l.task-index l.task-items);
+  value : l.count ≡ sum_by line_count (take l.task-index l.task-items);
   most : l.count ≤ 4096 * l.task-index;
 }
