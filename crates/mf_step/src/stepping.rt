@@ -13,7 +13,8 @@ use mf_plan::{Plan, Reply, State};
 use mf_script::Line;
 use std::alloc::{AllocError, Global};
 
-/// Does the call of a line of the task where its reply is Ok, and answers its reply. After want of memory nothing has changed.
+/// Judges the call of a line of the task, does it where the reply is Ok, and returns the reply. The plan and the verdict must
+/// be those of the state. If memory runs out, the state is unchanged.
 pub fn step(
     alloc: Global,
     state: &mut State,
