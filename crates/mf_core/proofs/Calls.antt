@@ -16,10 +16,9 @@ use Rattle.mf_core.specs.declared.progress.Turn.TheVariants as turns
 use Rattle.mf_core.specs.declared.history.Event.TheVariants as events
 use Rattle.mf_core.specs.declared.history.History.{History}
 use Rattle.mf_core.specs.Log.{Log}
-use Rattle.mf_core.proofs.Laws.{none_open-entries}
 use Rattle.mf_core.specs.LegalHistory.{next_line, next_reply, next_state}
 use Rattle.mf_core.specs.Policies.{AreOf, listed_after, listed_after_reply}
-use Rattle.mf_core.specs.Progress.{progress_at, open_entries, with_line, with_phase, NoneOpen}
+use Rattle.mf_core.specs.Progress.{progress_at, open_entries, with_line, with_phase}
 use Rattle.mf_core.specs.Run.{Run, IsChanged, IsConsistent, progress_of, specs_of, turn_at}
 use Rattle.mf_core.proofs.Consistency.{changing_call, consistent_change, consistent_done, entered_call, moved, replied}
 use Rattle.mf_core.proofs.Insides.{below_here, changed_here, progress_here, same_specs_on, specs_here, specs_on, turn_here}
@@ -82,8 +81,8 @@ module _ (k : Run) (s : Script) (h : History) (state : State) (progress : List P
 
   -- A change
 
-  none_open : open_entries (progress_of k) ≡ 0 → NoneOpen progress
-  none_open none = none_open-entries progress (sym (ap open_entries (progress_here k s h state progress is consistent)) ∙ none)
+  none_open : open_entries (progress_of k) ≡ 0 → open_entries progress ≡ 0
+  none_open none = sym (ap open_entries (progress_here k s h state progress is consistent)) ∙ none
 
   pub changed : log ≡ record h.events { list = h.events.list ++ events.Changed t (at.lines + 1) reply ∷ [] }
       → IsChanged k t (record { script = s; history = record h { events = log } })

@@ -21,7 +21,7 @@ use Rattle.mf_core.specs.declared.history.Event.TheVariants as events
 use Rattle.mf_core.specs.declared.history.History.{History}
 use Rattle.mf_core.specs.Log.{Log}
 use Rattle.mf_core.specs.Opening.{boots_of, opening_state}
-use Rattle.mf_core.specs.Progress.{progress_at, first_progress, with_phase, with_line, left_at, with_left, NoneOpen}
+use Rattle.mf_core.specs.Progress.{progress_at, first_progress, with_phase, with_line, left_at, with_left, open_entries}
 use Rattle.mf_core.specs.LegalHistory.{RunState, MayCome, AllMayCome, after, run_state_of, opening, appended, reply_at, state_at, turn_at_line, turn_in, turn_of, next_line, next_reply, next_state}
 use Rattle.mf_core.specs.Run.{IsAtEntry, IsConsistent, HasLine, events_left, events_by}
 use Rattle.mf_core.proofs.Laws.{AllMayCome-append, run_state_after-append, progress_at-first, line_at_entry, line_at_change, entry_call, change_call}
@@ -267,7 +267,7 @@ module _ (s : Script) (h : History) (state : State) (progress : List Progress) (
   change_room turn = room_for _ (goes_changed turn)
 
   -- a change is made
-  pub consistent_change : (line : Line) (n : ℕ) (reply : Reply) (state' : State) → turn_of s progress t ≡ turns.Change → NoneOpen progress
+  pub consistent_change : (line : Line) (n : ℕ) (reply : Reply) (state' : State) → turn_of s progress t ≡ turns.Change → open_entries progress ≡ 0
       → next_line s progress t ≡ Some line → n ≡ (progress_at progress t).lines + 1
       → reply ≡ step_reply state (name_of s t) line.child line.call → state' ≡ step_state state (name_of s t) line.child line.call
       → Follows state state'

@@ -15,7 +15,7 @@ use Rattle.mf_core.specs.declared.history.Event.TheVariants as event
 use Rattle.mf_core.specs.declared.history.History.{History}
 use Rattle.mf_step.specs.Step.{step_reply, step_state}
 use Rattle.mf_core.specs.Opening.{opening_state, boots_of}
-use Rattle.mf_core.specs.Progress.{first_progress, progress_at, with_phase, with_line, with_left, NoneOpen}
+use Rattle.mf_core.specs.Progress.{first_progress, progress_at, with_phase, with_line, with_left, open_entries}
 
 -- the state of the framework, and how far each task is
 pub record RunState : Type 0 where
@@ -71,7 +71,7 @@ abbrev pub MayCome : Script → RunState → Event → Type 0
 MayCome s r (event.Enter t) = turn_of s r.progress t ≡ turn.Entry
 MayCome s r (event.Done t line reply) = (turn_of s r.progress t ≡ turn.Entered) × (line ≡ next_number r t) × (next_reply s r t ≡ Some reply)
 MayCome s r (event.Leave t) = (turn_of s r.progress t ≡ turn.Done) ⊎ (turn_of s r.progress t ≡ turn.Entered)
-MayCome s r (event.Changed t line reply) = NoneOpen r.progress × (turn_of s r.progress t ≡ turn.Change) × (line ≡ next_number r t) × (next_reply s r t ≡ Some reply)
+MayCome s r (event.Changed t line reply) = (open_entries r.progress ≡ 0) × (turn_of s r.progress t ≡ turn.Change) × (line ≡ next_number r t) × (next_reply s r t ≡ Some reply)
 
 -- the state of the run after the event
 abbrev pub after : Script → RunState → Event → RunState

@@ -1,5 +1,5 @@
 -- How far each task is.
-use Rattle.std.specs.Prelude.{◌≡◌, ◌≢◌, ℕ, ◌+◌, List, slice_set, slice_index_or, All}
+use Rattle.std.specs.Prelude.{◌≡◌, ◌≢◌, ℕ, ◌+◌, List, slice_set, slice_index_or}
 use Rattle.std.specs.List.{sum_by}
 use Rattle.mf_core.specs.declared.progress.Phase.{Phase}
 use Rattle.mf_core.specs.declared.progress.Phase.TheVariants.{Idle, Entered, Done, Stopped}
@@ -32,16 +32,6 @@ left progress = left_at progress.lines progress.phase
 
 abbrev pub with_left : List Progress → ℕ → List Progress
 with_left list t = slice_set list t (left (progress_at list t))
-
-abbrev pub IsClosed : Phase → Type 0
-IsClosed Idle = Unit {0}
-IsClosed Stopped = Unit {0}
-IsClosed Entered = ⊥
-IsClosed Done = ⊥
-
--- no task has an open entry
-abbrev pub NoneOpen : List Progress → Type 0
-NoneOpen list = All (λ progress. IsClosed progress.phase) list
 
 -- that task has that progress now, and the others have what they had
 pub record Moves (old new : List Progress) (t : ℕ) (progress : Progress) : Type 0 where

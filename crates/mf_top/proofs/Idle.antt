@@ -1,6 +1,7 @@
 -- Tasks that are between their lines.
-use Rattle.std.proofs.Common.{◌≡◌, ◌↔◌, ℕ, Bool, true, false, List, Option, Some, None, IsTrue, slice_get, refl, sym, ◌∙◌, ap, subst, arith}
+use Rattle.std.proofs.Common.{◌≡◌, ◌↔◌, ℕ, suc, Bool, true, false, List, [], ◌∷◌, Option, Some, None, IsTrue, slice_get, refl, sym, ◌∙◌, ap, subst, arith}
 use Rattle.std.specs.Prelude.{if◌then◌else◌}
+use Rattle.std.proofs.lemmas.List.Sums.{sum_by-cons}
 use Rattle.mf_script.specs.declared.script.Line.{Line}
 use Rattle.mf_script.specs.declared.script.Script.{Script}
 use Rattle.mf_script.specs.WellFormed.{is_change, lines_of}
@@ -12,18 +13,17 @@ use Rattle.mf_core.specs.declared.progress.Progress.{Progress}
 use Rattle.mf_core.specs.declared.progress.Turn.{Turn}
 use Rattle.mf_core.specs.declared.progress.Turn.TheVariants as turn
 use Rattle.mf_core.specs.LegalHistory.{next_line, turn_in, turn_of}
-use Rattle.mf_core.proofs.Laws.{none_open_at, open_entries-none}
-use Rattle.mf_core.specs.Progress.{progress_at, IsClosed, open_entries}
+use Rattle.mf_core.specs.Progress.{progress_at, open_in, open_entries}
 use Rattle.mf_core.specs.Run.{Run, progress_of, turn_at, Changes}
 use Rattle.mf_top.specs.Turns.{AreIdle, IsLine}
 
 -- where all are, no entry is open, and a change doesn't wait
 
-closed : (p : Phase) → p ≡ phase.Idle → IsClosed p
-closed p is = subst IsClosed (sym is) tt
-
 none_open : (list : List Progress) → AreIdle list → open_entries list ≡ 0
-none_open list idle = open_entries-none list (none_open_at list (λ t. closed (progress_at list t).phase (idle t)))
+none_open [] idle = refl
+none_open (x ∷ xs) idle =
+    let here : open_in x.phase ≡ 0 = ap open_in (idle 0) in
+    omega (arith, here, none_open xs (λ t. idle (suc t)), sum_by-cons (λ (x : Progress). open_in x.phase) x xs)
 
 pub never_waits : (old new : Run) (t : ℕ) (x : Outcome) (n : ℕ) → x ≡ outcome.Waits n → Changes old t x new → AreIdle (progress_of old) → ⊥
 never_waits old new t x n is changes idle =
