@@ -171,8 +171,8 @@ mod tests {
         }
     }
 
-    /// mac_biba(4): a subject with `equal` is exempt. That only a privileged subject loads a module is FreeBSD's rule
-    /// too, but not in the manual.
+    /// mac_biba(4): a subject with `equal` is exempt. FreeBSD's Biba lets only a privileged subject load a module too, by
+    /// its privilege check; here it is the check `kld_load`.
     #[test]
     fn equal_is_exempt_and_loads_modules(rt: HostRuntime) {
         let policy = Biba::new();

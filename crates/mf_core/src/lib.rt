@@ -10,6 +10,4 @@ mod progress;
 
 pub use framework::Core;
 pub use history::{BootList, Event, EventList, History};
-pub use mf_plan::{Payload, Plan, Reply};
-pub use mf_step::{Denial, Verdict};
 pub use progress::{Commit, Outcome, Phase, Progress, ProgressList, Turn};

@@ -46,7 +46,7 @@ pub enum Turn {
 /// How a commit went.
 #[derive(Clone, Copy, Debug, PartialEq, Eq)]
 pub enum Commit {
-    /// The call is done: its reply is the last event.
+    /// The call is judged and, where its reply is Ok, done. The reply is the last event.
     Done,
     /// The plan or the list is out of date. Nothing changed.
     Stale,
@@ -55,7 +55,7 @@ pub enum Commit {
 /// How a change went.
 #[derive(Clone, Copy, Debug, PartialEq, Eq)]
 pub enum Outcome {
-    /// The change is made: its reply is the last event.
+    /// The change is judged and, where its reply is Ok, made. The reply is the last event.
     Done,
     /// It waits: so many entries are open. Nothing changed.
     Waits(u32),

@@ -145,9 +145,9 @@ mod tests {
     }
 
     /// Read and write at the same level, by a higher subject, by a lower one, and where levels can't be compared.
-    /// mac_mls(4) forbids the write of the third row, a write up; this model allows it.
+    /// One sentence of mac_mls(4) forbids the write of the third row, a write up; the kernel's code and this model allow it.
     #[test]
-    fn rules_of_mac_mls_4(rt: HostRuntime) {
+    fn reads_and_writes_by_level(rt: HostRuntime) {
         let policy = Mls::new();
         let five = Elem::Grade(5, Comps::empty().with(1));
         let nine = Elem::Grade(9, Comps::empty().with(2));
@@ -169,7 +169,7 @@ mod tests {
         }
     }
 
-    /// mac_mls(4): a subject with `equal` is exempt. MLS doesn't guard the loading of modules.
+    /// mac_mls(4): a subject with `equal` is exempt. In this model MLS doesn't guard the loading of modules.
     #[test]
     fn equal_is_exempt_and_anybody_loads_modules(rt: HostRuntime) {
         let policy = Mls::new();

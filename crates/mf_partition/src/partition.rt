@@ -12,8 +12,8 @@ use mf_policy::{Change, Changed, LoadFlags, Policy, Spec, errno_unless};
 use std::alloc::{AllocError, Global};
 
 /// The partition policy of mac_partition(4): processes and sockets have a partition's number, where 0 is no partition,
-/// and a process in a partition doesn't see what is outside it. The manual speaks of processes only; that sockets have
-/// a partition of their own is this model's choice. It has no settings.
+/// and a process in a partition doesn't see what is outside it. In FreeBSD a socket's partition is that of its
+/// credential; that sockets have a partition of their own is this model's choice. It has no settings.
 #[derive(Debug, Drop)]
 pub struct Partition;
 

@@ -62,7 +62,7 @@ abbrev pub text_of : Result (List ℕ) Refusal → List ℕ
 text_of (Ok text) = text
 text_of (Err r) = refusal_text r
 
--- No write failed, and the sink took the outcome's whole text; or its faults rose, and it took a beginning of that text.
+-- The sink's faults stand where they stood, and it took the outcome's whole text; or they rose, and it took a beginning of that text.
 abbrev pub IsWritten : Seen → Result (List ℕ) Refusal → ℕ → Type 0
 IsWritten sink outcome status =
     ((status ≡ status_of outcome) × HadNoFault sink × Took sink.before sink.after (text_of outcome))

@@ -23,7 +23,7 @@ seen told faults old new = record { before = told old; after = told new; faults_
 abbrev pub FaultsRose : Seen → Type 0
 FaultsRose s = HasRisen s.faults_before s.faults_after
 
--- no call failed: the count of faults stands where it stood
+-- the count of faults stands where it stood: no call failed, unless the count is at its greatest value
 abbrev pub HadNoFault : Seen → Type 0
 HadNoFault s = s.faults_after ≡ s.faults_before
 

@@ -20,9 +20,9 @@ use std::thread::Threads;
 const RUN: &str = "run";
 
 /// Runs the script that the source holds, and writes its history to the sink. Returns the program's exit status: 0, the
-/// status of a `Refusal`, or 5 where a write failed. `words` are those after the program's name. Nothing is written
-/// before the whole source is read and the run has ended. `modules` has a policy of each module that is built in, once,
-/// in its initial state.
+/// status of a `Refusal`, or 5 where a write failed. `words` are those after the program's name. A history is
+/// written only after the whole source is read and the run has ended. `modules` has a policy of each module that is
+/// built in, once, in its initial state.
 pub fn macsim<S: Source, K: Sink, P: Policy, R: Threads + Wait + Sync>(
     rt: &R,
     alloc: Global,
