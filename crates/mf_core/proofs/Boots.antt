@@ -13,14 +13,14 @@ use Rattle.mf_policy.specs.Modules.{fresh_of, has_spec, wants_slot}
 use Rattle.mf_policy.specs.Registration.{Entry, is_of}
 use Rattle.mf_list.specs.Held.{how_many, IsListedOnce}
 use Rattle.mf_list.specs.Lists.{ListView, CatalogueView, IsReady}
-use Rattle.mf_list.specs.Registration.{Registers, register_verdict, registration_of, slot_for, with_newest}
+use Rattle.mf_list.specs.Registration.{Registers, given_after, register_verdict, registration_of, slot_for, with_newest, with_registered}
 use Rattle.mf_list.proofs.Counts.{how_many-newest, how_many-push}
 use Rattle.mf_list.proofs.Held.{held_after_register}
 use Rattle.mf_objects.specs.Live.{Entities}
 use Rattle.mf_script.specs.declared.script.Script.{Script}
 use Rattle.mf_script.specs.WellFormed.{AreBoots, is_bootable}
 use Rattle.mf_plan.specs.declared.state.State.{State}
-use Rattle.mf_core.specs.Opening.{booted_specs, boots_of, given_after, given_by, listed_by, opening_objects, opening_state, registrations_from, registrations_in, with_registered}
+use Rattle.mf_core.specs.Opening.{booted_specs, boots_of, given_by, listed_by, opening_objects, opening_state, registrations_from, registrations_in}
 use Rattle.mf_core.specs.Policies.{AreAllThere, AreOf, CanBoot, times_wanted}
 use Rattle.mf_core.proofs.Counting.{listed_there, none_before, none_passes, same_module-other, some_passes, wanted_once}
 

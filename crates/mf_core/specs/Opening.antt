@@ -1,5 +1,5 @@
 -- The registrations at boot, and the opening state of a script.
-use Rattle.std.specs.Prelude.{ℕ, ◌+◌, ◌≤◌, Bool, false, true, cond, List, [], ◌∷◌, length, map, fold, Option, Some, None, find}
+use Rattle.std.specs.Prelude.{ℕ, ◌≤◌, Bool, false, true, List, [], ◌∷◌, length, map, fold, Option, Some, None, find}
 use Rattle.mf_errno.specs.declared.module.Module.{Module}
 use Rattle.mf_elem.specs.declared.label.LabelValue.{LabelValue}
 use Rattle.mf_elem.specs.declared.label.LabelValue.TheVariants.{Unset}
@@ -8,9 +8,8 @@ use Rattle.mf_elem.specs.Label.{no_request}
 use Rattle.mf_item.specs.declared.view.Kind.{Kind}
 use Rattle.mf_item.specs.declared.view.Kind.TheVariants as kinds
 use Rattle.mf_policy.specs.declared.registration.Registration.{Registration}
-use Rattle.mf_policy.specs.Modules.{fresh_of, wants_slot}
 use Rattle.mf_policy.specs.Registration.{Entry}
-use Rattle.mf_list.specs.Registration.{registration_of, with_newest}
+use Rattle.mf_list.specs.Registration.{given_after, registration_of, with_registered}
 use Rattle.mf_objects.specs.declared.id.Id.{Id}
 use Rattle.mf_objects.specs.declared.entity.What.TheVariants.{Process}
 use Rattle.mf_objects.specs.Live.{Entities}
@@ -28,10 +27,6 @@ use Rattle.mf_step.specs.Labels.{is_slot}
 
 -- Registrations
 
--- how many slot numbers were given after a registration of the module
-abbrev pub given_after : ℕ → Module → ℕ
-given_after given m = cond (wants_slot m) (given + 1) given
-
 -- the registrations of these modules at boot, in order, where so many slot numbers were given before
 abbrev pub registrations_from : ℕ → List Module → List Registration
 registrations_from given [] = []
@@ -44,10 +39,6 @@ boots_of s = registrations_from 0 s.boots
 -- how many slot numbers these modules take
 abbrev pub given_by : List Module → ℕ
 given_by modules = fold given_after 0 modules
-
--- the list of policies after a registration, with the policy's initial spec
-abbrev pub with_registered : List Entry → Registration → List Entry
-with_registered specs r = with_newest (r, fresh_of r.module) specs
 
 -- the list of policies after these registrations
 abbrev pub listed_by : List Registration → List Entry

@@ -2,12 +2,12 @@
 use Rattle.std.specs.Prelude.{◌≡◌, ℕ, ◌<◌, true, false, cond, List, All, Result, Ok, Err}
 use Rattle.mf_errno.specs.Module.{module_named, same_module}
 use Rattle.mf_errno.specs.declared.module.Module.{Module}
-use Rattle.mf_policy.specs.Modules.{fresh_of, has_spec}
+use Rattle.mf_policy.specs.Modules.{has_spec}
 use Rattle.mf_policy.specs.declared.registration.Registration.{Registration}
 use Rattle.mf_policy.specs.Registration.{Entry, is_listed}
 use Rattle.mf_list.specs.Lists.{ListView, CatalogueView, IsReady, in_catalogue}
 use Rattle.mf_list.specs.Held.{how_many, times_held}
-use Rattle.mf_list.specs.Registration.{entries_without, register_verdict_by_name, unregister_verdict_by_name, with_newest}
+use Rattle.mf_list.specs.Registration.{entries_without, register_verdict_by_name, unregister_verdict_by_name, with_registered}
 use Rattle.mf_list.specs.declared.faults.RegisterFault.{RegisterFault}
 use Rattle.mf_list.specs.declared.faults.UnregisterFault.{UnregisterFault}
 use Rattle.mf_script.specs.declared.script.Call.{Call}
@@ -40,7 +40,7 @@ StaysWhileWaiting (outcome.Waits n) list list' catalogue catalogue' = (list' ≡
 -- the list after the answer to a registration, and after the answer to an unregistration
 
 abbrev pub registered : List Entry → Result Registration RegisterFault → List Entry
-registered listed (Ok r) = with_newest (r, fresh_of r.module) listed
+registered listed (Ok r) = with_registered listed r
 registered listed (Err fault) = listed
 
 abbrev pub unregistered : List Entry → Result Registration UnregisterFault → List Entry

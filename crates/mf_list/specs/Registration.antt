@@ -78,10 +78,18 @@ entries_without m entries = without_first (is_of m) entries
 abbrev pub modules_without : Module → List Module → List Module
 modules_without m modules = without_first (same_module m) modules
 
+-- the list after a registration, with the policy in its initial state
+abbrev pub with_registered : List Entry → Registration → List Entry
+with_registered entries r = with_newest (r, fresh_of r.module) entries
+
+-- how many slot numbers were given, after a registration of the module
+abbrev pub given_after : ℕ → Module → ℕ
+given_after given m = cond (wants_slot m) (given + 1) given
+
 -- list, catalogue and how many numbers were given, after a registration
 pub record Registers (r : Registration) (list list' : ListView) (catalogue catalogue' : CatalogueView) (given given' : ℕ) : Type 0 where
   pub was_in_catalogue : in_catalogue r.module catalogue.modules ≡ true
-  pub entries : list'.entries ≡ with_newest (r, fresh_of r.module) list.entries
+  pub entries : list'.entries ≡ with_registered list.entries r
   pub modules : catalogue'.modules ≡ modules_without r.module catalogue.modules
   pub slots : given' ≡ cond (is_some r.slot) (given + 1) given
 

@@ -15,11 +15,10 @@ use Rattle.mf_policy.specs.LoadFlags.{is_notlate, is_unloadok}
 use Rattle.mf_policy.specs.Modules.{flags_of, fresh_of, wants_slot, labels_kind}
 use Rattle.mf_policy.specs.Registration.{Entry, is_of}
 use Rattle.mf_errno.proofs.Modules.{same_module-is}
-use Rattle.mf_list.specs.Registration.{slot_for, registration_of, with_newest, entries_without}
+use Rattle.mf_list.specs.Registration.{given_after, slot_for, registration_of, with_newest, entries_without}
 use Rattle.mf_plan.specs.declared.state.State.{State}
 use Rattle.mf_plan.specs.Loading.{load_fault}
 use Rattle.mf_step.specs.Labels.{is_slot, holds_slot}
-use Rattle.mf_core.specs.Opening.{given_after}
 use Rattle.mf_marks.specs.Marks.{labels, labellers}
 
 -- Lists of policies

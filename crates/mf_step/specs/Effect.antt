@@ -1,12 +1,11 @@
 -- What a call changes where it is done.
-use Rattle.std.specs.Prelude.{ℕ, ◌+◌, Bool, true, false, if◌then◌else◌, List, [], drop, Option, Some, None}
+use Rattle.std.specs.Prelude.{ℕ, Bool, true, false, List, [], drop, Option, Some, None}
 use Rattle.mf_errno.specs.Module.{module_named}
 use Rattle.mf_errno.specs.declared.module.Module.{Module}
 use Rattle.mf_cred.specs.declared.cred.FileView.{FileView}
 use Rattle.mf_item.specs.declared.view.Kind.{Kind}
 use Rattle.mf_item.specs.declared.view.Kind.TheVariants as kinds
-use Rattle.mf_policy.specs.Modules.{fresh_of, wants_slot}
-use Rattle.mf_list.specs.Registration.{registration_of, with_newest, entries_without}
+use Rattle.mf_list.specs.Registration.{entries_without, given_after, registration_of, with_registered}
 use Rattle.mf_objects.specs.declared.id.Id.{Id}
 use Rattle.mf_objects.specs.declared.entity.What.{What}
 use Rattle.mf_objects.specs.declared.entity.What.TheVariants.{Process}
@@ -62,18 +61,15 @@ without_entry s (Nowhere errno) = s
 
 -- Modules
 
--- A module is registered, in its initial state, and takes the next slot number where it wants one.
-abbrev pub with_registered : State → Module → State
-with_registered s m =
-    record s {
-      specs = with_newest (registration_of m s.booted s.numbers, fresh_of m) s.specs;
-      numbers = if wants_slot m then s.numbers + 1 else s.numbers;
-    }
-
--- nothing is loaded where there is no such module
+-- a module is registered, in its initial state, and takes the next slot number where it wants one; nothing is loaded where there is no
+-- such module
 abbrev pub with_loaded : State → Option Module → State
 with_loaded s None = s
-with_loaded s (Some m) = with_registered s m
+with_loaded s (Some m) =
+    record s {
+      specs = with_registered s.specs (registration_of m s.booted s.numbers);
+      numbers = given_after s.numbers m;
+    }
 
 -- a module leaves the list: no label changes, and its slot number is not given again
 abbrev pub with_unloaded : State → Option Module → State

@@ -1,5 +1,5 @@
 //! What the calls that load and unload modules change.
-ghost use Rattle.std.specs.Prelude.{◌≡◌, ◌<◌, ◌≤◌, OnOk, OnErr, IfSome, IsTrue, MatchOption, false, length};
+ghost use Rattle.std.specs.Prelude.{◌≡◌, ◌<◌, ◌≤◌, OnOk, OnErr, IfSome, IsTrue, MatchOption, Some, false, length};
 ghost use Rattle.std.specs.List.{insert, remove};
 ghost use Rattle.mf_errno.specs.Module.{module_named};
 ghost use Rattle.mf_list.specs.Registration as registration;
@@ -30,7 +30,7 @@ pub(crate) fn kldload(alloc: Global, state: &mut State, name: &str) -> Result<()
 fn load(alloc: Global, state: &mut State, wanted: Module) -> Result<(), AllocError>
     requires there { IsTrue (facts.has_spec wanted) }
     requires numbers { IsTrue (facts.wants_slot wanted) → state.old.numbers < 4 }
-    ensures ok { OnOk result (state.new ≡ spec.with_registered state.old wanted) }
+    ensures ok { OnOk result (state.new ≡ spec.with_loaded state.old (Some wanted)) }
     ensures err { OnErr result (state.new ≡ state.old) }
 {
     let fresh = Spec::fresh(alloc, wanted)?;
