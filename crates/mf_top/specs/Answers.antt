@@ -38,7 +38,7 @@ IsOutcome words source (Err refusal.NotYet) = IsRunWords words × HadNoFault sou
     × IfSome source.before (λ bytes. (length bytes ≤ most_script) × (script_of bytes ≡ Err script_error.NotYet) × (source.after ≡ Some []))
 IsOutcome words source (Err refusal.ReadFault) = IsRunWords words × FaultsRose source
 IsOutcome words source (Err refusal.TooLong) = IsRunWords words × HadNoFault source × IsTooLong source.before source.after
-IsOutcome words source (Err refusal.Memory) = IsRunWords words
+IsOutcome words source (Err refusal.Memory) = IsRunWords words × HadNoFault source
 
 abbrev pub refusal_status : Refusal → ℕ
 refusal_status refusal.Usage = 2

@@ -1,5 +1,5 @@
 //! The reader of a whole source.
-ghost use Rattle.std.specs.Prelude.{◌≡◌, ◌<◌, ◌≤◌, ◌+◌, length, IfOk, IsErrOf, OnOk};
+ghost use Rattle.std.specs.Prelude.{◌≡◌, ◌<◌, ◌≤◌, ◌+◌, length, IfOk, IsErrOf};
 ghost use Rattle.mf_top.specs.declared.read.ReadError.TheVariants.{Memory, Failed as ReadFailed};
 ghost use Rattle.mf_top.specs.Outside.{HasRisen, Gave};
 ghost use Rattle.mf_top.specs.Reading.{IsWhole, IsTooLong, GaveOn, most_script};
@@ -41,10 +41,9 @@ impl From<Failed> for ReadError {
 pub fn read_all<S: Source>(alloc: Global, source: &mut S) -> Result<Vec<u8>, ReadError>
     ensures whole { IfOk result (λ bytes. IsWhole (S.left source.old) (S.left source.new) bytes.items) }
     ensures most { IfOk result (λ bytes. length bytes.items ≤ most_script) }
-    ensures quiet { OnOk result (S.faults source.new ≡ S.faults source.old) }
+    ensures quiet { ¬ IsErrOf result ReadError.Failed → S.faults source.new ≡ S.faults source.old }
     ensures failed { IsErrOf result ReadError.Failed → HasRisen (S.faults source.old) (S.faults source.new) }
     ensures too_long { IsErrOf result ReadError.TooLong → IsTooLong (S.left source.old) (S.left source.new) }
-    ensures too_long_quiet { IsErrOf result ReadError.TooLong → S.faults source.new ≡ S.faults source.old }
 {
     let mut bytes = Vec::new(alloc);
     while bytes.len() <= MOST_SCRIPT {
@@ -66,7 +65,7 @@ fn read_some<S: Source>(
     ensures bytes { IfOk result (λ n. GaveOn (S.left source.old) (S.left source.new) bytes.old.items bytes.new.items n) }
     ensures fits { IfOk result (λ n. n ≤ room) }
     ensures count { IfOk result (λ n. length bytes.new.items ≡ length bytes.old.items + n) }
-    ensures quiet { OnOk result (S.faults source.new ≡ S.faults source.old) }
+    ensures quiet { ¬ IsErrOf result ReadError.Failed → S.faults source.new ≡ S.faults source.old }
     ensures failed { IsErrOf result ReadError.Failed → HasRisen (S.faults source.old) (S.faults source.new) }
     ensures long { IsErrOf result ReadError.TooLong → ⊥ }
 {
