@@ -1,15 +1,62 @@
 #!/bin/sh
-# Runs each script of examples/ and compares what is printed with the file beside it. A line for each failure, then a count.
+# Runs each script of examples/, and compares what is printed with the .out file beside it; and a picture of its sources with the .dot
+# file, where there is one. The text of a script with several tasks depends on their order: it is run several times, and of each run is
+# compared what holds in every order. A line for each failure, then a count.
 cd "$(dirname "$0")/.." || exit 1
+printed=$(mktemp) && told=$(mktemp) || exit 1
+trap 'rm -f "$printed" "$told"' EXIT
 passed=0
 failed=0
+
+# Prints the lines of a history task by task, in the script's order, and then the sources, sorted.
+by_task() {
+    grep '^boot ' "$2"
+    awk '$1 == "task" { print $2 }' "$1" | while read -r task; do
+        awk -v task="$task" '$1 ~ /^(enter|done|leave|changed)$/ && $2 == task' "$2"
+    done
+    grep '^source ' "$2" | LC_ALL=C sort
+}
+
+# Whether each line is that of the file, or, but for its first three words, one of those that " | " parts there.
+agrees() {
+    awk -v expected="$1" '
+        {
+            if ((getline line <expected) <= 0) { bad = 1; exit }
+            split(line, word, " ")
+            front = word[1] " " word[2] " " word[3] " "
+            found = 0
+            count = split(line, choice, / \| /)
+            for (i = 1; i <= count; i++) if ($0 == (i == 1 ? "" : front) choice[i]) found = 1
+            if (!found) { bad = 1; exit }
+        }
+        END { if ((getline line <expected) > 0) bad = 1; exit bad }'
+}
+
+is_as_expected() {
+    ./macsim run <"$1" >"$printed" || return 1
+    if [ "$(awk '$1 == "task"' "$1" | wc -l)" -le 1 ]; then
+        cmp -s "$printed" "${1%.macsim}.out"
+    else
+        by_task "$1" "$printed" >"$told"
+        [ "$(wc -l <"$told")" -eq "$(wc -l <"$printed")" ] && agrees "${1%.macsim}.out" <"$told"
+    fi
+}
+
+is_drawn() {
+    [ ! -e "${1%.macsim}.dot" ] || awk -f examples/sources.awk "$printed" | cmp -s - "${1%.macsim}.dot"
+}
+
 for script in examples/*.macsim; do
-    expected=${script%.macsim}.out
-    if ./macsim run <"$script" | cmp -s - "$expected"; then
+    good=yes
+    for run in 1 2 3 4 5; do
+        is_as_expected "$script" && is_drawn "$script" || good=
+        [ "$(awk '$1 == "task"' "$script" | wc -l)" -gt 1 ] || break
+    done
+    if [ -n "$good" ]; then
         passed=$((passed + 1))
     else
         failed=$((failed + 1))
-        echo "$script: the output differs from $expected"
+        echo "$script: the output is not as in ${script%.macsim}.out"
     fi
 done
 echo "$passed passed, $failed failed"

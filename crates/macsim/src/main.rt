@@ -1,11 +1,12 @@
-//! Runs the script on the standard input, and prints its history on the standard output.
+//! Runs the script on the standard input, or a generated load, and prints the history and its sources, or the summary, on the
+//! standard output.
 #![tactic(auto)]
 
 use mf_biba::Biba;
+use mf_io::{OpenGate, Sink, Source, StdSink, StdSource};
 use mf_mls::Mls;
 use mf_partition::Partition;
 use mf_policy::Policy;
-use mf_top::io::{Sink, Source, StdSink, StdSource};
 use mf_top::macsim;
 use std::alloc::{AllocError, Global};
 use std::process::ExitCode;
@@ -46,7 +47,7 @@ fn run<S: Source, K: Sink, R: Threads + Wait + Sync>(
     modules.push(Box::new(alloc, Biba::new())?)?;
     modules.push(Box::new(alloc, Mls::new())?)?;
     modules.push(Box::new(alloc, Partition::new())?)?;
-    Ok(macsim(rt, alloc, words, source, sink, modules))
+    Ok(macsim(rt, alloc, words, source, sink, &OpenGate, modules))
 }
 
 fn main(rt: HostRuntime) -> ExitCode {

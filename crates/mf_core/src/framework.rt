@@ -1,19 +1,18 @@
 //! The core: a history that is legal for its script, with the state that it determines.
-ghost use Rattle.std.specs.Prelude.{◌≡◌, ◌<◌, ◌⊎◌, ℕ, [], All, IfOk, length, map, Some};
-ghost use Rattle.std.specs.Option.{option_copied};
+ghost use Rattle.std.specs.Prelude.{◌≡◌, ◌+◌, ◌<◌, ◌≤◌, ◌⊎◌, ℕ, [], All, IfOk, length, map, Some};
 ghost use Rattle.mf_policy.specs.Modules.{module_of};
 ghost use Rattle.mf_list.specs.Lists.{IsFresh};
+ghost use Rattle.mf_script.specs.Limits.{line_limit};
 ghost use Rattle.mf_script.specs.WellFormed.{IsWellFormed, lines_of};
 ghost use Rattle.mf_step.specs.Verdict as step;
 ghost use Rattle.mf_core.specs.declared.history.Event.TheVariants as event;
 ghost use Rattle.mf_core.specs.declared.progress.Turn.TheVariants as turn;
 ghost use Rattle.mf_core.specs.declared.progress.Phase.TheVariants as phase;
-ghost use Rattle.mf_core.specs.LegalHistory as spec;
-ghost use Rattle.mf_core.specs.LegalHistory.{appended, IsLegal};
+ghost use Rattle.mf_core.specs.LegalHistory.{appended, IsComplete, IsLegal};
 ghost use Rattle.mf_core.specs.Opening.{boots_of};
 ghost use Rattle.mf_core.specs.Policies.{AreAllModules, AreOf};
 ghost use Rattle.mf_core.specs.Progress.{progress_at, first_progress, open_entries, left, Moves};
-ghost use Rattle.mf_core.specs.Run.{specs_of, progress_of, turn_at, next_plan};
+ghost use Rattle.mf_core.specs.Run.{run_state, specs_of, progress_of, turn_at, next_plan, open_of, lines_at, done_of, all_lines, lines_left};
 
 mod changing;
 
@@ -22,9 +21,9 @@ use crate::history::{Event, EventList, History};
 use crate::opening::opening_objects;
 use crate::progress::{Phase, ProgressList, Turn};
 use mf_list::{Catalogue, PolicyList};
-use mf_plan::{Plan, State, plan_of};
+use mf_plan::{Plan, State};
 use mf_policy::Policy;
-use mf_script::{Line, Script};
+use mf_script::Script;
 use mf_step::{Verdict, verdict_of};
 use std::alloc::{AllocError, Global};
 use std::marker::Model;
@@ -64,6 +63,8 @@ impl<'s> Core<'s> {
         ensures history { IfOk result (λ r. r.0.history.events.list ≡ []) }
         ensures progress { IfOk result (λ r. (t : ℕ) → progress_at (progress_of r.0) t ≡ first_progress) }
         ensures policies { IfOk result (λ r. AreOf (specs_of r.0) r.1 r.2) }
+        ensures entries { IfOk result (λ r. open_of r.0 ≡ 0) }
+        ensures lines { IfOk result (λ r. done_of r.0 ≡ 0) }
     {
         let (mut list, mut catalogue) = unlisted(alloc, modules)?;
         let (boots, numbers) = register_boots(alloc, &script.boots, &mut list, &mut catalogue)?;
@@ -94,7 +95,7 @@ impl<'s> Core<'s> {
     {
         let progress = self.progress.at(task as usize);
         match progress.phase {
-            Phase::Idle => turn_at_line(self.script.next_line(task, progress.lines)),
+            Phase::Idle => Turn::at_line(self.script.next_line(task, progress.lines)),
             Phase::Entered => Turn::Entered,
             Phase::Done => Turn::Done,
             Phase::Stopped => Turn::Stopped,
@@ -108,6 +109,8 @@ impl<'s> Core<'s> {
         ensures event { self.new ≡ record self.old { history = appended self.old.history (event.Enter task) } }
         ensures progress { Moves (progress_of self.old) (progress_of self.new) task (record (progress_at (progress_of self.old) task) { phase = phase.Entered }) }
         ensures specs { specs_of self.new ≡ specs_of self.old }
+        ensures entries { open_of self.new ≡ open_of self.old + 1 }
+        ensures lines { done_of self.new ≡ done_of self.old }
     {
         self.history.events.push(Event::Enter(task));
         self.progress.set_phase(task as usize, Phase::Entered);
@@ -120,31 +123,33 @@ impl<'s> Core<'s> {
         ensures event { self.new ≡ record self.old { history = appended self.old.history (event.Leave task) } }
         ensures progress { Moves (progress_of self.old) (progress_of self.new) task (left (progress_at (progress_of self.old) task)) }
         ensures specs { specs_of self.new ≡ specs_of self.old }
+        ensures entries { open_of self.new + 1 ≡ open_of self.old }
+        ensures lines { done_of self.new ≡ done_of self.old + lines_left (turn_at self.old task) }
     {
         self.history.events.push(Event::Leave(task));
         self.progress.leave(task as usize);
     }
 
-    /// The plan of the call that the task has entered for, made from the present state.
-    pub fn plan(&self, task: u32) -> Plan
+    /// Makes `plan` that of the call that the task has entered for, from the present state.
+    pub fn plan(&self, task: u32, plan: &mut Plan)
         requires task { task < length self.now.script.tasks }
         requires turn { turn_at self.now task ≡ turn.Entered }
-        ensures { next_plan self.now task ≡ Some result }
+        ensures { next_plan self.now task ≡ Some plan.new }
     {
         let lines = self.progress.at(task as usize).lines;
-        self.plan_at(task, lines)
+        self.plan_at(task, lines, plan);
     }
 
-    /// The plan of the call of the task's line at index `lines`, from 0.
-    fn plan_at(&self, task: u32, lines: u32) -> Plan
+    /// Makes `plan` that of the call of the task's line at index `lines`, from 0.
+    fn plan_at(&self, task: u32, lines: u32, plan: &mut Plan)
         requires task { task < length self.now.script.tasks }
         requires line { lines < length (lines_of self.now.script task) }
         requires lines { lines ≡ (progress_at (progress_of self.now) task).lines }
-        ensures { next_plan self.now task ≡ Some result }
+        ensures { next_plan self.now task ≡ Some plan.new }
     {
         let line = self.script.line_at(task, lines);
         let name = self.script.name_of(task);
-        plan_of(&self.state, name, line.child_name(), &line.call)
+        plan.make(&self.state, name, line.child_name(), &line.call);
     }
 
     /// The listed policies' verdict on a plan: the first denial, if a check is denied.
@@ -161,21 +166,29 @@ impl<'s> Core<'s> {
         self.progress.open_entries()
     }
 
+    /// How many lines of the task are done: never more than the script gives it.
+    pub fn lines(&self, task: u32) -> u32
+        requires { task < length self.now.script.tasks }
+        ensures value { result ≡ lines_at self.now task }
+        ensures within { result ≤ length (lines_of self.now.script task) }
+        ensures most { result ≤ line_limit }
+    {
+        self.progress.at(task as usize).lines
+    }
+
+    /// The present state.
+    pub fn state(&self) -> &State
+        ensures { result.now ≡ (run_state self.now).state }
+    {
+        &self.state
+    }
+
     /// The history so far.
     pub fn history(&self) -> &History
         ensures value { result.now ≡ self.now.history }
         ensures legal { IsLegal self.now.script self.now.history }
+        ensures complete { open_of self.now ≡ 0 → done_of self.now ≡ all_lines self.now.script → IsComplete self.now.script self.now.history }
     {
         &self.history
-    }
-}
-
-fn turn_at_line(line: Option<&Line>) -> Turn
-    ensures { result ≡ spec.turn_at_line (option_copied line.entry) }
-{
-    match line {
-        None => Turn::Finished,
-        Some(line) if line.call.is_change() => Turn::Change,
-        Some(_) => Turn::Entry,
     }
 }

@@ -68,6 +68,13 @@ impl<T: Default + Drop, const N: usize> ArrayVec<T, N> {
         self.inner.push(item);
     }
 
+    /// Takes all items out. The room that they lay in stays, so that a list can be filled again where it lies.
+    pub fn clear(&mut self)
+        ensures { self.new ≡ [] }
+    {
+        self.inner.clear();
+    }
+
     /// The items in order.
     pub fn as_slice(&self) -> &[T]
         ensures value { result.now ≡ self.now }

@@ -1,5 +1,8 @@
 //! The texts of replies, and the lines of a history.
-use crate::{print_event, print_history, print_reply, text_tells_history};
+use crate::{
+    HistError, legal_histories_are_readable, print_event, print_history, print_reply, read_history,
+    text_tells_history,
+};
 use mf_core::{Event, EventList, History};
 use mf_cred::{ArrayVec, FileView};
 use mf_errno::{Errno, Module};
@@ -7,8 +10,9 @@ use mf_item::CheckOp;
 use mf_objects::{Head, NameList};
 use mf_plan::{Loaded, Payload, Reply};
 use mf_policy::Registration;
-use mf_script::{Listing, read_script};
-use std::alloc::AllocError;
+use mf_script::{Listing, Script, read_script};
+use std::alloc::{AllocError, Global};
+use std::process::Abort;
 use std::test::Fail;
 
 const DIRECTORY: FileView = FileView {
@@ -117,5 +121,123 @@ fn lines_of_a_history(rt: HostRuntime) -> Result<(), Fail> {
         "boot mac_biba 0\nenter t\ndone t 1 ok\nleave t\nchanged t 2 no EEXIST - -\nenter t\n"
     );
     text_tells_history();
+    Ok(())
+}
+
+/// Lines of the one task `t`, from the format of the history's text.
+const LINES: [&str; 26] = [
+    "boot mac_biba 0",
+    "boot mac_biba -",
+    "boot mac_priority 200",
+    "enter t",
+    "leave t",
+    "done t 0 ok",
+    "changed t 4294967295 ok slot 255",
+    "done t 1 ok slot -",
+    "done t 1 ok bytes 2 =hi",
+    "done t 1 ok bytes 3 =\\00\\ff\\5c",
+    "done t 1 ok bytes 0 =",
+    "done t 1 ok size 4294967295",
+    "done t 1 ok stat dir uid 0 gid 0 mode 177777 size 9",
+    "done t 1 ok stat reg uid 4294967295 gid 0 mode 0 size 0",
+    "done t 1 ok names 0 -",
+    "done t 1 ok names 2 b,a",
+    "done t 1 ok names 2 a,a",
+    "done t 1 ok names 1 -",
+    "done t 1 ok modules -",
+    "done t 1 ok modules mac_biba:0,mac_partition:1",
+    "done t 1 ok modules mac_bsdextended:-",
+    "done t 1 no ok - -",
+    "done t 1 no ok priv - 0",
+    "done t 1 no EACCES vnode_read mac_mls 255",
+    "done t 1 no ENOENT - -",
+    "changed t 1 no EBUSY - -",
+];
+
+/// Lines that are none.
+const NO_LINES: [&str; 36] = [
+    "",
+    " ",
+    "foo",
+    "enter u",
+    "enter t ",
+    " enter t",
+    "enter  t",
+    "enter\tt",
+    "enter t\r",
+    "enter",
+    "done t 01 ok",
+    "done t 4294967296 ok",
+    "done t 1 ok ",
+    "done t 1 ok size 01",
+    "done t 1 ok bytes 3 =ab",
+    "done t 1 ok bytes 2 =\\41b",
+    "done t 1 ok bytes 1 =\\0A",
+    "done t 1 ok bytes 1 =\\4",
+    "done t 1 ok bytes 1 a",
+    "done t 1 ok names 2 a",
+    "done t 1 ok names 0 a",
+    "done t 1 ok names 1 ..",
+    "done t 1 ok stat blk uid 0 gid 0 mode 0 size 0",
+    "done t 1 ok stat reg gid 0 uid 0 mode 0 size 0",
+    "done t 1 ok stat reg uid 0 gid 0 mode 00 size 0",
+    "done t 1 ok stat reg uid 0 gid 0 mode 200000 size 0",
+    "done t 1 ok slot 256",
+    "done t 1 ok modules mac_foo:0",
+    "done t 1 ok modules mac_biba:0,mac_biba:0,mac_biba:0,mac_biba:0,mac_biba:0,mac_biba:0,mac_biba:0,mac_biba:0,mac_biba:0",
+    "done t 1 no EFOO - -",
+    "done t 1 no EACCES - - 1",
+    "done t 1 no EACCES vnode_read mac_mls 256",
+    "done t 1 no EACCES vnode_read mac_mls",
+    "source biba vnode:/ high",
+    "waits t 1",
+    "stale t",
+];
+
+/// Reads a short text.
+fn read(rt: &impl Abort, alloc: Global, script: &Script, text: &str) -> Result<History, HistError> {
+    assert!(rt; text.len() < 4096);
+    read_history(alloc, script, text.as_bytes())
+}
+
+#[test]
+fn lines_are_read_back(rt: HostRuntime) -> Result<(), Fail> {
+    let script = read_script(rt.alloc(), b"task t uid 0 gid 0 label -\nend\n")?;
+    for line in LINES {
+        let text = format!(in rt.alloc(); "{line}\n")?;
+        let history = read(&rt, rt.alloc(), &script, text.as_str())?;
+        let mut out = String::new(rt.alloc());
+        print_history(rt.alloc(), &script, &history, &mut out)?;
+        assert_eq!(rt; out.as_str(), text.as_str());
+    }
+    Ok(())
+}
+
+#[test]
+fn other_lines_are_refused(rt: HostRuntime) -> Result<(), Fail> {
+    let script = read_script(rt.alloc(), b"task t uid 0 gid 0 label -\nend\n")?;
+    for line in NO_LINES {
+        let text = format!(in rt.alloc(); "boot mac_biba 0\nenter t\n{line}\nleave t\n")?;
+        assert_eq!(rt;
+            read(&rt, rt.alloc(), &script, text.as_str()).err(),
+            Some(HistError::Line(3)),
+            "{line}"
+        );
+    }
+    for (text, number) in [
+        ("enter t\nboot mac_biba 0\n", 2),
+        ("enter t\nleave t", 2),
+        ("enter t\n\nleave t\n", 2),
+        ("boot mac_biba", 1),
+    ] {
+        assert_eq!(rt;
+            read(&rt, rt.alloc(), &script, text).err(),
+            Some(HistError::Line(number)),
+            "{text}"
+        );
+    }
+    let empty = read(&rt, rt.alloc(), &script, "")?;
+    assert!(rt; empty.events.as_slice().is_empty());
+    legal_histories_are_readable();
     Ok(())
 }

@@ -1,5 +1,5 @@
 -- How often list and catalogue hold a module.
-use Rattle.std.specs.Prelude.{◌≡◌, ℕ, ◌+◌, ◌≤◌, Bool, true, cond, not, ◌&&◌, List, [], ◌∷◌}
+use Rattle.std.specs.Prelude.{ℕ, ◌+◌, ◌≤◌, Bool, true, cond, not, ◌&&◌, List, [], ◌∷◌}
 use Rattle.mf_errno.specs.Module.{same_module}
 use Rattle.mf_errno.specs.declared.module.Module.{Module}
 use Rattle.mf_policy.specs.Registration.{Entry, is_of}
@@ -22,17 +22,3 @@ are_distinct (m ∷ ms) = not (in_catalogue m ms) && are_distinct ms
 -- how often the module is in the list and in the catalogue
 abbrev pub times_held : Module → ListView → CatalogueView → ℕ
 times_held m list catalogue = how_many (is_of m) list.entries + how_many (same_module m) catalogue.modules
-
--- the list and the catalogue, as one value
-pub record PoliciesView : Type 0 where
-  pub list : ListView
-  pub catalogue : CatalogueView
-
--- no module is held twice
-abbrev pub IsHeldOnce : ListView → CatalogueView → Type 0
-IsHeldOnce list catalogue = (m : Module) → times_held m list catalogue ≤ 1
-
--- the same modules are held as before
-abbrev pub HoldsTheSame : PoliciesView → PoliciesView → Type 0
-HoldsTheSame before after =
-    (m : Module) → times_held m after.list after.catalogue ≡ times_held m before.list before.catalogue

@@ -5,7 +5,6 @@ mod ask;
 mod catalogue;
 mod faults;
 mod listed;
-mod policies;
 mod policy_list;
 mod registering;
 #[cfg(test)]
@@ -14,5 +13,4 @@ mod tests;
 pub use ask::Answer;
 pub use catalogue::Catalogue;
 pub use faults::{RegisterFault, UnregisterFault};
-pub use policies::Policies;
 pub use policy_list::PolicyList;

@@ -1,6 +1,6 @@
 //! Tests over Biba, MLS and mac_partition: registration, and what the three answer together.
 
-use crate::{Answer, Policies, RegisterFault, UnregisterFault};
+use crate::{Answer, Catalogue, PolicyList, RegisterFault, UnregisterFault};
 use mf_biba::Biba;
 use mf_cred::Cred;
 use mf_elem::{Elem, LabelValue, RangeLabel};
@@ -92,32 +92,33 @@ impl Policy for OneOf {
     }
 }
 
-fn all_three(alloc: Global) -> Result<Policies<OneOf>, AllocError> {
+/// No policy is listed yet.
+fn all_three(alloc: Global) -> Result<(PolicyList<OneOf>, Catalogue<OneOf>), AllocError> {
     let mut modules = Vec::new(alloc);
     modules.push(OneOf::Biba(Biba::new()))?;
     modules.push(OneOf::Mls(Mls::new()))?;
     modules.push(OneOf::Partition(Partition::new()))?;
-    Ok(Policies::new(alloc, modules))
+    Ok((PolicyList::new(alloc), Catalogue::new(modules)))
 }
 
 #[test]
 fn registrations_in_walk_order(rt: HostRuntime) -> Result<(), AllocError> {
-    let mut policies = all_three(rt.alloc())?;
-    policies.ready()?;
+    let (mut list, mut catalogue) = all_three(rt.alloc())?;
+    list.ready(&mut catalogue)?;
     let mut numbers = SlotNumbers::new();
-    let partition = policies.register(&mut numbers, "mac_partition", false);
-    let biba = policies.register(&mut numbers, "mac_biba", false);
-    let mls = policies.register(&mut numbers, "mac_mls", false);
-    assert!(rt; policies.knows("mac_mls") && !policies.knows("mac_lomac"));
-    let listed = policies.list().listed();
+    let partition = list.register(&mut catalogue, &mut numbers, "mac_partition", false);
+    let biba = list.register(&mut catalogue, &mut numbers, "mac_biba", false);
+    let mls = list.register(&mut catalogue, &mut numbers, "mac_mls", false);
+    assert!(rt; catalogue.knows(&list, "mac_mls") && !catalogue.knows(&list, "mac_lomac"));
+    let listed = list.listed();
     let registrations = listed.as_slice();
     assert_eq!(rt; registrations.len(), 3);
     assert_eq!(rt; Some(registrations[0]), mls.ok());
     assert_eq!(rt; Some(registrations[1]), biba.ok());
     assert_eq!(rt; Some(registrations[2]), partition.ok());
-    let change = policies.change(rt.alloc(), Module::Mls, &Change::FirstMatch(true))?;
+    let change = list.change(rt.alloc(), Module::Mls, &Change::FirstMatch(true))?;
     assert_eq!(rt; change.errno, Errno::Enoent);
-    assert!(rt; !policies.list().same_specs(&SpecList::new(rt.alloc())));
+    assert!(rt; !list.same_specs(&SpecList::new(rt.alloc())));
     Ok(())
 }
 
@@ -131,50 +132,50 @@ fn of_partition(slot: u8) -> Registration {
 
 #[test]
 fn a_partition_goes_and_comes_back(rt: HostRuntime) -> Result<(), AllocError> {
-    let mut policies = all_three(rt.alloc())?;
-    policies.ready()?;
+    let (mut list, mut catalogue) = all_three(rt.alloc())?;
+    list.ready(&mut catalogue)?;
     let mut numbers = SlotNumbers::new();
-    let booted = policies.register(&mut numbers, "mac_partition", false);
+    let booted = list.register(&mut catalogue, &mut numbers, "mac_partition", false);
     assert_eq!(rt; booted, Ok(of_partition(0)));
-    let left = policies.unregister("mac_partition");
+    let left = list.unregister(&mut catalogue, "mac_partition");
     assert_eq!(rt; left, Ok(of_partition(0)));
-    let late = policies.register(&mut numbers, "mac_partition", true);
+    let late = list.register(&mut catalogue, &mut numbers, "mac_partition", true);
     assert_eq!(rt; late, Ok(of_partition(1)));
     Ok(())
 }
 
 #[test]
 fn registration_is_refused(rt: HostRuntime) -> Result<(), AllocError> {
-    let mut policies = all_three(rt.alloc())?;
-    policies.ready()?;
+    let (mut list, mut catalogue) = all_three(rt.alloc())?;
+    list.ready(&mut catalogue)?;
     let mut numbers = SlotNumbers::new();
-    let unknown = policies.register(&mut numbers, "mac_lomac", true);
+    let unknown = list.register(&mut catalogue, &mut numbers, "mac_lomac", true);
     assert_eq!(rt; unknown, Err(RegisterFault::Unknown));
-    let late = policies.register(&mut numbers, "mac_biba", true);
+    let late = list.register(&mut catalogue, &mut numbers, "mac_biba", true);
     assert_eq!(rt; late, Err(RegisterFault::NotLate));
-    let first = policies.register(&mut numbers, "mac_biba", false);
+    let first = list.register(&mut catalogue, &mut numbers, "mac_biba", false);
     assert!(rt; first.is_ok());
-    let again = policies.register(&mut numbers, "mac_biba", false);
+    let again = list.register(&mut catalogue, &mut numbers, "mac_biba", false);
     assert_eq!(rt; again, Err(RegisterFault::Exists));
     assert_eq!(rt; again.map_err(RegisterFault::errno), Err(Errno::Eexist));
-    let pinned = policies.unregister("mac_biba");
+    let pinned = list.unregister(&mut catalogue, "mac_biba");
     assert_eq!(rt; pinned, Err(UnregisterFault::Pinned));
-    let absent = policies.unregister("mac_mls");
+    let absent = list.unregister(&mut catalogue, "mac_mls");
     assert_eq!(rt; absent, Err(UnregisterFault::NotLoaded));
     Ok(())
 }
 
 #[test]
 fn slots_run_out(rt: HostRuntime) -> Result<(), AllocError> {
-    let mut policies = all_three(rt.alloc())?;
-    policies.ready()?;
+    let (mut list, mut catalogue) = all_three(rt.alloc())?;
+    list.ready(&mut catalogue)?;
     let mut numbers = SlotNumbers::new();
     for _ in 0..3 {
         let _ = numbers.take();
     }
-    let last = policies.register(&mut numbers, "mac_mls", false);
+    let last = list.register(&mut catalogue, &mut numbers, "mac_mls", false);
     assert!(rt; last.is_ok());
-    let none = policies.register(&mut numbers, "mac_biba", false);
+    let none = list.register(&mut catalogue, &mut numbers, "mac_biba", false);
     assert_eq!(rt; none, Err(RegisterFault::NoSlot));
     assert_eq!(rt; numbers.given(), 4);
     Ok(())
@@ -190,11 +191,11 @@ fn labelled(element: Elem) -> [LabelValue; 4] {
 
 #[test]
 fn precedence_against_walk_order(rt: HostRuntime) -> Result<(), AllocError> {
-    let mut policies = all_three(rt.alloc())?;
-    policies.ready()?;
+    let (mut list, mut catalogue) = all_three(rt.alloc())?;
+    list.ready(&mut catalogue)?;
     let mut numbers = SlotNumbers::new();
-    let biba = policies.register(&mut numbers, "mac_biba", false);
-    let mls = policies.register(&mut numbers, "mac_mls", false);
+    let biba = list.register(&mut catalogue, &mut numbers, "mac_biba", false);
+    let mls = list.register(&mut catalogue, &mut numbers, "mac_mls", false);
     assert!(rt; biba.is_ok() && mls.is_ok());
     let mut item = Item::default();
     item.op = CheckOp::ProcSignal;
@@ -205,7 +206,7 @@ fn precedence_against_walk_order(rt: HostRuntime) -> Result<(), AllocError> {
         file: Default::default(),
         label: labelled(Elem::Low),
     });
-    let answer = policies.list().ask(&item);
+    let answer = list.ask(&item);
     assert_eq!(rt;
         answer,
         Answer {
@@ -215,7 +216,7 @@ fn precedence_against_walk_order(rt: HostRuntime) -> Result<(), AllocError> {
     );
     item.op = CheckOp::ProcVisible;
     item.subject.label = labelled(Elem::Low);
-    let answer = policies.list().ask(&item);
+    let answer = list.ask(&item);
     assert_eq!(rt;
         answer,
         Answer {
@@ -228,11 +229,11 @@ fn precedence_against_walk_order(rt: HostRuntime) -> Result<(), AllocError> {
 
 #[test]
 fn partition_against_biba(rt: HostRuntime) -> Result<(), AllocError> {
-    let mut policies = all_three(rt.alloc())?;
-    policies.ready()?;
+    let (mut list, mut catalogue) = all_three(rt.alloc())?;
+    list.ready(&mut catalogue)?;
     let mut numbers = SlotNumbers::new();
-    let biba = policies.register(&mut numbers, "mac_biba", false);
-    let partition = policies.register(&mut numbers, "mac_partition", false);
+    let biba = list.register(&mut catalogue, &mut numbers, "mac_biba", false);
+    let partition = list.register(&mut catalogue, &mut numbers, "mac_partition", false);
     assert!(rt; biba.is_ok() && partition.is_ok());
     let mut item = Item::default();
     item.op = CheckOp::ProcSignal;
@@ -246,7 +247,7 @@ fn partition_against_biba(rt: HostRuntime) -> Result<(), AllocError> {
         file: Default::default(),
         label,
     });
-    let answer = policies.list().ask(&item);
+    let answer = list.ask(&item);
     assert_eq!(rt;
         answer,
         Answer {
@@ -259,17 +260,17 @@ fn partition_against_biba(rt: HostRuntime) -> Result<(), AllocError> {
 
 #[test]
 fn root_has_every_privilege(rt: HostRuntime) -> Result<(), AllocError> {
-    let mut policies = all_three(rt.alloc())?;
-    policies.ready()?;
+    let (mut list, mut catalogue) = all_three(rt.alloc())?;
+    list.ready(&mut catalogue)?;
     let mut numbers = SlotNumbers::new();
-    let biba = policies.register(&mut numbers, "mac_biba", false);
+    let biba = list.register(&mut catalogue, &mut numbers, "mac_biba", false);
     assert!(rt; biba.is_ok());
     let mut item = Item::default();
     item.op = CheckOp::Priv;
     item.privilege = Some(Priv::SchedRtprio);
     for (uid, errno) in [(0, Errno::Success), (1001, Errno::Eperm)] {
         item.subject.cred.uid = uid;
-        let answer = policies.list().ask(&item);
+        let answer = list.ask(&item);
         assert_eq!(rt; answer, Answer { errno, by: None });
     }
     Ok(())
@@ -330,13 +331,14 @@ fn a_policy_that_goes_back_is_reset(rt: HostRuntime) -> Result<(), AllocError> {
         policy: Partition::new(),
         resets: &resets,
     })?;
-    let mut policies = Policies::new(rt.alloc(), modules);
-    policies.ready()?;
+    let mut catalogue = Catalogue::new(modules);
+    let mut list = PolicyList::new(rt.alloc());
+    list.ready(&mut catalogue)?;
     let mut numbers = SlotNumbers::new();
-    let loaded = policies.register(&mut numbers, "mac_partition", true);
+    let loaded = list.register(&mut catalogue, &mut numbers, "mac_partition", true);
     assert_eq!(rt; loaded, Ok(of_partition(0)));
     assert_eq!(rt; resets.load(Ordering::SeqCst), 0);
-    let left = policies.unregister("mac_partition");
+    let left = list.unregister(&mut catalogue, "mac_partition");
     assert_eq!(rt; left, Ok(of_partition(0)));
     assert_eq!(rt; resets.load(Ordering::SeqCst), 1);
     Ok(())

@@ -11,42 +11,42 @@ use Rattle.mf_objects.proofs.Rising.{rising_push, rising_changed, id_is}
 use Rattle.mf_plan.specs.declared.state.State.{State}
 use Rattle.mf_step.specs.Labels.{created_label}
 use Rattle.mf_step.specs.Effect.{with_objects, with_created}
-use Rattle.mf_marks.proofs.Finding.{find_push_miss, find_push_hit, find_beyond, find_given, find_changed, find_filter, rising_filter}
+use Rattle.mf_objects.proofs.Finding.{find_push_miss, find_push_hit, find_beyond, find_given, find_changed, find_filter, rising_filter}
 use Rattle.mf_marks.proofs.Shape.{Shape}
 use Rattle.mf_marks.proofs.Shape.Shape.{same, created, changed, removed, loaded, unloaded}
 
--- the entity of an id before and after a step from the state
-pub data Change (s : State) (id : Id) : Option Live → Option Live → Type 0 where
-  absent : Change s id None None
-  stays : (e e' : Live) → e'.label ≡ e.label → Change s id (Some e) (Some e')
+-- the entity of an id before and after a step from the state, made by the process of that id
+pub data Change (by : Option Id) (s : State) (id : Id) : Option Live → Option Live → Type 0 where
+  absent : Change by s id None None
+  stays : (e e' : Live) → e'.label ≡ e.label → Change by s id (Some e) (Some e')
   -- it has the next id, and the label that its maker's gives it
-  comes : (e maker : Live) (from : Id) → id.0 ≡ s.objects.next → live_at s.objects from ≡ Some maker
-      → e.label ≡ created_label s.specs (kind_of e.what) maker.label → Change s id None (Some e)
-  goes : (e : Live) → id.0 < s.objects.next → Change s id (Some e) None
+  comes : (e maker : Live) (from : Id) → by ≡ Some from → id.0 ≡ s.objects.next → live_at s.objects from ≡ Some maker
+      → e.label ≡ created_label s.specs (kind_of e.what) maker.label → Change by s id None (Some e)
+  goes : (e : Live) → id.0 < s.objects.next → Change by s id (Some e) None
 
-pub record IsStep (s s' : State) : Type 0 where
+pub record IsStep (by : Option Id) (s s' : State) : Type 0 where
   pub rising : IsRising 0 s'.objects.next s'.objects.live
   pub next : s.objects.next ≤ s'.objects.next
-  pub each : (id : Id) → Change s id (live_at s.objects id) (live_at s'.objects id)
+  pub each : (id : Id) → Change by s id (live_at s.objects id) (live_at s'.objects id)
 
-unchanged : (s : State) (id : Id) (found found' : Option Live) → found' ≡ found → Change s id found found'
-unchanged s id found found' is = subst (λ (o : Option Live). Change s id found o) (sym is) (itself found)
+unchanged : (by : Option Id) (s : State) (id : Id) (found found' : Option Live) → found' ≡ found → Change by s id found found'
+unchanged by s id found found' is = subst (λ (o : Option Live). Change by s id found o) (sym is) (itself found)
   where
-    itself : (o : Option Live) → Change s id o o
+    itself : (o : Option Live) → Change by s id o o
     itself None = absent
     itself (Some e) = stays e e refl
 
-same_step : (s s' : State) → s'.objects ≡ s.objects → IsRising 0 s.objects.next s.objects.live → IsStep s s'
-same_step s s' is rising =
+same_step : (by : Option Id) (s s' : State) → s'.objects ≡ s.objects → IsRising 0 s.objects.next s.objects.live → IsStep by s s'
+same_step by s s' is rising =
     record {
       rising = subst (λ (o : Entities). IsRising 0 o.next o.live) (sym is) rising;
       next = omega (arith, ap (λ (o : Entities). o.next) is);
-      each = λ id. unchanged s id (live_at s.objects id) (live_at s'.objects id) (ap (λ (o : Entities). live_at o id) is);
+      each = λ id. unchanged by s id (live_at s.objects id) (live_at s'.objects id) (ap (λ (o : Entities). live_at o id) is);
     }
 
-created_step : (s : State) (from : Id) (maker : Live) (name : List ℕ) (what : What) → live_at s.objects from ≡ Some maker
-    → IsRising 0 s.objects.next s.objects.live → IsStep s (with_created s from (kind_of what) name what)
-created_step s from maker name what live rising =
+created_step : (by : Option Id) (s : State) (from : Id) (maker : Live) (name : List ℕ) (what : What) → by ≡ Some from → live_at s.objects from ≡ Some maker
+    → IsRising 0 s.objects.next s.objects.live → IsStep by s (with_created s from (kind_of what) name what)
+created_step by s from maker name what own live rising =
     record { rising = rising_push 0 s.objects.next s.objects.live new refl rising; next = omega arith; each = λ id. one id (has_id id new) refl }
   where
     label : List LabelValue
@@ -55,18 +55,18 @@ created_step s from maker name what live rising =
     new : Live
     new = made s.objects name label what
 
-    one : (id : Id) (b : Bool) → has_id id new ≡ b → Change s id (find (has_id id) s.objects.live) (find (has_id id) (s.objects.live ++ new ∷ []))
+    one : (id : Id) (b : Bool) → has_id id new ≡ b → Change by s id (find (has_id id) s.objects.live) (find (has_id id) (s.objects.live ++ new ∷ []))
     one id true hit =
         let next : s.objects.next ≡ id.0 = id_is id new hit in
         let none : find (has_id id) s.objects.live ≡ None = find_beyond id 0 s.objects.next s.objects.live (omega arith) rising in
         let found : find (has_id id) (s.objects.live ++ new ∷ []) ≡ Some new = find_push_hit (has_id id) s.objects.live new none hit in
-        rw (none, found) (comes new maker from (sym next) live (ap (λ (o : Option Live). created_label s.specs (kind_of what) (label_of o)) live))
+        rw (none, found) (comes new maker from own (sym next) live (ap (λ (o : Option Live). created_label s.specs (kind_of what) (label_of o)) live))
     one id false miss =
-        unchanged s id (find (has_id id) s.objects.live) (find (has_id id) (s.objects.live ++ new ∷ [])) (find_push_miss (has_id id) s.objects.live new miss)
+        unchanged by s id (find (has_id id) s.objects.live) (find (has_id id) (s.objects.live ++ new ∷ [])) (find_push_miss (has_id id) s.objects.live new miss)
 
-changed_step : (s : State) (change : What → What) (at : Id) → IsRising 0 s.objects.next s.objects.live
-    → IsStep s (with_objects s (with_change (with_what change) s.objects at))
-changed_step s change at rising =
+changed_step : (by : Option Id) (s : State) (change : What → What) (at : Id) → IsRising 0 s.objects.next s.objects.live
+    → IsStep by s (with_objects s (with_change (with_what change) s.objects at))
+changed_step by s change at rising =
     record {
       rising = rising_changed (with_what change) at 0 s.objects.next s.objects.live (λ e. refl) rising;
       next = omega arith;
@@ -77,12 +77,12 @@ changed_step s change at rising =
     same e true = refl
     same e false = refl
 
-    one : (id : Id) (found : Option Live) → Change s id found (option_map (changed_at (with_what change) at) found)
+    one : (id : Id) (found : Option Live) → Change by s id found (option_map (changed_at (with_what change) at) found)
     one id None = absent
     one id (Some e) = stays e (changed_at (with_what change) at e) (same e (has_id at e))
 
-removed_step : (s : State) (gone : Live → Bool) → IsRising 0 s.objects.next s.objects.live → IsStep s (with_objects s (without gone s.objects))
-removed_step s gone rising =
+removed_step : (by : Option Id) (s : State) (gone : Live → Bool) → IsRising 0 s.objects.next s.objects.live → IsStep by s (with_objects s (without gone s.objects))
+removed_step by s gone rising =
     record {
       rising = rising_filter kept 0 s.objects.next s.objects.live rising;
       next = omega arith;
@@ -92,19 +92,19 @@ removed_step s gone rising =
     kept : Live → Bool
     kept e = not (gone e)
 
-    left : (id : Id) (found : Option Live) → find (has_id id) s.objects.live ≡ found → Change s id found None
+    left : (id : Id) (found : Option Live) → find (has_id id) s.objects.live ≡ found → Change by s id found None
     left id None is = absent
     left id (Some e) is = goes e (find_given id e 0 s.objects.next s.objects.live is rising)
 
     one : (id : Id) → (find (has_id id) (filter kept s.objects.live) ≡ find (has_id id) s.objects.live) ⊎ (find (has_id id) (filter kept s.objects.live) ≡ None)
-        → Change s id (find (has_id id) s.objects.live) (find (has_id id) (filter kept s.objects.live))
-    one id (inl stays_here) = unchanged s id (find (has_id id) s.objects.live) (find (has_id id) (filter kept s.objects.live)) stays_here
+        → Change by s id (find (has_id id) s.objects.live) (find (has_id id) (filter kept s.objects.live))
+    one id (inl stays_here) = unchanged by s id (find (has_id id) s.objects.live) (find (has_id id) (filter kept s.objects.live)) stays_here
     one id (inr none) = rw none (left id (find (has_id id) s.objects.live) refl)
 
-pub entity_step : (s s' : State) → Shape s s' → IsRising 0 s.objects.next s.objects.live → IsStep s s'
-entity_step s s' (same is) rising = same_step s s' (ap (λ (x : State). x.objects) is) rising
-entity_step s s' (created from maker name what live is) rising = subst (IsStep s) (sym is) (created_step s from maker name what live rising)
-entity_step s s' (changed change id is) rising = subst (IsStep s) (sym is) (changed_step s change id rising)
-entity_step s s' (removed gone is) rising = subst (IsStep s) (sym is) (removed_step s gone rising)
-entity_step s s' (loaded m none is) rising = same_step s s' (ap (λ (x : State). x.objects) is) rising
-entity_step s s' (unloaded m ok is) rising = same_step s s' (ap (λ (x : State). x.objects) is) rising
+pub entity_step : (by : Option Id) (s s' : State) → Shape by s s' → IsRising 0 s.objects.next s.objects.live → IsStep by s s'
+entity_step by s s' (same is) rising = same_step by s s' (ap (λ (x : State). x.objects) is) rising
+entity_step by s s' (created from maker name what own live is) rising = subst (IsStep by s) (sym is) (created_step by s from maker name what own live rising)
+entity_step by s s' (changed change id is) rising = subst (IsStep by s) (sym is) (changed_step by s change id rising)
+entity_step by s s' (removed gone is) rising = subst (IsStep by s) (sym is) (removed_step by s gone rising)
+entity_step by s s' (loaded m none is) rising = same_step by s s' (ap (λ (x : State). x.objects) is) rising
+entity_step by s s' (unloaded m ok is) rising = same_step by s s' (ap (λ (x : State). x.objects) is) rising

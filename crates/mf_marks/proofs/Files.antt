@@ -21,7 +21,7 @@ use Rattle.mf_plan.specs.Path.{root, entry_of, last_name, walk_along}
 use Rattle.mf_plan.specs.Views.{is_dir}
 use Rattle.mf_core.specs.Opening.{boot_label, with_file_at, with_file}
 use Rattle.mf_item.specs.declared.view.Kind.TheVariants as kinds
-use Rattle.mf_marks.proofs.Finding.{find_push_hit, find_beyond}
+use Rattle.mf_objects.proofs.Finding.{find_push_hit, find_beyond}
 use Rattle.mf_marks.proofs.Leading.{directory_and_last, same_path-is, Leads, leads_on, walk_leads, leads_kept, leads_given, Tells, StandsIn, IsFileAt, found_path, leads_path, no_process}
 
 -- Lists

@@ -16,7 +16,7 @@ use Rattle.mf_plan.specs.declared.target.Target.TheVariants.{Name}
 use Rattle.mf_plan.specs.declared.walk.Walk.{Walk}
 use Rattle.mf_plan.specs.Path.{walk_from, going_on, nowhere, entry_of, last_name}
 use Rattle.mf_plan.specs.Views.{is_dir}
-use Rattle.mf_marks.proofs.Finding.{find_given}
+use Rattle.mf_objects.proofs.Finding.{find_given}
 
 -- Paths
 

@@ -1,10 +1,9 @@
-mod Finding
-mod Shape
-mod Entities
-mod Listing
-mod Boots
-mod Openings
-mod Kept
+pub mod Shape
+pub mod Entities
+pub mod Listing
+pub mod Boots
+pub mod Openings
+pub mod Kept
 pub mod Marked
 mod Leading
 mod Files

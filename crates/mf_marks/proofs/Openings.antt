@@ -22,7 +22,7 @@ use Rattle.mf_plan.specs.declared.target.Target.TheVariants.{Root, Name, Nowhere
 use Rattle.mf_plan.specs.Path.{last_name, walk_along}
 use Rattle.mf_plan.specs.Views.{process_named}
 use Rattle.mf_core.specs.Opening.{boot_label, root_alone, with_file_at, with_file, with_task_at, with_task, opening_objects}
-use Rattle.mf_marks.proofs.Finding.{find_push_miss, find_push_hit, find_beyond}
+use Rattle.mf_objects.proofs.Finding.{find_push_miss, find_push_hit, find_beyond}
 
 -- files and processes alone are there at boot
 abbrev pub IsBootKind : Kind → Type 0

@@ -18,7 +18,7 @@ use Rattle.mf_plan.specs.Path.{root}
 use Rattle.mf_plan.specs.Views.{process_named}
 use Rattle.mf_core.specs.Opening.{boot_label, root_alone, with_file, with_task_at, with_task, booted_specs, registrations_in}
 use Rattle.mf_marks.specs.Laws.{OpeningIsWhole}
-use Rattle.mf_marks.proofs.Finding.{find_push_miss}
+use Rattle.mf_objects.proofs.Finding.{find_push_miss}
 use Rattle.mf_marks.proofs.Files.{by_place, all_from, all_both, AreMade, AreFormed, AreFiles, HasDirectories, files_made}
 
 -- Files

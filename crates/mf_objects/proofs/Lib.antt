@@ -1,5 +1,6 @@
 pub mod Zoned
 pub mod Rising
+pub mod Finding
 pub mod Belonging
 pub mod Kept
 pub mod Found

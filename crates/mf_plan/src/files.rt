@@ -2,94 +2,112 @@
 ghost use Rattle.std.specs.Prelude.{◌≡◌, ◌≤◌, [], map, length, All};
 ghost use Rattle.mf_item.specs.declared.operation.CheckOp.TheVariants as op;
 ghost use Rattle.mf_objects.specs.Live.{IsLive, is_directory};
+ghost use Rattle.mf_plan.specs.Outline as outline;
 ghost use Rattle.mf_plan.specs.Path.{IsTarget, walk_along};
 ghost use Rattle.mf_plan.specs.Plan as spec;
+ghost use Rattle.mf_plan.specs.Views as view;
 
-use crate::plan::Checks;
+use crate::outline::{Checks, ask};
 use crate::target::Target;
-use crate::views::{is_full, on, overfills_file};
+use crate::views::{is_full, overfills_file};
 use crate::walk::walk_along;
 use mf_errno::Errno;
-use mf_item::{CheckOp, SubjectView};
+use mf_item::CheckOp;
 use mf_objects::{Id, Objects};
 use mf_script::Path;
 
 /// Walks along the path, and adds the check of each look-up.
-fn look_up(objects: &Objects, me: &SubjectView, path: &Path, checks: &mut Checks) -> Target
+fn look_up(objects: &Objects, caller: Id, path: &Path, checks: &mut Checks) -> Target
     requires path { length path.now ≤ 8 }
     requires empty { checks.old ≡ [] }
-    ensures checks { checks.new ≡ map (spec.on objects.now me.now op.VnodeLookup) (walk_along objects.now path.now).lookups }
+    requires asking { outline.IsAsking objects.now caller checks.old }
+    ensures checks { map (outline.item_of objects.now) checks.new
+        ≡ map (spec.on objects.now (view.subject_of objects.now caller) op.VnodeLookup) (walk_along objects.now path.now).lookups }
     ensures few { length checks.new ≤ 8 }
     ensures target { result ≡ (walk_along objects.now path.now).target }
     ensures live { IsTarget objects.now result }
+    ensures asking { outline.IsAsking objects.now caller checks.new }
 {
     let walk = walk_along(objects, path.as_slice());
-    ask_lookups(objects, me, walk.lookups.as_slice(), checks);
+    ask_lookups(objects, caller, walk.lookups.as_slice(), checks);
     walk.target
 }
 
-fn ask_lookups(objects: &Objects, me: &SubjectView, dirs: &[Id], checks: &mut Checks)
+fn ask_lookups(objects: &Objects, caller: Id, dirs: &[Id], checks: &mut Checks)
     requires few { length dirs.now ≤ 8 }
     requires live { All (λ dir. IsLive is_directory objects.now dir) dirs.now }
     requires empty { checks.old ≡ [] }
-    ensures checks { checks.new ≡ map (spec.on objects.now me.now op.VnodeLookup) dirs.now }
+    requires asking { outline.IsAsking objects.now caller checks.old }
+    ensures checks { map (outline.item_of objects.now) checks.new
+        ≡ map (spec.on objects.now (view.subject_of objects.now caller) op.VnodeLookup) dirs.now }
+    ensures few { length checks.new ≡ length dirs.now }
+    ensures asking { outline.IsAsking objects.now caller checks.new }
 {
     for dir in dirs {
-        checks.push(on(objects, me, CheckOp::VnodeLookup, *dir));
+        ask(objects, caller, CheckOp::VnodeLookup, *dir, checks);
     }
 }
 
 /// One check of what is at the end of the path.
 pub(crate) fn on_file(
     objects: &Objects,
-    me: &SubjectView,
+    caller: Id,
     op: CheckOp,
     path: &Path,
     checks: &mut Checks,
 ) -> Result<(), Errno>
     requires path { length path.now ≤ 8 }
     requires empty { checks.old ≡ [] }
-    ensures { spec.ended checks.new result
-        ≡ spec.along objects.now me.now (spec.at_found (spec.check_row objects.now me.now op)) (walk_along objects.now path.now) }
+    requires asking { outline.IsAsking objects.now caller checks.old }
+    ensures plan { spec.ended (map (outline.item_of objects.now) checks.new) result
+        ≡ spec.along objects.now (view.subject_of objects.now caller)
+        (spec.at_found (spec.check_row objects.now (view.subject_of objects.now caller) op)) (walk_along objects.now path.now) }
+    ensures asking { outline.IsAsking objects.now caller checks.new }
 {
-    let id = look_up(objects, me, path, checks).found(objects)?;
-    checks.push(on(objects, me, op, id));
+    let id = look_up(objects, caller, path, checks).found(objects)?;
+    ask(objects, caller, op, id, checks);
     Ok(())
 }
 
 pub(crate) fn exec(
     objects: &Objects,
-    me: &SubjectView,
+    caller: Id,
     path: &Path,
     checks: &mut Checks,
 ) -> Result<(), Errno>
     requires path { length path.now ≤ 8 }
     requires empty { checks.old ≡ [] }
-    ensures { spec.ended checks.new result
-        ≡ spec.along objects.now me.now (spec.at_found (spec.exec_row objects.now me.now)) (walk_along objects.now path.now) }
+    requires asking { outline.IsAsking objects.now caller checks.old }
+    ensures plan { spec.ended (map (outline.item_of objects.now) checks.new) result
+        ≡ spec.along objects.now (view.subject_of objects.now caller)
+        (spec.at_found (spec.exec_row objects.now (view.subject_of objects.now caller))) (walk_along objects.now path.now) }
+    ensures asking { outline.IsAsking objects.now caller checks.new }
 {
-    let id = look_up(objects, me, path, checks).found(objects)?;
+    let id = look_up(objects, caller, path, checks).found(objects)?;
     if objects.file(id).dir {
         return Err(Errno::Eacces);
     }
-    checks.push(on(objects, me, CheckOp::VnodeExec, id));
+    ask(objects, caller, CheckOp::VnodeExec, id, checks);
     Ok(())
 }
 
 /// The checks and tests of `create` and `mkdir`.
 pub(crate) fn create(
     objects: &Objects,
-    me: &SubjectView,
+    caller: Id,
     path: &Path,
     checks: &mut Checks,
 ) -> Result<(), Errno>
     requires path { length path.now ≤ 8 }
     requires empty { checks.old ≡ [] }
-    ensures { spec.ended checks.new result
-        ≡ spec.along objects.now me.now (spec.at_free (spec.create_row objects.now me.now)) (walk_along objects.now path.now) }
+    requires asking { outline.IsAsking objects.now caller checks.old }
+    ensures plan { spec.ended (map (outline.item_of objects.now) checks.new) result
+        ≡ spec.along objects.now (view.subject_of objects.now caller)
+        (spec.at_free (spec.create_row objects.now (view.subject_of objects.now caller))) (walk_along objects.now path.now) }
+    ensures asking { outline.IsAsking objects.now caller checks.new }
 {
-    let dir = look_up(objects, me, path, checks).free()?;
-    checks.push(on(objects, me, CheckOp::VnodeCreate, dir));
+    let dir = look_up(objects, caller, path, checks).free()?;
+    ask(objects, caller, CheckOp::VnodeCreate, dir, checks);
     if is_full(objects) {
         return Err(Errno::Enfile);
     }
@@ -98,27 +116,30 @@ pub(crate) fn create(
 
 pub(crate) fn read(
     objects: &Objects,
-    me: &SubjectView,
+    caller: Id,
     path: &Path,
     checks: &mut Checks,
 ) -> Result<(), Errno>
     requires path { length path.now ≤ 8 }
     requires empty { checks.old ≡ [] }
-    ensures { spec.ended checks.new result
-        ≡ spec.along objects.now me.now (spec.at_found (spec.read_row objects.now me.now)) (walk_along objects.now path.now) }
+    requires asking { outline.IsAsking objects.now caller checks.old }
+    ensures plan { spec.ended (map (outline.item_of objects.now) checks.new) result
+        ≡ spec.along objects.now (view.subject_of objects.now caller)
+        (spec.at_found (spec.read_row objects.now (view.subject_of objects.now caller))) (walk_along objects.now path.now) }
+    ensures asking { outline.IsAsking objects.now caller checks.new }
 {
-    let id = look_up(objects, me, path, checks).found(objects)?;
+    let id = look_up(objects, caller, path, checks).found(objects)?;
     if objects.file(id).dir {
         return Err(Errno::Eisdir);
     }
-    checks.push(on(objects, me, CheckOp::VnodeOpenRead, id));
-    checks.push(on(objects, me, CheckOp::VnodeRead, id));
+    ask(objects, caller, CheckOp::VnodeOpenRead, id, checks);
+    ask(objects, caller, CheckOp::VnodeRead, id, checks);
     Ok(())
 }
 
 pub(crate) fn write(
     objects: &Objects,
-    me: &SubjectView,
+    caller: Id,
     path: &Path,
     text: &[u8],
     checks: &mut Checks,
@@ -126,15 +147,18 @@ pub(crate) fn write(
     requires path { length path.now ≤ 8 }
     requires text { length text.now ≤ 1048576 }
     requires empty { checks.old ≡ [] }
-    ensures { spec.ended checks.new result
-        ≡ spec.along objects.now me.now (spec.at_found (spec.write_row objects.now me.now text.now)) (walk_along objects.now path.now) }
+    requires asking { outline.IsAsking objects.now caller checks.old }
+    ensures plan { spec.ended (map (outline.item_of objects.now) checks.new) result
+        ≡ spec.along objects.now (view.subject_of objects.now caller)
+        (spec.at_found (spec.write_row objects.now (view.subject_of objects.now caller) text.now)) (walk_along objects.now path.now) }
+    ensures asking { outline.IsAsking objects.now caller checks.new }
 {
-    let id = look_up(objects, me, path, checks).found(objects)?;
+    let id = look_up(objects, caller, path, checks).found(objects)?;
     if objects.file(id).dir {
         return Err(Errno::Eisdir);
     }
-    checks.push(on(objects, me, CheckOp::VnodeOpenWrite, id));
-    checks.push(on(objects, me, CheckOp::VnodeWrite, id));
+    ask(objects, caller, CheckOp::VnodeOpenWrite, id, checks);
+    ask(objects, caller, CheckOp::VnodeWrite, id, checks);
     if overfills_file(objects, text, id) {
         return Err(Errno::Efbig);
     }
@@ -143,37 +167,43 @@ pub(crate) fn write(
 
 pub(crate) fn readdir(
     objects: &Objects,
-    me: &SubjectView,
+    caller: Id,
     path: &Path,
     checks: &mut Checks,
 ) -> Result<(), Errno>
     requires path { length path.now ≤ 8 }
     requires empty { checks.old ≡ [] }
-    ensures { spec.ended checks.new result
-        ≡ spec.along objects.now me.now (spec.at_found (spec.readdir_row objects.now me.now)) (walk_along objects.now path.now) }
+    requires asking { outline.IsAsking objects.now caller checks.old }
+    ensures plan { spec.ended (map (outline.item_of objects.now) checks.new) result
+        ≡ spec.along objects.now (view.subject_of objects.now caller)
+        (spec.at_found (spec.readdir_row objects.now (view.subject_of objects.now caller))) (walk_along objects.now path.now) }
+    ensures asking { outline.IsAsking objects.now caller checks.new }
 {
-    let id = look_up(objects, me, path, checks).found(objects)?;
+    let id = look_up(objects, caller, path, checks).found(objects)?;
     if !objects.file(id).dir {
         return Err(Errno::Enotdir);
     }
-    checks.push(on(objects, me, CheckOp::VnodeReaddir, id));
+    ask(objects, caller, CheckOp::VnodeReaddir, id, checks);
     Ok(())
 }
 
 pub(crate) fn unlink(
     objects: &Objects,
-    me: &SubjectView,
+    caller: Id,
     path: &Path,
     checks: &mut Checks,
 ) -> Result<(), Errno>
     requires path { length path.now ≤ 8 }
     requires empty { checks.old ≡ [] }
-    ensures { spec.ended checks.new result
-        ≡ spec.along objects.now me.now (spec.at_entry (spec.unlink_row objects.now me.now)) (walk_along objects.now path.now) }
+    requires asking { outline.IsAsking objects.now caller checks.old }
+    ensures plan { spec.ended (map (outline.item_of objects.now) checks.new) result
+        ≡ spec.along objects.now (view.subject_of objects.now caller)
+        (spec.at_entry (spec.unlink_row objects.now (view.subject_of objects.now caller))) (walk_along objects.now path.now) }
+    ensures asking { outline.IsAsking objects.now caller checks.new }
 {
-    let (dir, id) = look_up(objects, me, path, checks).entry()?;
-    checks.push(on(objects, me, CheckOp::VnodeUnlinkDir, dir));
-    checks.push(on(objects, me, CheckOp::VnodeUnlink, id));
+    let (dir, id) = look_up(objects, caller, path, checks).entry()?;
+    ask(objects, caller, CheckOp::VnodeUnlinkDir, dir, checks);
+    ask(objects, caller, CheckOp::VnodeUnlink, id, checks);
     if objects.count(id) > 0 {
         return Err(Errno::Enotempty);
     }

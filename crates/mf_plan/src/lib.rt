@@ -5,6 +5,7 @@ mod files;
 mod loading;
 mod named;
 mod names;
+mod outline;
 mod plan;
 mod planning;
 mod reply;
@@ -17,8 +18,9 @@ mod walk;
 
 pub use loading::loadable;
 pub use names::{ChildName, caller_of, child_name};
+pub use outline::{Check, Outline};
 pub use plan::{Plan, Tail};
-pub use planning::plan_of;
+pub use planning::{outline_of, plan_of};
 pub use reply::{Loaded, Payload, Reply};
 pub use state::State;
 pub use target::Target;

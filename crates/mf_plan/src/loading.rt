@@ -1,16 +1,18 @@
 //! Which modules can be loaded and unloaded, and the checks of the calls that do it.
-ghost use Rattle.std.specs.Prelude.{◌≡◌, []};
+ghost use Rattle.std.specs.Prelude.{◌≡◌, [], map};
 ghost use Rattle.mf_errno.specs.declared.privilege.Priv.TheVariants as privilege;
 ghost use Rattle.mf_item.specs.declared.operation.CheckOp.TheVariants as op;
 ghost use Rattle.mf_policy.specs.Registration.{is_listed};
 ghost use Rattle.mf_plan.specs.Loading as spec;
+ghost use Rattle.mf_plan.specs.Outline as outline;
 ghost use Rattle.mf_plan.specs.Plan as plan;
+ghost use Rattle.mf_plan.specs.Views as view;
 
-use crate::plan::Checks;
+use crate::outline::{Checks, ask_modules, ask_privilege};
 use crate::state::State;
-use mf_cred::Duplicate;
 use mf_errno::{Errno, Module, Priv};
-use mf_item::{CheckOp, Item, SubjectView};
+use mf_item::CheckOp;
+use mf_objects::Id;
 use mf_policy::{SpecList, flags_of, has_spec, wants_slot};
 use mf_slots::SLOTS;
 
@@ -71,34 +73,39 @@ pub(crate) fn unload_fault(state: &State, name: &str) -> Option<Errno>
 /// The checks and tests of `kldload`.
 pub(crate) fn kldload(
     state: &State,
-    me: &SubjectView,
+    caller: Id,
     name: &str,
     checks: &mut Checks,
 ) -> Result<(), Errno>
-    requires { checks.old ≡ [] }
-    ensures { plan.ended checks.new result
-        ≡ plan.ask (plan.privileged me.now privilege.KldLoad) (plan.load_row state.now me.now (spec.loadable name.now)) }
+    requires empty { checks.old ≡ [] }
+    requires asking { outline.IsAsking state.now.objects caller checks.old }
+    ensures plan { plan.ended (map (outline.item_of state.now.objects) checks.new) result
+        ≡ plan.ask (plan.privileged (view.subject_of state.now.objects caller) privilege.KldLoad)
+        (plan.load_row state.now (view.subject_of state.now.objects caller) (spec.loadable name.now)) }
+    ensures asking { outline.IsAsking state.now.objects caller checks.new }
 {
-    checks.push(privileged(me, Priv::KldLoad));
+    ask_privilege(&state.objects, caller, Priv::KldLoad, checks);
     let wanted = loadable(name).ok_or(Errno::Enoent)?;
-    checks.push(about_modules(me, CheckOp::KldLoad));
+    ask_modules(&state.objects, caller, CheckOp::KldLoad, checks);
     none_or_err(load_fault(state, wanted))
 }
 
 /// The checks and tests of `kldunload`.
 pub(crate) fn kldunload(
     state: &State,
-    me: &SubjectView,
+    caller: Id,
     name: &str,
     checks: &mut Checks,
 ) -> Result<(), Errno>
-    requires { checks.old ≡ [] }
-    ensures { plan.ended checks.new result
-        ≡ plan.ask (plan.privileged me.now privilege.KldUnload)
-        (plan.ask (plan.about_modules me.now op.KldUnload) (plan.refuse_by (spec.unload_fault state.now name.now) plan.proceed)) }
+    requires empty { checks.old ≡ [] }
+    requires asking { outline.IsAsking state.now.objects caller checks.old }
+    ensures plan { plan.ended (map (outline.item_of state.now.objects) checks.new) result
+        ≡ plan.ask (plan.privileged (view.subject_of state.now.objects caller) privilege.KldUnload)
+        (plan.ask (plan.about_modules (view.subject_of state.now.objects caller) op.KldUnload) (plan.refuse_by (spec.unload_fault state.now name.now) plan.proceed)) }
+    ensures asking { outline.IsAsking state.now.objects caller checks.new }
 {
-    checks.push(privileged(me, Priv::KldUnload));
-    checks.push(about_modules(me, CheckOp::KldUnload));
+    ask_privilege(&state.objects, caller, Priv::KldUnload, checks);
+    ask_modules(&state.objects, caller, CheckOp::KldUnload, checks);
     none_or_err(unload_fault(state, name))
 }
 
@@ -108,31 +115,5 @@ fn none_or_err(fault: Option<Errno>) -> Result<(), Errno>
     match fault {
         None => Ok(()),
         Some(errno) => Err(errno),
-    }
-}
-
-/// The check of a privilege.
-fn privileged(me: &SubjectView, privilege: Priv) -> Item
-    ensures { result ≡ plan.privileged me.now privilege }
-{
-    Item {
-        op: CheckOp::Priv,
-        subject: me.copy(),
-        object: None,
-        request: None,
-        privilege: Some(privilege),
-    }
-}
-
-/// The check of a subject that loads or unloads a module.
-fn about_modules(me: &SubjectView, op: CheckOp) -> Item
-    ensures { result ≡ plan.about_modules me.now op }
-{
-    Item {
-        op,
-        subject: me.copy(),
-        object: None,
-        request: None,
-        privilege: None,
     }
 }

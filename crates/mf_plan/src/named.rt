@@ -1,17 +1,18 @@
 //! The checks of calls on processes, pipes and sockets, which go by name.
-ghost use Rattle.std.specs.Prelude.{◌≡◌, ◌≤◌, [], length};
+ghost use Rattle.std.specs.Prelude.{◌≡◌, ◌≤◌, [], length, map};
 ghost use Rattle.mf_errno.specs.declared.errno.Errno.TheVariants as errno;
 ghost use Rattle.mf_item.specs.declared.operation.CheckOp.TheVariants as op;
 ghost use Rattle.mf_script.specs.WellFormed.{IsName};
 ghost use Rattle.mf_plan.specs.Names.{child_name};
+ghost use Rattle.mf_plan.specs.Outline as outline;
 ghost use Rattle.mf_plan.specs.Plan as spec;
 ghost use Rattle.mf_plan.specs.Views as view;
 
 use crate::names::child_name;
-use crate::plan::Checks;
-use crate::views::{is_full, on, overfills_pipe, sender_of};
+use crate::outline::{Checks, ask, ask_delivery};
+use crate::views::{is_full, overfills_pipe};
 use mf_errno::Errno;
-use mf_item::{CheckOp, SubjectView};
+use mf_item::CheckOp;
 use mf_objects::{Id, Objects};
 
 /// The most messages that a socket holds.
@@ -45,48 +46,54 @@ pub(crate) fn fork(objects: &Objects, task: &str, child: &str) -> Result<(), Err
 /// One check of a process.
 pub(crate) fn on_process(
     objects: &Objects,
-    me: &SubjectView,
+    caller: Id,
     op: CheckOp,
     name: &str,
     checks: &mut Checks,
 ) -> Result<(), Errno>
-    requires { checks.old ≡ [] }
-    ensures { spec.ended checks.new result
-        ≡ spec.found errno.Esrch (spec.check_row objects.now me.now op) (view.process_named objects.now name.now) }
+    requires empty { checks.old ≡ [] }
+    requires asking { outline.IsAsking objects.now caller checks.old }
+    ensures plan { spec.ended (map (outline.item_of objects.now) checks.new) result
+        ≡ spec.found errno.Esrch (spec.check_row objects.now (view.subject_of objects.now caller) op) (view.process_named objects.now name.now) }
+    ensures asking { outline.IsAsking objects.now caller checks.new }
 {
     let id = objects.process(name).ok_or(Errno::Esrch)?;
-    checks.push(on(objects, me, op, id));
+    ask(objects, caller, op, id, checks);
     Ok(())
 }
 
 /// One check of a pipe.
 pub(crate) fn pstat(
     objects: &Objects,
-    me: &SubjectView,
+    caller: Id,
     name: &str,
     checks: &mut Checks,
 ) -> Result<(), Errno>
-    requires { checks.old ≡ [] }
-    ensures { spec.ended checks.new result
-        ≡ spec.found errno.Enoent (spec.check_row objects.now me.now op.PipeStat) (view.pipe_named objects.now name.now) }
+    requires empty { checks.old ≡ [] }
+    requires asking { outline.IsAsking objects.now caller checks.old }
+    ensures plan { spec.ended (map (outline.item_of objects.now) checks.new) result
+        ≡ spec.found errno.Enoent (spec.check_row objects.now (view.subject_of objects.now caller) op.PipeStat) (view.pipe_named objects.now name.now) }
+    ensures asking { outline.IsAsking objects.now caller checks.new }
 {
     let id = objects.pipe(name).ok_or(Errno::Enoent)?;
-    checks.push(on(objects, me, CheckOp::PipeStat, id));
+    ask(objects, caller, CheckOp::PipeStat, id, checks);
     Ok(())
 }
 
 pub(crate) fn pread(
     objects: &Objects,
-    me: &SubjectView,
+    caller: Id,
     name: &str,
     checks: &mut Checks,
 ) -> Result<(), Errno>
-    requires { checks.old ≡ [] }
-    ensures { spec.ended checks.new result
-        ≡ spec.found errno.Enoent (spec.pread_row objects.now me.now) (view.pipe_named objects.now name.now) }
+    requires empty { checks.old ≡ [] }
+    requires asking { outline.IsAsking objects.now caller checks.old }
+    ensures plan { spec.ended (map (outline.item_of objects.now) checks.new) result
+        ≡ spec.found errno.Enoent (spec.pread_row objects.now (view.subject_of objects.now caller)) (view.pipe_named objects.now name.now) }
+    ensures asking { outline.IsAsking objects.now caller checks.new }
 {
     let id = objects.pipe(name).ok_or(Errno::Enoent)?;
-    checks.push(on(objects, me, CheckOp::PipeRead, id));
+    ask(objects, caller, CheckOp::PipeRead, id, checks);
     if objects.size(id) == 0 {
         return Err(Errno::Eagain);
     }
@@ -95,18 +102,20 @@ pub(crate) fn pread(
 
 pub(crate) fn pwrite(
     objects: &Objects,
-    me: &SubjectView,
+    caller: Id,
     name: &str,
     text: &[u8],
     checks: &mut Checks,
 ) -> Result<(), Errno>
     requires empty { checks.old ≡ [] }
     requires text { length text.now ≤ 1048576 }
-    ensures { spec.ended checks.new result
-        ≡ spec.found errno.Enoent (spec.pwrite_row objects.now me.now text.now) (view.pipe_named objects.now name.now) }
+    requires asking { outline.IsAsking objects.now caller checks.old }
+    ensures plan { spec.ended (map (outline.item_of objects.now) checks.new) result
+        ≡ spec.found errno.Enoent (spec.pwrite_row objects.now (view.subject_of objects.now caller) text.now) (view.pipe_named objects.now name.now) }
+    ensures asking { outline.IsAsking objects.now caller checks.new }
 {
     let id = objects.pipe(name).ok_or(Errno::Enoent)?;
-    checks.push(on(objects, me, CheckOp::PipeWrite, id));
+    ask(objects, caller, CheckOp::PipeWrite, id, checks);
     if overfills_pipe(objects, text, id) {
         return Err(Errno::Eagain);
     }
@@ -117,20 +126,21 @@ pub(crate) fn pwrite(
 /// ENOENT.
 pub(crate) fn send(
     objects: &Objects,
-    me: &SubjectView,
+    caller: Id,
     from: &str,
     to: &str,
     checks: &mut Checks,
 ) -> Result<(), Errno>
-    requires { checks.old ≡ [] }
-    ensures { spec.ended checks.new result
-        ≡ spec.found errno.Enoent (spec.send_row objects.now me.now to.now) (view.socket_named objects.now from.now) }
+    requires empty { checks.old ≡ [] }
+    requires asking { outline.IsAsking objects.now caller checks.old }
+    ensures plan { spec.ended (map (outline.item_of objects.now) checks.new) result
+        ≡ spec.found errno.Enoent (spec.send_row objects.now (view.subject_of objects.now caller) to.now) (view.socket_named objects.now from.now) }
+    ensures asking { outline.IsAsking objects.now caller checks.new }
 {
     let from = objects.socket(from).ok_or(Errno::Enoent)?;
-    checks.push(on(objects, me, CheckOp::SocketSend, from));
+    ask(objects, caller, CheckOp::SocketSend, from, checks);
     let to = objects.socket(to).ok_or(Errno::Enoent)?;
-    let sender = sender_of(objects, me, from);
-    checks.push(on(objects, &sender, CheckOp::SocketDeliver, to));
+    ask_delivery(objects, caller, from, to, checks);
     if objects.count(to) >= MOST_MESSAGES {
         return Err(Errno::Enobufs);
     }
@@ -139,16 +149,18 @@ pub(crate) fn send(
 
 pub(crate) fn recv(
     objects: &Objects,
-    me: &SubjectView,
+    caller: Id,
     name: &str,
     checks: &mut Checks,
 ) -> Result<(), Errno>
-    requires { checks.old ≡ [] }
-    ensures { spec.ended checks.new result
-        ≡ spec.found errno.Enoent (spec.recv_row objects.now me.now) (view.socket_named objects.now name.now) }
+    requires empty { checks.old ≡ [] }
+    requires asking { outline.IsAsking objects.now caller checks.old }
+    ensures plan { spec.ended (map (outline.item_of objects.now) checks.new) result
+        ≡ spec.found errno.Enoent (spec.recv_row objects.now (view.subject_of objects.now caller)) (view.socket_named objects.now name.now) }
+    ensures asking { outline.IsAsking objects.now caller checks.new }
 {
     let id = objects.socket(name).ok_or(Errno::Enoent)?;
-    checks.push(on(objects, me, CheckOp::SocketReceive, id));
+    ask(objects, caller, CheckOp::SocketReceive, id, checks);
     if objects.count(id) == 0 {
         return Err(Errno::Eagain);
     }
@@ -158,15 +170,17 @@ pub(crate) fn recv(
 /// One check of a socket.
 pub(crate) fn seesock(
     objects: &Objects,
-    me: &SubjectView,
+    caller: Id,
     name: &str,
     checks: &mut Checks,
 ) -> Result<(), Errno>
-    requires { checks.old ≡ [] }
-    ensures { spec.ended checks.new result
-        ≡ spec.found errno.Enoent (spec.check_row objects.now me.now op.SocketVisible) (view.socket_named objects.now name.now) }
+    requires empty { checks.old ≡ [] }
+    requires asking { outline.IsAsking objects.now caller checks.old }
+    ensures plan { spec.ended (map (outline.item_of objects.now) checks.new) result
+        ≡ spec.found errno.Enoent (spec.check_row objects.now (view.subject_of objects.now caller) op.SocketVisible) (view.socket_named objects.now name.now) }
+    ensures asking { outline.IsAsking objects.now caller checks.new }
 {
     let id = objects.socket(name).ok_or(Errno::Enoent)?;
-    checks.push(on(objects, me, CheckOp::SocketVisible, id));
+    ask(objects, caller, CheckOp::SocketVisible, id, checks);
     Ok(())
 }

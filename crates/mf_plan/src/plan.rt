@@ -1,5 +1,6 @@
 //! Plans: the checks that a call asks the policies for, in order, and how it ends where none is denied.
-ghost use Rattle.std.specs.Prelude.{◌≡◌, ◌↔◌, take, IsTrue};
+ghost use Rattle.std.specs.Prelude.{◌≡◌, ◌↔◌, IsTrue};
+ghost use Rattle.mf_plan.specs.Plan.{proceed};
 
 use mf_cred::ArrayVec;
 use mf_errno::Errno;
@@ -14,9 +15,6 @@ pub enum Tail {
     Refuse(Errno),
 }
 
-/// Checks in the order in which they are asked. A plan has at most 10: 8 look-ups and 2 more.
-pub(crate) type Checks = ArrayVec<Item, 12>;
-
 /// The checks of a call, in the order in which they are asked, and its end.
 #[derive(Drop)]
 pub struct Plan {
@@ -25,6 +23,16 @@ pub struct Plan {
 }
 
 impl Plan {
+    /// The plan of a call that asks nothing and is done.
+    pub fn new() -> Plan
+        ensures { result ≡ proceed }
+    {
+        Plan {
+            items: ArrayVec::new(),
+            tail: Tail::Do,
+        }
+    }
+
     /// Whether the two are equal.
     pub fn same(&self, other: &Plan) -> bool
         ensures { IsTrue result ↔ (self.now ≡ other.now) }

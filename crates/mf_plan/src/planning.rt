@@ -1,19 +1,23 @@
 //! The plan of a call.
-ghost use Rattle.std.specs.Prelude.{◌≡◌, []};
+ghost use Rattle.std.specs.Prelude.{◌≡◌, ◌↔◌, [], map, IsTrue};
 ghost use Rattle.std.specs.Option.{option_copied};
 ghost use Rattle.mf_script.specs.WellFormed.{IsFormedCall, IsFormedChild, IsName};
+ghost use Rattle.mf_plan.specs.Outline as outlines;
 ghost use Rattle.mf_plan.specs.Plan as spec;
+ghost use Rattle.mf_plan.specs.Views.{subject_of};
 
 use crate::files::{create, exec, on_file, read, readdir, unlink, write};
 use crate::loading::{kldload, kldunload};
 use crate::named::{fork, make, on_process, pread, pstat, pwrite, recv, seesock, send};
 use crate::names::caller_of;
-use crate::plan::{Checks, Plan, Tail};
+use crate::outline::{Checks, Outline};
+use crate::plan::{Plan, Tail};
 use crate::state::State;
-use crate::views::subject_of;
+use crate::views::{add_items, are_items};
 use mf_cred::ArrayVec;
 use mf_errno::Errno;
-use mf_item::{CheckOp, SubjectView};
+use mf_item::CheckOp;
+use mf_objects::{Id, Objects};
 use mf_script::Call;
 
 /// The plan of a call of the task's own process, or of its child of that name. Where that process isn't live, the plan
@@ -24,16 +28,63 @@ pub fn plan_of(state: &State, task: &str, child: Option<&str>, call: &Call) -> P
     requires formed { IsFormedCall call.now }
     ensures { result ≡ spec.plan_of state.now task.now (option_copied child.entry) call.now }
 {
-    let mut items = ArrayVec::new();
+    let mut plan = Plan::new();
+    plan.make(state, task, child, call);
+    plan
+}
+
+impl Plan {
+    /// Becomes the plan of a call, as `plan_of` makes it. A plan is large: this one is made where it lies, and never moved.
+    pub fn make(&mut self, state: &State, task: &str, child: Option<&str>, call: &Call)
+        requires task { IsName task.now }
+        requires child { IsFormedChild (option_copied child) }
+        requires formed { IsFormedCall call.now }
+        ensures { self.new ≡ spec.plan_of state.now task.now (option_copied child.entry) call.now }
+    {
+        let outline = outline_of(state, task, child, call);
+        self.items.clear();
+        add_items(&state.objects, outline.checks.as_slice(), &mut self.items);
+        self.tail = outline.tail;
+    }
+
+    /// Whether this is the plan of a call in the present state.
+    pub fn is_of(&self, state: &State, task: &str, child: Option<&str>, call: &Call) -> bool
+        requires task { IsName task.now }
+        requires child { IsFormedChild (option_copied child) }
+        requires formed { IsFormedCall call.now }
+        ensures { IsTrue result ↔ (self.now ≡ spec.plan_of state.now task.now (option_copied child.entry) call.now) }
+    {
+        let outline = outline_of(state, task, child, call);
+        self.is_outlined(&state.objects, &outline)
+    }
+
+    /// Whether this is the plan of that outline in the present state. What costs least is compared first.
+    fn is_outlined(&self, objects: &Objects, outline: &Outline) -> bool
+        requires { outlines.AreLive objects.now outline.now.checks }
+        ensures { IsTrue result ↔ (self.now ≡ outlines.plan_in objects.now outline.now) }
+    {
+        self.tail == outline.tail
+            && are_items(objects, outline.checks.as_slice(), self.items.as_slice())
+    }
+}
+
+/// The outline of the plan of a call of the task's own process, or of its child of that name: its checks with ids in the
+/// place of views.
+pub fn outline_of(state: &State, task: &str, child: Option<&str>, call: &Call) -> Outline
+    requires task { IsName task.now }
+    requires child { IsFormedChild (option_copied child) }
+    requires formed { IsFormedCall call.now }
+    ensures plan { outlines.plan_in state.now.objects result
+        ≡ spec.plan_of state.now task.now (option_copied child.entry) call.now }
+    ensures live { outlines.AreLive state.now.objects result.checks }
+{
+    let mut checks = ArrayVec::new();
     let end = match caller_of(&state.objects, task, child) {
         None => Err(Errno::Esrch),
-        Some(caller) => {
-            let me = subject_of(&state.objects, caller);
-            ask_for(state, task, &me, call, &mut items)
-        }
+        Some(caller) => ask_for(state, task, caller, call, &mut checks),
     };
-    Plan {
-        items,
+    Outline {
+        checks,
         tail: tail_of(end),
     }
 }
@@ -51,40 +102,49 @@ fn tail_of(end: Result<(), Errno>) -> Tail
 fn ask_for(
     state: &State,
     task: &str,
-    me: &SubjectView,
+    caller: Id,
     call: &Call,
     checks: &mut Checks,
 ) -> Result<(), Errno>
     requires task { IsName task.now }
     requires formed { IsFormedCall call.now }
     requires empty { checks.old ≡ [] }
-    ensures { spec.ended checks.new result ≡ spec.plan_for state.now task.now me.now call.now }
+    requires asking { outlines.IsAsking state.now.objects caller checks.old }
+    ensures plan { spec.ended (map (outlines.item_of state.now.objects) checks.new) result
+        ≡ spec.plan_for state.now task.now (subject_of state.now.objects caller) call.now }
+    ensures asking { outlines.IsAsking state.now.objects caller checks.new }
 {
     let objects = &state.objects;
     match call {
         Call::Fork(child) => fork(objects, task, child.as_str()),
         Call::Exit | Call::Kldstat => Ok(()),
-        Call::See(name) => on_process(objects, me, CheckOp::ProcVisible, name.as_str(), checks),
-        Call::Signal(name) => on_process(objects, me, CheckOp::ProcSignal, name.as_str(), checks),
-        Call::Debug(name) => on_process(objects, me, CheckOp::ProcDebug, name.as_str(), checks),
-        Call::Sched(name) => on_process(objects, me, CheckOp::ProcSched, name.as_str(), checks),
-        Call::Exec(path) => exec(objects, me, path, checks),
-        Call::Create(path) | Call::Mkdir(path) => create(objects, me, path, checks),
-        Call::Read(path) => read(objects, me, path, checks),
-        Call::Write(path, text) => write(objects, me, path, text.as_slice(), checks),
-        Call::Stat(path) => on_file(objects, me, CheckOp::VnodeStat, path, checks),
-        Call::Readdir(path) => readdir(objects, me, path, checks),
-        Call::Chmod(path, _) => on_file(objects, me, CheckOp::VnodeSetmode, path, checks),
-        Call::Unlink(path) => unlink(objects, me, path, checks),
+        Call::See(name) => on_process(objects, caller, CheckOp::ProcVisible, name.as_str(), checks),
+        Call::Signal(name) => on_process(
+            objects,
+            caller,
+            CheckOp::ProcSignal,
+            name.as_str(),
+            checks,
+        ),
+        Call::Debug(name) => on_process(objects, caller, CheckOp::ProcDebug, name.as_str(), checks),
+        Call::Sched(name) => on_process(objects, caller, CheckOp::ProcSched, name.as_str(), checks),
+        Call::Exec(path) => exec(objects, caller, path, checks),
+        Call::Create(path) | Call::Mkdir(path) => create(objects, caller, path, checks),
+        Call::Read(path) => read(objects, caller, path, checks),
+        Call::Write(path, text) => write(objects, caller, path, text.as_slice(), checks),
+        Call::Stat(path) => on_file(objects, caller, CheckOp::VnodeStat, path, checks),
+        Call::Readdir(path) => readdir(objects, caller, path, checks),
+        Call::Chmod(path, _) => on_file(objects, caller, CheckOp::VnodeSetmode, path, checks),
+        Call::Unlink(path) => unlink(objects, caller, path, checks),
         Call::Pipe(name) => make(objects, objects.pipe(name.as_str())),
         Call::Socket(name) => make(objects, objects.socket(name.as_str())),
-        Call::Pread(name) => pread(objects, me, name.as_str(), checks),
-        Call::Pwrite(name, text) => pwrite(objects, me, name.as_str(), text.as_slice(), checks),
-        Call::Pstat(name) => pstat(objects, me, name.as_str(), checks),
-        Call::Send(from, to, _) => send(objects, me, from.as_str(), to.as_str(), checks),
-        Call::Recv(name) => recv(objects, me, name.as_str(), checks),
-        Call::Seesock(name) => seesock(objects, me, name.as_str(), checks),
-        Call::Kldload(name) => kldload(state, me, name.as_str(), checks),
-        Call::Kldunload(name) => kldunload(state, me, name.as_str(), checks),
+        Call::Pread(name) => pread(objects, caller, name.as_str(), checks),
+        Call::Pwrite(name, text) => pwrite(objects, caller, name.as_str(), text.as_slice(), checks),
+        Call::Pstat(name) => pstat(objects, caller, name.as_str(), checks),
+        Call::Send(from, to, _) => send(objects, caller, from.as_str(), to.as_str(), checks),
+        Call::Recv(name) => recv(objects, caller, name.as_str(), checks),
+        Call::Seesock(name) => seesock(objects, caller, name.as_str(), checks),
+        Call::Kldload(name) => kldload(state, caller, name.as_str(), checks),
+        Call::Kldunload(name) => kldunload(state, caller, name.as_str(), checks),
     }
 }

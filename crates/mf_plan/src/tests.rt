@@ -167,6 +167,14 @@ fn spelled(alloc: Global, plan: &Plan) -> Result<String, AllocError> {
     Ok(text)
 }
 
+/// Whether the plan is that of the line in this state.
+fn is_of_line(plan: &Plan, state: &State, task: &str, line: &Line) -> bool
+    requires task { IsName task.now }
+    requires line { IsFormedLine line.now }
+{
+    plan.is_of(state, task, line.child_name(), &line.call)
+}
+
 /// The plan of a call that is written as a script's line.
 fn plan_of_text(rt: &impl Abort, alloc: Global, state: &State, line: &str) -> Result<Plan, Fail> {
     let text = format!(in alloc; "task t uid 0 gid 0 label -\n{line}\nend\n")?;
@@ -178,6 +186,23 @@ fn plan_of_text(rt: &impl Abort, alloc: Global, state: &State, line: &str) -> Re
     Ok(plan_of_line(state, script.name_of(0), &lines[0]))
 }
 
+/// Whether the plan is that of a call that is written as a script's line.
+fn is_of_text(
+    rt: &impl Abort,
+    alloc: Global,
+    plan: &Plan,
+    state: &State,
+    line: &str,
+) -> Result<bool, Fail> {
+    let text = format!(in alloc; "task t uid 0 gid 0 label -\n{line}\nend\n")?;
+    let script = read_script(alloc, text.as_bytes())?;
+    let tasks = script.tasks.as_slice();
+    assert!(rt; tasks.len() == 1);
+    let lines = tasks[0].lines.as_slice();
+    assert!(rt; lines.len() == 1);
+    Ok(is_of_line(plan, state, script.name_of(0), &lines[0]))
+}
+
 #[test]
 fn checks_and_ends_of_every_call(rt: HostRuntime) -> Result<(), Fail> {
     let alloc = rt.alloc();
@@ -186,6 +211,7 @@ fn checks_and_ends_of_every_call(rt: HostRuntime) -> Result<(), Fail> {
         let plan = plan_of_text(&rt, alloc, &state, line)?;
         assert_eq!(rt; spelled(alloc, &plan)?.as_str(), wanted, "{line}");
         assert!(rt; plan.copy().same(&plan));
+        assert!(rt; is_of_text(&rt, alloc, &plan, &state, line)?, "{line}");
     }
     Ok(())
 }
@@ -223,5 +249,18 @@ fn the_sender_is_a_socket_with_the_callers_credential(rt: HostRuntime) -> Result
     let socket = state.objects.socket("a");
     assert!(rt; socket.is_some_and(|id| id.number() == items[1].subject.id));
     assert!(rt; items[1].subject.cred.same(&items[0].subject.cred));
+    Ok(())
+}
+
+#[test]
+fn a_plan_of_another_call_or_state_is_told(rt: HostRuntime) -> Result<(), Fail> {
+    let alloc = rt.alloc();
+    let mut state = state_of(&rt, alloc)?;
+    let plan = plan_of_text(&rt, alloc, &state, "see u")?;
+    assert!(rt; !is_of_text(&rt, alloc, &plan, &state, "signal u")?);
+    assert!(rt; !is_of_text(&rt, alloc, &plan, &state, "see t.c")?);
+    let plan = plan_of_text(&rt, alloc, &state, "fork e")?;
+    add_process(&rt, alloc, &mut state.objects, "t.e")?;
+    assert!(rt; !is_of_text(&rt, alloc, &plan, &state, "fork e")?);
     Ok(())
 }

@@ -1,11 +1,14 @@
-//! Live entities as policies see them, and the checks of what is done to them.
-ghost use Rattle.std.specs.Prelude.{◌≡◌, ◌≤◌, length, IsSome};
+//! Checks and live entities as policies see them, and what the framework tests of entities.
+ghost use Rattle.std.specs.Prelude.{◌≡◌, ◌↔◌, ◌≤◌, [], length, map, option_map, IfSome, IsSome, IsTrue, None};
 ghost use Rattle.mf_objects.specs.Live.{live_at};
-ghost use Rattle.mf_plan.specs.Plan as spec;
+ghost use Rattle.mf_plan.specs.Outline as outline;
 ghost use Rattle.mf_plan.specs.Views as view;
 
-use mf_cred::Duplicate;
-use mf_item::{CheckOp, Item, ObjectView, SubjectView};
+use crate::outline::Check;
+use mf_cred::{ArrayVec, Duplicate};
+use mf_elem::Request;
+use mf_errno::Priv;
+use mf_item::{Item, ObjectView, SubjectView};
 use mf_objects::{Id, Objects};
 
 /// The most entities that live at once.
@@ -17,51 +20,139 @@ const FILE_BYTES: usize = 65536;
 /// The most bytes that a pipe holds.
 const PIPE_BYTES: usize = 16384;
 
-/// The entity as a subject.
-#[tactic(auto, unfolding(crate::specs::Views::subject_of))]
-pub(crate) fn subject_of(objects: &Objects, id: Id) -> SubjectView
-    requires { IsSome (live_at objects.now id) }
-    ensures { result ≡ view.subject_of objects.now id }
+/// The subject of a check.
+fn subject_in(objects: &Objects, check: Check) -> SubjectView
+    requires { outline.IsLiveCheck objects.now check }
+    ensures { result ≡ outline.subject_in objects.now check }
 {
     SubjectView {
-        id: id.number(),
-        cred: objects.cred(id),
-        label: objects.label(id),
+        id: check.subject.number(),
+        cred: objects.cred(check.caller),
+        label: objects.label(check.subject),
     }
 }
 
-/// A socket as the subject that sends, with the credential of the process that calls.
-#[tactic(auto, unfolding(crate::specs::Views::sender_of))]
-pub(crate) fn sender_of(objects: &Objects, caller: &SubjectView, socket: Id) -> SubjectView
-    requires { IsSome (live_at objects.now socket) }
-    ensures { result ≡ view.sender_of objects.now caller.now socket }
-{
-    SubjectView {
-        id: socket.number(),
-        cred: caller.cred.copy(),
-        label: objects.label(socket),
-    }
-}
-
-/// The check of what the subject does to the entity.
-#[tactic(auto, unfolding(crate::specs::Plan::on))]
-pub(crate) fn on(objects: &Objects, subject: &SubjectView, op: CheckOp, id: Id) -> Item
+/// The entity as an object.
+fn object_of(objects: &Objects, id: Id) -> ObjectView
     requires { IsSome (live_at objects.now id) }
-    ensures { result ≡ spec.on objects.now subject.now op id }
+    ensures { result ≡ view.object_of objects.now id }
 {
-    let object = ObjectView {
+    ObjectView {
         id: id.number(),
         kind: objects.kind(id),
         file: objects.file(id),
         label: objects.label(id),
-    };
-    Item {
-        op,
-        subject: subject.copy(),
-        object: Some(object),
-        request: None,
-        privilege: None,
     }
+}
+
+/// The object of a check.
+fn object_in(objects: &Objects, object: Option<Id>) -> Option<ObjectView>
+    requires { IfSome object (λ id. IsSome (live_at objects.now id)) }
+    ensures { result ≡ option_map (view.object_of objects.now) object }
+{
+    match object {
+        None => None,
+        Some(id) => Some(object_of(objects, id)),
+    }
+}
+
+/// The check as policies see it, by the views of its subject and its object.
+fn item_by(check: Check, subject: &SubjectView, object: Option<ObjectView>) -> Item
+    ensures { result ≡ outline.item_by check subject.now object }
+{
+    Item {
+        op: check.op,
+        subject: subject.copy(),
+        object,
+        request: None,
+        privilege: check.privilege,
+    }
+}
+
+/// Whether policies see the check so.
+fn is_item_by(item: &Item, check: Check, subject: &SubjectView, object: &Option<ObjectView>) -> bool
+    ensures { IsTrue result ↔ (item.now ≡ outline.item_by check subject.now object.now) }
+{
+    item.op == check.op
+        && item.subject.same(subject)
+        && same_object(&item.object, object)
+        && is_absent(&item.request)
+        && same_privilege(item.privilege, check.privilege)
+}
+
+fn same_object(object: &Option<ObjectView>, other: &Option<ObjectView>) -> bool
+    ensures { IsTrue result ↔ (object.now ≡ other.now) }
+{
+    match (object, other) {
+        (None, None) => true,
+        (Some(object), Some(theirs)) => object.same(theirs),
+        _ => false,
+    }
+}
+
+fn same_privilege(privilege: Option<Priv>, other: Option<Priv>) -> bool
+    ensures { IsTrue result ↔ (privilege ≡ other) }
+{
+    privilege == other
+}
+
+fn is_absent(request: &Option<Request>) -> bool
+    ensures { IsTrue result ↔ (request.now ≡ None) }
+{
+    request.is_none()
+}
+
+/// Fills in the checks as policies see them. The subject is looked up where it isn't that of the check before.
+#[tactic(auto, unfolding(crate::specs::Outline::item_of))]
+pub(crate) fn add_items(objects: &Objects, checks: &[Check], items: &mut ArrayVec<Item, 12>)
+    requires few { length checks.now ≤ 12 }
+    requires live { outline.AreLive objects.now checks.now }
+    requires empty { items.old ≡ [] }
+    ensures { items.new ≡ map (outline.item_of objects.now) checks.now }
+{
+    if checks.is_empty() {
+        return;
+    }
+    let mut last = checks[0];
+    let mut subject = subject_in(objects, last);
+    for check in checks {
+        if !check.has_subject_of(last) {
+            last = *check;
+            subject = subject_in(objects, last);
+        }
+        items.push(item_by(*check, &subject, object_in(objects, check.object)));
+    }
+}
+
+/// Whether policies see these checks so. The subject is looked up where it isn't that of the check before.
+#[tactic(auto, unfolding(crate::specs::Outline::item_of))]
+pub(crate) fn are_items(objects: &Objects, checks: &[Check], items: &[Item]) -> bool
+    requires { outline.AreLive objects.now checks.now }
+    ensures { IsTrue result ↔ (items.now ≡ map (outline.item_of objects.now) checks.now) }
+{
+    if items.len() != checks.len() {
+        return false;
+    }
+    if checks.is_empty() {
+        return true;
+    }
+    let mut last = checks[0];
+    let mut subject = subject_in(objects, last);
+    for (i, check) in checks.iter().enumerate() {
+        if !check.has_subject_of(last) {
+            last = *check;
+            subject = subject_in(objects, last);
+        }
+        if !is_item_by(
+            &items[i],
+            *check,
+            &subject,
+            &object_in(objects, check.object),
+        ) {
+            return false;
+        }
+    }
+    true
 }
 
 /// Whether no entity can be made.

@@ -77,8 +77,8 @@ abbrev pub row : Test → PartitionTest → Option ℕ → Movement → Row
 row test partition letters movement =
     record { test = test; partition = partition; letters = letters; movement = movement }
 
--- The table: operation, test of Biba and MLS, test of the partition policy, letters, movement. The last two columns are
--- for rules about files and for the flow of information; no clause cites them yet.
+-- The table: operation, test of Biba and MLS, test of the partition policy, letters, movement. The letters are for rules
+-- about files; no clause cites them yet. The movement says which way information goes where the check passes.
 abbrev pub row_of : CheckOp → Row
 row_of op.VnodeLookup = row (Observe Eacces) Ignore (wants execute) ToSubject
 row_of op.VnodeOpenRead = row (Observe Eacces) Ignore (wants read) ToSubject

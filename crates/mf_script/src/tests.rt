@@ -1,5 +1,6 @@
 //! Small scripts, good and bad.
-use crate::{Call, ScriptError, read_script};
+use crate::{Call, ScriptError, generate, read_script};
+use std::alloc::AllocError;
 
 /// Every call, in the order in which the grammar names them.
 const CALLS: [&str; 26] = [
@@ -213,5 +214,14 @@ fn refuses_bad_lines(rt: HostRuntime) -> Result<(), ScriptError> {
             "{line}"
         );
     }
+    Ok(())
+}
+
+#[test]
+fn a_load_is_generated(rt: HostRuntime) -> Result<(), AllocError> {
+    let script = generate(rt.alloc(), 2, 3)?;
+    assert_eq!(rt; script.files.len(), 6);
+    assert_eq!(rt; script.tasks.len(), 3);
+    assert_eq!(rt; script.line_count(), 6);
     Ok(())
 }

@@ -9,7 +9,7 @@ use mf_cred::Cred;
 use mf_elem::{Elem, LabelValue, RangeLabel};
 use mf_errno::Module;
 use mf_item::Kind;
-use mf_list::Policies;
+use mf_list::{Catalogue, PolicyList};
 use mf_objects::Objects;
 use mf_plan::{Reply, State, plan_of};
 use mf_policy::{Registration, Spec, SpecList};
@@ -19,11 +19,11 @@ use std::alloc::{AllocError, Global};
 use std::process::Abort;
 use std::test::Fail;
 
-/// The state, and the policies that are asked.
+/// The state, and the list of the policies that are asked.
 #[derive(Drop)]
 struct Machine {
     state: State,
-    policies: Policies<Biba>,
+    list: PolicyList<Biba>,
 }
 
 fn labelled(element: Elem, range: Option<(Elem, Elem)>) -> [LabelValue; 4] {
@@ -50,13 +50,14 @@ fn add_process(
     Ok(())
 }
 
-fn with_biba(alloc: Global) -> Result<Policies<Biba>, AllocError> {
+fn with_biba(alloc: Global) -> Result<PolicyList<Biba>, AllocError> {
     let mut modules = Vec::new(alloc);
     modules.push(Biba::new())?;
-    let mut policies = Policies::new(alloc, modules);
-    policies.ready()?;
-    let _registered = policies.register(&mut SlotNumbers::new(), "mac_biba", false);
-    Ok(policies)
+    let mut catalogue = Catalogue::new(modules);
+    let mut list = PolicyList::new(alloc);
+    list.ready(&mut catalogue)?;
+    let _registered = list.register(&mut catalogue, &mut SlotNumbers::new(), "mac_biba", false);
+    Ok(list)
 }
 
 /// The machine where t and u have these elements.
@@ -80,7 +81,7 @@ fn booted(rt: &impl Abort, alloc: Global, t: Elem, u: Elem) -> Result<Machine, A
             numbers,
             booted: true,
         },
-        policies: with_biba(alloc)?,
+        list: with_biba(alloc)?,
     })
 }
 
@@ -95,7 +96,7 @@ fn reply_of(
     requires task { IsName task.now }
     requires line { IsFormedLine line.now }
 {
-    let list = machine.policies.list();
+    let list = &machine.list;
     assert!(rt; list.same_specs(&machine.state.specs));
     assert!(rt; machine.state.specs.len() <= 8 && machine.state.objects.next_id() < u32::MAX);
     let plan = plan_of(&machine.state, task, line.child_name(), &line.call);

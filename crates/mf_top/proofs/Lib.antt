@@ -1,9 +1,6 @@
-pub mod Fronts
-pub mod Told
 pub mod Pieces
-pub mod Words
 pub mod NoFaults
-pub mod Idle
-pub mod Current
 pub mod Modules
 pub mod Whole
+pub mod Passes
+pub mod Summed

@@ -2,7 +2,7 @@
 use Rattle.std.proofs.Common.{◌≡◌, ℕ, ◌+◌, ◌≤◌, ◌-◌, length-drop, List, ◌++◌, length, take, drop, Option, Some, None, sym, ◌∙◌, ap, subst, arith, append_assoc, length-take}
 use Rattle.std.proofs.lemmas.List.{take-append-drop}
 use Rattle.std.proofs.Math.Seq.{take-append-add, take-length}
-use Rattle.mf_top.specs.Outside.{Took}
+use Rattle.mf_io.specs.Outside.{Took}
 
 pub take_on : (d n : ℕ) (text : List ℕ) → d ≤ length text → take (d + n) text ≡ take d text ++ take n (drop d text)
 take_on d n text le =
@@ -10,11 +10,6 @@ take_on d n text le =
     let whole = take-append-drop d text in
     let e = take-append-add (take d text) (drop d text) n in
     sym (ap (λ k. take (k + n) text) front) ∙ (sym (ap (take (length (take d text) + n)) whole) ∙ e)
-
-pub rest_whole : (d : ℕ) (text : List ℕ) → take (length text - d) (drop d text) ≡ drop d text
-rest_whole d text =
-    let n : length (drop d text) ≡ length text - d = length-drop d text in
-    rw (← n) (take-length (drop d text))
 
 pub took_on : (before mid now : Option (List ℕ)) (d n : ℕ) (text : List ℕ) → d ≤ length text
     → Took before mid (take d text) → Took mid now (take n (drop d text)) → Took before now (take (d + n) text)

@@ -1,20 +1,29 @@
 -- What the program may return and write, and why.
-use Rattle.std.specs.Prelude.{◌≡◌, ◌⊎◌, ℕ, ◌≤◌, List, [], ◌∷◌, length, Some, IfSome, IsSomeAnd, Result, Ok, Err, codes}
+use Rattle.std.specs.Prelude.{◌≡◌, ◌⊎◌, ℕ, ◌≤◌, List, [], ◌∷◌, ◌++◌, length, Some, Option, None, IfSome, IsSomeAnd, Result, Ok, Err, codes}
 use Rattle.mf_script.specs.declared.script.Script.{Script}
 use Rattle.mf_script.specs.declared.error.ScriptError.TheVariants as script_error
 use Rattle.mf_script.specs.Grammar.{script_of}
 use Rattle.mf_core.specs.declared.history.History.{History}
 use Rattle.mf_core.specs.LegalHistory.{IsLegal, IsComplete}
+use Rattle.mf_flow.specs.Laws.{AreInOrder}
+use Rattle.mf_flow.specs.SourcesText.{sources_text}
 use Rattle.mf_marks.specs.Laws.{AreMadeOnce}
 use Rattle.mf_top.specs.declared.refusal.Refusal.{Refusal}
 use Rattle.mf_top.specs.declared.refusal.Refusal.TheVariants as refusal
-use Rattle.mf_top.specs.Outside.{Seen, FaultsRose, HadNoFault, Took, TookPart}
+use Rattle.mf_top.specs.declared.command.Command.{Command}
+use Rattle.mf_top.specs.declared.command.Command.TheVariants as command
+use Rattle.mf_top.specs.Commands.{command_of}
+use Rattle.mf_io.specs.Outside.{Seen, FaultsRose, HadNoFault, Took, TookPart}
 use Rattle.mf_top.specs.Reading.{IsTooLong, most_script}
 use Rattle.mf_hist.specs.HistoryText.{history_text}
+use Rattle.mf_load.specs.Summary.{load_summary}
 
--- the text is that of a history which is legal and complete for the script, and in which each label slot is made and ended at most once
+-- The text is that of a history and of its sources, and nothing else. The history is legal and complete for the script; in it each label
+-- slot is made and ended at most once; and under mac_biba each source of a party dominates the party's element, as under mac_mls the
+-- element dominates each.
 abbrev pub IsRunOf : Script → List ℕ → Type 0
-IsRunOf s text = (h : History) × IsLegal s h × IsComplete s h × AreMadeOnce s h × (text ≡ history_text s h)
+IsRunOf s text =
+    (h : History) × IsLegal s h × IsComplete s h × AreMadeOnce s h × AreInOrder s h × (text ≡ history_text s h ++ sources_text s h)
 
 -- the bytes are a script and no more than one may have, and the text is that of a legal and complete history of it
 abbrev pub IsRunText : List ℕ → List ℕ → Type 0
@@ -26,19 +35,49 @@ abbrev pub WroteHistory : Seen → Seen → Type 0
 WroteHistory source sink = IfSome source.before (λ bytes.
     (source.after ≡ Some []) × ((text : List ℕ) × IsRunText bytes text × Took sink.before sink.after text))
 
--- the words are the one list that the program takes
-abbrev pub IsRunWords : List (List ℕ) → Type 0
-IsRunWords words = words ≡ codes "run" ∷ []
+-- Where the bytes of the sink are known: it took the summary of the load, and nothing else; and nothing was read.
+abbrev pub WroteSummary : ℕ → ℕ → Seen → Seen → Type 0
+WroteSummary lines tasks source sink = (source.after ≡ source.before) × Took sink.before sink.after (load_summary lines tasks)
 
--- An outcome before anything is written, and its cause: the words, and what is seen of the source.
-abbrev pub IsOutcome : List (List ℕ) → Seen → Result (List ℕ) Refusal → Type 0
-IsOutcome words source (Ok text) = IsRunWords words × HadNoFault source × IfSome source.before (λ bytes. IsRunText bytes text × (source.after ≡ Some []))
-IsOutcome words source (Err refusal.Usage) = ¬ IsRunWords words × HadNoFault source × (source.after ≡ source.before)
-IsOutcome words source (Err refusal.NotYet) = IsRunWords words × HadNoFault source
+-- nothing was read of the source, and none of its calls failed
+pub record IsUnread (source : Seen) : Type 0 where
+  pub quiet : HadNoFault source
+  pub same : source.after ≡ source.before
+
+-- An outcome before anything is written, and its cause: what the words ask for, and what is seen of the source.
+
+abbrev pub IsRunOutcome : Seen → Result (List ℕ) Refusal → Type 0
+IsRunOutcome source (Ok text) = HadNoFault source × IfSome source.before (λ bytes. IsRunText bytes text × (source.after ≡ Some []))
+IsRunOutcome source (Err refusal.Usage) = ⊥
+IsRunOutcome source (Err refusal.NotYet) = HadNoFault source
     × IfSome source.before (λ bytes. (length bytes ≤ most_script) × (script_of bytes ≡ Err script_error.NotYet) × (source.after ≡ Some []))
-IsOutcome words source (Err refusal.ReadFault) = IsRunWords words × FaultsRose source
-IsOutcome words source (Err refusal.TooLong) = IsRunWords words × HadNoFault source × IsTooLong source.before source.after
-IsOutcome words source (Err refusal.Memory) = IsRunWords words × HadNoFault source
+IsRunOutcome source (Err refusal.ReadFault) = FaultsRose source
+IsRunOutcome source (Err refusal.TooLong) = HadNoFault source × IsTooLong source.before source.after
+IsRunOutcome source (Err refusal.Memory) = HadNoFault source
+
+-- the summary of the load, or want of memory
+abbrev pub IsLoaded : ℕ → ℕ → Result (List ℕ) Refusal → Type 0
+IsLoaded lines tasks (Ok text) = text ≡ load_summary lines tasks
+IsLoaded lines tasks (Err refusal.Usage) = ⊥
+IsLoaded lines tasks (Err refusal.NotYet) = ⊥
+IsLoaded lines tasks (Err refusal.ReadFault) = ⊥
+IsLoaded lines tasks (Err refusal.TooLong) = ⊥
+IsLoaded lines tasks (Err refusal.Memory) = Unit {0}
+
+abbrev pub IsLoadOutcome : ℕ → ℕ → Seen → Result (List ℕ) Refusal → Type 0
+IsLoadOutcome lines tasks source outcome = IsLoaded lines tasks outcome × IsUnread source
+
+-- other words are refused
+abbrev pub IsUsageOutcome : Seen → Result (List ℕ) Refusal → Type 0
+IsUsageOutcome source outcome = (outcome ≡ Err refusal.Usage) × IsUnread source
+
+abbrev pub IsOutcomeOf : Option Command → Seen → Result (List ℕ) Refusal → Type 0
+IsOutcomeOf None source outcome = IsUsageOutcome source outcome
+IsOutcomeOf (Some command.Run) source outcome = IsRunOutcome source outcome
+IsOutcomeOf (Some (command.Gen lines tasks)) source outcome = IsLoadOutcome lines tasks source outcome
+
+abbrev pub IsOutcome : List (List ℕ) → Seen → Result (List ℕ) Refusal → Type 0
+IsOutcome words source outcome = IsOutcomeOf (command_of words) source outcome
 
 abbrev pub refusal_status : Refusal → ℕ
 refusal_status refusal.Usage = 2
@@ -48,7 +87,7 @@ refusal_status refusal.TooLong = 6
 refusal_status refusal.Memory = 9
 
 abbrev pub refusal_text : Refusal → List ℕ
-refusal_text refusal.Usage = codes "macsim: usage: run\n"
+refusal_text refusal.Usage = codes "macsim: usage: run | gen N T\n"
 refusal_text refusal.NotYet = codes "macsim: script not yet\n"
 refusal_text refusal.ReadFault = codes "macsim: read fault\n"
 refusal_text refusal.TooLong = codes "macsim: too long\n"
@@ -68,9 +107,14 @@ IsWritten sink outcome status =
     ((status ≡ status_of outcome) × HadNoFault sink × Took sink.before sink.after (text_of outcome))
     ⊎ ((status ≡ 5) × FaultsRose sink × TookPart sink.before sink.after (text_of outcome))
 
--- The right words, known bytes of a script, and no fault of source or sink.
+-- what the words ask for can be done: the source holds a script, where one is read
+abbrev pub CanBeDone : Option Command → Seen → Type 0
+CanBeDone None source = ⊥
+CanBeDone (Some command.Run) source = IsSomeAnd source.before (λ bytes. (length bytes ≤ most_script) × ((s : Script) × (script_of bytes ≡ Ok s)))
+CanBeDone (Some (command.Gen lines tasks)) source = Unit {0}
+
+-- The right words, known bytes of a script where one is read, and no fault of source or sink.
 pub record IsFaultless (words : List (List ℕ)) (source sink : Seen) : Type 0 where
-  pub run : IsRunWords words
-  pub script : IsSomeAnd source.before (λ bytes. (length bytes ≤ most_script) × ((s : Script) × (script_of bytes ≡ Ok s)))
+  pub can : CanBeDone (command_of words) source
   pub source_stays : ¬ FaultsRose source
   pub sink_stays : ¬ FaultsRose sink

@@ -1,10 +1,6 @@
-pub mod Outside
-pub mod Calls
-pub mod Held
-pub mod Memory
-pub mod Sure
 pub mod Reading
-pub mod Turns
+pub mod Passes
+pub mod Commands
 pub mod Answers
 pub mod Refusals
 pub mod Outcomes

@@ -5,22 +5,23 @@ ghost use Rattle.mf_list.specs.Lists.{IsFresh};
 ghost use Rattle.mf_core.specs.Policies.{AreAllModules};
 ghost use Rattle.mf_top.specs.declared.refusal.Refusal.{Refusal};
 ghost use Rattle.mf_top.specs.Answers.{IsOutcome, IsWritten};
-ghost use Rattle.mf_top.specs.Sure.{seen_source, seen_sink};
+ghost use Rattle.mf_io.specs.Sure.{seen_source, seen_sink};
 
-use crate::io::{SureSink, SureSource};
 use crate::top::macsim;
+use mf_io::{Gate, SureSink, SureSource};
 use mf_policy::Policy;
 use std::alloc::Global;
 use std::sync::Wait;
 use std::thread::Threads;
 
 /// The program over a source and a sink that never fail: it returns neither 4 nor 5.
-pub fn run_surely<P: Policy, R: Threads + Wait + Sync>(
+pub fn run_surely<G: Gate, P: Policy, R: Threads + Wait + Sync>(
     rt: &R,
     alloc: Global,
     words: &[String],
     source: &mut SureSource,
     sink: &mut SureSink,
+    gate: &G,
     modules: Vec<P>,
 ) -> u8
     requires modules { AreAllModules (map (λ p. module_of (P.spec p)) modules.items) }
@@ -31,5 +32,5 @@ pub fn run_surely<P: Policy, R: Threads + Wait + Sync>(
     ensures no_read_fault { result ≢ 4 }
     ensures no_write_fault { result ≢ 5 }
 {
-    macsim(rt, alloc, words, source, sink, modules)
+    macsim(rt, alloc, words, source, sink, gate, modules)
 }

@@ -1,10 +1,10 @@
 //! The reader of a whole source.
 ghost use Rattle.std.specs.Prelude.{◌≡◌, ◌<◌, ◌≤◌, ◌+◌, length, IfOk, IsErrOf};
 ghost use Rattle.mf_top.specs.declared.read.ReadError.TheVariants.{Memory, Failed as ReadFailed};
-ghost use Rattle.mf_top.specs.Outside.{HasRisen, Gave};
+ghost use Rattle.mf_io.specs.Outside.{HasRisen, Gave};
 ghost use Rattle.mf_top.specs.Reading.{IsWhole, IsTooLong, GaveOn, most_script};
 
-use crate::io::{Failed, Source};
+use mf_io::{Failed, Source};
 use std::alloc::{AllocError, Global};
 
 /// The most bytes of a script.

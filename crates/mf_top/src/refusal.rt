@@ -1,4 +1,4 @@
-//! Why there is no history.
+//! Why there is no history, and no summary of a load.
 ghost use Rattle.std.specs.Prelude.{◌≡◌};
 ghost use Rattle.mf_top.specs.Answers.{refusal_status, refusal_text};
 ghost use Rattle.mf_top.specs.declared.refusal.Refusal.TheVariants as refusal;
@@ -7,10 +7,10 @@ use crate::read::ReadError;
 use mf_script::ScriptError;
 use std::alloc::AllocError;
 
-/// Why no history is written.
+/// Why no history and no summary is written.
 #[derive(Clone, Copy, Debug, PartialEq, Eq)]
 pub enum Refusal {
-    /// The words aren't `run`.
+    /// The words are none of the program's.
     Usage,
     /// The source's bytes are no script.
     NotYet,
@@ -36,12 +36,12 @@ impl Refusal {
         }
     }
 
-    /// The line that is written in place of a history.
+    /// The line that is written in their place.
     pub fn text(self) -> &'static str
         ensures { result.now ≡ refusal_text self }
     {
         match self {
-            Refusal::Usage => "macsim: usage: run\n",
+            Refusal::Usage => "macsim: usage: run | gen N T\n",
             Refusal::NotYet => "macsim: script not yet\n",
             Refusal::ReadFault => "macsim: read fault\n",
             Refusal::TooLong => "macsim: too long\n",

@@ -1,29 +1,38 @@
-//! The tasks of a script, one after another.
-ghost use Rattle.std.specs.Prelude.{◌≡◌, ◌≢◌, ◌<◌, ◌+◌, ℕ, length, map, All, OnOk, IfOk, IsTrue, ◌↔◌, string_bytes};
+//! The tasks of a script or of a generated load, each in a thread of its own, on one kernel.
+ghost use Rattle.std.specs.Prelude.{◌≡◌, ◌≤◌, ◌+◌, ℕ, false, length, map, vec_len, ◌↔◌, All, IfOk, IsTrue, string_bytes};
 ghost use Rattle.mf_policy.specs.Modules.{module_of};
 ghost use Rattle.mf_list.specs.Lists.{IsFresh};
 ghost use Rattle.mf_script.specs.WellFormed.{IsWellFormed};
 ghost use Rattle.mf_core.specs.declared.progress.Turn.TheVariants as turn;
-ghost use Rattle.mf_core.specs.declared.progress.Phase.TheVariants as phase;
-ghost use Rattle.mf_core.specs.LegalHistory.{IsComplete};
 ghost use Rattle.mf_core.specs.Policies.{AreAllModules};
-ghost use Rattle.mf_core.specs.Progress.{progress_at, first_progress, Moves};
-ghost use Rattle.mf_core.specs.Run.{progress_of, turn_at};
+ghost use Rattle.mf_core.specs.Run.{all_lines, done_of, open_of};
+ghost use Rattle.mf_share.specs.Passes.{AreOneEach, pass_turn};
+ghost use Rattle.mf_load.specs.Summary.{load_summary};
 ghost use Rattle.mf_top.specs.Answers.{IsRunOf};
-ghost use Rattle.mf_top.specs.Turns.{AreIdle, IsLine};
+ghost use Rattle.mf_top.specs.Passes.{HaveAll, IsBack, IsLine, IsSameTicket, WentOn};
 
-use mf_core::{Commit, Core, History, Outcome, Turn};
+use mf_core::{Commit, Core, Turn};
+use mf_flow::{print_sources, sources};
 use mf_hist::print_history;
-use mf_list::{Catalogue, PolicyList};
+use mf_io::Gate;
+use mf_load::{summary_is_settled, summary_text};
+use mf_plan::Plan;
 use mf_policy::Policy;
-use mf_script::Script;
+use mf_script::{Script, generate};
+use mf_share::{Job, Kernel, Pass, Ticket};
 use std::alloc::{AllocError, Global};
-use std::marker::Model;
+use std::marker::Brand;
+use std::sync::Wait;
+use std::sync::ledger::{Blank, Ledger};
+use std::thread;
+use std::thread::Threads;
 
-/// The text of a run of the script, over these modules.
-pub fn run_script<P: Policy>(
+/// The text of a run of the script, over these modules: its history, and the sources at its end.
+pub fn run_script<P: Policy, G: Gate, R: Threads + Wait + Sync>(
+    rt: &R,
     alloc: Global,
     script: &Script,
+    gate: &G,
     modules: Vec<P>,
 ) -> Result<String, AllocError>
     requires formed { IsWellFormed script.now }
@@ -31,134 +40,140 @@ pub fn run_script<P: Policy>(
     requires fresh { All (λ p. IsFresh (P.spec p)) modules.items }
     ensures { IfOk result (λ text. IsRunOf script.now (string_bytes text)) }
 {
-    let mut framework = Framework::new(alloc, script, modules)?;
-    framework.run_tasks(alloc, script.tasks.len() as u32)?;
+    let core = run_core(rt, alloc, script, gate, modules)?;
+    let history = core.history();
+    let table = sources(alloc, script, history)?;
     let mut text = String::new(alloc);
-    print_history(alloc, script, framework.core.history(), &mut text)?;
+    print_history(alloc, script, history, &mut text)?;
+    print_sources(alloc, &table, &mut text)?;
     Ok(text)
 }
 
-/// A core with its list of policies and the catalogue of the others. Contracts see the core.
-#[derive(Drop)]
-struct Framework<'s, P: Policy> {
-    core: Core<'s>,
-    list: PolicyList<P>,
-    catalogue: Catalogue<P>,
+/// The summary of a run of the generated load of so many lines for each of so many tasks, over these modules.
+pub fn run_load<P: Policy, G: Gate, R: Threads + Wait + Sync>(
+    rt: &R,
+    alloc: Global,
+    lines: u32,
+    tasks: u32,
+    gate: &G,
+    modules: Vec<P>,
+) -> Result<String, AllocError>
+    requires lines { lines ≤ 4096 }
+    requires tasks { tasks ≤ 16 }
+    requires modules { AreAllModules (map (λ p. module_of (P.spec p)) modules.items) }
+    requires fresh { All (λ p. IsFresh (P.spec p)) modules.items }
+    ensures { IfOk result (λ text. string_bytes text ≡ load_summary lines tasks) }
+{
+    let script = generate(alloc, lines, tasks)?;
+    let core = run_core(rt, alloc, &script, gate, modules)?;
+    summary_is_settled();
+    let history = core.history();
+    let text = summary_text(alloc, lines, tasks, history.events.as_slice())?;
+    Ok(text)
 }
 
-impl<'s, P: Policy> Model for Framework<'s, P> {
-    ghost use Rattle.mf_core.specs.Policies.{AreOf};
-    ghost use Rattle.mf_core.specs.Run.{Run, specs_of};
-
-    ghost Value = { Run };
-
-    ghost view = { λ f. f.core };
-
-    ghost invariant = { λ f. AreOf (specs_of f.core) f.list f.catalogue };
+/// The core after each task of the script has run to its end: no entry is open, and all lines are done.
+fn run_core<'s, P: Policy, G: Gate, R: Threads + Wait + Sync>(
+    rt: &R,
+    alloc: Global,
+    script: &'s Script,
+    gate: &G,
+    modules: Vec<P>,
+) -> Result<Core<'s>, AllocError>
+    requires formed { IsWellFormed script.now }
+    requires modules { AreAllModules (map (λ p. module_of (P.spec p)) modules.items) }
+    requires fresh { All (λ p. IsFresh (P.spec p)) modules.items }
+    ensures script { IfOk result (λ core. core.script ≡ script.now) }
+    ensures entries { IfOk result (λ core. open_of core ≡ 0) }
+    ensures lines { IfOk result (λ core. done_of core ≡ all_lines core.script) }
+{
+    let parts = script.tasks.len() as u64 + 1;
+    run_tasks::<P, Brand, Brand, G, R>(
+        rt,
+        alloc,
+        script,
+        gate,
+        modules,
+        Blank::new(parts),
+        Blank::new(parts),
+    )
 }
 
-impl<'s, P: Policy> Framework<'s, P> {
-    /// Before the first event of the script.
-    fn new(
-        alloc: Global,
-        script: &'s Script,
-        modules: Vec<P>,
-    ) -> Result<Framework<'s, P>, AllocError>
-        requires formed { IsWellFormed script.now }
-        requires modules { AreAllModules (map (λ p. module_of (P.spec p)) modules.items) }
-        requires fresh { All (λ p. IsFresh (P.spec p)) modules.items }
-        ensures script { IfOk result (λ f. f.script ≡ script.now) }
-        ensures first { IfOk result (λ f. (t : ℕ) → progress_at (progress_of f) t ≡ first_progress) }
-    {
-        let (core, list, catalogue) = Core::new(alloc, script, modules)?;
-        Ok(Framework {
-            core,
-            list,
-            catalogue,
-        })
-    }
+/// Runs each task to its end: in the core no entry is open, and all lines are done. `J` names the script; each of the
+/// ledgers is cut into one part more than there are tasks.
+fn run_tasks<
+    's,
+    P: Policy,
+    J: Job + Send + Sync,
+    B: Ledger + Send + Sync,
+    G: Gate,
+    R: Threads + Wait + Sync,
+>(
+    rt: &R,
+    alloc: Global,
+    script: &'s Script,
+    gate: &G,
+    modules: Vec<P>,
+    lines: Blank,
+    busy: Blank,
+) -> Result<Core<'s>, AllocError>
+    requires formed { IsWellFormed script.now }
+    requires modules { AreAllModules (map (λ p. module_of (P.spec p)) modules.items) }
+    requires fresh { All (λ p. IsFresh (P.spec p)) modules.items }
+    requires job { script.now ≡ J.script }
+    requires lines_name { lines.name ≡ J.name }
+    requires lines_parts { (lines.parts ≡ J.parts) × (lines.parts ≡ length script.now.tasks + 1) }
+    requires busy_name { busy.name ≡ B.name }
+    requires busy_parts { (busy.parts ≡ B.parts) × (busy.parts ≡ length script.now.tasks + 1) }
+    ensures script { IfOk result (λ core. core.script ≡ script.now) }
+    ensures entries { IfOk result (λ core. open_of core ≡ 0) }
+    ensures lines { IfOk result (λ core. done_of core ≡ all_lines core.script) }
+{
+    let (kernel, mut passes) = Kernel::<P, J, B>::open(alloc, script, modules, lines, busy)?;
+    run_side_by_side(rt, alloc, gate, &kernel, &mut passes);
+    // A task stops early only where memory ran out.
+    let all_done = have_all(script, &passes);
+    let core = kernel.close(passes);
+    if all_done { Ok(core) } else { Err(AllocError) }
+}
 
-    /// Runs each task to its end.
-    fn run_tasks(&mut self, alloc: Global, tasks: u32) -> Result<(), AllocError>
-        requires tasks { tasks ≡ length self.old.script.tasks }
-        requires first { (t : ℕ) → progress_at (progress_of self.old) t ≡ first_progress }
-        ensures script { self.new.script ≡ self.old.script }
-        ensures complete { OnOk result (IsComplete self.new.script self.new.history) }
-    {
-        for task in 0..tasks {
-            self.run_task(alloc, task)?;
-        }
-        Ok(())
-    }
+/// Runs the task of each pass to its end, each in a thread of its own, and waits for all.
+fn run_side_by_side<
+    P: Policy,
+    J: Job + Send + Sync,
+    B: Ledger + Send + Sync,
+    G: Gate,
+    R: Threads + Wait + Sync,
+>(rt: &R, alloc: Global, gate: &G, kernel: &Kernel<P, J, B>, passes: &mut Vec<Pass<J, B>>)
+    requires { AreOneEach J.script passes.old.items }
+    ensures { AreOneEach J.script passes.new.items }
+{
+    let threads = passes.len().max(1);
+    thread::for_each_mut(
+        rt,
+        passes.as_mut_slice(),
+        threads,
+        &|_, pass: &mut Pass<J, B>|
+            requires { pass.now.out ≡ false }
+            ensures { IsBack pass.entry.now pass.exit.now }
+        { run_task(rt, alloc, gate, kernel, pass) },
+    );
+}
 
-    /// Runs the task to its end.
-    fn run_task(&mut self, alloc: Global, task: u32) -> Result<(), AllocError>
-        requires task { task < length self.old.script.tasks }
-        requires idle { AreIdle (progress_of self.old) }
-        ensures script { self.new.script ≡ self.old.script }
-        ensures finished { OnOk result (turn_at self.new task ≡ turn.Finished) }
-        ensures idle { OnOk result (AreIdle (progress_of self.new)) }
-        ensures others { OnOk result ((t : ℕ) → t ≢ task → progress_at (progress_of self.new) t ≡ progress_at (progress_of self.old) t) }
-    {
-        while is_line(self.core.turn(task)) {
-            self.run_line(alloc, task)?;
-        }
-        Ok(())
-    }
-
-    /// Does the next line of the task.
-    fn run_line(&mut self, alloc: Global, task: u32) -> Result<(), AllocError>
-        requires task { task < length self.old.script.tasks }
-        requires turn { IsLine (turn_at self.old task) }
-        requires idle { AreIdle (progress_of self.old) }
-        ensures script { self.new.script ≡ self.old.script }
-        ensures progress { OnOk result (Moves (progress_of self.old) (progress_of self.new) task (record { lines = (progress_at (progress_of self.old) task).lines + 1; phase = phase.Idle })) }
-    {
-        match self.core.turn(task) {
-            Turn::Entry => self.run_entry(alloc, task),
-            Turn::Change => self.run_change(alloc, task),
-            Turn::Entered | Turn::Done | Turn::Finished | Turn::Stopped => unreachable!(),
-        }
-    }
-
-    /// Does a line that is an entry.
-    fn run_entry(&mut self, alloc: Global, task: u32) -> Result<(), AllocError>
-        requires task { task < length self.old.script.tasks }
-        requires turn { turn_at self.old task ≡ turn.Entry }
-        ensures script { self.new.script ≡ self.old.script }
-        ensures progress { OnOk result (Moves (progress_of self.old) (progress_of self.new) task (record { lines = (progress_at (progress_of self.old) task).lines + 1; phase = phase.Idle })) }
-    {
-        self.core.enter(task);
-        let plan = self.core.plan(task);
-        let verdict = Core::walk(&self.list, &plan);
-        match self.core.done(alloc, task, &self.list, &plan, &verdict) {
-            Ok(Commit::Done) => {
-                self.core.leave(task);
-                Ok(())
-            }
-            Ok(Commit::Stale) => unreachable!(),
-            Err(error) => {
-                self.core.leave(task);
-                Err(error)
-            }
-        }
-    }
-
-    /// Does a line that is a change. No entry is open, so it doesn't wait.
-    fn run_change(&mut self, alloc: Global, task: u32) -> Result<(), AllocError>
-        requires task { task < length self.old.script.tasks }
-        requires turn { turn_at self.old task ≡ turn.Change }
-        requires idle { AreIdle (progress_of self.old) }
-        ensures script { self.new.script ≡ self.old.script }
-        ensures progress { OnOk result (Moves (progress_of self.old) (progress_of self.new) task (record { lines = (progress_at (progress_of self.old) task).lines + 1; phase = phase.Idle })) }
-    {
-        match self
-            .core
-            .change(alloc, task, &mut self.list, &mut self.catalogue)?
-        {
-            Outcome::Done => Ok(()),
-            Outcome::Waits(_) => unreachable!(),
-        }
+/// Runs the task of the pass until it has no more lines, or stops because memory ran out.
+fn run_task<P: Policy, J: Job, B: Ledger, G: Gate, R: Threads + Wait + Sync>(
+    rt: &R,
+    alloc: Global,
+    gate: &G,
+    kernel: &Kernel<P, J, B>,
+    pass: &mut Pass<J, B>,
+)
+    requires { pass.old.out ≡ false }
+    ensures { IsBack pass.old pass.new }
+{
+    let mut plan = Plan::new();
+    while is_line(kernel.turn(pass)) {
+        run_line(rt, alloc, gate, kernel, pass, &mut plan);
     }
 }
 
@@ -167,4 +182,121 @@ fn is_line(next: Turn) -> bool
     ensures { IsTrue result ↔ IsLine next }
 {
     matches!(next, Turn::Entry | Turn::Change)
+}
+
+/// Does the next line of the pass's task.
+fn run_line<P: Policy, J: Job, B: Ledger, G: Gate, R: Threads + Wait + Sync>(
+    rt: &R,
+    alloc: Global,
+    gate: &G,
+    kernel: &Kernel<P, J, B>,
+    pass: &mut Pass<J, B>,
+    plan: &mut Plan,
+)
+    requires out { pass.old.out ≡ false }
+    requires turn { IsLine (pass_turn J.script pass.old) }
+    ensures { WentOn pass.old pass.new }
+{
+    match kernel.turn(pass) {
+        Turn::Entry => run_entry(rt, alloc, gate, kernel, pass, plan),
+        Turn::Change => run_change(rt, alloc, gate, kernel, pass),
+        Turn::Entered | Turn::Done | Turn::Finished | Turn::Stopped => unreachable!(),
+    }
+}
+
+/// A line, from 1, of a task, from 0.
+#[derive(Clone, Copy)]
+struct Place {
+    task: u32,
+    line: u32,
+}
+
+/// The next line of the pass's task.
+fn place_of<J: Job, B: Ledger>(pass: &Pass<J, B>) -> Place {
+    Place {
+        task: pass.task(),
+        line: pass.lines().saturating_add(1),
+    }
+}
+
+/// Does a line that is an entry.
+fn run_entry<P: Policy, J: Job, B: Ledger, G: Gate, R: Threads + Wait + Sync>(
+    rt: &R,
+    alloc: Global,
+    gate: &G,
+    kernel: &Kernel<P, J, B>,
+    pass: &mut Pass<J, B>,
+    plan: &mut Plan,
+)
+    requires out { pass.old.out ≡ false }
+    requires turn { pass_turn J.script pass.old ≡ turn.Entry }
+    ensures { WentOn pass.old pass.new }
+{
+    let at = place_of(pass);
+    let mut ticket = kernel.enter(rt, pass);
+    let done = run_call(rt, alloc, gate, kernel, &mut ticket, plan, at);
+    kernel.leave(rt, ticket, pass);
+    if done.is_ok() {
+        gate.after(rt, at.task, at.line);
+    }
+}
+
+/// Does the ticket's call: plans it, asks the policies and commits, again and again while the commit is stale.
+fn run_call<P: Policy, J: Job, B: Ledger, G: Gate, R: Threads + Wait + Sync>(
+    rt: &R,
+    alloc: Global,
+    gate: &G,
+    kernel: &Kernel<P, J, B>,
+    ticket: &mut Ticket<J, B>,
+    plan: &mut Plan,
+    at: Place,
+) -> Result<(), AllocError>
+    requires { ticket.old.committed ≡ false }
+    ensures { IsSameTicket ticket.old ticket.new }
+{
+    for _ in rt.forever() {
+        let policies = kernel.policies(rt);
+        let list = policies.list();
+        kernel.plan(rt, ticket, plan);
+        let verdict = Kernel::walk(list, ticket, plan);
+        gate.between(rt, at.task, at.line);
+        match kernel.commit(rt, alloc, ticket, list, plan, &verdict) {
+            Ok(Commit::Done) => return Ok(()),
+            Ok(Commit::Stale) => {}
+            Err(error) => return Err(error),
+        }
+    }
+    unreachable!()
+}
+
+/// Does a line that is a change.
+fn run_change<P: Policy, J: Job, B: Ledger, G: Gate, R: Threads + Wait + Sync>(
+    rt: &R,
+    alloc: Global,
+    gate: &G,
+    kernel: &Kernel<P, J, B>,
+    pass: &mut Pass<J, B>,
+)
+    requires out { pass.old.out ≡ false }
+    requires turn { pass_turn J.script pass.old ≡ turn.Change }
+    ensures { WentOn pass.old pass.new }
+{
+    let at = place_of(pass);
+    if kernel.change(rt, alloc, pass).is_ok() {
+        gate.after(rt, at.task, at.line);
+    }
+}
+
+/// Whether each pass has all lines of its task.
+fn have_all<J: Job, B: Ledger>(script: &Script, passes: &Vec<Pass<J, B>>) -> bool
+    requires { vec_len passes.now ≡ length script.now.tasks }
+    ensures { IsTrue result → HaveAll script.now passes.now.items (length script.now.tasks) }
+{
+    let tasks = script.tasks.as_slice();
+    for task in 0..tasks.len() {
+        if passes[task].lines() as usize != tasks[task].lines.len() {
+            return false;
+        }
+    }
+    true
 }

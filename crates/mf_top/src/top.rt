@@ -1,99 +1,122 @@
 //! The program's call.
-ghost use Rattle.std.specs.Prelude.{◌≡◌, ◌⊎◌, ◌∷◌, [], All, List, ℕ, map, codes, Result, string_bytes, IsTrue, ◌↔◌};
+ghost use Rattle.std.specs.Prelude.{◌≡◌, ◌≤◌, ◌⊎◌, All, List, ℕ, map, Some, Result, string_bytes};
 ghost use Rattle.mf_policy.specs.Modules.{module_of};
 ghost use Rattle.mf_list.specs.Lists.{IsFresh};
 ghost use Rattle.mf_core.specs.Policies.{AreAllModules};
 ghost use Rattle.mf_top.specs.declared.refusal.Refusal.{Refusal};
-ghost use Rattle.mf_top.specs.Outside.{seen};
-ghost use Rattle.mf_top.specs.Answers.{WroteHistory, IsRunWords, IsOutcome, IsWritten, IsFaultless, status_of, text_of};
+ghost use Rattle.mf_io.specs.Outside.{seen};
+ghost use Rattle.mf_top.specs.declared.command.Command.TheVariants as command;
+ghost use Rattle.mf_top.specs.Commands.{command_of};
+ghost use Rattle.mf_top.specs.Answers.{WroteHistory, WroteSummary, IsRunOutcome, IsLoaded, IsOutcome, IsWritten, IsFaultless, status_of, text_of};
 ghost use Rattle.mf_top.specs.Outcomes.{bytes_of_outcome};
 
-use crate::io::{Failed, Sink, Source};
+use crate::command::Command;
 use crate::refusal::Refusal;
 use crate::{read, run, write};
+use mf_io::{Failed, Gate, Sink, Source};
 use mf_policy::Policy;
 use mf_script::read_script;
 use std::alloc::Global;
 use std::sync::Wait;
 use std::thread::Threads;
 
-const RUN: &str = "run";
-
-/// Runs the script that the source holds, and writes its history to the sink. Returns the program's exit status: 0, the
-/// status of a `Refusal`, or 5 where a write failed. `words` are those after the program's name. A history is
-/// written only after the whole source is read and the run has ended. `modules` has a policy of each module that is
-/// built in, once, in its initial state.
-pub fn macsim<S: Source, K: Sink, P: Policy, R: Threads + Wait + Sync>(
+/// With the word `run` runs the script that the source holds, and writes its history and the sources at its end to the
+/// sink; with `gen N T` runs the generated load, and writes its summary. Returns the program's exit status: 0, the status
+/// of a `Refusal`, or 5 where a write failed. `words` are those after the program's name. Nothing is written before the
+/// run has ended. `modules` has a policy of each module that is built in, once, in its initial state. The tasks run side
+/// by side, and call `gate`.
+pub fn macsim<S: Source, K: Sink, G: Gate, P: Policy, R: Threads + Wait + Sync>(
     rt: &R,
     alloc: Global,
     words: &[String],
     source: &mut S,
     sink: &mut K,
+    gate: &G,
     modules: Vec<P>,
 ) -> u8
     requires modules { AreAllModules (map (λ p. module_of (P.spec p)) modules.items) }
     requires fresh { All (λ p. IsFresh (P.spec p)) modules.items }
 
-    // With 0 the source held a script to its end, and the sink took the text of one history that is legal and
-    // complete for it, and in which each label slot is made and ended at most once, and nothing else.
-    ensures headline { result ≡ 0 → WroteHistory (seen S.left S.faults source.old source.new) (seen K.taken K.faults sink.old sink.new) }
+    // With `run` and 0 the source held a script to its end, and the sink took the text of one history that is legal and
+    // complete for it, and of its sources, and nothing else. In it each label slot is made and ended at most once, and
+    // what flowed into a party is in the order of its policy.
+    ensures headline { command_of (map string_bytes words.now) ≡ Some command.Run → result ≡ 0
+        → WroteHistory (seen S.left S.faults source.old source.new) (seen K.taken K.faults sink.old sink.new) }
+
+    // With `gen N T` and 0 nothing was read, and the sink took the summary of the load, and nothing else.
+    ensures load { (lines tasks : ℕ) → command_of (map string_bytes words.now) ≡ Some (command.Gen lines tasks) → result ≡ 0
+        → WroteSummary lines tasks (seen S.left S.faults source.old source.new) (seen K.taken K.faults sink.old sink.new) }
 
     // Each status has its cause, and what was taken is its text, or with 5 a beginning of another's.
     ensures cause { (outcome : Result (List ℕ) Refusal)
         × IsOutcome (map string_bytes words.now) (seen S.left S.faults source.old source.new) outcome
         × IsWritten (seen K.taken K.faults sink.old sink.new) outcome result }
 
-    // A script in the right words, over a source and a sink that don't fail, gives 0, or 9 if memory runs out.
+    // The right words, with `run` a script, over a source and a sink that don't fail, gives 0, or 9 if memory runs out.
     ensures complete { IsFaultless (map string_bytes words.now) (seen S.left S.faults source.old source.new) (seen K.taken K.faults sink.old sink.new)
         → (result ≡ 0) ⊎ (result ≡ 9) }
 {
-    let outcome = outcome_of(alloc, words, source, modules);
+    let outcome = outcome_of(rt, alloc, words, source, gate, modules);
     match write::write_all(sink, text_of(&outcome).as_bytes()) {
         Ok(()) => status_of(&outcome),
         Err(Failed) => 5,
     }
 }
 
-/// What is to be written: the text of the run's history, or why there is none.
-fn outcome_of<S: Source, P: Policy>(
+/// What is to be written: the text of the run's history or of the load's summary, or why there is none.
+fn outcome_of<S: Source, G: Gate, P: Policy, R: Threads + Wait + Sync>(
+    rt: &R,
     alloc: Global,
     words: &[String],
     source: &mut S,
+    gate: &G,
     modules: Vec<P>,
 ) -> Result<String, Refusal>
     requires modules { AreAllModules (map (λ p. module_of (P.spec p)) modules.items) }
     requires fresh { All (λ p. IsFresh (P.spec p)) modules.items }
     ensures { IsOutcome (map string_bytes words.now) (seen S.left S.faults source.old source.new) (bytes_of_outcome result) }
 {
-    if is_run(words) {
-        run_source(alloc, source, modules)
-    } else {
-        Err(Refusal::Usage)
+    match Command::of_words(words) {
+        None => Err(Refusal::Usage),
+        Some(Command::Run) => run_source(rt, alloc, source, gate, modules),
+        Some(Command::Gen(lines, tasks)) => run_generated(rt, alloc, lines, tasks, gate, modules),
     }
 }
 
-fn is_run(words: &[String]) -> bool
-    ensures { IsTrue result ↔ IsRunWords (map string_bytes words.now) }
+/// The summary of the generated load.
+fn run_generated<G: Gate, P: Policy, R: Threads + Wait + Sync>(
+    rt: &R,
+    alloc: Global,
+    lines: u32,
+    tasks: u32,
+    gate: &G,
+    modules: Vec<P>,
+) -> Result<String, Refusal>
+    requires lines { lines ≤ 4096 }
+    requires tasks { tasks ≤ 16 }
+    requires modules { AreAllModules (map (λ p. module_of (P.spec p)) modules.items) }
+    requires fresh { All (λ p. IsFresh (P.spec p)) modules.items }
+    ensures { IsLoaded lines tasks (bytes_of_outcome result) }
 {
-    match words {
-        [word] => word.as_str() == RUN,
-        _ => false,
-    }
+    let text = run::run_load(rt, alloc, lines, tasks, gate, modules)?;
+    Ok(text)
 }
 
-/// The text of the history of what the source holds.
-fn run_source<S: Source, P: Policy>(
+/// The text of the history of what the source holds, and of its sources.
+fn run_source<S: Source, G: Gate, P: Policy, R: Threads + Wait + Sync>(
+    rt: &R,
     alloc: Global,
     source: &mut S,
+    gate: &G,
     modules: Vec<P>,
 ) -> Result<String, Refusal>
     requires modules { AreAllModules (map (λ p. module_of (P.spec p)) modules.items) }
     requires fresh { All (λ p. IsFresh (P.spec p)) modules.items }
-    ensures { IsOutcome (codes "run" ∷ []) (seen S.left S.faults source.old source.new) (bytes_of_outcome result) }
+    ensures { IsRunOutcome (seen S.left S.faults source.old source.new) (bytes_of_outcome result) }
 {
     let bytes = read::read_all(alloc, source)?;
     let script = read_script(alloc, &bytes)?;
-    let text = run::run_script(alloc, &script, modules)?;
+    let text = run::run_script(rt, alloc, &script, gate, modules)?;
     Ok(text)
 }
 

@@ -1,9 +1,11 @@
 //! The calls of a core that do the call of a line: commits of entries, and changes of the policies.
-ghost use Rattle.std.specs.Prelude.{◌≡◌, ◌<◌, ◌↔◌, length, IfOk, IsTrue, OnErr};
+ghost use Rattle.std.specs.Prelude.{◌≡◌, ◌+◌, ◌<◌, ◌↔◌, length, IfOk, IsTrue, OnErr, Some};
+ghost use Rattle.mf_script.specs.WellFormed.{lines_of};
+ghost use Rattle.mf_core.specs.Progress.{progress_at};
 ghost use Rattle.mf_step.specs.Verdict.{verdict_of};
 ghost use Rattle.mf_core.specs.declared.progress.Turn.TheVariants as turn;
 ghost use Rattle.mf_core.specs.Policies.{AreOf, StaysWhileWaiting};
-ghost use Rattle.mf_core.specs.Run.{specs_of, progress_of, turn_at, Changes, Commits, IsCurrent, MovesBy, MovesOn};
+ghost use Rattle.mf_core.specs.Run.{specs_of, progress_of, next_plan, turn_at, open_of, done_of, lines_changed, Changes, Commits, IsCurrent, MovesBy, MovesOn};
 
 use super::Core;
 use crate::following::follow;
@@ -33,6 +35,8 @@ impl<'s> Core<'s> {
         ensures commit { IfOk result (λ commit. Commits self.old task list.now.entries plan.now commit self.new) }
         ensures progress { IfOk result (λ commit. MovesOn commit (progress_of self.old) task (progress_of self.new)) }
         ensures specs { specs_of self.new ≡ specs_of self.old }
+        ensures entries { open_of self.new ≡ open_of self.old }
+        ensures lines { done_of self.new ≡ done_of self.old }
         ensures err { OnErr result (self.new ≡ self.old) }
     {
         if !self.is_current(task, list, plan) {
@@ -55,7 +59,20 @@ impl<'s> Core<'s> {
         requires turn { turn_at self.now task ≡ turn.Entered }
         ensures { IsTrue result ↔ IsCurrent self.now task list.now.entries plan.now }
     {
-        self.plan(task).same(plan) && list.same_specs(&self.state.specs)
+        let lines = self.progress.at(task as usize).lines;
+        list.same_specs(&self.state.specs) && self.is_plan_at(task, lines, plan)
+    }
+
+    /// Whether the plan is that of the call of the task's line at index `lines`, from 0, in the present state.
+    fn is_plan_at(&self, task: u32, lines: u32, plan: &Plan) -> bool
+        requires task { task < length self.now.script.tasks }
+        requires line { lines < length (lines_of self.now.script task) }
+        requires lines { lines ≡ (progress_at (progress_of self.now) task).lines }
+        ensures { IsTrue result ↔ (next_plan self.now task ≡ Some plan.now) }
+    {
+        let line = self.script.line_at(task, lines);
+        let name = self.script.name_of(task);
+        plan.is_of(&self.state, name, line.child_name(), &line.call)
     }
 
     /// Makes the change of the task's next line. While entries are open nothing changes, and the result is `Waits` with
@@ -74,6 +91,8 @@ impl<'s> Core<'s> {
         ensures outcome { IfOk result (λ outcome. Changes self.old task outcome self.new) }
         ensures progress { IfOk result (λ outcome. MovesBy outcome (progress_of self.old) task (progress_of self.new)) }
         ensures policies { AreOf (specs_of self.new) list.new catalogue.new }
+        ensures entries { open_of self.new ≡ open_of self.old }
+        ensures lines { IfOk result (λ outcome. done_of self.new ≡ done_of self.old + lines_changed outcome) }
         ensures waits { IfOk result (λ outcome. StaysWhileWaiting outcome list.old list.new catalogue.old catalogue.new) }
         ensures err { OnErr result ((self.new ≡ self.old) × (list.new ≡ list.old) × (catalogue.new ≡ catalogue.old)) }
     {

@@ -1,0 +1,291 @@
+-- Rows of live entities, one after another.
+use Rattle.std.proofs.Common.{◌≡◌, ℕ, ◌<◌, ◌≤◌, ◌+◌, zero, suc, Bool, true, false, cond, nat_le, List, [], ◌∷◌, ◌++◌, append_assoc, length, map, take, get_or, slice_get, Option, Some, None, IfSome, IsSome, refl, ap, sym, ◌∙◌, subst, arith, length-append, ◌⊎◌, inl, inr}
+use Rattle.std.specs.Prelude.{find, Contains}
+use Rattle.std.proofs.lemmas.Bool.Decides.{nat_tests}
+use Rattle.mf_errno.specs.Module.{same_module}
+use Rattle.mf_errno.specs.declared.module.Module.{Module}
+use Rattle.mf_errno.specs.declared.module.Module.TheVariants.{Biba, Mls, Partition, Bsdextended, Priority}
+use Rattle.mf_errno.proofs.Modules.{same_module-is}
+use Rattle.mf_elem.specs.declared.elem.Elem.{Elem}
+use Rattle.mf_elem.specs.Label.{is_equal}
+use Rattle.mf_policy.specs.declared.registration.Registration.{Registration}
+use Rattle.mf_list.specs.Asked.{slot_of}
+use Rattle.mf_objects.specs.declared.id.Id.{Id}
+use Rattle.mf_objects.specs.Live.{Live, Entities, has_id, is_from, id_of, live_at}
+use Rattle.mf_objects.specs.Population.{IsRising}
+use Rattle.mf_objects.specs.Titles.{title_at}
+use Rattle.mf_objects.proofs.Rising.{id_differs}
+use Rattle.mf_script.specs.declared.script.Script.{Script}
+use Rattle.mf_core.specs.declared.history.History.{History}
+use Rattle.mf_core.specs.LegalHistory.{IsLegal}
+use Rattle.mf_objects.proofs.Finding.{find_given}
+use Rattle.mf_flow.specs.declared.table.Row.{Row}
+use Rattle.mf_flow.specs.Order.{union}
+use Rattle.mf_flow.specs.Rows.{AreOwnRows, AreRows, IsBooted, Rows, row, element_of, new_row}
+use Rattle.mf_flow.specs.Sources.{Sets, alone, held_by}
+use Rattle.mf_flow.specs.Table.{HasSources, booted_as, row_of, rows_in}
+use Rattle.mf_flow.proofs.RowsKept.{first_from, former_row, last_row}
+use Rattle.mf_flow.proofs.Dominating.{biba_booted, mls_booted}
+
+-- Own elements
+
+-- the first so many rows
+pub record AreFirst (slot : ℕ) (o : Entities) (rows : Rows) (n : ℕ) : Type 0 where
+  pub count : length rows ≡ n
+  pub each : (k : ℕ) → k < n → row rows k ≡ new_row slot (find (is_from k) o.live) []
+
+pub first_none : (slot : ℕ) (o : Entities) → AreFirst slot o [] 0
+first_none slot o = record { count = refl; each = λ k none. absurd (omega arith) }
+
+pub first_more : (slot : ℕ) (o : Entities) (rows rows' : Rows) (n : ℕ) (set nothing : List Elem) → AreFirst slot o rows n → nothing ≡ []
+    → set ≡ new_row slot (find (is_from n) o.live) nothing → rows' ≡ rows ++ set ∷ [] → AreFirst slot o rows' (n + 1)
+first_more slot o rows rows' n set nothing first none is more =
+    subst (λ (x : Rows). AreFirst slot o x (n + 1)) (sym more)
+    (record { count = omega (arith, first.count, length-append rows (set ∷ [])); each = λ k within. one k within (last_or_not k n within) })
+  where
+    last_or_not : (k n : ℕ) → k < n + 1 → (k ≡ n) ⊎ (k < n)
+    last_or_not k n within = grind arith
+
+    one : (k : ℕ) → k < n + 1 → (k ≡ n) ⊎ (k < n) → row (rows ++ set ∷ []) k ≡ new_row slot (find (is_from k) o.live) []
+    one k within (inl last) =
+        let place : k ≡ length rows = last ∙ sym first.count in
+        ap (row (rows ++ set ∷ [])) place ∙ last_row rows set ∙ is
+        ∙ ap (new_row slot (find (is_from n) o.live)) none
+        ∙ ap (λ (m : ℕ). new_row slot (find (is_from m) o.live) []) (sym last)
+    one k within (inr before) = former_row rows set k (omega (arith, first.count)) ∙ first.each k before
+
+own_alone : (element : Option Elem) → held_by element (union (alone element) []) ≡ alone element
+own_alone None = refl
+own_alone (Some own) = one (is_equal own) refl
+  where
+    one : (b : Bool) → is_equal own ≡ b → cond b [] (union (cond b [] (own ∷ [])) []) ≡ cond b [] (own ∷ [])
+    one true equal = refl
+    one false plain = refl
+
+pub own_rows : (slot : ℕ) (o : Entities) (rows : Rows) (n : ℕ) → IsRising 0 o.next o.live → n ≡ o.next → AreFirst slot o rows n → AreOwnRows slot o rows
+own_rows slot o rows n rising all first =
+    record {
+      count = first.count ∙ all;
+      each = λ id e live.
+          let given : id.0 < o.next = find_given id e 0 o.next o.live live rising in
+          first.each id.0 (omega arith)
+          ∙ ap (λ (found : Option Live). new_row slot found []) (first_from id e 0 o.next o.live rising live)
+          ∙ own_alone (element_of slot e.label);
+    }
+
+-- A row for each
+
+from_itself : (n : ℕ) → nat_le n n ≡ true
+from_itself n = grind (arith, nat_tests)
+
+from_less : (n m : ℕ) → n ≤ m → nat_le n m ≡ true
+from_less n m l = grind (arith, nat_tests)
+
+not_from : (n m : ℕ) → m < n → nat_le n m ≡ false
+not_from n m l = grind (arith, nat_tests)
+
+-- the first from a number on that is at most the first id
+first_is : (n least next : ℕ) (es : List Live) → n ≤ least → IsRising least next es → find (is_from n) es ≡ slice_get es 0
+first_is n least next [] l rising = refl
+first_is n least next (x ∷ es) l rising =
+    let test : is_from n x ≡ true = from_less n x.id.0 (omega (arith, rising.0)) in
+    rw test refl
+
+later_id : (es : List Live) (n least next : ℕ) (d : Live) → n < length es → IsRising least next es → least ≤ (get_or es n d).id.0
+later_id [] n least next d within rising = absurd (omega arith)
+later_id (x ∷ es) zero least next d within rising = rising.0
+later_id (x ∷ es) (suc n) least next d within rising = omega (arith, rising.0, later_id es n (x.id.0 + 1) next d (omega arith) rising.1)
+
+-- behind one entity the next is found
+next_found : (es : List Live) (n least next : ℕ) (d : Live) → n < length es → IsRising least next es
+    → find (is_from ((get_or es n d).id.0 + 1)) es ≡ slice_get es (n + 1)
+next_found [] n least next d within rising = absurd (omega arith)
+next_found (x ∷ es) zero least next d within rising =
+    let miss : is_from (x.id.0 + 1) x ≡ false = not_from (x.id.0 + 1) x.id.0 (omega arith) in
+    rw miss (first_is (x.id.0 + 1) (x.id.0 + 1) next es (omega arith) rising.1)
+next_found (x ∷ es) (suc n) least next d within rising =
+    let later : x.id.0 + 1 ≤ (get_or es n d).id.0 = later_id es n (x.id.0 + 1) next d (omega arith) rising.1 in
+    let miss : is_from ((get_or es n d).id.0 + 1) x ≡ false = not_from ((get_or es n d).id.0 + 1) x.id.0 (omega arith) in
+    let place : suc n + 1 ≡ suc (n + 1) = omega arith in
+    rw (miss, place) (next_found es n (x.id.0 + 1) next d (omega arith) rising.1)
+
+got : {A : Type 0} (xs : List A) (n : ℕ) (x d : A) → slice_get xs n ≡ Some x → get_or xs n d ≡ x
+got [] n x d found = cc
+got (y ∷ xs) zero x d found = cc
+got (y ∷ xs) (suc n) x d found = got xs n x d found
+
+there : {A : Type 0} (xs : List A) (n : ℕ) → n < length xs → slice_get xs n ≡ None → ⊥
+there [] n within none = absurd (omega arith)
+there (y ∷ xs) zero within none = cc
+there (y ∷ xs) (suc n) within none = there xs n (omega arith) none
+
+taken_more : {A : Type 0} (xs : List A) (n : ℕ) (x : A) → slice_get xs n ≡ Some x → take (n + 1) xs ≡ take n xs ++ x ∷ []
+taken_more [] n x found = cc
+taken_more (y ∷ xs) zero x found =
+    let same : y ≡ x = cc in
+    rw same refl
+taken_more (y ∷ xs) (suc n) x found =
+    let place : suc n + 1 ≡ suc (n + 1) = omega arith in
+    rw place (ap (λ (ys : List _). y ∷ ys) (taken_more xs n x found))
+
+map_push : {A B : Type 0} (f : A → B) (xs : List A) (x : A) → map f (xs ++ x ∷ []) ≡ map f xs ++ f x ∷ []
+map_push f [] x = refl
+map_push f (y ∷ xs) x = ap (λ (ys : List _). f y ∷ ys) (map_push f xs x)
+
+-- so many rows are listed, and the next entity is the first from a number on
+pub record AreListed (m : Module) (o : Entities) (rows : Rows) (before table : List Row) (from n : ℕ) : Type 0 where
+  pub listed : table ≡ before ++ map (row_of m o (λ (id : Id). row rows id.0)) (take n o.live)
+  pub next : find (is_from from) o.live ≡ slice_get o.live n
+
+pub listed_none : (m : Module) (o : Entities) (rows : Rows) (table : List Row) → AreListed m o rows table table 0 0
+listed_none m o rows table = record { listed = nothing_more table; next = from_start o.live }
+  where
+    nothing_more : (xs : List Row) → xs ≡ xs ++ []
+    nothing_more [] = refl
+    nothing_more (x ∷ xs) = ap (λ (ys : List Row). x ∷ ys) (nothing_more xs)
+
+    from_start : (es : List Live) → find (is_from 0) es ≡ slice_get es 0
+    from_start [] = refl
+    from_start (x ∷ es) = let test : is_from 0 x ≡ true = from_less 0 x.id.0 (omega arith) in rw test refl
+
+-- the entity that is found next is the one in that place
+record IsNext (o : Entities) (n : ℕ) (id : Id) : Type 0 where
+  e : Live
+  here : slice_get o.live n ≡ Some e
+  is : e.id ≡ id
+
+found_next : (m : Module) (o : Entities) (rows : Rows) (before table : List Row) (from n : ℕ) (id : Id) → AreListed m o rows before table from n
+    → Some id ≡ id_of (find (is_from from) o.live) → IsNext o n id
+found_next m o rows before table from n id so_far found = one (slice_get o.live n) refl (found ∙ ap id_of so_far.next)
+  where
+    one : (x : Option Live) → slice_get o.live n ≡ x → Some id ≡ id_of x → IsNext o n id
+    one None is same = cc
+    one (Some e) is same =
+        let own : id ≡ e.id = cc in
+        record { e = e; here = is; is = sym own }
+
+pub listed_more : (m : Module) (o : Entities) (rows : Rows) (before table table' : List Row) (from from' n : ℕ) (id : Id) (new : Row) → IsRising 0 o.next o.live
+    → AreListed m o rows before table from n → n < length o.live → Some id ≡ id_of (find (is_from from) o.live)
+    → new ≡ record { «module» = m; id = id; title = title_at o id; elements = row rows id.0 } → table' ≡ table ++ new ∷ [] → from' ≡ id.0 + 1
+    → AreListed m o rows before table' from' (n + 1)
+listed_more m o rows before table table' from from' n id new rising so_far within found is more next =
+    let at : IsNext o n id = found_next m o rows before table from n id so_far found in
+    let f : Live → Row = row_of m o (λ (x : Id). row rows x.0) in
+    let own : new ≡ f at.e = is ∙ ap (λ (x : Id). record { «module» = m; id = x; title = title_at o x; elements = row rows x.0 }) (sym at.is) in
+    let behind : find (is_from (at.e.id.0 + 1)) o.live ≡ slice_get o.live (n + 1) =
+    ap (λ (x : Live). find (is_from (x.id.0 + 1)) o.live) (sym (got o.live n at.e at.e at.here)) ∙ next_found o.live n 0 o.next at.e within rising in
+    record {
+      listed =
+          more ∙ ap (λ (xs : List Row). xs ++ new ∷ []) so_far.listed ∙ ap (λ (x : Row). (before ++ map f (take n o.live)) ++ x ∷ []) own
+          ∙ append_assoc before (map f (take n o.live)) (f at.e ∷ [])
+          ∙ ap (λ (xs : List Row). before ++ xs) (sym (map_push f (take n o.live) at.e))
+          ∙ ap (λ (xs : List Live). before ++ map f xs) (sym (taken_more o.live n at.e at.here));
+      next = ap (λ (k : ℕ). find (is_from k) o.live) (next ∙ ap (λ (x : Id). x.0 + 1) (sym at.is)) ∙ behind;
+    }
+
+-- there is a next one
+pub not_over : (m : Module) (o : Entities) (rows : Rows) (before table : List Row) (from n : ℕ) (found : Option Id) → AreListed m o rows before table from n → n < length o.live
+    → found ≡ id_of (find (is_from from) o.live) → IsSome found
+not_over m o rows before table from n found so_far within is = one (slice_get o.live n) refl found (is ∙ ap id_of so_far.next)
+  where
+    one : (x : Option Live) → slice_get o.live n ≡ x → (found : Option Id) → found ≡ id_of x → IsSome found
+    one None none found same = absurd (there o.live n within none)
+    one (Some e) some None same = cc
+    one (Some e) some (Some id) same = refl
+
+whole : {A : Type 0} (xs : List A) → take (length xs) xs ≡ xs
+whole [] = refl
+whole (x ∷ xs) = ap (λ (ys : List _). x ∷ ys) (whole xs)
+
+pub all_listed : (m : Module) (o : Entities) (rows : Rows) (before table : List Row) (from n : ℕ) → AreListed m o rows before table from n → n ≡ length o.live
+    → table ≡ before ++ rows_in m o (λ (id : Id). row rows id.0)
+all_listed m o rows before table from n so_far all =
+    so_far.listed ∙ ap (λ (es : List Live). before ++ map (row_of m o (λ (id : Id). row rows id.0)) es) (ap (λ (k : ℕ). take k o.live) all ∙ whole o.live)
+
+-- the id that is found is live, so it was given
+pub found_given : (o : Entities) (id : Id) (found : Option Live) → IsRising 0 o.next o.live → live_at o id ≡ found → Some id ≡ id_of found → id.0 < o.next
+found_given o id None rising is same = cc
+found_given o id (Some e) rising is same = find_given id e 0 o.next o.live is rising
+
+pub given_of : (o : Entities) (from : ℕ) (found : Option Id) (id : Id) → IsRising 0 o.next o.live → found ≡ Some id → found ≡ id_of (find (is_from from) o.live)
+    → IfSome found (λ x. live_at o x ≡ find (is_from from) o.live) → id.0 < o.next
+given_of o from found id rising some is live =
+    let at : live_at o id ≡ find (is_from from) o.live = subst (λ (x : Option Id). IfSome x (λ y. live_at o y ≡ find (is_from from) o.live)) some live in
+    found_given o id (live_at o id) rising refl (sym some ∙ is ∙ ap id_of (sym at))
+
+pub is_found : (o : Entities) (from : ℕ) (found : Option Id) (id : Id) → found ≡ Some id → found ≡ id_of (find (is_from from) o.live) → Some id ≡ id_of (find (is_from from) o.live)
+is_found o from found id some is = sym some ∙ is
+
+-- The sources
+
+same_rows : (m : Module) (o : Entities) (sets : Sets) (rows : Rows) (least next : ℕ) (es : List Live) → IsRising least next es
+    → ((e : Live) → find (has_id e.id) es ≡ Some e → row rows e.id.0 ≡ sets e.id)
+    → map (row_of m o (λ (id : Id). row rows id.0)) es ≡ map (row_of m o sets) es
+same_rows m o sets rows least next [] rising each = refl
+same_rows m o sets rows least next (x ∷ es) rising each =
+    let here : row rows x.id.0 ≡ sets x.id = each x (itself x es) in
+    let rest : map (row_of m o (λ (id : Id). row rows id.0)) es ≡ map (row_of m o sets) es =
+    same_rows m o sets rows (x.id.0 + 1) next es rising.1 (λ e found. each e (later e found)) in
+    ap (λ (set : List Elem). record { «module» = m; id = x.id; title = title_at o x.id; elements = set } ∷ map (row_of m o (λ (id : Id). row rows id.0)) es) here
+    ∙ ap (λ (ys : List Row). row_of m o sets x ∷ ys) rest
+  where
+    itself : (x : Live) (es : List Live) → find (has_id x.id) (x ∷ es) ≡ Some x
+    itself x es =
+        let test : has_id x.id x ≡ true = grind (arith, nat_tests) in
+        rw test refl
+
+    later : (e : Live) → find (has_id e.id) es ≡ Some e → find (has_id e.id) (x ∷ es) ≡ Some e
+    later e found =
+        let given : e.id.0 ≡ e.id.0 = refl in
+        let miss : has_id e.id x ≡ false = id_differs e.id x (λ same. beyond e found same) in
+        rw miss found
+      where
+        beyond : (e : Live) → find (has_id e.id) es ≡ Some e → x.id.0 ≡ e.id.0 → ⊥
+        beyond e found same = before e es (x.id.0 + 1) (omega arith) rising.1 found
+          where
+            before : (e : Live) (es : List Live) (least : ℕ) → e.id.0 < least → IsRising least next es → find (has_id e.id) es ≡ Some e → ⊥
+            before e [] least early rising found = cc
+            before e (y ∷ es) least early rising found =
+                let miss : has_id e.id y ≡ false = id_differs e.id y (λ same. omega (arith, rising.0)) in
+                before e es (y.id.0 + 1) (omega (arith, rising.0)) rising.1 (rw miss at found)
+
+-- all rows are listed, with the sources
+pub all_sources : (m : Module) (o : Entities) (rows : Rows) (before table : List Row) (from n : ℕ) (sets : Sets) → IsRising 0 o.next o.live
+    → AreListed m o rows before table from n → n ≡ length o.live → AreRows o sets rows → table ≡ before ++ rows_in m o sets
+all_sources m o rows before table from n sets rising so_far all are =
+    all_listed m o rows before table from n so_far all
+    ∙ ap (λ (xs : List Row). before ++ xs) (same_rows m o sets rows 0 o.next o.live rising (λ e found. are.each e.id e found))
+
+-- The policies that were booted
+
+-- the slot of a policy that was booted
+boot_four : (s : Script) (h : History) (r : Registration) → IsLegal s h → Contains h.boots r → HasSources r.module → slot_of r < 4
+boot_four s h r legal booted has = one r.module refl has
+  where
+    one : (m : Module) → r.module ≡ m → HasSources m → slot_of r < 4
+    one Biba of has = (biba_booted s h r legal booted of).of.four
+    one Mls of has = (mls_booted s h r legal booted of).of.four
+    one Partition of has = absurd has
+    one Bsdextended of has = absurd has
+    one Priority of has = absurd has
+
+pub slot_four : (s : Script) (h : History) (r : Option Registration) → IsLegal s h → IfSome r (IsBooted h) → IfSome r (λ x. slot_of x < 4)
+slot_four s h None legal booted = tt
+slot_four s h (Some r) legal booted = boot_four s h r legal booted.0 booted.1
+
+-- the registration that is found was made at boot, and is the module's
+found_booted : (m : Module) (boots : List Registration) (r : Registration) → HasSources m → Some r ≡ booted_as boots m → Contains boots r × HasSources r.module
+found_booted m [] r has found = cc
+found_booted m (x ∷ boots) r has found = one (same_module m x.module) refl found (found_booted m boots r has)
+  where
+    one : (b : Bool) → same_module m x.module ≡ b → Some r ≡ cond b (Some x) (booted_as boots m) → (Some r ≡ booted_as boots m → Contains boots r × HasSources r.module)
+        → Contains (x ∷ boots) r × HasSources r.module
+    one true hit here rest =
+        let same : x ≡ r = cc in
+        let of : m ≡ r.module = same_module-is m x.module hit ∙ ap (λ (q : Registration). q.module) same in
+        ((0, omega arith, same), subst HasSources of has)
+    one false miss later rest = let found = rest later in ((suc found.0.0, omega (arith, found.0.1), found.0.2), found.1)
+
+pub all_booted : (m : Module) (h : History) (found : Option Registration) → HasSources m → found ≡ booted_as h.boots m → IfSome found (IsBooted h)
+all_booted m h None has is = tt
+all_booted m h (Some r) has is = found_booted m h.boots r has is

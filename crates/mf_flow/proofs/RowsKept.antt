@@ -1,0 +1,293 @@
+-- The rows that are kept are the sources of the live entities.
+use Rattle.std.proofs.Common.{◌≡◌, ◌≢◌, ℕ, ◌<◌, ◌≤◌, ◌+◌, zero, suc, Bool, true, false, cond, nat_eq, nat_le, nat_lt, List, [], ◌∷◌, ◌++◌, length, set, Option, Some, None, slice_index_or, refl, ap, sym, ◌∙◌, subst, arith, length-set, length-append, get_or-set_same, get_or-set_other}
+use Rattle.std.specs.Prelude.{find, fold}
+use Rattle.std.specs.List.{AllByRecursion}
+use Rattle.std.proofs.lemmas.Bool.Decides.{nat_tests}
+use Rattle.mf_errno.specs.declared.errno.Errno.TheVariants.{Success}
+use Rattle.mf_elem.specs.declared.elem.Elem.{Elem}
+use Rattle.mf_elem.specs.declared.label.LabelValue.{LabelValue}
+use Rattle.mf_elem.specs.declared.label.LabelValue.TheVariants.{Unset}
+use Rattle.mf_elem.specs.Label.{is_equal}
+use Rattle.mf_item.specs.declared.item.Item.{Item}
+use Rattle.mf_item.specs.declared.view.SubjectView.{SubjectView}
+use Rattle.mf_item.specs.declared.view.ObjectView.{ObjectView}
+use Rattle.mf_policy.specs.declared.registration.Registration.{Registration}
+use Rattle.mf_policy.specs.Answer.{LatticePolicy, label_of, object_slot, part_of, lattice_answer}
+use Rattle.mf_policy.specs.Operations.{Movement}
+use Rattle.mf_policy.specs.Operations.Movement.{Still, ToSubject, ToObject, BothWays}
+use Rattle.mf_list.specs.Asked.{slot_of}
+use Rattle.mf_objects.specs.declared.id.Id.{Id}
+use Rattle.mf_objects.specs.Live.{Live, Entities, has_id, id_of, is_from, live_at}
+use Rattle.mf_objects.specs.Live.{label_of as values_of}
+use Rattle.mf_objects.specs.Population.{IsRising}
+use Rattle.mf_objects.proofs.Rising.{id_is}
+use Rattle.mf_plan.specs.declared.state.State.{State}
+use Rattle.mf_objects.proofs.Finding.{find_before, find_given}
+use Rattle.mf_marks.proofs.Entities.{Change, IsStep}
+use Rattle.mf_marks.proofs.Entities.Change.{absent, stays, comes, goes}
+use Rattle.mf_marks.proofs.Shape.{Shape}
+use Rattle.mf_marks.proofs.Shape.Shape.{same as still, created, changed, removed, loaded, unloaded}
+use Rattle.mf_flow.specs.Order.{union}
+use Rattle.mf_flow.specs.Movement.{movement_of}
+use Rattle.mf_flow.specs.Rows.{AreKept, AreRows, Rows, row, element_of, element_at as row_element, may_come, joined, received as row_received, rows_between, rows_with, rows_moved, new_row, maker_row, rows_created}
+use Rattle.mf_flow.specs.Sources.{Sets, element_in, element_at, held_by, alone, is_id, received, moved, moved_with, moved_by, moved_by_all, set_after, set_of, sets_across}
+use Rattle.mf_flow.proofs.Orders.{IsFlowPolicy}
+use Rattle.mf_flow.proofs.Bounds.{Fit, FitBy, AllowedBy, allows}
+use Rattle.mf_flow.proofs.Placing.{union_nothing}
+use Rattle.mf_flow.proofs.Copies.{IsSubject, IsObject, IsCopied}
+use Rattle.mf_flow.proofs.Flowing.{AllFit, HasElement, same_id, received_all, item_fit}
+
+-- each live entity has an element
+abbrev pub AllLabelled : Registration → Entities → Type 0
+AllLabelled r o = (id : Id) (e : Live) → live_at o id ≡ Some e → HasElement (element_in r e.label)
+
+module _ (p : LatticePolicy) (flows : IsFlowPolicy p) (r : Registration) (o : Entities) (rising : IsRising 0 o.next o.live) (labelled : AllLabelled r o) where
+  -- what a party has after something came to it
+  joined_is : (own : Elem) (b : Bool) → is_equal own ≡ b → (mine set given_row given : List Elem) → FitBy p own b set → mine ≡ set → (from : Option Elem) → Fit p from given
+      → ((x : Elem) → from ≡ Some x → given_row ≡ given) → cond (may_come (Some own) from) (union mine given_row) mine ≡ held_by (Some own) (union set given)
+  joined_is own true equal mine set given_row given none is None fit told = rw equal (is ∙ none)
+  joined_is own true equal mine set given_row given none is (Some x) fit told = rw equal (is ∙ none)
+  joined_is own false plain mine set given_row given all is None fit told = rw plain (is ∙ sym (ap (union set) fit ∙ union_nothing set))
+  joined_is own false plain mine set given_row given all is (Some x) fit told =
+      rw plain (ap (λ (xs : List Elem). union xs given_row) is ∙ ap (union set) (told x refl))
+
+  own_row : (sets : Sets) (rows : Rows) (to from : Id) (e : Live) (given_row given : List Elem) → AllFit p r o sets → AreRows o sets rows → live_at o to ≡ Some e
+      → Fit p (element_at r o from) given → ((giver : Live) → live_at o from ≡ Some giver → given_row ≡ given)
+      → row (row_received (slot_of r) o rows to.0 from.0 given_row) to.0 ≡ held_by (element_at r o to) (union (sets to) given)
+  own_row sets rows to from e given_row given fit are live theirs told =
+      let has : HasElement (element_in r e.label) = labelled to e live in
+      let is : element_at r o to ≡ Some has.0 = ap (λ (found : Option Live). element_in r (values_of found)) live ∙ has.1 in
+      get_or-set_same rows to.0 (joined (slot_of r) o to.0 from.0 (row rows to.0) given_row) [] within
+      ∙ subst (λ (element : Option Elem). cond (may_come element (element_at r o from)) (union (row rows to.0) given_row) (row rows to.0) ≡ held_by element (union (sets to) given)) (sym is)
+      (joined_is has.0 (is_equal has.0) refl (row rows to.0) (sets to) given_row given (subst (λ (element : Option Elem). Fit p element (sets to)) is (fit to)) (are.each to e live)
+      (element_at r o from) theirs (given_by (live_at o from) refl))
+    where
+      within : to.0 < length rows
+      within = omega (arith, are.count, find_given to e 0 o.next o.live live rising)
+
+      given_by : (found : Option Live) → live_at o from ≡ found → (x : Elem) → element_in r (values_of found) ≡ Some x → given_row ≡ given
+      given_by None is x some = cc
+      given_by (Some giver) is x some = told giver is
+
+  received_rows : (sets : Sets) (rows : Rows) (to from : Id) (given_row given : List Elem) → AllFit p r o sets → AreRows o sets rows
+      → Fit p (element_at r o from) given → ((giver : Live) → live_at o from ≡ Some giver → given_row ≡ given)
+      → AreRows o (received r o to given sets) (row_received (slot_of r) o rows to.0 from.0 given_row)
+  received_rows sets rows to from given_row given fit are theirs told =
+      record {
+        count = length-set rows to.0 (joined (slot_of r) o to.0 from.0 (row rows to.0) given_row) ∙ are.count;
+        each = λ id e live. one id e live (is_id id to) refl;
+      }
+    where
+      one : (id : Id) (e : Live) → live_at o id ≡ Some e → (b : Bool) → is_id id to ≡ b
+          → row (row_received (slot_of r) o rows to.0 from.0 given_row) id.0 ≡ cond b (held_by (element_at r o to) (union (sets to) given)) (sets id)
+      one id e live true same =
+          let here : id ≡ to = same_id id to same in
+          let at : live_at o to ≡ Some e = ap (live_at o) (sym here) ∙ live in
+          ap (λ (x : Id). row (row_received (slot_of r) o rows to.0 from.0 given_row) x.0) here
+          ∙ own_row sets rows to from e given_row given fit are at theirs told
+      one id e live false other =
+          let differ : id.0 ≢ to.0 = λ same. differs id.0 to.0 other same in
+          get_or-set_other rows to.0 id.0 (joined (slot_of r) o to.0 from.0 (row rows to.0) given_row) [] differ ∙ are.each id e live
+        where
+          differs : (a b : ℕ) → nat_eq a b ≡ false → a ≡ b → ⊥
+          differs a b test equal = grind (arith, nat_tests)
+
+  between_rows : (sets : Sets) (rows : Rows) (subject object : Id) (movement : Movement) → AllFit p r o sets → AllowedBy p movement (element_at r o subject) (element_at r o object)
+      → AreRows o sets rows → AreRows o (moved r o subject object sets movement) (rows_between (slot_of r) o rows movement subject.0 object.0)
+  between_rows sets rows subject object Still fit allowed are = are
+  between_rows sets rows subject object ToSubject fit allowed are =
+      received_rows sets rows subject object (row rows object.0) (sets object) fit are (fit object) (are.each object)
+  between_rows sets rows subject object ToObject fit allowed are =
+      received_rows sets rows object subject (row rows subject.0) (sets subject) fit are (fit subject) (are.each subject)
+  between_rows sets rows subject object BothWays fit allowed are =
+      received_rows (received r o subject (sets object) sets) (row_received (slot_of r) o rows subject.0 object.0 (row rows object.0)) object subject (row rows subject.0) (sets subject)
+      (received_all p flows r o subject object (sets object) sets allowed.0 (fit object) fit)
+      (received_rows sets rows subject object (row rows object.0) (sets object) fit are (fit object) (are.each object))
+      (fit subject) (are.each subject)
+
+  with_rows : (sets : Sets) (rows : Rows) (movement : Movement) (subject : SubjectView) (object : Option ObjectView) → IsSubject o subject → IsObject o object
+      → AllowedBy p movement (element_in r subject.label) (label_of (object_slot object (slot_of r))).effective → AllFit p r o sets → AreRows o sets rows
+      → AreRows o (moved_with r o (record { 0 = subject.id }) object sets movement) (rows_with (slot_of r) o rows movement subject.id object)
+  with_rows sets rows movement subject None own theirs allowed fit are = are
+  with_rows sets rows movement subject (Some object) own theirs allowed fit are =
+      between_rows sets rows (record { 0 = subject.id }) (record { 0 = object.id }) movement fit
+      (subst (λ (label : List LabelValue). AllowedBy p movement (element_in r label) (element_at r o (record { 0 = object.id }))) own
+      (subst (λ (label : List LabelValue). AllowedBy p movement (element_in r subject.label) (element_in r label)) theirs allowed))
+      are
+
+  -- a check that the policy passes
+  item_rows : (sets : Sets) (rows : Rows) (item : Item) → lattice_answer p (slot_of r) item ≡ Success → IsCopied o item → AllFit p r o sets → AreRows o sets rows
+      → AreRows o (moved_by r o sets item) (rows_moved (slot_of r) o rows item)
+  item_rows sets rows item success copied fit are =
+      with_rows sets rows (movement_of item.op) item.subject item.object copied.0 copied.1
+      (allows p flows (label_of (slice_index_or item.subject.label (slot_of r) Unset)) (part_of p item.request) item.op (element_in r item.subject.label)
+      (label_of (object_slot item.object (slot_of r))).effective success)
+      fit are
+
+  pub items_rows : (sets : Sets) (rows : Rows) (items : List Item) → AllByRecursion (λ item. lattice_answer p (slot_of r) item ≡ Success) items → AllByRecursion (IsCopied o) items
+      → AllFit p r o sets → AreRows o sets rows → AreRows o (moved_by_all r o sets items) (fold (rows_moved (slot_of r) o) rows items)
+  items_rows sets rows [] success copied fit are = are
+  items_rows sets rows (item ∷ items) success copied fit are =
+      items_rows (moved_by r o sets item) (rows_moved (slot_of r) o rows item) items success.1 copied.1
+      (item_fit p flows r o sets item success.0 copied.0 fit) (item_rows sets rows item success.0 copied.0 fit are)
+
+-- Entities that come and go
+
+-- a step gives at most one id
+pub shape_next : (by : Option Id) (s s' : State) → Shape by s s' → s'.objects.next ≤ s.objects.next + 1
+shape_next by s s' (still is) = omega (arith, ap (λ (x : State). x.objects.next) is)
+shape_next by s s' (created from maker name what own live is) = omega (arith, ap (λ (x : State). x.objects.next) is)
+shape_next by s s' (changed change id is) = omega (arith, ap (λ (x : State). x.objects.next) is)
+shape_next by s s' (removed gone is) = omega (arith, ap (λ (x : State). x.objects.next) is)
+shape_next by s s' (loaded m none is) = omega (arith, ap (λ (x : State). x.objects.next) is)
+shape_next by s s' (unloaded m ok is) = omega (arith, ap (λ (x : State). x.objects.next) is)
+
+from_test : (n m : ℕ) → n ≤ m → nat_le n m ≡ true
+from_test n m l = grind (arith, nat_tests)
+
+not_from : (n m : ℕ) → m < n → nat_le n m ≡ false
+not_from n m l = grind (arith, nat_tests)
+
+-- the live entity of an id is the first from its number on
+pub first_from : (id : Id) (e : Live) (least next : ℕ) (es : List Live) → IsRising least next es → find (has_id id) es ≡ Some e → find (is_from id.0) es ≡ Some e
+first_from id e least next [] rising found = cc
+first_from id e least next (x ∷ es) rising found = one (has_id id x) refl found (first_from id e (x.id.0 + 1) next es rising.1)
+  where
+    later : find (has_id id) es ≡ Some e → has_id id x ≡ false → (b : Bool) → is_from id.0 x ≡ b → find (is_from id.0) es ≡ Some e
+        → cond b (Some x) (find (is_from id.0) es) ≡ Some e
+    later there miss false is rest = rest
+    later there miss true is rest =
+        let at_least : id.0 ≤ x.id.0 = grind (arith, nat_tests) in
+        let before : find (has_id id) es ≡ None = find_before id (x.id.0 + 1) next es (omega arith) rising.1 in
+        cc
+
+    one : (b : Bool) → has_id id x ≡ b → cond b (Some x) (find (has_id id) es) ≡ Some e → (find (has_id id) es ≡ Some e → find (is_from id.0) es ≡ Some e)
+        → cond (is_from id.0 x) (Some x) (find (is_from id.0) es) ≡ Some e
+    one true hit here rest =
+        let number : x.id.0 ≡ id.0 = id_is id x hit in
+        let test : is_from id.0 x ≡ true = from_test id.0 x.id.0 (omega arith) in
+        rw test here
+    one false miss here rest = later here miss (is_from id.0 x) refl (rest here)
+
+its_number : (id : Id) (e : Live) (es : List Live) → find (has_id id) es ≡ Some e → e.id.0 ≡ id.0
+its_number id e [] found = cc
+its_number id e (x ∷ es) found = one (has_id id x) refl found (its_number id e es)
+  where
+    one : (b : Bool) → has_id id x ≡ b → cond b (Some x) (find (has_id id) es) ≡ Some e → (find (has_id id) es ≡ Some e → e.id.0 ≡ id.0) → e.id.0 ≡ id.0
+    one true hit here rest =
+        let same : x ≡ e = cc in
+        ap (λ (y : Live). y.id.0) (sym same) ∙ id_is id x hit
+    one false miss later rest = rest later
+
+-- The entity of a number
+
+-- where the first id from a number on has another number, or none is found, no entity of that number lives
+pub gone_at : (o : Entities) (n : ℕ) (found : Option Id) → IsRising 0 o.next o.live → found ≡ id_of (find (is_from n) o.live)
+    → ((id : Id) → found ≡ Some id → id.0 ≡ n → ⊥) → live_at o (record { 0 = n }) ≡ None
+gone_at o n found rising is other = one (live_at o (record { 0 = n })) refl
+  where
+    one : (at : Option Live) → live_at o (record { 0 = n }) ≡ at → at ≡ None
+    one None none = refl
+    one (Some e) live =
+        let first : find (is_from n) o.live ≡ Some e = first_from (record { 0 = n }) e 0 o.next o.live rising live in
+        absurd (other e.id (is ∙ ap id_of first) (its_number (record { 0 = n }) e o.live live))
+
+pub absent_at : (slot : ℕ) (o : Entities) (n : ℕ) (found : Option Id) → IsRising 0 o.next o.live → found ≡ id_of (find (is_from n) o.live)
+    → ((id : Id) → found ≡ Some id → id.0 ≡ n → ⊥) → None ≡ row_element slot o n
+absent_at slot o n found rising is other = sym (ap (λ (at : Option Live). element_of slot (values_of at)) (gone_at o n found rising is other))
+
+pub other_found : (n : ℕ) (id : Id) (number : ℕ) (found : Option Id) → found ≡ Some id → number ≡ id.0 → (number ≡ n → ⊥) → (x : Id) → found ≡ Some x → x.0 ≡ n → ⊥
+other_found n id number found is here differs x some at =
+    let same : id ≡ x = cc in
+    differs (here ∙ ap (λ (y : Id). y.0) same ∙ at)
+
+pub other_number : (n : ℕ) (id : Id) (number : ℕ) (found : Option Id) → found ≡ Some id → number ≡ id.0 → nat_eq number n ≡ false → (x : Id) → found ≡ Some x → x.0 ≡ n → ⊥
+other_number n id number found is here test = other_found n id number found is here (differs number n test)
+  where
+    differs : (a b : ℕ) → nat_eq a b ≡ false → a ≡ b → ⊥
+    differs a b test equal = grind (arith, nat_tests)
+
+pub none_found : (n : ℕ) (found : Option Id) → found ≡ None → (x : Id) → found ≡ Some x → x.0 ≡ n → ⊥
+none_found n found is x some at = cc
+
+-- Emptied rows
+
+pub kept_itself : (o : Entities) (rows : Rows) → AreKept o rows rows
+kept_itself o rows = record { count = refl; each = λ id e live. refl }
+
+pub kept_then : (o : Entities) (rows rows' rows'' : Rows) → AreKept o rows rows' → AreKept o rows' rows'' → AreKept o rows rows''
+kept_then o rows rows' rows'' first then =
+    record { count = then.count ∙ first.count; each = λ id e live. then.each id e live ∙ first.each id e live }
+
+-- the row of what is gone is emptied
+pub kept_more : (o : Entities) (rows rows' rows'' : Rows) (n : ℕ) → AreKept o rows rows' → live_at o (record { 0 = n }) ≡ None → rows'' ≡ set rows' n [] → AreKept o rows rows''
+kept_more o rows rows' rows'' n kept gone is =
+    subst (AreKept o rows) (sym is)
+    (record {
+      count = length-set rows' n [] ∙ kept.count;
+      each = λ id e live. get_or-set_other rows' n id.0 [] [] (λ same. differs id e live same) ∙ kept.each id e live;
+    })
+  where
+    differs : (id : Id) (e : Live) → live_at o id ≡ Some e → id.0 ≡ n → ⊥
+    differs id e live same =
+        let here : live_at o (record { 0 = n }) ≡ Some e = ap (λ (k : ℕ). live_at o (record { 0 = k })) (sym same) ∙ live in
+        cc
+
+-- a row behind all, and those before it
+pub last_row : (rows : Rows) (new : List Elem) → row (rows ++ new ∷ []) (length rows) ≡ new
+last_row [] new = refl
+last_row (x ∷ rows) new = last_row rows new
+
+pub former_row : (rows : Rows) (new : List Elem) (n : ℕ) → n < length rows → row (rows ++ new ∷ []) n ≡ row rows n
+former_row [] new n within = absurd (omega arith)
+former_row (x ∷ rows) new zero within = refl
+former_row (x ∷ rows) new (suc n) within = former_row rows new n (omega arith)
+
+module _ (r : Registration) (by : Option Id) (s s' : State) (rising : IsRising 0 s.objects.next s.objects.live) (step : IsStep by s s') (at_most : s'.objects.next ≤ s.objects.next + 1)
+    (relabelled : Id → Bool) (not_relabelled : (id : Id) → relabelled id ≡ false) (sets : Sets) (rows : Rows) (are : AreRows s.objects sets rows) where
+  maker_is : (from : Id) (maker : Live) → by ≡ Some from → live_at s.objects from ≡ Some maker → maker_row rows by ≡ set_of by sets
+  maker_is from maker made live =
+      subst (λ (x : Option Id). maker_row rows x ≡ set_of x sets) (sym made) (are.each from maker live)
+
+  abbrev new : List Elem
+  new = new_row (slot_of r) (find (is_from s.objects.next) s'.objects.live) (maker_row rows by)
+
+  -- the row of an entity that is live after the step
+  kept_row : (id : Id) (found found' : Option Live) (e : Live) → live_at s.objects id ≡ found → live_at s'.objects id ≡ found' → Change by s id found found' → found' ≡ Some e
+      → (b : Bool) → nat_lt s.objects.next s'.objects.next ≡ b
+      → row (cond b (rows ++ new ∷ []) rows) id.0 ≡ set_after r found found' (relabelled id) (sets id) (set_of by sets)
+  kept_row id _ _ e was is absent now b more = cc
+  kept_row id _ _ e was is (stays old next label) now true more =
+      rw (not_relabelled id) (former_row rows new id.0 (omega (arith, are.count, find_given id old 0 s.objects.next s.objects.live was rising)) ∙ are.each id old was)
+  kept_row id _ _ e was is (stays old next label) now false more = rw (not_relabelled id) (are.each id old was)
+  kept_row id _ _ e was is (comes next maker from made number live label) now false more =
+      let given : id.0 < s'.objects.next = find_given id next 0 s'.objects.next s'.objects.live is step.rising in
+      let none : s'.objects.next ≤ s.objects.next = not_less s.objects.next s'.objects.next more in
+      absurd (omega arith)
+    where
+      not_less : (a b : ℕ) → nat_lt a b ≡ false → b ≤ a
+      not_less a b test = grind (arith, nat_tests)
+  kept_row id _ _ e was is (comes next maker from made number live label) now true more =
+      let first : find (is_from id.0) s'.objects.live ≡ Some next = first_from id next 0 s'.objects.next s'.objects.live step.rising is in
+      let found : find (is_from s.objects.next) s'.objects.live ≡ Some next = subst (λ (n : ℕ). find (is_from n) s'.objects.live ≡ Some next) number first in
+      let place : id.0 ≡ length rows = number ∙ sym are.count in
+      ap (row (rows ++ new ∷ [])) place ∙ last_row rows new
+      ∙ ap (λ (x : Option Live). new_row (slot_of r) x (maker_row rows by)) found
+      ∙ ap (λ (xs : List Elem). held_by (element_in r next.label) (union (alone (element_in r next.label)) xs)) (maker_is from maker made live)
+  kept_row id _ _ e was is (goes old given) now b more = cc
+
+  created_count : (b : Bool) → nat_lt s.objects.next s'.objects.next ≡ b → length (cond b (rows ++ new ∷ []) rows) ≡ s'.objects.next
+  created_count true more =
+      let less : s.objects.next < s'.objects.next = grind (arith, nat_tests) in
+      omega (arith, are.count, length-append rows (new ∷ []), at_most)
+  created_count false more =
+      let none : s'.objects.next ≤ s.objects.next = grind (arith, nat_tests) in
+      omega (arith, are.count, step.next)
+
+  -- the rows after a call
+  pub created_rows : AreRows s'.objects (sets_across r s s' by relabelled sets) (rows_created (slot_of r) s.objects.next s'.objects by rows)
+  created_rows =
+      record {
+        count = created_count (nat_lt s.objects.next s'.objects.next) refl;
+        each = λ id e live. kept_row id (live_at s.objects id) (live_at s'.objects id) e refl refl (step.each id) live (nat_lt s.objects.next s'.objects.next) refl;
+      }

@@ -1,0 +1,23 @@
+use Rattle.std.proofs.Common.{◌≡◌, ◌++◌, ◌-◌, arith, take, drop, length, ap, ◌∙◌}
+use Rattle.mf_flow.specs.Order.{union}
+use Rattle.mf_flow.proofs.Placing.{merged_mine, merged_theirs, rest_of}
+use Rattle.mf_flow.proofs.elem_set.merged.Goals as goal
+use Rattle.mf_flow.proofs.elem_set.merged.Goals.{then-loop-mine-test+else-theirs-other, else-loop-mine-test}
+
+pub returns : goal.returns
+returns c =
+    let set = c.args.set.now in
+    let other = c.args.other.now in
+    let items = c.loop-mine.items.items in
+    let all : (items ++ drop c.loop-mine.mine set) ++ drop c.loop-mine.theirs other ≡ union set other =
+    elim c.loop-mine-test.branch [
+      | then-loop-mine-test+else-theirs-other w ↦
+          merged_theirs set other items c.loop-mine.mine c.loop-mine.theirs (omega (arith, w.if-theirs-other)) c.loop-mine.invariant
+      | else-loop-mine-test w ↦
+          merged_mine set other items c.loop-mine.mine c.loop-mine.theirs (omega (arith, w.loop-mine-test)) c.loop-mine.invariant
+    ] in
+    c.in_ok-extend_from_slice-2.ensures.items
+    ∙ ap (λ xs. xs ++ take (length other - c.loop-mine.theirs) (drop c.loop-mine.theirs other)) c.in_ok-extend_from_slice.ensures.items
+    ∙ ap (λ xs. (items ++ take (length set - c.loop-mine.mine) (drop c.loop-mine.mine set)) ++ xs) (rest_of other c.loop-mine.theirs)
+    ∙ ap (λ xs. (items ++ xs) ++ drop c.loop-mine.theirs other) (rest_of set c.loop-mine.mine)
+    ∙ all

@@ -1,0 +1,35 @@
+use Rattle.std.proofs.Common.{ap, sym, map, List, ℕ, Option, ◌∙◌}
+use Rattle.mf_script.specs.declared.script.Script.{Script}
+use Rattle.mf_plan.specs.declared.plan.Plan.{Plan}
+use Rattle.mf_plan.specs.Names.{caller_name}
+use Rattle.mf_plan.specs.Outline.{item_of}
+use Rattle.mf_plan.specs.Plan.{plan_of}
+use Rattle.mf_plan.specs.Views.{process_named}
+use Rattle.mf_core.specs.LegalHistory.{after}
+use Rattle.mf_core.specs.Replayed.{Replayed}
+use Rattle.mf_flow.specs.Movement.{passed}
+use Rattle.mf_flow.proofs.Followed.{done_flows, done_line, passed_map}
+use Rattle.mf_flow.proofs.following.follow.Goals as goal
+
+pub returns-in_ok-create_in_both-in-Done-clause-flows : goal.returns-in_ok-create_in_both-in-Done-clause-flows
+returns-in_ok-create_in_both-in-Done-clause-flows c =
+    let s = c.args.script.now in
+    let run = c.args.replay.now.run in
+    let e = c.args.event.now in
+    let state = c.state-state.result.now in
+    let task = c.name_of-name.result.now in
+    let line = c.line_at-line.result.now in
+    done_flows s run e c.in-Done.task c.in-Done.number c.in-Done.reply state c.state.result.now task line c.args.flows.now c.move_in_both.new.flows c.create_in_both.new.flows
+    (map (item_of state.objects) c.passed-checks.result.now) c.next_id-next.result c.caller_of-caller.result
+    c.in-Done.is c.state-state.ensures
+    (c.state.ensures ∙ ap (λ (x : Replayed). x.run.state) c.in_ok-next-in-Done.ensures.ok ∙ ap (λ (x : Script). (after x run e).state) c.requires.script)
+    c.name_of-name.ensures
+    (done_line s run e c.in-Done.task c.in-Done.number c.in-Done.reply line c.in-Done.is c.requires.may c.line_at-line.ensures)
+    (ap (map (item_of state.objects)) (c.passed-checks.ensures ∙ ap (λ xs. passed c.in-Done.reply xs) c.as_slice.ensures.value)
+    ∙ sym (passed_map c.in-Done.reply (item_of state.objects) c.outline_of-outline.result.checks)
+    ∙ ap (λ (p : Plan). passed c.in-Done.reply p.items) c.outline_of-outline.ensures.plan
+    ∙ ap (λ (child : Option (List ℕ)). passed c.in-Done.reply (plan_of state task child line.call).items) c.child_name.ensures)
+    c.in_ok-move_in_both-in-Done.ensures.moved
+    c.next_id-next.ensures
+    (c.caller_of-caller.ensures.value ∙ ap (λ (child : Option (List ℕ)). process_named state.objects (caller_name task child)) c.child_name-in-Done.ensures)
+    c.in_ok-create_in_both-in-Done.ensures

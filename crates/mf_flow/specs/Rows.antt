@@ -1,0 +1,182 @@
+-- The sources as a list by the numbers of ids, as they are kept while a history is gone through.
+use Rattle.std.specs.Prelude.{◌≡◌, ◌<◌, Contains, IfSome, ℕ, Bool, false, not, nat_lt, List, [], ◌∷◌, ◌++◌, Option, Some, None, find, fold, length, slice_index_or, slice_set, if◌then◌else◌}
+use Rattle.mf_elem.specs.declared.elem.Elem.{Elem}
+use Rattle.mf_elem.specs.declared.label.LabelValue.{LabelValue}
+use Rattle.mf_elem.specs.declared.label.LabelValue.TheVariants.{Unset}
+use Rattle.mf_elem.specs.Label.{is_equal}
+use Rattle.mf_item.specs.declared.item.Item.{Item}
+use Rattle.mf_item.specs.declared.view.ObjectView.{ObjectView}
+use Rattle.mf_policy.specs.Answer.{label_of}
+use Rattle.mf_policy.specs.Operations.{Movement}
+use Rattle.mf_policy.specs.Operations.Movement.{Still, ToSubject, ToObject, BothWays}
+use Rattle.mf_policy.specs.declared.registration.Registration.{Registration}
+use Rattle.mf_list.specs.Asked.{slot_of}
+use Rattle.mf_objects.specs.declared.id.Id.{Id}
+use Rattle.mf_objects.specs.Live.{Live, Entities, is_from, label_at, live_at}
+use Rattle.mf_script.specs.declared.script.Line.{Line}
+use Rattle.mf_script.specs.declared.script.Script.{Script}
+use Rattle.mf_script.specs.WellFormed.{name_of}
+use Rattle.mf_plan.specs.declared.outline.Check.{Check}
+use Rattle.mf_plan.specs.declared.reply.Reply.{Reply}
+use Rattle.mf_plan.specs.declared.state.State.{State}
+use Rattle.mf_plan.specs.Outline.{item_of}
+use Rattle.mf_plan.specs.Plan.{plan_of}
+use Rattle.mf_core.specs.declared.history.Event.{Event}
+use Rattle.mf_core.specs.declared.history.Event.TheVariants as event
+use Rattle.mf_core.specs.declared.history.History.{History}
+use Rattle.mf_core.specs.LegalHistory.{RunState, next_line, after, run_state_of}
+use Rattle.mf_flow.specs.Order.{union}
+use Rattle.mf_flow.specs.Movement.{passed, movement_of}
+use Rattle.mf_flow.specs.Sources.{Sets, alone, held_by, caller_of, sources_of}
+use Rattle.mf_flow.specs.Table.{HasSources}
+use Rattle.mf_flow.specs.declared.following.Flow.{Flow}
+use Rattle.mf_flow.specs.declared.following.Flows.{Flows}
+
+abbrev pub Rows : Type 0
+Rows = List (List Elem)
+
+-- the effective element in a slot of a label
+abbrev pub element_of : ℕ → List LabelValue → Option Elem
+element_of slot label = (label_of (slice_index_or label slot Unset)).effective
+
+abbrev pub row : Rows → ℕ → List Elem
+row rows number = slice_index_or rows number []
+
+-- the effective element that the live entity of a number has in a slot
+abbrev pub element_at : ℕ → Entities → ℕ → Option Elem
+element_at slot objects number = element_of slot (label_at objects (record { 0 = number }))
+
+-- whether something can come to a party of the one element from a party of the other
+abbrev pub may_come : Option Elem → Option Elem → Bool
+may_come None from = false
+may_come (Some to) None = false
+may_come (Some to) (Some from) = not (is_equal to)
+
+-- what a party then has, to which these elements come from another
+abbrev pub joined : ℕ → Entities → ℕ → ℕ → List Elem → List Elem → List Elem
+joined slot objects to from set given =
+    if may_come (element_at slot objects to) (element_at slot objects from) then union set given else set
+
+-- these elements come to the one party from the other
+abbrev pub received : ℕ → Entities → Rows → ℕ → ℕ → List Elem → Rows
+received slot objects rows to from given = slice_set rows to (joined slot objects to from (row rows to) given)
+
+abbrev pub exchanged : ℕ → Entities → Rows → ℕ → ℕ → Rows
+exchanged slot objects rows subject object =
+    received slot objects (received slot objects rows subject object (row rows object)) object subject (row rows subject)
+
+abbrev pub rows_between : ℕ → Entities → Rows → Movement → ℕ → ℕ → Rows
+rows_between slot objects rows Still subject object = rows
+rows_between slot objects rows ToSubject subject object = received slot objects rows subject object (row rows object)
+rows_between slot objects rows ToObject subject object = received slot objects rows object subject (row rows subject)
+rows_between slot objects rows BothWays subject object = exchanged slot objects rows subject object
+
+abbrev pub rows_with : ℕ → Entities → Rows → Movement → ℕ → Option ObjectView → Rows
+rows_with slot objects rows movement subject None = rows
+rows_with slot objects rows movement subject (Some object) = rows_between slot objects rows movement subject object.id
+
+-- the rows after a check that passed
+abbrev pub rows_moved : ℕ → Entities → Rows → Item → Rows
+rows_moved slot objects rows item = rows_with slot objects rows (movement_of item.op) item.subject.id item.object
+
+-- the same, by the outline of the check
+abbrev pub rows_by : ℕ → Entities → Rows → Check → Rows
+rows_by slot objects rows check = rows_moved slot objects rows (item_of objects check)
+
+-- the row of an entity that comes, made by a process with these sources
+abbrev pub new_row : ℕ → Option Live → List Elem → List Elem
+new_row slot None maker = []
+new_row slot (Some e) maker = held_by (element_of slot e.label) (union (alone (element_of slot e.label)) maker)
+
+abbrev pub maker_row : Rows → Option Id → List Elem
+maker_row rows None = []
+maker_row rows (Some id) = row rows id.0
+
+-- the rows after a call, with one more where an entity came
+abbrev pub rows_created : ℕ → ℕ → Entities → Option Id → Rows → Rows
+rows_created slot next objects caller rows =
+    if nat_lt next objects.next then rows ++ new_row slot (find (is_from next) objects.live) (maker_row rows caller) ∷ [] else rows
+
+abbrev pub rows_after_line : ℕ → State → State → List ℕ → Option Line → Reply → Rows → Rows
+rows_after_line slot s s' task None reply rows = rows
+rows_after_line slot s s' task (Some line) reply rows =
+    rows_created slot s.objects.next s'.objects (caller_of s task line)
+    (fold (rows_moved slot s.objects) rows (passed reply (plan_of s task line.child line.call).items))
+
+abbrev pub rows_after_event : Script → ℕ → RunState → Event → Rows → Rows
+rows_after_event s slot run (event.Enter t) rows = rows
+rows_after_event s slot run (event.Done t line reply) rows =
+    rows_after_line slot run.state (after s run (event.Done t line reply)).state (name_of s t) (next_line s run.progress t) reply rows
+rows_after_event s slot run (event.Leave t) rows = rows
+rows_after_event s slot run (event.Changed t line reply) rows = rows
+
+-- Both policies
+
+-- what stands for an option, by a fact for each of its values
+abbrev pub Alike : {A B : Type 0} → (A → B → Type 0) → Option A → Option B → Type 0
+Alike Fact None flow = flow ≡ None
+Alike {A} {B} Fact (Some x) flow = (y : B) × (flow ≡ Some y) × Fact x y
+
+abbrev pub flow_moved : Entities → List Item → Option Flow → Option Flow
+flow_moved objects items None = None
+flow_moved objects items (Some f) = Some (record f { sets = fold (rows_moved f.slot objects) f.sets items })
+
+abbrev pub flow_created : ℕ → Entities → Option Id → Option Flow → Option Flow
+flow_created next objects caller None = None
+flow_created next objects caller (Some f) = Some (record f { sets = rows_created f.slot next objects caller f.sets })
+
+-- each policy has a label slot
+pub record HaveSlots (flows : Flows) : Type 0 where
+  pub biba : IfSome flows.biba (λ f. f.slot < 4)
+  pub mls : IfSome flows.mls (λ f. f.slot < 4)
+
+unfoldable pub flows_moved : Entities → List Item → Flows → Flows
+flows_moved objects items flows = record { biba = flow_moved objects items flows.biba; mls = flow_moved objects items flows.mls }
+
+unfoldable pub flows_created : ℕ → Entities → Option Id → Flows → Flows
+flows_created next objects caller flows = record { biba = flow_created next objects caller flows.biba; mls = flow_created next objects caller flows.mls }
+
+abbrev pub flows_after_line : State → State → List ℕ → Option Line → Reply → Flows → Flows
+flows_after_line s s' task None reply flows = flows
+flows_after_line s s' task (Some line) reply flows =
+    flows_created s.objects.next s'.objects (caller_of s task line) (flows_moved s.objects (passed reply (plan_of s task line.child line.call).items) flows)
+
+-- the sources by both policies after the event
+abbrev pub flows_after_event : Script → RunState → Event → Flows → Flows
+flows_after_event s run (event.Enter t) flows = flows
+flows_after_event s run (event.Done t line reply) flows =
+    flows_after_line run.state (after s run (event.Done t line reply)).state (name_of s t) (next_line s run.progress t) reply flows
+flows_after_event s run (event.Leave t) flows = flows
+flows_after_event s run (event.Changed t line reply) flows = flows
+
+-- Rows and sources
+
+-- the rows of live entities are the same
+pub record AreKept (o : Entities) (old new : Rows) : Type 0 where
+  pub count : length new ≡ length old
+  pub each : (id : Id) (e : Live) → live_at o id ≡ Some e → row new id.0 ≡ row old id.0
+
+abbrev pub IsKept : Entities → Flow → Flow → Type 0
+IsKept o f f' = (f'.slot ≡ f.slot) × AreKept o f.sets f'.sets
+
+-- there is a row for each id that was given, and those of live entities have their sources
+pub record AreRows (o : Entities) (sets : Sets) (rows : Rows) : Type 0 where
+  pub count : length rows ≡ o.next
+  pub each : (id : Id) (e : Live) → live_at o id ≡ Some e → row rows id.0 ≡ sets id
+
+-- there is a row for each id that was given, and those of live entities have their own elements
+pub record AreOwnRows (slot : ℕ) (o : Entities) (rows : Rows) : Type 0 where
+  pub count : length rows ≡ o.next
+  pub each : (id : Id) (e : Live) → live_at o id ≡ Some e → row rows id.0 ≡ alone (element_of slot e.label)
+
+-- the sources of a policy that was booted so, at the opening and at the end of a history
+
+abbrev pub IsOpening : Entities → Registration → Flow → Type 0
+IsOpening o r f = (f.slot ≡ slot_of r) × AreOwnRows (slot_of r) o f.sets
+
+abbrev pub IsFlowOf : Script → History → Registration → Flow → Type 0
+IsFlowOf s h r f = AreRows (run_state_of s h.events.list).state.objects (sources_of s r h.events.list) f.sets
+
+-- it was booted, and is one of the policies that have sources
+abbrev pub IsBooted : History → Registration → Type 0
+IsBooted h r = Contains h.boots r × HasSources r.module

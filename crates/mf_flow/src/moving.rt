@@ -1,0 +1,229 @@
+//! What the checks of a call move.
+ghost use Rattle.std.specs.Prelude.{◌≡◌, ◌<◌, fold, map, unwrap_or, IfOk, OnOk};
+ghost use Rattle.mf_plan.specs.Outline.{item_of};
+ghost use Rattle.mf_flow.specs.Movement as spec;
+ghost use Rattle.mf_flow.specs.Rows as rows;
+
+use crate::elem_set::{ElemSet, has_all};
+use crate::set_list::SetList;
+use mf_elem::Elem;
+use mf_item::CheckOp;
+use mf_objects::Objects;
+use mf_plan::{Check, Reply};
+use mf_policy::slot_label;
+use std::alloc::{AllocError, Global};
+
+/// Which way information moves where an operation is allowed.
+pub enum Movement {
+    Still,
+    ToSubject,
+    ToObject,
+    BothWays,
+}
+
+/// The directions of mac_biba(4) and mac_mls(4): an operation that observes moves to the subject, one that modifies to the
+/// object.
+fn movement_of(op: CheckOp) -> Movement
+    ensures { spec.meaning_of result ≡ spec.movement_of op }
+{
+    match op {
+        CheckOp::VnodeLookup
+        | CheckOp::VnodeOpenRead
+        | CheckOp::VnodeRead
+        | CheckOp::VnodeExec
+        | CheckOp::VnodeStat
+        | CheckOp::VnodeReaddir
+        | CheckOp::PipeRead
+        | CheckOp::PipeStat
+        | CheckOp::SocketReceive => Movement::ToSubject,
+        CheckOp::VnodeOpenWrite
+        | CheckOp::VnodeWrite
+        | CheckOp::VnodeCreate
+        | CheckOp::VnodeUnlinkDir
+        | CheckOp::VnodeUnlink
+        | CheckOp::VnodeSetmode
+        | CheckOp::PipeWrite
+        | CheckOp::SocketSend
+        | CheckOp::SocketDeliver
+        | CheckOp::ProcSignal
+        | CheckOp::ProcSched => Movement::ToObject,
+        CheckOp::ProcDebug => Movement::BothWays,
+        CheckOp::VnodeRelabel
+        | CheckOp::PipeRelabel
+        | CheckOp::SocketVisible
+        | CheckOp::SocketRelabel
+        | CheckOp::CredRelabel
+        | CheckOp::ProcVisible
+        | CheckOp::KldLoad
+        | CheckOp::KldUnload
+        | CheckOp::Priv => Movement::Still,
+    }
+}
+
+/// The effective element that the live entity of that number has in the slot; none where no such entity lives.
+fn element_at(objects: &Objects, slot: u8, number: u32) -> Option<Elem>
+    requires { slot < 4 }
+    ensures { result ≡ rows.element_at slot objects.now number }
+{
+    let _live = objects.live();
+    match objects.least_from(number) {
+        Some(id) if id.number() == number => slot_label(&objects.value(id, slot)).effective,
+        _ => None,
+    }
+}
+
+/// Whether something can come to the one party from the other. One labelled equal has no sources.
+fn may_come(objects: &Objects, slot: u8, to: u32, from: u32) -> bool
+    requires { slot < 4 }
+    ensures { result ≡ rows.may_come (rows.element_at slot objects.now to) (rows.element_at slot objects.now from) }
+{
+    match element_at(objects, slot, to) {
+        None | Some(Elem::Equal) => false,
+        Some(_) => element_at(objects, slot, from).is_some(),
+    }
+}
+
+/// The new set of a party to which these elements come from another, where it gets another.
+fn joined(
+    alloc: Global,
+    slot: u8,
+    objects: &Objects,
+    to: u32,
+    from: u32,
+    set: &[Elem],
+    given: &[Elem],
+) -> Result<Option<ElemSet>, AllocError>
+    requires { slot < 4 }
+    ensures { IfOk result (λ new. unwrap_or new set.now ≡ rows.joined slot objects.now to from set.now given.now) }
+{
+    if has_all(set, given) || !may_come(objects, slot, to, from) {
+        return Ok(None);
+    }
+    let both = ElemSet::of_either(alloc, set, given)?;
+    Ok(Some(both))
+}
+
+/// The sources of one party come to another.
+fn receive(
+    alloc: Global,
+    slot: u8,
+    objects: &Objects,
+    sets: &mut SetList,
+    to: u32,
+    from: u32,
+) -> Result<(), AllocError>
+    requires { slot < 4 }
+    ensures { OnOk result (sets.new ≡ rows.received slot objects.now sets.old to from (rows.row sets.old from)) }
+{
+    let new = joined(alloc, slot, objects, to, from, sets.at(to), sets.at(from))?;
+    sets.put(to, new);
+    Ok(())
+}
+
+/// The sources of each of two parties come to the other: to each those that the other had before.
+fn exchange(
+    alloc: Global,
+    slot: u8,
+    objects: &Objects,
+    sets: &mut SetList,
+    subject: u32,
+    object: u32,
+) -> Result<(), AllocError>
+    requires { slot < 4 }
+    ensures { OnOk result (sets.new ≡ rows.exchanged slot objects.now sets.old subject object) }
+{
+    let before = sets.copy_of(alloc, subject)?;
+    receive(alloc, slot, objects, sets, subject, object)?;
+    let new = joined(
+        alloc,
+        slot,
+        objects,
+        object,
+        subject,
+        sets.at(object),
+        before.as_slice(),
+    )?;
+    sets.put(object, new);
+    Ok(())
+}
+
+/// What the check of an operation moves between its parties.
+fn move_between(
+    alloc: Global,
+    slot: u8,
+    objects: &Objects,
+    sets: &mut SetList,
+    op: CheckOp,
+    subject: u32,
+    object: u32,
+) -> Result<(), AllocError>
+    requires { slot < 4 }
+    ensures { OnOk result (sets.new ≡ rows.rows_between slot objects.now sets.old (spec.movement_of op) subject object) }
+{
+    match movement_of(op) {
+        Movement::Still => Ok(()),
+        Movement::ToSubject => receive(alloc, slot, objects, sets, subject, object),
+        Movement::ToObject => receive(alloc, slot, objects, sets, object, subject),
+        Movement::BothWays => exchange(alloc, slot, objects, sets, subject, object),
+    }
+}
+
+/// What a check that passed moves.
+#[tactic(auto, unfolding(mf_plan::specs::Outline::item_of))]
+fn move_by(
+    alloc: Global,
+    slot: u8,
+    objects: &Objects,
+    sets: &mut SetList,
+    check: &Check,
+) -> Result<(), AllocError>
+    requires { slot < 4 }
+    ensures { OnOk result (sets.new ≡ rows.rows_by slot objects.now sets.old check.now) }
+{
+    match check.object {
+        None => Ok(()),
+        Some(object) => move_between(
+            alloc,
+            slot,
+            objects,
+            sets,
+            check.op,
+            check.subject.number(),
+            object.number(),
+        ),
+    }
+}
+
+/// The checks that passed, by the reply.
+pub fn passed<'a>(reply: &Reply, checks: &'a [Check]) -> &'a [Check]
+    ensures { result.now ≡ spec.passed reply.now checks.now }
+{
+    match reply {
+        Reply::Denied { item, .. } => {
+            let passed = (*item as usize).saturating_sub(1);
+            if passed < checks.len() {
+                &checks[..passed]
+            } else {
+                checks
+            }
+        }
+        Reply::Ok(_) | Reply::Refused(_) => checks,
+    }
+}
+
+/// What checks that passed move, one after another.
+pub fn move_all(
+    alloc: Global,
+    slot: u8,
+    objects: &Objects,
+    sets: &mut SetList,
+    checks: &[Check],
+) -> Result<(), AllocError>
+    requires { slot < 4 }
+    ensures { OnOk result (sets.new ≡ fold (rows.rows_moved slot objects.now) sets.old (map (item_of objects.now) checks.now)) }
+{
+    for check in checks {
+        move_by(alloc, slot, objects, sets, check)?;
+    }
+    Ok(())
+}

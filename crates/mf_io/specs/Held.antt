@@ -1,0 +1,19 @@
+-- What a source and a sink over memory hold.
+use Rattle.std.specs.Prelude.{ℕ, List, Option}
+use Rattle.mf_io.specs.declared.calls.Calls.{Calls}
+
+-- what a source has left
+pub record Supply : Type 0 where
+  pub left : List ℕ
+  pub calls : Calls
+
+-- what a sink has taken, and how many bytes it takes in all
+pub record Store : Type 0 where
+  pub taken : List ℕ
+  pub room : ℕ
+  pub calls : Calls
+
+-- what a sink that never fails has taken, as long as that is known, and how many bytes are known at most
+pub record SureStore : Type 0 where
+  pub taken : Option (List ℕ)
+  pub room : ℕ

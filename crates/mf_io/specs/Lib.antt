@@ -1,0 +1,5 @@
+pub mod Outside
+pub mod Calls
+pub mod Held
+pub mod Memory
+pub mod Sure

@@ -1,0 +1,85 @@
+//! The trusted edge: a source over a reader and a sink over a writer. Proofs know nothing of their bytes.
+ghost use Rattle.std.specs.Prelude.{◌≡◌, ◌<◌, ◌≤◌, [], ℕ, None, length, take, IfOk, OnErr};
+ghost use Rattle.mf_io.specs.Outside.{Gave, HasCause, Took};
+ghost use Rattle.mf_io.specs.Calls.{counted};
+
+use crate::sink::Sink;
+use crate::source::{Failed, Source};
+use std::io::{Read, Write};
+
+/// A source over a reader, as standard input. It counts the reader's errors.
+#[derive(Drop)]
+pub struct StdSource<R: Read + Drop> {
+    reader: R,
+    faults: u64,
+}
+
+impl<R: Read + Drop> StdSource<R> {
+    /// A source that has had no fault.
+    pub fn new(reader: R) -> Self
+        ensures { result ≡ record { reader = reader; faults = 0 } }
+    {
+        StdSource { reader, faults: 0 }
+    }
+}
+
+impl<R: Read + Drop> Source for StdSource<R> {
+    ghost left = { λ s. None };
+
+    ghost faults = { λ s. s.faults };
+
+    fn read(&mut self, buffer: &mut [u8]) -> Result<usize, Failed>
+        ensures fits { IfOk result (λ n. n ≤ length buffer.old) }
+        ensures bytes { IfOk result (λ n. Gave None None (length buffer.old) n buffer.new) }
+        ensures cause { HasCause self.old.faults self.new.faults result }
+        ensures counted { OnErr result (self.new.faults ≡ counted self.old.faults) }
+    {
+        match self.reader.read(buffer) {
+            Ok(count) => Ok(count),
+            Err(_) => {
+                self.faults = self.faults.saturating_add(1);
+                Err(Failed)
+            }
+        }
+    }
+}
+
+/// A sink over a writer, as standard output. It counts the writer's errors, and as one a write that takes nothing of a
+/// piece that isn't empty.
+#[derive(Drop)]
+pub struct StdSink<W: Write + Drop> {
+    writer: W,
+    faults: u64,
+}
+
+impl<W: Write + Drop> StdSink<W> {
+    /// A sink that has had no fault.
+    pub fn new(writer: W) -> Self
+        ensures { result ≡ record { writer = writer; faults = 0 } }
+    {
+        StdSink { writer, faults: 0 }
+    }
+}
+
+impl<W: Write + Drop> Sink for StdSink<W> {
+    ghost taken = { λ s. None };
+
+    ghost faults = { λ s. s.faults };
+
+    fn write(&mut self, piece: &[u8]) -> Result<usize, Failed>
+        ensures fits { IfOk result (λ n. n ≤ length piece.now) }
+        ensures some { IfOk result (λ n. 0 < length piece.now → 0 < n) }
+        ensures bytes { IfOk result (λ n. Took None None (take n piece.now)) }
+        ensures same { OnErr result (Took None None []) }
+        ensures cause { HasCause self.old.faults self.new.faults result }
+        ensures counted { OnErr result (self.new.faults ≡ counted self.old.faults) }
+    {
+        if let Ok(count) = self.writer.write(piece)
+            && (count > 0 || piece.is_empty())
+        {
+            return Ok(count);
+        }
+        self.faults = self.faults.saturating_add(1);
+        Err(Failed)
+    }
+}

@@ -1,0 +1,14 @@
+mod Finding
+mod Names
+mod Known
+mod Keeping
+mod Asking
+mod Calls
+mod Totals
+mod Standing
+mod Running
+mod Opened
+mod Turning
+mod Settled
+mod Summed
+mod Replied

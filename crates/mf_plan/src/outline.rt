@@ -1,0 +1,133 @@
+//! Outlines of plans: the checks of a call with ids in the place of views.
+ghost use Rattle.std.specs.Prelude.{◌≡◌, ◌↔◌, ◌<◌, ◌+◌, [], ◌∷◌, ◌++◌, length, map, IsSome, IsTrue};
+ghost use Rattle.mf_item.specs.declared.operation.CheckOp.TheVariants as op;
+ghost use Rattle.mf_objects.specs.Live.{live_at};
+ghost use Rattle.mf_plan.specs.Outline as spec;
+ghost use Rattle.mf_plan.specs.Plan as plan;
+ghost use Rattle.mf_plan.specs.Views as view;
+
+use crate::plan::Tail;
+use mf_cred::ArrayVec;
+use mf_errno::Priv;
+use mf_item::CheckOp;
+use mf_objects::{Id, Objects};
+
+/// A check that names what it is about, and copies no view of it.
+#[derive(Clone, Copy, Debug, PartialEq, Eq)]
+pub struct Check {
+    pub op: CheckOp,
+    /// The process that calls, whose credential counts.
+    pub caller: Id,
+    /// That process, or the socket that sends.
+    pub subject: Id,
+    pub object: Option<Id>,
+    pub privilege: Option<Priv>,
+}
+
+impl Check {
+    /// Whether the two have one subject.
+    pub(crate) fn has_subject_of(self, other: Check) -> bool
+        ensures { IsTrue result ↔ ((self.caller ≡ other.caller) × (self.subject ≡ other.subject)) }
+    {
+        self.caller == other.caller && self.subject == other.subject
+    }
+}
+
+impl Default for Check {
+    fn default() -> Check {
+        let nobody = Id::default();
+        Check {
+            op: CheckOp::VnodeLookup,
+            caller: nobody,
+            subject: nobody,
+            object: None,
+            privilege: None,
+        }
+    }
+}
+
+/// Checks in the order in which they are asked. A plan has at most 10: 8 look-ups and 2 more.
+pub(crate) type Checks = ArrayVec<Check, 12>;
+
+/// The checks of a call, in the order in which they are asked, and its end: a plan without its views.
+#[derive(Drop)]
+pub struct Outline {
+    pub checks: ArrayVec<Check, 12>,
+    pub tail: Tail,
+}
+
+/// Adds the check of what the caller does to the entity.
+pub(crate) fn ask(_objects: &Objects, caller: Id, op: CheckOp, id: Id, checks: &mut Checks)
+    requires live { IsSome (live_at _objects.now id) }
+    requires few { length checks.old < 12 }
+    requires asking { spec.IsAsking _objects.now caller checks.old }
+    ensures seen { map (spec.item_of _objects.now) checks.new
+        ≡ map (spec.item_of _objects.now) checks.old ++ plan.on _objects.now (view.subject_of _objects.now caller) op id ∷ [] }
+    ensures count { length checks.new ≡ length checks.old + 1 }
+    ensures asking { spec.IsAsking _objects.now caller checks.new }
+{
+    checks.push(Check {
+        op,
+        caller,
+        subject: caller,
+        object: Some(id),
+        privilege: None,
+    });
+}
+
+/// Adds the check of what the socket delivers to another for the caller.
+pub(crate) fn ask_delivery(_objects: &Objects, caller: Id, from: Id, to: Id, checks: &mut Checks)
+    requires from { IsSome (live_at _objects.now from) }
+    requires to { IsSome (live_at _objects.now to) }
+    requires few { length checks.old < 12 }
+    requires asking { spec.IsAsking _objects.now caller checks.old }
+    ensures seen { map (spec.item_of _objects.now) checks.new
+        ≡ map (spec.item_of _objects.now) checks.old
+        ++ plan.on _objects.now (view.sender_of _objects.now (view.subject_of _objects.now caller) from) op.SocketDeliver to ∷ [] }
+    ensures count { length checks.new ≡ length checks.old + 1 }
+    ensures asking { spec.IsAsking _objects.now caller checks.new }
+{
+    checks.push(Check {
+        op: CheckOp::SocketDeliver,
+        caller,
+        subject: from,
+        object: Some(to),
+        privilege: None,
+    });
+}
+
+/// Adds the check of a privilege of the caller.
+pub(crate) fn ask_privilege(_objects: &Objects, caller: Id, privilege: Priv, checks: &mut Checks)
+    requires few { length checks.old < 12 }
+    requires asking { spec.IsAsking _objects.now caller checks.old }
+    ensures seen { map (spec.item_of _objects.now) checks.new
+        ≡ map (spec.item_of _objects.now) checks.old ++ plan.privileged (view.subject_of _objects.now caller) privilege ∷ [] }
+    ensures count { length checks.new ≡ length checks.old + 1 }
+    ensures asking { spec.IsAsking _objects.now caller checks.new }
+{
+    checks.push(Check {
+        op: CheckOp::Priv,
+        caller,
+        subject: caller,
+        object: None,
+        privilege: Some(privilege),
+    });
+}
+
+/// Adds the check of a caller that loads or unloads a module.
+pub(crate) fn ask_modules(_objects: &Objects, caller: Id, op: CheckOp, checks: &mut Checks)
+    requires few { length checks.old < 12 }
+    requires asking { spec.IsAsking _objects.now caller checks.old }
+    ensures seen { map (spec.item_of _objects.now) checks.new
+        ≡ map (spec.item_of _objects.now) checks.old ++ plan.about_modules (view.subject_of _objects.now caller) op ∷ [] }
+    ensures count { length checks.new ≡ length checks.old + 1 }
+    ensures asking { spec.IsAsking _objects.now caller checks.new }
+{
+    checks.push(Check {
+        op,
+        caller,
+        subject: caller,
+        object: None,
+        privilege: None,
+    });
+}

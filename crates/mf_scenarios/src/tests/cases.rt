@@ -1,0 +1,164 @@
+//! Words, scripts and faults, and what the program makes of them.
+
+use crate::tests::{DENIAL, DENIED, run_with};
+use mf_io::{MemSink, MemSource, OpenGate};
+use std::alloc::{AllocError, Global};
+use std::process::Abort;
+use std::sync::Wait;
+use std::test::Fail;
+use std::thread::Threads;
+
+/// A run of the program, and what it must give.
+#[derive(Clone, Copy)]
+struct Case {
+    name: &'static str,
+    words: &'static [&'static str],
+    script: &'static str,
+    source_fails: &'static [u64],
+    sink_fails: &'static [u64],
+    status: u8,
+    text: &'static str,
+}
+
+const PLAIN: Case = Case {
+    name: "the plainest denial",
+    words: &["run"],
+    script: DENIAL,
+    source_fails: &[],
+    sink_fails: &[],
+    status: 0,
+    text: DENIED,
+};
+
+const RUNS: &[Case] = &[
+    PLAIN,
+    Case {
+        name: "an empty task",
+        script: "boot mac_biba\ntask t uid 0 gid 0 label -\nend\n",
+        text: "boot mac_biba 0\nsource biba vnode:/ high\nsource biba proc:t high\n",
+        ..PLAIN
+    },
+    Case {
+        name: "an empty task and no policy",
+        script: "task t uid 0 gid 0 label -\nend\n",
+        text: "",
+        ..PLAIN
+    },
+    Case {
+        name: "a read up is denied by mac_mls, and a write up by none",
+        script: "boot mac_biba\nboot mac_mls\nfile /m reg uid 0 gid 0 mode 644 label mls/5 text x\ntask t uid 0 gid 0 label mls/3\nread /m\nwrite /m y\nend\n",
+        text: "boot mac_biba 0\nboot mac_mls 1\nenter t\ndone t 1 no EACCES vnode_open_read mac_mls 2\nleave t\nenter t\ndone t 2 ok\nleave t\nsource biba vnode:/ high\nsource biba vnode:/m high\nsource biba proc:t high\nsource mls vnode:/ low\nsource mls vnode:/m low,3,5\nsource mls proc:t low,3\n",
+        ..PLAIN
+    },
+    Case {
+        name: "where both deny, the one that was booted last decides",
+        script: "boot mac_mls\nboot mac_biba\nfile /m reg uid 0 gid 0 mode 644 label biba/low,mls/high\ntask t uid 0 gid 0 label -\nread /m\nend\n",
+        text: "boot mac_mls 0\nboot mac_biba 1\nenter t\ndone t 1 no EACCES vnode_open_read mac_biba 2\nleave t\nsource biba vnode:/ high\nsource biba vnode:/m low\nsource biba proc:t high\nsource mls vnode:/ low\nsource mls vnode:/m high\nsource mls proc:t low\n",
+        ..PLAIN
+    },
+];
+
+const REFUSALS: &[Case] = &[
+    Case {
+        name: "a failing sink",
+        sink_fails: &[3],
+        status: 5,
+        text: "boot mac_biba 0\nente",
+        ..PLAIN
+    },
+    Case {
+        name: "a failing source",
+        source_fails: &[1],
+        status: 4,
+        text: "macsim: read fault\n",
+        ..PLAIN
+    },
+    Case {
+        name: "a source that fails at its end",
+        source_fails: &[3],
+        status: 4,
+        text: "macsim: read fault\n",
+        ..PLAIN
+    },
+    Case {
+        name: "no script",
+        script: "boot mac_none\n",
+        status: 3,
+        text: "macsim: script not yet\n",
+        ..PLAIN
+    },
+];
+
+/// Words that the program doesn't take.
+const OTHER_WORDS: &[&[&str]] = &[
+    &[],
+    &["walk"],
+    &["run", "1", "1"],
+    &["gen"],
+    &["gen", "1"],
+    &["gen", "0", "1"],
+    &["gen", "4097", "1"],
+    &["gen", "1", "0"],
+    &["gen", "1", "17"],
+    &["gen", "x", "1"],
+    &["gen", "1", "1", "1"],
+];
+
+/// Runs the case over a source that gives at most 64 bytes a call and a sink that takes at most 10.
+fn run_case<R: Abort + Threads + Wait + Sync>(
+    rt: &R,
+    alloc: Global,
+    case: &Case,
+) -> Result<(), AllocError> {
+    let name = case.name;
+    let bytes = case.script.as_bytes().to_vec(alloc)?;
+    let mut source = MemSource::new(bytes, 64, case.source_fails.to_vec(alloc)?);
+    let mut sink = MemSink::new(alloc, 1000, 10, case.sink_fails.to_vec(alloc)?)?;
+    let status = run_with(rt, alloc, case.words, &mut source, &mut sink, &OpenGate)?;
+    assert_eq!(rt; status, case.status, "{name}");
+    assert_eq!(rt; sink.taken(), case.text.as_bytes(), "{name}");
+    Ok(())
+}
+
+#[test]
+fn runs(rt: HostRuntime) -> Result<(), Fail> {
+    for case in RUNS {
+        run_case(&rt, rt.alloc(), case)?;
+    }
+    Ok(())
+}
+
+#[test]
+fn refusals(rt: HostRuntime) -> Result<(), Fail> {
+    for case in REFUSALS {
+        run_case(&rt, rt.alloc(), case)?;
+    }
+    Ok(())
+}
+
+#[test]
+fn words_that_are_not_taken(rt: HostRuntime) -> Result<(), Fail> {
+    for words in OTHER_WORDS {
+        let case = Case {
+            name: "words that are not taken",
+            words,
+            source_fails: &[1],
+            status: 2,
+            text: "macsim: usage: run | gen N T\n",
+            ..PLAIN
+        };
+        run_case(&rt, rt.alloc(), &case)?;
+    }
+    Ok(())
+}
+
+#[test]
+fn one_byte_too_long(rt: HostRuntime) -> Result<(), Fail> {
+    let bytes = vec![in rt.alloc(); b'#'; 1_048_577]?;
+    let mut source = MemSource::new(bytes, 65_536, Vec::new(rt.alloc()));
+    let mut sink = MemSink::new(rt.alloc(), 100, 100, Vec::new(rt.alloc()))?;
+    let status = run_with(&rt, rt.alloc(), &["run"], &mut source, &mut sink, &OpenGate)?;
+    assert_eq!(rt; status, 6);
+    assert_eq!(rt; sink.taken(), b"macsim: too long\n".as_slice());
+    Ok(())
+}

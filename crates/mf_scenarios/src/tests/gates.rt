@@ -1,0 +1,177 @@
+//! Runs whose gate counts the calls, and runs whose tasks wait for each other in it.
+
+use crate::tests::{DENIAL, DENIED, run_load, run_script};
+use mf_io::{Gate, MemSink};
+use std::sync::Wait;
+use std::sync::atomic::{AtomicU64, Ordering};
+use std::test::Fail;
+use std::thread::Threads;
+
+/// How often each call came for the first line of the first task, and how often any other came.
+#[derive(Drop)]
+struct Counts {
+    between: AtomicU64,
+    after: AtomicU64,
+    others: AtomicU64,
+}
+
+impl Gate for Counts {
+    fn between<R: Threads + Wait + Sync>(&self, _rt: &R, task: u32, line: u32) {
+        let count = if task == 0 && line == 1 {
+            &self.between
+        } else {
+            &self.others
+        };
+        count.fetch_add(1, Ordering::SeqCst);
+    }
+
+    fn after<R: Threads + Wait + Sync>(&self, _rt: &R, task: u32, line: u32) {
+        let count = if task == 0 && line == 1 {
+            &self.after
+        } else {
+            &self.others
+        };
+        count.fetch_add(1, Ordering::SeqCst);
+    }
+}
+
+/// How many turns a task waits for the other.
+const MOST_TURNS: u64 = 100_000_000;
+
+/// Two tasks that meet between walk and commit; the first one waits there until the second has left.
+#[derive(Drop)]
+struct Meeting {
+    first_is_there: AtomicU64,
+    second_is_there: AtomicU64,
+    second_has_left: AtomicU64,
+    calls_between: AtomicU64,
+    waits_that_ran_out: AtomicU64,
+}
+
+fn is_raised(flag: &AtomicU64) -> bool {
+    for _turn in 0..MOST_TURNS {
+        if flag.load(Ordering::SeqCst) != 0 {
+            return true;
+        }
+    }
+    false
+}
+
+impl Meeting {
+    fn new() -> Meeting {
+        Meeting {
+            first_is_there: AtomicU64::new(0),
+            second_is_there: AtomicU64::new(0),
+            second_has_left: AtomicU64::new(0),
+            calls_between: AtomicU64::new(0),
+            waits_that_ran_out: AtomicU64::new(0),
+        }
+    }
+
+    fn await_flag(&self, flag: &AtomicU64) {
+        if !is_raised(flag) {
+            self.waits_that_ran_out.fetch_add(1, Ordering::SeqCst);
+        }
+    }
+}
+
+impl Gate for Meeting {
+    fn between<R: Threads + Wait + Sync>(&self, _rt: &R, task: u32, _line: u32) {
+        self.calls_between.fetch_add(1, Ordering::SeqCst);
+        if task == 1 {
+            self.second_is_there.store(1, Ordering::SeqCst);
+            self.await_flag(&self.first_is_there);
+        } else {
+            self.first_is_there.store(1, Ordering::SeqCst);
+            self.await_flag(&self.second_is_there);
+            self.await_flag(&self.second_has_left);
+        }
+    }
+
+    fn after<R: Threads + Wait + Sync>(&self, _rt: &R, task: u32, _line: u32) {
+        if task == 1 {
+            self.second_has_left.store(1, Ordering::SeqCst);
+        }
+    }
+}
+
+#[test]
+fn each_line_calls_the_gate_once(rt: HostRuntime) -> Result<(), Fail> {
+    let alloc = rt.alloc();
+    let counts = Counts {
+        between: AtomicU64::new(0),
+        after: AtomicU64::new(0),
+        others: AtomicU64::new(0),
+    };
+    let mut sink = MemSink::new(alloc, 1000, 1000, Vec::new(alloc))?;
+    let status = run_script(&rt, alloc, DENIAL, &mut sink, &counts)?;
+    assert_eq!(rt; status, 0);
+    assert_eq!(rt; sink.taken(), DENIED.as_bytes());
+    assert_eq!(rt; counts.between.load(Ordering::SeqCst), 1);
+    assert_eq!(rt; counts.after.load(Ordering::SeqCst), 1);
+    assert_eq!(rt; counts.others.load(Ordering::SeqCst), 0);
+    Ok(())
+}
+
+const TWO_READERS: &str = "file /f reg uid 0 gid 0 mode 644 label - text hi
+task a uid 0 gid 0 label -
+read /f
+end
+task b uid 0 gid 0 label -
+read /f
+end
+";
+
+#[test]
+fn one_task_commits_while_another_is_between(rt: HostRuntime) -> Result<(), Fail> {
+    let alloc = rt.alloc();
+    let meeting = Meeting::new();
+    let mut sink = MemSink::new(alloc, 1000, 1000, Vec::new(alloc))?;
+    let status = run_script(&rt, alloc, TWO_READERS, &mut sink, &meeting)?;
+    assert_eq!(rt; status, 0);
+    assert_eq!(rt; meeting.waits_that_ran_out.load(Ordering::SeqCst), 0);
+    assert!(rt; meeting.calls_between.load(Ordering::SeqCst) >= 2);
+    Ok(())
+}
+
+#[test]
+fn so_do_the_tasks_of_a_load(rt: HostRuntime) -> Result<(), Fail> {
+    let alloc = rt.alloc();
+    let meeting = Meeting::new();
+    let mut sink = MemSink::new(alloc, 1000, 1000, Vec::new(alloc))?;
+    let status = run_load(&rt, alloc, &["gen", "1", "2"], &mut sink, &meeting)?;
+    assert_eq!(rt; status, 0);
+    assert_eq!(rt; sink.taken(), b"gen 1 2\nok 1\nEACCES 1\n".as_slice());
+    assert_eq!(rt; meeting.waits_that_ran_out.load(Ordering::SeqCst), 0);
+    assert!(rt; meeting.calls_between.load(Ordering::SeqCst) >= 2);
+    Ok(())
+}
+
+const READER_AND_REMOVER: &str = "file /f reg uid 0 gid 0 mode 644 label - text hi
+task a uid 0 gid 0 label -
+read /f
+end
+task b uid 0 gid 0 label -
+unlink /f
+end
+";
+
+const REMOVED_BEFORE_THE_COMMIT: &str = "done b 1 ok
+leave b
+done a 1 no ENOENT - -
+leave a
+";
+
+/// The first task's plan is out of date when it commits: it plans and walks again, and calls the gate once more.
+#[test]
+fn a_stale_commit_is_tried_again(rt: HostRuntime) -> Result<(), Fail> {
+    let alloc = rt.alloc();
+    let meeting = Meeting::new();
+    let mut sink = MemSink::new(alloc, 1000, 1000, Vec::new(alloc))?;
+    let status = run_script(&rt, alloc, READER_AND_REMOVER, &mut sink, &meeting)?;
+    assert_eq!(rt; status, 0);
+    assert_eq!(rt; meeting.waits_that_ran_out.load(Ordering::SeqCst), 0);
+    assert_eq!(rt; meeting.calls_between.load(Ordering::SeqCst), 3);
+    assert!(rt; sink.taken().ends_with(REMOVED_BEFORE_THE_COMMIT.as_bytes()));
+    Ok(())
+}

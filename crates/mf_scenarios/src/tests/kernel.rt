@@ -1,0 +1,146 @@
+//! Two tasks on one kernel, in one thread: the second changes the file's mode between the first one's walk and commit.
+ghost use Rattle.std.specs.Prelude.{◌≡◌, ◌+◌, false, All, length, map};
+ghost use Rattle.mf_policy.specs.Modules.{module_of};
+ghost use Rattle.mf_list.specs.Lists.{IsFresh};
+ghost use Rattle.mf_script.specs.WellFormed.{IsWellFormed};
+ghost use Rattle.mf_step.specs.Verdict.{verdict_of};
+ghost use Rattle.mf_core.specs.Policies.{AreAllModules};
+ghost use Rattle.mf_top.specs.Passes.{IsSameTicket};
+
+use mf_biba::Biba;
+use mf_core::{Commit, Turn};
+use mf_hist::print_history;
+use mf_list::PolicyList;
+use mf_mls::Mls;
+use mf_partition::Partition;
+use mf_plan::Plan;
+use mf_policy::Policy;
+use mf_script::{Script, read_script};
+use mf_share::{Job, Kernel, Ticket};
+use mf_step::Verdict;
+use std::alloc::{AllocError, Global};
+use std::marker::Brand;
+use std::process::Abort;
+use std::sync::Wait;
+use std::sync::ledger::{Blank, Ledger};
+use std::test::Fail;
+
+const CHANGED_DURING_A_READ: &str = "boot mac_biba
+file /f reg uid 0 gid 0 mode 644 label biba/high text hi
+task a uid 0 gid 0 label biba/high
+read /f
+end
+task b uid 0 gid 0 label biba/high
+chmod /f 600
+end
+";
+
+const HISTORY: &str = "boot mac_biba 0
+enter a
+enter b
+done b 1 ok
+leave b
+done a 1 ok bytes 2 =hi
+leave a
+";
+
+/// The history of the two tasks: after the second one's call the view of the file in the first one's plan is out of date.
+fn changed_during_a_read<P: Policy, J: Job, B: Ledger, R: Wait + Abort>(
+    rt: &R,
+    alloc: Global,
+    script: &Script,
+    modules: Vec<P>,
+    lines: Blank,
+    busy: Blank,
+) -> Result<String, AllocError>
+    requires formed { IsWellFormed script.now }
+    requires modules { AreAllModules (map (λ p. module_of (P.spec p)) modules.items) }
+    requires fresh { All (λ p. IsFresh (P.spec p)) modules.items }
+    requires job { script.now ≡ J.script }
+    requires lines_name { lines.name ≡ J.name }
+    requires lines_parts { (lines.parts ≡ J.parts) × (lines.parts ≡ length script.now.tasks + 1) }
+    requires busy_name { busy.name ≡ B.name }
+    requires busy_parts { (busy.parts ≡ B.parts) × (busy.parts ≡ length script.now.tasks + 1) }
+{
+    let (kernel, mut passes) = Kernel::<P, J, B>::open(alloc, script, modules, lines, busy)?;
+    assert_eq!(rt; passes.len(), 2);
+    let policies = kernel.policies(rt);
+    let list = policies.list();
+    assert!(rt; kernel.turn(&passes[0]) == Turn::Entry);
+    let mut first = kernel.enter(rt, &mut passes[0]);
+    let mut early = Plan::new();
+    kernel.plan(rt, &first, &mut early);
+    let early_verdict = Kernel::walk(list, &first, &early);
+    assert!(rt; kernel.turn(&passes[1]) == Turn::Entry);
+    let mut second = kernel.enter(rt, &mut passes[1]);
+    let changed = commit_new_plan(rt, alloc, &kernel, &mut second, list);
+    kernel.leave(rt, second, &mut passes[1]);
+    let read = commit_twice(rt, alloc, &kernel, &mut first, list, &early, &early_verdict);
+    kernel.leave(rt, first, &mut passes[0]);
+    drop(policies);
+    let core = kernel.close(passes);
+    assert!(rt; matches!(changed, Ok(Commit::Done)));
+    assert!(rt; matches!(read, Ok(Commit::Done)));
+    let mut text = String::new(alloc);
+    print_history(alloc, script, core.history(), &mut text)?;
+    Ok(text)
+}
+
+/// Plans the ticket's call, asks the policies, and commits it.
+fn commit_new_plan<P: Policy, J: Job, B: Ledger, R: Wait>(
+    rt: &R,
+    alloc: Global,
+    kernel: &Kernel<P, J, B>,
+    ticket: &mut Ticket<J, B>,
+    list: &PolicyList<P>,
+) -> Result<Commit, AllocError>
+    requires { ticket.old.committed ≡ false }
+    ensures { IsSameTicket ticket.old ticket.new }
+{
+    let mut plan = Plan::new();
+    kernel.plan(rt, ticket, &mut plan);
+    let verdict = Kernel::walk(list, ticket, &plan);
+    kernel.commit(rt, alloc, ticket, list, &plan, &verdict)
+}
+
+/// Commits a plan that is out of date, and then a new one.
+fn commit_twice<P: Policy, J: Job, B: Ledger, R: Wait>(
+    rt: &R,
+    alloc: Global,
+    kernel: &Kernel<P, J, B>,
+    ticket: &mut Ticket<J, B>,
+    list: &PolicyList<P>,
+    early: &Plan,
+    early_verdict: &Verdict,
+) -> Result<Commit, AllocError>
+    requires undone { ticket.old.committed ≡ false }
+    requires verdict { early_verdict.now ≡ verdict_of list.now.entries early.now }
+    ensures { IsSameTicket ticket.old ticket.new }
+{
+    match kernel.commit(rt, alloc, ticket, list, early, early_verdict) {
+        Ok(Commit::Stale) => commit_new_plan(rt, alloc, kernel, ticket, list),
+        Ok(Commit::Done) => Err(AllocError),
+        Err(error) => Err(error),
+    }
+}
+
+#[test]
+fn a_plan_goes_stale(rt: HostRuntime) -> Result<(), Fail> {
+    let alloc = rt.alloc();
+    let script = read_script(alloc, CHANGED_DURING_A_READ.as_bytes())?;
+    let parts = script.tasks.len() as u64 + 1;
+    let mut modules: Vec<Box<dyn Policy + Send + Sync>> = Vec::new(alloc);
+    modules.push(Box::new(alloc, Biba::new())?)?;
+    modules.push(Box::new(alloc, Mls::new())?)?;
+    modules.push(Box::new(alloc, Partition::new())?)?;
+    let text = changed_during_a_read::<Box<dyn Policy + Send + Sync>, Brand, Brand, HostRuntime>(
+        &rt,
+        alloc,
+        &script,
+        modules,
+        Blank::new(parts),
+        Blank::new(parts),
+    )?;
+    assert_eq!(rt; text.as_str(), HISTORY);
+    Ok(())
+}

@@ -1,0 +1,91 @@
+//! A module that comes and goes while fifteen other tasks go on.
+
+use crate::tests::run_script;
+use mf_io::{MemSink, OpenGate};
+use std::alloc::{AllocError, Global};
+use std::process::Abort;
+use std::sync::Wait;
+use std::test::Fail;
+use std::thread::Threads;
+
+/// How often each other task reads.
+const READS: usize = 20;
+
+const FRONT: &str = "boot mac_biba
+file /f reg uid 0 gid 0 mode 644 label - text hi
+task loader uid 0 gid 0 label biba/high
+kldload mac_partition
+kldunload mac_partition
+kldload mac_partition
+kldunload mac_partition
+kldload mac_partition
+kldunload mac_partition
+kldload mac_partition
+end
+";
+
+/// The loader's replies. No other task changes the list, and each load takes a new slot.
+const CHANGES: &str = "changed loader 1 ok slot 1
+changed loader 2 ok
+changed loader 3 ok slot 2
+changed loader 4 ok
+changed loader 5 ok slot 3
+changed loader 6 ok
+changed loader 7 no ENOMEM - -
+";
+
+/// The loader and fifteen tasks that read.
+fn sixteen_tasks(alloc: Global) -> Result<String, AllocError> {
+    let mut script = String::from_str(alloc, FRONT)?;
+    for number in 1..16 {
+        write!(script, "task t{number} uid 0 gid 0 label biba/high\n")?;
+        for _read in 0..READS {
+            script.push_str("read /f\n")?;
+        }
+        script.push_str("end\n")?;
+    }
+    Ok(script)
+}
+
+/// The lines of the text that begin so.
+fn lines_from(alloc: Global, text: &str, front: &str) -> Result<String, AllocError> {
+    let mut found = String::new(alloc);
+    for line in text.lines() {
+        if line.starts_with(front) {
+            write!(found, "{line}\n")?;
+        }
+    }
+    Ok(found)
+}
+
+/// The text of a run of the sixteen tasks.
+fn text_of_sixteen<R: Abort + Threads + Wait + Sync>(
+    rt: &R,
+    alloc: Global,
+) -> Result<String, AllocError> {
+    let script = sixteen_tasks(alloc)?;
+    let mut sink = MemSink::new(alloc, 100_000, 100_000, Vec::new(alloc))?;
+    let status = run_script(rt, alloc, script.as_str(), &mut sink, &OpenGate)?;
+    assert_eq!(rt; status, 0);
+    String::from_utf8_lossy(alloc, sink.taken())
+}
+
+/// How many lines of the text are of a read that gave the file's two bytes.
+fn count_reads(text: &str) -> usize {
+    let mut count: usize = 0;
+    for line in text.lines() {
+        if line.starts_with("done t") && line.ends_with(" ok bytes 2 =hi") {
+            count = count.saturating_add(1);
+        }
+    }
+    count
+}
+
+#[test]
+fn a_module_comes_and_goes(rt: HostRuntime) -> Result<(), Fail> {
+    let text = text_of_sixteen(&rt, rt.alloc())?;
+    let changes = lines_from(rt.alloc(), text.as_str(), "changed ")?;
+    assert_eq!(rt; changes.as_str(), CHANGES);
+    assert_eq!(rt; count_reads(text.as_str()), 15 * READS);
+    Ok(())
+}

@@ -1,0 +1,47 @@
+//! Runs over a source and a sink that never fail, and over a reader and a writer.
+
+use crate::tests::{DENIAL, DENIED, run_with, words_of};
+use mf_biba::Biba;
+use mf_io::{OpenGate, StdSink, StdSource, SureSink, SureSource};
+use mf_mls::Mls;
+use mf_partition::Partition;
+use mf_policy::Policy;
+use mf_top::law::run_surely;
+use std::alloc::{AllocError, Global};
+use std::sync::Wait;
+use std::test::Fail;
+use std::thread::Threads;
+
+fn run_over_sure<R: Threads + Wait + Sync>(
+    rt: &R,
+    alloc: Global,
+    source: &mut SureSource,
+    sink: &mut SureSink,
+) -> Result<u8, AllocError> {
+    let words = words_of(alloc, &["run"])?;
+    let mut modules: Vec<Box<dyn Policy + Send + Sync>> = Vec::new(alloc);
+    modules.push(Box::new(alloc, Biba::new())?)?;
+    modules.push(Box::new(alloc, Mls::new())?)?;
+    modules.push(Box::new(alloc, Partition::new())?)?;
+    Ok(run_surely(rt, alloc, &words, source, sink, &OpenGate, modules))
+}
+
+#[test]
+fn over_memory_that_never_fails(rt: HostRuntime) -> Result<(), Fail> {
+    let mut source = SureSource::new(DENIAL.as_bytes().to_vec(rt.alloc())?);
+    let mut sink = SureSink::new(rt.alloc(), 40)?;
+    let status = run_over_sure(&rt, rt.alloc(), &mut source, &mut sink)?;
+    assert_eq!(rt; status, 0);
+    Ok(())
+}
+
+#[test]
+fn over_a_reader_and_a_writer(rt: HostRuntime) -> Result<(), Fail> {
+    let mut written = Vec::new(rt.alloc());
+    let mut source = StdSource::new(DENIAL.as_bytes());
+    let mut sink = StdSink::new(&mut written);
+    let status = run_with(&rt, rt.alloc(), &["run"], &mut source, &mut sink, &OpenGate)?;
+    assert_eq!(rt; status, 0);
+    assert_eq!(rt; written.as_slice(), DENIED.as_bytes());
+    Ok(())
+}

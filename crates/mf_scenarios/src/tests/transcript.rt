@@ -1,0 +1,100 @@
+//! The lines of a task, each with its reply.
+
+use crate::tests::run_script;
+use mf_io::{MemSink, OpenGate};
+use std::alloc::{AllocError, Global};
+use std::process::Abort;
+use std::sync::Wait;
+use std::thread::Threads;
+
+/// A task `t` with its lines, each beside its reply.
+#[derive(Clone, Copy)]
+pub struct Rows {
+    pub name: &'static str,
+    /// What stands before the task in the script.
+    pub before: &'static str,
+    /// What the task is, behind its name.
+    pub task: &'static str,
+    pub rows: &'static [(&'static str, &'static str)],
+    /// What stands behind the task in the script.
+    pub behind: &'static str,
+    /// The lines of the registrations at boot.
+    pub boots: &'static str,
+    /// The lines of the sources.
+    pub sources: &'static str,
+}
+
+/// A task without lines, and no policy.
+pub const PLAIN: Rows = Rows {
+    name: "",
+    before: "",
+    task: "uid 0 gid 0 label -",
+    rows: &[],
+    behind: "",
+    boots: "",
+    sources: "",
+};
+
+/// A script, and the text of its history.
+#[derive(Drop)]
+pub struct Transcript {
+    script: String,
+    text: String,
+    lines: u32,
+}
+
+impl Transcript {
+    /// The script up to the task's first line.
+    pub fn new(alloc: Global, rows: &Rows) -> Result<Transcript, AllocError> {
+        let before = rows.before;
+        let task = rows.task;
+        Ok(Transcript {
+            script: format!(in alloc; "{before}task t {task}\n")?,
+            text: String::from_str(alloc, rows.boots)?,
+            lines: 0,
+        })
+    }
+
+    /// One more line, and the events of its reply.
+    pub fn add(&mut self, line: &str, reply: &str) -> Result<(), AllocError> {
+        self.lines = self.lines.saturating_add(1);
+        let number = self.lines;
+        write!(self.script, "{line}\n")?;
+        if line.starts_with("kldload") || line.starts_with("kldunload") {
+            write!(self.text, "changed t {number} {reply}\n")
+        } else {
+            write!(self.text, "enter t\ndone t {number} {reply}\nleave t\n")
+        }
+    }
+
+    /// Ends the task, runs the script, and compares the texts.
+    pub fn end<R: Abort + Threads + Wait + Sync>(
+        mut self,
+        rt: &R,
+        alloc: Global,
+        rows: &Rows,
+    ) -> Result<(), AllocError> {
+        let name = rows.name;
+        let behind = rows.behind;
+        write!(self.script, "end\n{behind}")?;
+        self.text.push_str(rows.sources)?;
+        let mut sink = MemSink::new(alloc, 100_000, 100_000, Vec::new(alloc))?;
+        let status = run_script(rt, alloc, self.script.as_str(), &mut sink, &OpenGate)?;
+        assert_eq!(rt; status, 0, "{name}");
+        assert_eq!(rt; sink.taken(), self.text.as_bytes(), "{name}");
+        Ok(())
+    }
+}
+
+/// Runs the task, and compares its history and its sources.
+pub fn run_rows<R: Abort + Threads + Wait + Sync>(
+    rt: &R,
+    alloc: Global,
+    rows: &Rows,
+) -> Result<(), AllocError> {
+    let mut transcript = Transcript::new(alloc, rows)?;
+    for (line, reply) in rows.rows {
+        transcript.add(line, reply)?;
+    }
+    transcript.end(rt, alloc, rows)
+}

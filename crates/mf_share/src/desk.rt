@@ -1,0 +1,215 @@
+//! The value behind the kernel's lock: the core, with the books of lines done and of open entries.
+ghost use Rattle.std.specs.Prelude.{◌≡◌, ◌<◌, true, false, IfOk, IfErr, IfNone, IfSome, IsTrue, OnErr, Some};
+ghost use Rattle.mf_step.specs.Verdict.{verdict_of};
+ghost use Rattle.mf_core.specs.declared.history.Event.TheVariants as event;
+ghost use Rattle.mf_core.specs.declared.progress.Turn.TheVariants as turn;
+ghost use Rattle.mf_core.specs.LegalHistory.{appended};
+ghost use Rattle.mf_core.specs.Policies.{StaysWhileWaiting};
+ghost use Rattle.mf_core.specs.Run.{specs_of, next_plan, open_of, Changes, Commits};
+ghost use Rattle.mf_share.specs.Passes.{AgreesWithPass, AgreesWithTicket, pass_changed, pass_left, pass_turn, ticket_after, ticket_for};
+
+use crate::pass::{Job, Pass, Ticket};
+use crate::policies::Policies;
+use mf_core::{Commit, Core, Outcome, Turn};
+use mf_list::PolicyList;
+use mf_plan::Plan;
+use mf_policy::Policy;
+use mf_step::Verdict;
+use std::alloc::{AllocError, Global};
+use std::marker::{Model, PhantomData};
+use std::sync::ledger::{Book, Ledger};
+
+/// A core of the script that `J` names, with the total of lines done and the number of open entries. Contracts see the
+/// core. It agrees with a pass or a ticket where the core's turn of the task, and its lines done, are those that the
+/// pass or the ticket says.
+#[derive(Drop)]
+pub struct Desk<'s, J: Job, B: Ledger> {
+    pub(crate) core: Core<'s>,
+    pub(crate) done: Book<J>,
+    pub(crate) busy: Book<B>,
+}
+
+impl<'s, J: Job, B: Ledger> Model for Desk<'s, J, B> {
+    ghost use Rattle.std.specs.Prelude.{◌≡◌};
+    ghost use Rattle.mf_core.specs.Run.{Run, done_of, open_of};
+
+    ghost Value = { Run };
+
+    ghost view = { λ d. d.core };
+
+    ghost invariant = { λ d. (d.core.script ≡ J.script) × (d.done.total ≡ done_of d.core) × (d.busy.total ≡ open_of d.core) };
+}
+
+impl<'s, J: Job, B: Ledger> Desk<'s, J, B> {
+    /// How many entries are open.
+    pub fn open_entries(&self) -> u32
+        ensures value { result ≡ open_of self.now }
+        ensures script { self.now.script ≡ J.script }
+    {
+        self.core.open_entries()
+    }
+
+    /// Begins an entry of the pass's task. None where the core doesn't agree with the pass; then nothing changes.
+    pub fn enter(&mut self, pass: &mut Pass<J, B>) -> Option<Ticket<J, B>>
+        requires out { pass.old.out ≡ false }
+        requires turn { pass_turn J.script pass.old ≡ turn.Entry }
+        ensures some { IfSome result (λ ticket. AgreesWithPass self.old pass.old
+            × (self.new ≡ record self.old { history = appended self.old.history (event.Enter pass.old.task) })
+            × (ticket ≡ ticket_for pass.old) × (pass.new ≡ record pass.old { out = true })) }
+        ensures none { IfNone result (¬ AgreesWithPass self.old pass.old × (self.new ≡ self.old) × (pass.new ≡ pass.old)) }
+    {
+        let task = pass.task;
+        let lines = pass.lines;
+        if self.core.turn(task) != Turn::Entry || self.core.lines(task) != lines {
+            return None;
+        }
+        self.core.enter(task);
+        let mut busy = pass.busy.split_off(1, 0);
+        self.busy.add(&mut busy, 1);
+        pass.out = true;
+        Some(Ticket {
+            task,
+            lines,
+            committed: false,
+            busy,
+            of: PhantomData,
+        })
+    }
+
+    /// Makes `plan` that of the ticket's call, from the present state. False where the core doesn't agree with the ticket;
+    /// then nothing changes.
+    pub fn plan(&self, ticket: &Ticket<J, B>, plan: &mut Plan) -> bool
+        requires { ticket.now.committed ≡ false }
+        ensures made { IsTrue result → AgreesWithTicket self.now ticket.now × (next_plan self.now ticket.now.task ≡ Some plan.new) }
+        ensures none { result ≡ false → ¬ AgreesWithTicket self.now ticket.now × (plan.new ≡ plan.old) }
+    {
+        let task = ticket.task;
+        let lines = ticket.lines;
+        if self.core.turn(task) != Turn::Entered || self.core.lines(task) != lines {
+            return false;
+        }
+        self.core.plan(task, plan);
+        true
+    }
+
+    /// Commits the ticket's call, as `Core::done` does. None where the core doesn't agree with the ticket; then, and if
+    /// memory runs out, nothing changes. While the ticket is at hand, an entry is open.
+    pub fn commit<P: Policy>(
+        &mut self,
+        alloc: Global,
+        ticket: &mut Ticket<J, B>,
+        list: &PolicyList<P>,
+        plan: &Plan,
+        verdict: &Verdict,
+    ) -> Result<Option<Commit>, AllocError>
+        requires undone { ticket.old.committed ≡ false }
+        requires verdict { verdict.now ≡ verdict_of list.now.entries plan.now }
+        ensures entries { 0 < open_of self.old }
+        ensures some { IfOk result (λ found. IfSome found (λ commit. AgreesWithTicket self.old ticket.old
+            × Commits self.old ticket.old.task list.now.entries plan.now commit self.new
+            × (ticket.new ≡ ticket_after commit ticket.old))) }
+        ensures none { IfOk result (λ found. IfNone found (¬ AgreesWithTicket self.old ticket.old × (self.new ≡ self.old) × (ticket.new ≡ ticket.old))) }
+        ensures err { OnErr result (AgreesWithTicket self.old ticket.old × (self.new ≡ self.old) × (ticket.new ≡ ticket.old)) }
+    {
+        self.busy.audit(&mut ticket.busy);
+        let task = ticket.task;
+        let lines = ticket.lines;
+        if self.core.turn(task) != Turn::Entered || self.core.lines(task) != lines {
+            return Ok(None);
+        }
+        let commit = self.core.done(alloc, task, list, plan, verdict)?;
+        if commit == Commit::Done {
+            ticket.committed = true;
+        }
+        Ok(Some(commit))
+    }
+
+    /// Ends the entry of the pass's ticket. The ticket comes back where the core doesn't agree with it; then nothing
+    /// changes.
+    pub fn leave(&mut self, ticket: Ticket<J, B>, pass: &mut Pass<J, B>) -> Result<(), Ticket<J, B>>
+        requires task { ticket.task ≡ pass.old.task }
+        requires lines { ticket.lines ≡ pass.old.lines }
+        requires out { pass.old.out ≡ true }
+        ensures ok { IfOk result (λ _. AgreesWithTicket self.old ticket
+            × (self.new ≡ record self.old { history = appended self.old.history (event.Leave ticket.task) })
+            × (pass.new ≡ pass_left ticket.committed pass.old)) }
+        ensures err { IfErr result (λ back. ¬ AgreesWithTicket self.old ticket × (back ≡ ticket) × (self.new ≡ self.old) × (pass.new ≡ pass.old)) }
+    {
+        let task = ticket.task;
+        let lines = ticket.lines;
+        let turn = if ticket.committed {
+            Turn::Done
+        } else {
+            Turn::Entered
+        };
+        if self.core.turn(task) != turn || self.core.lines(task) != lines {
+            return Err(ticket);
+        }
+        self.core.leave(task);
+        let Ticket {
+            task: _,
+            lines: _,
+            committed,
+            mut busy,
+            of: _,
+        } = ticket;
+        self.busy.sub(&mut busy, 1);
+        pass.busy.merge(busy);
+        pass.out = false;
+        if committed {
+            self.done.add(&mut pass.done, 1);
+            pass.lines += 1;
+        } else {
+            pass.stopped = true;
+        }
+        Ok(())
+    }
+
+    /// Makes the change of the pass's next line, as `Core::change` does. None where the core doesn't agree with the
+    /// pass, or the listed specs aren't the core's; then nothing changes. If memory runs out the pass is stopped, and
+    /// nothing else changes.
+    pub fn change<P: Policy>(
+        &mut self,
+        alloc: Global,
+        pass: &mut Pass<J, B>,
+        policies: &mut Policies<P>,
+    ) -> Result<Option<Outcome>, AllocError>
+        requires out { pass.old.out ≡ false }
+        requires turn { pass_turn J.script pass.old ≡ turn.Change }
+        ensures some { IfOk result (λ found. IfSome found (λ outcome. AgreesWithPass self.old pass.old
+            × (policies.old.list.entries ≡ specs_of self.old)
+            × Changes self.old pass.old.task outcome self.new
+            × (policies.new.list.entries ≡ specs_of self.new)
+            × StaysWhileWaiting outcome policies.old.list policies.new.list policies.old.catalogue policies.new.catalogue
+            × (pass.new ≡ pass_changed outcome pass.old))) }
+        ensures none { IfOk result (λ found. IfNone found (¬ (AgreesWithPass self.old pass.old × (policies.old.list.entries ≡ specs_of self.old))
+            × (self.new ≡ self.old) × (policies.new ≡ policies.old) × (pass.new ≡ pass.old))) }
+        ensures err { OnErr result (AgreesWithPass self.old pass.old
+            × (policies.old.list.entries ≡ specs_of self.old)
+            × (self.new ≡ self.old) × (policies.new ≡ policies.old) × (pass.new ≡ record pass.old { stopped = true })) }
+    {
+        let task = pass.task;
+        let lines = pass.lines;
+        if self.core.turn(task) != Turn::Change || self.core.lines(task) != lines {
+            return Ok(None);
+        }
+        if !policies.list.same_specs(&self.core.state().specs) {
+            return Ok(None);
+        }
+        match self
+            .core
+            .change(alloc, task, &mut policies.list, &mut policies.catalogue)
+        {
+            Ok(Outcome::Done) => {
+                self.done.add(&mut pass.done, 1);
+                pass.lines += 1;
+                Ok(Some(Outcome::Done))
+            }
+            Ok(Outcome::Waits(open)) => Ok(Some(Outcome::Waits(open))),
+            Err(error) => {
+                pass.stopped = true;
+                Err(error)
+            }
+        }
+    }
+}
