@@ -1,16 +1,14 @@
 //! Biba: a subject may observe what dominates it, and modify what it dominates.
 ghost use Rattle.std.specs.Prelude.{◌≡◌};
-ghost use Rattle.mf_policy.specs.Answer.{biba, labels_answer, part_of};
-ghost use Rattle.mf_policy.specs.Operations.{test_of};
 ghost use Rattle.mf_policy.specs.declared.spec.Spec.TheVariants as means;
 
 use mf_cred::Cred;
-use mf_elem::{Elem, RangeLabel, Request, dominates, privileged, same_level};
+use mf_elem::{Elem, RangeLabel, Request, dominates};
 use mf_errno::{Errno, Module, Priv};
-use mf_item::{CheckOp, Item};
+use mf_item::Item;
 use mf_policy::{
-    Change, Changed, LoadFlags, Policy, Spec, asked, credential_relabel, element_answer,
-    errno_unless, object_label, object_relabel, slot_label,
+    Change, Changed, Lattice, LoadFlags, Policy, Spec, flags_of, lattice_answer, range_asked,
+    wants_slot,
 };
 use std::alloc::{AllocError, Global};
 
@@ -21,7 +19,9 @@ pub struct Biba;
 
 impl Biba {
     /// The policy in its initial state.
-    pub fn new() -> Biba {
+    pub fn new() -> Biba
+        ensures { ⟦<Biba as Policy>⟧.spec result ≡ means.Biba }
+    {
         Biba
     }
 }
@@ -34,11 +34,11 @@ impl Policy for Biba {
     }
 
     fn flags(&self) -> LoadFlags {
-        LoadFlags::NOTLATE
+        flags_of(Module::Biba)
     }
 
     fn wants_slot(&self) -> bool {
-        true
+        wants_slot(Module::Biba)
     }
 
     fn same(&self, other: &Spec) -> bool {
@@ -46,13 +46,7 @@ impl Policy for Biba {
     }
 
     fn check(&self, slot: u8, item: &Item) -> Errno {
-        let subject = slot_label(&item.subject.label[slot as usize]);
-        let object = object_label(&item.object, slot);
-        let part = part(&item.request);
-        match &subject.effective {
-            Some(element) => check_labelled(item.op, &subject, &part, element, &object.effective),
-            None => Errno::Success,
-        }
+        lattice_answer::<Biba>(slot, item)
     }
 
     fn grant(&self, _cred: &Cred, _privilege: Priv) -> bool {
@@ -60,47 +54,31 @@ impl Policy for Biba {
     }
 
     fn change(&mut self, _alloc: Global, _change: &Change) -> Result<Changed, AllocError> {
-        Ok(Changed {
-            errno: Errno::Enoent,
-            number: None,
-        })
+        Ok(Changed::no_setting())
     }
 
     fn reset(&mut self) {}
 }
 
-fn part(request: &Option<Request>) -> RangeLabel
-    ensures { result ≡ part_of biba request.now }
-{
-    match request {
-        Some(request) => asked(&request.biba),
-        None => asked(&None),
-    }
-}
+impl Lattice for Biba {
+    ghost use Rattle.mf_policy.specs.Answer.{biba};
 
-fn check_labelled(
-    op: CheckOp,
-    subject: &RangeLabel,
-    part: &RangeLabel,
-    element: &Elem,
-    object: &Option<Elem>,
-) -> Errno
-    ensures { result ≡ labels_answer biba (test_of op) subject.now part.now (Some element.now) object.now }
-{
-    match (op, object) {
-        (CheckOp::CredRelabel, _) => credential_relabel(subject, part),
-        (CheckOp::KldLoad | CheckOp::KldUnload, _) => {
-            errno_unless(privileged(subject), Errno::Eperm)
-        }
-        (_, None) => Errno::Success,
-        (CheckOp::VnodeRelabel | CheckOp::PipeRelabel | CheckOp::SocketRelabel, Some(object)) => {
-            object_relabel(subject, object, part)
-        }
-        (_, Some(object)) => {
-            let may_observe = dominates(object, element);
-            let may_modify = dominates(element, object);
-            element_answer(op, may_observe, may_modify, same_level(element, object))
-        }
+    ghost lattice = { biba };
+
+    fn may_observe(subject: &Elem, object: &Elem) -> bool {
+        dominates(object, subject)
+    }
+
+    fn may_modify(subject: &Elem, object: &Elem) -> bool {
+        dominates(subject, object)
+    }
+
+    fn part(request: &Request) -> &Option<RangeLabel> {
+        range_asked(Module::Biba, request)
+    }
+
+    fn guards_modules() -> bool {
+        true
     }
 }
 
@@ -108,8 +86,8 @@ fn check_labelled(
 mod tests {
     use super::*;
     use mf_cred::FileView;
-    use mf_elem::{Comps, LabelValue};
-    use mf_item::{Kind, ObjectView, SubjectView};
+    use mf_elem::{Comps, LabelValue, SLOTS};
+    use mf_item::{CheckOp, Kind, ObjectView, SubjectView};
 
     fn grade(grade: u16) -> Elem {
         Elem::Grade(grade, Comps::empty())
@@ -123,13 +101,13 @@ mod tests {
             subject: SubjectView {
                 id: 0,
                 cred: Cred::default(),
-                label: [own; 4],
+                label: [own; SLOTS],
             },
             object: Some(ObjectView {
                 id: 1,
                 kind: Kind::Vnode,
                 file: FileView::default(),
-                label: [other; 4],
+                label: [other; SLOTS],
             }),
             request: None,
             privilege: None,

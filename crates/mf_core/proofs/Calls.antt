@@ -4,9 +4,9 @@ use Rattle.mf_errno.specs.declared.module.Module.{Module}
 use Rattle.mf_policy.specs.Registration.{Entry}
 use Rattle.mf_list.specs.Held.{times_held, IsListedOnce}
 use Rattle.mf_list.specs.Lists.{ListView, CatalogueView, IsReady}
-use Rattle.mf_script.specs.declared.script.Line.{Line}
-use Rattle.mf_script.specs.declared.script.Script.{Script}
-use Rattle.mf_script.specs.WellFormed.{lines_of, name_of}
+use Rattle.mf_calls.specs.declared.script.Line.{Line}
+use Rattle.mf_calls.specs.declared.script.Script.{Script}
+use Rattle.mf_calls.specs.WellFormed.{lines_of, name_of}
 use Rattle.mf_plan.specs.declared.state.State.{State}
 use Rattle.mf_plan.specs.declared.reply.Reply.{Reply}
 use Rattle.mf_step.specs.Step.{step_reply, step_state}

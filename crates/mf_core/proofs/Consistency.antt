@@ -4,10 +4,10 @@ use Rattle.std.specs.Prelude.{if◌then◌else◌}
 use Rattle.std.specs.List.{sum_by}
 use Rattle.std.proofs.lemmas.List.Sums.{sum_by-cons}
 use Rattle.std.proofs.lemmas.Option.{slice_get_within}
-use Rattle.mf_script.specs.declared.script.Line.{Line}
-use Rattle.mf_script.specs.declared.script.Task.{Task}
-use Rattle.mf_script.specs.declared.script.Script.{Script}
-use Rattle.mf_script.specs.WellFormed.{is_change, line_count, lines_of, name_of, IsWellFormed}
+use Rattle.mf_calls.specs.declared.script.Line.{Line}
+use Rattle.mf_calls.specs.declared.script.Task.{Task}
+use Rattle.mf_calls.specs.declared.script.Script.{Script}
+use Rattle.mf_calls.specs.WellFormed.{is_change, line_count, lines_of, name_of, IsWellFormed}
 use Rattle.mf_list.specs.Held.{IsListedOnce}
 use Rattle.mf_plan.specs.declared.state.State.{State}
 use Rattle.mf_plan.specs.declared.reply.Reply.{Reply}

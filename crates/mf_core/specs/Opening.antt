@@ -1,29 +1,25 @@
 -- The registrations at boot, and the opening state of a script.
-use Rattle.std.specs.Prelude.{ℕ, ◌≤◌, Bool, false, true, List, [], ◌∷◌, length, map, fold, Option, Some, None, find}
+use Rattle.std.specs.Prelude.{ℕ, ◌≤◌, false, true, List, [], ◌∷◌, length, map, fold, Option, Some, None}
 use Rattle.mf_errno.specs.declared.module.Module.{Module}
-use Rattle.mf_elem.specs.declared.label.LabelValue.{LabelValue}
-use Rattle.mf_elem.specs.declared.label.LabelValue.TheVariants.{Unset}
-use Rattle.mf_elem.specs.declared.label.Request.{Request}
 use Rattle.mf_elem.specs.Label.{no_request}
-use Rattle.mf_item.specs.declared.view.Kind.{Kind}
 use Rattle.mf_item.specs.declared.view.Kind.TheVariants as kinds
 use Rattle.mf_policy.specs.declared.registration.Registration.{Registration}
+use Rattle.mf_policy.specs.declared.labels.Origin.TheVariants.{Boot}
+use Rattle.mf_policy.specs.NewLabels.{new_label}
 use Rattle.mf_policy.specs.Registration.{Entry}
 use Rattle.mf_list.specs.Registration.{given_after, registration_of, with_registered}
 use Rattle.mf_objects.specs.declared.id.Id.{Id}
 use Rattle.mf_objects.specs.declared.entity.What.TheVariants.{Process}
 use Rattle.mf_objects.specs.Live.{Entities}
 use Rattle.mf_objects.specs.Changes as objects
-use Rattle.mf_script.specs.declared.script.Task.{Task}
-use Rattle.mf_script.specs.declared.script.FileLine.{FileLine}
-use Rattle.mf_script.specs.declared.script.Script.{Script}
-use Rattle.mf_script.specs.Labels.{task_label, file_label}
+use Rattle.mf_calls.specs.declared.script.Task.{Task}
+use Rattle.mf_calls.specs.declared.script.FileLine.{FileLine}
+use Rattle.mf_calls.specs.declared.script.Script.{Script}
 use Rattle.mf_plan.specs.declared.state.State.{State}
 use Rattle.mf_plan.specs.declared.target.Target.{Target}
 use Rattle.mf_plan.specs.declared.target.Target.TheVariants.{Root, Name, Nowhere}
 use Rattle.mf_plan.specs.Path.{last_name, walk_along}
 use Rattle.mf_plan.specs.Views.{process_named}
-use Rattle.mf_step.specs.Labels.{is_slot}
 
 -- Registrations
 
@@ -52,63 +48,40 @@ booted_specs s = listed_by (boots_of s)
 abbrev pub registrations_in : List Entry → List Registration
 registrations_in specs = map (λ entry. entry.0) specs
 
--- Labels
-
--- the value that a policy gives an entity of that kind at boot, by the script's request
-abbrev pub boot_value : Kind → Request → Module → LabelValue
-boot_value kinds.Process request m = task_label m request
-boot_value kinds.Vnode request m = file_label m request
-boot_value kinds.Pipe request m = Unset
-boot_value kinds.Socket request m = Unset
-
-abbrev pub value_by : Kind → Request → Option Registration → LabelValue
-value_by kind request None = Unset
-value_by kind request (Some r) = boot_value kind request r.module
-
-abbrev pub holds : ℕ → Registration → Bool
-holds slot r = is_slot slot r.slot
-
--- the value in a slot: that of the listed policy which holds the slot
-abbrev pub value_in : List Registration → Kind → Request → ℕ → LabelValue
-value_in listed kind request slot = value_by kind request (find (holds slot) listed)
-
-abbrev pub boot_label : List Registration → Kind → Request → List LabelValue
-boot_label listed kind request = map (value_in listed kind request) (0 ∷ 1 ∷ 2 ∷ 3 ∷ [])
-
 -- Entities
 
 -- the root directory alone, with the label of a file for which nothing is asked: biba/high, mls/low
-abbrev pub root_alone : List Registration → Entities
-root_alone listed = objects.opening (boot_label listed kinds.Vnode no_request)
+abbrev pub root_alone : List Entry → Entities
+root_alone listed = objects.opening (new_label listed kinds.Vnode (Boot no_request))
 
 -- A file is made in the directory that its path names. In a well-formed script that is there, and the name is free.
-abbrev pub with_file_at : List Registration → Entities → FileLine → Target → Entities
+abbrev pub with_file_at : List Entry → Entities → FileLine → Target → Entities
 with_file_at listed o f (Name dir None) =
-    objects.with_entity o (last_name f.path) (boot_label listed kinds.Vnode f.label) (objects.new_vnode dir f.file f.text)
+    objects.with_entity o (last_name f.path) (new_label listed kinds.Vnode (Boot f.label)) (objects.new_vnode dir f.file f.text)
 with_file_at listed o f (Name dir (Some id)) = o
 with_file_at listed o f Root = o
 with_file_at listed o f (Nowhere errno) = o
 
-abbrev pub with_file : List Registration → Entities → FileLine → Entities
+abbrev pub with_file : List Entry → Entities → FileLine → Entities
 with_file listed o f = with_file_at listed o f (walk_along o f.path).target
 
 -- The process of a task is made under its name, which in a well-formed script is free.
-abbrev pub with_task_at : List Registration → Entities → Task → Option Id → Entities
-with_task_at listed o t None = objects.with_entity o t.name (boot_label listed kinds.Process t.label) (Process t.cred)
+abbrev pub with_task_at : List Entry → Entities → Task → Option Id → Entities
+with_task_at listed o t None = objects.with_entity o t.name (new_label listed kinds.Process (Boot t.label)) (Process t.cred)
 with_task_at listed o t (Some id) = o
 
-abbrev pub with_task : List Registration → Entities → Task → Entities
+abbrev pub with_task : List Entry → Entities → Task → Entities
 with_task listed o t = with_task_at listed o t (process_named o t.name)
 
 -- the root, then the files one after another, then the processes of the tasks
-abbrev pub opening_objects : List Registration → Script → Entities
+abbrev pub opening_objects : List Entry → Script → Entities
 opening_objects listed s = fold (with_task listed) (fold (with_file listed) (root_alone listed) s.files) s.tasks
 
 -- the state at the end of boot
 abbrev pub opening_state : Script → State
 opening_state s =
     record {
-      objects = opening_objects (registrations_in (booted_specs s)) s;
+      objects = opening_objects (booted_specs s) s;
       specs = booted_specs s;
       numbers = given_by s.boots;
       booted = true;

@@ -2,7 +2,8 @@
 use Rattle.std.specs.Prelude.{◌≡◌, ℕ, ◌<◌, true, false, cond, List, All, Result, Ok, Err}
 use Rattle.mf_errno.specs.Module.{module_named, same_module}
 use Rattle.mf_errno.specs.declared.module.Module.{Module}
-use Rattle.mf_policy.specs.Modules.{has_spec}
+use Rattle.mf_elem.specs.declared.label.TheConstants.{SLOTS}
+use Rattle.mf_policy.specs.Modules.{has_spec, wants_slot}
 use Rattle.mf_policy.specs.declared.registration.Registration.{Registration}
 use Rattle.mf_policy.specs.Registration.{Entry, is_listed}
 use Rattle.mf_list.specs.Lists.{ListView, CatalogueView, IsReady, in_catalogue}
@@ -10,8 +11,8 @@ use Rattle.mf_list.specs.Held.{how_many, times_held}
 use Rattle.mf_list.specs.Registration.{entries_without, register_verdict_by_name, unregister_verdict_by_name, with_registered}
 use Rattle.mf_list.specs.declared.faults.RegisterFault.{RegisterFault}
 use Rattle.mf_list.specs.declared.faults.UnregisterFault.{UnregisterFault}
-use Rattle.mf_script.specs.declared.script.Call.{Call}
-use Rattle.mf_script.specs.declared.script.Call.TheVariants as call
+use Rattle.mf_calls.specs.declared.script.Call.{Call}
+use Rattle.mf_calls.specs.declared.script.Call.TheVariants as call
 use Rattle.mf_plan.specs.declared.reply.Reply.{Reply}
 use Rattle.mf_plan.specs.declared.reply.Reply.TheVariants as reply
 use Rattle.mf_core.specs.declared.progress.Outcome.{Outcome}
@@ -61,11 +62,11 @@ listed_after_reply (reply.Ok payload) before done = done
 listed_after_reply (reply.Denied errno op item by) before done = before
 listed_after_reply (reply.Refused errno) before done = before
 
--- A module can be registered at boot: it is there, it isn't listed, and a slot number is left.
+-- A module can be registered at boot: it is there, it isn't listed, and a slot number is left where it wants one.
 pub record CanBoot (m : Module) (list : ListView) (catalogue : CatalogueView) (given : ℕ) : Type 0 where
   pub there : in_catalogue m catalogue.modules ≡ true
   pub free : is_listed m list.entries ≡ false
-  pub slot : given < 4
+  pub slot : wants_slot m ≡ true → given < SLOTS
 
 -- the registrations are of modules whose policies are built in
 abbrev pub AreAllThere : List Registration → Type 0

@@ -3,15 +3,15 @@ ghost use Rattle.std.specs.Prelude.{◌≡◌, [], false, All, IfOk, map};
 ghost use Rattle.mf_policy.specs.Modules.{fresh_of, module_of};
 ghost use Rattle.mf_list.specs.Lists.{IsFresh, IsReady};
 ghost use Rattle.mf_list.specs.Registration.{Registers, registration_of};
-ghost use Rattle.mf_script.specs.WellFormed.{AreBoots};
+ghost use Rattle.mf_calls.specs.Boots.{AreBoots};
 ghost use Rattle.mf_core.specs.Opening as spec;
 ghost use Rattle.mf_core.specs.Policies.{AreAllModules, AreAllThere, AreOf, CanBoot};
 
 use crate::history::BootList;
 use mf_errno::Module;
 use mf_list::{Catalogue, PolicyList};
+use mf_names::Listing;
 use mf_policy::{Policy, Registration, Spec, SpecList};
-use mf_script::Listing;
 use mf_slots::SlotNumbers;
 use std::alloc::{AllocError, Global};
 

@@ -2,8 +2,8 @@
 ghost use Rattle.std.specs.Prelude.{◌≡◌, ◌+◌, ◌<◌, ◌≤◌, ◌⊎◌, ℕ, [], All, IfOk, length, map, Some};
 ghost use Rattle.mf_policy.specs.Modules.{module_of};
 ghost use Rattle.mf_list.specs.Lists.{IsFresh};
-ghost use Rattle.mf_script.specs.Limits.{line_limit};
-ghost use Rattle.mf_script.specs.WellFormed.{IsWellFormed, lines_of};
+ghost use Rattle.mf_calls.specs.declared.limits.TheConstants.{LINE_LIMIT};
+ghost use Rattle.mf_calls.specs.WellFormed.{IsWellFormed, lines_of};
 ghost use Rattle.mf_step.specs.Verdict as step;
 ghost use Rattle.mf_core.specs.declared.history.Event.TheVariants as event;
 ghost use Rattle.mf_core.specs.declared.progress.Turn.TheVariants as turn;
@@ -20,10 +20,10 @@ use crate::booting::{loaded_specs, register_boots, unlisted};
 use crate::history::{Event, EventList, History};
 use crate::opening::opening_objects;
 use crate::progress::{Phase, ProgressList, Turn};
+use mf_calls::Script;
 use mf_list::{Catalogue, PolicyList};
 use mf_plan::{Plan, State};
 use mf_policy::Policy;
-use mf_script::Script;
 use mf_step::{Verdict, verdict_of};
 use std::alloc::{AllocError, Global};
 use std::marker::Model;
@@ -70,7 +70,7 @@ impl<'s> Core<'s> {
         let (boots, numbers) = register_boots(alloc, &script.boots, &mut list, &mut catalogue)?;
         let listed = list.listed();
         let specs = loaded_specs(alloc, listed.as_slice())?;
-        let objects = opening_objects(alloc, script, listed.as_slice())?;
+        let objects = opening_objects(alloc, script, &specs)?;
         let state = State {
             objects,
             specs,
@@ -171,7 +171,7 @@ impl<'s> Core<'s> {
         requires { task < length self.now.script.tasks }
         ensures value { result ≡ lines_at self.now task }
         ensures within { result ≤ length (lines_of self.now.script task) }
-        ensures most { result ≤ line_limit }
+        ensures most { result ≤ LINE_LIMIT }
     {
         self.progress.at(task as usize).lines
     }

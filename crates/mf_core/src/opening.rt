@@ -1,17 +1,17 @@
 //! The live entities of a script at the end of boot.
-ghost use Rattle.std.specs.Prelude.{◌≡◌, ◌≤◌, ◌<◌, ◌+◌, ℕ, [], find, fold, length, IfOk, IsTrue, OnOk};
-ghost use Rattle.std.specs.Option.{option_copied};
-ghost use Rattle.mf_script.specs.WellFormed.{IsWellFormed};
+ghost use Rattle.std.specs.Prelude.{◌≡◌, ◌≤◌, ◌<◌, ◌+◌, ℕ, [], fold, length, IfOk, IsTrue, OnOk};
+ghost use Rattle.mf_names.specs.declared.limits.TheConstants.{CONTENT_LIMIT};
+ghost use Rattle.mf_objects.specs.declared.limits.TheConstants.{ID_LIMIT, MOST_ENTITIES};
+ghost use Rattle.mf_calls.specs.WellFormed.{IsWellFormed};
 ghost use Rattle.mf_core.specs.Opening as spec;
 ghost use Rattle.mf_core.specs.Opening.{HasAtMost};
 
-use mf_elem::{LabelValue, Request};
-use mf_errno::Module;
+use mf_calls::{FileLine, Script, Task};
+use mf_elem::Request;
 use mf_item::Kind;
 use mf_objects::Objects;
 use mf_plan::{Target, target_of};
-use mf_policy::Registration;
-use mf_script::{FileLine, Script, Task, file_label, task_label};
+use mf_policy::{Origin, SpecList, new_label};
 use mf_step::last_name;
 use std::alloc::{AllocError, Global};
 
@@ -20,70 +20,24 @@ use std::alloc::{AllocError, Global};
 pub fn opening_objects(
     alloc: Global,
     script: &Script,
-    listed: &[Registration],
+    listed: &SpecList,
 ) -> Result<Objects, AllocError>
     requires { IsWellFormed script.now }
     ensures value { IfOk result (λ objects. objects ≡ spec.opening_objects listed.now script.now) }
     ensures few { IfOk result (λ objects. HasAtMost objects 273) }
 {
-    let root = boot_label(listed, Kind::Vnode, &Request::none());
+    let root = new_label(listed, Kind::Vnode, &Origin::Boot(Request::none()));
     let mut objects = Objects::new(alloc, &root)?;
     add_files(alloc, &mut objects, script, listed)?;
     add_tasks(alloc, &mut objects, script, listed)?;
     Ok(objects)
 }
 
-/// The label at boot of an entity of that kind, by the script's request: in each slot the value of the policy that
-/// holds it.
-fn boot_label(listed: &[Registration], kind: Kind, request: &Request) -> [LabelValue; 4]
-    ensures { result ≡ spec.boot_label listed.now kind request.now }
-{
-    [
-        value_in(listed, kind, request, 0),
-        value_in(listed, kind, request, 1),
-        value_in(listed, kind, request, 2),
-        value_in(listed, kind, request, 3),
-    ]
-}
-
-fn value_in(listed: &[Registration], kind: Kind, request: &Request, slot: u8) -> LabelValue
-    ensures { result ≡ spec.value_in listed.now kind request.now slot }
-{
-    match holder(listed, slot) {
-        None => LabelValue::Unset,
-        Some(registration) => boot_value(kind, request, registration.module),
-    }
-}
-
-/// The registration that holds the slot.
-fn holder(listed: &[Registration], slot: u8) -> Option<&Registration>
-    ensures { option_copied result ≡ find (spec.holds slot) listed.now }
-{
-    listed.iter().find(|registration| holds(registration, slot))
-}
-
-fn holds(registration: &Registration, slot: u8) -> bool
-    ensures { result ≡ spec.holds slot registration.now }
-{
-    registration.slot == Some(slot)
-}
-
-/// The value that the module's policy gives an entity of that kind at boot, by the script's request.
-fn boot_value(kind: Kind, request: &Request, module: Module) -> LabelValue
-    ensures { result ≡ spec.boot_value kind request.now «module» }
-{
-    match kind {
-        Kind::Process => task_label(module, request),
-        Kind::Vnode => file_label(module, request),
-        Kind::Pipe | Kind::Socket => LabelValue::Unset,
-    }
-}
-
 fn add_files(
     alloc: Global,
     objects: &mut Objects,
     script: &Script,
-    listed: &[Registration],
+    listed: &SpecList,
 ) -> Result<(), AllocError>
     requires script { IsWellFormed script.now }
     requires few { HasAtMost objects.old 1 }
@@ -101,20 +55,19 @@ fn add_file(
     alloc: Global,
     objects: &mut Objects,
     file: &FileLine,
-    listed: &[Registration],
+    listed: &SpecList,
 ) -> Result<(), AllocError>
-    requires few { length objects.old.live < 1024 }
-    requires next { objects.old.next < 4294967295 }
-    requires path { length file.now.path ≤ 8 }
-    requires fits { length file.now.text ≤ 65536 }
+    requires few { length objects.old.live < MOST_ENTITIES }
+    requires next { objects.old.next < ID_LIMIT }
+    requires fits { length file.now.text ≤ CONTENT_LIMIT }
     requires bare { IsTrue file.now.file.dir → file.now.text ≡ [] }
     ensures value { OnOk result (objects.new ≡ spec.with_file listed.now objects.old file.now) }
     ensures few { (n : ℕ) → HasAtMost objects.old n → OnOk result (HasAtMost objects.new (n + 1)) }
 {
-    match target_of(objects, file.path.as_slice()) {
+    match target_of(objects, &file.path) {
         Target::Name(dir, None) => {
             let name = last_name(file.path.as_slice());
-            let label = boot_label(listed, Kind::Vnode, &file.label);
+            let label = new_label(listed, Kind::Vnode, &Origin::Boot(file.label));
             let text = file.text.as_slice();
             objects.add_vnode(alloc, dir, name, &file.file, text, &label)?;
             Ok(())
@@ -127,7 +80,7 @@ fn add_tasks(
     alloc: Global,
     objects: &mut Objects,
     script: &Script,
-    listed: &[Registration],
+    listed: &SpecList,
 ) -> Result<(), AllocError>
     requires script { IsWellFormed script.now }
     requires few { HasAtMost objects.old 257 }
@@ -145,10 +98,10 @@ fn add_task(
     alloc: Global,
     objects: &mut Objects,
     task: &Task,
-    listed: &[Registration],
+    listed: &SpecList,
 ) -> Result<(), AllocError>
-    requires few { length objects.old.live < 1024 }
-    requires next { objects.old.next < 4294967295 }
+    requires few { length objects.old.live < MOST_ENTITIES }
+    requires next { objects.old.next < ID_LIMIT }
     ensures value { OnOk result (objects.new ≡ spec.with_task listed.now objects.old task.now) }
     ensures few { (n : ℕ) → HasAtMost objects.old n → OnOk result (HasAtMost objects.new (n + 1)) }
 {
@@ -156,7 +109,7 @@ fn add_task(
     match objects.process(name) {
         Some(_) => Ok(()),
         None => {
-            let label = boot_label(listed, Kind::Process, &task.label);
+            let label = new_label(listed, Kind::Process, &Origin::Boot(task.label));
             objects.add_process(alloc, name, &task.cred, &label)?;
             Ok(())
         }

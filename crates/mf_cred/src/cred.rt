@@ -1,7 +1,11 @@
 //! Credentials of processes, and attributes of files, as far as policies look at them.
 ghost use Rattle.std.specs.Prelude.{◌≡◌, nat_eq, IsTrue, ◌↔◌, Contains, [], ◌∷◌};
+ghost use Rattle.mf_cred.specs.Groups.{in_group};
 
 use crate::{ArrayVec, Duplicate};
+
+/// The most groups of a credential.
+pub const MOST_GROUPS: usize = 16;
 
 /// The credential of a process, a part of `struct ucred`: effective, real and saved uid, and its groups, of which the
 /// first is the effective one.
@@ -10,13 +14,14 @@ pub struct Cred {
     pub uid: u32,
     pub ruid: u32,
     pub svuid: u32,
-    pub groups: ArrayVec<u32, 16>,
+    pub groups: ArrayVec<u32, MOST_GROUPS>,
 }
 
 impl Cred {
     /// Whether `group` is one of the groups.
     pub fn in_group(&self, group: u32) -> bool
-        ensures { IsTrue result ↔ Contains self.now.groups group }
+        ensures value { result ≡ in_group self.now group }
+        ensures contains { IsTrue result ↔ Contains self.now.groups group }
     {
         self.groups.as_slice().contains(&group)
     }

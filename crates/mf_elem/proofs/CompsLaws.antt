@@ -131,7 +131,7 @@ four_words s (suc (suc zero)) h = refl
 four_words s (suc (suc (suc zero))) h = refl
 four_words s (suc (suc (suc (suc k)))) h = absurd (omega arith)
 
-words_again : (words : List ℕ) → AreWords words → words_of (numbers_of words) ≡ words
+pub words_again : (words : List ℕ) → AreWords words → words_of (numbers_of words) ≡ words
 words_again words are =
     let s : FinSet nat_cmp = numbers_of words in
     same_number_lists (words_of s) words (sym are.four) (λ k h. four_words s k h ∙ word_again words are k h)

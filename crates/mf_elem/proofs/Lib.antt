@@ -1,1 +1,2 @@
 pub mod CompsLaws
+pub mod SameElement

@@ -1,6 +1,6 @@
 -- Dominance of elements, and ranges, as mac_biba(4) and mac_mls(4) have them. That elements of one level have the same
 -- compartments too is this model's own choice.
-use Rattle.std.specs.Prelude.{Bool, true, false, nat_le, nat_eq, ◌&&◌}
+use Rattle.std.specs.Prelude.{Bool, true, false, nat_le, nat_eq, ◌&&◌, ◌||◌}
 use Rattle.std.specs.FinSet as set
 use Rattle.mf_elem.specs.Comps.{compartments_of}
 use Rattle.mf_elem.specs.declared.elem.Elem.{Elem}
@@ -31,21 +31,23 @@ dominates Equal (Grade other others) = true
 dominates Equal High = true
 dominates Equal Equal = true
 
+abbrev pub is_equal : Elem → Bool
+is_equal Equal = true
+is_equal Low = false
+is_equal High = false
+is_equal (Grade grade comps) = false
+
+-- whether two elements are one, where compartments are compared as sets
+abbrev pub is_same_element : Elem → Elem → Bool
+is_same_element Low Low = true
+is_same_element High High = true
+is_same_element Equal Equal = true
+is_same_element (Grade grade comps) (Grade other others) = nat_eq grade other && set.is_subset (compartments_of others) (compartments_of comps) && set.is_subset (compartments_of comps) (compartments_of others)
+is_same_element a b = false
+
 -- Whether two elements are of the same level: one is equal, or they are the same element, its compartments too.
 abbrev pub same_level : Elem → Elem → Bool
-same_level Equal b = true
-same_level Low Equal = true
-same_level Low Low = true
-same_level Low High = false
-same_level Low (Grade other others) = false
-same_level High Equal = true
-same_level High High = true
-same_level High Low = false
-same_level High (Grade other others) = false
-same_level (Grade grade comps) Equal = true
-same_level (Grade grade comps) (Grade other others) = nat_eq grade other && set.is_subset (compartments_of others) (compartments_of comps) && set.is_subset (compartments_of comps) (compartments_of others)
-same_level (Grade grade comps) Low = false
-same_level (Grade grade comps) High = false
+same_level a b = is_equal a || is_equal b || is_same_element a b
 
 -- the high end dominates the element, and the element the low end
 abbrev pub in_range : Elem → Elem → Elem → Bool

@@ -1,6 +1,11 @@
--- What a range label says of its subject, and which label is valid.
-use Rattle.std.specs.Prelude.{Bool, true, false, ◌&&◌, ◌||◌, Option, Some, None}
+-- What a range label says of its subject, which label is valid, and what a label text can ask for.
+use Rattle.std.specs.Prelude.{◌≡◌, ℕ, ◌≤◌, Bool, true, false, ◌&&◌, ◌||◌, Option, Some, None, is_some, IfSome}
+pub use Rattle.mf_elem.specs.Elem.{is_equal}
+use Rattle.mf_elem.specs.Comps.{AreWords}
 use Rattle.mf_elem.specs.Elem.{in_range}
+use Rattle.mf_elem.specs.declared.comps.Comps.{Comps}
+use Rattle.mf_elem.specs.declared.elem.TheConstants.{LAST_GRADE}
+use Rattle.mf_elem.specs.declared.label.TheConstants.{LAST_PARTITION}
 use Rattle.mf_elem.specs.declared.elem.Elem.{Elem}
 use Rattle.mf_elem.specs.declared.elem.Elem.TheVariants.{Low, High, Equal, Grade}
 use Rattle.mf_elem.specs.declared.label.RangeLabel.{RangeLabel}
@@ -17,12 +22,6 @@ is_high Low = false
 is_high (Grade grade comps) = false
 is_high High = true
 is_high Equal = false
-
-abbrev pub is_equal : Elem → Bool
-is_equal Low = false
-is_equal (Grade grade comps) = false
-is_equal High = false
-is_equal Equal = true
 
 abbrev pub has_equal_effective : Option Elem → Bool
 has_equal_effective None = false
@@ -61,3 +60,37 @@ is_valid label = is_valid_for label.effective label.range
 -- the request that names no policy
 abbrev pub no_request : Request
 no_request = record { biba = None; mls = None; partition = None; other = false }
+
+-- what is given, or else one's own
+abbrev pub given_or : {A : Type 0} → Option A → Option A → Option A
+given_or None own = own
+given_or (Some given) own = Some given
+
+-- the label with the parts that are given in place of its own
+abbrev pub replaced : RangeLabel → Option RangeLabel → RangeLabel
+replaced label None = label
+replaced label (Some given) = record { effective = given_or given.effective label.effective; range = given_or given.range label.range }
+
+-- a grade of 16 bits, with compartments of the numbers that there are
+pub record IsGrade (grade : ℕ) (comps : Comps) : Type 0 where
+  pub fits : grade ≤ LAST_GRADE
+  pub are_words : AreWords comps.words
+
+-- an element that a label text can spell
+abbrev pub IsElement : Elem → Type 0
+IsElement (Grade grade comps) = IsGrade grade comps
+IsElement Low = Unit
+IsElement High = Unit
+IsElement Equal = Unit
+
+-- a label that it can ask for: such an effective element, a range of such elements, or both
+pub record IsAskedLabel (label : RangeLabel) : Type 0 where
+  pub effective : IfSome label.effective IsElement
+  pub range : IfSome label.range (λ ends. IsElement ends.0 × IsElement ends.1)
+  pub not_empty : (is_some label.effective || is_some label.range) ≡ true
+
+-- a request that it can spell: such labels, and a partition that there can be
+pub record IsRequest (request : Request) : Type 0 where
+  pub biba : IfSome request.biba IsAskedLabel
+  pub mls : IfSome request.mls IsAskedLabel
+  pub partition : IfSome request.partition (λ n. n ≤ LAST_PARTITION)

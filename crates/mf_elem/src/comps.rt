@@ -3,6 +3,9 @@ ghost use Rattle.std.specs.Prelude.{◌≡◌, ◌+◌, ◌<◌, ◌≤◌, leng
 ghost use Rattle.std.specs.FinSet as set;
 ghost use Rattle.mf_elem.specs.Comps.{numbers_of, words_of, compartments_of, comps_of};
 
+/// The greatest compartment; the least is 1.
+pub const LAST_COMPARTMENT: u16 = 256;
+
 /// The compartments of a grade, numbered 1 to 256 as in mac_mls(4); mac_biba(4) numbers them 0 to 255. Compartment n is
 /// bit n - 1, counted through the words, so equal sets are equal values.
 #[derive(Clone, Copy, PartialEq, Eq, Debug)]
@@ -22,7 +25,7 @@ impl Comps {
     /// The set with compartment `n` added.
     pub fn with(mut self, n: u16) -> Comps
         requires least { 1 ≤ n }
-        requires greatest { n ≤ 256 }
+        requires greatest { n ≤ LAST_COMPARTMENT }
         ensures set { compartments_of result ≡ set.insert (compartments_of self) n }
         ensures value { result ≡ comps_of (set.insert (compartments_of self) n) }
     {
@@ -33,7 +36,7 @@ impl Comps {
     /// Whether the compartment is in the set.
     pub fn has(&self, n: u16) -> bool
         requires least { 1 ≤ n }
-        requires greatest { n ≤ 256 }
+        requires greatest { n ≤ LAST_COMPARTMENT }
         ensures { result ≡ set.contains (compartments_of self.now) n }
     {
         let place = (n - 1) as usize;

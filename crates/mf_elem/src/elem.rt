@@ -4,6 +4,9 @@ ghost use Rattle.mf_elem.specs.Elem as spec;
 
 use crate::Comps;
 
+/// The greatest grade.
+pub const LAST_GRADE: u16 = 65535;
+
 /// An element of a Biba or MLS label, as maclabel(7) writes it: `low`, `high`, `equal`, or a grade with its compartments.
 /// The order is that of integrity in mac_biba(4) and of sensitivity in mac_mls(4).
 #[derive(Clone, Copy, PartialEq, Eq, Debug)]
@@ -14,7 +17,7 @@ pub enum Elem {
     High,
     /// Exempt: it dominates every element, and every element dominates it.
     Equal,
-    /// A grade in 0..=65535.
+    /// A grade, at most `LAST_GRADE`.
     Grade(u16, Comps),
 }
 
@@ -32,7 +35,7 @@ pub fn dominates(a: &Elem, b: &Elem) -> bool
     }
 }
 
-/// Whether the two are of the same level: one is `equal`, or they are equal, their compartments too.
+/// Whether the two are of the same level: one is `equal`, or they are the same element.
 pub fn same_level(a: &Elem, b: &Elem) -> bool
     ensures { result ≡ spec.same_level a.now b.now }
 {
@@ -117,6 +120,8 @@ mod tests {
     fn exempt_labels(rt: HostRuntime) {
         let whole = RangeLabel::ranged(Elem::High, Elem::Low, Elem::High);
         assert!(rt; privileged(&whole) && !has_equal(&whole));
-        assert!(rt; has_equal(&RangeLabel::effective(Elem::Equal)));
+        let equal = RangeLabel::effective(Elem::Equal);
+        assert!(rt; has_equal(&equal) && same_level(&Elem::Equal, &Elem::Low));
+        assert!(rt; whole.replaced_by(&Some(equal)).range == whole.range);
     }
 }

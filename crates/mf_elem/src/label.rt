@@ -5,6 +5,12 @@ ghost use Rattle.mf_elem.specs.declared.label.LabelValue.TheVariants.{Unset};
 
 use crate::{Elem, in_range};
 
+/// The number of label slots that an entity has.
+pub const SLOTS: usize = 4;
+
+/// The greatest partition number that a label text can name.
+pub const LAST_PARTITION: u32 = 2_147_483_647;
+
 /// A Biba or MLS label: the effective element, and the range of elements that a subject may take, low end first. In a
 /// request either may be missing.
 #[derive(Clone, Copy, PartialEq, Eq, Debug)]
@@ -124,6 +130,19 @@ impl RangeLabel {
         RangeLabel {
             effective: Some(element),
             range: Some((low, high)),
+        }
+    }
+
+    /// The label with the parts that are given in place of its own.
+    pub fn replaced_by(&self, given: &Option<RangeLabel>) -> RangeLabel
+        ensures { result ≡ spec.replaced self.now given.now }
+    {
+        match given {
+            None => *self,
+            Some(given) => RangeLabel {
+                effective: given.effective.or(self.effective),
+                range: given.range.or(self.range),
+            },
         }
     }
 

@@ -5,6 +5,8 @@ mod comps;
 mod elem;
 mod label;
 
-pub use comps::Comps;
-pub use elem::{Elem, dominates, in_range, range_in_range, same_level};
-pub use label::{LabelValue, RangeLabel, Request, has_equal, is_valid, privileged};
+pub use comps::{Comps, LAST_COMPARTMENT};
+pub use elem::{Elem, LAST_GRADE, dominates, in_range, range_in_range, same_level};
+pub use label::{
+    LAST_PARTITION, LabelValue, RangeLabel, Request, SLOTS, has_equal, is_valid, privileged,
+};

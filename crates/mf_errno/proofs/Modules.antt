@@ -23,7 +23,7 @@ own_name Partition = refl
 own_name Bsdextended = refl
 own_name Priority = refl
 
-differs : (name text : List ℕ) → text ≢ name → bytes_eq name text ≡ false
+pub differs : (name text : List ℕ) → text ≢ name → bytes_eq name text ≡ false
 differs name text other = by_test (bytes_eq name text) (bytes_eq-Decides name text).0
   where
     by_test : (b : Bool) → (b ≡ true → name ≡ text) → b ≡ false

@@ -1,5 +1,6 @@
 -- The numbers and the names of the errors.
-use Rattle.std.specs.Prelude.{ℕ, Bool, nat_eq, List, codes}
+use Rattle.std.specs.Prelude.{ℕ, Bool, nat_eq, List, [], ◌∷◌, Option, find, codes}
+use Rattle.std.specs.Str.{bytes_eq}
 use Rattle.mf_errno.specs.declared.errno.Errno.{Errno}
 use Rattle.mf_errno.specs.declared.errno.Errno.TheVariants.{Success, Eperm, Enoent, Esrch, Edeadlk, Enomem, Eacces, Ebusy, Eexist, Enotdir, Eisdir, Einval, Enfile, Efbig, Eagain, Enobufs, Enotempty}
 
@@ -43,6 +44,14 @@ text_of Eagain = codes "EAGAIN"
 text_of Enobufs = codes "ENOBUFS"
 text_of Enotempty = codes "ENOTEMPTY"
 
--- whether the two errors are equal
+-- all of them
+abbrev pub all_errors : List Errno
+all_errors = Success ∷ Eperm ∷ Enoent ∷ Esrch ∷ Edeadlk ∷ Enomem ∷ Eacces ∷ Ebusy ∷ Eexist ∷ Enotdir ∷ Eisdir ∷ Einval ∷ Enfile ∷ Efbig ∷ Eagain ∷ Enobufs ∷ Enotempty ∷ []
+
+-- the error of that name
+unfoldable pub errno_named : List ℕ → Option Errno
+errno_named name = find (λ e. bytes_eq (text_of e) name) all_errors
+
+-- whether the two errors are equal: their numbers tell them apart
 abbrev pub is_same : Errno → Errno → Bool
 is_same a b = nat_eq (number_of a) (number_of b)

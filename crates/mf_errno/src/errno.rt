@@ -1,6 +1,8 @@
 //! The error numbers of errno(2) that policies answer and calls return.
 ghost use Rattle.std.specs.Prelude.{◌≡◌};
-ghost use Rattle.mf_errno.specs.Errno.{number_of, text_of};
+ghost use Rattle.mf_errno.specs.Errno.{errno_named, number_of, text_of};
+
+use std::fmt;
 
 /// What a policy answers or a call returns: success, or an error.
 #[derive(Clone, Copy, Debug, PartialEq, Eq)]
@@ -74,12 +76,50 @@ impl Errno {
             Errno::Enotempty => "ENOTEMPTY",
         }
     }
+
+    /// The error of that name, as `name` writes it. None for every other text.
+    #[tactic(auto, unfolding(crate::specs::Errno::errno_named))]
+    pub fn from_name(name: &str) -> Option<Errno>
+        ensures { result ≡ errno_named name.now }
+    {
+        match name {
+            "ok" => Some(Errno::Success),
+            "EPERM" => Some(Errno::Eperm),
+            "ENOENT" => Some(Errno::Enoent),
+            "ESRCH" => Some(Errno::Esrch),
+            "EDEADLK" => Some(Errno::Edeadlk),
+            "ENOMEM" => Some(Errno::Enomem),
+            "EACCES" => Some(Errno::Eacces),
+            "EBUSY" => Some(Errno::Ebusy),
+            "EEXIST" => Some(Errno::Eexist),
+            "ENOTDIR" => Some(Errno::Enotdir),
+            "EISDIR" => Some(Errno::Eisdir),
+            "EINVAL" => Some(Errno::Einval),
+            "ENFILE" => Some(Errno::Enfile),
+            "EFBIG" => Some(Errno::Efbig),
+            "EAGAIN" => Some(Errno::Eagain),
+            "ENOBUFS" => Some(Errno::Enobufs),
+            "ENOTEMPTY" => Some(Errno::Enotempty),
+            _ => None,
+        }
+    }
+}
+
+impl fmt::Display for Errno {
+    ghost use Rattle.std.specs.Prelude.{Some};
+
+    ghost output = { λ errno. Some (text_of errno) };
+
+    fn fmt<W: fmt::Write>(&self, f: &mut fmt::Formatter<W>) -> fmt::Result {
+        f.write_str(self.name())
+    }
 }
 
 #[cfg(test)]
 mod tests {
     use super::*;
     use crate::{Module, Priv};
+    use std::alloc::AllocError;
 
     #[test]
     fn numbers_of_errno_2(rt: HostRuntime) {
@@ -97,7 +137,12 @@ mod tests {
     }
 
     #[test]
-    fn names_lead_back(rt: HostRuntime) {
+    fn names_lead_back(rt: HostRuntime) -> Result<(), AllocError> {
+        assert_eq!(rt;
+            Errno::from_name(Errno::Enotdir.name()),
+            Some(Errno::Enotdir)
+        );
+        assert_eq!(rt; Errno::from_name("enotdir"), None);
         assert_eq!(rt;
             Module::from_name(Module::Bsdextended.name()),
             Some(Module::Bsdextended)
@@ -107,5 +152,8 @@ mod tests {
             Priv::from_name(Priv::KldUnload.name()),
             Some(Priv::KldUnload)
         );
+        let shown = format!(in rt.alloc(); "{} {} {}", Errno::Success, Module::Mls, Priv::KldLoad)?;
+        assert!(rt; shown.as_str() == "ok mac_mls KLD_LOAD");
+        Ok(())
     }
 }

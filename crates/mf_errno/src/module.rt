@@ -2,6 +2,8 @@
 ghost use Rattle.std.specs.Prelude.{◌≡◌};
 ghost use Rattle.mf_errno.specs.Module.{module_named, module_text, same_module};
 
+use std::fmt;
+
 /// A policy module.
 #[derive(Clone, Copy, Debug, PartialEq, Eq)]
 pub enum Module {
@@ -46,6 +48,16 @@ impl Module {
         ensures { result ≡ same_module self other }
     {
         self == other
+    }
+}
+
+impl fmt::Display for Module {
+    ghost use Rattle.std.specs.Prelude.{Some};
+
+    ghost output = { λ policy. Some (module_text policy) };
+
+    fn fmt<W: fmt::Write>(&self, f: &mut fmt::Formatter<W>) -> fmt::Result {
+        f.write_str(self.name())
     }
 }
 

@@ -2,6 +2,8 @@
 ghost use Rattle.std.specs.Prelude.{◌≡◌};
 ghost use Rattle.mf_errno.specs.Privilege.{IsPrivilegeNamed, privilege_text};
 
+use std::fmt;
+
 /// A privilege.
 #[derive(Clone, Copy, Debug, PartialEq, Eq)]
 pub enum Priv {
@@ -38,5 +40,15 @@ impl Priv {
             "SCHED_IDPRIO" => Some(Priv::SchedIdprio),
             _ => None,
         }
+    }
+}
+
+impl fmt::Display for Priv {
+    ghost use Rattle.std.specs.Prelude.{Some};
+
+    ghost output = { λ privilege. Some (privilege_text privilege) };
+
+    fn fmt<W: fmt::Write>(&self, f: &mut fmt::Formatter<W>) -> fmt::Result {
+        f.write_str(self.name())
     }
 }

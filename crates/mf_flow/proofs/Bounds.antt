@@ -13,12 +13,12 @@ use Rattle.mf_elem.specs.Elem.{same_level}
 use Rattle.mf_elem.specs.Label.{is_equal}
 use Rattle.mf_item.specs.declared.operation.CheckOp.{CheckOp}
 use Rattle.mf_item.specs.declared.operation.CheckOp.TheVariants as op
-use Rattle.mf_policy.specs.Operations.{Movement, test_of}
-use Rattle.mf_policy.specs.Operations.Movement.{Still, ToSubject, ToObject, BothWays}
-use Rattle.mf_policy.specs.Operations.Test.{Observe, Modify, ObserveAndModify, SameLevel}
+use Rattle.mf_policy.specs.declared.operations.Movement.{Movement}
+use Rattle.mf_policy.specs.Operations.{movement_of, test_of}
+use Rattle.mf_policy.specs.declared.operations.Movement.TheVariants.{Still, ToSubject, ToObject, BothWays}
+use Rattle.mf_policy.specs.declared.operations.Test.TheVariants.{Observe, Modify, ObserveAndModify, SameLevel}
 use Rattle.mf_policy.specs.Answer.{LatticePolicy, errno_unless, labels_answer}
 use Rattle.mf_flow.specs.Order.{elem_cmp, union}
-use Rattle.mf_flow.specs.Movement.{movement_of}
 use Rattle.mf_flow.specs.Sources.{held_by, alone}
 use Rattle.mf_flow.proofs.Orders.{IsFlowPolicy}
 

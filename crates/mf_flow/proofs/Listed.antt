@@ -15,7 +15,7 @@ use Rattle.mf_objects.specs.Live.{Live, Entities, has_id, is_from, id_of, live_a
 use Rattle.mf_objects.specs.Population.{IsRising}
 use Rattle.mf_objects.specs.Titles.{title_at}
 use Rattle.mf_objects.proofs.Rising.{id_differs}
-use Rattle.mf_script.specs.declared.script.Script.{Script}
+use Rattle.mf_calls.specs.declared.script.Script.{Script}
 use Rattle.mf_core.specs.declared.history.History.{History}
 use Rattle.mf_core.specs.LegalHistory.{IsLegal}
 use Rattle.mf_objects.proofs.Finding.{find_given}

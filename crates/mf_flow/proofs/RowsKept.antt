@@ -12,9 +12,10 @@ use Rattle.mf_item.specs.declared.item.Item.{Item}
 use Rattle.mf_item.specs.declared.view.SubjectView.{SubjectView}
 use Rattle.mf_item.specs.declared.view.ObjectView.{ObjectView}
 use Rattle.mf_policy.specs.declared.registration.Registration.{Registration}
-use Rattle.mf_policy.specs.Answer.{LatticePolicy, label_of, object_slot, part_of, lattice_answer}
-use Rattle.mf_policy.specs.Operations.{Movement}
-use Rattle.mf_policy.specs.Operations.Movement.{Still, ToSubject, ToObject, BothWays}
+use Rattle.mf_policy.specs.Answer.{LatticePolicy, range_label, object_slot, part_of, lattice_answer}
+use Rattle.mf_policy.specs.Operations.{movement_of}
+use Rattle.mf_policy.specs.declared.operations.Movement.{Movement}
+use Rattle.mf_policy.specs.declared.operations.Movement.TheVariants.{Still, ToSubject, ToObject, BothWays}
 use Rattle.mf_list.specs.Asked.{slot_of}
 use Rattle.mf_objects.specs.declared.id.Id.{Id}
 use Rattle.mf_objects.specs.Live.{Live, Entities, has_id, id_of, is_from, live_at}
@@ -28,7 +29,6 @@ use Rattle.mf_marks.proofs.Entities.Change.{absent, stays, comes, goes}
 use Rattle.mf_marks.proofs.Shape.{Shape}
 use Rattle.mf_marks.proofs.Shape.Shape.{same as still, created, changed, removed, loaded, unloaded}
 use Rattle.mf_flow.specs.Order.{union}
-use Rattle.mf_flow.specs.Movement.{movement_of}
 use Rattle.mf_flow.specs.Rows.{AreKept, AreRows, Rows, row, element_of, element_at as row_element, may_come, joined, received as row_received, rows_between, rows_with, rows_moved, new_row, maker_row, rows_created}
 use Rattle.mf_flow.specs.Sources.{Sets, element_in, element_at, held_by, alone, is_id, received, moved, moved_with, moved_by, moved_by_all, set_after, set_of, sets_across}
 use Rattle.mf_flow.proofs.Orders.{IsFlowPolicy}
@@ -106,7 +106,7 @@ module _ (p : LatticePolicy) (flows : IsFlowPolicy p) (r : Registration) (o : En
       (fit subject) (are.each subject)
 
   with_rows : (sets : Sets) (rows : Rows) (movement : Movement) (subject : SubjectView) (object : Option ObjectView) → IsSubject o subject → IsObject o object
-      → AllowedBy p movement (element_in r subject.label) (label_of (object_slot object (slot_of r))).effective → AllFit p r o sets → AreRows o sets rows
+      → AllowedBy p movement (element_in r subject.label) (range_label (object_slot object (slot_of r))).effective → AllFit p r o sets → AreRows o sets rows
       → AreRows o (moved_with r o (record { 0 = subject.id }) object sets movement) (rows_with (slot_of r) o rows movement subject.id object)
   with_rows sets rows movement subject None own theirs allowed fit are = are
   with_rows sets rows movement subject (Some object) own theirs allowed fit are =
@@ -120,8 +120,8 @@ module _ (p : LatticePolicy) (flows : IsFlowPolicy p) (r : Registration) (o : En
       → AreRows o (moved_by r o sets item) (rows_moved (slot_of r) o rows item)
   item_rows sets rows item success copied fit are =
       with_rows sets rows (movement_of item.op) item.subject item.object copied.0 copied.1
-      (allows p flows (label_of (slice_index_or item.subject.label (slot_of r) Unset)) (part_of p item.request) item.op (element_in r item.subject.label)
-      (label_of (object_slot item.object (slot_of r))).effective success)
+      (allows p flows (range_label (slice_index_or item.subject.label (slot_of r) Unset)) (part_of p item.request) item.op (element_in r item.subject.label)
+      (range_label (object_slot item.object (slot_of r))).effective success)
       fit are
 
   pub items_rows : (sets : Sets) (rows : Rows) (items : List Item) → AllByRecursion (λ item. lattice_answer p (slot_of r) item ≡ Success) items → AllByRecursion (IsCopied o) items

@@ -11,13 +11,14 @@ use Rattle.mf_elem.specs.Label.{is_equal}
 use Rattle.mf_item.specs.declared.item.Item.{Item}
 use Rattle.mf_item.specs.declared.view.ObjectView.{ObjectView}
 use Rattle.mf_policy.specs.declared.registration.Registration.{Registration}
-use Rattle.mf_policy.specs.Operations.{Movement}
-use Rattle.mf_policy.specs.Operations.Movement.{Still, ToSubject, ToObject, BothWays}
+use Rattle.mf_policy.specs.Operations.{movement_of}
+use Rattle.mf_policy.specs.declared.operations.Movement.{Movement}
+use Rattle.mf_policy.specs.declared.operations.Movement.TheVariants.{Still, ToSubject, ToObject, BothWays}
 use Rattle.mf_objects.specs.declared.id.Id.{Id}
 use Rattle.mf_objects.specs.Live.{Live, Entities, live_at}
-use Rattle.mf_script.specs.declared.script.Line.{Line}
-use Rattle.mf_script.specs.declared.script.Script.{Script}
-use Rattle.mf_script.specs.WellFormed.{name_of}
+use Rattle.mf_calls.specs.declared.script.Line.{Line}
+use Rattle.mf_calls.specs.declared.script.Script.{Script}
+use Rattle.mf_calls.specs.WellFormed.{name_of}
 use Rattle.mf_plan.specs.declared.reply.Reply.{Reply}
 use Rattle.mf_plan.specs.declared.state.State.{State}
 use Rattle.mf_plan.specs.Plan.{plan_of}
@@ -26,7 +27,7 @@ use Rattle.mf_core.specs.declared.history.Event.TheVariants as event
 use Rattle.mf_core.specs.Opening.{opening_state}
 use Rattle.mf_core.specs.LegalHistory.{RunState, opening, next_line, after}
 use Rattle.mf_flow.specs.Order.{place_of, elem_cmp, union}
-use Rattle.mf_flow.specs.Movement.{passed, movement_of}
+use Rattle.mf_flow.specs.Movement.{passed}
 use Rattle.mf_flow.specs.Sources.{Sets, element_in, element_at, held_by, alone, is_id, received, moved, moved_with, moved_by, moved_by_all, relabels, set_after, set_of, caller_of, sets_after_line, sets_after_event, opening_sets, sets_after, sources_of}
 use Rattle.mf_flow.specs.Laws.{SourcesAreSorted}
 use Rattle.mf_flow.proofs.Bounds.{all_union}

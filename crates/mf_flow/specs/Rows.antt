@@ -6,16 +6,17 @@ use Rattle.mf_elem.specs.declared.label.LabelValue.TheVariants.{Unset}
 use Rattle.mf_elem.specs.Label.{is_equal}
 use Rattle.mf_item.specs.declared.item.Item.{Item}
 use Rattle.mf_item.specs.declared.view.ObjectView.{ObjectView}
-use Rattle.mf_policy.specs.Answer.{label_of}
-use Rattle.mf_policy.specs.Operations.{Movement}
-use Rattle.mf_policy.specs.Operations.Movement.{Still, ToSubject, ToObject, BothWays}
+use Rattle.mf_policy.specs.Answer.{range_label}
+use Rattle.mf_policy.specs.Operations.{movement_of}
+use Rattle.mf_policy.specs.declared.operations.Movement.{Movement}
+use Rattle.mf_policy.specs.declared.operations.Movement.TheVariants.{Still, ToSubject, ToObject, BothWays}
 use Rattle.mf_policy.specs.declared.registration.Registration.{Registration}
 use Rattle.mf_list.specs.Asked.{slot_of}
 use Rattle.mf_objects.specs.declared.id.Id.{Id}
 use Rattle.mf_objects.specs.Live.{Live, Entities, is_from, label_at, live_at}
-use Rattle.mf_script.specs.declared.script.Line.{Line}
-use Rattle.mf_script.specs.declared.script.Script.{Script}
-use Rattle.mf_script.specs.WellFormed.{name_of}
+use Rattle.mf_calls.specs.declared.script.Line.{Line}
+use Rattle.mf_calls.specs.declared.script.Script.{Script}
+use Rattle.mf_calls.specs.WellFormed.{name_of}
 use Rattle.mf_plan.specs.declared.outline.Check.{Check}
 use Rattle.mf_plan.specs.declared.reply.Reply.{Reply}
 use Rattle.mf_plan.specs.declared.state.State.{State}
@@ -26,7 +27,7 @@ use Rattle.mf_core.specs.declared.history.Event.TheVariants as event
 use Rattle.mf_core.specs.declared.history.History.{History}
 use Rattle.mf_core.specs.LegalHistory.{RunState, next_line, after, run_state_of}
 use Rattle.mf_flow.specs.Order.{union}
-use Rattle.mf_flow.specs.Movement.{passed, movement_of}
+use Rattle.mf_flow.specs.Movement.{passed}
 use Rattle.mf_flow.specs.Sources.{Sets, alone, held_by, caller_of, sources_of}
 use Rattle.mf_flow.specs.Table.{HasSources}
 use Rattle.mf_flow.specs.declared.following.Flow.{Flow}
@@ -37,7 +38,7 @@ Rows = List (List Elem)
 
 -- the effective element in a slot of a label
 abbrev pub element_of : ℕ → List LabelValue → Option Elem
-element_of slot label = (label_of (slice_index_or label slot Unset)).effective
+element_of slot label = (range_label (slice_index_or label slot Unset)).effective
 
 abbrev pub row : Rows → ℕ → List Elem
 row rows number = slice_index_or rows number []

@@ -2,7 +2,7 @@
 ghost use Rattle.std.specs.Prelude.{◌≡◌, ◌<◌, IfOk, IfSome, OnOk, find, map};
 ghost use Rattle.mf_plan.specs.Outline.{item_of};
 ghost use Rattle.mf_objects.specs.Live.{is_from};
-ghost use Rattle.mf_script.specs.WellFormed.{IsWellFormed};
+ghost use Rattle.mf_calls.specs.WellFormed.{IsWellFormed};
 ghost use Rattle.mf_core.specs.LegalHistory.{after, MayCome};
 ghost use Rattle.mf_flow.specs.Order.{union};
 ghost use Rattle.mf_flow.specs.Rows as spec;
@@ -11,12 +11,12 @@ ghost use Rattle.mf_flow.specs.Sources.{alone, held_by};
 use crate::elem_set::ElemSet;
 use crate::moving::{move_all, passed};
 use crate::set_list::SetList;
+use mf_calls::Script;
 use mf_core::{Event, Replay};
 use mf_elem::Elem;
 use mf_objects::{Id, Objects};
 use mf_plan::{Check, caller_of, outline_of};
 use mf_policy::slot_label;
-use mf_script::Script;
 use std::alloc::{AllocError, Global};
 
 /// The sources by a policy that was booted, while a history is gone through.

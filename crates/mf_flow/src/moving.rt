@@ -1,6 +1,7 @@
 //! What the checks of a call move.
 ghost use Rattle.std.specs.Prelude.{◌≡◌, ◌<◌, fold, map, unwrap_or, IfOk, OnOk};
 ghost use Rattle.mf_plan.specs.Outline.{item_of};
+ghost use Rattle.mf_policy.specs.Operations.{movement_of};
 ghost use Rattle.mf_flow.specs.Movement as spec;
 ghost use Rattle.mf_flow.specs.Rows as rows;
 
@@ -10,55 +11,8 @@ use mf_elem::Elem;
 use mf_item::CheckOp;
 use mf_objects::Objects;
 use mf_plan::{Check, Reply};
-use mf_policy::slot_label;
+use mf_policy::{Movement, row_of, slot_label};
 use std::alloc::{AllocError, Global};
-
-/// Which way information moves where an operation is allowed.
-pub enum Movement {
-    Still,
-    ToSubject,
-    ToObject,
-    BothWays,
-}
-
-/// The directions of mac_biba(4) and mac_mls(4): an operation that observes moves to the subject, one that modifies to the
-/// object.
-fn movement_of(op: CheckOp) -> Movement
-    ensures { spec.meaning_of result ≡ spec.movement_of op }
-{
-    match op {
-        CheckOp::VnodeLookup
-        | CheckOp::VnodeOpenRead
-        | CheckOp::VnodeRead
-        | CheckOp::VnodeExec
-        | CheckOp::VnodeStat
-        | CheckOp::VnodeReaddir
-        | CheckOp::PipeRead
-        | CheckOp::PipeStat
-        | CheckOp::SocketReceive => Movement::ToSubject,
-        CheckOp::VnodeOpenWrite
-        | CheckOp::VnodeWrite
-        | CheckOp::VnodeCreate
-        | CheckOp::VnodeUnlinkDir
-        | CheckOp::VnodeUnlink
-        | CheckOp::VnodeSetmode
-        | CheckOp::PipeWrite
-        | CheckOp::SocketSend
-        | CheckOp::SocketDeliver
-        | CheckOp::ProcSignal
-        | CheckOp::ProcSched => Movement::ToObject,
-        CheckOp::ProcDebug => Movement::BothWays,
-        CheckOp::VnodeRelabel
-        | CheckOp::PipeRelabel
-        | CheckOp::SocketVisible
-        | CheckOp::SocketRelabel
-        | CheckOp::CredRelabel
-        | CheckOp::ProcVisible
-        | CheckOp::KldLoad
-        | CheckOp::KldUnload
-        | CheckOp::Priv => Movement::Still,
-    }
-}
 
 /// The effective element that the live entity of that number has in the slot; none where no such entity lives.
 fn element_at(objects: &Objects, slot: u8, number: u32) -> Option<Elem>
@@ -158,9 +112,9 @@ fn move_between(
     object: u32,
 ) -> Result<(), AllocError>
     requires { slot < 4 }
-    ensures { OnOk result (sets.new ≡ rows.rows_between slot objects.now sets.old (spec.movement_of op) subject object) }
+    ensures { OnOk result (sets.new ≡ rows.rows_between slot objects.now sets.old (movement_of op) subject object) }
 {
-    match movement_of(op) {
+    match row_of(op).movement {
         Movement::Still => Ok(()),
         Movement::ToSubject => receive(alloc, slot, objects, sets, subject, object),
         Movement::ToObject => receive(alloc, slot, objects, sets, object, subject),

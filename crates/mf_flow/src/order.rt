@@ -5,7 +5,7 @@ ghost use Rattle.std.specs.Cmp.Lexicographic.{slice_cmp};
 ghost use Rattle.mf_labeltext.specs.Canonical.{rising};
 ghost use Rattle.mf_flow.specs.Order as spec;
 
-use mf_elem::{Comps, Elem};
+use mf_elem::{Comps, Elem, LAST_COMPARTMENT};
 use std::cmp::Ordering;
 
 /// Low first, then the grades by grade and by their rising compartments, then high. Equal comes last.
@@ -39,9 +39,9 @@ fn compare_comps(comps: &Comps, others: &Comps) -> Ordering
     let mut order = Ordering::Equal;
     let mut some = false;
     let mut others_some = false;
-    for place in 0..256 {
-        let has = comps.has(256 - place);
-        let others_have = others.has(256 - place);
+    for place in 0..LAST_COMPARTMENT {
+        let has = comps.has(LAST_COMPARTMENT - place);
+        let others_have = others.has(LAST_COMPARTMENT - place);
         order = with_number(order, has, others_have, some, others_some);
         some = either(has, some);
         others_some = either(others_have, others_some);

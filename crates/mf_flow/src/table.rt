@@ -4,7 +4,7 @@ ghost use Rattle.std.specs.Option.{option_copied};
 ghost use Rattle.mf_list.specs.Asked.{slot_of};
 ghost use Rattle.mf_objects.specs.Live.{live_at};
 ghost use Rattle.mf_objects.specs.Titles.{title_at};
-ghost use Rattle.mf_script.specs.declared.script.Script.{Script as ScriptValue};
+ghost use Rattle.mf_calls.specs.declared.script.Script.{Script as ScriptValue};
 ghost use Rattle.mf_core.specs.declared.history.History.{History as HistoryValue};
 ghost use Rattle.mf_core.specs.LegalHistory.{run_state_of, IsLegal};
 ghost use Rattle.mf_flow.specs.Laws.{AreInOrder};
@@ -15,11 +15,12 @@ ghost use Rattle.mf_flow.specs.Table as spec;
 use crate::elem_set::ElemSet;
 use crate::following::{Flow, Flows, follow, new_sources};
 use crate::set_list::{SetList, sweep};
+use mf_calls::Script;
 use mf_core::{BootList, History, Replay};
 use mf_errno::Module;
-use mf_objects::{Id, Name, Objects};
+use mf_names::{Listing, Name};
+use mf_objects::{Id, Objects};
 use mf_policy::Registration;
-use mf_script::{Listing, Script};
 use std::alloc::{AllocError, Global};
 
 /// The sources of a live entity by a policy.
@@ -186,7 +187,7 @@ fn row_of(
     ensures { IfOk result (λ r. r ≡ record { «module» = «module»; id = id; title = title_at objects.now id; elements = row sets.now id.0 }) }
 {
     let mut text = String::new(alloc);
-    objects.title(alloc, id, &mut text)?;
+    objects.title(id, &mut text)?;
     let title = Name::from_str(alloc, text.as_str())?;
     let elements = sets.copy_of(alloc, id.number())?;
     Ok(Row {

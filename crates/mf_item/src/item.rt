@@ -83,9 +83,10 @@ impl Duplicate for Item {
 #[cfg(test)]
 mod tests {
     use super::*;
+    use std::alloc::AllocError;
 
     #[test]
-    fn a_copy_is_the_same(rt: HostRuntime) {
+    fn a_copy_is_the_same(rt: HostRuntime) -> Result<(), AllocError> {
         let item = Item {
             op: CheckOp::CredRelabel,
             subject: Default::default(),
@@ -96,5 +97,9 @@ mod tests {
         assert!(rt; item.copy().same(&item));
         assert!(rt; !item.same(&Item::default()));
         assert_eq!(rt; item.op.name(), "cred_relabel");
+        assert_eq!(rt; CheckOp::from_name(item.op.name()), Some(item.op));
+        let shown = format!(in rt.alloc(); "{}", CheckOp::KldLoad)?;
+        assert!(rt; shown.as_str() == "kld_load");
+        Ok(())
     }
 }

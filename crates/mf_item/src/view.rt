@@ -2,7 +2,7 @@
 ghost use Rattle.std.specs.Prelude.{◌≡◌, ◌↔◌, IsTrue};
 
 use mf_cred::{Cred, Duplicate, FileView};
-use mf_elem::LabelValue;
+use mf_elem::{LabelValue, SLOTS};
 
 /// The kinds of live entities.
 #[derive(Clone, Copy, Debug, PartialEq, Eq)]
@@ -13,8 +13,8 @@ pub enum Kind {
     Socket,
 }
 
-/// A label: the values of its four slots.
-pub type Labels = [LabelValue; 4];
+/// A label: the values of its slots.
+pub type Labels = [LabelValue; SLOTS];
 
 /// The subject. For `CheckOp::SocketDeliver` it has the caller's credential, with the id and the label of the sending
 /// socket.
@@ -22,7 +22,7 @@ pub type Labels = [LabelValue; 4];
 pub struct SubjectView {
     pub id: u32,
     pub cred: Cred,
-    pub label: [LabelValue; 4],
+    pub label: [LabelValue; SLOTS],
 }
 
 /// The object. The attributes of what isn't a vnode are all zero, and not those of a directory.
@@ -31,7 +31,7 @@ pub struct ObjectView {
     pub id: u32,
     pub kind: Kind,
     pub file: FileView,
-    pub label: [LabelValue; 4],
+    pub label: [LabelValue; SLOTS],
 }
 
 impl SubjectView {
@@ -48,7 +48,7 @@ impl Default for SubjectView {
         SubjectView {
             id: 0,
             cred: Default::default(),
-            label: [LabelValue::Unset; 4],
+            label: [LabelValue::Unset; SLOTS],
         }
     }
 }
@@ -75,7 +75,7 @@ impl ObjectView {
     }
 }
 
-fn same_labels(label: &[LabelValue; 4], other: &[LabelValue; 4]) -> bool
+fn same_labels(label: &[LabelValue; SLOTS], other: &[LabelValue; SLOTS]) -> bool
     ensures { IsTrue result ↔ (label.now ≡ other.now) }
 {
     let [first, second, third, fourth] = label;

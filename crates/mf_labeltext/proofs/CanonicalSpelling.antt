@@ -1,5 +1,5 @@
 -- The canonical text of parts spells them.
-use Rattle.std.proofs.Common.{◌≡◌, ℕ, ◌^◌, ◌<◌, ◌≤◌, true, false, cond, eqb, List, [], ◌∷◌, ◌++◌, map, Option, Some, None, refl, sym, subst, arith, inl, inr, append-nil, lit<, codes}
+use Rattle.std.proofs.Common.{◌≡◌, ℕ, ◌^◌, ◌<◌, ◌≤◌, true, false, cond, eqb, List, [], ◌∷◌, ◌++◌, map, Option, Some, None, refl, sym, subst, arith, inl, inr, append-nil, lit<, codes, is_some, ◌||◌, IfSome}
 use Rattle.std.proofs.lemmas.Bool.{eqb-true}
 use Rattle.std.proofs.lemmas.Fmt.{decimal_is_IsNumeral}
 use Rattle.std.specs.List.{list_all, AllByRecursion, join_with_byte}
@@ -8,16 +8,18 @@ use Rattle.std.specs.FinSet as set
 use Rattle.mf_errno.specs.declared.module.Module.{Module}
 use Rattle.mf_errno.specs.declared.module.Module.TheVariants.{Biba, Mls, Partition, Bsdextended, Priority}
 use Rattle.mf_elem.specs.Comps.{comps_of}
+use Rattle.mf_elem.specs.Label.{IsElement, IsAskedLabel}
 use Rattle.mf_elem.specs.declared.comps.Comps.{Comps}
 use Rattle.mf_elem.specs.declared.elem.Elem.{Elem}
 use Rattle.mf_elem.specs.declared.elem.Elem.TheVariants.{Low, High, Equal, Grade}
+use Rattle.mf_elem.specs.declared.label.RangeLabel.{RangeLabel}
 use Rattle.mf_elem.specs.declared.label.LabelValue.{LabelValue}
 use Rattle.mf_elem.specs.declared.label.LabelValue.TheVariants.{Unset, Range, Number}
 use Rattle.mf_elem.specs.declared.label.Request.{Request}
-use Rattle.mf_labeltext.specs.LabelGrammar.{SpellsNumber, SpellEach, SpellsGrade, SpellsElem, SpellsParts, SpellsPartition, IsName, SpellsElement}
+use Rattle.mf_labeltext.specs.LabelGrammar.{SpellsNumber, SpellEach, SpellsGrade, SpellsElem, SpellsParts, SpellsLabel, SpellsPartition, IsName, SpellsElement}
 use Rattle.mf_labeltext.specs.Reading.{is_name_byte}
 use Rattle.mf_labeltext.specs.Canonical.{rising, comps_text, elem_text, effective_text, range_text, label_text, partition_text, element_text}
-use Rattle.mf_labeltext.specs.RoundTrip.{range_of, number_of, IsElem, AreLabelParts, IsValueOf}
+use Rattle.mf_labeltext.specs.RoundTrip.{range_of, number_of, IsValueOf}
 use Rattle.mf_labeltext.proofs.Cutting.{IsFree}
 use Rattle.mf_labeltext.proofs.Spelling.{elem_inner, inner_free}
 use Rattle.mf_labeltext.proofs.Requests.{name_bytes_are}
@@ -46,19 +48,26 @@ grade_text_spells grade comps (n ∷ ns) fits is all =
       record { texts = map decimal (n ∷ ns); some = λ e. cc; parted = refl; numbers = n ∷ ns; each = each_decimal (n ∷ ns) all; set = is },
     )
 
-elem_text_spells : (element : Elem) → IsElem element → SpellsElem (elem_text element) element
+elem_text_spells : (element : Elem) → IsElement element → SpellsElem (elem_text element) element
 elem_text_spells Low is = inl refl
 elem_text_spells High is = inl refl
 elem_text_spells Equal is = inl refl
-elem_text_spells (Grade grade comps) is = grade_text_spells grade comps (rising comps) is.0 (rising_again comps is.1) (rising_are comps)
+elem_text_spells (Grade grade comps) is = grade_text_spells grade comps (rising comps) is.fits (rising_again comps is.are_words) (rising_are comps)
 
 -- ---- the value of biba and mls
-parts_spell : (effective : Option Elem) (range : Option (Elem × Elem)) → AreLabelParts effective range → SpellsParts (effective_text effective ++ range_text range) effective range
-parts_spell None None are = absurd are
-parts_spell (Some element) None are = subst (λ text. SpellsElem text element) (sym (append-nil (elem_text element))) (elem_text_spells element are)
-parts_spell None (Some ends) are = (elem_text ends.0, elem_text ends.1, refl, elem_text_spells ends.0 are.0, elem_text_spells ends.1 are.1)
-parts_spell (Some element) (Some ends) are =
-    (elem_text element, range_text (Some ends), refl, elem_text_spells element are.0, (elem_text ends.0, elem_text ends.1, refl, elem_text_spells ends.0 are.1, elem_text_spells ends.1 are.2))
+abbrev AreEnds : Elem × Elem → Type 0
+AreEnds ends = IsElement ends.0 × IsElement ends.1
+
+parts_spell : (effective : Option Elem) (range : Option (Elem × Elem)) → IfSome effective IsElement → IfSome range AreEnds → (is_some effective || is_some range) ≡ true
+    → SpellsParts (effective_text effective ++ range_text range) effective range
+parts_spell None None one ends some = absurd cc
+parts_spell (Some element) None one ends some = subst (λ text. SpellsElem text element) (sym (append-nil (elem_text element))) (elem_text_spells element one)
+parts_spell None (Some range) one ends some = (elem_text range.0, elem_text range.1, refl, elem_text_spells range.0 ends.0, elem_text_spells range.1 ends.1)
+parts_spell (Some element) (Some range) one ends some =
+    (elem_text element, range_text (Some range), refl, elem_text_spells element one, (elem_text range.0, elem_text range.1, refl, elem_text_spells range.0 ends.0, elem_text_spells range.1 ends.1))
+
+label_text_spells : (label : RangeLabel) → IsAskedLabel label → SpellsLabel (label_text label) label
+label_text_spells label is = parts_spell label.effective label.range is.effective is.range is.not_empty
 
 -- ---- the value of partition
 pub partition_spells : (n : ℕ) → n ≤ 2147483647 → SpellsPartition (partition_text n) n
@@ -82,11 +91,11 @@ pub element_spells : (policy : Module) (value : LabelValue) (before : Request) �
 unfolding with_value
 element_spells Biba Unset before is = absurd is
 element_spells Biba (Range label) before is =
-    (codes "biba", label_text label, refl, name_is 98 (105 ∷ 98 ∷ 97 ∷ []) refl, inl (refl, label, parts_spell label.effective label.range is, refl))
+    (codes "biba", label_text label, refl, name_is 98 (105 ∷ 98 ∷ 97 ∷ []) refl, inl (refl, label, label_text_spells label is, refl))
 element_spells Biba (Number n) before is = absurd is
 element_spells Mls Unset before is = absurd is
 element_spells Mls (Range label) before is =
-    (codes "mls", label_text label, refl, name_is 109 (108 ∷ 115 ∷ []) refl, inr (inl (refl, label, parts_spell label.effective label.range is, refl)))
+    (codes "mls", label_text label, refl, name_is 109 (108 ∷ 115 ∷ []) refl, inr (inl (refl, label, label_text_spells label is, refl)))
 element_spells Mls (Number n) before is = absurd is
 element_spells Partition Unset before is =
     (codes "partition", codes "none", refl, name_is 112 (97 ∷ 114 ∷ 116 ∷ 105 ∷ 116 ∷ 105 ∷ 111 ∷ 110 ∷ []) refl, inr (inr (inl (refl, 0, inl (refl, refl), refl))))
@@ -101,18 +110,21 @@ pub free_both : (front back : List ℕ) → IsFree 44 front → IsFree 44 back �
 free_both [] back one other = other
 free_both (c ∷ front) back one other = (one.0, free_both front back one.1 other)
 
-elem_free : (element : Elem) → IsElem element → IsFree 44 (elem_text element)
+elem_free : (element : Elem) → IsElement element → IsFree 44 (elem_text element)
 elem_free element is = inner_free 44 (elem_text element) refl (elem_inner (elem_text element) element (elem_text_spells element is))
 
-range_free : (ends : Elem × Elem) → IsElem ends.0 → IsElem ends.1 → IsFree 44 (range_text (Some ends))
+range_free : (ends : Elem × Elem) → IsElement ends.0 → IsElement ends.1 → IsFree 44 (range_text (Some ends))
 range_free ends low high = (
   λ e. omega arith,
   free_both (elem_text ends.0) (45 ∷ elem_text ends.1 ++ 41 ∷ []) (elem_free ends.0 low)
       (λ e. omega arith, free_both (elem_text ends.1) (41 ∷ []) (elem_free ends.1 high) (λ e. omega arith, tt)),
 )
 
-pub label_free : (effective : Option Elem) (range : Option (Elem × Elem)) → AreLabelParts effective range → IsFree 44 (effective_text effective ++ range_text range)
-label_free None None are = absurd are
-label_free (Some element) None are = free_both (elem_text element) [] (elem_free element are) tt
-label_free None (Some ends) are = range_free ends are.0 are.1
-label_free (Some element) (Some ends) are = free_both (elem_text element) (range_text (Some ends)) (elem_free element are.0) (range_free ends are.1 are.2)
+parts_free : (effective : Option Elem) (range : Option (Elem × Elem)) → IfSome effective IsElement → IfSome range AreEnds → IsFree 44 (effective_text effective ++ range_text range)
+parts_free None None one ends = tt
+parts_free (Some element) None one ends = free_both (elem_text element) [] (elem_free element one) tt
+parts_free None (Some range) one ends = range_free range ends.0 ends.1
+parts_free (Some element) (Some range) one ends = free_both (elem_text element) (range_text (Some range)) (elem_free element one) (range_free range ends.0 ends.1)
+
+pub label_free : (label : RangeLabel) → IsAskedLabel label → IsFree 44 (label_text label)
+label_free label is = parts_free label.effective label.range is.effective is.range

@@ -1,11 +1,11 @@
 -- Texts cut at a byte: at the first one, and at each.
-use Rattle.std.proofs.Common.{◌≡◌, ◌≢◌, ℕ, ◌+◌, ◌<◌, ◌≤◌, suc, zero, Bool, true, false, cond, not, eqb, ltb, List, [], ◌∷◌, ◌++◌, length, take, drop, get_or, Option, Some, None, refl, sym, ap, ◌∙◌, subst, arith, add-one}
+use Rattle.std.proofs.Common.{◌≡◌, ◌≢◌, ℕ, ◌+◌, ◌<◌, suc, true, false, cond, eqb, List, [], ◌∷◌, ◌++◌, length, length-append, drop, get_or, Option, Some, None, MatchOption, Bor, refl, sym, ap, ◌∙◌, subst, arith, add-one}
 use Rattle.std.proofs.lemmas.Bool.{eqb-true, eqb-false, eq-eqb, ne_eqb}
-use Rattle.std.proofs.lemmas.Bool.Decides.{nat_tests}
-use Rattle.std.proofs.lemmas.List.Quantifiers.{position-Some}
-use Rattle.std.proofs.lemmas.List.Sums.{prefix_len_passes}
+use Rattle.std.proofs.lemmas.Str.{IsUtf8-drop, IsCharBoundary-after_ascii}
+use Rattle.std.specs.Str.{IsUtf8}
+use Rattle.std.proofs.lemmas.Str.Pattern.{IsSplitOnceResult, split_parts}
 use Rattle.std.proofs.lemmas.List.Splits.{join_with_byte-slice_split}
-use Rattle.std.specs.List.{position, position_or_len, slice_split, onto_first, AllByRecursion, join_with_byte}
+use Rattle.std.specs.List.{slice_split, onto_first, AllByRecursion, join_with_byte}
 use Rattle.mf_labeltext.specs.Reading.{cut, parts, with_first}
 
 -- the byte doesn't stand in the text
@@ -19,39 +19,6 @@ cut_hit byte c cs hit = rw hit refl
 cut_miss : (byte c : ℕ) (cs : List ℕ) → eqb c byte ≡ false → cut byte (c ∷ cs) ≡ with_first c (cut byte cs)
 unfolding cut
 cut_miss byte c cs miss = rw miss refl
-
-cut_here : (byte : ℕ) (text : List ℕ) (at : ℕ) → at < length text → eqb (get_or text at 0) byte ≡ true
-    → ((k : ℕ) → k < at → eqb (get_or text k 0) byte ≡ false) → cut byte text ≡ Some (take at text, drop (suc at) text)
-cut_here byte [] at within hit misses = absurd (omega arith)
-cut_here byte (c ∷ cs) zero within hit misses = cut_hit byte c cs hit
-cut_here byte (c ∷ cs) (suc at) within hit misses =
-    cut_miss byte c cs (misses 0 (omega arith))
-    ∙ ap (with_first c) (cut_here byte cs at (omega arith) hit (λ k h. misses (suc k) (omega (arith, h))))
-
--- in the words of `position`
-pub cut_some : (byte : ℕ) (text : List ℕ) (at : ℕ) → position (λ c. eqb c byte) text ≡ Some at → cut byte text ≡ Some (take at text, drop (at + 1) text)
-cut_some byte text at is =
-    let found = position-Some (λ c. eqb c byte) text at 0 is in
-    cut_here byte text at found.0 found.1 found.2 ∙ ap (λ n. Some (take at text, drop n text)) (sym (add-one at))
-
-cut_nowhere : (byte : ℕ) (text : List ℕ) → ((k : ℕ) → k < length text → eqb (get_or text k 0) byte ≡ false) → cut byte text ≡ None
-unfolding cut
-cut_nowhere byte [] misses = refl
-cut_nowhere byte (c ∷ cs) misses =
-    cut_miss byte c cs (misses 0 (omega arith))
-    ∙ ap (with_first c) (cut_nowhere byte cs (λ k h. misses (suc k) (omega (arith, h))))
-
-not_found : (m n : ℕ) → cond (ltb m n) (Some m) None ≡ None → n ≤ m
-not_found m n none = grind (arith, nat_tests)
-
-not_true : (b : Bool) → not b ≡ true → b ≡ false
-not_true true h = sym h
-not_true false h = refl
-
-pub cut_none : (byte : ℕ) (text : List ℕ) → position (λ c. eqb c byte) text ≡ None → cut byte text ≡ None
-cut_none byte text none =
-    let all : length text ≤ position_or_len (λ c. eqb c byte) text = not_found (position_or_len (λ c. eqb c byte) text) (length text) none in
-    cut_nowhere byte text (λ k h. not_true (eqb (get_or text k 0) byte) (prefix_len_passes (λ c. not (eqb c byte)) text k 0 (omega (arith, all, h))))
 
 -- ---- what was cut, and what is cut
 pub cut_free : (byte : ℕ) (front back : List ℕ) → IsFree byte front → cut byte (front ++ byte ∷ back) ≡ Some (front, back)
@@ -155,3 +122,34 @@ parts_are_some byte text = split_some byte text
 pub join_parts : (byte : ℕ) (text : List ℕ) → join_with_byte byte (parts byte text) ≡ text
 unfolding parts
 join_parts byte text = join_with_byte-slice_split byte text
+
+-- ---- as std splits a text at a character
+free_from_places : (byte : ℕ) (text : List ℕ) → ((i : ℕ) → i < length text → get_or text i 0 ≢ byte) → IsFree byte text
+free_from_places byte [] places = tt
+free_from_places byte (c ∷ cs) places = (places 0 (omega arith), free_from_places byte cs (λ i h. places (suc i) (omega (arith, h))))
+
+split_cuts : (byte : ℕ) (text : List ℕ) (split : Option (Bor (List ℕ) × Bor (List ℕ))) → MatchOption split ((i : ℕ) → i < length text → get_or text i 0 ≢ byte) (λ halves. (text ≡ halves.0.now ++ byte ∷ halves.1.now) × ((i : ℕ) → i < length halves.0.now → get_or halves.0.now i 0 ≢ byte))
+    → MatchOption split (cut byte text ≡ None) (λ halves. cut byte text ≡ Some (halves.0.now, halves.1.now))
+split_cuts byte text None places = cut_free_none byte text (free_from_places byte text places)
+split_cuts byte text (Some halves) found = ap (cut byte) found.0 ∙ cut_free byte halves.0.now halves.1.now (free_from_places byte halves.0.now found.1)
+
+pub split_once_cuts : (byte : ℕ) (text : List ℕ) (split : Option (Bor (List ℕ) × Bor (List ℕ))) → IsSplitOnceResult byte text split → byte < 128
+    → MatchOption split (cut byte text ≡ None) (λ halves. cut byte text ≡ Some (halves.0.now, halves.1.now))
+split_once_cuts byte text split is ascii = split_cuts byte text split (split_parts byte text split is ascii)
+
+-- ---- what stands behind an ASCII byte of a text is a text
+drop_behind : (front : List ℕ) (byte : ℕ) (back : List ℕ) → drop (suc (length front)) (front ++ byte ∷ back) ≡ back
+drop_behind [] byte back = refl
+drop_behind (c ∷ front) byte back = drop_behind front byte back
+
+get_between : (front : List ℕ) (byte : ℕ) (back : List ℕ) → get_or (front ++ byte ∷ back) (length front) 0 ≡ byte
+get_between [] byte back = refl
+get_between (c ∷ front) byte back = get_between front byte back
+
+pub text_behind : (byte : ℕ) (text front back : List ℕ) → byte < 128 → IsUtf8 text → cut byte text ≡ Some (front, back) → IsUtf8 back
+text_behind byte text front back ascii is_text parted =
+    let whole = (cut_is byte text front back parted).whole in
+    let long : length text ≡ length front + (length back + 1) = ap length whole ∙ length-append front (byte ∷ back) ∙ ap (λ n. length front + n) (sym (add-one (length back))) in
+    let found : get_or text (length front) 0 ≡ byte = ap (λ t. get_or t (length front) 0) whole ∙ get_between front byte back in
+    let rest : drop (length front + 1) text ≡ back = ap (λ n. drop n text) (add-one (length front)) ∙ ap (drop (suc (length front))) whole ∙ drop_behind front byte back in
+    subst IsUtf8 rest (IsUtf8-drop text (length front + 1) is_text (IsCharBoundary-after_ascii text (length front) is_text (omega (arith, long)) (omega (arith, found))))

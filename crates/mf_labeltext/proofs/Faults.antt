@@ -1,80 +1,197 @@
--- A text that isn't read has the first fault that is met.
-use Rattle.std.proofs.Common.{◌≡◌, ℕ, ◌+◌, true, false, cond, List, [], ◌∷◌, length, Option, Some, None, Result, Ok, Err, refl, sym, ap, ◌∙◌, is_some, codes, IfErr}
+-- A text that isn't read has the first fault that is met, and a text with a first fault isn't read.
+use Rattle.std.proofs.Common.{◌≡◌, ◌≢◌, ◌↔◌, ℕ, ◌+◌, true, false, cond, List, [], ◌∷◌, ◌++◌, length, Option, Some, None, Result, Ok, Err, refl, sym, ap, ◌∙◌, subst, inl, inr, arith}
+use Rattle.std.specs.List.{AllByRecursion, join_with_byte}
 use Rattle.std.specs.Option.{ok_or}
-use Rattle.std.specs.Str.{bytes_eq}
 use Rattle.mf_elem.specs.declared.label.Request.{Request}
 use Rattle.mf_elem.specs.Label.{no_request}
-use Rattle.mf_labeltext.specs.Reading.{cut, parts, label_in, partition_in, asked, is_name, element_of, element_in, and_then, elements_in, request_in, ◌>>=◌}
-use Rattle.mf_labeltext.specs.FirstFault.{is_value, fault_of_halves, element_fault, or_else, fault_from, first_fault}
+use Rattle.mf_labeltext.specs.LabelGrammar.{IsName, Asks, SpellsElement}
+use Rattle.mf_labeltext.specs.Reading.{cut, parts, with_part, is_name, element_from_halves, element_in, and_then, elements_in, request_in}
+use Rattle.mf_labeltext.specs.FirstFault.{AsksSomething, HasNoName, IsUnknown, IsElementFault, place_behind, IsFirstLabelFault}
 use Rattle.mf_labeltext.specs.declared.fault.LabelFault.{LabelFault}
-use Rattle.mf_labeltext.specs.declared.fault.LabelFault.TheVariants.{NoSlash, BadValue}
+use Rattle.mf_labeltext.specs.declared.fault.LabelFault.TheVariants.{NoSlash, BadValue, EmptyElement}
+use Rattle.mf_labeltext.proofs.Cutting.{cut_is, cut_free, parts_free, parts_join, join_parts}
+use Rattle.mf_labeltext.proofs.Numbers.{some_is}
+use Rattle.mf_labeltext.proofs.Requests.{name_is, is_name_for, no_slash, part_asks, asks_part, element_spells, spells_element}
 
--- whether a value is read doesn't depend on what was asked for before
-same_some : {A : Type 0} (read : Option A) (f g : A → Request) → is_some (read >>= λ x. Some (f x)) ≡ is_some (read >>= λ x. Some (g x))
-same_some None f g = refl
-same_some (Some x) f g = refl
+abbrev err : LabelFault → Result Request LabelFault
+err fault = Err fault
 
-asked_any : (name value : List ℕ) (before other : Request) → is_some (asked name value before) ≡ is_some (asked name value other)
-unfolding asked
-asked_any name value before other =
-    elim (bytes_eq name (codes "biba")) as (λ b. is_some (cond b (label_in value >>= λ label. Some (record before { biba = Some label })) (cond (bytes_eq name (codes "mls")) (label_in value >>= λ label. Some (record before { mls = Some label })) (cond (bytes_eq name (codes "partition")) (partition_in value >>= λ n. Some (record before { partition = Some n })) (Some (record before { other = true })))))
-    ≡ is_some (cond b (label_in value >>= λ label. Some (record other { biba = Some label })) (cond (bytes_eq name (codes "mls")) (label_in value >>= λ label. Some (record other { mls = Some label })) (cond (bytes_eq name (codes "partition")) (partition_in value >>= λ n. Some (record other { partition = Some n })) (Some (record other { other = true })))))) [
-      | true ↦ same_some (label_in value) (λ label. record before { biba = Some label }) (λ label. record other { biba = Some label })
-      | false ↦ elim (bytes_eq name (codes "mls")) as (λ b. is_some (cond b (label_in value >>= λ label. Some (record before { mls = Some label })) (cond (bytes_eq name (codes "partition")) (partition_in value >>= λ n. Some (record before { partition = Some n })) (Some (record before { other = true }))))
-          ≡ is_some (cond b (label_in value >>= λ label. Some (record other { mls = Some label })) (cond (bytes_eq name (codes "partition")) (partition_in value >>= λ n. Some (record other { partition = Some n })) (Some (record other { other = true }))))) [
-            | true ↦ same_some (label_in value) (λ label. record before { mls = Some label }) (λ label. record other { mls = Some label })
-            | false ↦ elim (bytes_eq name (codes "partition")) as (λ b. is_some (cond b (partition_in value >>= λ n. Some (record before { partition = Some n })) (Some (record before { other = true })))
-                ≡ is_some (cond b (partition_in value >>= λ n. Some (record other { partition = Some n })) (Some (record other { other = true })))) [
-                  | true ↦ same_some (partition_in value) (λ n. record before { partition = Some n }) (λ n. record other { partition = Some n })
-                  | false ↦ refl
-                ]
-          ]
-    ]
+err_is : (x y : LabelFault) → err x ≡ err y → x ≡ y
+err_is x y is = cc
 
--- what an element's fault is, from how it was read
-abbrev fault_in : Result Request LabelFault → Option LabelFault
-fault_in (Ok next) = None
-fault_in (Err fault) = Some fault
+-- ---- whether an element asks for something doesn't depend on what was asked for before
+asks_too : (name value : List ℕ) (one after other : Request) → Asks name value one after → (next : Request) × Asks name value other next
+asks_too name value one after other (inl biba) = (record other { biba = Some biba.1 }, inl (biba.0, biba.1, biba.2, refl))
+asks_too name value one after other (inr (inl mls)) = (record other { mls = Some mls.1 }, inr (inl (mls.0, mls.1, mls.2, refl)))
+asks_too name value one after other (inr (inr (inl partition))) = (record other { partition = Some partition.1 }, inr (inr (inl (partition.0, partition.1, partition.2, refl))))
+asks_too name value one after other (inr (inr (inr others))) = (record other { other = true }, inr (inr (inr (others.0, refl))))
 
-value_fault : (read : Option Request) (fault : LabelFault) → fault_in (ok_or read fault) ≡ cond (is_some read) None (Some fault)
-value_fault None fault = refl
-value_fault (Some next) fault = refl
+spells_too : (element : List ℕ) (one after other : Request) → SpellsElement element one after → (next : Request) × SpellsElement element other next
+spells_too element one after other spells =
+    let asks = asks_too spells.0 spells.1 one after other spells.4 in
+    (asks.0, (spells.0, spells.1, spells.2, spells.3, asks.1))
 
-halves_fault : (place : ℕ) (before : Request) (halves : Option (List ℕ × List ℕ)) → fault_in (element_of place before halves) ≡ fault_of_halves place halves
-halves_fault place before None = refl
-halves_fault place before (Some halves) =
-    let fault = BadValue (place + length halves.0 + 1) in
-    elim (is_name halves.0) as (λ b. fault_in (cond b (ok_or (asked halves.0 halves.1 before) (BadValue (place + length halves.0 + 1))) (Err (NoSlash place))) ≡ cond b (cond (is_value halves.0 halves.1) None (Some (BadValue (place + length halves.0 + 1)))) (Some (NoSlash place))) [
-      | true ↦
-          value_fault (asked halves.0 halves.1 before) fault
-          ∙ ap (λ b. cond b None (Some fault)) (asked_any halves.0 halves.1 before no_request)
-      | false ↦ refl
-    ]
+sound_read : (place : ℕ) (before : Request) (element : List ℕ) → AsksSomething element → (next : Request) × (element_in place before element ≡ Ok next)
+sound_read place before element sound =
+    let spells = spells_too element no_request sound.0 before sound.1 in
+    (spells.0, spells_element place element before spells.0 spells.1)
 
-fault_of_element : (place : ℕ) (before : Request) (element : List ℕ) → fault_in (element_in place before element) ≡ element_fault place element
-unfolding element_in element_fault
-fault_of_element place before [] = refl
-fault_of_element place before (c ∷ cs) = halves_fault place before (cut 47 (c ∷ cs))
+read_sound : (place : ℕ) (before next : Request) (element : List ℕ) → element_in place before element ≡ Ok next → AsksSomething element
+read_sound place before next element is = spells_too element before next no_request (element_spells place element before next is)
 
-behind_fault : (read : Result Request LabelFault) (f : Request → Result Request LabelFault) (later : Option LabelFault) → ((next : Request) → fault_in (f next) ≡ later) → fault_in (and_then read f) ≡ or_else (fault_in read) later
-behind_fault (Ok next) f later is = is next
-behind_fault (Err fault) f later is = refl
+-- ---- a value
+unread : (name value : List ℕ) (before : Request) → IsUnknown name value → (read : Option Request) → with_part name value before ≡ read → read ≡ None
+unread name value before unknown None is = refl
+unread name value before unknown (Some next) is =
+    let asks = asks_too name value before next no_request (part_asks name value before next is) in
+    absurd (unknown asks.0 asks.1)
 
-fault_of_elements : (place : ℕ) (before : Request) (elements : List (List ℕ)) → fault_in (elements_in place before elements) ≡ fault_from place elements
-unfolding elements_in fault_from
-fault_of_elements place before [] = refl
-fault_of_elements place before (element ∷ elements) =
-    behind_fault (element_in place before element) (λ next. elements_in (place + length element + 1) next elements) (fault_from (place + length element + 1) elements)
-    (λ next. fault_of_elements (place + length element + 1) next elements)
-    ∙ ap (λ fault. or_else fault (fault_from (place + length element + 1) elements)) (fault_of_element place before element)
+unknown_value : (name value : List ℕ) (before : Request) → with_part name value before ≡ None → IsUnknown name value
+unknown_value name value before none request asks =
+    let other = asks_too name value no_request request before asks in
+    let some = asks_part name value before other.0 other.1 in
+    absurd cc
 
-fault_of_text : (text : List ℕ) → fault_in (request_in text) ≡ first_fault text
-unfolding request_in first_fault
-fault_of_text text = fault_of_elements 0 no_request (parts 44 text)
+-- ---- an element
+no_name : (element : List ℕ) → cut 47 element ≡ None → HasNoName element
+no_name element none name value is named =
+    let some = cut_free 47 name value (no_slash name named.1) in
+    let whole = ap (cut 47) is in
+    absurd cc
 
-first_fault_is : (text : List ℕ) (fault : LabelFault) → request_in text ≡ Err fault → first_fault text ≡ Some fault
-first_fault_is text fault is = sym (fault_of_text text) ∙ ap fault_in is
+clash : false ≡ true → ⊥
+clash is = cc
 
-pub faults_are : (text : List ℕ) (result : Result Request LabelFault) → result ≡ request_in text → IfErr result (λ fault. first_fault text ≡ Some fault)
-faults_are text (Ok request) is = tt
-faults_are text (Err fault) is = first_fault_is text fault (sym is)
+other_name : (element front back : List ℕ) → cut 47 element ≡ Some (front, back) → is_name front ≡ false → HasNoName element
+other_name element front back some other name value is named =
+    let found = cut_free 47 name value (no_slash name named.1) in
+    let same : (name, value) ≡ (front, back) = some_is (name, value) (front, back) (sym found ∙ ap (cut 47) (sym is) ∙ some) in
+    absurd (clash (sym other ∙ ap is_name (ap (λ halves. halves.0) (sym same)) ∙ is_name_for name named))
+
+value_fault : (read : Option Request) (found fault : LabelFault) → ok_or read found ≡ Err fault → (read ≡ None) × (found ≡ fault)
+value_fault None found fault is = (refl, err_is found fault is)
+value_fault (Some next) found fault is = absurd cc
+
+halves_fault : (place : ℕ) (before : Request) (element : List ℕ) (fault : LabelFault) (halves : Option (List ℕ × List ℕ)) → element ≢ [] → cut 47 element ≡ halves
+    → element_from_halves place before halves ≡ Err fault → IsElementFault place element fault
+halves_fault place before element fault None some none is = subst (IsElementFault place element) (err_is (NoSlash place) fault is) (some, no_name element none, refl)
+halves_fault place before element fault (Some halves) some parted is =
+    let found = BadValue (place + length halves.0 + 1) in
+    elim (is_name halves.0) as (λ b. is_name halves.0 ≡ b → cond b (ok_or (with_part halves.0 halves.1 before) (BadValue (place + length halves.0 + 1))) (Err (NoSlash place)) ≡ Err fault → IsElementFault place element fault) [
+      | true ↦ λ named is.
+          let none = value_fault (with_part halves.0 halves.1 before) found fault is in
+          subst (IsElementFault place element) none.1
+          (halves.0, halves.1, (cut_is 47 element halves.0 halves.1 parted).whole, name_is halves.0 named, unknown_value halves.0 halves.1 before none.0, refl)
+      | false ↦ λ other is. subst (IsElementFault place element) (err_is (NoSlash place) fault is) (some, other_name element halves.0 halves.1 parted other, refl)
+    ] refl is
+
+element_fault : (place : ℕ) (before : Request) (element : List ℕ) (fault : LabelFault) → element_in place before element ≡ Err fault → IsElementFault place element fault
+unfolding element_in
+element_fault place before [] fault is = subst (IsElementFault place []) (err_is (EmptyElement place) fault is) (refl, refl)
+element_fault place before (c ∷ cs) fault is = halves_fault place before (c ∷ cs) fault (cut 47 (c ∷ cs)) (λ e. cc) refl is
+
+-- ---- and back
+no_name_fault : (place : ℕ) (before : Request) (element : List ℕ) (halves : Option (List ℕ × List ℕ)) → HasNoName element → cut 47 element ≡ halves → element_from_halves place before halves ≡ Err (NoSlash place)
+no_name_fault place before element None lacks none = refl
+no_name_fault place before element (Some halves) lacks parted =
+    elim (is_name halves.0) as (λ b. is_name halves.0 ≡ b → cond b (ok_or (with_part halves.0 halves.1 before) (BadValue (place + length halves.0 + 1))) (Err (NoSlash place)) ≡ Err (NoSlash place)) [
+      | true ↦ λ named. absurd (lacks halves.0 halves.1 (cut_is 47 element halves.0 halves.1 parted).whole (name_is halves.0 named))
+      | false ↦ λ other. refl
+    ] refl
+
+named_fault : (place : ℕ) (before : Request) (c : ℕ) (cs value : List ℕ) → IsName (c ∷ cs) → IsUnknown (c ∷ cs) value → element_in place before ((c ∷ cs) ++ 47 ∷ value) ≡ Err (BadValue (place + length (c ∷ cs) + 1))
+unfolding element_in
+named_fault place before c cs value named unknown =
+    ap (element_from_halves place before) (cut_free 47 (c ∷ cs) value (no_slash (c ∷ cs) named.1))
+    ∙ ap (λ b. cond b (ok_or (with_part (c ∷ cs) value before) (BadValue (place + length (c ∷ cs) + 1))) (Err (NoSlash place))) (is_name_for (c ∷ cs) named)
+    ∙ ap (λ read. ok_or read (BadValue (place + length (c ∷ cs) + 1))) (unread (c ∷ cs) value before unknown (with_part (c ∷ cs) value before) refl)
+
+value_unread : (place : ℕ) (before : Request) (name value : List ℕ) → IsName name → IsUnknown name value → element_in place before (name ++ 47 ∷ value) ≡ Err (BadValue (place + length name + 1))
+value_unread place before [] value named unknown = absurd (named.0 refl)
+value_unread place before (c ∷ cs) value named unknown = named_fault place before c cs value named unknown
+
+element_unread : (place : ℕ) (before : Request) (element : List ℕ) (fault : LabelFault) → IsElementFault place element fault → element_in place before element ≡ Err fault
+unfolding element_in
+element_unread place before element (EmptyElement found) is = ap (element_in place before) is.0 ∙ ap (λ n. err (EmptyElement n)) (sym is.1)
+element_unread place before [] (NoSlash found) is = absurd (is.0 refl)
+element_unread place before (c ∷ cs) (NoSlash found) is = no_name_fault place before (c ∷ cs) (cut 47 (c ∷ cs)) is.1 refl ∙ ap (λ n. err (NoSlash n)) (sym is.2)
+element_unread place before element (BadValue found) is =
+    ap (element_in place before) is.2 ∙ value_unread place before is.0 is.1 is.3 is.4 ∙ ap (λ n. err (BadValue n)) (sym is.5)
+
+-- ---- one after another
+-- the first faulty element of some, of which the first begins at a place
+record Fails (place : ℕ) (elements : List (List ℕ)) (fault : LabelFault) : Type 0 where
+  before : List (List ℕ)
+  faulty : List ℕ
+  behind : List (List ℕ)
+  parted : elements ≡ before ++ faulty ∷ behind
+  sound : AllByRecursion AsksSomething before
+  is : IsElementFault (place + place_behind before) faulty fault
+
+further : (place n m : ℕ) → place + n + 1 + m ≡ place + (n + 1 + m)
+further place n m = omega arith
+
+elements_fault : (place : ℕ) (request : Request) (elements : List (List ℕ)) (fault : LabelFault) → elements_in place request elements ≡ Err fault → Fails place elements fault
+unfolding elements_in
+elements_fault place request [] fault is = absurd cc
+elements_fault place request (element ∷ elements) fault is =
+    elim (element_in place request element) as (λ read. element_in place request element ≡ read → and_then read (λ next. elements_in (place + length element + 1) next elements) ≡ Err fault → Fails place (element ∷ elements) fault) [
+      | Ok next ↦ λ read is.
+          let later = elements_fault (place + length element + 1) next elements fault is in
+          record {
+            before = element ∷ later.before;
+            faulty = later.faulty;
+            behind = later.behind;
+            parted = ap (λ rest. element ∷ rest) later.parted;
+            sound = (read_sound place request next element read, later.sound);
+            is = subst (λ n. IsElementFault n later.faulty fault) (further place (length element) (place_behind later.before)) later.is;
+          }
+      | Err found ↦ λ read is.
+          record {
+            before = [];
+            faulty = element;
+            behind = elements;
+            parted = refl;
+            sound = tt;
+            is = subst (λ n. IsElementFault n element fault) (omega arith) (element_fault place request element fault (read ∙ is));
+          }
+    ] refl is
+
+fault_elements : (place : ℕ) (request : Request) (before : List (List ℕ)) (faulty : List ℕ) (behind : List (List ℕ)) (fault : LabelFault)
+    → AllByRecursion AsksSomething before → IsElementFault (place + place_behind before) faulty fault → elements_in place request (before ++ faulty ∷ behind) ≡ Err fault
+unfolding elements_in
+fault_elements place request [] faulty behind fault sound is =
+    ap (λ read. and_then read (λ next. elements_in (place + length faulty + 1) next behind)) (element_unread place request faulty fault (subst (λ n. IsElementFault n faulty fault) (omega arith) is))
+fault_elements place request (element ∷ before) faulty behind fault sound is =
+    let read = sound_read place request element sound.0 in
+    ap (λ read. and_then read (λ next. elements_in (place + length element + 1) next (before ++ faulty ∷ behind))) read.1
+    ∙ fault_elements (place + length element + 1) read.0 before faulty behind fault sound.1 (subst (λ n. IsElementFault n faulty fault) (sym (further place (length element) (place_behind before))) is)
+
+-- ---- whole texts
+some_elements : (before : List (List ℕ)) (faulty : List ℕ) (behind : List (List ℕ)) → before ++ faulty ∷ behind ≢ []
+some_elements [] faulty behind none = cc
+some_elements (element ∷ before) faulty behind none = cc
+
+text_fault : (text : List ℕ) (fault : LabelFault) → request_in text ≡ Err fault → IsFirstLabelFault text fault
+unfolding request_in
+text_fault text fault is =
+    let fails = elements_fault 0 no_request (parts 44 text) fault is in
+    record {
+      before = fails.before;
+      faulty = fails.faulty;
+      behind = fails.behind;
+      parted = sym (join_parts 44 text) ∙ ap (join_with_byte 44) fails.parted;
+      whole = subst (AllByRecursion (λ element. AllByRecursion (λ byte. byte ≢ 44) element)) fails.parted (parts_free 44 text);
+      sound = fails.sound;
+      is = subst (λ n. IsElementFault n fails.faulty fault) (omega arith) fails.is;
+    }
+
+fault_text : (text : List ℕ) (fault : LabelFault) → IsFirstLabelFault text fault → request_in text ≡ Err fault
+unfolding request_in
+fault_text text fault first =
+    ap (λ t. elements_in 0 no_request (parts 44 t)) first.parted
+    ∙ ap (elements_in 0 no_request) (parts_join 44 (first.before ++ first.faulty ∷ first.behind) (some_elements first.before first.faulty first.behind) first.whole)
+    ∙ fault_elements 0 no_request first.before first.faulty first.behind fault first.sound (subst (λ n. IsElementFault n first.faulty fault) (omega arith) first.is)
+
+pub faults_are : (text : List ℕ) (fault : LabelFault) → (request_in text ≡ Err fault) ↔ IsFirstLabelFault text fault
+faults_are text fault = (text_fault text fault, fault_text text fault)

@@ -5,6 +5,7 @@ pub mod Numbers
 pub mod Spelling
 pub mod Requests
 pub mod Faults
+pub mod Formed
 pub mod Printings
 pub mod CanonicalSpelling
 pub mod Rising

@@ -1,8 +1,6 @@
 -- Numbers and compartments: what is read is spelled, and what is spelled is read.
-use Rattle.std.proofs.Common.{◌≡◌, ◌≢◌, ℕ, ◌<◌, ◌≤◌, suc, true, false, cond, not, ◌&&◌, ltb, leb, List, [], ◌∷◌, ◌++◌, length, get_or, Option, Some, None, Ok, Err, refl, sym, ap, ◌∙◌, arith, append-nil, append_assoc, lit≤}
-use Rattle.std.proofs.lemmas.Bool.{ltb-true, lt-ltb, le-ltb, leb-true, le-leb, not-true, not-false}
-use Rattle.std.proofs.lemmas.Bool.Decides.{nat_tests}
-use Rattle.std.proofs.lemmas.List.Sums.{prefix_len_passes}
+use Rattle.std.proofs.Common.{◌≡◌, ◌≢◌, ℕ, ◌<◌, ◌≤◌, true, false, cond, not, ◌&&◌, leb, List, [], ◌∷◌, ◌++◌, length, Option, Some, None, Ok, Err, refl, sym, ap, ◌∙◌, arith, append-nil, append_assoc, lit≤}
+use Rattle.std.proofs.lemmas.Bool.{lt-ltb, le-ltb, leb-true, le-leb}
 use Rattle.std.specs.List.{position, position_or_len, AllByRecursion}
 use Rattle.std.specs.Char.{is_digit, digit_value}
 use Rattle.std.specs.Str.Parse.{AllDigits, digits_value}
@@ -13,6 +11,7 @@ use Rattle.std.specs.Cmp.{nat_cmp_total}
 use Rattle.std.specs.Ordering.{nat_cmp}
 use Rattle.mf_text.specs.Number.{number_in, within, unless_other}
 use Rattle.mf_text.specs.declared.number.NumberFault.TheVariants.{OutOfRange}
+use Rattle.mf_text.proofs.Numerals.{all_digits}
 use Rattle.mf_elem.specs.Comps.{comps_of}
 use Rattle.mf_elem.specs.declared.comps.Comps.{Comps}
 use Rattle.mf_labeltext.specs.LabelGrammar.{SpellsNumber, SpellEach, SpellsComps}
@@ -27,18 +26,6 @@ pub some_is : {A : Type 0} (x y : A) → Some x ≡ Some y → x ≡ y
 some_is x y is = cc
 
 -- ---- digits
-all_from : (text : List ℕ) → ((k : ℕ) → k < length text → is_digit (get_or text k 0) 10 ≡ true) → AllDigits 10 text
-all_from [] each = tt
-all_from (c ∷ cs) each = (ltb-true (digit_value c) 10 (each 0 (omega arith)), all_from cs (λ k h. each (suc k) (omega (arith, h))))
-
-not_found : (m n : ℕ) → cond (ltb m n) (Some m) None ≡ None → n ≤ m
-not_found m n none = grind (arith, nat_tests)
-
-not_other : (text : List ℕ) → position (λ byte. not (is_digit byte 10)) text ≡ None → AllDigits 10 text
-not_other text none =
-    let all : length text ≤ position_or_len (λ byte. not (is_digit byte 10)) text = not_found (position_or_len (λ byte. not (is_digit byte 10)) text) (length text) none in
-    all_from text (λ k h. not-false (is_digit (get_or text k 0) 10) (not-true (not (is_digit (get_or text k 0) 10)) (prefix_len_passes (λ byte. not (not (is_digit byte 10))) text k 0 (omega (arith, all, h)))))
-
 all_pass : (text : List ℕ) → AllDigits 10 text → position_or_len (λ byte. not (is_digit byte 10)) text ≡ length text
 all_pass [] all = refl
 all_pass (c ∷ cs) all = rw (lt-ltb (digit_value c) 10 all.0) (rw (all_pass cs all.1) (omega arith))
@@ -70,7 +57,7 @@ unfolding number number_in
 number_spells least greatest [] n is = absurd cc
 number_spells least greatest (c ∷ cs) n is =
     let found = unless_is (position (λ byte. not (is_digit byte 10)) (c ∷ cs)) least greatest (digits_value 10 (c ∷ cs)) n is in
-    record { numeral = (omega arith, not_other (c ∷ cs) found.0); value = found.1; above = found.2; below = found.3 }
+    record { numeral = (omega arith, all_digits 10 (c ∷ cs) found.0); value = found.1; above = found.2; below = found.3 }
 
 within_ok : (least greatest value n : ℕ) → value ≡ n → least ≤ n → n ≤ greatest → within least greatest value ≡ Ok n
 within_ok least greatest value n same above below =

@@ -10,7 +10,7 @@ use Rattle.mf_elem.specs.declared.label.LabelValue.TheVariants.{Unset, Range, Nu
 use Rattle.mf_elem.specs.declared.label.Request.{Request}
 use Rattle.mf_labeltext.specs.LabelGrammar.{SpellElements, HasNoComma, Spells}
 use Rattle.mf_elem.specs.Label.{no_request}
-use Rattle.mf_labeltext.specs.Canonical.{label_text, partition_text, element_text, parts_of, in_order, elements_text, canonical}
+use Rattle.mf_labeltext.specs.Canonical.{label_text, partition_text, element_text, parts_of, in_order, elements_text, canonical_label}
 use Rattle.mf_labeltext.specs.RoundTrip.{value_of, range_of, number_of, request_of, IsValueOf, IsPart, AreParts}
 use Rattle.mf_labeltext.proofs.Cutting.{IsFree}
 use Rattle.mf_labeltext.proofs.Spelling.{inner_free, partition_inner}
@@ -28,10 +28,10 @@ partition_free n fits = inner_free 44 (partition_text n) refl (partition_inner (
 
 element_free : (policy : Module) (value : LabelValue) → IsValueOf policy value → HasNoComma (element_text (policy, value))
 element_free Biba Unset is = absurd is
-element_free Biba (Range label) is = free_both (codes "biba/") (label_text label) (inner_free 44 (codes "biba/") refl refl) (label_free label.effective label.range is)
+element_free Biba (Range label) is = free_both (codes "biba/") (label_text label) (inner_free 44 (codes "biba/") refl refl) (label_free label is)
 element_free Biba (Number n) is = absurd is
 element_free Mls Unset is = absurd is
-element_free Mls (Range label) is = free_both (codes "mls/") (label_text label) (inner_free 44 (codes "mls/") refl refl) (label_free label.effective label.range is)
+element_free Mls (Range label) is = free_both (codes "mls/") (label_text label) (inner_free 44 (codes "mls/") refl refl) (label_free label is)
 element_free Mls (Number n) is = absurd is
 element_free Partition Unset is = inner_free 44 (codes "partition/none") refl refl
 element_free Partition (Range label) is = absurd is
@@ -191,8 +191,8 @@ some_elements : (ordered : Parts) → ordered ≢ [] → map element_text ordere
 some_elements [] some none = some refl
 some_elements (part ∷ ordered) some none = cc
 
-pub canonical_spells : (parts : Parts) → AreParts parts → parts ≢ [] → Spells (canonical parts) (request_of parts)
-unfolding canonical
+pub canonical_spells : (parts : Parts) → AreParts parts → parts ≢ [] → Spells (canonical_label parts) (request_of parts)
+unfolding canonical_label
 canonical_spells parts are some =
     let ordered = in_order parts in
     let here = some_in_order parts are.each some in

@@ -8,7 +8,7 @@ use Rattle.std.specs.Str.{bytes_eq}
 use Rattle.mf_elem.specs.declared.label.Request.{Request}
 use Rattle.mf_labeltext.specs.LabelGrammar.{IsNameByte, IsName, Asks, SpellsElement, SpellElements, Spells}
 use Rattle.mf_elem.specs.Label.{no_request}
-use Rattle.mf_labeltext.specs.Reading.{cut, parts, label_in, partition_in, asked, is_name_byte, is_name, element_of, element_in, and_then, elements_in, request_in, ◌>>=◌}
+use Rattle.mf_labeltext.specs.Reading.{cut, parts, label_in, partition_in, with_part, is_name_byte, is_name, element_from_halves, element_in, and_then, elements_in, request_in, ◌>>=◌}
 use Rattle.mf_labeltext.specs.declared.fault.LabelFault.{LabelFault}
 use Rattle.mf_labeltext.specs.declared.fault.LabelFault.TheVariants.{NoSlash, BadValue}
 use Rattle.mf_labeltext.proofs.Cutting.{IsFree, cut_is, cut_free, parts_free, parts_are_some, parts_join, join_parts}
@@ -52,11 +52,11 @@ are_name_bytes : (text : List ℕ) → AllByRecursion IsNameByte text → list_a
 are_name_bytes [] all = refl
 are_name_bytes (c ∷ cs) all = both_true (is_name_byte c) (list_all is_name_byte cs) (is_name_byte_for c all.0) (are_name_bytes cs all.1)
 
-name_is : (text : List ℕ) → is_name text ≡ true → IsName text
+pub name_is : (text : List ℕ) → is_name text ≡ true → IsName text
 name_is [] is = absurd cc
 name_is (c ∷ cs) is = (λ e. cc, name_bytes_are (c ∷ cs) is)
 
-is_name_for : (text : List ℕ) → IsName text → is_name text ≡ true
+pub is_name_for : (text : List ℕ) → IsName text → is_name text ≡ true
 is_name_for [] name = absurd (name.0 refl)
 is_name_for (c ∷ cs) name = are_name_bytes (c ∷ cs) name.1
 
@@ -65,7 +65,7 @@ no_slash_byte byte (inl letter) same = omega arith
 no_slash_byte byte (inr (inl digit)) same = omega arith
 no_slash_byte byte (inr (inr underscore)) same = omega arith
 
-no_slash : (text : List ℕ) → AllByRecursion IsNameByte text → IsFree 47 text
+pub no_slash : (text : List ℕ) → AllByRecursion IsNameByte text → IsFree 47 text
 no_slash [] all = tt
 no_slash (c ∷ cs) all = (no_slash_byte c all.0, no_slash cs all.1)
 
@@ -100,9 +100,9 @@ mls_asks name value before after no_biba is =
       | inr others ↦ partition_asks name value before after no_biba (differ name (codes "mls") others.0) others.1
     ]
 
-asked_asks : (name value : List ℕ) (before after : Request) → asked name value before ≡ Some after → Asks name value before after
-unfolding asked
-asked_asks name value before after is =
+pub part_asks : (name value : List ℕ) (before after : Request) → with_part name value before ≡ Some after → Asks name value before after
+unfolding with_part
+part_asks name value before after is =
     elim (chosen (bytes_eq name (codes "biba")) (label_in value >>= λ label. Some (record before { biba = Some label })) (if_mls name value before) (Some after) is) [
       | inl biba ↦
           let read = bind_some (label_in value) (λ label. Some (record before { biba = Some label })) after biba.1 in
@@ -110,21 +110,21 @@ asked_asks name value before after is =
       | inr others ↦ mls_asks name value before after (differ name (codes "biba") others.0) others.1
     ]
 
-asks_asked : (name value : List ℕ) (before after : Request) → Asks name value before after → asked name value before ≡ Some after
-unfolding asked
-asks_asked name value before after (inl biba) =
-    ap (λ n. asked n value before) biba.0
+pub asks_part : (name value : List ℕ) (before after : Request) → Asks name value before after → with_part name value before ≡ Some after
+unfolding with_part
+asks_part name value before after (inl biba) =
+    ap (λ n. with_part n value before) biba.0
     ∙ ap (λ read. read >>= λ label. Some (record before { biba = Some label })) (spells_label value biba.1 biba.2)
     ∙ ap Some (sym biba.3)
-asks_asked name value before after (inr (inl mls)) =
-    ap (λ n. asked n value before) mls.0
+asks_part name value before after (inr (inl mls)) =
+    ap (λ n. with_part n value before) mls.0
     ∙ ap (λ read. read >>= λ label. Some (record before { mls = Some label })) (spells_label value mls.1 mls.2)
     ∙ ap Some (sym mls.3)
-asks_asked name value before after (inr (inr (inl partition))) =
-    ap (λ n. asked n value before) partition.0
+asks_part name value before after (inr (inr (inl partition))) =
+    ap (λ n. with_part n value before) partition.0
     ∙ ap (λ read. read >>= λ n. Some (record before { partition = Some n })) (spells_partition value partition.1 partition.2)
     ∙ ap Some (sym partition.3)
-asks_asked name value before after (inr (inr (inr other))) =
+asks_part name value before after (inr (inr (inr other))) =
     rw (differs name (codes "biba") other.0.0) (rw (differs name (codes "mls") other.0.1) (rw (differs name (codes "partition") other.0.2) (ap Some (sym other.1))))
 
 -- ---- elements
@@ -132,22 +132,22 @@ ok_or_is : (read : Option Request) (fault : LabelFault) (after : Request) → ok
 ok_or_is None fault after is = absurd cc
 ok_or_is (Some next) fault after is = cc
 
-halves_spell : (place : ℕ) (element : List ℕ) (before after : Request) (halves : Option (List ℕ × List ℕ)) → cut 47 element ≡ halves → element_of place before halves ≡ Ok after → SpellsElement element before after
+halves_spell : (place : ℕ) (element : List ℕ) (before after : Request) (halves : Option (List ℕ × List ℕ)) → cut 47 element ≡ halves → element_from_halves place before halves ≡ Ok after → SpellsElement element before after
 halves_spell place element before after None none is = absurd cc
 halves_spell place element before after (Some halves) some is =
-    elim (is_name halves.0) as (λ b. is_name halves.0 ≡ b → cond b (ok_or (asked halves.0 halves.1 before) (BadValue (place + length halves.0 + 1))) (Err (NoSlash place)) ≡ Ok after → SpellsElement element before after) [
+    elim (is_name halves.0) as (λ b. is_name halves.0 ≡ b → cond b (ok_or (with_part halves.0 halves.1 before) (BadValue (place + length halves.0 + 1))) (Err (NoSlash place)) ≡ Ok after → SpellsElement element before after) [
       | true ↦ λ name is.
           let parted = cut_is 47 element halves.0 halves.1 some in (
             halves.0,
             halves.1,
             parted.whole,
             name_is halves.0 name,
-            asked_asks halves.0 halves.1 before after (ok_or_is (asked halves.0 halves.1 before) (BadValue (place + length halves.0 + 1)) after is),
+            part_asks halves.0 halves.1 before after (ok_or_is (with_part halves.0 halves.1 before) (BadValue (place + length halves.0 + 1)) after is),
           )
       | false ↦ λ name is. absurd cc
     ] refl is
 
-element_spells : (place : ℕ) (element : List ℕ) (before after : Request) → element_in place before element ≡ Ok after → SpellsElement element before after
+pub element_spells : (place : ℕ) (element : List ℕ) (before after : Request) → element_in place before element ≡ Ok after → SpellsElement element before after
 unfolding element_in
 element_spells place [] before after is = absurd cc
 element_spells place (c ∷ cs) before after is = halves_spell place (c ∷ cs) before after (cut 47 (c ∷ cs)) refl is
@@ -155,15 +155,15 @@ element_spells place (c ∷ cs) before after is = halves_spell place (c ∷ cs) 
 spells_named : (place : ℕ) (c : ℕ) (cs value : List ℕ) (before after : Request) → IsName (c ∷ cs) → Asks (c ∷ cs) value before after → element_in place before ((c ∷ cs) ++ 47 ∷ value) ≡ Ok after
 unfolding element_in
 spells_named place c cs value before after name asks =
-    ap (element_of place before) (cut_free 47 (c ∷ cs) value (no_slash (c ∷ cs) name.1))
-    ∙ ap (λ b. cond b (ok_or (asked (c ∷ cs) value before) (BadValue (place + length (c ∷ cs) + 1))) (Err (NoSlash place))) (is_name_for (c ∷ cs) name)
-    ∙ ap (λ read. ok_or read (BadValue (place + length (c ∷ cs) + 1))) (asks_asked (c ∷ cs) value before after asks)
+    ap (element_from_halves place before) (cut_free 47 (c ∷ cs) value (no_slash (c ∷ cs) name.1))
+    ∙ ap (λ b. cond b (ok_or (with_part (c ∷ cs) value before) (BadValue (place + length (c ∷ cs) + 1))) (Err (NoSlash place))) (is_name_for (c ∷ cs) name)
+    ∙ ap (λ read. ok_or read (BadValue (place + length (c ∷ cs) + 1))) (asks_part (c ∷ cs) value before after asks)
 
 spells_halves : (place : ℕ) (name value : List ℕ) (before after : Request) → IsName name → Asks name value before after → element_in place before (name ++ 47 ∷ value) ≡ Ok after
 spells_halves place [] value before after name asks = absurd (name.0 refl)
 spells_halves place (c ∷ cs) value before after name asks = spells_named place c cs value before after name asks
 
-spells_element : (place : ℕ) (element : List ℕ) (before after : Request) → SpellsElement element before after → element_in place before element ≡ Ok after
+pub spells_element : (place : ℕ) (element : List ℕ) (before after : Request) → SpellsElement element before after → element_in place before element ≡ Ok after
 spells_element place element before after spells =
     ap (element_in place before) spells.2 ∙ spells_halves place spells.0 spells.1 before after spells.3 spells.4
 

@@ -15,7 +15,7 @@ use Rattle.mf_elem.specs.declared.elem.Elem.{Elem}
 use Rattle.mf_elem.specs.declared.elem.Elem.TheVariants.{Low, High, Equal, Grade}
 use Rattle.mf_elem.specs.declared.label.RangeLabel.{RangeLabel}
 use Rattle.mf_labeltext.specs.LabelGrammar.{SpellEach, SpellsGrade, SpellsElem, SpellsRange, SpellsParts, SpellsLabel, SpellsPartition}
-use Rattle.mf_labeltext.specs.Reading.{cut, number, comps_in, grade_of, grade_in, elem_in, without_close, range_in, effective_in, label_of, label_in, partition_in, ◌>>=◌}
+use Rattle.mf_labeltext.specs.Reading.{cut, number, comps_in, grade_from_halves, grade_in, elem_in, without_close, range_in, effective_in, label_from_halves, label_in, partition_in, ◌>>=◌}
 use Rattle.mf_labeltext.proofs.Cutting.{IsFree, cut_is, cut_free, cut_free_none}
 use Rattle.mf_labeltext.proofs.Numbers.{bind_some, some_is, number_spells, spells_number, comps_spells, spells_comps, digits_free}
 
@@ -36,7 +36,7 @@ one_of_two text a b is =
     elim (either (bytes_eq text a) (bytes_eq text b) is) [ inl one ↦ inl (same_text text a one) | inr other ↦ inr (same_text text b other) ]
 
 -- ---- elements
-grade_spells : (text : List ℕ) (halves : Option (List ℕ × List ℕ)) (element : Elem) → cut 58 text ≡ halves → grade_of text halves ≡ Some element → SpellsElem text element
+grade_spells : (text : List ℕ) (halves : Option (List ℕ × List ℕ)) (element : Elem) → cut 58 text ≡ halves → grade_from_halves text halves ≡ Some element → SpellsElem text element
 grade_spells text None element none is =
     let read = bind_some (number 0 65535 text) (λ grade. Some (Grade grade (comps_of set.empty))) element is in
     subst (SpellsElem text) (some_is (Grade read.0 (comps_of set.empty)) element read.2) (inl (number_spells 0 65535 text read.0 read.1, refl))
@@ -97,7 +97,7 @@ spells_grade text grade comps (inl alone) =
     ap elem_in (sym (append-nil text))
     ∙ starts_with_digit text [] spells.numeral.1 spells.numeral.0
     ∙ ap grade_in (append-nil text)
-    ∙ ap (grade_of text) (cut_free_none 58 text (digits_free 58 text (lit≤ tt) spells.numeral.1))
+    ∙ ap (grade_from_halves text) (cut_free_none 58 text (digits_free 58 text (lit≤ tt) spells.numeral.1))
     ∙ ap (λ read. read >>= λ grade. Some (Grade grade (comps_of set.empty))) (spells_number 0 65535 text grade spells)
     ∙ ap (λ comps. Some (Grade grade comps)) (sym alone.1)
 spells_grade text grade comps (inr both) =
@@ -106,7 +106,7 @@ spells_grade text grade comps (inr both) =
     let spells = both.3 in
     ap elem_in both.2
     ∙ starts_with_digit digits (58 ∷ others) spells.numeral.1 spells.numeral.0
-    ∙ ap (grade_of (digits ++ 58 ∷ others)) (cut_free 58 digits others (digits_free 58 digits (lit≤ tt) spells.numeral.1))
+    ∙ ap (grade_from_halves (digits ++ 58 ∷ others)) (cut_free 58 digits others (digits_free 58 digits (lit≤ tt) spells.numeral.1))
     ∙ ap (λ read. read >>= λ grade. comps_in others >>= λ comps. Some (Grade grade comps)) (spells_number 0 65535 digits grade spells)
     ∙ ap (λ read. read >>= λ comps. Some (Grade grade comps)) (spells_comps others comps both.4)
 
@@ -243,7 +243,7 @@ effective_spells (c ∷ cs) range effective ends is spells =
     subst (λ e. SpellsParts ((c ∷ cs) ++ range) e (Some ends)) (some_is (Some read.0) effective read.2)
     (c ∷ cs, range, refl, elem_spells (c ∷ cs) read.0 read.1, spells)
 
-label_of_spells : (text : List ℕ) (halves : Option (List ℕ × List ℕ)) (label : RangeLabel) → cut 40 text ≡ halves → label_of text halves ≡ Some label → SpellsLabel text label
+label_of_spells : (text : List ℕ) (halves : Option (List ℕ × List ℕ)) (label : RangeLabel) → cut 40 text ≡ halves → label_from_halves text halves ≡ Some label → SpellsLabel text label
 label_of_spells text None label none is =
     let read = bind_some (elem_in text) (λ element. Some (record { effective = Some element; range = None })) label is in
     subst (SpellsLabel text) (some_is (record { effective = Some read.0; range = None }) label read.2) (elem_spells text read.0 read.1)
@@ -266,18 +266,18 @@ spells_parts : (text : List ℕ) (effective : Option Elem) (range : Option (Elem
 unfolding label_in
 spells_parts text None None spells = absurd spells
 spells_parts text (Some element) None spells =
-    ap (label_of text) (cut_free_none 40 text (inner_free 40 text refl (elem_inner text element spells)))
+    ap (label_from_halves text) (cut_free_none 40 text (inner_free 40 text refl (elem_inner text element spells)))
     ∙ ap (λ read. read >>= λ element. Some (record { effective = Some element; range = None })) (spells_elem text element spells)
 spells_parts text None (Some ends) spells =
     let read = spells_range text ends spells in
-    ap (λ t. label_of t (cut 40 t)) read.1
-    ∙ ap (label_of (40 ∷ read.0)) (cut_free 40 [] read.0 tt)
+    ap (λ t. label_from_halves t (cut 40 t)) read.1
+    ∙ ap (label_from_halves (40 ∷ read.0)) (cut_free 40 [] read.0 tt)
     ∙ ap (λ ends. ends >>= λ ends. Some (record { effective = None; range = Some ends })) read.2
 spells_parts text (Some element) (Some ends) spells =
     let front = spells.0 in
     let read = spells_range spells.1 ends spells.4 in
-    ap (λ t. label_of t (cut 40 t)) (spells.2 ∙ ap (λ range. front ++ range) read.1)
-    ∙ ap (label_of (front ++ 40 ∷ read.0)) (cut_free 40 front read.0 (inner_free 40 front refl (elem_inner front element spells.3)))
+    ap (λ t. label_from_halves t (cut 40 t)) (spells.2 ∙ ap (λ range. front ++ range) read.1)
+    ∙ ap (label_from_halves (front ++ 40 ∷ read.0)) (cut_free 40 front read.0 (inner_free 40 front refl (elem_inner front element spells.3)))
     ∙ ap (λ effective. effective >>= λ effective. range_in read.0 >>= λ ends. Some (record { effective = effective; range = Some ends })) (spells_effective front element spells.3)
     ∙ ap (λ ends. ends >>= λ ends. Some (record { effective = Some element; range = Some ends })) read.2
 

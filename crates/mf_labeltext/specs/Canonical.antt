@@ -8,6 +8,7 @@ use Rattle.mf_errno.specs.declared.module.Module.{Module}
 use Rattle.mf_errno.specs.declared.module.Module.TheVariants.{Biba, Mls, Partition, Bsdextended, Priority}
 use Rattle.mf_elem.specs.Comps.{compartments_of}
 use Rattle.mf_elem.specs.declared.comps.Comps.{Comps}
+use Rattle.mf_elem.specs.declared.comps.TheConstants.{LAST_COMPARTMENT}
 use Rattle.mf_elem.specs.declared.elem.Elem.{Elem}
 use Rattle.mf_elem.specs.declared.elem.Elem.TheVariants.{Low, High, Equal, Grade}
 use Rattle.mf_elem.specs.declared.label.RangeLabel.{RangeLabel}
@@ -23,7 +24,7 @@ numbers_to (suc n) = numbers_to n ++ suc n ∷ []
 
 -- the compartments of a set, rising
 unfoldable pub rising : Comps → List ℕ
-rising comps = filter (set.contains (compartments_of comps)) (numbers_to 256)
+rising comps = filter (set.contains (compartments_of comps)) (numbers_to LAST_COMPARTMENT)
 
 -- a colon and the compartments with a plus between each two; nothing where there are none
 abbrev pub comps_text : List ℕ → List ℕ
@@ -84,5 +85,5 @@ abbrev pub comma_behind : ℕ → List ℕ
 comma_behind elements = if elements == 0 then [] else comma ∷ []
 
 -- the canonical text of the parts of a label
-unfoldable pub canonical : List (Module × LabelValue) → List ℕ
-canonical parts = elements_text (map element_text (in_order parts))
+unfoldable pub canonical_label : List (Module × LabelValue) → List ℕ
+canonical_label parts = elements_text (map element_text (in_order parts))

@@ -1,36 +1,43 @@
--- The first fault of a label text from the left.
-use Rattle.std.specs.Prelude.{ℕ, ◌+◌, List, [], ◌∷◌, length, Option, Some, None, Bool, is_some, if◌then◌else◌}
+-- The first fault of a label text: the first of its elements that asks for nothing, and what it lacks.
+use Rattle.std.specs.Prelude.{◌≡◌, ◌≢◌, ℕ, ◌+◌, List, [], ◌∷◌, ◌++◌, length}
+use Rattle.std.specs.List.{join_with_byte, AllByRecursion}
 use Rattle.mf_elem.specs.Label.{no_request}
-use Rattle.mf_labeltext.specs.Reading.{cut, parts, is_name, asked}
+use Rattle.mf_elem.specs.declared.label.Request.{Request}
+use Rattle.mf_labeltext.specs.Bytes.{comma, slash}
+use Rattle.mf_labeltext.specs.LabelGrammar.{IsName, Asks, SpellsElement, HasNoComma}
 use Rattle.mf_labeltext.specs.declared.fault.LabelFault.{LabelFault}
 use Rattle.mf_labeltext.specs.declared.fault.LabelFault.TheVariants.{NoSlash, BadValue, EmptyElement}
-use Rattle.mf_labeltext.specs.Bytes.{comma, slash}
 
--- whether the value is one of the policy of that name
-abbrev pub is_value : List ℕ → List ℕ → Bool
-is_value name value = is_some (asked name value no_request)
+-- the element asks for something
+abbrev pub AsksSomething : List ℕ → Type 0
+AsksSomething element = (request : Request) × SpellsElement element no_request request
 
--- an element of which the name and the value were parted at the first slash
-abbrev pub fault_of_halves : ℕ → Option (List ℕ × List ℕ) → Option LabelFault
-fault_of_halves place None = Some (NoSlash place)
-fault_of_halves place (Some halves) =
-    if is_name halves.0 then (if is_value halves.0 halves.1 then None else Some (BadValue (place + length halves.0 + 1))) else Some (NoSlash place)
+-- no slash stands in the element, or what stands before its first one is no name
+abbrev pub HasNoName : List ℕ → Type 0
+HasNoName element = (name value : List ℕ) → element ≡ name ++ slash ∷ value → IsName name → ⊥
 
--- what is wrong with the element at a place
-unfoldable pub element_fault : ℕ → List ℕ → Option LabelFault
-element_fault place [] = Some (EmptyElement place)
-element_fault place (c ∷ cs) = fault_of_halves place (cut slash (c ∷ cs))
+-- a value that the policy of this name doesn't know
+abbrev pub IsUnknown : List ℕ → List ℕ → Type 0
+IsUnknown name value = (request : Request) → Asks name value no_request request → ⊥
 
--- the earlier of two faults
-abbrev pub or_else : Option LabelFault → Option LabelFault → Option LabelFault
-or_else (Some fault) later = Some fault
-or_else None later = later
+-- the element that begins at a place has this fault
+abbrev pub IsElementFault : ℕ → List ℕ → LabelFault → Type 0
+IsElementFault place element (EmptyElement found) = (element ≡ []) × (found ≡ place)
+IsElementFault place element (NoSlash found) = (element ≢ []) × HasNoName element × (found ≡ place)
+IsElementFault place element (BadValue found) =
+    (name : List ℕ) × (value : List ℕ) × (element ≡ name ++ slash ∷ value) × IsName name × IsUnknown name value × (found ≡ place + length name + 1)
 
--- the fault of the first faulty one of the elements, the first of which stands at a place
-unfoldable pub fault_from : ℕ → List (List ℕ) → Option LabelFault
-fault_from place [] = None
-fault_from place (element ∷ elements) = or_else (element_fault place element) (fault_from (place + length element + 1) elements)
+-- where an element behind these begins: each of them has a comma behind it
+abbrev pub place_behind : List (List ℕ) → ℕ
+place_behind [] = 0
+place_behind (element ∷ elements) = length element + 1 + place_behind elements
 
--- the first fault of a text
-unfoldable pub first_fault : List ℕ → Option LabelFault
-first_fault text = fault_from 0 (parts comma text)
+-- each element before the faulty one asks for something
+pub record IsFirstLabelFault (text : List ℕ) (fault : LabelFault) : Type 0 where
+  pub before : List (List ℕ)
+  pub faulty : List ℕ
+  pub behind : List (List ℕ)
+  pub parted : text ≡ join_with_byte comma (before ++ faulty ∷ behind)
+  pub whole : AllByRecursion HasNoComma (before ++ faulty ∷ behind)
+  pub sound : AllByRecursion AsksSomething before
+  pub is : IsElementFault (place_behind before) faulty fault

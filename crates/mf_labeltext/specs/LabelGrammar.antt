@@ -11,6 +11,9 @@ use Rattle.std.specs.FinSet as set
 use Rattle.mf_elem.specs.Comps.{comps_of}
 use Rattle.mf_elem.specs.Label.{no_request}
 use Rattle.mf_elem.specs.declared.comps.Comps.{Comps}
+use Rattle.mf_elem.specs.declared.comps.TheConstants.{LAST_COMPARTMENT}
+use Rattle.mf_elem.specs.declared.elem.TheConstants.{LAST_GRADE}
+use Rattle.mf_elem.specs.declared.label.TheConstants.{LAST_PARTITION}
 use Rattle.mf_elem.specs.declared.elem.Elem.{Elem}
 use Rattle.mf_elem.specs.declared.elem.Elem.TheVariants.{Low, High, Equal, Grade}
 use Rattle.mf_elem.specs.declared.label.RangeLabel.{RangeLabel}
@@ -29,7 +32,7 @@ abbrev pub SpellEach : List (List ℕ) → List ℕ → Type 0
 SpellEach [] [] = Unit {0}
 SpellEach [] (n ∷ ns) = ⊥
 SpellEach (text ∷ texts) [] = ⊥
-SpellEach (text ∷ texts) (n ∷ ns) = SpellsNumber 1 256 text n × SpellEach texts ns
+SpellEach (text ∷ texts) (n ∷ ns) = SpellsNumber 1 LAST_COMPARTMENT text n × SpellEach texts ns
 
 -- one or more compartments with a plus between them, in any order and repeated: they are a set
 pub record SpellsComps (text : List ℕ) (comps : Comps) : Type 0 where
@@ -43,9 +46,9 @@ pub record SpellsComps (text : List ℕ) (comps : Comps) : Type 0 where
 -- a grade alone, or a grade, a colon and compartments
 abbrev pub SpellsGrade : List ℕ → ℕ → Comps → Type 0
 SpellsGrade text grade comps =
-    (SpellsNumber 0 65535 text grade × (comps ≡ comps_of set.empty))
+    (SpellsNumber 0 LAST_GRADE text grade × (comps ≡ comps_of set.empty))
     ⊎ ((digits : List ℕ) × (others : List ℕ) × (text ≡ digits ++ colon ∷ others)
-    × SpellsNumber 0 65535 digits grade × SpellsComps others comps)
+    × SpellsNumber 0 LAST_GRADE digits grade × SpellsComps others comps)
 
 -- an element; `lo`, `hi` and `eq` are short for the words
 abbrev pub SpellsElem : List ℕ → Elem → Type 0
@@ -73,7 +76,7 @@ SpellsLabel text label = SpellsParts text label.effective label.range
 
 -- the value of partition
 abbrev pub SpellsPartition : List ℕ → ℕ → Type 0
-SpellsPartition text n = ((text ≡ codes "none") × (n ≡ 0)) ⊎ SpellsNumber 0 2147483647 text n
+SpellsPartition text n = ((text ≡ codes "none") × (n ≡ 0)) ⊎ SpellsNumber 0 LAST_PARTITION text n
 
 -- a lower-case letter, a digit or an underscore
 abbrev pub IsNameByte : ℕ → Type 0

@@ -10,6 +10,9 @@ use Rattle.std.specs.Ordering.{nat_cmp}
 use Rattle.mf_text.specs.Number.{number_in}
 use Rattle.mf_elem.specs.Comps.{comps_of}
 use Rattle.mf_elem.specs.declared.comps.Comps.{Comps}
+use Rattle.mf_elem.specs.declared.comps.TheConstants.{LAST_COMPARTMENT}
+use Rattle.mf_elem.specs.declared.elem.TheConstants.{LAST_GRADE}
+use Rattle.mf_elem.specs.declared.label.TheConstants.{LAST_PARTITION}
 use Rattle.mf_elem.specs.declared.elem.Elem.{Elem}
 use Rattle.mf_elem.specs.declared.elem.Elem.TheVariants.{Low, High, Equal, Grade}
 use Rattle.mf_elem.specs.declared.label.RangeLabel.{RangeLabel}
@@ -45,22 +48,22 @@ number least greatest text = result_ok (number_in 10 least greatest text)
 -- the compartments so far, and those that the texts spell
 unfoldable pub comps_from : FinSet nat_cmp → List (List ℕ) → Option Comps
 comps_from comps [] = Some (comps_of comps)
-comps_from comps (text ∷ texts) = number 1 256 text >>= λ n. comps_from (set.insert comps n) texts
+comps_from comps (text ∷ texts) = number 1 LAST_COMPARTMENT text >>= λ n. comps_from (set.insert comps n) texts
 
 -- compartments with a plus between each two
 unfoldable pub comps_in : List ℕ → Option Comps
 comps_in text = comps_from set.empty (parts plus text)
 
 -- a grade, and the compartments behind its colon where there is one
-abbrev pub grade_of : List ℕ → Option (List ℕ × List ℕ) → Option Elem
-grade_of text None = number 0 65535 text >>= λ grade. Some (Grade grade (comps_of set.empty))
-grade_of text (Some halves) = do
-  grade ← number 0 65535 halves.0
+abbrev pub grade_from_halves : List ℕ → Option (List ℕ × List ℕ) → Option Elem
+grade_from_halves text None = number 0 LAST_GRADE text >>= λ grade. Some (Grade grade (comps_of set.empty))
+grade_from_halves text (Some halves) = do
+  grade ← number 0 LAST_GRADE halves.0
   comps ← comps_in halves.1
   Some (Grade grade comps)
 
 unfoldable pub grade_in : List ℕ → Option Elem
-grade_in text = grade_of text (cut colon text)
+grade_in text = grade_from_halves text (cut colon text)
 
 -- the short words are those of the manual
 unfoldable pub elem_in : List ℕ → Option Elem
@@ -90,23 +93,23 @@ effective_in [] = Some None
 effective_in (c ∷ cs) = elem_in (c ∷ cs) >>= λ element. Some (Some element)
 
 -- the value of biba and mls
-abbrev pub label_of : List ℕ → Option (List ℕ × List ℕ) → Option RangeLabel
-label_of text None = elem_in text >>= λ element. Some (record { effective = Some element; range = None })
-label_of text (Some halves) = do
+abbrev pub label_from_halves : List ℕ → Option (List ℕ × List ℕ) → Option RangeLabel
+label_from_halves text None = elem_in text >>= λ element. Some (record { effective = Some element; range = None })
+label_from_halves text (Some halves) = do
   effective ← effective_in halves.0
   ends ← range_in halves.1
   Some (record { effective = effective; range = Some ends })
 
 unfoldable pub label_in : List ℕ → Option RangeLabel
-label_in text = label_of text (cut open_parenthesis text)
+label_in text = label_from_halves text (cut open_parenthesis text)
 
 -- the value of partition
 unfoldable pub partition_in : List ℕ → Option ℕ
-partition_in text = if bytes_eq text (codes "none") then Some 0 else number 0 2147483647 text
+partition_in text = if bytes_eq text (codes "none") then Some 0 else number 0 LAST_PARTITION text
 
 -- the request with the element of this name and value added
-unfoldable pub asked : List ℕ → List ℕ → Request → Option Request
-asked name value request =
+unfoldable pub with_part : List ℕ → List ℕ → Request → Option Request
+with_part name value request =
     if bytes_eq name (codes "biba") then (label_in value >>= λ label. Some (record request { biba = Some label }))
     else if bytes_eq name (codes "mls") then (label_in value >>= λ label. Some (record request { mls = Some label }))
     else if bytes_eq name (codes "partition") then (partition_in value >>= λ n. Some (record request { partition = Some n }))
@@ -122,15 +125,15 @@ is_name [] = false
 is_name (c ∷ cs) = list_all is_name_byte (c ∷ cs)
 
 -- an element of which the name and the value were parted at the first slash
-abbrev pub element_of : ℕ → Request → Option (List ℕ × List ℕ) → Result Request LabelFault
-element_of place request None = Err (NoSlash place)
-element_of place request (Some halves) =
-    if is_name halves.0 then ok_or (asked halves.0 halves.1 request) (BadValue (place + length halves.0 + 1)) else Err (NoSlash place)
+abbrev pub element_from_halves : ℕ → Request → Option (List ℕ × List ℕ) → Result Request LabelFault
+element_from_halves place request None = Err (NoSlash place)
+element_from_halves place request (Some halves) =
+    if is_name halves.0 then ok_or (with_part halves.0 halves.1 request) (BadValue (place + length halves.0 + 1)) else Err (NoSlash place)
 
 -- the request with the element at a place added
 unfoldable pub element_in : ℕ → Request → List ℕ → Result Request LabelFault
 element_in place request [] = Err (EmptyElement place)
-element_in place request (c ∷ cs) = element_of place request (cut slash (c ∷ cs))
+element_in place request (c ∷ cs) = element_from_halves place request (cut slash (c ∷ cs))
 
 abbrev pub and_then : {A : Type 0} → Result A LabelFault → (A → Result A LabelFault) → Result A LabelFault
 and_then (Ok x) f = f x

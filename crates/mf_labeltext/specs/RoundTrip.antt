@@ -4,15 +4,14 @@ use Rattle.std.specs.List.{AllByRecursion}
 use Rattle.mf_errno.specs.Module.{same_module}
 use Rattle.mf_errno.specs.declared.module.Module.{Module}
 use Rattle.mf_errno.specs.declared.module.Module.TheVariants.{Biba, Mls, Partition}
-use Rattle.mf_elem.specs.Comps.{AreWords}
-use Rattle.mf_elem.specs.declared.elem.Elem.{Elem}
-use Rattle.mf_elem.specs.declared.elem.Elem.TheVariants.{Low, High, Equal, Grade}
+use Rattle.mf_elem.specs.Label.{IsAskedLabel}
+use Rattle.mf_elem.specs.declared.label.TheConstants.{LAST_PARTITION}
 use Rattle.mf_elem.specs.declared.label.RangeLabel.{RangeLabel}
 use Rattle.mf_elem.specs.declared.label.LabelValue.{LabelValue}
 use Rattle.mf_elem.specs.declared.label.LabelValue.TheVariants.{Unset, Range, Number}
 use Rattle.mf_elem.specs.declared.label.Request.{Request}
 use Rattle.mf_labeltext.specs.LabelGrammar.{Spells}
-use Rattle.mf_labeltext.specs.Canonical.{parts_of, canonical}
+use Rattle.mf_labeltext.specs.Canonical.{parts_of, canonical_label}
 
 -- ---- what parts ask for
 abbrev pub value_of : Module → List (Module × LabelValue) → Option LabelValue
@@ -36,25 +35,12 @@ abbrev pub request_of : List (Module × LabelValue) → Request
 request_of parts = record { biba = range_of (value_of Biba parts); mls = range_of (value_of Mls parts); partition = number_of (value_of Partition parts); other = false }
 
 -- ---- which parts a label may have
--- a value of its type: 16 bits of grade, and four words of 64 bits of compartments
-abbrev pub IsElem : Elem → Type 0
-IsElem Low = Unit {0}
-IsElem High = Unit {0}
-IsElem Equal = Unit {0}
-IsElem (Grade grade comps) = (grade ≤ 65535) × AreWords comps.words
-
--- an effective element or a range is there
-abbrev pub AreLabelParts : Option Elem → Option (Elem × Elem) → Type 0
-AreLabelParts None None = ⊥
-AreLabelParts (Some element) None = IsElem element
-AreLabelParts None (Some ends) = IsElem ends.0 × IsElem ends.1
-AreLabelParts (Some element) (Some ends) = IsElem element × IsElem ends.0 × IsElem ends.1
-
+-- a label or a partition that a label text can ask for; an Unset partition is 0
 abbrev pub IsValueOf : Module → LabelValue → Type 0
-IsValueOf Biba (Range label) = AreLabelParts label.effective label.range
-IsValueOf Mls (Range label) = AreLabelParts label.effective label.range
+IsValueOf Biba (Range label) = IsAskedLabel label
+IsValueOf Mls (Range label) = IsAskedLabel label
 IsValueOf Partition Unset = Unit {0}
-IsValueOf Partition (Number n) = n ≤ 2147483647
+IsValueOf Partition (Number n) = n ≤ LAST_PARTITION
 IsValueOf policy value = ⊥
 
 abbrev pub IsPart : Module × LabelValue → Type 0
@@ -67,4 +53,4 @@ pub record AreParts (parts : List (Module × LabelValue)) : Type 0 where
 
 -- The canonical text of one or more parts asks for just these parts.
 abbrev pub CanonicalTextSpellsItsParts : Type 0
-CanonicalTextSpellsItsParts = (parts : List (Module × LabelValue)) → AreParts parts → parts ≢ [] → Spells (canonical parts) (request_of parts)
+CanonicalTextSpellsItsParts = (parts : List (Module × LabelValue)) → AreParts parts → parts ≢ [] → Spells (canonical_label parts) (request_of parts)

@@ -8,5 +8,5 @@ mod splitting;
 mod values;
 
 pub use fault::LabelFault;
-pub use printing::{canonical_text_spells_its_parts, print_elem, print_label};
-pub use reading::{read_request, read_request_bytes};
+pub use printing::{canonical_text_spells_its_parts, policy_name, print_elem, print_label};
+pub use reading::read_request;

@@ -2,22 +2,28 @@
 ghost use Rattle.std.specs.Prelude.{◌≡◌, ◌<◌, ◌∷◌, ◌++◌, map, string_bytes, IfOk, OnOk, OnErr};
 ghost use Rattle.std.specs.Fmt.{decimal};
 ghost use Rattle.std.specs.List.{join_with_byte};
-ghost use Rattle.mf_labeltext.specs.Canonical.{rising, comps_text, elem_text, range_text, label_text, partition_text, value_text, policy_text, element_text, parts_of, in_order, comma_behind, elements_text, canonical};
+ghost use Rattle.mf_text.specs.Appending.{Extends};
+ghost use Rattle.mf_labeltext.specs.Bytes.{comma, dash};
+ghost use Rattle.mf_labeltext.specs.Canonical.{rising, comps_text, elem_text, range_text, label_text, partition_text, value_text, policy_text, element_text, parts_of, in_order, comma_behind, elements_text, canonical_label};
 ghost use Rattle.mf_labeltext.specs.RoundTrip.{CanonicalTextSpellsItsParts};
 
-use mf_elem::{Comps, Elem, LabelValue, RangeLabel};
+use mf_elem::{Comps, Elem, LAST_COMPARTMENT, LabelValue, RangeLabel};
 use mf_errno::Module;
+use mf_text::print_number;
 use std::alloc::{AllocError, Global};
 
 /// Appends the canonical text of an element: the word `low`, `high` or `equal`, or the grade and its compartments,
 /// rising and without leading zeros. If memory runs out, `out` is unchanged.
-pub fn print_elem(alloc: Global, element: &Elem, out: &mut String) -> Result<(), AllocError>
+pub fn print_elem(element: &Elem, out: &mut String) -> Result<(), AllocError>
     ensures ok { OnOk result (string_bytes out.new ≡ string_bytes out.old ++ elem_text element.now) }
     ensures err { OnErr result (string_bytes out.new ≡ string_bytes out.old) }
 {
-    let mut text = String::new(alloc);
-    push_elem(element, &mut text)?;
-    out.push_str(text.as_str())
+    let length = out.len();
+    let appended = push_elem(element, out);
+    if appended.is_err() {
+        out.truncate(length);
+    }
+    appended
 }
 
 /// Appends the canonical text of a label's parts: their elements in the order biba, mls, partition, whatever their
@@ -28,22 +34,31 @@ pub fn print_label(
     parts: &[(Module, LabelValue)],
     out: &mut String,
 ) -> Result<(), AllocError>
-    ensures ok { OnOk result (string_bytes out.new ≡ string_bytes out.old ++ canonical parts.now) }
+    ensures ok { OnOk result (string_bytes out.new ≡ string_bytes out.old ++ canonical_label parts.now) }
     ensures err { OnErr result (string_bytes out.new ≡ string_bytes out.old) }
 {
-    let text = canonical_text(alloc, parts)?;
-    out.push_str(text.as_str())
+    let length = out.len();
+    let appended = push_parts(alloc, parts, out);
+    if appended.is_err() {
+        out.truncate(length);
+    }
+    appended
 }
 
-#[tactic(auto, unfolding(crate::specs::Canonical::canonical))]
-fn canonical_text(alloc: Global, parts: &[(Module, LabelValue)]) -> Result<String, AllocError>
-    ensures { IfOk result (λ text. string_bytes text ≡ canonical parts.now) }
+#[tactic(auto, unfolding(crate::specs::Canonical::canonical_label))]
+fn push_parts(
+    alloc: Global,
+    parts: &[(Module, LabelValue)],
+    out: &mut String,
+) -> Result<(), AllocError>
+    ensures ok { OnOk result (string_bytes out.new ≡ string_bytes out.old ++ canonical_label parts.now) }
+    ensures err { OnErr result (Extends (string_bytes out.old) (string_bytes out.new)) }
 {
     let ordered = in_order(alloc, parts)?;
     if ordered.is_empty() {
-        return String::from_str(alloc, "-");
+        return out.push('-');
     }
-    elements(alloc, ordered.as_slice())
+    push_elements(ordered.as_slice(), out)
 }
 
 #[tactic(auto, unfolding(crate::specs::Canonical::in_order))]
@@ -76,20 +91,33 @@ fn push_parts_of(
 }
 
 /// The elements of one or more parts, with a comma between each two.
-fn elements(alloc: Global, parts: &[(Module, LabelValue)]) -> Result<String, AllocError>
-    ensures { IfOk result (λ text. string_bytes text ≡ join_with_byte 44 (map element_text parts.now)) }
+fn push_elements(parts: &[(Module, LabelValue)], out: &mut String) -> Result<(), AllocError>
+    ensures ok { OnOk result (string_bytes out.new ≡ string_bytes out.old ++ join_with_byte comma (map element_text parts.now)) }
+    ensures err { OnErr result (Extends (string_bytes out.old) (string_bytes out.new)) }
 {
-    let mut text = String::new(alloc);
     for (place, part) in parts.iter().enumerate() {
-        push_comma_behind(place, &mut text)?;
-        push_element(part, &mut text)?;
+        push_next_element(place, part, out)?;
     }
-    Ok(text)
+    Ok(())
+}
+
+/// An element behind so many others.
+fn push_next_element(
+    elements: usize,
+    part: &(Module, LabelValue),
+    out: &mut String,
+) -> Result<(), AllocError>
+    ensures ok { OnOk result (string_bytes out.new ≡ string_bytes out.old ++ (comma_behind elements ++ element_text part.now)) }
+    ensures err { OnErr result (Extends (string_bytes out.old) (string_bytes out.new)) }
+{
+    push_comma_behind(elements, out)?;
+    push_element(part, out)
 }
 
 /// A comma, unless this is the first element.
 fn push_comma_behind(elements: usize, out: &mut String) -> Result<(), AllocError>
-    ensures { OnOk result (string_bytes out.new ≡ string_bytes out.old ++ comma_behind elements) }
+    ensures ok { OnOk result (string_bytes out.new ≡ string_bytes out.old ++ comma_behind elements) }
+    ensures err { OnErr result (Extends (string_bytes out.old) (string_bytes out.new)) }
 {
     if elements == 0 {
         return Ok(());
@@ -98,15 +126,17 @@ fn push_comma_behind(elements: usize, out: &mut String) -> Result<(), AllocError
 }
 
 fn push_element(part: &(Module, LabelValue), out: &mut String) -> Result<(), AllocError>
-    ensures { OnOk result (string_bytes out.new ≡ string_bytes out.old ++ element_text part.now) }
+    ensures ok { OnOk result (string_bytes out.new ≡ string_bytes out.old ++ element_text part.now) }
+    ensures err { OnErr result (Extends (string_bytes out.old) (string_bytes out.new)) }
 {
     let (policy, value) = part;
-    out.push_str(policy_text(*policy))?;
+    out.push_str(policy_name(*policy))?;
     out.push('/')?;
     push_value(value, out)
 }
 
-fn policy_text(policy: Module) -> &'static str
+/// The name of the policy in a label text.
+pub fn policy_name(policy: Module) -> &'static str
     ensures { result.now ≡ policy_text policy }
 {
     match policy {
@@ -119,7 +149,8 @@ fn policy_text(policy: Module) -> &'static str
 }
 
 fn push_value(value: &LabelValue, out: &mut String) -> Result<(), AllocError>
-    ensures { OnOk result (string_bytes out.new ≡ string_bytes out.old ++ value_text value.now) }
+    ensures ok { OnOk result (string_bytes out.new ≡ string_bytes out.old ++ value_text value.now) }
+    ensures err { OnErr result (Extends (string_bytes out.old) (string_bytes out.new)) }
 {
     match value {
         LabelValue::Unset => push_partition(0, out),
@@ -129,16 +160,18 @@ fn push_value(value: &LabelValue, out: &mut String) -> Result<(), AllocError>
 }
 
 fn push_partition(number: u32, out: &mut String) -> Result<(), AllocError>
-    ensures { OnOk result (string_bytes out.new ≡ string_bytes out.old ++ partition_text number) }
+    ensures ok { OnOk result (string_bytes out.new ≡ string_bytes out.old ++ partition_text number) }
+    ensures err { OnErr result (Extends (string_bytes out.old) (string_bytes out.new)) }
 {
     if number == 0 {
         return out.push_str("none");
     }
-    write!(out, "{number}")
+    print_number(u64::from(number), out)
 }
 
 fn push_label(label: &RangeLabel, out: &mut String) -> Result<(), AllocError>
-    ensures { OnOk result (string_bytes out.new ≡ string_bytes out.old ++ label_text label.now) }
+    ensures ok { OnOk result (string_bytes out.new ≡ string_bytes out.old ++ label_text label.now) }
+    ensures err { OnErr result (Extends (string_bytes out.old) (string_bytes out.new)) }
 {
     if let Some(effective) = &label.effective {
         push_elem(effective, out)?;
@@ -147,27 +180,36 @@ fn push_label(label: &RangeLabel, out: &mut String) -> Result<(), AllocError>
 }
 
 fn push_range(range: &Option<(Elem, Elem)>, out: &mut String) -> Result<(), AllocError>
-    ensures { OnOk result (string_bytes out.new ≡ string_bytes out.old ++ range_text range.now) }
+    ensures ok { OnOk result (string_bytes out.new ≡ string_bytes out.old ++ range_text range.now) }
+    ensures err { OnErr result (Extends (string_bytes out.old) (string_bytes out.new)) }
 {
     let Some((low, high)) = range else {
         return Ok(());
     };
     out.push('(')?;
-    push_elem(low, out)?;
-    out.push('-')?;
-    push_elem(high, out)?;
+    push_ends(low, high, out)?;
     out.push(')')
 }
 
+fn push_ends(low: &Elem, high: &Elem, out: &mut String) -> Result<(), AllocError>
+    ensures ok { OnOk result (string_bytes out.new ≡ string_bytes out.old ++ (elem_text low.now ++ dash ∷ elem_text high.now)) }
+    ensures err { OnErr result (Extends (string_bytes out.old) (string_bytes out.new)) }
+{
+    push_elem(low, out)?;
+    out.push('-')?;
+    push_elem(high, out)
+}
+
 fn push_elem(element: &Elem, out: &mut String) -> Result<(), AllocError>
-    ensures { OnOk result (string_bytes out.new ≡ string_bytes out.old ++ elem_text element.now) }
+    ensures ok { OnOk result (string_bytes out.new ≡ string_bytes out.old ++ elem_text element.now) }
+    ensures err { OnErr result (Extends (string_bytes out.old) (string_bytes out.new)) }
 {
     match element {
         Elem::Low => out.push_str("low"),
         Elem::High => out.push_str("high"),
         Elem::Equal => out.push_str("equal"),
         Elem::Grade(grade, comps) => {
-            write!(out, "{grade}")?;
+            print_number(u64::from(*grade), out)?;
             push_comps(comps, out)
         }
     }
@@ -176,10 +218,11 @@ fn push_elem(element: &Elem, out: &mut String) -> Result<(), AllocError>
 /// A colon and the compartments, rising, with a plus between each two.
 #[tactic(auto, unfolding(crate::specs::Canonical::rising))]
 fn push_comps(comps: &Comps, out: &mut String) -> Result<(), AllocError>
-    ensures { OnOk result (string_bytes out.new ≡ string_bytes out.old ++ comps_text (rising comps.now)) }
+    ensures ok { OnOk result (string_bytes out.new ≡ string_bytes out.old ++ comps_text (rising comps.now)) }
+    ensures err { OnErr result (Extends (string_bytes out.old) (string_bytes out.new)) }
 {
     let mut separator = ':';
-    for place in 0..256 {
+    for place in 0..LAST_COMPARTMENT {
         let n = place + 1;
         if comps.has(n) {
             push_comp(separator, n, out)?;
@@ -191,10 +234,11 @@ fn push_comps(comps: &Comps, out: &mut String) -> Result<(), AllocError>
 
 fn push_comp(separator: char, n: u16, out: &mut String) -> Result<(), AllocError>
     requires { separator < 128 }
-    ensures { OnOk result (string_bytes out.new ≡ string_bytes out.old ++ separator ∷ decimal n) }
+    ensures ok { OnOk result (string_bytes out.new ≡ string_bytes out.old ++ separator ∷ decimal n) }
+    ensures err { OnErr result (Extends (string_bytes out.old) (string_bytes out.new)) }
 {
     out.push(separator)?;
-    write!(out, "{n}")
+    print_number(u64::from(n), out)
 }
 
 /// The canonical text of one or more parts of a label asks for just these parts, an Unset partition as 0.
@@ -210,8 +254,9 @@ mod tests {
     fn elements_are_appended(rt: HostRuntime) -> Result<(), AllocError> {
         let comps = Comps::empty().with(256).with(2);
         let mut out = String::from_str(rt.alloc(), "low,")?;
-        print_elem(rt.alloc(), &Elem::Grade(10, comps), &mut out)?;
+        print_elem(&Elem::Grade(10, comps), &mut out)?;
         assert!(rt; out.as_str() == "low,10:2+256");
+        assert!(rt; policy_name(Module::Mls) == "mls");
         Ok(())
     }
 }

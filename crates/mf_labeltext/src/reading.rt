@@ -1,10 +1,12 @@
 //! Reading what a label text asks for.
-ghost use Rattle.std.specs.Prelude.{◌≡◌, ◌↔◌, ◌+◌, ◌^◌, ◌<◌, length, Ok, Some, IfErr};
+ghost use Rattle.std.specs.Prelude.{◌≡◌, ◌↔◌, ◌+◌, ◌^◌, ◌<◌, length, Ok, Err, IfOk};
 ghost use Rattle.std.specs.List.{list_all};
+ghost use Rattle.mf_elem.specs.Label.{IsRequest};
 ghost use Rattle.mf_elem.specs.declared.label.Request.{Request};
 ghost use Rattle.mf_labeltext.specs.LabelGrammar.{Spells};
-ghost use Rattle.mf_labeltext.specs.Reading.{is_name_byte, is_name, asked, element_in, request_in};
-ghost use Rattle.mf_labeltext.specs.FirstFault.{first_fault};
+ghost use Rattle.mf_labeltext.specs.Reading.{is_name_byte, is_name, with_part, element_in, request_in};
+ghost use Rattle.mf_labeltext.specs.FirstFault.{IsFirstLabelFault};
+ghost use Rattle.mf_labeltext.specs.declared.fault.LabelFault.{LabelFault};
 
 use crate::LabelFault;
 use crate::splitting::split_once;
@@ -15,28 +17,20 @@ use mf_elem::Request;
 /// well formed. An element of any other policy sets `other`, whatever its value. The fault is that of the first faulty element.
 pub fn read_request(text: &str) -> Result<Request, LabelFault>
     ensures spells { (request : Request) → (result ≡ Ok request) ↔ Spells text.now request }
-    ensures fault { IfErr result (λ fault. first_fault text.now ≡ Some fault) }
-    ensures value { result ≡ request_in text.now }
-{
-    read_request_bytes(text.as_bytes())
-}
-
-/// The same as `read_request` for the bytes of a text.
-pub fn read_request_bytes(text: &[u8]) -> Result<Request, LabelFault>
-    ensures spells { (request : Request) → (result ≡ Ok request) ↔ Spells text.now request }
-    ensures fault { IfErr result (λ fault. first_fault text.now ≡ Some fault) }
+    ensures fault { (fault : LabelFault) → (result ≡ Err fault) ↔ IsFirstLabelFault text.now fault }
+    ensures formed { IfOk result IsRequest }
     ensures value { result ≡ request_in text.now }
 {
     read_elements(text)
 }
 
 #[tactic(auto, unfolding(crate::specs::Reading::request_in))]
-fn read_elements(text: &[u8]) -> Result<Request, LabelFault>
+fn read_elements(text: &str) -> Result<Request, LabelFault>
     ensures { result ≡ request_in text.now }
 {
     let mut request = Request::none();
     let mut rest = text;
-    while let Some((element, after)) = split_once(rest, b',') {
+    while let Some((element, after)) = split_once(rest, ',') {
         request = match read_element(text.len() - rest.len(), &request, element) {
             Ok(next) => next,
             Err(fault) => return Err(fault),
@@ -48,33 +42,33 @@ fn read_elements(text: &[u8]) -> Result<Request, LabelFault>
 
 /// The request with the element added. The element's first byte is byte `place` of the text.
 #[tactic(auto, unfolding(crate::specs::Reading::element_in))]
-fn read_element(place: usize, request: &Request, element: &[u8]) -> Result<Request, LabelFault>
+fn read_element(place: usize, request: &Request, element: &str) -> Result<Request, LabelFault>
     requires { place + length element.now < 2 ^ 64 }
     ensures { result ≡ element_in place request.now element.now }
 {
     if element.is_empty() {
         return Err(LabelFault::EmptyElement(place));
     }
-    match split_once(element, b'/') {
+    match split_once(element, '/') {
         Some((name, value)) if is_name(name) => {
-            let asked = ask(name, value, request);
-            asked.ok_or(LabelFault::BadValue(place + name.len() + 1))
+            let next = with_part(name, value, request);
+            next.ok_or(LabelFault::BadValue(place + name.len() + 1))
         }
         _ => Err(LabelFault::NoSlash(place)),
     }
 }
 
 /// The request with the element of this name and value added.
-#[tactic(auto, unfolding(crate::specs::Reading::asked))]
-fn ask(name: &[u8], value: &[u8], request: &Request) -> Option<Request>
-    ensures { result ≡ asked name.now value.now request.now }
+#[tactic(auto, unfolding(crate::specs::Reading::with_part))]
+fn with_part(name: &str, value: &str, request: &Request) -> Option<Request>
+    ensures { result ≡ with_part name.now value.now request.now }
 {
     let mut next = *request;
-    if name == b"biba".as_slice() {
+    if name == "biba" {
         next.biba = Some(read_label(value)?);
-    } else if name == b"mls".as_slice() {
+    } else if name == "mls" {
         next.mls = Some(read_label(value)?);
-    } else if name == b"partition".as_slice() {
+    } else if name == "partition" {
         next.partition = Some(read_partition(value)?);
     } else {
         next.other = true;
@@ -88,10 +82,10 @@ fn is_name_byte(byte: u8) -> bool
     matches!(byte, b'a'..=b'z' | b'0'..=b'9' | b'_')
 }
 
-fn is_name(text: &[u8]) -> bool
+fn is_name(text: &str) -> bool
     ensures { result ≡ is_name text.now }
 {
-    !text.is_empty() && are_name_bytes(text)
+    !text.is_empty() && are_name_bytes(text.as_bytes())
 }
 
 fn are_name_bytes(text: &[u8]) -> bool

@@ -3,25 +3,25 @@ ghost use Rattle.std.specs.Prelude.{◌≡◌, ◌≤◌, IfSome};
 ghost use Rattle.mf_labeltext.specs.Reading.{number, comps_in, grade_in, elem_in, effective_in, range_in, label_in, partition_in};
 
 use crate::splitting::split_once;
-use mf_elem::{Comps, Elem, RangeLabel};
-use mf_text::read_number_bytes;
+use mf_elem::{Comps, Elem, LAST_COMPARTMENT, LAST_GRADE, LAST_PARTITION, RangeLabel};
+use mf_text::read_number;
 
 #[tactic(auto, unfolding(crate::specs::Reading::number))]
-fn read_grade_number(text: &[u8]) -> Option<u16>
-    ensures { result ≡ number 0 65535 text.now }
+fn read_grade_number(text: &str) -> Option<u16>
+    ensures { result ≡ number 0 LAST_GRADE text.now }
 {
-    match read_number_bytes(text, 0, 65535) {
+    match read_number(text, 0, u32::from(LAST_GRADE)) {
         Ok(grade) => Some(grade as u16),
         Err(_) => None,
     }
 }
 
 #[tactic(auto, unfolding(crate::specs::Reading::number))]
-fn read_compartment(text: &[u8]) -> Option<u16>
-    ensures value { result ≡ number 1 256 text.now }
-    ensures within { IfSome result (λ n. (1 ≤ n) × (n ≤ 256)) }
+fn read_compartment(text: &str) -> Option<u16>
+    ensures value { result ≡ number 1 LAST_COMPARTMENT text.now }
+    ensures within { IfSome result (λ n. (1 ≤ n) × (n ≤ LAST_COMPARTMENT)) }
 {
-    match read_number_bytes(text, 1, 256) {
+    match read_number(text, 1, u32::from(LAST_COMPARTMENT)) {
         Ok(n) => Some(n as u16),
         Err(_) => None,
     }
@@ -29,12 +29,12 @@ fn read_compartment(text: &[u8]) -> Option<u16>
 
 /// The compartments of a list with a plus between each two.
 #[tactic(auto, unfolding(crate::specs::Reading::comps_in))]
-fn read_comps(text: &[u8]) -> Option<Comps>
+fn read_comps(text: &str) -> Option<Comps>
     ensures { result ≡ comps_in text.now }
 {
     let mut comps = Comps::empty();
     let mut rest = text;
-    while let Some((first, after)) = split_once(rest, b'+') {
+    while let Some((first, after)) = split_once(rest, '+') {
         comps = comps.with(read_compartment(first)?);
         rest = after;
     }
@@ -42,24 +42,24 @@ fn read_comps(text: &[u8]) -> Option<Comps>
 }
 
 #[tactic(auto, unfolding(crate::specs::Reading::grade_in))]
-fn read_grade(text: &[u8]) -> Option<Elem>
+fn read_grade(text: &str) -> Option<Elem>
     ensures { result ≡ grade_in text.now }
 {
-    match split_once(text, b':') {
+    match split_once(text, ':') {
         None => Some(Elem::Grade(read_grade_number(text)?, Comps::empty())),
         Some((grade, comps)) => Some(Elem::Grade(read_grade_number(grade)?, read_comps(comps)?)),
     }
 }
 
 #[tactic(auto, unfolding(crate::specs::Reading::elem_in))]
-fn read_elem(text: &[u8]) -> Option<Elem>
+fn read_elem(text: &str) -> Option<Elem>
     ensures { result ≡ elem_in text.now }
 {
-    if text == b"low".as_slice() || text == b"lo".as_slice() {
+    if text == "low" || text == "lo" {
         Some(Elem::Low)
-    } else if text == b"high".as_slice() || text == b"hi".as_slice() {
+    } else if text == "high" || text == "hi" {
         Some(Elem::High)
-    } else if text == b"equal".as_slice() || text == b"eq".as_slice() {
+    } else if text == "equal" || text == "eq" {
         Some(Elem::Equal)
     } else {
         read_grade(text)
@@ -68,18 +68,18 @@ fn read_elem(text: &[u8]) -> Option<Elem>
 
 /// The ends of a range. The text begins after its opening parenthesis.
 #[tactic(auto, unfolding(crate::specs::Reading::range_in))]
-fn read_range(text: &[u8]) -> Option<(Elem, Elem)>
+fn read_range(text: &str) -> Option<(Elem, Elem)>
     ensures { result ≡ range_in text.now }
 {
-    let (low, rest) = split_once(text, b'-')?;
-    let (high, rest) = split_once(rest, b')')?;
+    let (low, rest) = split_once(text, '-')?;
+    let (high, rest) = split_once(rest, ')')?;
     if !rest.is_empty() {
         return None;
     }
     Some((read_elem(low)?, read_elem(high)?))
 }
 
-fn read_effective(text: &[u8]) -> Option<Option<Elem>>
+fn read_effective(text: &str) -> Option<Option<Elem>>
     ensures { result ≡ effective_in text.now }
 {
     if text.is_empty() {
@@ -90,10 +90,10 @@ fn read_effective(text: &[u8]) -> Option<Option<Elem>>
 
 /// The value of a Biba or MLS element.
 #[tactic(auto, unfolding(crate::specs::Reading::label_in))]
-pub fn read_label(text: &[u8]) -> Option<RangeLabel>
+pub fn read_label(text: &str) -> Option<RangeLabel>
     ensures { result ≡ label_in text.now }
 {
-    match split_once(text, b'(') {
+    match split_once(text, '(') {
         None => Some(RangeLabel::effective(read_elem(text)?)),
         Some((effective, range)) => Some(RangeLabel {
             effective: read_effective(effective)?,
@@ -104,14 +104,11 @@ pub fn read_label(text: &[u8]) -> Option<RangeLabel>
 
 /// The value of a partition element.
 #[tactic(auto, unfolding(crate::specs::Reading::partition_in, crate::specs::Reading::number))]
-pub fn read_partition(text: &[u8]) -> Option<u32>
+pub fn read_partition(text: &str) -> Option<u32>
     ensures { result ≡ partition_in text.now }
 {
-    if text == b"none".as_slice() {
+    if text == "none" {
         return Some(0);
     }
-    match read_number_bytes(text, 0, 2147483647) {
-        Ok(number) => Some(number),
-        Err(_) => None,
-    }
+    read_number(text, 0, LAST_PARTITION).ok()
 }

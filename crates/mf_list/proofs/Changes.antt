@@ -7,7 +7,7 @@ use Rattle.mf_policy.specs.Registration.{Entry, is_of}
 use Rattle.mf_policy.specs.declared.spec.Spec.{Spec}
 use Rattle.mf_policy.specs.Settings.{change_of}
 use Rattle.mf_list.specs.Places.{IsEntryPlace}
-use Rattle.mf_list.specs.Registration.{change_at, change_in, with_meaning}
+use Rattle.mf_list.specs.Registration.{change_at, change_in, with_spec}
 use Rattle.std.specs.declared.alloc.AllocError.{AllocError}
 
 one_entry : (o : Option Entry) (a b : Entry) → o ≡ Some a → o ≡ Some b → a ≡ b
@@ -26,5 +26,5 @@ pub changed_in : (m : Module) (change : Change) (entries : List Entry) (place : 
 changed_in m change entries place (Err e) old new at is same ok = tt
 changed_in m change entries place (Ok changed) old new at is same ok =
     ap (λ (es : List Entry). (changed, es)) (at.written new (stays_at m entries place old new at is same))
-    ∙ ap (λ (p : Changed × Spec). (p.0, with_meaning m p.1 entries)) ok
+    ∙ ap (λ (p : Changed × Spec). (p.0, with_spec m p.1 entries)) ok
     ∙ sym (ap (change_at m change entries) (at.entry old ∙ ap (λ (e : Entry). Some e) (sym is)))

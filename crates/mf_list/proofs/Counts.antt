@@ -8,7 +8,7 @@ use Rattle.mf_policy.specs.declared.spec.Spec.{Spec}
 use Rattle.mf_policy.specs.Registration.{Entry, is_listed, is_of}
 use Rattle.mf_list.specs.Held.{how_many, are_distinct, IsListedOnce}
 use Rattle.mf_list.specs.Lists.{in_catalogue}
-use Rattle.mf_list.specs.Registration.{entries_without, modules_without, with_meaning, with_newest}
+use Rattle.mf_list.specs.Registration.{entries_without, modules_without, with_spec, with_newest}
 use Rattle.mf_errno.proofs.Modules.{same_module-is}
 
 pub how_many-newest : (p : Entry → Bool) (e : Entry) (es : List Entry) → how_many p (with_newest e es) ≡ cond (p e) 1 0 + how_many p es
@@ -47,17 +47,17 @@ how_many-remove p (x ∷ xs) (suc i) = omega (arith, how_many-remove p xs i)
 pub listed_once-remove : (es : List Entry) (i : ℕ) → IsListedOnce es → IsListedOnce (remove es i)
 listed_once-remove es i once = λ m. omega (arith, how_many-remove (is_of m) es i, once m)
 
--- a change of a meaning lists the same modules
-pub how_many-meaning : (m k : Module) (meaning : Spec) (es : List Entry) → how_many (is_of m) (with_meaning k meaning es) ≡ how_many (is_of m) es
-how_many-meaning m k meaning [] = refl
-how_many-meaning m k meaning (x ∷ xs) =
-    elim (is_of k x) as (λ b. how_many (is_of m) (cond b ((x.0, meaning) ∷ xs) (x ∷ with_meaning k meaning xs)) ≡ cond (is_of m x) 1 0 + how_many (is_of m) xs) [
+-- a change of a spec lists the same modules
+pub how_many-spec : (m k : Module) (spec : Spec) (es : List Entry) → how_many (is_of m) (with_spec k spec es) ≡ how_many (is_of m) es
+how_many-spec m k spec [] = refl
+how_many-spec m k spec (x ∷ xs) =
+    elim (is_of k x) as (λ b. how_many (is_of m) (cond b ((x.0, spec) ∷ xs) (x ∷ with_spec k spec xs)) ≡ cond (is_of m x) 1 0 + how_many (is_of m) xs) [
       | true ↦ refl
-      | false ↦ ap (λ (n : ℕ). cond (is_of m x) 1 0 + n) (how_many-meaning m k meaning xs)
+      | false ↦ ap (λ (n : ℕ). cond (is_of m x) 1 0 + n) (how_many-spec m k spec xs)
     ]
 
-pub listed_once-meaning : (k : Module) (meaning : Spec) (es : List Entry) → IsListedOnce es → IsListedOnce (with_meaning k meaning es)
-listed_once-meaning k meaning es once = λ m. omega (arith, how_many-meaning m k meaning es, once m)
+pub listed_once-spec : (k : Module) (spec : Spec) (es : List Entry) → IsListedOnce es → IsListedOnce (with_spec k spec es)
+listed_once-spec k spec es once = λ m. omega (arith, how_many-spec m k spec es, once m)
 
 -- a module that leaves the catalogue or the list is held once less
 pub how_many-without_module : (m k : Module) (ms : List Module) → in_catalogue k ms ≡ true → how_many (same_module m) ms ≡ cond (same_module m k) 1 0 + how_many (same_module m) (modules_without k ms)

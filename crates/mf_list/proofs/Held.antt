@@ -13,8 +13,8 @@ use Rattle.mf_list.specs.declared.faults.RegisterFault.{RegisterFault}
 use Rattle.mf_list.specs.declared.faults.UnregisterFault.{UnregisterFault}
 use Rattle.mf_list.specs.Held.{how_many, times_held}
 use Rattle.mf_list.specs.Lists.{ListView, CatalogueView}
-use Rattle.mf_list.specs.Registration.{Registers, Unregisters, change_at, change_in}
-use Rattle.mf_list.proofs.Counts.{how_many-meaning, how_many-newest, how_many-push, how_many-without_entry, how_many-without_module}
+use Rattle.mf_list.specs.Registration.{Enters, Registers, Unregisters, change_at, change_in}
+use Rattle.mf_list.proofs.Counts.{how_many-spec, how_many-newest, how_many-push, how_many-without_entry, how_many-without_module}
 
 unchanged : (m : Module) (list list' : ListView) (catalogue catalogue' : CatalogueView) → list' ≡ list → catalogue' ≡ catalogue
     → times_held m list' catalogue' ≡ times_held m list catalogue
@@ -32,6 +32,16 @@ held_after_register m list list' catalogue catalogue' given given' (Ok r) moves 
     omega (arith, listed, left, rest)
 held_after_register m list list' catalogue catalogue' given given' (Err f) ok same = unchanged m list list' catalogue catalogue' same.0 same.1
 
+pub held_after_listing : (m : Module) (list list' : ListView) (catalogue catalogue' : CatalogueView) (o : Result Registration RegisterFault)
+    → IfOk o (λ r. Enters r list list' catalogue catalogue') → OnErr o ((list' ≡ list) × (catalogue' ≡ catalogue))
+    → times_held m list' catalogue' ≡ times_held m list catalogue
+held_after_listing m list list' catalogue catalogue' (Ok r) moves err =
+    let listed = ap (how_many (is_of m)) moves.entries ∙ how_many-newest (is_of m) (r, fresh_of r.module) list.entries in
+    let left = how_many-without_module m r.module catalogue.modules moves.was_in_catalogue in
+    let rest = ap (how_many (same_module m)) moves.modules in
+    omega (arith, listed, left, rest)
+held_after_listing m list list' catalogue catalogue' (Err f) ok same = unchanged m list list' catalogue catalogue' same.0 same.1
+
 pub held_after_unregister : (m : Module) (list list' : ListView) (catalogue catalogue' : CatalogueView) (o : Result Registration UnregisterFault)
     → IfOk o (λ r. Unregisters r.module list list' catalogue catalogue')
     → OnErr o ((list' ≡ list) × (catalogue' ≡ catalogue))
@@ -45,7 +55,7 @@ held_after_unregister m list list' catalogue catalogue' (Err f) ok same = unchan
 
 changed_at : (m k : Module) (change : Change) (entries : List Entry) (o : Option Entry) → how_many (is_of m) (change_at k change entries o).1 ≡ how_many (is_of m) entries
 changed_at m k change entries None = refl
-changed_at m k change entries (Some entry) = how_many-meaning m k (change_of entry.1 change).1 entries
+changed_at m k change entries (Some entry) = how_many-spec m k (change_of entry.1 change).1 entries
 
 pub listed_after_change : (m k : Module) (change : Change) (list list' : ListView) (o : Result Changed AllocError)
     → IfOk o (λ changed. (changed, list'.entries) ≡ change_in k change list.entries)

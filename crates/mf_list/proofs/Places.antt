@@ -12,7 +12,7 @@ use Rattle.mf_policy.specs.Registration.{Entry, is_listed, is_of}
 use Rattle.mf_policy.specs.declared.registration.Registration.{Registration}
 use Rattle.mf_list.specs.Lists.{in_catalogue, is_dynamic}
 use Rattle.mf_list.specs.Places.{IsAbsent, IsEntryPlace, IsModulePlace}
-use Rattle.mf_list.specs.Registration.{with_meaning, with_newest, without_first}
+use Rattle.mf_list.specs.Registration.{with_spec, with_newest, without_first}
 
 -- some element passes exactly where the first place is within
 pub any_by_place : {X : Type 0} (p : X → Bool) (xs : List X) → list_any p xs ≡ ltb (position_or_len p xs) (length xs)
@@ -99,12 +99,12 @@ entry_at m (x ∷ xs) d h =
       | false ↦ λ l. entry_at m xs d (omega arith) ∙ entry_later x xs P d
     ] h
 
--- a new meaning at the first place
-written_at : (m : Module) (entries : List Entry) (e : Entry) → position_or_len (is_of m) entries < length entries → e.0 ≡ (get_or entries (position_or_len (is_of m) entries) e).0 → set entries (position_or_len (is_of m) entries) e ≡ with_meaning m e.1 entries
+-- a new spec at the first place
+written_at : (m : Module) (entries : List Entry) (e : Entry) → position_or_len (is_of m) entries < length entries → e.0 ≡ (get_or entries (position_or_len (is_of m) entries) e).0 → set entries (position_or_len (is_of m) entries) e ≡ with_spec m e.1 entries
 written_at m [] e h same = absurd (omega arith)
 written_at m (x ∷ xs) e h same =
     let P : ℕ = position_or_len (is_of m) xs in
-    elim (is_of m x) as (λ b. (cond (not b) (1 + P) 0) < suc (length xs) → e.0 ≡ (get_or (x ∷ xs) (cond (not b) (1 + P) 0) e).0 → set (x ∷ xs) (cond (not b) (1 + P) 0) e ≡ cond b ((x.0, e.1) ∷ xs) (x ∷ with_meaning m e.1 xs)) [
+    elim (is_of m x) as (λ b. (cond (not b) (1 + P) 0) < suc (length xs) → e.0 ≡ (get_or (x ∷ xs) (cond (not b) (1 + P) 0) e).0 → set (x ∷ xs) (cond (not b) (1 + P) 0) e ≡ cond b ((x.0, e.1) ∷ xs) (x ∷ with_spec m e.1 xs)) [
       | true ↦ λ _ s. ap (λ (r : Registration). (r, e.1) ∷ xs) s
       | false ↦ λ l s. set_later x xs P e ∙ ap (λ (ys : List Entry). x ∷ ys) (written_at m xs e (omega arith) (s ∙ get_later x xs P e))
     ] h same
@@ -129,7 +129,7 @@ entry_by_position m entries i h =
       here = λ d. sym (same_module-is m (get_or entries i d).0.module (position-Some (is_of m) entries i d h).1);
       rest = subst (λ (k : ℕ). remove entries k ≡ without_first (is_of m) entries) f.0 (remove_at_place (is_of m) entries);
       written = λ e same.
-          subst (λ (k : ℕ). set entries k e ≡ with_meaning m e.1 entries) f.0
+          subst (λ (k : ℕ). set entries k e ≡ with_spec m e.1 entries) f.0
           (written_at m entries e within (subst (λ (k : ℕ). e.0 ≡ (get_or entries k e).0) (sym f.0) same));
     }
 

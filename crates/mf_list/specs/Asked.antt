@@ -62,8 +62,8 @@ asks_privilege op.Priv = true
 asks_privilege other = false
 
 -- the answer to an item: the composition of all answers, and about a privilege the rule for privileges
-abbrev pub asked : List Entry → Item → Answer
-asked entries item =
+abbrev pub answer_to : List Entry → Item → Answer
+answer_to entries item =
     cond (asks_privilege item.op)
     (privilege_answer (composition (answers entries item)) (has_privilege entries item))
     (composed entries item)

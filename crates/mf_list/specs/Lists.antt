@@ -1,6 +1,7 @@
 -- What contracts see of the list of policies and of the catalogue.
 use Rattle.std.specs.Prelude.{◌≡◌, ℕ, ◌<◌, ◌≤◌, Bool, true, false, not, List, Option, Some, None, length}
 use Rattle.std.specs.List.{list_any}
+use Rattle.mf_elem.specs.declared.label.TheConstants.{SLOTS}
 use Rattle.mf_errno.specs.Module.{same_module}
 use Rattle.mf_errno.specs.declared.module.Module.{Module}
 use Rattle.mf_policy.specs.declared.spec.Spec.{Spec}
@@ -24,11 +25,11 @@ pub record IsReady (list : ListView) (catalogue : CatalogueView) : Type 0 where
 
 -- a spec in its initial state
 abbrev pub IsFresh : Spec → Type 0
-IsFresh meaning = meaning ≡ fresh_of (module_of meaning)
+IsFresh spec = spec ≡ fresh_of (module_of spec)
 
--- there is a slot number, below 4, exactly where one is wanted
+-- there is a number of a label slot exactly where one is wanted
 abbrev pub HasSlot : Bool → Option ℕ → Type 0
-HasSlot true (Some slot) = slot < 4
+HasSlot true (Some slot) = slot < SLOTS
 HasSlot true None = ⊥
 HasSlot false (Some slot) = ⊥
 HasSlot false None = Unit {0}

@@ -4,7 +4,7 @@ use Rattle.std.specs.List.{remove}
 use Rattle.mf_errno.specs.declared.module.Module.{Module}
 use Rattle.mf_policy.specs.Registration.{Entry, is_listed, is_of}
 use Rattle.mf_list.specs.Lists.{in_catalogue}
-use Rattle.mf_list.specs.Registration.{entries_without, modules_without, with_meaning}
+use Rattle.mf_list.specs.Registration.{entries_without, modules_without, with_spec}
 
 -- where the module's entry stands in a list
 pub record IsEntryPlace (m : Module) (entries : List Entry) (place : ℕ) : Type 0 where
@@ -14,7 +14,7 @@ pub record IsEntryPlace (m : Module) (entries : List Entry) (place : ℕ) : Type
   pub entry : (other : Entry) → find (is_of m) entries ≡ Some (slice_index_or entries place other)
   pub rest : remove entries place ≡ entries_without m entries
   pub written : (entry : Entry) → entry.0 ≡ (slice_index_or entries place entry).0
-      → slice_set entries place entry ≡ with_meaning m entry.1 entries
+      → slice_set entries place entry ≡ with_spec m entry.1 entries
 
 -- the module isn't listed
 pub record IsAbsent (m : Module) (entries : List Entry) : Type 0 where

@@ -1,5 +1,6 @@
 -- Registration: which calls are refused, and what becomes of list, catalogue and slot numbers.
 use Rattle.std.specs.Prelude.{◌≡◌, ℕ, ◌+◌, Bool, true, false, cond, not, ◌&&◌, ◌||◌, nat_le, List, [], ◌∷◌, ◌++◌, Option, Some, None, find, is_some, Result, Ok, Err}
+use Rattle.mf_elem.specs.declared.label.TheConstants.{SLOTS}
 use Rattle.mf_errno.specs.Module.{same_module}
 use Rattle.mf_errno.specs.declared.module.Module.{Module}
 use Rattle.mf_policy.specs.declared.registration.Registration.{Registration}
@@ -35,7 +36,7 @@ register_verdict m booted list catalogue given =
     cond (not (is_listed m list.entries || in_catalogue m catalogue.modules)) (Err Unknown)
     (cond (booted && is_notlate (flags_of m)) (Err NotLate)
     (cond (is_listed m list.entries) (Err Exists)
-    (cond (wants_slot m && nat_le 4 given) (Err NoSlot)
+    (cond (wants_slot m && nat_le SLOTS given) (Err NoSlot)
     (Ok (registration_of m booted given)))))
 
 -- the same for a name, which may be no module's
@@ -86,6 +87,12 @@ with_registered entries r = with_newest (r, fresh_of r.module) entries
 abbrev pub given_after : ℕ → Module → ℕ
 given_after given m = cond (wants_slot m) (given + 1) given
 
+-- list and catalogue after a registration
+pub record Enters (r : Registration) (list list' : ListView) (catalogue catalogue' : CatalogueView) : Type 0 where
+  pub was_in_catalogue : in_catalogue r.module catalogue.modules ≡ true
+  pub entries : list'.entries ≡ with_registered list.entries r
+  pub modules : catalogue'.modules ≡ modules_without r.module catalogue.modules
+
 -- list, catalogue and how many numbers were given, after a registration
 pub record Registers (r : Registration) (list list' : ListView) (catalogue catalogue' : CatalogueView) (given given' : ℕ) : Type 0 where
   pub was_in_catalogue : in_catalogue r.module catalogue.modules ≡ true
@@ -100,15 +107,15 @@ pub record Unregisters (m : Module) (list list' : ListView) (catalogue catalogue
   pub modules : catalogue'.modules ≡ catalogue.modules ++ m ∷ []
 
 -- the list where the module's policy has that spec
-abbrev pub with_meaning : Module → Spec → List Entry → List Entry
-with_meaning m meaning [] = []
-with_meaning m meaning (x ∷ xs) = cond (is_of m x) ((x.0, meaning) ∷ xs) (x ∷ with_meaning m meaning xs)
+abbrev pub with_spec : Module → Spec → List Entry → List Entry
+with_spec m spec [] = []
+with_spec m spec (x ∷ xs) = cond (is_of m x) ((x.0, spec) ∷ xs) (x ∷ with_spec m spec xs)
 
 -- the answer to a change of the entry, and the list after it
 abbrev pub change_at : Module → Change → List Entry → Option Entry → Changed × List Entry
 change_at m change entries None = (no_setting, entries)
 change_at m change entries (Some entry) =
-    ((change_of entry.1 change).0, with_meaning m (change_of entry.1 change).1 entries)
+    ((change_of entry.1 change).0, with_spec m (change_of entry.1 change).1 entries)
 
 -- the answer to a change of the module's policy, and the list after it; a module that isn't listed has no setting
 abbrev pub change_in : Module → Change → List Entry → Changed × List Entry

@@ -8,7 +8,7 @@ use crate::policy_list::PolicyList;
 use mf_compose::{decider, fold, granted};
 use mf_errno::{Errno, Module};
 use mf_item::{CheckOp, Item};
-use mf_policy::Policy;
+use mf_policy::{MOST_LISTED, Policy};
 
 /// What the policies answer together: the composed errno, and the policy that decides it. No policy decides a success,
 /// nor a check of a privilege.
@@ -24,7 +24,7 @@ impl<P: Policy> PolicyList<P> {
     /// denial. For a privilege all policies must answer success, and the subject must be root or be granted it by a
     /// policy; a refusal is always EPERM, whatever the policies answered.
     pub fn ask(&self, item: &Item) -> Answer
-        ensures { result ≡ spec.asked self.now.entries item.now }
+        ensures { result ≡ spec.answer_to self.now.entries item.now }
     {
         let policies = self.as_slice();
         let room = answers(policies, item);
@@ -52,7 +52,7 @@ fn privilege_answer(composition: Errno, has_privilege: bool) -> Answer
 
 /// Whether the subject has the privilege that the item asks for.
 fn has_privilege<P: Policy>(policies: &[Listed<P>], item: &Item) -> bool
-    requires { length policies.now ≤ 8 }
+    requires { length policies.now ≤ MOST_LISTED }
     ensures { result ≡ spec.has_privilege policies.now item.now }
 {
     item.subject.cred.is_root() || is_granted(policies, item)
@@ -60,7 +60,7 @@ fn has_privilege<P: Policy>(policies: &[Listed<P>], item: &Item) -> bool
 
 /// Whether some policy grants the privilege that the item asks for.
 fn is_granted<P: Policy>(policies: &[Listed<P>], item: &Item) -> bool
-    requires { length policies.now ≤ 8 }
+    requires { length policies.now ≤ MOST_LISTED }
     ensures { result ≡ list_any (spec.grant_of item.now.privilege item.now.subject.cred) policies.now }
 {
     let room = grants(policies, item);
@@ -76,11 +76,11 @@ fn module_at<P: Policy>(policies: &[Listed<P>], place: Option<usize>) -> Option<
 }
 
 /// The answers of the policies in walk order. The rest of the array is success.
-fn answers<P: Policy>(policies: &[Listed<P>], item: &Item) -> [Errno; 8]
-    requires { length policies.now ≤ 8 }
+fn answers<P: Policy>(policies: &[Listed<P>], item: &Item) -> [Errno; MOST_LISTED]
+    requires { length policies.now ≤ MOST_LISTED }
     ensures { take (length policies.now) result ≡ spec.answers policies.now item.now }
 {
-    let mut answers = [Errno::Success; 8];
+    let mut answers = [Errno::Success; MOST_LISTED];
     for (place, policy) in policies.iter().enumerate() {
         answers[place] = policy.check(item);
     }
@@ -88,11 +88,11 @@ fn answers<P: Policy>(policies: &[Listed<P>], item: &Item) -> [Errno; 8]
 }
 
 /// Which policies grant the privilege, in walk order. The rest of the array is false.
-fn grants<P: Policy>(policies: &[Listed<P>], item: &Item) -> [bool; 8]
-    requires { length policies.now ≤ 8 }
+fn grants<P: Policy>(policies: &[Listed<P>], item: &Item) -> [bool; MOST_LISTED]
+    requires { length policies.now ≤ MOST_LISTED }
     ensures { take (length policies.now) result ≡ map (spec.grant_of item.now.privilege item.now.subject.cred) policies.now }
 {
-    let mut grants = [false; 8];
+    let mut grants = [false; MOST_LISTED];
     for (place, policy) in policies.iter().enumerate() {
         grants[place] = policy.grants(item);
     }

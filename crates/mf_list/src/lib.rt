@@ -7,8 +7,6 @@ mod faults;
 mod listed;
 mod policy_list;
 mod registering;
-#[cfg(test)]
-mod tests;
 
 pub use ask::Answer;
 pub use catalogue::Catalogue;

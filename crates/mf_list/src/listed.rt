@@ -79,10 +79,10 @@ impl<P: Policy> Listed<P> {
     }
 
     /// Whether its registration and its spec are these.
-    pub fn is(&self, registration: Registration, meaning: &Spec) -> bool
-        ensures { IsTrue result ↔ (self.now ≡ (registration, meaning.now)) }
+    pub fn is(&self, registration: Registration, spec: &Spec) -> bool
+        ensures { IsTrue result ↔ (self.now ≡ (registration, spec.now)) }
     {
-        self.registration == registration && self.policy.same(meaning)
+        self.registration == registration && self.policy.same(spec)
     }
 
     /// The policy's answer to an item.

@@ -9,8 +9,8 @@ ghost use Rattle.mf_list.specs.Registration.{change_in, with_newest};
 use crate::catalogue::Catalogue;
 use crate::listed::Listed;
 use mf_cred::ArrayVec;
-use mf_errno::{Errno, Module};
-use mf_policy::{Change, Changed, Policy, Registration, SpecList};
+use mf_errno::Module;
+use mf_policy::{Change, Changed, MOST_LISTED, Policy, Registration, SpecList};
 use std::alloc::{AllocError, Global};
 use std::marker::Model;
 
@@ -57,7 +57,7 @@ impl<P: Policy> PolicyList<P> {
     }
 
     /// The registrations in walk order.
-    pub fn listed(&self) -> ArrayVec<Registration, 8>
+    pub fn listed(&self) -> ArrayVec<Registration, MOST_LISTED>
         ensures { result ≡ map (λ entry. entry.0) self.now.entries }
     {
         let mut registrations = ArrayVec::new();
@@ -81,10 +81,7 @@ impl<P: Policy> PolicyList<P> {
     {
         match self.place_of(module) {
             Some(place) => self.policies[place].change(alloc, change),
-            None => Ok(Changed {
-                errno: Errno::Enoent,
-                number: None,
-            }),
+            None => Ok(Changed::no_setting()),
         }
     }
 
@@ -114,7 +111,7 @@ impl<P: Policy> PolicyList<P> {
     /// The listed policies in walk order.
     pub(crate) fn as_slice(&self) -> &[Listed<P>]
         ensures value { result.now ≡ self.now.entries }
-        ensures few { length self.now.entries ≤ 8 }
+        ensures few { length self.now.entries ≤ MOST_LISTED }
     {
         self.policies.as_slice()
     }

@@ -5,15 +5,16 @@ ghost use Rattle.mf_policy.specs.Modules as facts;
 ghost use Rattle.mf_policy.specs.Registration.{Entry, is_listed};
 ghost use Rattle.mf_list.specs.Lists.{HasSlot, IsReady, in_catalogue};
 ghost use Rattle.mf_list.specs.Places.{IsEntryPlace};
-ghost use Rattle.mf_list.specs.Registration.{Registers, Unregisters, entries_without, modules_without, register_verdict, register_verdict_by_name, slot_for, unregister_verdict, unregister_verdict_by_name, with_newest};
+ghost use Rattle.mf_list.specs.Registration.{Enters, Registers, Unregisters, entries_without, modules_without, register_verdict, register_verdict_by_name, slot_for, unregister_verdict, unregister_verdict_by_name, with_newest};
 
 use crate::catalogue::Catalogue;
 use crate::faults::{RegisterFault, UnregisterFault};
 use crate::listed::Listed;
 use crate::policy_list::PolicyList;
+use mf_elem::SLOTS;
 use mf_errno::Module;
 use mf_policy::{LoadFlags, Policy, Registration};
-use mf_slots::{SLOTS, SlotNumbers};
+use mf_slots::SlotNumbers;
 
 /// What has to be known of a module to register it.
 #[derive(Clone, Copy)]
@@ -45,6 +46,29 @@ impl<P: Policy> PolicyList<P> {
         }
     }
 
+    /// Lists the module of that name as `register` does where so many slot numbers were given. The number is not taken
+    /// here: this is for a list that follows a state which has taken it.
+    pub fn register_at(
+        &mut self,
+        catalogue: &mut Catalogue<P>,
+        given: u8,
+        name: &str,
+        booted: bool,
+    ) -> Result<Registration, RegisterFault>
+        requires { IsReady self.old catalogue.old }
+        ensures verdict { result ≡ register_verdict_by_name (module_named name.now) booted self.old catalogue.old given }
+        ensures ok { IfOk result (λ r. Enters r self.old self.new catalogue.old catalogue.new) }
+        ensures err { OnErr result ((self.new ≡ self.old) × (catalogue.new ≡ catalogue.old)) }
+        ensures ready { IsReady self.new catalogue.new }
+    {
+        let Some(wanted) = Module::from_name(name) else {
+            return Err(RegisterFault::Unknown);
+        };
+        let registration = self.judge(catalogue, given, wanted, booted)?;
+        self.enter(catalogue, registration);
+        Ok(registration)
+    }
+
     fn register_module(
         &mut self,
         catalogue: &mut Catalogue<P>,
@@ -58,7 +82,7 @@ impl<P: Policy> PolicyList<P> {
         ensures err { OnErr result ((self.new ≡ self.old) × (catalogue.new ≡ catalogue.old) × (numbers.new ≡ numbers.old)) }
         ensures ready { IsReady self.new catalogue.new }
     {
-        let registration = self.judge(catalogue, numbers, wanted, booted)?;
+        let registration = self.judge(catalogue, numbers.given(), wanted, booted)?;
         take_number(numbers, registration);
         self.enter(catalogue, registration);
         Ok(registration)
@@ -68,11 +92,11 @@ impl<P: Policy> PolicyList<P> {
     fn judge(
         &self,
         catalogue: &Catalogue<P>,
-        numbers: &SlotNumbers,
+        given: u8,
         wanted: Module,
         booted: bool,
     ) -> Result<Registration, RegisterFault>
-        ensures { result ≡ register_verdict wanted booted self.now catalogue.now numbers.now }
+        ensures { result ≡ register_verdict wanted booted self.now catalogue.now given }
     {
         let Some(facts) = self.facts_of(catalogue, wanted) else {
             return Err(RegisterFault::Unknown);
@@ -83,7 +107,7 @@ impl<P: Policy> PolicyList<P> {
         if self.holds(wanted) {
             return Err(RegisterFault::Exists);
         }
-        let slot = free_slot(facts.wants_slot, numbers)?;
+        let slot = free_slot(facts.wants_slot, given)?;
         Ok(Registration {
             module: wanted,
             slot,
@@ -188,21 +212,21 @@ impl<P: Policy> PolicyList<P> {
 }
 
 /// The slot number that a module would get, where it wants one.
-fn free_slot(wanted: bool, numbers: &SlotNumbers) -> Result<Option<u8>, RegisterFault>
-    ensures { result ≡ (if wanted && nat_le 4 numbers.now then Err RegisterFault.NoSlot else Ok (slot_for wanted numbers.now)) }
+fn free_slot(wanted: bool, given: u8) -> Result<Option<u8>, RegisterFault>
+    ensures { result ≡ (if wanted && nat_le SLOTS given then Err RegisterFault.NoSlot else Ok (slot_for wanted given)) }
 {
     if !wanted {
         return Ok(None);
     }
-    if numbers.given() >= SLOTS {
+    if given as usize >= SLOTS {
         return Err(RegisterFault::NoSlot);
     }
-    Ok(Some(numbers.given()))
+    Ok(Some(given))
 }
 
 /// Takes the number of the registration, which is the next one.
 fn take_number(numbers: &mut SlotNumbers, registration: Registration)
-    requires { is_some registration.slot ≡ true → numbers.old < 4 }
+    requires { is_some registration.slot ≡ true → numbers.old < SLOTS }
     ensures { numbers.new ≡ (if is_some registration.slot then numbers.old + 1 else numbers.old) }
 {
     if registration.slot.is_some() {

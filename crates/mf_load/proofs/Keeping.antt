@@ -10,7 +10,7 @@ use Rattle.mf_objects.specs.Live.{Live, Entities, has_id, is_process, is_entry, 
 use Rattle.mf_objects.specs.Changes.{appended, changed_at, with_what, with_change, without}
 use Rattle.mf_objects.specs.Titles.{entry_names}
 use Rattle.mf_objects.proofs.Rising.{rising_push, rising_changed}
-use Rattle.mf_script.specs.Generated.{task_name, directory_name, file_name, scratch_name}
+use Rattle.mf_calls.specs.Generated.{task_name, directory_name, file_name, scratch_name}
 use Rattle.mf_objects.proofs.Finding.{find_push_miss, rising_filter}
 use Rattle.mf_load.proofs.Finding.{find_push_found, find_map, find_filter_kept, find_filter_none, all_push, all_map, all_filter, names_map}
 use Rattle.mf_load.proofs.Known.{at, directory_id, file_id, task_id, the_root, the_directory, the_file, the_task, the_scratch, IsFile, IsLow, IsFixed, HasScratch}

@@ -7,14 +7,12 @@ use Rattle.std.proofs.lemmas.Bool.Decides.{nat_tests}
 use Rattle.std.proofs.lemmas.List.{length-map}
 use Rattle.std.proofs.lemmas.List.Sums.{fold-append}
 use Rattle.mf_errno.specs.declared.errno.Errno.{Errno}
-use Rattle.mf_errno.specs.declared.module.Module.TheVariants.{Biba}
 use Rattle.mf_policy.specs.declared.registration.Registration.{Registration}
-use Rattle.mf_list.specs.Registration.{registration_of}
 use Rattle.mf_objects.specs.declared.id.Id.{Id}
 use Rattle.mf_objects.specs.Live.{Live, Entities, id_of, live_at, has_id, is_child, is_named, is_process}
 use Rattle.mf_objects.specs.Titles.{entry_names}
-use Rattle.mf_script.specs.declared.script.Task.{Task}
-use Rattle.mf_script.specs.Generated.{task_name, directory_name, file_name, scratch_name, load_directory, load_file, load_files, load_task, load_tasks, generated}
+use Rattle.mf_calls.specs.declared.script.Task.{Task}
+use Rattle.mf_calls.specs.Generated.{task_name, directory_name, file_name, scratch_name, load_directory, load_file, load_files, load_task, load_tasks, generated}
 use Rattle.mf_plan.specs.declared.target.Target.TheVariants.{Name}
 use Rattle.mf_plan.specs.declared.walk.Walk.{Walk}
 use Rattle.mf_plan.specs.Path.{walk_from}
@@ -31,12 +29,8 @@ use Rattle.mf_load.proofs.Keeping.{pushed, push_fixed, ids_differ}
 use Rattle.mf_load.proofs.Calls.{walk_inside}
 use Rattle.mf_load.proofs.Totals.{total, total_same}
 use Rattle.mf_load.proofs.Standing.{Stands, held_count, stands_same}
-use Rattle.mf_script.proofs.Loads.{task_count}
+use Rattle.mf_calls.proofs.Loads.{task_count}
 use Rattle.mf_load.proofs.Running.{IsGood, answered, answered_at, tally, tally_of}
-
--- the registration of mac_biba at boot
-abbrev biba_listed : List Registration
-biba_listed = registration_of Biba false 0 ∷ []
 
 and_none : (b : Bool) → (b && false) ≡ false
 and_none true = refl
@@ -56,7 +50,7 @@ record IsFiled (t a : ℕ) (o : Entities) : Type 0 where
   empty : (u : ℕ) → a ≤ u → entry_names (at (directory_id u)) o.live ≡ []
   files : AllByRecursion (λ e. is_process e.what ≡ false) o.live
 
-root_filed : (t : ℕ) → IsFiled t 0 (root_alone biba_listed)
+root_filed : (t : ℕ) → IsFiled t 0 (root_alone biba_alone)
 root_filed t =
     record {
       fixed =
@@ -81,10 +75,10 @@ root_filed t =
 module _ (t a : ℕ) (o : Entities) (few : t ≤ 16) (within : a < t) (filed : IsFiled t a o) where
   -- the directory
 
-  directory_made : with_file biba_listed o (load_directory a) ≡ pushed o (the_directory a)
+  directory_made : with_file biba_alone o (load_directory a) ≡ pushed o (the_directory a)
   unfolding walk_from
   directory_made =
-      ap (λ (found : Option Live). with_file_at biba_listed o (load_directory a) (Name (at 0) (id_of found))) (filed.free a (omega arith) (omega arith))
+      ap (λ (found : Option Live). with_file_at biba_alone o (load_directory a) (Name (at 0) (id_of found))) (filed.free a (omega arith) (omega arith))
       ∙ ap (λ m. record { next = o.next + 1; live = o.live ++ record (the_directory a) { id = at m } ∷ [] }) filed.next
 
   low_directory : IsLow (2 * t + 1) (the_directory a).what
@@ -113,18 +107,18 @@ module _ (t a : ℕ) (o : Entities) (few : t ≤ 16) (within : a < t) (filed : I
   no_file_yet =
       find_push_miss (is_child (at (directory_id a)) file_name) o.live (the_directory a) (directory_apart a file_name) ∙ filed.bare a (omega arith) file_name
 
-  file_made : with_file biba_listed (pushed o (the_directory a)) (load_file a) ≡ pushed (pushed o (the_directory a)) (the_file a [])
+  file_made : with_file biba_alone (pushed o (the_directory a)) (load_file a) ≡ pushed (pushed o (the_directory a)) (the_file a [])
   file_made =
-      ap (λ (w : Walk). with_file_at biba_listed (pushed o (the_directory a)) (load_file a) w.target)
+      ap (λ (w : Walk). with_file_at biba_alone (pushed o (the_directory a)) (load_file a) w.target)
       (walk_inside (pushed o (the_directory a)) a file_name directory_named directory_here)
-      ∙ ap (λ (found : Option Live). with_file_at biba_listed (pushed o (the_directory a)) (load_file a) (Name (at (directory_id a)) (id_of found))) no_file_yet
+      ∙ ap (λ (found : Option Live). with_file_at biba_alone (pushed o (the_directory a)) (load_file a) (Name (at (directory_id a)) (id_of found))) no_file_yet
       ∙ ap (λ m. record { next = o.next + 1 + 1; live = (o.live ++ the_directory a ∷ []) ++ record (the_file a []) { id = at m } ∷ [] }) next_is
     where
       next_is : o.next + 1 ≡ file_id a
       next_is = omega (arith, filed.next)
 
-  both_made : fold (with_file biba_listed) o (load_directory a ∷ load_file a ∷ []) ≡ pushed (pushed o (the_directory a)) (the_file a [])
-  both_made = ap (λ (x : Entities). with_file biba_listed x (load_file a)) directory_made ∙ file_made
+  both_made : fold (with_file biba_alone) o (load_directory a ∷ load_file a ∷ []) ≡ pushed (pushed o (the_directory a)) (the_file a [])
+  both_made = ap (λ (x : Entities). with_file biba_alone x (load_file a)) directory_made ∙ file_made
 
   low_file : IsLow (2 * t + 1) (the_file a []).what
   low_file dir same = let is : at (directory_id a) ≡ dir = cc in omega (arith, ap (λ (i : Id). i.0) is)
@@ -234,15 +228,15 @@ module _ (t a : ℕ) (o : Entities) (few : t ≤ 16) (within : a < t) (filed : I
           ∙ find_push_miss (is_child (at (directory_id u)) (scratch_name j)) o.live (the_directory a) (directory_apart u (scratch_name j))
           ∙ filed.scratch u j (omega (arith, other))
 
-all_filed : (t a : ℕ) → t ≤ 16 → a ≤ t → IsFiled t a (fold (with_file biba_listed) (root_alone biba_listed) (load_files a))
+all_filed : (t a : ℕ) → t ≤ 16 → a ≤ t → IsFiled t a (fold (with_file biba_alone) (root_alone biba_alone) (load_files a))
 unfolding load_files
 all_filed t zero few within = root_filed t
 all_filed t (suc a) few within =
     let before = all_filed t a few (omega arith) in
     subst (IsFiled t (suc a))
-    (sym (fold-append (with_file biba_listed) (root_alone biba_listed) (load_files a) (load_directory a ∷ load_file a ∷ [])
-    ∙ both_made t a (fold (with_file biba_listed) (root_alone biba_listed) (load_files a)) few (omega arith) before))
-    (filed_on t a (fold (with_file biba_listed) (root_alone biba_listed) (load_files a)) few (omega arith) before)
+    (sym (fold-append (with_file biba_alone) (root_alone biba_alone) (load_files a) (load_directory a ∷ load_file a ∷ [])
+    ∙ both_made t a (fold (with_file biba_alone) (root_alone biba_alone) (load_files a)) few (omega arith) before))
+    (filed_on t a (fold (with_file biba_alone) (root_alone biba_alone) (load_files a)) few (omega arith) before)
 
 -- Tasks
 
@@ -272,9 +266,9 @@ none_tasked t o filed =
     }
 
 module _ (n t b : ℕ) (o : Entities) (few : t ≤ 16) (within : b < t) (tasked : IsTasked t b o) where
-  task_made : with_task biba_listed o (load_task n b) ≡ pushed o (the_task t b)
+  task_made : with_task biba_alone o (load_task n b) ≡ pushed o (the_task t b)
   task_made =
-      ap (λ (found : Option Live). with_task_at biba_listed o (load_task n b) (id_of found)) (tasked.free b (omega arith) (omega arith))
+      ap (λ (found : Option Live). with_task_at biba_alone o (load_task n b) (id_of found)) (tasked.free b (omega arith) (omega arith))
       ∙ ap (λ m. record { next = o.next + 1; live = o.live ++ record (the_task t b) { id = at m } ∷ [] }) tasked.next
 
   task_fixed : IsFixed t t b (pushed o (the_task t b)) (λ u. [])
@@ -315,15 +309,15 @@ module _ (n t b : ℕ) (o : Entities) (few : t ≤ 16) (within : b < t) (tasked 
           let here : u ≡ b = grind (arith, nat_tests) in subst (λ v. IsTask t v (pushed o (the_task t b))) (sym here) new_task
       one u below false differs = let other : u ≢ b = grind (arith, nat_tests) in task_fixed.tasks u (omega (arith, other))
 
-all_tasked : (n t b : ℕ) (o : Entities) → t ≤ 16 → b ≤ t → IsTasked t 0 o → IsTasked t b (fold (with_task biba_listed) o (load_tasks n b))
+all_tasked : (n t b : ℕ) (o : Entities) → t ≤ 16 → b ≤ t → IsTasked t 0 o → IsTasked t b (fold (with_task biba_alone) o (load_tasks n b))
 unfolding load_tasks
 all_tasked n t zero o few within none = none
 all_tasked n t (suc b) o few within none =
     let before = all_tasked n t b o few (omega arith) none in
     subst (IsTasked t (suc b))
-    (sym (fold-append (with_task biba_listed) o (load_tasks n b) (load_task n b ∷ [])
-    ∙ task_made n t b (fold (with_task biba_listed) o (load_tasks n b)) few (omega arith) before))
-    (tasked_on n t b (fold (with_task biba_listed) o (load_tasks n b)) few (omega arith) before)
+    (sym (fold-append (with_task biba_alone) o (load_tasks n b) (load_task n b ∷ [])
+    ∙ task_made n t b (fold (with_task biba_alone) o (load_tasks n b)) few (omega arith) before))
+    (tasked_on n t b (fold (with_task biba_alone) o (load_tasks n b)) few (omega arith) before)
 
 -- The opening
 
@@ -345,7 +339,7 @@ tasked_stands t o tasked =
     }
 
 opening_is : (n t : ℕ) → (opening_state (generated n t)).objects
-    ≡ fold (with_task biba_listed) (fold (with_file biba_listed) (root_alone biba_listed) (load_files t)) (load_tasks n t)
+    ≡ fold (with_task biba_alone) (fold (with_file biba_alone) (root_alone biba_alone) (load_files t)) (load_tasks n t)
 unfolding generated
 opening_is n t = refl
 
@@ -356,9 +350,9 @@ opening_specs n t = refl
 opening_stands : (n t : ℕ) → t ≤ 16 → Stands t (opening_state (generated n t)).objects first_own
 opening_stands n t few =
     subst (λ (o : Entities). Stands t o first_own) (sym (opening_is n t))
-    (tasked_stands t (fold (with_task biba_listed) (fold (with_file biba_listed) (root_alone biba_listed) (load_files t)) (load_tasks n t))
-    (all_tasked n t t (fold (with_file biba_listed) (root_alone biba_listed) (load_files t)) few (omega arith)
-    (none_tasked t (fold (with_file biba_listed) (root_alone biba_listed) (load_files t)) (all_filed t t few (omega arith)))))
+    (tasked_stands t (fold (with_task biba_alone) (fold (with_file biba_alone) (root_alone biba_alone) (load_files t)) (load_tasks n t))
+    (all_tasked n t t (fold (with_file biba_alone) (root_alone biba_alone) (load_files t)) few (omega arith)
+    (none_tasked t (fold (with_file biba_alone) (root_alone biba_alone) (load_files t)) (all_filed t t few (omega arith)))))
 
 none_answered : (n t u : ℕ) → answered_at (opening (generated n t)).progress u ≡ 0
 none_answered n t u = ap answered (progress_at-first (generated n t).tasks u)

@@ -14,9 +14,9 @@ use Rattle.mf_objects.specs.Live.{Live, Entities, live_at, has_id, is_child, is_
 use Rattle.mf_objects.specs.Head.{head_of}
 use Rattle.mf_objects.specs.Titles.{entry_names, first_names}
 use Rattle.mf_objects.specs.Changes.{appended, changed_at, with_what, with_change, without}
-use Rattle.mf_script.specs.Generated.{LoadCall, call_of, task_name, scratch_name, is_even}
-use Rattle.mf_script.specs.Generated.{LoadCall as load}
-use Rattle.mf_script.proofs.Loads.{IsDrawn}
+use Rattle.mf_calls.specs.Generated.{LoadCall, call_of, task_name, scratch_name, is_even}
+use Rattle.mf_calls.specs.Generated.{LoadCall as load}
+use Rattle.mf_calls.proofs.Loads.{IsDrawn}
 use Rattle.mf_plan.specs.declared.state.State.{State}
 use Rattle.mf_plan.specs.declared.reply.Payload.TheVariants as payload
 use Rattle.mf_plan.specs.declared.reply.Reply.{Reply}

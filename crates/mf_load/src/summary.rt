@@ -1,10 +1,10 @@
 //! The summary of a run of a generated load: how often each errno was replied.
 ghost use Rattle.std.specs.Prelude.{◌≡◌, ◌++◌, IfOk, OnOk, string_bytes, count_by};
 ghost use Rattle.std.specs.List.{flat_map};
-ghost use Rattle.mf_errno.specs.Errno.{is_same};
+ghost use Rattle.mf_errno.specs.Errno.{all_errors, is_same};
 ghost use Rattle.mf_load.specs.Counts.{errno_of};
 ghost use Rattle.mf_load.specs.Replied.{counted_text, errno_in, errnos_in};
-ghost use Rattle.mf_load.specs.Summary.{errnos, errno_text, summary_text};
+ghost use Rattle.mf_load.specs.Summary.{errno_text, summary_text};
 
 use mf_core::Event;
 use mf_errno::Errno;
@@ -31,15 +31,15 @@ pub fn summary_text(
 /// counted by themselves, since events are large.
 #[tactic(auto, using(crate::proofs::Replied::counted_texts))]
 fn push_replies(alloc: Global, events: &[Event], out: &mut String) -> Result<(), AllocError>
-    ensures { OnOk result (string_bytes out.new ≡ string_bytes out.old ++ flat_map (errno_text events.now) errnos) }
+    ensures { OnOk result (string_bytes out.new ≡ string_bytes out.old ++ flat_map (errno_text events.now) all_errors) }
 {
     let replied = replied(alloc, events)?;
-    push_counts(alloc, errnos(), &replied, out)
+    push_counts(errnos(), &replied, out)
 }
 
-/// All errors by rising number.
+/// All errors by rising number, success among them.
 fn errnos() -> &'static [Errno]
-    ensures { result.now ≡ errnos }
+    ensures { result.now ≡ all_errors }
 {
     &[
         Errno::Success,
@@ -87,38 +87,24 @@ fn push_errno(event: &Event, errnos: &mut Vec<Errno>) -> Result<(), AllocError>
 }
 
 /// Appends the line of each errno that was replied.
-fn push_counts(
-    alloc: Global,
-    errnos: &[Errno],
-    replied: &[Errno],
-    out: &mut String,
-) -> Result<(), AllocError>
+fn push_counts(errnos: &[Errno], replied: &[Errno], out: &mut String) -> Result<(), AllocError>
     ensures { OnOk result (string_bytes out.new ≡ string_bytes out.old ++ flat_map (counted_text replied.now) errnos.now) }
 {
     for errno in errnos {
-        push_count(alloc, *errno, replied, out)?;
+        push_count(*errno, replied, out)?;
     }
     Ok(())
 }
 
 /// Appends the line of an errno that was replied; nothing where it wasn't.
-fn push_count(
-    alloc: Global,
-    errno: Errno,
-    replied: &[Errno],
-    out: &mut String,
-) -> Result<(), AllocError>
+fn push_count(errno: Errno, replied: &[Errno], out: &mut String) -> Result<(), AllocError>
     ensures { OnOk result (string_bytes out.new ≡ string_bytes out.old ++ counted_text replied.now errno) }
 {
     let count = count_of(errno, replied);
     if count == 0 {
         return Ok(());
     }
-    let number = format!(in alloc; "{count}")?;
-    out.push_str(errno.name())?;
-    out.push_str(" ")?;
-    out.push_str(number.as_str())?;
-    out.push_str("\n")
+    write!(out, "{errno} {count}\n")
 }
 
 /// How often the errno was replied.

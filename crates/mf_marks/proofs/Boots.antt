@@ -4,10 +4,9 @@ use Rattle.std.specs.Prelude.{Contains, fold}
 use Rattle.mf_errno.specs.declared.module.Module.{Module}
 use Rattle.mf_policy.specs.declared.registration.Registration.{Registration}
 use Rattle.mf_policy.specs.Modules.{wants_slot}
-use Rattle.mf_policy.specs.Registration.{Entry}
+use Rattle.mf_policy.specs.Registration.{Entry, is_slot}
 use Rattle.mf_list.specs.Registration.{given_after, slot_for, registration_of, with_newest, with_registered}
-use Rattle.mf_step.specs.Labels.{is_slot}
-use Rattle.mf_script.specs.declared.script.Script.{Script}
+use Rattle.mf_calls.specs.declared.script.Script.{Script}
 use Rattle.mf_core.specs.Opening.{registrations_from, boots_of, given_by, booted_specs}
 use Rattle.mf_marks.proofs.Listing.{IsLasting, lasting_or_not, fixed_lasting, IsPinned, IsPassing, NoneLasting, AllBelow, newest, all_newest, pinned_newest, pinned_own, own_slot, lasting_wants, below_newest, AtMostOne, single_newest}
 

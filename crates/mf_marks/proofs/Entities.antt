@@ -2,6 +2,8 @@
 use Rattle.std.proofs.Common.{◌≡◌, ℕ, ◌<◌, ◌≤◌, Bool, true, false, not, cond, List, [], ◌∷◌, ◌++◌, Option, Some, None, option_map, refl, ap, sym, subst, arith, ◌⊎◌, inl, inr}
 use Rattle.std.specs.Prelude.{filter, find}
 use Rattle.mf_elem.specs.declared.label.LabelValue.{LabelValue}
+use Rattle.mf_policy.specs.declared.labels.Origin.TheVariants.{Maker}
+use Rattle.mf_policy.specs.NewLabels.{new_label}
 use Rattle.mf_objects.specs.declared.id.Id.{Id}
 use Rattle.mf_objects.specs.declared.entity.What.{What}
 use Rattle.mf_objects.specs.Live.{Live, Entities, has_id, kind_of, label_of, label_at, live_at}
@@ -9,7 +11,6 @@ use Rattle.mf_objects.specs.Changes.{made, changed_at, with_what, with_change, w
 use Rattle.mf_objects.specs.Population.{IsRising}
 use Rattle.mf_objects.proofs.Rising.{rising_push, rising_changed, id_is}
 use Rattle.mf_plan.specs.declared.state.State.{State}
-use Rattle.mf_step.specs.Labels.{created_label}
 use Rattle.mf_step.specs.Effect.{with_objects, with_created}
 use Rattle.mf_objects.proofs.Finding.{find_push_miss, find_push_hit, find_beyond, find_given, find_changed, find_filter, rising_filter}
 use Rattle.mf_marks.proofs.Shape.{Shape}
@@ -21,7 +22,7 @@ pub data Change (by : Option Id) (s : State) (id : Id) : Option Live → Option 
   stays : (e e' : Live) → e'.label ≡ e.label → Change by s id (Some e) (Some e')
   -- it has the next id, and the label that its maker's gives it
   comes : (e maker : Live) (from : Id) → by ≡ Some from → id.0 ≡ s.objects.next → live_at s.objects from ≡ Some maker
-      → e.label ≡ created_label s.specs (kind_of e.what) maker.label → Change by s id None (Some e)
+      → e.label ≡ new_label s.specs (kind_of e.what) (Maker maker.label) → Change by s id None (Some e)
   goes : (e : Live) → id.0 < s.objects.next → Change by s id (Some e) None
 
 pub record IsStep (by : Option Id) (s s' : State) : Type 0 where
@@ -50,7 +51,7 @@ created_step by s from maker name what own live rising =
     record { rising = rising_push 0 s.objects.next s.objects.live new refl rising; next = omega arith; each = λ id. one id (has_id id new) refl }
   where
     label : List LabelValue
-    label = created_label s.specs (kind_of what) (label_at s.objects from)
+    label = new_label s.specs (kind_of what) (Maker (label_at s.objects from))
 
     new : Live
     new = made s.objects name label what
@@ -60,7 +61,7 @@ created_step by s from maker name what own live rising =
         let next : s.objects.next ≡ id.0 = id_is id new hit in
         let none : find (has_id id) s.objects.live ≡ None = find_beyond id 0 s.objects.next s.objects.live (omega arith) rising in
         let found : find (has_id id) (s.objects.live ++ new ∷ []) ≡ Some new = find_push_hit (has_id id) s.objects.live new none hit in
-        rw (none, found) (comes new maker from own (sym next) live (ap (λ (o : Option Live). created_label s.specs (kind_of what) (label_of o)) live))
+        rw (none, found) (comes new maker from own (sym next) live (ap (λ (o : Option Live). new_label s.specs (kind_of what) (Maker (label_of o))) live))
     one id false miss =
         unchanged by s id (find (has_id id) s.objects.live) (find (has_id id) (s.objects.live ++ new ∷ [])) (find_push_miss (has_id id) s.objects.live new miss)
 

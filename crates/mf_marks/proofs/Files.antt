@@ -6,7 +6,9 @@ use Rattle.std.specs.List.{AllByRecursion, list_any}
 use Rattle.std.proofs.lemmas.Bool.Decides.{nat_tests}
 use Rattle.std.proofs.lemmas.Slice.Eq.{bytes_eq-Decides}
 use Rattle.std.proofs.lemmas.List.{length-append}
-use Rattle.mf_policy.specs.declared.registration.Registration.{Registration}
+use Rattle.mf_policy.specs.declared.labels.Origin.TheVariants.{Boot}
+use Rattle.mf_policy.specs.NewLabels.{new_label}
+use Rattle.mf_policy.specs.Registration.{Entry}
 use Rattle.mf_objects.specs.declared.id.Id.{Id}
 use Rattle.mf_objects.specs.declared.entity.What.{What}
 use Rattle.mf_objects.specs.declared.entity.What.TheVariants.{Process, Vnode, Pipe, Socket}
@@ -14,12 +16,12 @@ use Rattle.mf_objects.specs.Live.{Live, Entities, id_of, has_id, is_process, is_
 use Rattle.mf_objects.specs.Changes.{made, with_entity, new_vnode}
 use Rattle.mf_objects.specs.Population.{IsRising}
 use Rattle.mf_objects.proofs.Rising.{rising_push, below_next}
-use Rattle.mf_script.specs.declared.script.FileLine.{FileLine}
-use Rattle.mf_script.specs.Parts.{directory_of, is_same_path, is_root, is_directory_at, has_directory}
+use Rattle.mf_calls.specs.declared.script.FileLine.{FileLine}
+use Rattle.mf_calls.specs.Paths.{directory_of, is_same_path, is_root, is_directory_at, has_directory}
 use Rattle.mf_plan.specs.declared.target.Target.TheVariants.{Name}
 use Rattle.mf_plan.specs.Path.{root, entry_of, last_name, walk_along}
 use Rattle.mf_plan.specs.Views.{is_dir}
-use Rattle.mf_core.specs.Opening.{boot_label, with_file_at, with_file}
+use Rattle.mf_core.specs.Opening.{with_file_at, with_file}
 use Rattle.mf_item.specs.declared.view.Kind.TheVariants as kinds
 use Rattle.mf_objects.proofs.Finding.{find_push_hit, find_beyond}
 use Rattle.mf_marks.proofs.Leading.{directory_and_last, same_path-is, Leads, leads_on, walk_leads, leads_kept, leads_given, Tells, StandsIn, IsFileAt, found_path, leads_path, no_process}
@@ -158,17 +160,17 @@ directory_among earlier f path there = one (is_root path) there
 
 -- one file more
 
-abbrev new_file : List Registration → Entities → FileLine → Id → Live
-new_file listed o f dir = made o (last_name f.path) (boot_label listed kinds.Vnode f.label) (new_vnode dir f.file f.text)
+abbrev new_file : List Entry → Entities → FileLine → Id → Live
+new_file listed o f dir = made o (last_name f.path) (new_label listed kinds.Vnode (Boot f.label)) (new_vnode dir f.file f.text)
 
-abbrev with_new_file : List Registration → Entities → FileLine → Id → Entities
-with_new_file listed o f dir = with_entity o (last_name f.path) (boot_label listed kinds.Vnode f.label) (new_vnode dir f.file f.text)
+abbrev with_new_file : List Entry → Entities → FileLine → Id → Entities
+with_new_file listed o f dir = with_entity o (last_name f.path) (new_label listed kinds.Vnode (Boot f.label)) (new_vnode dir f.file f.text)
 
 none_found : (found : Option Live) → id_of found ≡ None → found ≡ None
 none_found None none = refl
 none_found (Some e) none = cc
 
-module _ (listed : List Registration) (o : Entities) (earlier later : List FileLine) (f : FileLine) (paths : ℕ → List (List ℕ)) (dir : Id)
+module _ (listed : List Entry) (o : Entities) (earlier later : List FileLine) (f : FileLine) (paths : ℕ → List (List ℕ)) (dir : Id)
     (are : AreMade o earlier (f ∷ later) paths) (below : 1 ≤ length f.path) (leads : Leads o root (directory_of f.path) dir) where
   free : entry_of o dir (last_name f.path) ≡ None
   free = is_free o earlier later f paths dir are below leads
@@ -252,7 +254,7 @@ pub record AreFiles (o : Entities) (count : ℕ) : Type 0 where
   pub files : AllByRecursion (λ e. is_process e.what ≡ false) o.live
   pub counts : length o.live ≡ count
 
-pub files_made : (listed : List Registration) (o : Entities) (earlier later : List FileLine) (paths : ℕ → List (List ℕ)) → AreMade o earlier later paths → AreFormed earlier later
+pub files_made : (listed : List Entry) (o : Entities) (earlier later : List FileLine) (paths : ℕ → List (List ℕ)) → AreMade o earlier later paths → AreFormed earlier later
     → AreFiles (fold (with_file listed) o later) (length o.live + length later)
 files_made listed o earlier [] paths are formed =
     record { files = all_from (Tells paths o.next) (λ e. is_process e.what ≡ false) o.live (no_process paths o.next) are.tells; counts = omega arith }

@@ -11,7 +11,7 @@ use Rattle.mf_objects.specs.declared.entity.What.{What}
 use Rattle.mf_objects.specs.declared.entity.What.TheVariants.{Process, Vnode, Pipe, Socket}
 use Rattle.mf_objects.specs.Live.{Live, Entities, id_of, has_id, is_process, is_entry, is_held_by, is_child, reading, file_of, no_file, live_at}
 use Rattle.mf_objects.specs.Population.{IsRising}
-use Rattle.mf_script.specs.Parts.{directory_of, is_same_path}
+use Rattle.mf_calls.specs.Paths.{directory_of, is_same_path}
 use Rattle.mf_plan.specs.declared.target.Target.TheVariants.{Name}
 use Rattle.mf_plan.specs.declared.walk.Walk.{Walk}
 use Rattle.mf_plan.specs.Path.{walk_from, going_on, nowhere, entry_of, last_name}

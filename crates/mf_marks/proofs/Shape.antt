@@ -12,8 +12,8 @@ use Rattle.mf_objects.specs.declared.entity.What.{What}
 use Rattle.mf_objects.specs.declared.entity.What.TheVariants.{Process}
 use Rattle.mf_objects.specs.Live.{Live, has_id, is_process, is_named, kind_of, live_at, cred_at}
 use Rattle.mf_objects.specs.Changes.{without, goes_with, with_change, with_what, appended, with_message, with_messages, cleared, with_mode, new_vnode, new_pipe, new_socket}
-use Rattle.mf_script.specs.declared.script.Call.{Call}
-use Rattle.mf_script.specs.declared.script.Call.TheVariants as call
+use Rattle.mf_calls.specs.declared.script.Call.{Call}
+use Rattle.mf_calls.specs.declared.script.Call.TheVariants as call
 use Rattle.mf_plan.specs.declared.plan.Plan.{Plan}
 use Rattle.mf_plan.specs.declared.plan.Tail.{Tail}
 use Rattle.mf_plan.specs.declared.plan.Tail.TheVariants.{Do, Refuse}

@@ -7,16 +7,18 @@ use Rattle.std.proofs.lemmas.Slice.Eq.{bytes_eq-Decides}
 use Rattle.std.proofs.lemmas.List.{length-append}
 use Rattle.mf_errno.specs.declared.module.Module.{Module}
 use Rattle.mf_item.specs.declared.view.Kind.TheVariants as kinds
-use Rattle.mf_policy.specs.declared.registration.Registration.{Registration}
+use Rattle.mf_policy.specs.declared.labels.Origin.TheVariants.{Boot}
+use Rattle.mf_policy.specs.NewLabels.{new_label}
+use Rattle.mf_policy.specs.Registration.{Entry}
 use Rattle.mf_objects.specs.declared.entity.What.TheVariants.{Process}
 use Rattle.mf_objects.specs.Live.{Live, Entities, id_of, is_process, is_named}
 use Rattle.mf_objects.specs.Changes.{made, with_entity}
-use Rattle.mf_script.specs.declared.script.Task.{Task}
-use Rattle.mf_script.specs.declared.script.FileLine.{FileLine}
-use Rattle.mf_script.specs.WellFormed.{IsFormedFile, AreInDirectories}
+use Rattle.mf_calls.specs.declared.script.Task.{Task}
+use Rattle.mf_calls.specs.declared.script.FileLine.{FileLine}
+use Rattle.mf_calls.specs.WellFormed.{IsFormedFile, AreInDirectories}
 use Rattle.mf_plan.specs.Path.{root}
 use Rattle.mf_plan.specs.Views.{process_named}
-use Rattle.mf_core.specs.Opening.{boot_label, root_alone, with_file, with_task_at, with_task, booted_specs, registrations_in}
+use Rattle.mf_core.specs.Opening.{root_alone, with_file, with_task_at, with_task, booted_specs}
 use Rattle.mf_marks.specs.Laws.{OpeningIsWhole}
 use Rattle.mf_objects.proofs.Finding.{find_push_miss}
 use Rattle.mf_marks.proofs.Files.{by_place, all_from, all_both, AreMade, AreFormed, AreFiles, HasDirectories, files_made}
@@ -34,11 +36,11 @@ files_formed boots earlier (f ∷ later) differ each there = (
       (λ k d within. each (suc k) d (omega arith)) there.1,
 )
 
-root_directories : (listed : List Registration) → HasDirectories (root_alone listed) []
+root_directories : (listed : List Entry) → HasDirectories (root_alone listed) []
 root_directories listed [] there = (root, refl)
 root_directories listed (name ∷ names) there = cc
 
-root_made : (listed : List Registration) (boots : List Module) (files : List FileLine) → All (IsFormedFile boots) files → AreMade (root_alone listed) [] files (λ _. [])
+root_made : (listed : List Entry) (boots : List Module) (files : List FileLine) → All (IsFormedFile boots) files → AreMade (root_alone listed) [] files (λ _. [])
 root_made listed boots files each =
     record {
       rising = (omega arith, omega arith);
@@ -56,32 +58,21 @@ abbrev pub NamesDiffer : List Task → Type 0
 NamesDiffer [] = Unit {0}
 NamesDiffer (t ∷ ts) = AllByRecursion (λ u. t.name ≢ u.name) ts × NamesDiffer ts
 
-named : List Task → ℕ → List ℕ
-named ts t = unwrap_or (option_map (λ (x : Task). x.name) (slice_get ts t)) []
-
-named_at : (ts : List Task) (k : ℕ) (d : Task) → k < length ts → named ts k ≡ (get_or ts k d).name
-unfolding named
-named_at [] k d within = absurd (omega arith)
-named_at (t ∷ ts) zero d within = refl
-named_at (t ∷ ts) (suc k) d within = named_at ts k d (omega arith)
-
-names_differ : (ts : List Task) → ((t u : ℕ) → t < length ts → u < length ts → named ts t ≡ named ts u → t ≡ u) → NamesDiffer ts
-unfolding named
+names_differ : (ts : List Task) → AllPairs (λ t u. t.name ≢ u.name) ts → NamesDiffer ts
 names_differ [] differ = tt
 names_differ (t ∷ ts) differ = (
-  by_place (λ u. t.name ≢ u.name) ts (λ k d within same.
-      let first : zero ≡ suc k = differ 0 (suc k) (omega arith) (omega arith) (same ∙ sym (named_at ts k d within)) in omega (arith, first)),
-  names_differ ts (λ i j before within same. let next : suc i ≡ suc j = differ (suc i) (suc j) (omega arith) (omega arith) same in omega (arith, next)),
+  by_place (λ u. t.name ≢ u.name) ts (λ k d within. differ 0 (suc k) d (omega arith) (omega (arith, within))),
+  names_differ ts (λ i j d before within. differ (suc i) (suc j) d (omega (arith, before)) (omega (arith, within))),
 )
 
-abbrev new_process : List Registration → Entities → Task → Live
-new_process listed o t = made o t.name (boot_label listed kinds.Process t.label) (Process t.cred)
+abbrev new_process : List Entry → Entities → Task → Live
+new_process listed o t = made o t.name (new_label listed kinds.Process (Boot t.label)) (Process t.cred)
 
-abbrev with_new_process : List Registration → Entities → Task → Entities
-with_new_process listed o t = with_entity o t.name (boot_label listed kinds.Process t.label) (Process t.cred)
+abbrev with_new_process : List Entry → Entities → Task → Entities
+with_new_process listed o t = with_entity o t.name (new_label listed kinds.Process (Boot t.label)) (Process t.cred)
 
 -- a name that isn't the new process's stays free
-stays_free : (listed : List Registration) (o : Entities) (t u : Task) → (t.name ≢ u.name) × (process_named o u.name ≡ None)
+stays_free : (listed : List Entry) (o : Entities) (t u : Task) → (t.name ≢ u.name) × (process_named o u.name ≡ None)
     → process_named (with_new_process listed o t) u.name ≡ None
 stays_free listed o t u both = ap id_of (find_push_miss (is_named is_process u.name) o.live (new_process listed o t) (one (bytes_eq t.name u.name) refl)) ∙ both.1
   where
@@ -89,7 +80,7 @@ stays_free listed o t u both = ap id_of (find_push_miss (is_named is_process u.n
     one true same = absurd (both.0 ((bytes_eq-Decides t.name u.name).0 same))
     one false other = refl
 
-tasks_made : (listed : List Registration) (o : Entities) (ts : List Task) → NamesDiffer ts → AllByRecursion (λ t. process_named o t.name ≡ None) ts
+tasks_made : (listed : List Entry) (o : Entities) (ts : List Task) → NamesDiffer ts → AllByRecursion (λ t. process_named o t.name ≡ None) ts
     → length (fold (with_task listed) o ts).live ≡ length o.live + length ts
 tasks_made listed o [] differ free = omega arith
 tasks_made listed o (t ∷ ts) differ free =
@@ -110,12 +101,11 @@ all_free o [] files = tt
 all_free o (t ∷ ts) files = (ap id_of (none_named t.name o.live files), all_free o ts files)
 
 pub opening_whole : OpeningIsWhole
-unfolding named
 opening_whole s formed =
-    let listed : List Registration = registrations_in (booted_specs s) in
+    let listed : List Entry = booted_specs s in
     let files : AreFiles (fold (with_file listed) (root_alone listed) s.files) (length (root_alone listed).live + length s.files) =
     files_made listed (root_alone listed) [] s.files (λ _. []) (root_made listed s.boots s.files formed.each_file)
     (files_formed s.boots [] s.files formed.paths formed.each_file formed.directories) in
     let o : Entities = fold (with_file listed) (root_alone listed) s.files in
-    tasks_made listed o s.tasks (names_differ s.tasks formed.differ) (all_free o s.tasks files.files)
+    tasks_made listed o s.tasks (names_differ s.tasks formed.names) (all_free o s.tasks files.files)
     ∙ ap (λ (n : ℕ). n + length s.tasks) files.counts

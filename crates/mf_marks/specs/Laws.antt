@@ -6,8 +6,8 @@ use Rattle.mf_item.specs.declared.view.Kind.{Kind}
 use Rattle.mf_policy.specs.declared.registration.Registration.{Registration}
 use Rattle.mf_objects.specs.declared.id.Id.{Id}
 use Rattle.mf_objects.specs.Live.{Live, live_at}
-use Rattle.mf_script.specs.declared.script.Script.{Script}
-use Rattle.mf_script.specs.WellFormed.{IsWellFormed}
+use Rattle.mf_calls.specs.declared.script.Script.{Script}
+use Rattle.mf_calls.specs.WellFormed.{IsWellFormed}
 use Rattle.mf_plan.specs.declared.state.State.{State}
 use Rattle.mf_core.specs.declared.history.History.{History}
 use Rattle.mf_core.specs.Opening.{opening_state}

@@ -1,16 +1,14 @@
 //! MLS: a subject may observe what it dominates, and modify what dominates it.
 ghost use Rattle.std.specs.Prelude.{◌≡◌};
-ghost use Rattle.mf_policy.specs.Answer.{mls, labels_answer, part_of};
-ghost use Rattle.mf_policy.specs.Operations.{test_of};
 ghost use Rattle.mf_policy.specs.declared.spec.Spec.TheVariants as means;
 
 use mf_cred::Cred;
-use mf_elem::{Elem, RangeLabel, Request, dominates, same_level};
+use mf_elem::{Elem, RangeLabel, Request, dominates};
 use mf_errno::{Errno, Module, Priv};
-use mf_item::{CheckOp, Item};
+use mf_item::Item;
 use mf_policy::{
-    Change, Changed, LoadFlags, Policy, Spec, asked, credential_relabel, element_answer,
-    object_label, object_relabel, slot_label,
+    Change, Changed, Lattice, LoadFlags, Policy, Spec, flags_of, lattice_answer, range_asked,
+    wants_slot,
 };
 use std::alloc::{AllocError, Global};
 
@@ -21,7 +19,9 @@ pub struct Mls;
 
 impl Mls {
     /// The policy in its initial state.
-    pub fn new() -> Mls {
+    pub fn new() -> Mls
+        ensures { ⟦<Mls as Policy>⟧.spec result ≡ means.Mls }
+    {
         Mls
     }
 }
@@ -34,11 +34,11 @@ impl Policy for Mls {
     }
 
     fn flags(&self) -> LoadFlags {
-        LoadFlags::NOTLATE
+        flags_of(Module::Mls)
     }
 
     fn wants_slot(&self) -> bool {
-        true
+        wants_slot(Module::Mls)
     }
 
     fn same(&self, other: &Spec) -> bool {
@@ -46,13 +46,7 @@ impl Policy for Mls {
     }
 
     fn check(&self, slot: u8, item: &Item) -> Errno {
-        let subject = slot_label(&item.subject.label[slot as usize]);
-        let object = object_label(&item.object, slot);
-        let part = part(&item.request);
-        match &subject.effective {
-            Some(element) => check_labelled(item.op, &subject, &part, element, &object.effective),
-            None => Errno::Success,
-        }
+        lattice_answer::<Mls>(slot, item)
     }
 
     fn grant(&self, _cred: &Cred, _privilege: Priv) -> bool {
@@ -60,45 +54,31 @@ impl Policy for Mls {
     }
 
     fn change(&mut self, _alloc: Global, _change: &Change) -> Result<Changed, AllocError> {
-        Ok(Changed {
-            errno: Errno::Enoent,
-            number: None,
-        })
+        Ok(Changed::no_setting())
     }
 
     fn reset(&mut self) {}
 }
 
-fn part(request: &Option<Request>) -> RangeLabel
-    ensures { result ≡ part_of mls request.now }
-{
-    match request {
-        Some(request) => asked(&request.mls),
-        None => asked(&None),
-    }
-}
+impl Lattice for Mls {
+    ghost use Rattle.mf_policy.specs.Answer.{mls};
 
-fn check_labelled(
-    op: CheckOp,
-    subject: &RangeLabel,
-    part: &RangeLabel,
-    element: &Elem,
-    object: &Option<Elem>,
-) -> Errno
-    ensures { result ≡ labels_answer mls (test_of op) subject.now part.now (Some element.now) object.now }
-{
-    match (op, object) {
-        (CheckOp::CredRelabel, _) => credential_relabel(subject, part),
-        (CheckOp::KldLoad | CheckOp::KldUnload, _) => Errno::Success,
-        (_, None) => Errno::Success,
-        (CheckOp::VnodeRelabel | CheckOp::PipeRelabel | CheckOp::SocketRelabel, Some(object)) => {
-            object_relabel(subject, object, part)
-        }
-        (_, Some(object)) => {
-            let may_observe = dominates(element, object);
-            let may_modify = dominates(object, element);
-            element_answer(op, may_observe, may_modify, same_level(element, object))
-        }
+    ghost lattice = { mls };
+
+    fn may_observe(subject: &Elem, object: &Elem) -> bool {
+        dominates(subject, object)
+    }
+
+    fn may_modify(subject: &Elem, object: &Elem) -> bool {
+        dominates(object, subject)
+    }
+
+    fn part(request: &Request) -> &Option<RangeLabel> {
+        range_asked(Module::Mls, request)
+    }
+
+    fn guards_modules() -> bool {
+        false
     }
 }
 
@@ -106,8 +86,8 @@ fn check_labelled(
 mod tests {
     use super::*;
     use mf_cred::FileView;
-    use mf_elem::{Comps, LabelValue};
-    use mf_item::{Kind, ObjectView, SubjectView};
+    use mf_elem::{Comps, LabelValue, SLOTS};
+    use mf_item::{CheckOp, Kind, ObjectView, SubjectView};
 
     fn grade(grade: u16) -> Elem {
         Elem::Grade(grade, Comps::empty())
@@ -121,13 +101,13 @@ mod tests {
             subject: SubjectView {
                 id: 0,
                 cred: Cred::default(),
-                label: [own; 4],
+                label: [own; SLOTS],
             },
             object: Some(ObjectView {
                 id: 1,
                 kind: Kind::Vnode,
                 file: FileView::default(),
-                label: [other; 4],
+                label: [other; SLOTS],
             }),
             request: None,
             privilege: None,

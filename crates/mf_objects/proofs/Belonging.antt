@@ -9,9 +9,9 @@ use Rattle.std.proofs.lemmas.List.Sums.{get_or-le-sum_by, length-filter}
 use Rattle.mf_objects.specs.declared.id.Id.{Id}
 use Rattle.mf_objects.specs.declared.entity.What.{What}
 use Rattle.mf_objects.specs.declared.entity.What.TheVariants.{Process, Vnode, Pipe, Socket}
-use Rattle.mf_objects.specs.Live.{Live, Entities, has_id, live_at, passes, is_process, is_directory, is_entry, is_held_by, is_made_by, IsLive}
+use Rattle.mf_objects.specs.Live.{Live, Entities, has_id, live_at, passes, is_process, is_directory, is_pipe, is_socket, is_entry, is_held_by, is_made_by, IsLive}
 use Rattle.mf_objects.specs.Changes.{MayJoin, IsBare, changed_at, FitsBytes, appended, cleared, with_mode, with_messages}
-use Rattle.mf_objects.specs.Population.{HasOlder, NoBytesIfDirectory, Belongs, AllBelong, IsPopulation, IsRising}
+use Rattle.mf_objects.specs.Population.{HasOlder, shares_names, NoBytesIfDirectory, Belongs, AllBelong, IsPopulation, IsRising}
 use Rattle.mf_objects.proofs.Rising.{id_is, id_differs, below_next, at_least}
 
 pub same_id : (a b : Id) → a.0 ≡ b.0 → a ≡ b
@@ -216,34 +216,38 @@ belong_remove live i x within is all none =
 
 -- One entity changed
 
--- it stays a process or a directory, belongs to what it belonged to, and holds no bytes that it may not hold
+-- it stays of its kind, belongs to what it belonged to, and holds no bytes that it may not hold
 pub record Stays (w w' : What) : Type 0 where
   pub process : is_process w' ≡ is_process w
   pub directory : is_directory w' ≡ is_directory w
   pub belongs : (live : List Live) (n : ℕ) → Belongs live n w → Belongs live n w'
   pub no_bytes : NoBytesIfDirectory w → NoBytesIfDirectory w'
+  pub pipe : is_pipe w' ≡ is_pipe w
+  pub socket : is_socket w' ≡ is_socket w
+  pub entry : (dir : Id) → is_entry dir w' ≡ is_entry dir w
+  pub names : (other : What) → shares_names w' other ≡ shares_names w other
 
 pub stays_same : (w : What) → Stays w w
-stays_same w = record { process = refl; directory = refl; belongs = λ live n b. b; no_bytes = λ held. held }
+stays_same w = record { process = refl; directory = refl; belongs = λ live n b. b; pipe = refl; socket = refl; entry = λ dir. refl; names = λ other. refl; no_bytes = λ held. held }
 
 pub appended_stays : (text : List ℕ) (w : What) → FitsBytes (length text) w → Stays w (appended text w)
 appended_stays text (Process cred) fits = absurd fits
 appended_stays text (Vnode vnode) fits =
-    record { process = refl; directory = refl; belongs = λ live n b. b; no_bytes = λ held directory. absurd (false≢true (sym fits.0 ∙ directory)) }
+    record { process = refl; directory = refl; belongs = λ live n b. b; pipe = refl; socket = refl; entry = λ dir. refl; names = λ other. refl; no_bytes = λ held directory. absurd (false≢true (sym fits.0 ∙ directory)) }
 appended_stays text (Pipe pipe) fits =
-    record { process = refl; directory = refl; belongs = λ live n b. b; no_bytes = λ held directory. absurd (false≢true directory) }
+    record { process = refl; directory = refl; belongs = λ live n b. b; pipe = refl; socket = refl; entry = λ dir. refl; names = λ other. refl; no_bytes = λ held directory. absurd (false≢true directory) }
 appended_stays text (Socket socket) fits = absurd fits
 
 pub cleared_stays : (w : What) → Stays w (cleared w)
 cleared_stays (Process cred) = stays_same (Process cred)
 cleared_stays (Vnode vnode) = stays_same (Vnode vnode)
 cleared_stays (Pipe pipe) =
-    record { process = refl; directory = refl; belongs = λ live n b. b; no_bytes = λ held directory. absurd (false≢true directory) }
+    record { process = refl; directory = refl; belongs = λ live n b. b; pipe = refl; socket = refl; entry = λ dir. refl; names = λ other. refl; no_bytes = λ held directory. absurd (false≢true directory) }
 cleared_stays (Socket socket) = stays_same (Socket socket)
 
 pub mode_stays : (mode : ℕ) (w : What) → Stays w (with_mode mode w)
 mode_stays mode (Process cred) = stays_same (Process cred)
-mode_stays mode (Vnode vnode) = record { process = refl; directory = refl; belongs = λ live n b. b; no_bytes = λ held. held }
+mode_stays mode (Vnode vnode) = record { process = refl; directory = refl; belongs = λ live n b. b; pipe = refl; socket = refl; entry = λ dir. refl; names = λ other. refl; no_bytes = λ held. held }
 mode_stays mode (Pipe pipe) = stays_same (Pipe pipe)
 mode_stays mode (Socket socket) = stays_same (Socket socket)
 
@@ -252,7 +256,7 @@ messages_stay change (Process cred) = stays_same (Process cred)
 messages_stay change (Vnode vnode) = stays_same (Vnode vnode)
 messages_stay change (Pipe pipe) = stays_same (Pipe pipe)
 messages_stay change (Socket socket) =
-    record { process = refl; directory = refl; belongs = λ live n b. b; no_bytes = λ held directory. absurd (false≢true directory) }
+    record { process = refl; directory = refl; belongs = λ live n b. b; pipe = refl; socket = refl; entry = λ dir. refl; names = λ other. refl; no_bytes = λ held directory. absurd (false≢true directory) }
 
 -- the entity of this id stays as it is to be, where it is changed
 abbrev pub StaysAt : (Live → Live) → Id → List Live → Type 0

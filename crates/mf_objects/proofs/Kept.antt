@@ -5,22 +5,25 @@ use Rattle.std.specs.Prelude.{find}
 use Rattle.std.specs.List.{position_or_len}
 use Rattle.std.proofs.lemmas.List.{set-get_or, map-append, set_split, length-set, length-map, length-take-le, length-append, length-drop, get_or-map, take-map, drop-map}
 use Rattle.std.proofs.lemmas.List.Elements.{All-push, All-cons, All-nil}
-use Rattle.std.proofs.lemmas.List.Quantifiers.{position-Some}
+use Rattle.std.proofs.lemmas.List.Quantifiers.{position-Some, all_pairs_remove}
 use Rattle.std.proofs.lemmas.Bool.{lt-ltb, false≢true}
 use Rattle.mf_elem.specs.declared.label.LabelValue.{LabelValue}
-use Rattle.mf_elem.specs.declared.label.LabelValue.TheVariants.{Unset}
-use Rattle.mf_slots.specs.Zones.{Contents, Handles, handle, IsSame, MakesLabel, GivesUp, SetsAt, IsMadeAt, Makes, IsHeld, IsHeldAt, NoneUnset, value_of, value_at as value_under}
-use Rattle.mf_slots.proofs.ZonesLaws.{set_none, set_same as set_zones_same, set_writes, set_makes, set_gives_up, unset_exactly}
+use Rattle.mf_elem.specs.declared.label.LabelValue.TheVariants.{Unset, Range, Number}
+use Rattle.mf_slots.specs.Zones.{Contents, Handles, handle, MakesLabel, GivesUp, Relabels, IsMadeFor, AreMade, value_for, SetsAt, IsMadeAt, Makes, IsHeld, IsHeldAt, NoneUnset, value_of, value_at as value_under}
+use Rattle.mf_slots.proofs.ZonesLaws.{set_none, set_writes, set_makes, set_gives_up, unset_exactly}
+use Rattle.mf_slots.proofs.Relabelling.{set_relabels}
 use Rattle.mf_objects.specs.declared.id.Id.{Id}
 use Rattle.mf_objects.specs.declared.entity.Entity.{Entity}
 use Rattle.mf_objects.specs.declared.entity.What.{What}
-use Rattle.mf_objects.specs.Live.{Live, Entities, has_id, live_at, passes, is_directory, label_of, value_at as live_value}
-use Rattle.mf_objects.specs.Changes.{IsBare, changed_at, with_change, with_value, with_what}
-use Rattle.mf_objects.specs.Population.{NoBytesIfDirectory, Belongs, IsPopulation}
+use Rattle.mf_objects.specs.Live.{Live, Entities, has_id, live_at, passes, is_directory, label_of, label_at, HasSlotsFor, value_at as live_value}
+use Rattle.mf_objects.specs.Changes.{IsBare, changed_at, with_change, with_value, with_label, with_what}
+use Rattle.mf_objects.specs.Population.{NoBytesIfDirectory, Belongs, IsPopulation, is_namesake}
 use Rattle.mf_objects.specs.Sound.{label_values, seen, labels_of, IsExact, live_of, IsSound, IsPlace}
-use Rattle.mf_objects.proofs.Zoned.{exact_same, live_same, exact_push, live_push, exact_drop, live_drop, is_held, Relabels, relabels_set, relabels_make, exact_relabel, live_relabel, split_place, live_split, exact_none}
+use Rattle.mf_objects.proofs.Zoned.{exact_push, live_push, exact_drop, live_drop, is_held, SetsSlot, relabels_set, relabels_make, exact_relabel, live_relabel, split_place, live_split, exact_none}
+use Rattle.mf_objects.proofs.Relabelled.{exact_whole, live_whole}
 use Rattle.mf_objects.proofs.Rising.{rising_push, rising_remove, rising_changed, root_push, root_remove, root_changed, set_changed, find_first, id_is}
 use Rattle.mf_objects.proofs.Belonging.{Stays, StaysAt, stays_same, stays_at, directories_changed, All-remove, belong_one, belong_push, belong_remove, belong_changed, bare_none, find_own}
+use Rattle.mf_objects.proofs.Names.{names_changed, names_push, names_one}
 
 -- the live entities as contracts see them
 abbrev pub view : ℕ → Contents → List Entity → Entities
@@ -31,24 +34,10 @@ pub record Becomes (next : ℕ) (zones : Contents) (es : List Entity) (objects :
   pub sound : IsSound next zones es
   pub shows : view next zones es ≡ objects
 
-pub same_zones : (next : ℕ) (zones zones' : Contents) (es : List Entity) → IsSound next zones es → IsSame zones zones'
-    → Becomes next zones' es (view next zones es)
-same_zones next zones zones' es sound same =
-    let live : live_of zones' es ≡ live_of zones es = live_same zones zones' es same in
-    record {
-      sound = record {
-        population = rw live sound.population;
-        few = sound.few;
-        exact = exact_same zones zones' (labels_of es) sound.exact same;
-        set = set_zones_same zones zones' sound.set same;
-      };
-      shows = ap (λ (ls : List Live). let o : Entities = record { next = next; live = ls } in o) live;
-    }
-
 pub added : (next : ℕ) (zones zones' : Contents) (es : List Entity) (e : Entity) (values : List LabelValue) → e.id.0 ≡ next → length es < 1024 → length values ≡ 4
-    → IsSound next zones es → Belongs (live_of zones es) next e.what → NoBytesIfDirectory e.what → MakesLabel zones zones' e.label values
+    → IsSound next zones es → Belongs (live_of zones es) next e.what → NoBytesIfDirectory e.what → find (is_namesake e.name e.what) (live_of zones es) ≡ None → MakesLabel zones zones' e.label values
     → Becomes (next + 1) zones' (es ++ e ∷ []) (record { next = next + 1; live = live_of zones es ++ record { id = e.id; name = e.name; label = values; what = e.what } ∷ [] })
-added next zones zones' es e values is room four sound belongs no_bytes makes =
+added next zones zones' es e values is room four sound belongs no_bytes free makes =
     let x : Live = record { id = e.id; name = e.name; label = values; what = e.what } in
     let live : live_of zones' (es ++ e ∷ []) ≡ live_of zones es ++ x ∷ [] = live_push zones zones' es e values four sound.exact makes in
     let joined : Belongs (live_of zones es) x.id.0 x.what = subst (λ (n : ℕ). Belongs (live_of zones es) n x.what) (sym is) belongs in
@@ -58,6 +47,7 @@ added next zones zones' es e values is room four sound belongs no_bytes makes =
       rooted = root_push (live_of zones es) (x ∷ []) sound.population.rooted;
       belong = belong_push (live_of zones es) x sound.population.belong joined;
       directories = All-push (λ (l : Live). NoBytesIfDirectory l.what) (live_of zones es) x sound.population.directories no_bytes;
+      names = names_push (live_of zones es) x sound.population.names free;
     } in
     record {
       sound = record {
@@ -98,6 +88,7 @@ dropped next zones zones' es i e within later is sound bare gives =
       belong = belong_remove lives i (seen zones e) long at sound.population.belong
           (bare_none lives e.id e.what sound.population.belong (λ test. ap (passes test) own) bare);
       directories = All-remove (λ (l : Live). NoBytesIfDirectory l.what) lives i sound.population.directories;
+      names = all_pairs_remove (λ (older l : Live). is_namesake l.name l.what older ≡ false) lives i long sound.population.names;
     } in
     record {
       sound = record {
@@ -147,10 +138,10 @@ found_place next zones es id i e place is =
 -- the entity at a place is changed, as contracts see it
 changes : (next : ℕ) (zones zones' : Contents) (es es' : List Entity) (id : Id) (i : ℕ) (e : Entity) (change : Live → Live)
     → IsPlace (view next zones es) id i → e ≡ get_or es i e → IsSound next zones es
-    → ((x : Live) → (change x).id ≡ x.id) → Stays e.what (change (seen zones e)).what
+    → ((x : Live) → (change x).id ≡ x.id) → ((x : Live) → (change x).name ≡ x.name) → Stays e.what (change (seen zones e)).what
     → live_of zones' es' ≡ set (live_of zones es) i (change (seen zones e)) → length es' ≡ length es → IsExact zones' (labels_of es') → NoneUnset zones'
     → Becomes next zones' es' (with_change change (view next zones es) id)
-changes next zones zones' es es' id i e change place is sound ids stays shows len exact set_now =
+changes next zones zones' es es' id i e change place is sound ids named stays shows len exact set_now =
     let within : i < length es = place_within next zones es id i place in
     let long : i < length (live_of zones es) = place.within in
     let at : seen zones e ≡ get_or (live_of zones es) i (seen zones e) = seen_place zones es i e within is in
@@ -164,6 +155,7 @@ changes next zones zones' es es' id i e change place is sound ids stays shows le
       rooted = root_changed change id (live_of zones es) ids (λ k d l has. (at_id k d l has).directory) sound.population.rooted;
       belong = belong_changed change id (live_of zones es) ids at_id sound.population.belong;
       directories = directories_changed change id (live_of zones es) at_id sound.population.directories;
+      names = names_changed change id (live_of zones es) named at_id sound.population.names;
     } in
     record {
       sound = record {
@@ -176,7 +168,7 @@ changes next zones zones' es es' id i e change place is sound ids stays shows le
     }
 
 relabelled : (next : ℕ) (zones zones' : Contents) (es : List Entity) (id : Id) (i : ℕ) (e : Entity) (label : Handles) (slot h : ℕ) (v : LabelValue)
-    → IsPlace (view next zones es) id i → e ≡ get_or es i e → IsSound next zones es → v ≢ Unset → Relabels zones zones' (take i es) (drop (suc i) es) e label slot h v
+    → IsPlace (view next zones es) id i → e ≡ get_or es i e → IsSound next zones es → v ≢ Unset → SetsSlot zones zones' (take i es) (drop (suc i) es) e label slot h v
     → Becomes next zones' (set es i (record e { label = label })) (with_change (with_value slot v) (view next zones es) id)
 relabelled next zones zones' es id i e label slot h v place is sound value relabels =
     let e' : Entity = record e { label = label } in
@@ -189,7 +181,7 @@ relabelled next zones zones' es id i e label slot h v place is sound value relab
     ∙ live_relabel zones zones' (take i es) (drop (suc i) es) e label slot h v relabels
     ∙ live_split zones (take i es) (drop (suc i) es) e i (with_value slot v (seen zones e)) (length-take-le i es (omega arith))
     ∙ ap (λ (xs : List Entity). set (live_of zones xs) i (with_value slot v (seen zones e))) (sym split) in
-    changes next zones zones' es (set es i e') id i e (with_value slot v) place is sound (λ x. refl) (stays_same e.what) live (length-set es i e')
+    changes next zones zones' es (set es i e') id i e (with_value slot v) place is sound (λ x. refl) (λ x. refl) (stays_same e.what) live (length-set es i e')
     (rw put (exact_relabel zones zones' (take i es) (drop (suc i) es) e label slot h v exact relabels))
     (set_writes zones zones' slot h v sound.set value relabels.writes)
 
@@ -216,6 +208,25 @@ value_made next zones zones' es id i e label slot v four value place is sound un
     relabelled next zones zones' es id i e label slot makes.new v place is sound value
     (relabels_make zones zones' (take i es) (drop (suc i) es) e label slot v four exact unset makes)
 
+-- the whole label gets new values
+pub label_changed : (next : ℕ) (zones zones' : Contents) (es : List Entity) (id : Id) (i : ℕ) (e : Entity) (label : Handles) (values : List LabelValue) → length values ≡ 4
+    → IsPlace (view next zones es) id i → e ≡ get_or es i e → IsSound next zones es → Relabels zones zones' e.label label values
+    → Becomes next zones' (set es i (record e { label = label })) (with_change (with_label values) (view next zones es) id)
+label_changed next zones zones' es id i e label values four place is sound relabels =
+    let e' : Entity = record e { label = label } in
+    let within : i < length es = place_within next zones es id i place in
+    let split : es ≡ take i es ++ e ∷ drop (suc i) es = split_place es i e within is in
+    let exact : IsExact zones (labels_of (take i es ++ e ∷ drop (suc i) es)) = subst (λ (xs : List Entity). IsExact zones (labels_of xs)) split sound.exact in
+    let put : set es i e' ≡ take i es ++ e' ∷ drop (suc i) es = set_split es i e' within in
+    let live : live_of zones' (set es i e') ≡ set (live_of zones es) i (with_label values (seen zones e)) =
+    ap (live_of zones') put
+    ∙ live_whole zones zones' (take i es) (drop (suc i) es) e label values four exact relabels
+    ∙ live_split zones (take i es) (drop (suc i) es) e i (with_label values (seen zones e)) (length-take-le i es (omega arith))
+    ∙ ap (λ (xs : List Entity). set (live_of zones xs) i (with_label values (seen zones e))) (sym split) in
+    changes next zones zones' es (set es i e') id i e (with_label values) place is sound (λ x. refl) (λ x. refl) (stays_same e.what) live (length-set es i e')
+    (rw put (exact_whole zones zones' (take i es) (drop (suc i) es) e label values exact relabels))
+    (set_relabels zones zones' e.label label values sound.set relabels)
+
 labels_set : (es : List Entity) (i : ℕ) (e e' : Entity) → e ≡ get_or es i e → e'.label ≡ e.label → labels_of (set es i e') ≡ labels_of es
 labels_set [] i e e' is same = refl
 labels_set (x ∷ es) zero e e' is same = ap (λ (l : Handles). l ∷ labels_of es) (same ∙ ap (λ (y : Entity). y.label) is)
@@ -234,7 +245,7 @@ what_changed next zones es id i e w change place is sound stays changed =
     let e' : Entity = record e { what = w } in
     let live : live_of zones (set es i e') ≡ set (live_of zones es) i (with_what change (seen zones e)) =
     live_set zones es i e' ∙ ap (λ (x : What). set (live_of zones es) i (with_what (λ _. x) (seen zones e))) changed in
-    changes next zones zones es (set es i e') id i e (with_what change) place is sound (λ x. refl) stays live (length-set es i e')
+    changes next zones zones es (set es i e') id i e (with_what change) place is sound (λ x. refl) (λ x. refl) stays live (length-set es i e')
     (subst (λ (ls : List Handles). IsExact zones ls) (sym (labels_set es i e e' is refl)) sound.exact) sound.set
 
 -- Look-ups by id
@@ -322,6 +333,31 @@ made_sound (Err error) next zones zones' es id i e label slot v four value place
     let put : set es i e' ≡ es = ap (set es i) is_same ∙ set_same es i e is in
     rw (put, same.0) sound
 
+-- after `relabel`, whether it found memory or not
+pub relabel_sound : (r : Result (Unit {0}) AllocError) (next : ℕ) (zones zones' : Contents) (es : List Entity) (id : Id) (i : ℕ) (e : Entity) (label : Handles) (values : List LabelValue)
+    → length values ≡ 4 → IsPlace (view next zones es) id i → e ≡ get_or es i e → IsSound next zones es
+    → OnOk r (Relabels zones zones' e.label label values) → OnErr r ((zones' ≡ zones) × (label ≡ e.label)) → IsSound next zones' (set es i (record e { label = label }))
+relabel_sound (Ok u) next zones zones' es id i e label values four place is sound relabels same =
+    (label_changed next zones zones' es id i e label values four place is sound relabels).sound
+relabel_sound (Err error) next zones zones' es id i e label values four place is sound relabels same =
+    let e' : Entity = record e { label = label } in
+    let is_same : e' ≡ e = ap (λ (l : Handles). let x : Entity = record e { label = l } in x) same.1 in
+    let put : set es i e' ≡ es = ap (set es i) is_same ∙ set_same es i e is in
+    rw (put, same.0) sound
+
+-- a label whose slots aren't Unset where these values aren't has them made
+pub slots_made : (next : ℕ) (zones : Contents) (es : List Entity) (id : Id) (i : ℕ) (e : Entity) (values : List LabelValue)
+    → IsPlace (view next zones es) id i → e ≡ get_or es i e → HasSlotsFor (label_at (view next zones es) id) values → AreMade e.label values
+slots_made next zones es id i e values place is has slot four =
+    one (value_for values slot) (handle e.label slot) (λ value none. has slot four value (unmade_value next zones es id i e slot four place is none))
+  where
+    one : (v : LabelValue) (key : Option ℕ) → (v ≢ Unset → key ≡ None → ⊥) → IsMadeFor key v
+    one Unset key some = tt
+    one (Range r) None some = absurd (some (λ e. cc) refl)
+    one (Range r) (Some h) some = refl
+    one (Number n) None some = absurd (some (λ e. cc) refl)
+    one (Number n) (Some h) some = refl
+
 pub on_err : {T E : Type 0} (r : Result T E) (P : Type 0) → P → OnErr r P
 on_err (Ok x) P p = tt
 on_err (Err e) P p = p
@@ -334,7 +370,7 @@ opened zones e values four makes first directory belongs no_bytes =
     let live : live_of zones ([] ++ e ∷ []) ≡ x ∷ [] = live_push (replicate 4 []) zones [] e values four exact_none makes in
     let P : Live → Type 0 = λ l. NoBytesIfDirectory l.what in
     let alone : IsPopulation (record { next = 1; live = x ∷ [] }) =
-    record { rising = (omega arith, omega (arith, first)); rooted = (first, directory); belong = belong_one x belongs; directories = All-cons P x [] no_bytes (All-nil P) } in
+    record { rising = (omega arith, omega (arith, first)); rooted = (first, directory); belong = belong_one x belongs; directories = All-cons P x [] no_bytes (All-nil P); names = names_one x } in
     record {
       sound = record {
         population = rw live alone;

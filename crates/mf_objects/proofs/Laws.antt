@@ -1,12 +1,13 @@
 -- What callers need to meet the conditions of the calls: from what the readings say of an entity.
 use Rattle.std.proofs.Common.{◌≡◌, ℕ, ◌<◌, ◌≤◌, ◌+◌, Option, Some, None, length, true, false, [], refl, ap, ◌∙◌}
-use Rattle.std.proofs.lemmas.Bool.{false≢true}
+use Rattle.std.proofs.lemmas.Bool.{false≢true, eqb-true}
 use Rattle.mf_objects.specs.declared.id.Id.{Id}
 use Rattle.mf_objects.specs.declared.entity.What.{What}
 use Rattle.mf_objects.specs.declared.entity.What.TheVariants.{Process, Vnode, Pipe, Socket}
-use Rattle.mf_objects.specs.Live.{Live, Entities, has_id, live_at, passes, is_vnode, is_pipe, is_process, is_socket, is_directory, is_entry, is_made_by, IsLive, IsLiveWhere, reading, count_of, count_at, content_of, content_at, file_of, file_at, no_file, entry_count}
+use Rattle.mf_objects.specs.Live.{Live, Entities, has_id, live_at, passes, is_vnode, is_pipe, is_process, is_socket, is_directory, is_entry, is_held_by, is_made_by, IsLive, IsLiveWhere, reading, count_of, count_at, content_of, content_at, file_of, file_at, no_file, entry_count}
 use Rattle.mf_objects.specs.Changes.{FitsBytes, FitsMessage, HasMessage}
-use Rattle.mf_objects.specs.Population.{IsPopulation, NoBytesIfDirectory}
+use Rattle.mf_objects.specs.Population.{IsPopulation, NoBytesIfDirectory, shares_names, is_entry_beside}
+use Rattle.mf_objects.proofs.Names.{one_name}
 use Rattle.mf_objects.proofs.Belonging.{counted_none, no_entry, belongs_at, find_all, entry_directory, maker_process}
 
 message_fits : (entries : ℕ) (w : What) → is_socket w ≡ true → count_of entries w < 16 → FitsMessage w
@@ -154,3 +155,50 @@ directory_empty objects id population directory = by_found (live_at objects id) 
     by_found (Some e) is directory =
         let held : NoBytesIfDirectory e.what = find_all (λ (x : Live). NoBytesIfDirectory x.what) (has_id id) objects.live e population.directories is in
         ap (reading content_of []) is ∙ held directory
+
+-- One name, one entity
+
+process_shares : (w other : What) → is_process w ≡ true → is_process other ≡ true → shares_names w other ≡ true
+process_shares (Process cred) other own is = is
+process_shares (Vnode vnode) other own is = absurd (false≢true own)
+process_shares (Pipe pipe) other own is = absurd (false≢true own)
+process_shares (Socket socket) other own is = absurd (false≢true own)
+
+pipe_shares : (w other : What) → is_pipe w ≡ true → is_pipe other ≡ true → shares_names w other ≡ true
+pipe_shares (Process cred) other own is = absurd (false≢true own)
+pipe_shares (Vnode vnode) other own is = absurd (false≢true own)
+pipe_shares (Pipe pipe) other own is = is
+pipe_shares (Socket socket) other own is = absurd (false≢true own)
+
+socket_shares : (w other : What) → is_socket w ≡ true → is_socket other ≡ true → shares_names w other ≡ true
+socket_shares (Process cred) other own is = absurd (false≢true own)
+socket_shares (Vnode vnode) other own is = absurd (false≢true own)
+socket_shares (Pipe pipe) other own is = absurd (false≢true own)
+socket_shares (Socket socket) other own is = is
+
+entry_shares : (dir : Id) (w other : What) → is_entry dir w ≡ true → is_entry dir other ≡ true → shares_names w other ≡ true
+entry_shares dir (Process cred) other own is = absurd (false≢true own)
+entry_shares dir (Vnode vnode) other own is = by_parent vnode.parent own
+  where
+    by_parent : (parent : Option Id) → is_held_by dir parent ≡ true → is_entry_beside parent other ≡ true
+    by_parent None own = absurd (false≢true own)
+    by_parent (Some at) own = ap (λ (n : ℕ). is_entry (record { 0 = n }) other) (eqb-true at.0 dir.0 own) ∙ is
+entry_shares dir (Pipe pipe) other own is = absurd (false≢true own)
+entry_shares dir (Socket socket) other own is = absurd (false≢true own)
+
+module _ (objects : Entities) (population : IsPopulation objects) (a b : Id) (x y : Live) (at_a : live_at objects a ≡ Some x) (at_b : live_at objects b ≡ Some y) (same : x.name ≡ y.name) where
+  -- two live processes of one name are one
+  pub one_process : is_process x.what ≡ true → is_process y.what ≡ true → x ≡ y
+  one_process own other = one_name objects.live a b x y population.names at_a at_b (process_shares y.what x.what other own) same
+
+  -- two live pipes of one name are one
+  pub one_pipe : is_pipe x.what ≡ true → is_pipe y.what ≡ true → x ≡ y
+  one_pipe own other = one_name objects.live a b x y population.names at_a at_b (pipe_shares y.what x.what other own) same
+
+  -- two live sockets of one name are one
+  pub one_socket : is_socket x.what ≡ true → is_socket y.what ≡ true → x ≡ y
+  one_socket own other = one_name objects.live a b x y population.names at_a at_b (socket_shares y.what x.what other own) same
+
+  -- two entries of one directory and one name are one
+  pub one_entry : (dir : Id) → is_entry dir x.what ≡ true → is_entry dir y.what ≡ true → x ≡ y
+  one_entry dir own other = one_name objects.live a b x y population.names at_a at_b (entry_shares dir y.what x.what other own) same

@@ -1,7 +1,9 @@
 pub mod Zoned
+pub mod Relabelled
 pub mod Rising
 pub mod Finding
 pub mod Belonging
+pub mod Names
 pub mod Kept
 pub mod Found
 pub mod Removing

@@ -7,7 +7,7 @@ use Rattle.mf_slots.specs.Zones.{Contents}
 use Rattle.mf_objects.specs.declared.id.Id.{Id}
 use Rattle.mf_objects.specs.declared.entity.Entity.{Entity}
 use Rattle.mf_objects.specs.Live.{Live, is_entry}
-use Rattle.mf_objects.specs.Titles.{Link, path_in, below, parent_of, in_byte_order, with_name, entry_names, link as live_link}
+use Rattle.mf_objects.specs.Titles.{Link, path_in, below, parent_of, entry_names, link as live_link}
 use Rattle.mf_objects.specs.Sound.{seen, live_of, link}
 
 -- the names of the entries of a directory
@@ -24,18 +24,30 @@ names_live dir zones (e ∷ es) = one (is_entry dir e.what) (names_live dir zone
     one true rest = ap (λ (ns : List (List ℕ)). e.name ∷ ns) rest
     one false rest = rest
 
+-- one entity more
+pub names_yes : (dir : Id) (es : List Entity) (e : Entity) → is_entry dir e.what ≡ true → raw_names dir (es ++ e ∷ []) ≡ raw_names dir es ++ e.name ∷ []
+names_yes dir [] e entry = rw entry refl
+names_yes dir (x ∷ es) e entry = one (is_entry dir x.what) (names_yes dir es e entry)
+  where
+    one : (b : Bool) → raw_names dir (es ++ e ∷ []) ≡ raw_names dir es ++ e.name ∷ []
+        → map (λ (y : Entity). y.name) (cond b (x ∷ filter (λ (y : Entity). is_entry dir y.what) (es ++ e ∷ [])) (filter (λ (y : Entity). is_entry dir y.what) (es ++ e ∷ [])))
+        ≡ map (λ (y : Entity). y.name) (cond b (x ∷ filter (λ (y : Entity). is_entry dir y.what) es) (filter (λ (y : Entity). is_entry dir y.what) es)) ++ e.name ∷ []
+    one true rest = ap (λ (ns : List (List ℕ)). x.name ∷ ns) rest
+    one false rest = rest
+
+pub names_no : (dir : Id) (es : List Entity) (e : Entity) → is_entry dir e.what ≡ false → raw_names dir (es ++ e ∷ []) ≡ raw_names dir es
+names_no dir [] e entry = rw entry refl
+names_no dir (x ∷ es) e entry = one (is_entry dir x.what) (names_no dir es e entry)
+  where
+    one : (b : Bool) → raw_names dir (es ++ e ∷ []) ≡ raw_names dir es
+        → map (λ (y : Entity). y.name) (cond b (x ∷ filter (λ (y : Entity). is_entry dir y.what) (es ++ e ∷ [])) (filter (λ (y : Entity). is_entry dir y.what) (es ++ e ∷ [])))
+        ≡ map (λ (y : Entity). y.name) (cond b (x ∷ filter (λ (y : Entity). is_entry dir y.what) es) (filter (λ (y : Entity). is_entry dir y.what) es))
+    one true rest = ap (λ (ns : List (List ℕ)). x.name ∷ ns) rest
+    one false rest = rest
+
 pub links_live : (zones : Contents) (es : List Entity) → map live_link (live_of zones es) ≡ map link es
 links_live zones [] = refl
 links_live zones (e ∷ es) = ap (λ (ls : List Link). link e ∷ ls) (links_live zones es)
-
--- one entity more, from the back
-pub names_yes : (dir : Id) (e : Entity) (es : List Entity) → is_entry dir e.what ≡ true
-    → in_byte_order (raw_names dir (e ∷ es)) ≡ with_name e.name (in_byte_order (raw_names dir es))
-names_yes dir e es entry = rw entry refl
-
-pub names_no : (dir : Id) (e : Entity) (es : List Entity) → is_entry dir e.what ≡ false
-    → in_byte_order (raw_names dir (e ∷ es)) ≡ in_byte_order (raw_names dir es)
-names_no dir e es entry = rw entry refl
 
 pub path_push : (ls : List Link) (l : Link) (id : Id)
     → path_in (reverse (ls ++ l ∷ [])) id ≡ cond (nat_eq l.id.0 id.0) (below (path_in (reverse ls)) l.parent l.name) (path_in (reverse ls) id)

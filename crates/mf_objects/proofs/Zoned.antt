@@ -5,7 +5,7 @@ use Rattle.std.proofs.lemmas.Bool.{cases_eq}
 use Rattle.std.proofs.lemmas.Bool.Decides.{nat_tests}
 use Rattle.mf_elem.specs.declared.label.LabelValue.{LabelValue}
 use Rattle.mf_elem.specs.declared.label.LabelValue.TheVariants.{Unset}
-use Rattle.mf_slots.specs.Zones.{Contents, Handles, handle, under, value_of, value_at, value_or_unset, IsSame, MakesLabel, GivesUp, Writes, Makes, IsHeld, IsHeldAt}
+use Rattle.mf_slots.specs.Zones.{Contents, Handles, handle, under, value_of, value_at, value_or_unset, value_for, MakesLabel, GivesUp, Writes, Makes, IsHeld, IsHeldAt}
 use Rattle.mf_slots.proofs.ZonesLaws.{value_of-same, has_handle}
 use Rattle.mf_objects.specs.declared.entity.Entity.{Entity}
 use Rattle.mf_objects.specs.Live.{Live}
@@ -14,14 +14,14 @@ use Rattle.mf_objects.specs.Sound.{label_values, seen, labels_of, owned, owner_c
 
 -- Owners of a handle
 
-owned_yes : (key : Option ℕ) (h : ℕ) → key ≡ Some h → owned key h ≡ 1
+pub owned_yes : (key : Option ℕ) (h : ℕ) → key ≡ Some h → owned key h ≡ 1
 owned_yes None h e = cc
 owned_yes (Some k) h e = let same : k ≡ h = cc in rw (eq-eqb k h same) refl
 
 differ_eqb : (k h : ℕ) → k ≢ h → nat_eq k h ≡ false
 differ_eqb k h ne = grind (arith, nat_tests)
 
-owned_no : (key : Option ℕ) (h : ℕ) → (key ≡ Some h → ⊥) → owned key h ≡ 0
+pub owned_no : (key : Option ℕ) (h : ℕ) → (key ≡ Some h → ⊥) → owned key h ≡ 0
 owned_no None h no_handle = refl
 owned_no (Some k) h no_handle = let ne : k ≢ h = (λ same. no_handle (ap (λ (n : ℕ). Some n) same)) in rw (differ_eqb k h ne) refl
 
@@ -29,14 +29,14 @@ owner_count-append : (slot h : ℕ) (xs ys : List Handles) → owner_count slot 
 owner_count-append slot h [] ys = omega arith
 owner_count-append slot h (x ∷ xs) ys = omega (arith, owner_count-append slot h xs ys)
 
-held_none : (o : Option LabelValue) → o ≡ None → held_count o ≡ 0
+pub held_none : (o : Option LabelValue) → o ≡ None → held_count o ≡ 0
 held_none o e = rw e refl
 
-held_some : (o : Option LabelValue) → IsSome o → held_count o ≡ 1
+pub held_some : (o : Option LabelValue) → IsSome o → held_count o ≡ 1
 held_some None h = cc
 held_some (Some v) h = refl
 
-held_most : (o : Option LabelValue) → held_count o ≤ 1
+pub held_most : (o : Option LabelValue) → held_count o ≤ 1
 held_most None = omega arith
 held_most (Some v) = omega arith
 
@@ -44,11 +44,11 @@ some_held : (o : Option LabelValue) → 1 ≤ held_count o → IsSome o
 some_held None h = absurd (omega arith)
 some_held (Some v) h = refl
 
-some_is : (o : Option LabelValue) (v : LabelValue) → o ≡ Some v → IsSome o
+pub some_is : (o : Option LabelValue) (v : LabelValue) → o ≡ Some v → IsSome o
 some_is o v e = rw e refl
 
 -- the owners in a list of entities round one of them
-count_split : (slot h : ℕ) (xs ys : List Entity) (e : Entity)
+pub count_split : (slot h : ℕ) (xs ys : List Entity) (e : Entity)
     → owner_count slot h (labels_of (xs ++ e ∷ ys)) ≡ owner_count slot h (labels_of xs) + (owned (handle e.label slot) h + owner_count slot h (labels_of ys))
 count_split slot h xs ys e =
     ap (λ (ls : List Handles). owner_count slot h ls) (map-append (λ (x : Entity). x.label) xs (e ∷ ys))
@@ -89,14 +89,6 @@ live_kept zones zones' (e ∷ es) keeps =
     let rest : Keeps zones zones' es = record { same = λ slot h l own. keeps.same slot h l (omega (arith, own)) } in
     ap (λ (x : Live). x ∷ live_of zones' es) here ∙ ap (λ (xs : List Live). seen zones e ∷ xs) (live_kept zones zones' es rest)
 
--- Zones that have what they had
-
-pub exact_same : (zones zones' : Contents) (labels : List Handles) → IsExact zones labels → IsSame zones zones' → IsExact zones' labels
-exact_same zones zones' labels exact same = record { each = λ slot h l. exact.each slot h l ∙ ap held_count (sym (same.same slot h)) }
-
-pub live_same : (zones zones' : Contents) (es : List Entity) → IsSame zones zones' → live_of zones' es ≡ live_of zones es
-live_same zones zones' es same = live_kept zones zones' es (record { same = λ slot h l own. same.same slot h })
-
 -- One entity more
 
 pub exact_push : (zones zones' : Contents) (es : List Entity) (e : Entity) (values : List LabelValue)
@@ -128,13 +120,14 @@ four_values (a ∷ b ∷ c ∷ []) four = absurd (omega arith)
 four_values (a ∷ b ∷ c ∷ d ∷ []) four = refl
 four_values (a ∷ b ∷ c ∷ d ∷ x ∷ xs) four = absurd (omega arith)
 
-values_made : (zones zones' : Contents) (label : Handles) (values : List LabelValue) → length values ≡ 4 → MakesLabel zones zones' label values → label_values zones' label ≡ values
+pub values_made : (zones : Contents) (label : Handles) (values : List LabelValue) → length values ≡ 4 → ((slot : ℕ) → value_of zones label slot ≡ value_for values slot)
+    → label_values zones label ≡ values
 unfolding label_values
-values_made zones zones' label values four makes =
-    let first : value_of zones' label 0 ≡ get_or values 0 Unset = makes.made 0 (omega arith) in
-    let second : value_of zones' label 1 ≡ get_or values 1 Unset = makes.made 1 (omega arith) in
-    let third : value_of zones' label 2 ≡ get_or values 2 Unset = makes.made 2 (omega arith) in
-    let fourth : value_of zones' label 3 ≡ get_or values 3 Unset = makes.made 3 (omega arith) in
+values_made zones label values four made =
+    let first : value_of zones label 0 ≡ get_or values 0 Unset = made 0 in
+    let second : value_of zones label 1 ≡ get_or values 1 Unset = made 1 in
+    let third : value_of zones label 2 ≡ get_or values 2 Unset = made 2 in
+    let fourth : value_of zones label 3 ≡ get_or values 3 Unset = made 3 in
     rw (first, second, third, fourth) (four_values values four)
 
 pub live_push : (zones zones' : Contents) (es : List Entity) (e : Entity) (values : List LabelValue) → length values ≡ 4
@@ -150,7 +143,7 @@ live_push zones zones' es e values four exact makes =
     } in
     map-append (seen zones') es (e ∷ [])
     ∙ ap (λ (xs : List Live). xs ++ seen zones' e ∷ []) (live_kept zones zones' es keeps)
-    ∙ ap (λ (ls : List LabelValue). live_of zones es ++ record { id = e.id; name = e.name; label = ls; what = e.what } ∷ []) (values_made zones zones' e.label values four makes)
+    ∙ ap (λ (ls : List LabelValue). live_of zones es ++ record { id = e.id; name = e.name; label = ls; what = e.what } ∷ []) (values_made zones' e.label values four makes.made)
 
 -- One entity less
 
@@ -202,7 +195,7 @@ is_held zones xs ys e exact =
 -- One entity with another label
 
 -- the entity gets this label, whose slot has the value under this handle, which no other entity has
-pub record Relabels (zones zones' : Contents) (xs ys : List Entity) (e : Entity) (label : Handles) (slot h : ℕ) (v : LabelValue) : Type 0 where
+pub record SetsSlot (zones zones' : Contents) (xs ys : List Entity) (e : Entity) (label : Handles) (slot h : ℕ) (v : LabelValue) : Type 0 where
   pub within : slot < 4
   pub writes : Writes zones zones' slot h (Some v)
   pub here : handle label slot ≡ Some h
@@ -213,7 +206,7 @@ pub record Relabels (zones zones' : Contents) (xs ys : List Entity) (e : Entity)
 
 pub relabels_set : (zones zones' : Contents) (xs ys : List Entity) (e : Entity) (slot h : ℕ) (v : LabelValue)
     → slot < 4 → IsExact zones (labels_of (xs ++ e ∷ ys)) → handle e.label slot ≡ Some h → Writes zones zones' slot h (Some v)
-    → Relabels zones zones' xs ys e e.label slot h v
+    → SetsSlot zones zones' xs ys e e.label slot h v
 relabels_set zones zones' xs ys e slot h v within exact own writes =
     let one = owned_yes (handle e.label slot) h own in
     let split = count_split slot h xs ys e in
@@ -234,7 +227,7 @@ relabels_set zones zones' xs ys e slot h v within exact own writes =
 
 pub relabels_make : (zones zones' : Contents) (xs ys : List Entity) (e : Entity) (label : Handles) (slot : ℕ) (v : LabelValue)
     → slot < 4 → IsExact zones (labels_of (xs ++ e ∷ ys)) → handle e.label slot ≡ None → (makes : Makes zones zones' e.label label slot v)
-    → Relabels zones zones' xs ys e label slot makes.new v
+    → SetsSlot zones zones' xs ys e label slot makes.new v
 relabels_make zones zones' xs ys e label slot v within exact unset makes =
     let split = count_split slot makes.new xs ys e in
     let count = exact.each slot makes.new within in
@@ -260,7 +253,7 @@ relabelled : Entity → Handles → Entity
 relabelled e label = record e { label = label }
 
 pub exact_relabel : (zones zones' : Contents) (xs ys : List Entity) (e : Entity) (label : Handles) (slot h : ℕ) (v : LabelValue)
-    → IsExact zones (labels_of (xs ++ e ∷ ys)) → Relabels zones zones' xs ys e label slot h v → IsExact zones' (labels_of (xs ++ record e { label = label } ∷ ys))
+    → IsExact zones (labels_of (xs ++ e ∷ ys)) → SetsSlot zones zones' xs ys e label slot h v → IsExact zones' (labels_of (xs ++ record e { label = label } ∷ ys))
 exact_relabel zones zones' xs ys e label slot h v exact relabels =
     let e' : Entity = record e { label = label } in
     record {
@@ -318,7 +311,7 @@ values_relabel zones zones' old label slot h v within writes here elsewhere =
     by_slot (suc (suc (suc (suc n)))) l here other = absurd (omega arith)
 
 pub live_relabel : (zones zones' : Contents) (xs ys : List Entity) (e : Entity) (label : Handles) (slot h : ℕ) (v : LabelValue)
-    → Relabels zones zones' xs ys e label slot h v
+    → SetsSlot zones zones' xs ys e label slot h v
     → live_of zones' (xs ++ record e { label = label } ∷ ys) ≡ live_of zones xs ++ with_value slot v (seen zones e) ∷ live_of zones ys
 live_relabel zones zones' xs ys e label slot h v relabels =
     let e' : Entity = record e { label = label } in

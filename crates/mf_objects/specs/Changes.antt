@@ -2,6 +2,8 @@
 use Rattle.std.specs.Prelude.{◌≡◌, ℕ, ◌+◌, ◌<◌, ◌≤◌, length, Bool, true, false, not, ◌||◌, List, [], ◌∷◌, ◌++◌, map, filter, slice_set, if◌then◌else◌, Some, None, IsTrue, MatchOption, count_by}
 use Rattle.mf_elem.specs.declared.label.LabelValue.{LabelValue}
 use Rattle.mf_cred.specs.declared.cred.FileView.{FileView}
+use Rattle.mf_names.specs.declared.limits.TheConstants.{CONTENT_LIMIT}
+use Rattle.mf_objects.specs.declared.limits.TheConstants.{PIPE_LIMIT, MOST_MESSAGES, ROOT_MODE}
 use Rattle.mf_objects.specs.declared.id.Id.{Id}
 use Rattle.mf_objects.specs.declared.entity.What.{What}
 use Rattle.mf_objects.specs.declared.entity.What.TheVariants.{Process, Vnode, Pipe, Socket}
@@ -37,11 +39,14 @@ with_what change e = record e { what = change e.what }
 abbrev pub with_value : ℕ → LabelValue → Live → Live
 with_value slot value e = record e { label = slice_set e.label slot value }
 
+abbrev pub with_label : List LabelValue → Live → Live
+with_label values e = record e { label = values }
+
 -- so many bytes more fit a regular file or a pipe
 abbrev pub FitsBytes : ℕ → What → Type 0
 FitsBytes more (Process cred) = ⊥
-FitsBytes more (Vnode vnode) = (vnode.file.dir ≡ false) × (length vnode.content + more ≤ 65536)
-FitsBytes more (Pipe pipe) = length pipe.bytes + more ≤ 16384
+FitsBytes more (Vnode vnode) = (vnode.file.dir ≡ false) × (length vnode.content + more ≤ CONTENT_LIMIT)
+FitsBytes more (Pipe pipe) = length pipe.bytes + more ≤ PIPE_LIMIT
 FitsBytes more (Socket socket) = ⊥
 
 -- one message more fits a socket
@@ -49,7 +54,7 @@ abbrev pub FitsMessage : What → Type 0
 FitsMessage (Process cred) = ⊥
 FitsMessage (Vnode vnode) = ⊥
 FitsMessage (Pipe pipe) = ⊥
-FitsMessage (Socket socket) = length socket.messages < 16
+FitsMessage (Socket socket) = length socket.messages < MOST_MESSAGES
 
 -- a socket with a message
 abbrev pub HasMessage : What → Type 0
@@ -122,7 +127,7 @@ root values =
       id = record { 0 = 0 };
       name = [];
       label = values;
-      what = Vnode (record { parent = None; file = record { uid = 0; gid = 0; mode = 493; dir = true }; content = [] });
+      what = Vnode (record { parent = None; file = record { uid = 0; gid = 0; mode = ROOT_MODE; dir = true }; content = [] });
     }
 
 -- the root alone

@@ -1,7 +1,8 @@
 -- The live entities, as contracts see them: the listing of a finite map by rising id.
-use Rattle.std.specs.Prelude.{◌≡◌, ◌≤◌, ℕ, All, Bool, true, false, IsTrue, nat_eq, nat_le, ◌&&◌, List, [], ◌∷◌, length, Option, Some, None, find, count_by, slice_index_or, option_map, IfSome, IfNone}
+use Rattle.std.specs.Prelude.{◌≡◌, ◌≢◌, ◌<◌, ◌≤◌, ℕ, All, Bool, true, false, IsTrue, nat_eq, nat_le, ◌&&◌, List, [], ◌∷◌, length, Option, Some, None, find, count_by, slice_index_or, option_map, IfSome, IfNone}
 use Rattle.std.specs.Str.{bytes_eq}
 use Rattle.mf_elem.specs.declared.label.LabelValue.{LabelValue}
+use Rattle.mf_elem.specs.declared.label.TheConstants.{SLOTS}
 use Rattle.mf_elem.specs.declared.label.LabelValue.TheVariants as values
 use Rattle.mf_cred.specs.declared.cred.Cred.{Cred}
 use Rattle.mf_cred.specs.declared.cred.FileView.{FileView}
@@ -207,3 +208,8 @@ label_at objects id = label_of (live_at objects id)
 -- the value of a label slot
 abbrev pub value_at : Entities → Id → ℕ → LabelValue
 value_at objects id slot = slice_index_or (label_at objects id) slot values.Unset
+
+-- where the given values aren't Unset, those of the label aren't either
+abbrev pub HasSlotsFor : List LabelValue → List LabelValue → Type 0
+HasSlotsFor label given =
+    (slot : ℕ) → slot < SLOTS → slice_index_or given slot values.Unset ≢ values.Unset → slice_index_or label slot values.Unset ≢ values.Unset

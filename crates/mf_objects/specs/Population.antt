@@ -1,9 +1,10 @@
 -- What is true of the live entities at any time.
-use Rattle.std.specs.Prelude.{◌≡◌, ℕ, ◌+◌, ◌<◌, ◌≤◌, Bool, IsTrue, List, [], ◌∷◌, All, find, MatchOption}
+use Rattle.std.specs.Prelude.{◌≡◌, ℕ, ◌+◌, ◌<◌, ◌≤◌, Bool, false, ◌&&◌, IsTrue, List, [], ◌∷◌, All, AllPairs, Option, Some, None, find, MatchOption}
+use Rattle.std.specs.Str.{bytes_eq}
 use Rattle.mf_objects.specs.declared.id.Id.{Id}
 use Rattle.mf_objects.specs.declared.entity.What.{What}
 use Rattle.mf_objects.specs.declared.entity.What.TheVariants.{Process, Vnode, Pipe, Socket}
-use Rattle.mf_objects.specs.Live.{Live, Entities, has_id, passes, is_directory, is_process, content_of}
+use Rattle.mf_objects.specs.Live.{Live, Entities, has_id, passes, is_directory, is_process, is_pipe, is_socket, is_entry, content_of}
 
 -- the ids rise, are at least the first number and stay below the second
 abbrev pub IsRising : ℕ → ℕ → List Live → Type 0
@@ -34,9 +35,30 @@ AllBelong live = All (λ e. Belongs live e.id.0 e.what) live
 abbrev pub NoBytesIfDirectory : What → Type 0
 NoBytesIfDirectory w = IsTrue (is_directory w) → content_of w ≡ []
 
+-- it is an entry of this directory, where there is one
+abbrev pub is_entry_beside : Option Id → What → Bool
+is_entry_beside None other = false
+is_entry_beside (Some dir) other = is_entry dir other
+
+-- The two need different names: processes, pipes, sockets, and the entries of one directory. The root has no name to share.
+abbrev pub shares_names : What → What → Bool
+shares_names (Process cred) other = is_process other
+shares_names (Vnode vnode) other = is_entry_beside vnode.parent other
+shares_names (Pipe pipe) other = is_pipe other
+shares_names (Socket socket) other = is_socket other
+
+-- it has the name that such an entity is to have
+abbrev pub is_namesake : List ℕ → What → Live → Bool
+is_namesake name what e = shares_names what e.what && bytes_eq e.name name
+
+-- names differ among processes, among pipes, among sockets, and in each directory
+abbrev pub NamesDiffer : List Live → Type 0
+NamesDiffer live = AllPairs (λ older e. is_namesake e.name e.what older ≡ false) live
+
 -- what is true of the live entities at any time
 pub record IsPopulation (objects : Entities) : Type 0 where
   pub rising : IsRising 0 objects.next objects.live
   pub rooted : HasRoot objects.live
   pub belong : AllBelong objects.live
   pub directories : All (λ e. NoBytesIfDirectory e.what) objects.live
+  pub names : NamesDiffer objects.live

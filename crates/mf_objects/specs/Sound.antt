@@ -1,7 +1,9 @@
 -- What is true of every population of live entities and the zones of their labels.
 use Rattle.std.specs.Prelude.{◌≡◌, ◌≢◌, ℕ, ◌+◌, ◌<◌, ◌≤◌, nat_eq, true, slice_index_or, List, [], ◌∷◌, length, map, Option, Some, None, if◌then◌else◌}
 use Rattle.mf_elem.specs.declared.label.LabelValue.{LabelValue}
+use Rattle.mf_elem.specs.declared.label.TheConstants.{SLOTS}
 use Rattle.mf_slots.specs.Zones.{Contents, Handles, handle, under, value_of, NoneUnset}
+use Rattle.mf_objects.specs.declared.limits.TheConstants.{MOST_ENTITIES}
 use Rattle.mf_objects.specs.declared.entity.Entity.{Entity}
 use Rattle.mf_objects.specs.declared.id.Id.{Id}
 use Rattle.mf_objects.specs.Titles.{Link, parent_of}
@@ -36,16 +38,16 @@ held_count (Some value) = 1
 
 -- the zones hold the values of these labels' made slots, each once, and nothing else
 pub record IsExact (zones : Contents) (labels : List Handles) : Type 0 where
-  pub each : (slot h : ℕ) → slot < 4 → owner_count slot h labels ≡ held_count (under zones slot h)
+  pub each : (slot h : ℕ) → slot < SLOTS → owner_count slot h labels ≡ held_count (under zones slot h)
 
 -- the live entities as contracts see them
 abbrev pub live_of : Contents → List Entity → List Live
 live_of zones entities = map (seen zones) entities
 
--- the entities are a population of at most 1,024, and the zones hold the values of their labels: a slot is Unset where it isn't made
+-- the entities are a population of no more than may live, and the zones hold the values of their labels: a slot is Unset where it isn't made
 pub record IsSound (next : ℕ) (zones : Contents) (entities : List Entity) : Type 0 where
   pub population : IsPopulation (record { next = next; live = live_of zones entities })
-  pub few : length entities ≤ 1024
+  pub few : length entities ≤ MOST_ENTITIES
   pub exact : IsExact zones (labels_of entities)
   pub set : NoneUnset zones
 

@@ -4,6 +4,7 @@ use Rattle.std.specs.List.{position_or_len}
 use Rattle.std.specs.List.Sorted.{IsSorted, IsPermutation}
 use Rattle.std.specs.Ordering.{nat_cmp, is_le}
 use Rattle.std.specs.Cmp.Lexicographic.{slice_cmp}
+use Rattle.mf_objects.specs.declared.limits.TheConstants.{MOST_NAMES}
 use Rattle.mf_objects.specs.declared.id.Id.{Id}
 use Rattle.mf_objects.specs.declared.entity.What.{What}
 use Rattle.mf_objects.specs.declared.entity.What.TheVariants.{Process, Vnode, Pipe, Socket}
@@ -29,16 +30,16 @@ entry_names dir live = map (λ e. e.name) (filter (λ e. is_entry dir e.what) li
 abbrev pub first_names : ℕ → List (List ℕ) → List (List ℕ)
 first_names most names = take most (in_byte_order names)
 
--- the first 16 names in byte order of the entries of a directory
+-- the first names in byte order of the entries of a directory
 unfoldable pub names_at : Entities → Id → List (List ℕ)
-names_at objects dir = first_names 16 (entry_names dir objects.live)
+names_at objects dir = first_names MOST_NAMES (entry_names dir objects.live)
 
--- some names are the first 16 of all in byte order: with a rest behind them they are all, in order
+-- some names are the first of all in byte order: with a rest behind them they are all, in order
 pub record IsFirstNames (names all : List (List ℕ)) : Type 0 where
   pub rest : List (List ℕ)
   pub ordered : IsSorted (slice_cmp nat_cmp) (names ++ rest)
   pub same : IsPermutation all (names ++ rest)
-  pub most : length names ≡ min 16 (length all)
+  pub most : length names ≡ min MOST_NAMES (length all)
 
 -- what the path of an entity is made of: its id, the directory that holds it, and its name
 pub record Link : Type 0 where
@@ -73,11 +74,27 @@ rooted_path (byte ∷ bytes) = byte ∷ bytes
 abbrev pub path_at : Entities → Id → List ℕ
 path_at objects id = path_in (reverse (map link objects.live)) id
 
+-- what titles begin with: the kind
+abbrev pub prefix_of : What → List ℕ
+prefix_of (Process cred) = codes "proc:"
+prefix_of (Vnode vnode) = codes "vnode:"
+prefix_of (Pipe pipe) = codes "pipe:"
+prefix_of (Socket socket) = codes "socket:"
+
+-- what follows: the name, or the path of a vnode
+abbrev pub own_name : List ℕ → List ℕ → What → List ℕ
+own_name path name (Process cred) = name
+own_name path name (Vnode vnode) = rooted_path path
+own_name path name (Pipe pipe) = name
+own_name path name (Socket socket) = name
+
+-- some text was appended
+pub record IsAppended (old new : List ℕ) : Type 0 where
+  pub text : List ℕ
+  pub is : new ≡ old ++ text
+
 abbrev pub title_of : List ℕ → List ℕ → What → List ℕ
-title_of path name (Process cred) = codes "proc:" ++ name
-title_of path name (Vnode vnode) = codes "vnode:" ++ rooted_path path
-title_of path name (Pipe pipe) = codes "pipe:" ++ name
-title_of path name (Socket socket) = codes "socket:" ++ name
+title_of path name w = prefix_of w ++ own_name path name w
 
 abbrev pub title_in : List ℕ → Option Live → List ℕ
 title_in path None = []

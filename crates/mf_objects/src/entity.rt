@@ -1,14 +1,17 @@
 //! Entities, and what each kind of them holds.
 ghost use Rattle.std.specs.Prelude.{◌≡◌, ◌≤◌, nat_eq, nat_le, length, ◌∷◌, ◌&&◌, OnOk, OnErr, [], drop, slice_index_or};
 ghost use Rattle.std.specs.Str.{bytes_eq};
+ghost use Rattle.mf_names.specs.declared.limits.TheConstants.{CONTENT_LIMIT, SCRIPT_LIMIT};
 ghost use Rattle.mf_objects.specs.Live as live;
 ghost use Rattle.mf_objects.specs.Changes as change;
 ghost use Rattle.mf_objects.specs.Titles as title;
 
 use crate::id::Id;
-use crate::texts::{Bytes, Messages, Name};
+use crate::limits::PIPE_LIMIT;
+use crate::messages::Messages;
 use mf_cred::{ArrayVec, Cred, Duplicate, FileView};
 use mf_item::Kind;
+use mf_names::{Bytes, CONTENT_LIMIT, Name, SCRIPT_LIMIT};
 use mf_slots::Label;
 use std::alloc::AllocError;
 
@@ -18,14 +21,14 @@ use std::alloc::AllocError;
 pub struct Vnode {
     pub parent: Option<Id>,
     pub file: FileView,
-    pub content: Bytes<65536>,
+    pub content: Bytes<CONTENT_LIMIT>,
 }
 
 /// A pipe: the process that made it, and the bytes that nobody has read.
 #[derive(Drop)]
 pub struct Pipe {
     pub maker: Id,
-    pub bytes: Bytes<16384>,
+    pub bytes: Bytes<PIPE_LIMIT>,
 }
 
 /// A socket: the process that made it, and the messages that nobody has received.
@@ -94,7 +97,7 @@ impl What {
     /// The bytes that a file or a pipe holds; none for anything else.
     pub fn content(&self) -> &[u8]
         ensures value { result.now ≡ live.content_of self.now }
-        ensures most { length result.now ≤ 65536 }
+        ensures most { length result.now ≤ CONTENT_LIMIT }
     {
         match self {
             What::Vnode(vnode) => vnode.content.as_slice(),
@@ -106,7 +109,7 @@ impl What {
     /// The oldest message of a socket; no bytes where there is none.
     pub fn message(&self) -> &[u8]
         ensures value { result.now ≡ slice_index_or (live.messages_of self.now) 0 [] }
-        ensures most { length result.now ≤ 1048576 }
+        ensures most { length result.now ≤ SCRIPT_LIMIT }
     {
         match self {
             What::Socket(socket) => socket.messages.first(),
@@ -169,7 +172,7 @@ impl What {
     }
 
     /// Appends a message to those of a socket. If memory runs out, they are unchanged.
-    pub fn push_message(&mut self, message: Bytes<1048576>) -> Result<(), AllocError>
+    pub fn push_message(&mut self, message: Bytes<SCRIPT_LIMIT>) -> Result<(), AllocError>
         requires { change.FitsMessage self.old }
         ensures ok { OnOk result (self.new ≡ change.with_messages (change.with_message message) self.old) }
         ensures err { OnErr result (self.new ≡ self.old) }
@@ -181,7 +184,7 @@ impl What {
     }
 
     /// Removes the oldest message of a socket and returns it.
-    pub fn pop_message(&mut self) -> Bytes<1048576>
+    pub fn pop_message(&mut self) -> Bytes<SCRIPT_LIMIT>
         requires { change.HasMessage self.old }
         ensures rest { self.new ≡ change.with_messages (drop 1) self.old }
         ensures oldest { live.messages_of self.old ≡ result ∷ live.messages_of self.new }

@@ -2,16 +2,14 @@
 ghost use Rattle.std.specs.Prelude.{◌≡◌, ◌^◌, ◌<◌, [], length};
 ghost use Rattle.mf_objects.specs.Head.{head_of};
 
+use crate::limits::HEAD_BYTES;
 use mf_cred::ArrayVec;
 
-/// The most bytes that a head keeps.
-pub const HEAD_BYTES: usize = 64;
-
-/// How many bytes something holds, and the first 64 of them.
+/// How many bytes something holds, and the first of them.
 #[derive(Drop)]
 pub struct Head {
     pub len: u32,
-    pub first: ArrayVec<u8, 64>,
+    pub first: ArrayVec<u8, HEAD_BYTES>,
 }
 
 impl Head {

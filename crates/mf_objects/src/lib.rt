@@ -4,10 +4,13 @@
 mod entity;
 mod head;
 mod id;
+mod limits;
+mod messages;
 mod objects;
-mod texts;
 
 pub use head::Head;
 pub use id::Id;
-pub use objects::{MOST_ENTITIES, Objects};
-pub use texts::{Name, NameList};
+pub use limits::{
+    HEAD_BYTES, ID_LIMIT, MOST_ENTITIES, MOST_MESSAGES, MOST_NAMES, PIPE_LIMIT, ROOT_MODE,
+};
+pub use objects::Objects;

@@ -1,7 +1,10 @@
 //! The live entities, and the calls that make and remove them.
 ghost use Rattle.std.specs.Prelude.{◌≡◌, ◌<◌, ◌≤◌, [], length, IsTrue, IsSome, OnOk, OnErr, IfOk, Some, None, nat_eq, position, find};
+ghost use Rattle.mf_names.specs.declared.limits.TheConstants.{CONTENT_LIMIT};
+ghost use Rattle.mf_objects.specs.declared.limits.TheConstants.{ID_LIMIT, MOST_ENTITIES};
 ghost use Rattle.mf_objects.specs.Live as live;
 ghost use Rattle.mf_objects.specs.Changes as change;
+ghost use Rattle.mf_objects.specs.Population.{is_namesake};
 ghost use Rattle.mf_objects.specs.Sound.{IsPlace};
 ghost use Rattle.mf_objects.specs.declared.entity.What.TheVariants as what;
 
@@ -12,15 +15,14 @@ mod removing;
 
 use crate::entity::{Entity, Pipe, Socket, Vnode, What};
 use crate::id::Id;
-use crate::texts::{Bytes, Messages, Name};
+use crate::limits::ROOT_MODE;
+use crate::messages::Messages;
 use mf_cred::{Cred, Duplicate, FileView};
-use mf_elem::LabelValue;
+use mf_elem::{LabelValue, SLOTS};
+use mf_names::{Bytes, Name};
 use mf_slots::Zones;
 use std::alloc::{AllocError, Global};
 use std::marker::Model;
-
-/// The most entities that live at once.
-pub const MOST_ENTITIES: u32 = 1024;
 
 /// The live entities. Contracts see them by rising id, with the id that is given next.
 #[derive(Drop)]
@@ -44,7 +46,7 @@ impl Model for Objects {
 
 impl Objects {
     /// The root directory alone, with these label values: of uid 0 and gid 0, with mode 755.
-    pub fn new(alloc: Global, values: &[LabelValue; 4]) -> Result<Objects, AllocError>
+    pub fn new(alloc: Global, values: &[LabelValue; SLOTS]) -> Result<Objects, AllocError>
         ensures { IfOk result (λ objects. objects ≡ change.opening values.now) }
     {
         let mut zones = Zones::new(alloc)?;
@@ -58,7 +60,7 @@ impl Objects {
                 file: FileView {
                     uid: 0,
                     gid: 0,
-                    mode: 0o755,
+                    mode: ROOT_MODE,
                     dir: true,
                 },
                 content: Bytes::new(alloc),
@@ -79,10 +81,10 @@ impl Objects {
         alloc: Global,
         name: &str,
         cred: &Cred,
-        values: &[LabelValue; 4],
+        values: &[LabelValue; SLOTS],
     ) -> Result<Id, AllocError>
-        requires few { length self.old.live < 1024 }
-        requires next { self.old.next < 4294967295 }
+        requires few { length self.old.live < MOST_ENTITIES }
+        requires next { self.old.next < ID_LIMIT }
         requires name { live.live_named live.is_process self.old name.now ≡ None }
         ensures ok { OnOk result (self.new ≡ change.with_entity self.old name.now values.now (what.Process cred.now)) }
         ensures found { IfOk result (λ id. live.live_at self.new id ≡ Some (change.made self.old name.now values.now (what.Process cred.now))) }
@@ -100,13 +102,13 @@ impl Objects {
         name: &str,
         file: &FileView,
         text: &[u8],
-        values: &[LabelValue; 4],
+        values: &[LabelValue; SLOTS],
     ) -> Result<Id, AllocError>
-        requires few { length self.old.live < 1024 }
-        requires next { self.old.next < 4294967295 }
+        requires few { length self.old.live < MOST_ENTITIES }
+        requires next { self.old.next < ID_LIMIT }
         requires dir { live.IsLive live.is_directory self.old dir }
         requires name { find (live.is_child dir name.now) self.old.live ≡ None }
-        requires fits { length text.now ≤ 65536 }
+        requires fits { length text.now ≤ CONTENT_LIMIT }
         requires bare { IsTrue file.now.dir → text.now ≡ [] }
         ensures ok { OnOk result (self.new ≡ change.with_entity self.old name.now values.now (change.new_vnode dir file.now text.now)) }
         ensures found { IfOk result (λ id. live.live_at self.new id
@@ -129,10 +131,10 @@ impl Objects {
         alloc: Global,
         name: &str,
         maker: Id,
-        values: &[LabelValue; 4],
+        values: &[LabelValue; SLOTS],
     ) -> Result<Id, AllocError>
-        requires few { length self.old.live < 1024 }
-        requires next { self.old.next < 4294967295 }
+        requires few { length self.old.live < MOST_ENTITIES }
+        requires next { self.old.next < ID_LIMIT }
         requires maker { live.IsLive live.is_process self.old maker }
         requires name { live.live_named live.is_pipe self.old name.now ≡ None }
         ensures ok { OnOk result (self.new ≡ change.with_entity self.old name.now values.now (change.new_pipe maker)) }
@@ -150,10 +152,10 @@ impl Objects {
         alloc: Global,
         name: &str,
         maker: Id,
-        values: &[LabelValue; 4],
+        values: &[LabelValue; SLOTS],
     ) -> Result<Id, AllocError>
-        requires few { length self.old.live < 1024 }
-        requires next { self.old.next < 4294967295 }
+        requires few { length self.old.live < MOST_ENTITIES }
+        requires next { self.old.next < ID_LIMIT }
         requires maker { live.IsLive live.is_process self.old maker }
         requires name { live.live_named live.is_socket self.old name.now ≡ None }
         ensures ok { OnOk result (self.new ≡ change.with_entity self.old name.now values.now (change.new_socket maker)) }
@@ -176,12 +178,13 @@ impl Objects {
         &mut self,
         alloc: Global,
         name: &str,
-        values: &[LabelValue; 4],
+        values: &[LabelValue; SLOTS],
         what: What,
     ) -> Result<Id, AllocError>
-        requires few { length self.old.live < 1024 }
-        requires next { self.old.next < 4294967295 }
+        requires few { length self.old.live < MOST_ENTITIES }
+        requires next { self.old.next < ID_LIMIT }
         requires joins { change.MayJoin self.old what }
+        requires name { find (is_namesake name.now what) self.old.live ≡ None }
         ensures ok { OnOk result (self.new ≡ change.with_entity self.old name.now values.now what) }
         ensures found { IfOk result (λ id. live.live_at self.new id ≡ Some (change.made self.old name.now values.now what)) }
         ensures id { IfOk result (λ id. id.0 ≡ self.old.next) }

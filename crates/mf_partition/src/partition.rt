@@ -5,10 +5,13 @@ ghost use Rattle.mf_policy.specs.Operations.{partition_test_of};
 ghost use Rattle.mf_policy.specs.declared.spec.Spec.TheVariants as means;
 
 use mf_cred::Cred;
-use mf_elem::{LabelValue, Request};
+use mf_elem::{LabelValue, Request, SLOTS};
 use mf_errno::{Errno, Module, Priv};
 use mf_item::{CheckOp, Item, ObjectView};
-use mf_policy::{Change, Changed, LoadFlags, Policy, Spec, errno_unless};
+use mf_policy::{
+    Change, Changed, LoadFlags, PartitionTest, Policy, Spec, errno_unless, flags_of, number_asked,
+    row_of, wants_slot,
+};
 use std::alloc::{AllocError, Global};
 
 /// The partition policy of mac_partition(4): processes and sockets have a partition's number, where 0 is no partition,
@@ -19,7 +22,9 @@ pub struct Partition;
 
 impl Partition {
     /// The policy in its initial state.
-    pub fn new() -> Partition {
+    pub fn new() -> Partition
+        ensures { ⟦<Partition as Policy>⟧.spec result ≡ means.Partition }
+    {
         Partition
     }
 }
@@ -32,11 +37,11 @@ impl Policy for Partition {
     }
 
     fn flags(&self) -> LoadFlags {
-        LoadFlags::UNLOADOK
+        flags_of(Module::Partition)
     }
 
     fn wants_slot(&self) -> bool {
-        true
+        wants_slot(Module::Partition)
     }
 
     fn same(&self, other: &Spec) -> bool {
@@ -46,7 +51,7 @@ impl Policy for Partition {
     fn check(&self, slot: u8, item: &Item) -> Errno {
         let subject = number(&item.subject.label[slot as usize]);
         let object = object_number(&item.object, slot);
-        let wanted = asked(&item.request);
+        let wanted = wanted_number(&item.request);
         verdict(item.op, &item.subject.cred, subject, object, wanted)
     }
 
@@ -55,10 +60,7 @@ impl Policy for Partition {
     }
 
     fn change(&mut self, _alloc: Global, _change: &Change) -> Result<Changed, AllocError> {
-        Ok(Changed {
-            errno: Errno::Enoent,
-            number: None,
-        })
+        Ok(Changed::no_setting())
     }
 
     fn reset(&mut self) {}
@@ -67,13 +69,10 @@ impl Policy for Partition {
 fn verdict(op: CheckOp, cred: &Cred, subject: u32, object: u32, wanted: u32) -> Errno
     ensures { result ≡ spec.partition_verdict (partition_test_of op) cred.now subject object wanted }
 {
-    match op {
-        CheckOp::SocketVisible => errno_unless(agree(subject, object), Errno::Enoent),
-        CheckOp::ProcVisible | CheckOp::ProcSignal | CheckOp::ProcDebug | CheckOp::ProcSched => {
-            errno_unless(agree(subject, object), Errno::Esrch)
-        }
-        CheckOp::CredRelabel => errno_unless(may_join(cred, wanted), Errno::Eperm),
-        _ => Errno::Success,
+    match row_of(op).partition {
+        PartitionTest::Agree(errno) => errno_unless(agree(subject, object), errno),
+        PartitionTest::Join => errno_unless(may_join(cred, wanted), Errno::Eperm),
+        PartitionTest::Ignore => Errno::Success,
     }
 }
 
@@ -99,7 +98,7 @@ fn number(value: &LabelValue) -> u32
 }
 
 fn object_number(object: &Option<ObjectView>, slot: u8) -> u32
-    requires { slot < 4 }
+    requires { slot < SLOTS }
     ensures { result ≡ spec.partition_of (spec.object_slot object.now slot) }
 {
     match object {
@@ -108,11 +107,11 @@ fn object_number(object: &Option<ObjectView>, slot: u8) -> u32
     }
 }
 
-fn asked(request: &Option<Request>) -> u32
+fn wanted_number(request: &Option<Request>) -> u32
     ensures { result ≡ spec.partition_asked request.now }
 {
     match request {
-        Some(request) => request.partition.unwrap_or(0),
+        Some(request) => number_asked(Module::Partition, request).unwrap_or(0),
         None => 0,
     }
 }

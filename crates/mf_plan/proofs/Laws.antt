@@ -10,8 +10,8 @@ use Rattle.mf_item.specs.declared.view.SubjectView.{SubjectView}
 use Rattle.mf_objects.specs.declared.id.Id.{Id}
 use Rattle.mf_objects.specs.Live.{Live, Entities, id_of, live_named, is_pipe, is_process, is_socket}
 use Rattle.mf_objects.proofs.Laws.{fits_file, fits_message, fits_pipe, has_message, vnode_count}
-use Rattle.mf_script.specs.declared.script.Call.{Call}
-use Rattle.mf_script.specs.declared.script.Call.TheVariants as call
+use Rattle.mf_calls.specs.declared.script.Call.{Call}
+use Rattle.mf_calls.specs.declared.script.Call.TheVariants as call
 use Rattle.mf_policy.specs.LoadFlags.{is_unloadok}
 use Rattle.mf_policy.specs.Modules.{flags_of}
 use Rattle.mf_plan.specs.declared.plan.Plan.{Plan}

@@ -4,10 +4,11 @@ use Rattle.std.specs.Prelude.{◌≡◌, ℕ, ◌<◌, true, false, List, length
 use Rattle.mf_errno.specs.Module.{module_named}
 use Rattle.mf_errno.specs.declared.module.Module.{Module}
 use Rattle.mf_objects.specs.declared.id.Id.{Id}
+use Rattle.mf_objects.specs.declared.limits.TheConstants.{MOST_ENTITIES}
 use Rattle.mf_objects.specs.Changes.{FitsBytes, FitsMessage, HasMessage}
 use Rattle.mf_objects.specs.Live.{Live, Entities, IsLive, IsLiveWhere, live_at, live_named, entry_count, is_child, is_pipe, is_process, is_socket, is_vnode}
-use Rattle.mf_script.specs.declared.script.Call.{Call}
-use Rattle.mf_script.specs.declared.script.Call.TheVariants as call
+use Rattle.mf_calls.specs.declared.script.Call.{Call}
+use Rattle.mf_calls.specs.declared.script.Call.TheVariants as call
 use Rattle.mf_plan.specs.declared.state.State.{State}
 use Rattle.mf_plan.specs.declared.target.Target.TheVariants.{Name}
 use Rattle.mf_plan.specs.Loading.{loadable, load_fault, unload_fault}
@@ -18,14 +19,14 @@ use Rattle.mf_plan.specs.Views.{pipe_named, socket_named, is_dir, has_entries, o
 
 -- a process, pipe or socket of that name can be made
 pub record CanMake (o : Entities) (holder : Option Live) : Type 0 where
-  pub few : length o.live < 1024
+  pub few : length o.live < MOST_ENTITIES
   pub free : holder ≡ None
 
 -- a file or directory can be made at the end of the path
 pub record CanCreate (o : Entities) (path : List (List ℕ)) : Type 0 where
   pub dir : Id
   pub target : (walk_along o path).target ≡ Name dir None
-  pub few : length o.live < 1024
+  pub few : length o.live < MOST_ENTITIES
   pub free : find (is_child dir (last_name path)) o.live ≡ None
 
 -- the bytes fit the regular file at the end of the path

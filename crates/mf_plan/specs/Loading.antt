@@ -1,5 +1,6 @@
 -- Which modules can be loaded and unloaded, as the list of policies and the slot numbers stand.
 use Rattle.std.specs.Prelude.{ℕ, ◌&&◌, nat_le, if◌then◌else◌, List, Option, Some, None, option_and_then}
+use Rattle.mf_elem.specs.declared.label.TheConstants.{SLOTS}
 use Rattle.mf_errno.specs.Module.{module_named}
 use Rattle.mf_errno.specs.declared.errno.Errno.{Errno}
 use Rattle.mf_errno.specs.declared.errno.Errno.TheVariants.{Enoent, Enomem, Ebusy, Eexist}
@@ -18,12 +19,12 @@ abbrev pub loadable : List ℕ → Option Module
 loadable name = option_and_then if_there (module_named name)
 
 -- why the module can't be loaded, by the first test that fits: boot has ended and it has the flag NOTLATE; it is
--- loaded; it wants a label slot and all four were given
+-- loaded; it wants a label slot and all were given
 abbrev pub load_fault : State → Module → Option Errno
 load_fault s m =
     if s.booted && is_notlate (flags_of m) then Some Ebusy
     else if is_listed m s.specs then Some Eexist
-    else if wants_slot m && nat_le 4 s.numbers then Some Enomem
+    else if wants_slot m && nat_le SLOTS s.numbers then Some Enomem
     else None
 
 -- why the module can't be unloaded: it isn't loaded; it lacks the flag UNLOADOK

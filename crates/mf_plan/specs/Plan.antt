@@ -14,8 +14,8 @@ use Rattle.mf_item.specs.declared.view.SubjectView.{SubjectView}
 use Rattle.mf_item.specs.declared.item.Item.{Item}
 use Rattle.mf_objects.specs.declared.id.Id.{Id}
 use Rattle.mf_objects.specs.Live.{Entities}
-use Rattle.mf_script.specs.declared.script.Call.{Call}
-use Rattle.mf_script.specs.declared.script.Call.TheVariants as call
+use Rattle.mf_calls.specs.declared.script.Call.{Call}
+use Rattle.mf_calls.specs.declared.script.Call.TheVariants as call
 use Rattle.mf_plan.specs.declared.plan.Plan.{Plan}
 use Rattle.mf_plan.specs.declared.plan.Tail.{Tail}
 use Rattle.mf_plan.specs.declared.plan.Tail.TheVariants.{Do, Refuse}

@@ -2,7 +2,9 @@
 use Rattle.std.specs.Prelude.{ℕ, ◌+◌, Bool, nat_eq, nat_le, nat_lt, List, length, Option}
 use Rattle.mf_item.specs.declared.view.SubjectView.{SubjectView}
 use Rattle.mf_item.specs.declared.view.ObjectView.{ObjectView}
+use Rattle.mf_names.specs.declared.limits.TheConstants.{CONTENT_LIMIT}
 use Rattle.mf_objects.specs.declared.id.Id.{Id}
+use Rattle.mf_objects.specs.declared.limits.TheConstants.{MOST_ENTITIES, PIPE_LIMIT, MOST_MESSAGES}
 use Rattle.mf_objects.specs.Live.{Entities, id_of, live_named, is_process, is_pipe, is_socket, kind_at, file_at, cred_at, label_at, content_at, count_at}
 
 -- the entity of an id as a subject, and as an object
@@ -30,9 +32,9 @@ socket_named objects name = id_of (live_named is_socket objects name)
 
 -- What the framework tests
 
--- 1,024 entities live
+-- no further entity can live
 abbrev pub is_full : Entities → Bool
-is_full objects = nat_le 1024 (length objects.live)
+is_full objects = nat_le MOST_ENTITIES (length objects.live)
 
 abbrev pub is_dir : Entities → Id → Bool
 is_dir objects id = (file_at objects id).dir
@@ -41,21 +43,21 @@ is_dir objects id = (file_at objects id).dir
 abbrev pub has_entries : Entities → Id → Bool
 has_entries objects id = nat_lt 0 (count_at objects id)
 
--- the file would hold more than 65,536 bytes
+-- the file would hold more bytes than a file may
 abbrev pub overfills_file : Entities → List ℕ → Id → Bool
-overfills_file objects text id = nat_lt 65536 (length (content_at objects id) + length text)
+overfills_file objects text id = nat_lt CONTENT_LIMIT (length (content_at objects id) + length text)
 
--- the pipe would hold more than 16,384 bytes
+-- the pipe would hold more bytes than a pipe may
 abbrev pub overfills_pipe : Entities → List ℕ → Id → Bool
-overfills_pipe objects text id = nat_lt 16384 (length (content_at objects id) + length text)
+overfills_pipe objects text id = nat_lt PIPE_LIMIT (length (content_at objects id) + length text)
 
 -- a pipe without bytes
 abbrev pub is_empty_pipe : Entities → Id → Bool
 is_empty_pipe objects id = nat_eq (length (content_at objects id)) 0
 
--- a socket with 16 messages
+-- a socket that no further message fits
 abbrev pub is_full_socket : Entities → Id → Bool
-is_full_socket objects id = nat_le 16 (count_at objects id)
+is_full_socket objects id = nat_le MOST_MESSAGES (count_at objects id)
 
 -- a socket without a message
 abbrev pub is_empty_socket : Entities → Id → Bool

@@ -13,28 +13,27 @@ use crate::views::{is_full, overfills_file};
 use crate::walk::walk_along;
 use mf_errno::Errno;
 use mf_item::CheckOp;
+use mf_names::{PATH_LIMIT, Path, SCRIPT_LIMIT};
 use mf_objects::{Id, Objects};
-use mf_script::Path;
 
 /// Walks along the path, and adds the check of each look-up.
 fn look_up(objects: &Objects, caller: Id, path: &Path, checks: &mut Checks) -> Target
-    requires path { length path.now ≤ 8 }
     requires empty { checks.old ≡ [] }
     requires asking { outline.IsAsking objects.now caller checks.old }
     ensures checks { map (outline.item_of objects.now) checks.new
         ≡ map (spec.on objects.now (view.subject_of objects.now caller) op.VnodeLookup) (walk_along objects.now path.now).lookups }
-    ensures few { length checks.new ≤ 8 }
+    ensures few { length checks.new ≤ PATH_LIMIT }
     ensures target { result ≡ (walk_along objects.now path.now).target }
     ensures live { IsTarget objects.now result }
     ensures asking { outline.IsAsking objects.now caller checks.new }
 {
-    let walk = walk_along(objects, path.as_slice());
+    let walk = walk_along(objects, path);
     ask_lookups(objects, caller, walk.lookups.as_slice(), checks);
     walk.target
 }
 
 fn ask_lookups(objects: &Objects, caller: Id, dirs: &[Id], checks: &mut Checks)
-    requires few { length dirs.now ≤ 8 }
+    requires few { length dirs.now ≤ PATH_LIMIT }
     requires live { All (λ dir. IsLive is_directory objects.now dir) dirs.now }
     requires empty { checks.old ≡ [] }
     requires asking { outline.IsAsking objects.now caller checks.old }
@@ -56,7 +55,6 @@ pub(crate) fn on_file(
     path: &Path,
     checks: &mut Checks,
 ) -> Result<(), Errno>
-    requires path { length path.now ≤ 8 }
     requires empty { checks.old ≡ [] }
     requires asking { outline.IsAsking objects.now caller checks.old }
     ensures plan { spec.ended (map (outline.item_of objects.now) checks.new) result
@@ -75,7 +73,6 @@ pub(crate) fn exec(
     path: &Path,
     checks: &mut Checks,
 ) -> Result<(), Errno>
-    requires path { length path.now ≤ 8 }
     requires empty { checks.old ≡ [] }
     requires asking { outline.IsAsking objects.now caller checks.old }
     ensures plan { spec.ended (map (outline.item_of objects.now) checks.new) result
@@ -98,7 +95,6 @@ pub(crate) fn create(
     path: &Path,
     checks: &mut Checks,
 ) -> Result<(), Errno>
-    requires path { length path.now ≤ 8 }
     requires empty { checks.old ≡ [] }
     requires asking { outline.IsAsking objects.now caller checks.old }
     ensures plan { spec.ended (map (outline.item_of objects.now) checks.new) result
@@ -120,7 +116,6 @@ pub(crate) fn read(
     path: &Path,
     checks: &mut Checks,
 ) -> Result<(), Errno>
-    requires path { length path.now ≤ 8 }
     requires empty { checks.old ≡ [] }
     requires asking { outline.IsAsking objects.now caller checks.old }
     ensures plan { spec.ended (map (outline.item_of objects.now) checks.new) result
@@ -144,8 +139,7 @@ pub(crate) fn write(
     text: &[u8],
     checks: &mut Checks,
 ) -> Result<(), Errno>
-    requires path { length path.now ≤ 8 }
-    requires text { length text.now ≤ 1048576 }
+    requires text { length text.now ≤ SCRIPT_LIMIT }
     requires empty { checks.old ≡ [] }
     requires asking { outline.IsAsking objects.now caller checks.old }
     ensures plan { spec.ended (map (outline.item_of objects.now) checks.new) result
@@ -171,7 +165,6 @@ pub(crate) fn readdir(
     path: &Path,
     checks: &mut Checks,
 ) -> Result<(), Errno>
-    requires path { length path.now ≤ 8 }
     requires empty { checks.old ≡ [] }
     requires asking { outline.IsAsking objects.now caller checks.old }
     ensures plan { spec.ended (map (outline.item_of objects.now) checks.new) result
@@ -193,7 +186,6 @@ pub(crate) fn unlink(
     path: &Path,
     checks: &mut Checks,
 ) -> Result<(), Errno>
-    requires path { length path.now ≤ 8 }
     requires empty { checks.old ≡ [] }
     requires asking { outline.IsAsking objects.now caller checks.old }
     ensures plan { spec.ended (map (outline.item_of objects.now) checks.new) result

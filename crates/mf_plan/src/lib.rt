@@ -11,15 +11,13 @@ mod planning;
 mod reply;
 mod state;
 mod target;
-#[cfg(test)]
-mod tests;
 mod views;
 mod walk;
 
 pub use loading::loadable;
 pub use names::{ChildName, caller_of, child_name};
 pub use outline::{Check, Outline};
-pub use plan::{Plan, Tail};
+pub use plan::{MOST_CHECKS, Plan, Tail};
 pub use planning::{outline_of, plan_of};
 pub use reply::{Loaded, Payload, Reply};
 pub use state::State;

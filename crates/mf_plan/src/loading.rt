@@ -2,7 +2,6 @@
 ghost use Rattle.std.specs.Prelude.{◌≡◌, [], map};
 ghost use Rattle.mf_errno.specs.declared.privilege.Priv.TheVariants as privilege;
 ghost use Rattle.mf_item.specs.declared.operation.CheckOp.TheVariants as op;
-ghost use Rattle.mf_policy.specs.Registration.{is_listed};
 ghost use Rattle.mf_plan.specs.Loading as spec;
 ghost use Rattle.mf_plan.specs.Outline as outline;
 ghost use Rattle.mf_plan.specs.Plan as plan;
@@ -10,11 +9,11 @@ ghost use Rattle.mf_plan.specs.Views as view;
 
 use crate::outline::{Checks, ask_modules, ask_privilege};
 use crate::state::State;
+use mf_elem::SLOTS;
 use mf_errno::{Errno, Module, Priv};
 use mf_item::CheckOp;
 use mf_objects::Id;
-use mf_policy::{SpecList, flags_of, has_spec, wants_slot};
-use mf_slots::SLOTS;
+use mf_policy::{flags_of, has_spec, wants_slot};
 
 /// The module of that name, where its policy is built in.
 pub fn loadable(name: &str) -> Option<Module>
@@ -22,18 +21,6 @@ pub fn loadable(name: &str) -> Option<Module>
 {
     let wanted = Module::from_name(name)?;
     if has_spec(wanted) { Some(wanted) } else { None }
-}
-
-/// Whether the module is listed.
-pub(crate) fn is_listed(wanted: Module, specs: &SpecList) -> bool
-    ensures { result ≡ is_listed wanted specs.now }
-{
-    for place in 0..specs.len() {
-        if wanted.is(specs.registration(place).module) {
-            return true;
-        }
-    }
-    false
 }
 
 /// Why the module can't be loaded, None where it can: EBUSY where boot has ended and it has the flag NOTLATE, EEXIST
@@ -44,10 +31,10 @@ pub(crate) fn load_fault(state: &State, wanted: Module) -> Option<Errno>
     if state.booted && flags_of(wanted).is_notlate() {
         return Some(Errno::Ebusy);
     }
-    if is_listed(wanted, &state.specs) {
+    if state.specs.is_listed(wanted) {
         return Some(Errno::Eexist);
     }
-    if wants_slot(wanted) && state.numbers.given() >= SLOTS {
+    if wants_slot(wanted) && state.numbers.given() as usize >= SLOTS {
         return Some(Errno::Enomem);
     }
     None
@@ -59,7 +46,7 @@ pub(crate) fn unload_fault(state: &State, name: &str) -> Option<Errno>
     ensures { result ≡ spec.unload_fault state.now name.now }
 {
     match Module::from_name(name) {
-        Some(wanted) if is_listed(wanted, &state.specs) => {
+        Some(wanted) if state.specs.is_listed(wanted) => {
             if flags_of(wanted).is_unloadok() {
                 None
             } else {

@@ -2,7 +2,7 @@
 ghost use Rattle.std.specs.Prelude.{◌≡◌, ◌≤◌, [], length, map};
 ghost use Rattle.mf_errno.specs.declared.errno.Errno.TheVariants as errno;
 ghost use Rattle.mf_item.specs.declared.operation.CheckOp.TheVariants as op;
-ghost use Rattle.mf_script.specs.WellFormed.{IsName};
+ghost use Rattle.mf_calls.specs.WellFormed.{IsName};
 ghost use Rattle.mf_plan.specs.Names.{child_name};
 ghost use Rattle.mf_plan.specs.Outline as outline;
 ghost use Rattle.mf_plan.specs.Plan as spec;
@@ -13,10 +13,8 @@ use crate::outline::{Checks, ask, ask_delivery};
 use crate::views::{is_full, overfills_pipe};
 use mf_errno::Errno;
 use mf_item::CheckOp;
-use mf_objects::{Id, Objects};
-
-/// The most messages that a socket holds.
-const MOST_MESSAGES: u32 = 16;
+use mf_names::SCRIPT_LIMIT;
+use mf_objects::{Id, MOST_MESSAGES, Objects};
 
 /// The tests of a call that makes an entity: EEXIST where `holder` has its name already, ENFILE where no further entity
 /// can be made.
@@ -108,7 +106,7 @@ pub(crate) fn pwrite(
     checks: &mut Checks,
 ) -> Result<(), Errno>
     requires empty { checks.old ≡ [] }
-    requires text { length text.now ≤ 1048576 }
+    requires text { length text.now ≤ SCRIPT_LIMIT }
     requires asking { outline.IsAsking objects.now caller checks.old }
     ensures plan { spec.ended (map (outline.item_of objects.now) checks.new) result
         ≡ spec.found errno.Enoent (spec.pwrite_row objects.now (view.subject_of objects.now caller) text.now) (view.pipe_named objects.now name.now) }
@@ -141,7 +139,7 @@ pub(crate) fn send(
     ask(objects, caller, CheckOp::SocketSend, from, checks);
     let to = objects.socket(to).ok_or(Errno::Enoent)?;
     ask_delivery(objects, caller, from, to, checks);
-    if objects.count(to) >= MOST_MESSAGES {
+    if objects.count(to) as usize >= MOST_MESSAGES {
         return Err(Errno::Enobufs);
     }
     Ok(())

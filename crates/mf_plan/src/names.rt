@@ -2,7 +2,7 @@
 ghost use Rattle.std.specs.Prelude.{◌≡◌, IfSome};
 ghost use Rattle.std.specs.Option.{option_copied};
 ghost use Rattle.mf_objects.specs.Live.{IsLive, is_process};
-ghost use Rattle.mf_script.specs.WellFormed.{IsName, IsFormedChild};
+ghost use Rattle.mf_calls.specs.WellFormed.{IsName, IsFormedChild};
 ghost use Rattle.mf_plan.specs.Names as spec;
 ghost use Rattle.mf_plan.specs.Views.{process_named};
 

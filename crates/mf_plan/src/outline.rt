@@ -6,7 +6,7 @@ ghost use Rattle.mf_plan.specs.Outline as spec;
 ghost use Rattle.mf_plan.specs.Plan as plan;
 ghost use Rattle.mf_plan.specs.Views as view;
 
-use crate::plan::Tail;
+use crate::plan::{MOST_CHECKS, Tail};
 use mf_cred::ArrayVec;
 use mf_errno::Priv;
 use mf_item::CheckOp;
@@ -46,20 +46,20 @@ impl Default for Check {
     }
 }
 
-/// Checks in the order in which they are asked. A plan has at most 10: 8 look-ups and 2 more.
-pub(crate) type Checks = ArrayVec<Check, 12>;
+/// Checks in the order in which they are asked.
+pub(crate) type Checks = ArrayVec<Check, MOST_CHECKS>;
 
 /// The checks of a call, in the order in which they are asked, and its end: a plan without its views.
 #[derive(Drop)]
 pub struct Outline {
-    pub checks: ArrayVec<Check, 12>,
+    pub checks: ArrayVec<Check, MOST_CHECKS>,
     pub tail: Tail,
 }
 
 /// Adds the check of what the caller does to the entity.
 pub(crate) fn ask(_objects: &Objects, caller: Id, op: CheckOp, id: Id, checks: &mut Checks)
     requires live { IsSome (live_at _objects.now id) }
-    requires few { length checks.old < 12 }
+    requires few { length checks.old < MOST_CHECKS }
     requires asking { spec.IsAsking _objects.now caller checks.old }
     ensures seen { map (spec.item_of _objects.now) checks.new
         ≡ map (spec.item_of _objects.now) checks.old ++ plan.on _objects.now (view.subject_of _objects.now caller) op id ∷ [] }
@@ -79,7 +79,7 @@ pub(crate) fn ask(_objects: &Objects, caller: Id, op: CheckOp, id: Id, checks: &
 pub(crate) fn ask_delivery(_objects: &Objects, caller: Id, from: Id, to: Id, checks: &mut Checks)
     requires from { IsSome (live_at _objects.now from) }
     requires to { IsSome (live_at _objects.now to) }
-    requires few { length checks.old < 12 }
+    requires few { length checks.old < MOST_CHECKS }
     requires asking { spec.IsAsking _objects.now caller checks.old }
     ensures seen { map (spec.item_of _objects.now) checks.new
         ≡ map (spec.item_of _objects.now) checks.old
@@ -98,7 +98,7 @@ pub(crate) fn ask_delivery(_objects: &Objects, caller: Id, from: Id, to: Id, che
 
 /// Adds the check of a privilege of the caller.
 pub(crate) fn ask_privilege(_objects: &Objects, caller: Id, privilege: Priv, checks: &mut Checks)
-    requires few { length checks.old < 12 }
+    requires few { length checks.old < MOST_CHECKS }
     requires asking { spec.IsAsking _objects.now caller checks.old }
     ensures seen { map (spec.item_of _objects.now) checks.new
         ≡ map (spec.item_of _objects.now) checks.old ++ plan.privileged (view.subject_of _objects.now caller) privilege ∷ [] }
@@ -116,7 +116,7 @@ pub(crate) fn ask_privilege(_objects: &Objects, caller: Id, privilege: Priv, che
 
 /// Adds the check of a caller that loads or unloads a module.
 pub(crate) fn ask_modules(_objects: &Objects, caller: Id, op: CheckOp, checks: &mut Checks)
-    requires few { length checks.old < 12 }
+    requires few { length checks.old < MOST_CHECKS }
     requires asking { spec.IsAsking _objects.now caller checks.old }
     ensures seen { map (spec.item_of _objects.now) checks.new
         ≡ map (spec.item_of _objects.now) checks.old ++ plan.about_modules (view.subject_of _objects.now caller) op ∷ [] }

@@ -6,6 +6,9 @@ use mf_cred::ArrayVec;
 use mf_errno::Errno;
 use mf_item::Item;
 
+/// The most checks that a plan has room for. No call asks for more than 10: 8 look-ups and 2 more.
+pub const MOST_CHECKS: usize = 12;
+
 /// How a call ends where no check is denied.
 #[derive(Clone, Copy, Debug, PartialEq, Eq)]
 pub enum Tail {
@@ -18,7 +21,7 @@ pub enum Tail {
 /// The checks of a call, in the order in which they are asked, and its end.
 #[derive(Drop)]
 pub struct Plan {
-    pub items: ArrayVec<Item, 12>,
+    pub items: ArrayVec<Item, MOST_CHECKS>,
     pub tail: Tail,
 }
 

@@ -1,7 +1,7 @@
 //! The plan of a call.
 ghost use Rattle.std.specs.Prelude.{◌≡◌, ◌↔◌, [], map, IsTrue};
 ghost use Rattle.std.specs.Option.{option_copied};
-ghost use Rattle.mf_script.specs.WellFormed.{IsFormedCall, IsFormedChild, IsName};
+ghost use Rattle.mf_calls.specs.WellFormed.{IsFormedCall, IsFormedChild, IsName};
 ghost use Rattle.mf_plan.specs.Outline as outlines;
 ghost use Rattle.mf_plan.specs.Plan as spec;
 ghost use Rattle.mf_plan.specs.Views.{subject_of};
@@ -14,11 +14,11 @@ use crate::outline::{Checks, Outline};
 use crate::plan::{Plan, Tail};
 use crate::state::State;
 use crate::views::{add_items, are_items};
+use mf_calls::Call;
 use mf_cred::ArrayVec;
 use mf_errno::Errno;
 use mf_item::CheckOp;
 use mf_objects::{Id, Objects};
-use mf_script::Call;
 
 /// The plan of a call of the task's own process, or of its child of that name. Where that process isn't live, the plan
 /// has no check and ends with ESRCH.

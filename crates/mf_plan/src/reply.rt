@@ -2,7 +2,9 @@
 use mf_cred::{ArrayVec, FileView};
 use mf_errno::{Errno, Module};
 use mf_item::CheckOp;
-use mf_objects::{Head, NameList};
+use mf_names::NameList;
+use mf_objects::Head;
+use mf_policy::MOST_LISTED;
 
 /// A loaded module, and the number of its label slot where it has one.
 #[derive(Clone, Copy, Debug, Default, PartialEq, Eq)]
@@ -25,7 +27,7 @@ pub enum Payload {
     /// The number of all entries, and the names of the first 16 in byte order.
     Names { count: u32, first: NameList },
     /// The loaded modules in walk order.
-    Modules(ArrayVec<Loaded, 8>),
+    Modules(ArrayVec<Loaded, MOST_LISTED>),
     /// The label slot that the module got, where it wants one.
     Slot(Option<u8>),
 }

@@ -5,20 +5,13 @@ ghost use Rattle.mf_plan.specs.Outline as outline;
 ghost use Rattle.mf_plan.specs.Views as view;
 
 use crate::outline::Check;
+use crate::plan::MOST_CHECKS;
 use mf_cred::{ArrayVec, Duplicate};
 use mf_elem::Request;
 use mf_errno::Priv;
 use mf_item::{Item, ObjectView, SubjectView};
-use mf_objects::{Id, Objects};
-
-/// The most entities that live at once.
-const MOST_ENTITIES: u32 = 1024;
-
-/// The most bytes that a file holds.
-const FILE_BYTES: usize = 65536;
-
-/// The most bytes that a pipe holds.
-const PIPE_BYTES: usize = 16384;
+use mf_names::{CONTENT_LIMIT, SCRIPT_LIMIT};
+use mf_objects::{Id, MOST_ENTITIES, Objects, PIPE_LIMIT};
 
 /// The subject of a check.
 fn subject_in(objects: &Objects, check: Check) -> SubjectView
@@ -104,8 +97,12 @@ fn is_absent(request: &Option<Request>) -> bool
 
 /// Fills in the checks as policies see them. The subject is looked up where it isn't that of the check before.
 #[tactic(auto, unfolding(crate::specs::Outline::item_of))]
-pub(crate) fn add_items(objects: &Objects, checks: &[Check], items: &mut ArrayVec<Item, 12>)
-    requires few { length checks.now ≤ 12 }
+pub(crate) fn add_items(
+    objects: &Objects,
+    checks: &[Check],
+    items: &mut ArrayVec<Item, MOST_CHECKS>,
+)
+    requires few { length checks.now ≤ MOST_CHECKS }
     requires live { outline.AreLive objects.now checks.now }
     requires empty { items.old ≡ [] }
     ensures { items.new ≡ map (outline.item_of objects.now) checks.now }
@@ -165,17 +162,17 @@ pub(crate) fn is_full(objects: &Objects) -> bool
 /// Whether the text doesn't fit the file.
 pub(crate) fn overfills_file(objects: &Objects, text: &[u8], id: Id) -> bool
     requires live { IsSome (live_at objects.now id) }
-    requires text { length text.now ≤ 1048576 }
+    requires text { length text.now ≤ SCRIPT_LIMIT }
     ensures { result ≡ view.overfills_file objects.now text.now id }
 {
-    objects.size(id) as usize + text.len() > FILE_BYTES
+    objects.size(id) as usize + text.len() > CONTENT_LIMIT
 }
 
 /// Whether the text doesn't fit the pipe.
 pub(crate) fn overfills_pipe(objects: &Objects, text: &[u8], id: Id) -> bool
     requires live { IsSome (live_at objects.now id) }
-    requires text { length text.now ≤ 1048576 }
+    requires text { length text.now ≤ SCRIPT_LIMIT }
     ensures { result ≡ view.overfills_pipe objects.now text.now id }
 {
-    objects.size(id) as usize + text.len() > PIPE_BYTES
+    objects.size(id) as usize + text.len() > PIPE_LIMIT
 }

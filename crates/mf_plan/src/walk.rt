@@ -6,19 +6,27 @@ ghost use Rattle.mf_plan.specs.Path as spec;
 use crate::target::Target;
 use mf_cred::ArrayVec;
 use mf_errno::Errno;
+use mf_names::{Name, PATH_LIMIT, Path};
 use mf_objects::{Id, Objects};
-use mf_script::Name;
 
 /// The directories that are looked into along a path, and where the path leads.
 #[derive(Drop)]
 pub struct Walk {
-    pub lookups: ArrayVec<Id, 8>,
+    pub lookups: ArrayVec<Id, PATH_LIMIT>,
     pub target: Target,
 }
 
-/// The walk along a path of at most 8 components, from the root directory.
-pub fn walk_along(objects: &Objects, path: &[Name]) -> Walk
-    requires { length path.now ≤ 8 }
+/// The walk along a path, from the root directory.
+pub fn walk_along(objects: &Objects, path: &Path) -> Walk
+    ensures value { result ≡ spec.walk_along objects.now path.now }
+    ensures dirs { All (λ dir. IsLive is_directory objects.now dir) result.lookups }
+    ensures target { spec.IsTarget objects.now result.target }
+{
+    walk_components(objects, path.as_slice())
+}
+
+fn walk_components(objects: &Objects, path: &[Name]) -> Walk
+    requires { length path.now ≤ PATH_LIMIT }
     ensures value { result ≡ spec.walk_along objects.now path.now }
     ensures dirs { All (λ dir. IsLive is_directory objects.now dir) result.lookups }
     ensures target { spec.IsTarget objects.now result.target }
@@ -64,9 +72,8 @@ fn next_dir(objects: &Objects, target: Target) -> Result<Id, Errno>
     }
 }
 
-/// Where a path of at most 8 components leads.
-pub fn target_of(objects: &Objects, path: &[Name]) -> Target
-    requires { length path.now ≤ 8 }
+/// Where a path leads.
+pub fn target_of(objects: &Objects, path: &Path) -> Target
     ensures value { result ≡ (spec.walk_along objects.now path.now).target }
     ensures target { spec.IsTarget objects.now result }
 {

@@ -2,6 +2,7 @@
 use Rattle.std.specs.Prelude.{ℕ, Bool, true, false, cond, ◌||◌, nat_eq, Option, Some, None, unwrap_or, slice_index_or}
 use Rattle.mf_errno.specs.declared.errno.Errno.{Errno}
 use Rattle.mf_errno.specs.declared.errno.Errno.TheVariants.{Success, Esrch, Eacces, Eperm}
+use Rattle.mf_errno.specs.declared.module.Module.TheVariants as modules
 use Rattle.mf_errno.specs.declared.privilege.Priv.{Priv}
 use Rattle.mf_elem.specs.declared.elem.Elem.{Elem}
 use Rattle.mf_elem.specs.declared.label.RangeLabel.{RangeLabel}
@@ -15,9 +16,12 @@ use Rattle.mf_item.specs.declared.item.Item.{Item}
 use Rattle.mf_item.specs.declared.view.ObjectView.{ObjectView}
 use Rattle.mf_policy.specs.declared.spec.Spec.{Spec}
 use Rattle.mf_policy.specs.declared.spec.Spec.TheVariants as means
-use Rattle.mf_policy.specs.Operations.{Test, PartitionTest, test_of, partition_test_of}
-use Rattle.mf_policy.specs.Operations.Test.{Observe, Modify, ObserveAndModify, SameLevel, RelabelObject, RelabelCredential, GuardModules}
-use Rattle.mf_policy.specs.Operations.PartitionTest.{Agree, Join, Ignore}
+use Rattle.mf_policy.specs.declared.operations.Test.{Test}
+use Rattle.mf_policy.specs.declared.operations.Test.TheVariants.{Observe, Modify, ObserveAndModify, SameLevel, RelabelObject, RelabelCredential, GuardModules}
+use Rattle.mf_policy.specs.declared.operations.PartitionTest.{PartitionTest}
+use Rattle.mf_policy.specs.declared.operations.PartitionTest.TheVariants.{Agree, Join, Ignore}
+use Rattle.mf_policy.specs.Modules.{range_asked, number_asked}
+use Rattle.mf_policy.specs.Operations.{test_of, partition_test_of}
 use Rattle.mf_policy.specs.Relabel.{credential_relabel, object_relabel}
 
 -- A policy whose labels have ranges: whether a subject of one element may observe and may modify an object of another, which part of a request
@@ -34,7 +38,7 @@ biba =
     record {
       may_observe = λ subject object. dominates object subject;
       may_modify = λ subject object. dominates subject object;
-      part = λ request. request.biba;
+      part = range_asked modules.Biba;
       guards_modules = true;
     }
 
@@ -44,7 +48,7 @@ mls =
     record {
       may_observe = λ subject object. dominates subject object;
       may_modify = λ subject object. dominates object subject;
-      part = λ request. request.mls;
+      part = range_asked modules.Mls;
       guards_modules = false;
     }
 
@@ -53,23 +57,20 @@ abbrev pub nothing : RangeLabel
 nothing = record { effective = None; range = None }
 
 -- the label that a slot is read as; without an effective element it counts as unset
-abbrev pub label_of : LabelValue → RangeLabel
-label_of Unset = nothing
-label_of (Range label) = label
-label_of (Number partition) = nothing
+abbrev pub range_label : LabelValue → RangeLabel
+range_label Unset = nothing
+range_label (Range label) = label
+range_label (Number partition) = nothing
 
 -- a slot of the object; unset where there is no object
 abbrev pub object_slot : Option ObjectView → ℕ → LabelValue
 object_slot None slot = Unset
 object_slot (Some object) slot = slice_index_or object.label slot Unset
 
--- the part of a request; nothing where there is no request, or no part
-abbrev pub asked_of : Option RangeLabel → RangeLabel
-asked_of part = unwrap_or part nothing
-
+-- the policy's part of a request; nothing where there is no request, or no part
 abbrev pub part_of : LatticePolicy → Option Request → RangeLabel
 part_of policy None = nothing
-part_of policy (Some request) = asked_of (policy.part request)
+part_of policy (Some request) = unwrap_or (policy.part request) nothing
 
 -- success where the test holds, else the error
 abbrev pub errno_unless : Bool → Errno → Errno
@@ -84,22 +85,39 @@ element_answer ObserveAndModify may_observe may_modify same_level = cond may_obs
 element_answer SameLevel may_observe may_modify same_level = errno_unless same_level Eacces
 element_answer test may_observe may_modify same_level = Success
 
+-- the answer of a policy that guards the kernel's modules; another lets everybody load and unload them
+abbrev pub guard_answer : LatticePolicy → RangeLabel → Errno
+guard_answer policy label = cond policy.guards_modules (errno_unless (is_privileged label) Eperm) Success
+
+-- the answer to a subject that asks for this label of an object, which may be unset
+abbrev pub relabel_answer : RangeLabel → RangeLabel → Option Elem → Errno
+relabel_answer label asked None = Success
+relabel_answer label asked (Some object) = object_relabel label object asked
+
+-- the answer by the elements of subject and object, which may be unset
+abbrev pub between : LatticePolicy → Test → Elem → Option Elem → Errno
+between policy test subject None = Success
+between policy test subject (Some object) =
+    element_answer test (policy.may_observe subject object) (policy.may_modify subject object) (same_level subject object)
+
+-- the answer to a subject of this label and element: the tests of the subject alone, the relabel of an object, and the tests of
+-- elements
+abbrev pub subject_answer : LatticePolicy → Test → RangeLabel → RangeLabel → Elem → Option Elem → Errno
+subject_answer policy RelabelCredential label asked subject object = credential_relabel label asked
+subject_answer policy GuardModules label asked subject object = guard_answer policy label
+subject_answer policy RelabelObject label asked subject object = relabel_answer label asked object
+subject_answer policy test label asked subject object = between policy test subject object
+
 -- the answer to a subject of this label that asks for that one, by the elements of subject and object, each of which may be unset
 abbrev pub labels_answer : LatticePolicy → Test → RangeLabel → RangeLabel → Option Elem → Option Elem → Errno
 labels_answer policy test label asked None object = Success
-labels_answer policy RelabelCredential label asked (Some subject) object = credential_relabel label asked
-labels_answer policy GuardModules label asked (Some subject) object =
-    cond policy.guards_modules (errno_unless (is_privileged label) Eperm) Success
-labels_answer policy test label asked (Some subject) None = Success
-labels_answer policy RelabelObject label asked (Some subject) (Some object) = object_relabel label object asked
-labels_answer policy test label asked (Some subject) (Some object) =
-    element_answer test (policy.may_observe subject object) (policy.may_modify subject object) (same_level subject object)
+labels_answer policy test label asked (Some subject) object = subject_answer policy test label asked subject object
 
 -- what such a policy, which holds this slot, answers to an item
 abbrev pub lattice_answer : LatticePolicy → ℕ → Item → Errno
 lattice_answer policy slot item =
-    let subject = label_of (slice_index_or item.subject.label slot Unset) in
-    let object = label_of (object_slot item.object slot) in
+    let subject = range_label (slice_index_or item.subject.label slot Unset) in
+    let object = range_label (object_slot item.object slot) in
     labels_answer policy (test_of item.op) subject (part_of policy item.request) subject.effective object.effective
 
 -- the number of the partition that a slot is read as; 0, which is no partition, where it holds none
@@ -115,7 +133,7 @@ agree subject object = nat_eq subject 0 || nat_eq subject object
 -- the partition that a request asks for; 0 where there is no request, or no part
 abbrev pub partition_asked : Option Request → ℕ
 partition_asked None = 0
-partition_asked (Some request) = unwrap_or request.partition 0
+partition_asked (Some request) = unwrap_or (number_asked modules.Partition request) 0
 
 -- only root takes on a partition; anybody may ask for none
 abbrev pub may_join : Cred → ℕ → Bool

@@ -5,3 +5,4 @@ pub mod Modules
 pub mod LoadFlags
 pub mod Settings
 pub mod Registration
+pub mod NewLabels

@@ -1,26 +1,69 @@
--- The facts of each module that never change, and its spec in its initial state.
-use Rattle.std.specs.Prelude.{Bool, true, false}
+-- What is true of each module whatever its settings, and its spec in its initial state.
+use Rattle.std.specs.Prelude.{ℕ, Bool, true, false, not, ◌&&◌, ◌||◌, if◌then◌else◌, Option, Some, None, is_none, is_some, unwrap_or}
 use Rattle.mf_errno.specs.declared.module.Module.{Module}
 use Rattle.mf_errno.specs.declared.module.Module.TheVariants as modules
+use Rattle.mf_elem.specs.declared.elem.Elem.{Elem}
+use Rattle.mf_elem.specs.declared.elem.Elem.TheVariants.{Low, High}
+use Rattle.mf_elem.specs.declared.label.RangeLabel.{RangeLabel}
+use Rattle.mf_elem.specs.declared.label.LabelValue.{LabelValue}
+use Rattle.mf_elem.specs.declared.label.LabelValue.TheVariants.{Unset, Range, Number}
+use Rattle.mf_elem.specs.declared.label.Request.{Request}
+use Rattle.mf_elem.specs.Label.{is_valid, replaced}
 use Rattle.mf_item.specs.declared.view.Kind.{Kind}
 use Rattle.mf_item.specs.declared.view.Kind.TheVariants as kinds
+use Rattle.mf_policy.specs.declared.modules.Facts.{Facts}
+use Rattle.mf_policy.specs.declared.modules.Labelling.{Labelling}
+use Rattle.mf_policy.specs.declared.modules.Labelling.TheVariants.{Nothing, Ranges, Partitions}
 use Rattle.mf_policy.specs.declared.spec.Spec.{Spec}
 use Rattle.mf_policy.specs.declared.spec.Spec.TheVariants as means
 use Rattle.mf_policy.specs.declared.load_flags.LoadFlags.{LoadFlags}
 use Rattle.mf_policy.specs.LoadFlags.{notlate, unloadok}
+
+-- The table
+
+abbrev pub low_to_high : Option (Elem × Elem)
+low_to_high = Some (Low, High)
+
+-- Of each module: whether a policy of it is built in, when it may be loaded and unloaded, and what its labels are, with those at
+-- boot of a process and of another entity: biba/high(low-high) and biba/high, mls/low(low-high) and mls/low.
+abbrev pub facts_of : Module → Facts
+facts_of modules.Biba =
+    record {
+      built_in = true;
+      flags = notlate;
+      labels = Ranges (record { effective = Some High; range = low_to_high }) (record { effective = Some High; range = None });
+    }
+facts_of modules.Mls =
+    record {
+      built_in = true;
+      flags = notlate;
+      labels = Ranges (record { effective = Some Low; range = low_to_high }) (record { effective = Some Low; range = None });
+    }
+facts_of modules.Partition = record { built_in = true; flags = unloadok; labels = Partitions }
+facts_of modules.Bsdextended = record { built_in = false; flags = unloadok; labels = Nothing }
+facts_of modules.Priority = record { built_in = false; flags = unloadok; labels = Nothing }
+
+-- the label with ranges that a request asks of a module
+abbrev pub range_asked : Module → Request → Option RangeLabel
+range_asked modules.Biba request = request.biba
+range_asked modules.Mls request = request.mls
+range_asked modules.Partition request = None
+range_asked modules.Bsdextended request = None
+range_asked modules.Priority request = None
+
+-- the partition that a request asks of a module
+abbrev pub number_asked : Module → Request → Option ℕ
+number_asked modules.Biba request = None
+number_asked modules.Mls request = None
+number_asked modules.Partition request = request.partition
+number_asked modules.Bsdextended request = None
+number_asked modules.Priority request = None
 
 -- the module of a spec
 abbrev pub module_of : Spec → Module
 module_of means.Biba = modules.Biba
 module_of means.Mls = modules.Mls
 module_of means.Partition = modules.Partition
-
--- whether a policy of the module is built in
-abbrev pub has_spec : Module → Bool
-has_spec modules.Biba = true
-has_spec modules.Mls = true
-has_spec modules.Partition = true
-has_spec other = false
 
 -- The spec of a module in its initial state. A module whose policy isn't built in has none: Biba's stands there, and no
 -- clause speaks of it.
@@ -31,29 +74,111 @@ fresh_of modules.Partition = means.Partition
 fresh_of modules.Bsdextended = means.Biba
 fresh_of modules.Priority = means.Biba
 
+-- What follows from it
+
+-- whether a policy of the module is built in
+abbrev pub has_spec : Module → Bool
+has_spec m = (facts_of m).built_in
+
 -- when a module may be loaded and unloaded
 abbrev pub flags_of : Module → LoadFlags
-flags_of modules.Biba = notlate
-flags_of modules.Mls = notlate
-flags_of modules.Partition = unloadok
-flags_of modules.Bsdextended = unloadok
-flags_of modules.Priority = unloadok
+flags_of m = (facts_of m).flags
+
+abbrev pub is_labelling : Labelling → Bool
+is_labelling Nothing = false
+is_labelling (Ranges process other) = true
+is_labelling Partitions = true
 
 -- whether a module labels entities, and so has a label slot
 abbrev pub wants_slot : Module → Bool
-wants_slot modules.Biba = true
-wants_slot modules.Mls = true
-wants_slot modules.Partition = true
-wants_slot modules.Bsdextended = false
-wants_slot modules.Priority = false
+wants_slot m = is_labelling (facts_of m).labels
+
+abbrev pub has_partition : Kind → Bool
+has_partition kinds.Process = true
+has_partition kinds.Socket = true
+has_partition kinds.Vnode = false
+has_partition kinds.Pipe = false
+
+abbrev pub labels_by : Labelling → Kind → Bool
+labels_by Nothing kind = false
+labels_by (Ranges process other) kind = true
+labels_by Partitions kind = has_partition kind
 
 -- which kinds of entities a module labels
 abbrev pub labels_kind : Module → Kind → Bool
-labels_kind modules.Biba kind = true
-labels_kind modules.Mls kind = true
-labels_kind modules.Partition kinds.Process = true
-labels_kind modules.Partition kinds.Socket = true
-labels_kind modules.Partition kinds.Vnode = false
-labels_kind modules.Partition kinds.Pipe = false
-labels_kind modules.Bsdextended kind = false
-labels_kind modules.Priority kind = false
+labels_kind m kind = labels_by (facts_of m).labels kind
+
+abbrev pub is_process : Kind → Bool
+is_process kinds.Process = true
+is_process kinds.Socket = false
+is_process kinds.Vnode = false
+is_process kinds.Pipe = false
+
+-- whether a request names the module's policy
+abbrev pub is_named : Module → Request → Bool
+is_named m request = is_some (range_asked m request) || is_some (number_asked m request)
+
+abbrev pub has_no_range : Option RangeLabel → Bool
+has_no_range None = true
+has_no_range (Some label) = is_none label.range
+
+-- whether the module's policy takes what a request asks of it for an entity of that kind: it labels the kind, and a range is a
+-- process's alone
+abbrev pub takes : Module → Kind → Request → Bool
+takes m kind request = (labels_kind m kind || not (is_named m request)) && (is_process kind || has_no_range (range_asked m request))
+
+-- A new entity's label
+
+abbrev pub default_range : Kind → RangeLabel → RangeLabel → RangeLabel
+default_range kinds.Process process other = process
+default_range kinds.Vnode process other = other
+default_range kinds.Pipe process other = other
+default_range kinds.Socket process other = other
+
+-- what such labels are at boot, where these are asked
+abbrev pub boot_by : Labelling → Kind → Option RangeLabel → Option ℕ → LabelValue
+boot_by Nothing kind range number = Unset
+boot_by (Ranges process other) kind range number = Range (replaced (default_range kind process other) range)
+boot_by Partitions kind range number = Number (unwrap_or number 0)
+
+-- what a module gives an entity of that kind at boot: what is asked of it, and its default for the rest
+abbrev pub boot_value : Module → Kind → Request → LabelValue
+boot_value m kind request =
+    if labels_kind m kind then boot_by (facts_of m).labels kind (range_asked m request) (number_asked m request) else Unset
+
+-- the effective element alone
+abbrev pub effective_alone : LabelValue → LabelValue
+effective_alone Unset = Unset
+effective_alone (Range label) = Range (record label { range = None })
+effective_alone (Number n) = Number n
+
+-- A child process has its maker's whole element and range; another entity has the maker's effective element alone.
+abbrev pub inherited_range : Kind → LabelValue → LabelValue
+inherited_range kinds.Process value = value
+inherited_range kinds.Vnode value = effective_alone value
+inherited_range kinds.Pipe value = effective_alone value
+inherited_range kinds.Socket value = effective_alone value
+
+-- the partition, where an unset one counts as 0
+abbrev pub inherited_partition : LabelValue → LabelValue
+inherited_partition Unset = Number 0
+inherited_partition (Range label) = Number 0
+inherited_partition (Number n) = Number n
+
+abbrev pub inherited_by : Labelling → Kind → LabelValue → LabelValue
+inherited_by Nothing kind value = Unset
+inherited_by (Ranges process other) kind value = inherited_range kind value
+inherited_by Partitions kind value = inherited_partition value
+
+-- what a module gives a created entity of that kind, where this is its maker's
+abbrev pub inherited : Module → Kind → LabelValue → LabelValue
+inherited m kind value = if labels_kind m kind then inherited_by (facts_of m).labels kind value else Unset
+
+abbrev pub is_valid_value : LabelValue → Bool
+is_valid_value Unset = true
+is_valid_value (Range label) = is_valid label
+is_valid_value (Number n) = true
+
+-- whether a script may ask this of the module's policy for an entity of that kind
+abbrev pub may_ask : Module → Kind → Request → Bool
+may_ask m kind request = takes m kind request && is_valid_value (boot_value m kind request)

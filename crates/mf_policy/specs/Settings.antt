@@ -11,4 +11,4 @@ no_setting = record { errno = Enoent; number = None }
 
 -- the answer to a change, and the spec after it; none of these policies has a setting
 abbrev pub change_of : Spec → Change → Changed × Spec
-change_of meaning change = (no_setting, meaning)
+change_of spec change = (no_setting, spec)

@@ -1,22 +1,30 @@
-//! The interface of a policy module, the specs of policies, and what Biba and MLS share.
+//! The interface of a policy module, the specs of policies, the tables of modules and of operations, and what Biba and MLS
+//! share.
 #![tactic(auto)]
 
-mod elements;
 mod labels;
+mod lattice;
 mod load_flags;
 mod modules;
+mod operations;
 mod policy;
 mod registration;
 mod relabel;
 mod spec;
 mod spec_list;
 
-pub use elements::element_answer;
-pub use labels::{asked, errno_unless, object_label, slot_label};
+pub use labels::{Origin, new_label};
+pub use lattice::{Lattice, errno_unless, lattice_answer, slot_label};
 pub use load_flags::LoadFlags;
-pub use modules::{flags_of, has_spec, labels_kind, wants_slot};
+pub use modules::{
+    Facts, Labelling, boot_value, facts_of, flags_of, has_spec, inherited, is_named, labels_kind,
+    may_ask, number_asked, range_asked, takes, wants_slot,
+};
+pub use operations::{
+    ADMINISTER, EXECUTE, Letters, Movement, PartitionTest, READ, Row, STAT, Test, WRITE, row_of,
+};
 pub use policy::Policy;
-pub use registration::Registration;
+pub use registration::{MOST_LISTED, Registration};
 pub use relabel::{credential_relabel, object_relabel};
 pub use spec::{Change, Changed, Spec};
 pub use spec_list::SpecList;

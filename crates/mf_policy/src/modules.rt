@@ -1,38 +1,110 @@
-//! The facts of a module that never change: its flags, and what it labels.
+//! What is true of each module whatever its settings: the table of modules.
 ghost use Rattle.std.specs.Prelude.{◌≡◌};
 ghost use Rattle.mf_policy.specs.Modules as facts;
 
 use crate::LoadFlags;
+use mf_elem::{Elem, LabelValue, RangeLabel, Request, is_valid};
 use mf_errno::Module;
 use mf_item::Kind;
+
+/// What is true of a module.
+#[derive(Clone, Copy, Debug)]
+pub struct Facts {
+    /// Whether a policy of the module is built in.
+    pub built_in: bool,
+    /// When the module may be loaded and unloaded.
+    pub flags: LoadFlags,
+    /// What its labels are.
+    pub labels: Labelling,
+}
+
+/// What the labels of a module are.
+#[derive(Clone, Copy, Debug)]
+pub enum Labelling {
+    /// It labels nothing, and has no label slot.
+    Nothing,
+    /// It labels every entity by elements. At boot a process has the first label, another entity the second.
+    Ranges(RangeLabel, RangeLabel),
+    /// It gives processes and sockets a partition's number.
+    Partitions,
+}
+
+/// The facts of a module.
+pub fn facts_of(module: Module) -> Facts
+    ensures { result ≡ facts.facts_of «module» }
+{
+    match module {
+        Module::Biba => Facts {
+            built_in: true,
+            flags: LoadFlags::NOTLATE,
+            labels: Labelling::Ranges(
+                RangeLabel::ranged(Elem::High, Elem::Low, Elem::High),
+                RangeLabel::effective(Elem::High),
+            ),
+        },
+        Module::Mls => Facts {
+            built_in: true,
+            flags: LoadFlags::NOTLATE,
+            labels: Labelling::Ranges(
+                RangeLabel::ranged(Elem::Low, Elem::Low, Elem::High),
+                RangeLabel::effective(Elem::Low),
+            ),
+        },
+        Module::Partition => Facts {
+            built_in: true,
+            flags: LoadFlags::UNLOADOK,
+            labels: Labelling::Partitions,
+        },
+        Module::Bsdextended | Module::Priority => Facts {
+            built_in: false,
+            flags: LoadFlags::UNLOADOK,
+            labels: Labelling::Nothing,
+        },
+    }
+}
+
+/// The label with ranges that a request asks of the module.
+pub fn range_asked(module: Module, request: &Request) -> &Option<RangeLabel>
+    ensures { result.now ≡ facts.range_asked «module» request.now }
+{
+    match module {
+        Module::Biba => &request.biba,
+        Module::Mls => &request.mls,
+        Module::Partition | Module::Bsdextended | Module::Priority => &None,
+    }
+}
+
+/// The partition that a request asks of the module.
+pub fn number_asked(module: Module, request: &Request) -> Option<u32>
+    ensures { result ≡ facts.number_asked «module» request.now }
+{
+    match module {
+        Module::Partition => request.partition,
+        Module::Biba | Module::Mls | Module::Bsdextended | Module::Priority => None,
+    }
+}
 
 /// Whether a policy of the module is built in.
 pub fn has_spec(module: Module) -> bool
     ensures { result ≡ facts.has_spec «module» }
 {
-    match module {
-        Module::Biba | Module::Mls | Module::Partition => true,
-        Module::Bsdextended | Module::Priority => false,
-    }
+    facts_of(module).built_in
 }
 
 /// When the module may be loaded and unloaded.
 pub fn flags_of(module: Module) -> LoadFlags
     ensures { result ≡ facts.flags_of «module» }
 {
-    match module {
-        Module::Biba | Module::Mls => LoadFlags::NOTLATE,
-        Module::Partition | Module::Bsdextended | Module::Priority => LoadFlags::UNLOADOK,
-    }
+    facts_of(module).flags
 }
 
 /// Whether the module labels entities, and so has a label slot.
 pub fn wants_slot(module: Module) -> bool
     ensures { result ≡ facts.wants_slot «module» }
 {
-    match module {
-        Module::Biba | Module::Mls | Module::Partition => true,
-        Module::Bsdextended | Module::Priority => false,
+    match facts_of(module).labels {
+        Labelling::Nothing => false,
+        Labelling::Ranges(..) | Labelling::Partitions => true,
     }
 }
 
@@ -41,10 +113,115 @@ pub fn wants_slot(module: Module) -> bool
 pub fn labels_kind(module: Module, kind: Kind) -> bool
     ensures { result ≡ facts.labels_kind «module» kind }
 {
-    match module {
-        Module::Biba | Module::Mls => true,
-        Module::Partition => matches!(kind, Kind::Process | Kind::Socket),
-        Module::Bsdextended | Module::Priority => false,
+    match facts_of(module).labels {
+        Labelling::Nothing => false,
+        Labelling::Ranges(..) => true,
+        Labelling::Partitions => matches!(kind, Kind::Process | Kind::Socket),
+    }
+}
+
+/// Whether a request names the module's policy.
+pub fn is_named(module: Module, request: &Request) -> bool
+    ensures { result ≡ facts.is_named «module» request.now }
+{
+    range_asked(module, request).is_some() || number_asked(module, request).is_some()
+}
+
+/// Whether the module's policy takes what a request asks of it for an entity of that kind: it labels the kind, and a range
+/// is a process's alone.
+pub fn takes(module: Module, kind: Kind, request: &Request) -> bool
+    ensures { result ≡ facts.takes «module» kind request.now }
+{
+    (labels_kind(module, kind) || !is_named(module, request))
+        && (matches!(kind, Kind::Process) || has_no_range(range_asked(module, request)))
+}
+
+fn has_no_range(asked: &Option<RangeLabel>) -> bool
+    ensures { result ≡ facts.has_no_range asked.now }
+{
+    match asked {
+        None => true,
+        Some(label) => label.range.is_none(),
+    }
+}
+
+/// What the module gives an entity of that kind at boot: what is asked of it, and its default for the rest.
+pub fn boot_value(module: Module, kind: Kind, request: &Request) -> LabelValue
+    ensures { result ≡ facts.boot_value «module» kind request.now }
+{
+    if !labels_kind(module, kind) {
+        return LabelValue::Unset;
+    }
+    match facts_of(module).labels {
+        Labelling::Nothing => LabelValue::Unset,
+        Labelling::Ranges(process, other) => {
+            let default = default_range(kind, process, other);
+            LabelValue::Range(default.replaced_by(range_asked(module, request)))
+        }
+        Labelling::Partitions => LabelValue::Number(number_asked(module, request).unwrap_or(0)),
+    }
+}
+
+fn default_range(kind: Kind, process: RangeLabel, other: RangeLabel) -> RangeLabel
+    ensures { result ≡ facts.default_range kind process other }
+{
+    match kind {
+        Kind::Process => process,
+        Kind::Vnode | Kind::Pipe | Kind::Socket => other,
+    }
+}
+
+/// What the module gives a created entity of that kind, where `value` is its maker's.
+pub fn inherited(module: Module, kind: Kind, value: &LabelValue) -> LabelValue
+    ensures { result ≡ facts.inherited «module» kind value.now }
+{
+    if !labels_kind(module, kind) {
+        return LabelValue::Unset;
+    }
+    match facts_of(module).labels {
+        Labelling::Nothing => LabelValue::Unset,
+        Labelling::Ranges(..) => inherited_range(kind, value),
+        Labelling::Partitions => inherited_partition(value),
+    }
+}
+
+fn inherited_range(kind: Kind, value: &LabelValue) -> LabelValue
+    ensures { result ≡ facts.inherited_range kind value.now }
+{
+    match (kind, value) {
+        (Kind::Vnode | Kind::Pipe | Kind::Socket, LabelValue::Range(label)) => {
+            LabelValue::Range(RangeLabel {
+                effective: label.effective,
+                range: None,
+            })
+        }
+        _ => *value,
+    }
+}
+
+fn inherited_partition(value: &LabelValue) -> LabelValue
+    ensures { result ≡ facts.inherited_partition value.now }
+{
+    match value {
+        LabelValue::Number(number) => LabelValue::Number(*number),
+        LabelValue::Unset | LabelValue::Range(_) => LabelValue::Number(0),
+    }
+}
+
+/// Whether a script may ask this of the module's policy for an entity of that kind: the policy takes it, and the label at
+/// boot is valid.
+pub fn may_ask(module: Module, kind: Kind, request: &Request) -> bool
+    ensures { result ≡ facts.may_ask «module» kind request.now }
+{
+    takes(module, kind, request) && is_valid_value(&boot_value(module, kind, request))
+}
+
+fn is_valid_value(value: &LabelValue) -> bool
+    ensures { result ≡ facts.is_valid_value value.now }
+{
+    match value {
+        LabelValue::Range(label) => is_valid(label),
+        LabelValue::Unset | LabelValue::Number(_) => true,
     }
 }
 
@@ -54,8 +231,13 @@ mod tests {
 
     #[test]
     fn files_have_no_partition(rt: HostRuntime) {
-        assert!(rt; labels_kind(Module::Biba, Kind::Vnode));
+        let mut request = Request::none();
+        request.partition = Some(7);
+        assert!(rt; labels_kind(Module::Biba, Kind::Vnode) && has_spec(Module::Biba));
         assert!(rt; labels_kind(Module::Partition, Kind::Process));
         assert!(rt; !labels_kind(Module::Partition, Kind::Vnode));
+        assert!(rt; may_ask(Module::Partition, Kind::Process, &request));
+        assert!(rt; !may_ask(Module::Partition, Kind::Vnode, &request));
+        assert!(rt; wants_slot(Module::Mls) && flags_of(Module::Mls).is_notlate());
     }
 }

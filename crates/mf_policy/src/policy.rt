@@ -6,6 +6,7 @@ ghost use Rattle.mf_policy.specs.Settings.{change_of};
 
 use crate::{Change, Changed, LoadFlags, Spec};
 use mf_cred::Cred;
+use mf_elem::SLOTS;
 use mf_errno::{Errno, Module, Priv};
 use mf_item::Item;
 use std::alloc::{AllocError, Global};
@@ -34,7 +35,7 @@ pub trait Policy: Send + Sync + Drop {
 
     /// The answer to an item. The slot is the policy's own, and isn't looked at where the module has none.
     fn check(&self, slot: u8, item: &Item) -> Errno
-        requires { IsTrue (facts.wants_slot (facts.module_of (spec self.now))) → slot < 4 }
+        requires { IsTrue (facts.wants_slot (facts.module_of (spec self.now))) → slot < SLOTS }
         ensures { result ≡ answer (spec self.now) slot item.now };
 
     /// Whether the policy grants the privilege to a process of that credential, as the kernel's `mac_priv_grant` asks.

@@ -3,8 +3,11 @@ ghost use Rattle.std.specs.Prelude.{◌≡◌, None, false};
 
 use mf_errno::Module;
 
-/// How a policy is registered: its module, the number of its label slot, in 0..=3, where it has one, and whether it is in
-/// the static list, which it can't leave.
+/// The room that lists of what is listed have: no fewer than there are modules.
+pub const MOST_LISTED: usize = 8;
+
+/// How a policy is registered: its module, the number of its label slot, below `SLOTS`, where it has one, and whether it is
+/// in the static list, which it can't leave.
 #[derive(Clone, Copy, Debug, PartialEq, Eq)]
 pub struct Registration {
     pub module: Module,

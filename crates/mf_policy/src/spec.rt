@@ -1,7 +1,7 @@
 //! The specs of policies, and the settings that change them.
 ghost use Rattle.std.specs.Prelude.{◌≡◌, ◌↔◌, IsTrue, IfOk, OnErr};
 ghost use Rattle.mf_policy.specs.Modules as facts;
-ghost use Rattle.mf_policy.specs.Settings.{change_of};
+ghost use Rattle.mf_policy.specs.Settings.{change_of, no_setting};
 
 use mf_errno::{Errno, Module};
 use std::alloc::{AllocError, Global};
@@ -15,7 +15,7 @@ pub enum Spec {
 }
 
 /// A change of a setting.
-#[derive(Clone, Copy, Debug, PartialEq, Eq)]
+#[derive(Debug, Drop)]
 pub enum Change {
     /// Whether the file system firewall stops at the first rule that matches, as the sysctl
     /// `security.mac.bsdextended.firstmatch_enabled` of mac_bsdextended(4) sets it.
@@ -29,11 +29,23 @@ pub struct Changed {
     pub number: Option<u32>,
 }
 
+impl Changed {
+    /// The answer of a policy that has no such setting.
+    pub fn no_setting() -> Changed
+        ensures { result ≡ no_setting }
+    {
+        Changed {
+            errno: Errno::Enoent,
+            number: None,
+        }
+    }
+}
+
 impl Spec {
     /// The spec of the module in its initial state. A policy of the module must be built in.
     pub fn fresh(_alloc: Global, module: Module) -> Result<Spec, AllocError>
         requires { IsTrue (facts.has_spec «module») }
-        ensures { IfOk result (λ meaning. meaning ≡ facts.fresh_of «module») }
+        ensures { IfOk result (λ spec. spec ≡ facts.fresh_of «module») }
     {
         match module {
             Module::Biba => Ok(Spec::Biba),
@@ -45,7 +57,7 @@ impl Spec {
 
     /// A copy.
     pub fn copy(&self, _alloc: Global) -> Result<Spec, AllocError>
-        ensures { IfOk result (λ meaning. meaning ≡ self.now) }
+        ensures { IfOk result (λ spec. spec ≡ self.now) }
     {
         match self {
             Spec::Biba => Ok(Spec::Biba),
@@ -71,10 +83,7 @@ impl Spec {
         ensures ok { IfOk result (λ changed. (changed, self.new) ≡ change_of self.old _change.now) }
         ensures err { OnErr result (self.new ≡ self.old) }
     {
-        Ok(Changed {
-            errno: Errno::Enoent,
-            number: None,
-        })
+        Ok(Changed::no_setting())
     }
 }
 
@@ -84,10 +93,10 @@ mod tests {
 
     #[test]
     fn mls_has_no_setting(rt: HostRuntime) -> Result<(), AllocError> {
-        let mut meaning = Spec::fresh(rt.alloc(), Module::Mls)?;
-        let changed = meaning.change(rt.alloc(), &Change::FirstMatch(false))?;
+        let mut spec = Spec::fresh(rt.alloc(), Module::Mls)?;
+        let changed = spec.change(rt.alloc(), &Change::FirstMatch(false))?;
         assert_eq!(rt; changed.errno, Errno::Enoent);
-        assert!(rt; changed.number.is_none() && meaning.same(&Spec::Mls));
+        assert!(rt; changed.number.is_none() && spec.same(&Spec::Mls));
         Ok(())
     }
 }

@@ -1,9 +1,10 @@
 //! The listed registrations with the specs of their policies.
-ghost use Rattle.std.specs.Prelude.{◌≡◌, ◌<◌, ◌≤◌, [], nat_eq, length, slice_index_or, slice_set, OnOk, OnErr};
+ghost use Rattle.std.specs.Prelude.{◌≡◌, ◌<◌, ◌≤◌, [], nat_eq, find, length, option_map, position, slice_index_or, slice_set, OnOk, OnErr};
 ghost use Rattle.std.specs.List.{insert, remove};
-ghost use Rattle.mf_policy.specs.Registration.{Entry};
+ghost use Rattle.mf_policy.specs.Registration.{Entry, holds_slot, is_listed, is_of};
 
 use crate::{Registration, Spec};
+use mf_errno::Module;
 use std::alloc::{AllocError, Global};
 use std::marker::Model;
 
@@ -62,6 +63,27 @@ impl SpecList {
         &self.entries[place].1
     }
 
+    /// Whether the module is listed.
+    pub fn is_listed(&self, module: Module) -> bool
+        ensures { result ≡ is_listed «module» self.now }
+    {
+        lists(&self.entries, module)
+    }
+
+    /// The first place of the module; None where it isn't listed.
+    pub fn find(&self, module: Module) -> Option<usize>
+        ensures { result ≡ position (is_of «module») self.now }
+    {
+        place_in(&self.entries, module)
+    }
+
+    /// The listed module that holds the slot.
+    pub fn holder(&self, slot: u8) -> Option<Module>
+        ensures { result ≡ option_map (λ entry. entry.0.«module») (find (holds_slot slot) self.now) }
+    {
+        holder_in(&self.entries, slot)
+    }
+
     /// Replaces the spec at a place.
     pub fn put(&mut self, place: usize, spec: Spec)
         requires { place < length self.old }
@@ -95,10 +117,28 @@ impl SpecList {
     }
 }
 
+fn lists(entries: &[(Registration, Spec)], module: Module) -> bool
+    ensures { result ≡ is_listed «module» entries.now }
+{
+    entries.iter().any(|entry| module.is(entry.0.module))
+}
+
+fn place_in(entries: &[(Registration, Spec)], module: Module) -> Option<usize>
+    ensures { result ≡ position (is_of «module») entries.now }
+{
+    entries.iter().position(|entry| module.is(entry.0.module))
+}
+
+fn holder_in(entries: &[(Registration, Spec)], slot: u8) -> Option<Module>
+    ensures { result ≡ option_map (λ entry. entry.0.«module») (find (holds_slot slot) entries.now) }
+{
+    let holder = entries.iter().find(|entry| entry.0.slot == Some(slot));
+    holder.map(|entry| entry.0.module)
+}
+
 #[cfg(test)]
 mod tests {
     use super::*;
-    use mf_errno::Module;
 
     #[test]
     fn entries_come_and_go(rt: HostRuntime) -> Result<(), AllocError> {
@@ -112,8 +152,16 @@ mod tests {
         list.put(0, list.spec(0).copy(rt.alloc())?);
         assert!(rt; list.spec(0).same(&Spec::Biba));
         assert_eq!(rt; list.registration(0), biba);
+        assert_eq!(rt;
+            (list.find(Module::Biba), list.find(Module::Mls)),
+            (Some(0), None)
+        );
+        assert_eq!(rt;
+            (list.holder(0), list.holder(1)),
+            (Some(Module::Biba), None)
+        );
         list.remove(0);
-        assert!(rt; list.is_empty());
+        assert!(rt; list.is_empty() && !list.is_listed(Module::Biba));
         Ok(())
     }
 }

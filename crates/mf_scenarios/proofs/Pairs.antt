@@ -1,6 +1,6 @@
 -- Two passes, each of which was lent twice.
 use Rattle.std.proofs.Common.{◌≡◌, zero, suc, List, [], ◌∷◌, length, get_or, set, Bool, true, false, sym, subst, arith, refl}
-use Rattle.mf_script.specs.declared.script.Script.{Script}
+use Rattle.mf_calls.specs.declared.script.Script.{Script}
 use Rattle.mf_share.specs.Passes.{PassView, AreBack, AreOneEach, pass_left}
 
 pub left-task : (b : Bool) (p : PassView) → (pass_left b p).task ≡ p.task

@@ -2,8 +2,8 @@
 use Rattle.std.proofs.Common.{◌≡◌, List, [], ◌∷◌, ◌++◌, Option, Some, None, Result, Ok, Err, refl, ap, sym, ◌∙◌}
 use Rattle.mf_script.specs.declared.error.ScriptError.{ScriptError}
 use Rattle.mf_script.specs.declared.error.ScriptError.TheVariants.{NotYet, Memory}
-use Rattle.mf_script.specs.Readers.{Fails, and_then, or_else}
-use Rattle.mf_script.specs.Words.{Words, Rows}
+use Rattle.mf_script.specs.Readers.{Fails, and_then, by_option}
+use Rattle.mf_words.specs.Words.{Words, Rows}
 use Rattle.mf_script.specs.Grammar.{items_in}
 
 abbrev ItemAt : Type 0 → Type 0
@@ -19,9 +19,9 @@ none_left item_at items (row ∷ rows) e = cc
 
 -- what is read from a row on, by what the row reads as
 from_row : {A : Type 0} (item_at : ItemAt A) (items : List A) (all : Rows) (row : Words) (rows : Rows) (found : Result (Option A) ScriptError) → all ≡ row ∷ rows → item_at items row ≡ found
-    → items_in item_at items all ≡ and_then found (λ found. or_else found (Ok (items, row ∷ rows)) (λ item. items_in item_at (items ++ item ∷ []) rows))
+    → items_in item_at items all ≡ and_then found (λ found. by_option found (Ok (items, row ∷ rows)) (λ item. items_in item_at (items ++ item ∷ []) rows))
 unfolding items_in
-from_row item_at items all row rows found is e = ap (items_in item_at items) is ∙ ap (λ found. and_then found (λ found. or_else found (Ok (items, row ∷ rows)) (λ item. items_in item_at (items ++ item ∷ []) rows))) e
+from_row item_at items all row rows found is e = ap (items_in item_at items) is ∙ ap (λ found. and_then found (λ found. by_option found (Ok (items, row ∷ rows)) (λ item. items_in item_at (items ++ item ∷ []) rows))) e
 
 -- Steps of a loop over rows. The items are those so far, which a slice holds too; `all` are the rows from the one that is looked at,
 -- at which the cursor stays; `first` is what is to be read in all.

@@ -1,9 +1,8 @@
 -- What a reader of the grammar reads, where it reads anything, is so.
-use Rattle.std.proofs.Common.{◌≡◌, ℕ, Bool, true, false, List, [], ◌∷◌, Option, Some, None, Result, Ok, Err, refl, subst}
+use Rattle.std.proofs.Common.{◌≡◌, Bool, true, false, Option, Some, None, Result, Ok, Err, refl, subst}
+use Rattle.std.specs.Prelude.{IfSome}
 use Rattle.mf_script.specs.declared.error.ScriptError.{ScriptError}
-use Rattle.mf_script.specs.Readers.{and_then, only_if, or_else}
-use Rattle.mf_script.specs.Words.{Words}
-use Rattle.mf_script.specs.Parts.{word_by}
+use Rattle.mf_script.specs.Readers.{and_then, only_if, by_option}
 
 pub record Yields {A : Type 0} (P : A → Type 0) (read : Result A ScriptError) : Type 0 where
   pub of : (x : A) → read ≡ Ok x → P x
@@ -35,13 +34,15 @@ checked true more rest = rest refl
 checked false more rest = refused
 
 pub chosen : {A B : Type 0} {Q : B → Type 0} (found : Option A) (stop : Result B ScriptError) (more : A → Result B ScriptError)
-    → Yields Q stop → ((x : A) → Yields Q (more x)) → Yields Q (or_else found stop more)
+    → Yields Q stop → ((x : A) → Yields Q (more x)) → Yields Q (by_option found stop more)
 chosen None stop more first rest = first
 chosen (Some x) stop more first rest = rest x
 
-pub by_word : {A : Type 0} {P : A → Type 0} (read : List ℕ → Result A ScriptError) → ((w : List ℕ) → Yields P (read w)) → (ws : Words) → Yields (λ x. P x.0) (word_by read ws)
-by_word read each [] = refused
-by_word read each (w ∷ ws) = chain _ _ (each w) (λ x p. done p)
+-- the same, where what there is is so
+pub chosen_so : {A B : Type 0} {R : A → Type 0} {Q : B → Type 0} (found : Option A) (stop : Result B ScriptError) (more : A → Result B ScriptError)
+    → IfSome found R → Yields Q stop → ((x : A) → R x → Yields Q (more x)) → Yields Q (by_option found stop more)
+chosen_so None stop more so first rest = first
+chosen_so (Some x) stop more so first rest = rest x so
 
 -- what follows from what is so
 pub widened : {A : Type 0} {P Q : A → Type 0} {read : Result A ScriptError} → Yields P read → ((x : A) → P x → Q x) → Yields Q read

@@ -1,21 +1,22 @@
 -- Which bytes are a script, and which script they are.
-use Rattle.std.specs.Prelude.{ℕ, zero, suc, Bool, false, not, ◌&&◌, ◌||◌, nat_lt, List, [], ◌∷◌, ◌++◌, length, Option, Some, None, Result, Ok, Err, codes}
+use Rattle.std.specs.Prelude.{ℕ, zero, suc, Bool, not, ◌&&◌, ◌||◌, ◌==◌, nat_lt, List, [], ◌∷◌, ◌++◌, length, Option, Some, None, Result, Ok, Err, codes}
 use Rattle.std.specs.List.{list_all, list_any}
 use Rattle.std.specs.Str.{bytes_eq}
+use Rattle.std.specs.Char.{is_ascii_graphic}
 use Rattle.mf_errno.specs.declared.module.Module.{Module}
-use Rattle.mf_errno.specs.declared.module.Module.TheVariants.{Biba, Mls, Partition, Bsdextended, Priority}
 use Rattle.mf_script.specs.declared.error.ScriptError.{ScriptError}
 use Rattle.mf_script.specs.declared.error.ScriptError.TheVariants.{NotYet}
-use Rattle.mf_script.specs.declared.script.Line.{Line}
-use Rattle.mf_script.specs.declared.script.Task.{Task}
-use Rattle.mf_script.specs.declared.script.FileLine.{FileLine}
-use Rattle.mf_script.specs.declared.script.Script.{Script}
-use Rattle.mf_script.specs.Readers.{◌>>=◌, only_if, or_else}
-use Rattle.mf_script.specs.Limits.{file_limit, task_limit, line_limit}
-use Rattle.mf_script.specs.Words.{Words, Rows, rows_in, is_plain}
-use Rattle.mf_script.specs.Parts.{fixed, behind, no_more, is_same_path, is_root, directory_of, has_directory}
+use Rattle.mf_calls.specs.declared.script.Line.{Line}
+use Rattle.mf_calls.specs.declared.script.Task.{Task}
+use Rattle.mf_calls.specs.declared.script.FileLine.{FileLine}
+use Rattle.mf_calls.specs.declared.script.Script.{Script}
+use Rattle.mf_script.specs.Readers.{◌>>=◌, only_if, by_option}
+use Rattle.mf_calls.specs.declared.limits.TheConstants.{FILE_LIMIT, TASK_LIMIT, LINE_LIMIT}
+use Rattle.mf_words.specs.Words.{Words, Rows, rows_in, is_blank, newline, behind}
+use Rattle.mf_script.specs.Parts.{fixed, no_more}
+use Rattle.mf_calls.specs.Paths.{is_same_path, is_root, directory_of, has_directory}
 use Rattle.mf_script.specs.Lines.{boot_line, file_line, task_line, line_of}
-use Rattle.mf_script.specs.Labels.{is_biba, is_mls, is_partition}
+use Rattle.mf_calls.specs.Boots.{may_boot}
 
 abbrev pub has_path : List (List ℕ) → FileLine → Bool
 has_path path f = is_same_path f.path path
@@ -23,41 +24,33 @@ has_path path f = is_same_path f.path path
 -- there is room for the file after these, its path is new, which the root's never is, and its directory is there
 abbrev pub may_stand : List FileLine → FileLine → Bool
 may_stand files f =
-    nat_lt (length files) file_limit
+    nat_lt (length files) FILE_LIMIT
     && not (is_root f.path || list_any (has_path f.path) files)
     && has_directory files (directory_of f.path)
 
 -- The items of the rows in front, behind those so far, and the rows from the first that is no further item.
 unfoldable pub items_in : {A : Type 0} → (List A → Words → Result (Option A) ScriptError) → List A → Rows → Result (List A × Rows) ScriptError
 items_in item_at items [] = Ok (items, [])
-items_in item_at items (row ∷ rows) = item_at items row >>= λ found. or_else found (Ok (items, row ∷ rows)) (λ item. items_in item_at (items ++ item ∷ []) rows)
-
--- a boot line may name the module after these: each at most once
-abbrev pub may_boot : List Module → Module → Bool
-may_boot boots Biba = not (list_any is_biba boots)
-may_boot boots Mls = not (list_any is_mls boots)
-may_boot boots Partition = not (list_any is_partition boots)
-may_boot boots Bsdextended = false
-may_boot boots Priority = false
+items_in item_at items (row ∷ rows) = item_at items row >>= λ found. by_option found (Ok (items, row ∷ rows)) (λ item. items_in item_at (items ++ item ∷ []) rows)
 
 -- the module that the row boots after these; none where it is no boot line
 unfoldable pub boot_at : List Module → Words → Result (Option Module) ScriptError
-boot_at boots row = or_else (behind (codes "boot") row) (Ok None) (λ ws. do
+boot_at boots row = by_option (behind (codes "boot") row) (Ok None) (λ ws. do
   booted ← boot_line ws
   u ← only_if (may_boot boots booted)
   Ok (Some booted))
 
 -- the file of the row after these; none where it is no file line
 unfoldable pub file_at : List Module → List FileLine → Words → Result (Option FileLine) ScriptError
-file_at boots files row = or_else (behind (codes "file") row) (Ok None) (λ ws. do
+file_at boots files row = by_option (behind (codes "file") row) (Ok None) (λ ws. do
   file ← file_line boots ws
   u ← only_if (may_stand files file)
   Ok (Some file))
 
 -- the line of the row after these; none where it ends the task
 unfoldable pub line_at : List Line → Words → Result (Option Line) ScriptError
-line_at lines row = or_else (behind (codes "end") row) (do
-  u ← only_if (nat_lt (length lines) line_limit)
+line_at lines row = by_option (behind (codes "end") row) (do
+  u ← only_if (nat_lt (length lines) LINE_LIMIT)
   line ← line_of row
   Ok (Some line)) (λ ws. Ok None)
 
@@ -98,9 +91,13 @@ unfoldable pub script_in : Rows → Result Script ScriptError
 script_in rows = do
   boots ← items_in boot_at [] rows
   files ← items_in (file_at boots.0) [] boots.1
-  tasks ← tasks_in boots.0 [] task_limit files.1
+  tasks ← tasks_in boots.0 [] TASK_LIMIT files.1
   Ok (record { boots = boots.0; files = files.0; tasks = tasks })
+
+-- a byte that may stand in a script: a blank, a newline or a printable byte of ASCII
+abbrev pub is_script_byte : ℕ → Bool
+is_script_byte b = is_blank b || b == newline || is_ascii_graphic b
 
 -- the script that the bytes are
 unfoldable pub script_of : List ℕ → Result Script ScriptError
-script_of bytes = only_if (list_all is_plain bytes) >>= λ u. script_in (rows_in bytes)
+script_of bytes = only_if (list_all is_script_byte bytes) >>= λ u. script_in (rows_in bytes)

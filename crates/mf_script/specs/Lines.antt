@@ -2,20 +2,19 @@
 use Rattle.std.specs.Prelude.{ℕ, Bool, true, false, List, [], ◌∷◌, Result, Ok, codes}
 use Rattle.mf_errno.specs.declared.module.Module.{Module}
 use Rattle.mf_script.specs.declared.error.ScriptError.{ScriptError}
-use Rattle.mf_script.specs.declared.script.Line.{Line}
-use Rattle.mf_script.specs.declared.script.Task.{Task}
-use Rattle.mf_script.specs.declared.script.FileLine.{FileLine}
+use Rattle.mf_calls.specs.declared.script.Line.{Line}
+use Rattle.mf_calls.specs.declared.script.Task.{Task}
+use Rattle.mf_calls.specs.declared.script.FileLine.{FileLine}
 use Rattle.mf_script.specs.Readers.{◌>>=◌}
-use Rattle.mf_script.specs.Limits.{content_limit}
-use Rattle.mf_script.specs.Words.{Words}
-use Rattle.mf_script.specs.Parts.{word_by, fixed, no_more, bootable_of, path_of, is_directory_of, number_of, groups_of, mode_of, name_of, child_in, text_of}
-use Rattle.mf_script.specs.Parts.{task_request, file_request}
+use Rattle.mf_item.specs.declared.view.Kind.TheVariants as kinds
+use Rattle.mf_words.specs.Words.{Words}
+use Rattle.mf_script.specs.Parts.{word_by, fixed, no_more, module_in, path_of, is_directory_of, number_of, groups_of, mode_of, name_in, child_in, content_of, request_for}
 use Rattle.mf_script.specs.Calls.{call_line}
 
 -- behind the word `boot`: MODULE
 unfoldable pub boot_line : Words → Result Module ScriptError
 boot_line ws = do
-  booted ← word_by bootable_of ws
+  booted ← word_by module_in ws
   u ← no_more booted.1
   Ok booted.0
 
@@ -25,7 +24,7 @@ file_text true ws = Ok ([], ws)
 file_text false [] = Ok ([], [])
 file_text false (w ∷ ws) = do
   ws ← fixed (codes "text") (w ∷ ws)
-  word_by (text_of content_limit) ws
+  word_by content_of ws
 
 -- behind the word `file`: PATH KIND "uid" N "gid" N "mode" OCTAL "label" L [ "text" TEXT ]
 unfoldable pub file_line : List Module → Words → Result FileLine ScriptError
@@ -39,7 +38,7 @@ file_line boots ws = do
   ws ← fixed (codes "mode") gid.1
   mode ← word_by mode_of ws
   ws ← fixed (codes "label") mode.1
-  label ← word_by (file_request boots) ws
+  label ← word_by (request_for kinds.Vnode boots) ws
   text ← file_text dir.0 label.1
   u ← no_more text.1
   Ok (record { path = path.0; file = record { uid = uid.0; gid = gid.0; mode = mode.0; dir = dir.0 }; label = label.0; text = text.0 })
@@ -48,13 +47,13 @@ file_line boots ws = do
 unfoldable pub task_line : List Module → Words → Result Task ScriptError
 task_line boots row = do
   ws ← fixed (codes "task") row
-  name ← word_by name_of ws
+  name ← word_by name_in ws
   ws ← fixed (codes "uid") name.1
   uid ← word_by number_of ws
   ws ← fixed (codes "gid") uid.1
   groups ← word_by groups_of ws
   ws ← fixed (codes "label") groups.1
-  label ← word_by (task_request boots) ws
+  label ← word_by (request_for kinds.Process boots) ws
   u ← no_more label.1
   Ok (record { name = name.0; cred = record { uid = uid.0; ruid = uid.0; svuid = uid.0; groups = groups.0 }; label = label.0; lines = [] })
 

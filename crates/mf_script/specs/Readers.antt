@@ -23,9 +23,9 @@ or_not_yet (Ok x) = Ok x
 or_not_yet (Err e) = Err NotYet
 
 -- one of two, by whether there is something
-abbrev pub or_else : {A B : Type 0} → Option A → B → (A → B) → B
-or_else None stop more = stop
-or_else (Some x) stop more = more x
+abbrev pub by_option : {A B : Type 0} → Option A → B → (A → B) → B
+by_option None stop more = stop
+by_option (Some x) stop more = more x
 
 -- the error is the grammar's, or memory ran out
 abbrev pub Fails : {Y : Type 0} → ScriptError → Result Y ScriptError → Type 0

@@ -1,92 +1,109 @@
 //! The calls of a task's lines.
 #![tactic(auto, unfolding(crate::specs::Readers::and_then))]
 
-ghost use Rattle.std.specs.Prelude.{◌≡◌};
+ghost use Rattle.std.specs.Prelude.{◌≡◌, ◌++◌};
 ghost use Rattle.mf_script.specs.Readers.{Gives};
-ghost use Rattle.mf_script.specs.declared.script.Call.TheVariants as call;
-ghost use Rattle.mf_script.specs.Parts.{word_by, name_of, path_of, mode_of};
-ghost use Rattle.mf_script.specs.Calls.{call_line, call_named, two, three, written};
+ghost use Rattle.mf_calls.specs.declared.script.Call.TheVariants as call;
+ghost use Rattle.mf_script.specs.Parts.{name_in, path_of, mode_of, escaped_bytes};
+ghost use Rattle.mf_script.specs.Calls.{call_line, call_named_in, calls, file_calls, channel_calls, module_calls, two, three};
 
 use crate::error::ScriptError;
-use crate::listing::Bytes;
-use crate::parts;
-use crate::script::Call;
-use crate::words::Words;
+use crate::{Words, names, parts};
+use mf_calls::Call;
 use std::alloc::Global;
 
-/// The most bytes that a call may write.
-const TEXT_LIMIT: usize = 1_048_576;
-
-/// The bytes that a call writes.
-fn text(alloc: Global, words: &mut Words) -> Result<Bytes, ScriptError>
-    ensures { Gives (λ t. (t, words.new)) result (word_by written words.old) }
-{
-    let bytes = parts::text(alloc, words, TEXT_LIMIT)?;
-    Ok(Bytes::from_vec(bytes))
-}
-
 fn write(alloc: Global, words: &mut Words) -> Result<Call, ScriptError>
-    ensures { Gives (λ c. (c, words.new)) result (two path_of written call.Write words.old) }
+    ensures { Gives (λ c. (c, words.new)) result (two path_of escaped_bytes call.Write words.old) }
 {
-    let path = parts::path(alloc, words)?;
-    let text = text(alloc, words)?;
+    let path = names::path(alloc, words)?;
+    let text = parts::text(alloc, words)?;
     Ok(Call::Write(path, text))
 }
 
 fn chmod(alloc: Global, words: &mut Words) -> Result<Call, ScriptError>
     ensures { Gives (λ c. (c, words.new)) result (two path_of mode_of call.Chmod words.old) }
 {
-    let path = parts::path(alloc, words)?;
+    let path = names::path(alloc, words)?;
     let mode = parts::mode(words)?;
     Ok(Call::Chmod(path, mode))
 }
 
 fn pwrite(alloc: Global, words: &mut Words) -> Result<Call, ScriptError>
-    ensures { Gives (λ c. (c, words.new)) result (two name_of written call.Pwrite words.old) }
+    ensures { Gives (λ c. (c, words.new)) result (two name_in escaped_bytes call.Pwrite words.old) }
 {
-    let name = parts::name(alloc, words)?;
-    let text = text(alloc, words)?;
+    let name = names::name(alloc, words)?;
+    let text = parts::text(alloc, words)?;
     Ok(Call::Pwrite(name, text))
 }
 
 fn send(alloc: Global, words: &mut Words) -> Result<Call, ScriptError>
-    ensures { Gives (λ c. (c, words.new)) result (three name_of name_of written call.Send words.old) }
+    ensures { Gives (λ c. (c, words.new)) result (three name_in name_in escaped_bytes call.Send words.old) }
 {
-    let from = parts::name(alloc, words)?;
-    let to = parts::name(alloc, words)?;
-    let text = text(alloc, words)?;
+    let from = names::name(alloc, words)?;
+    let to = names::name(alloc, words)?;
+    let text = parts::text(alloc, words)?;
     Ok(Call::Send(from, to, text))
 }
 
 /// The call of that name with the arguments that come next.
-#[tactic(auto, unfolding(crate::specs::Calls::call_named, crate::specs::Readers::and_then))]
+#[tactic(auto, unfolding(crate::specs::Calls::call_named_in, crate::specs::Readers::and_then))]
 fn call(alloc: Global, name: &str, words: &mut Words) -> Result<Call, ScriptError>
-    ensures { Gives (λ c. (c, words.new)) result (call_named name.now words.old) }
+    ensures { Gives (λ c. (c, words.new)) result (call_named_in calls name.now words.old) }
 {
     match name {
-        "fork" => Ok(Call::Fork(parts::name(alloc, words)?)),
+        "fork" => Ok(Call::Fork(names::name(alloc, words)?)),
         "exit" => Ok(Call::Exit),
-        "see" => Ok(Call::See(parts::process(alloc, words)?)),
-        "signal" => Ok(Call::Signal(parts::process(alloc, words)?)),
-        "debug" => Ok(Call::Debug(parts::process(alloc, words)?)),
-        "sched" => Ok(Call::Sched(parts::process(alloc, words)?)),
-        "exec" => Ok(Call::Exec(parts::path(alloc, words)?)),
-        "create" => Ok(Call::Create(parts::path(alloc, words)?)),
-        "mkdir" => Ok(Call::Mkdir(parts::path(alloc, words)?)),
-        "read" => Ok(Call::Read(parts::path(alloc, words)?)),
+        "see" => Ok(Call::See(names::process(alloc, words)?)),
+        "signal" => Ok(Call::Signal(names::process(alloc, words)?)),
+        "debug" => Ok(Call::Debug(names::process(alloc, words)?)),
+        "sched" => Ok(Call::Sched(names::process(alloc, words)?)),
+        _ => file_call(alloc, name, words),
+    }
+}
+
+/// The same of a call that isn't about a process.
+#[tactic(auto, unfolding(crate::specs::Calls::call_named_in, crate::specs::Readers::and_then))]
+fn file_call(alloc: Global, name: &str, words: &mut Words) -> Result<Call, ScriptError>
+    ensures { Gives (λ c. (c, words.new)) result (call_named_in (file_calls ++ channel_calls ++ module_calls) name.now words.old) }
+{
+    match name {
+        "exec" => Ok(Call::Exec(names::path(alloc, words)?)),
+        "create" => Ok(Call::Create(names::path(alloc, words)?)),
+        "mkdir" => Ok(Call::Mkdir(names::path(alloc, words)?)),
+        "read" => Ok(Call::Read(names::path(alloc, words)?)),
         "write" => write(alloc, words),
-        "stat" => Ok(Call::Stat(parts::path(alloc, words)?)),
-        "readdir" => Ok(Call::Readdir(parts::path(alloc, words)?)),
+        "stat" => Ok(Call::Stat(names::path(alloc, words)?)),
+        "readdir" => Ok(Call::Readdir(names::path(alloc, words)?)),
         "chmod" => chmod(alloc, words),
-        "unlink" => Ok(Call::Unlink(parts::path(alloc, words)?)),
-        "pipe" => Ok(Call::Pipe(parts::name(alloc, words)?)),
-        "socket" => Ok(Call::Socket(parts::name(alloc, words)?)),
-        "pread" => Ok(Call::Pread(parts::name(alloc, words)?)),
+        "unlink" => Ok(Call::Unlink(names::path(alloc, words)?)),
+        _ => channel_call(alloc, name, words),
+    }
+}
+
+/// The same of a call that is about no file either.
+#[tactic(auto, unfolding(crate::specs::Calls::call_named_in, crate::specs::Readers::and_then))]
+fn channel_call(alloc: Global, name: &str, words: &mut Words) -> Result<Call, ScriptError>
+    ensures { Gives (λ c. (c, words.new)) result (call_named_in (channel_calls ++ module_calls) name.now words.old) }
+{
+    match name {
+        "pipe" => Ok(Call::Pipe(names::name(alloc, words)?)),
+        "socket" => Ok(Call::Socket(names::name(alloc, words)?)),
+        "pread" => Ok(Call::Pread(names::name(alloc, words)?)),
         "pwrite" => pwrite(alloc, words),
-        "pstat" => Ok(Call::Pstat(parts::name(alloc, words)?)),
+        "pstat" => Ok(Call::Pstat(names::name(alloc, words)?)),
         "send" => send(alloc, words),
-        "recv" => Ok(Call::Recv(parts::name(alloc, words)?)),
-        "seesock" => Ok(Call::Seesock(parts::name(alloc, words)?)),
+        "recv" => Ok(Call::Recv(names::name(alloc, words)?)),
+        "seesock" => Ok(Call::Seesock(names::name(alloc, words)?)),
+        _ => module_call(alloc, name, words),
+    }
+}
+
+/// The same of a call that is about the modules.
+#[tactic(auto, unfolding(crate::specs::Calls::call_named_in, crate::specs::Readers::and_then))]
+fn module_call(alloc: Global, name: &str, words: &mut Words) -> Result<Call, ScriptError>
+    ensures { Gives (λ c. (c, words.new)) result (call_named_in module_calls name.now words.old) }
+{
+    match name {
         "kldstat" => Ok(Call::Kldstat),
         "kldload" => Ok(Call::Kldload(parts::word(alloc, words)?)),
         "kldunload" => Ok(Call::Kldunload(parts::word(alloc, words)?)),

@@ -1,27 +1,25 @@
-//! Scripts: what they say, and the reader of their text.
+//! The reader of a script's text. What a script says is mf_calls'; all of it is reached from here too.
 #![tactic(auto)]
 
 mod calls;
-mod content;
 mod error;
-mod generated;
-mod labels;
 mod lines;
-mod listing;
+mod names;
 mod parts;
-mod paths;
 mod reading;
-mod script;
 #[cfg(test)]
 mod tests;
-mod words;
 
-pub use content::Content;
 pub use error::ScriptError;
-pub use generated::generate;
-pub use labels::{file_label, task_label};
-pub use listing::{Bytes, Listing, Name, Path, Word};
-pub use parts::{is_component, is_name};
+use mf_calls::SCRIPT_LIMIT;
+pub use mf_calls::{
+    Bytes, Call, FileLine, Line, Listing, Name, Path, Script, Task, Word, generate, is_component,
+    is_name,
+};
 pub use reading::read_script;
-pub use script::{Call, FileLine, Line, Script, Task};
-pub use words::Words;
+
+/// The words of a script's row.
+type Words<'a> = mf_words::Words<'a, SCRIPT_LIMIT>;
+
+/// The rows of a script.
+type Rows<'a> = mf_words::Rows<'a, SCRIPT_LIMIT>;

@@ -5,14 +5,12 @@ ghost use Rattle.std.specs.Prelude.{◌≡◌, ◌≤◌, [], ◌∷◌, length,
 ghost use Rattle.mf_script.specs.Readers.{Gives};
 ghost use Rattle.mf_script.specs.Lines.{boot_line, file_line, file_text, task_line, line_of};
 
-use crate::content::Content;
 use crate::error::ScriptError;
-use crate::listing::Listing;
-use crate::script::{FileLine, Line, Task};
-use crate::words::Words;
-use crate::{calls, parts};
+use crate::{Words, calls, names, parts};
+use mf_calls::{Bytes, CONTENT_LIMIT, FileLine, Line, Listing, Task};
 use mf_cred::{Cred, FileView};
 use mf_errno::Module;
+use mf_item::Kind;
 use std::alloc::Global;
 
 /// The rest of a boot line, after the word `boot`.
@@ -20,7 +18,7 @@ use std::alloc::Global;
 pub fn boot_line(words: &mut Words) -> Result<Module, ScriptError>
     ensures { Gives (λ m. m) result (boot_line words.old) }
 {
-    let booted = parts::bootable(words)?;
+    let booted = parts::module(words)?;
     parts::no_more(words)?;
     Ok(booted)
 }
@@ -34,7 +32,7 @@ pub fn file_line(
 ) -> Result<FileLine, ScriptError>
     ensures { Gives (λ f. f) result (file_line boots.now words.old) }
 {
-    let path = parts::path(alloc, words)?;
+    let path = names::path(alloc, words)?;
     let dir = parts::is_directory(words)?;
     parts::fixed(words, "uid")?;
     let uid = parts::number(words)?;
@@ -43,7 +41,7 @@ pub fn file_line(
     parts::fixed(words, "mode")?;
     let mode = parts::mode(words)?;
     parts::fixed(words, "label")?;
-    let label = parts::file_request(boots, words)?;
+    let label = parts::request(Kind::Vnode, boots, words)?;
     let text = file_text(alloc, dir, words)?;
     parts::no_more(words)?;
     Ok(FileLine {
@@ -61,20 +59,24 @@ pub fn file_line(
 
 /// The text of a file line, where it has one. A directory has none.
 #[tactic(auto, unfolding(crate::specs::Lines::file_text, crate::specs::Readers::and_then))]
-fn file_text(alloc: Global, dir: bool, words: &mut Words) -> Result<Content, ScriptError>
+fn file_text(
+    alloc: Global,
+    dir: bool,
+    words: &mut Words,
+) -> Result<Bytes<CONTENT_LIMIT>, ScriptError>
     ensures { Gives (λ t. (t, words.new)) result (file_text dir words.old) }
 {
     if dir {
-        return Ok(Content::new(alloc));
+        return Ok(Bytes::new(alloc));
     }
     match words.next() {
-        None => Ok(Content::new(alloc)),
+        None => Ok(Bytes::new(alloc)),
         Some(word) => {
             if word != "text" {
                 return Err(ScriptError::NotYet);
             }
-            let text = parts::text(alloc, words, Content::LIMIT)?;
-            Ok(Content::from_vec(text))
+            let text = parts::content(alloc, words)?;
+            Ok(text)
         }
     }
 }
@@ -85,13 +87,13 @@ pub fn task_line(alloc: Global, boots: &[Module], words: &mut Words) -> Result<T
     ensures { Gives (λ t. t) result (task_line boots.now words.old) }
 {
     parts::fixed(words, "task")?;
-    let name = parts::name(alloc, words)?;
+    let name = names::name(alloc, words)?;
     parts::fixed(words, "uid")?;
     let uid = parts::number(words)?;
     parts::fixed(words, "gid")?;
     let groups = parts::groups(words)?;
     parts::fixed(words, "label")?;
-    let label = parts::task_request(boots, words)?;
+    let label = parts::request(Kind::Process, boots, words)?;
     parts::no_more(words)?;
     Ok(Task {
         name,
@@ -111,7 +113,7 @@ pub fn task_line(alloc: Global, boots: &[Module], words: &mut Words) -> Result<T
 pub fn line(alloc: Global, words: &mut Words) -> Result<Line, ScriptError>
     ensures { Gives (λ l. l) result (line_of words.old) }
 {
-    let child = parts::child(alloc, words)?;
+    let child = names::child(alloc, words)?;
     let call = calls::call_line(alloc, words)?;
     Ok(Line { child, call })
 }

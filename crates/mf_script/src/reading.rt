@@ -5,56 +5,48 @@ ghost use Rattle.std.specs.Prelude.{◌≡◌, ◌≤◌, ◌<◌, ◌++◌, [],
 ghost use Rattle.std.specs.List.{list_all, list_any};
 ghost use Rattle.std.specs.Str.{IsAscii};
 ghost use Rattle.mf_script.specs.Readers.{Gives};
-ghost use Rattle.mf_script.specs.Words.{is_plain};
+ghost use Rattle.mf_script.specs.Grammar.{is_script_byte};
 ghost use Rattle.mf_script.specs.Grammar.{script_of, script_in, items_in, boot_at, file_at, line_at, task_in, task_behind, tasks_in, end_in};
 ghost use Rattle.mf_script.specs.Grammar.{has_name, may_stand, has_path};
-ghost use Rattle.mf_script.specs.Parts.{is_directory_at, has_directory};
-ghost use Rattle.mf_script.specs.WellFormed.{IsWellFormed};
-ghost use Rattle.mf_script.specs.Limits.{task_limit};
+ghost use Rattle.mf_calls.specs.Paths.{is_directory_at, has_directory};
+ghost use Rattle.mf_calls.specs.WellFormed.{IsWellFormed};
+ghost use Rattle.mf_calls.specs.declared.limits.TheConstants.{TASK_LIMIT};
+ghost use Rattle.mf_names.specs.declared.limits.TheConstants.{SCRIPT_LIMIT};
 
 use crate::error::ScriptError;
-use crate::labels::may_boot;
-use crate::listing::{Listing, Name};
-use crate::paths::{directory_of, is_same_path};
-use crate::script::{FileLine, Line, Script, Task};
-use crate::words::{Rows, Words};
-use crate::{lines, parts};
+use crate::{Rows, Words, lines, parts};
+use mf_calls::{
+    FILE_LIMIT, FileLine, LINE_LIMIT, Line, Listing, Name, Script, TASK_LIMIT, Task, directory_of,
+    is_same_path, may_boot,
+};
 use mf_errno::Module;
 use std::alloc::Global;
-
-/// The most file lines of a script.
-const FILE_LIMIT: usize = 256;
-
-/// The most tasks of a script.
-const TASK_LIMIT: usize = 16;
-
-/// The most lines of a task.
-const LINE_LIMIT: usize = 4096;
 
 /// Reads a script. The time is linear in the bytes, and quadratic in the numbers of files and of tasks.
 #[tactic(auto, unfolding(crate::specs::Grammar::script_of, crate::specs::Readers::and_then))]
 pub fn read_script(alloc: Global, bytes: &[u8]) -> Result<Script, ScriptError>
+    requires { length bytes.now ≤ SCRIPT_LIMIT }
     ensures exact { Gives (λ s. s) result (script_of bytes.now) }
     ensures formed { IfOk result (λ s. IsWellFormed s) }
 {
-    if !are_plain(bytes) {
+    if !are_script_bytes(bytes) {
         return Err(ScriptError::NotYet);
     }
     let script = script(alloc, &mut Rows::of(bytes))?;
     Ok(script)
 }
 
-fn is_plain(byte: u8) -> bool
-    ensures { result ≡ is_plain byte }
+fn is_script_byte(byte: u8) -> bool
+    ensures { result ≡ is_script_byte byte }
 {
     byte == b' ' || byte == b'\t' || byte == b'\n' || byte.is_ascii_graphic()
 }
 
-fn are_plain(bytes: &[u8]) -> bool
-    ensures plain { result ≡ list_all is_plain bytes.now }
+fn are_script_bytes(bytes: &[u8]) -> bool
+    ensures plain { result ≡ list_all is_script_byte bytes.now }
     ensures ascii { IsTrue result → IsAscii bytes.now }
 {
-    bytes.iter().all(|byte| is_plain(*byte))
+    bytes.iter().all(|byte| is_script_byte(*byte))
 }
 
 /// The module that the row boots after `boots`; None where it is no boot line.
@@ -259,7 +251,7 @@ fn task_behind(
 
 /// The tasks of all the rows.
 fn tasks(alloc: Global, boots: &[Module], rows: &mut Rows) -> Result<Listing<Task>, ScriptError>
-    ensures { Gives (λ tasks. tasks) result (tasks_in boots.now [] task_limit rows.old) }
+    ensures { Gives (λ tasks. tasks) result (tasks_in boots.now [] TASK_LIMIT rows.old) }
 {
     let mut tasks = Listing::new(alloc);
     while let Some(mut row) = rows.next() {

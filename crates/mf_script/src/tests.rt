@@ -1,6 +1,8 @@
 //! Small scripts, good and bad.
-use crate::{Call, ScriptError, generate, read_script};
-use std::alloc::AllocError;
+use crate::{Call, Script, ScriptError, generate, read_script};
+use mf_calls::SCRIPT_LIMIT;
+use std::alloc::{AllocError, Global};
+use std::process::Abort;
 
 /// Every call, in the order in which the grammar names them.
 const CALLS: [&str; 26] = [
@@ -142,11 +144,17 @@ const BAD_LINES: [&str; 32] = [
     "c exit",
 ];
 
+/// Reads a short script.
+fn read(rt: &impl Abort, alloc: Global, text: &str) -> Result<Script, ScriptError> {
+    assert!(rt; text.len() <= SCRIPT_LIMIT);
+    read_script(alloc, text.as_bytes())
+}
+
 #[test]
 fn reads_what_the_lines_say(rt: HostRuntime) -> Result<(), ScriptError> {
     let text =
         "# a mail\n\n boot\tmac_biba \nfile /v dir uid 1 gid 2 mode 0755 label -\nfile /v/m reg uid 1 gid 2 mode 0644 label biba/high text a\\0a#\ntask www uid 80 gid 007,5,7 label biba/low\n\n\t# not yet\n read /v/m\n@c\twrite /... \\41b\n\tend";
-    let script = read_script(rt.alloc(), text.as_bytes())?;
+    let script = read(&rt, rt.alloc(), text)?;
     let files = script.files.as_slice();
     assert_eq!(rt; files.len(), 2);
     assert!(rt; files[0].file.dir);
@@ -175,7 +183,7 @@ fn reads_what_the_lines_say(rt: HostRuntime) -> Result<(), ScriptError> {
 fn reads_every_call(rt: HostRuntime) -> Result<(), ScriptError> {
     for call in CALLS {
         let text = format!(in rt.alloc(); "task t uid 0 gid 0 label -\n{call}\n@c {call}\nend")?;
-        let script = read_script(rt.alloc(), text.as_bytes())?;
+        let script = read(&rt, rt.alloc(), text.as_str())?;
         let tasks = script.tasks.as_slice();
         assert_eq!(rt; tasks.len(), 1);
         assert_eq!(rt; tasks[0].lines.len(), 2, "{call}");
@@ -186,10 +194,7 @@ fn reads_every_call(rt: HostRuntime) -> Result<(), ScriptError> {
 #[test]
 fn takes_good_scripts(rt: HostRuntime) {
     for script in GOOD_SCRIPTS {
-        assert!(rt;
-            read_script(rt.alloc(), script.as_bytes()).is_ok(),
-            "{script}"
-        );
+        assert!(rt; read(&rt, rt.alloc(), script).is_ok(), "{script}");
     }
 }
 
@@ -197,7 +202,7 @@ fn takes_good_scripts(rt: HostRuntime) {
 fn refuses_bad_scripts(rt: HostRuntime) {
     for script in BAD_SCRIPTS {
         assert_eq!(rt;
-            read_script(rt.alloc(), script.as_bytes()).err(),
+            read(&rt, rt.alloc(), script).err(),
             Some(ScriptError::NotYet),
             "{script}"
         );
@@ -209,7 +214,7 @@ fn refuses_bad_lines(rt: HostRuntime) -> Result<(), ScriptError> {
     for line in BAD_LINES {
         let text = format!(in rt.alloc(); "task t uid 0 gid 0 label -\n{line}\nend")?;
         assert_eq!(rt;
-            read_script(rt.alloc(), text.as_bytes()).err(),
+            read(&rt, rt.alloc(), text.as_str()).err(),
             Some(ScriptError::NotYet),
             "{line}"
         );

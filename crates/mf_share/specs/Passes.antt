@@ -1,8 +1,8 @@
 -- What a pass and a ticket say, and where a core agrees with them.
 use Rattle.std.specs.Prelude.{◌≡◌, ℕ, ◌+◌, ◌<◌, Bool, true, false, List, [], length, slice_get, slice_index_or}
 use Rattle.std.specs.List.{sum_by}
-use Rattle.mf_script.specs.declared.script.Script.{Script}
-use Rattle.mf_script.specs.WellFormed.{lines_of}
+use Rattle.mf_calls.specs.declared.script.Script.{Script}
+use Rattle.mf_calls.specs.WellFormed.{lines_of}
 use Rattle.mf_core.specs.declared.progress.Commit.{Commit}
 use Rattle.mf_core.specs.declared.progress.Commit.TheVariants as commit
 use Rattle.mf_core.specs.declared.progress.Outcome.{Outcome}

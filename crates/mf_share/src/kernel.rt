@@ -2,7 +2,7 @@
 ghost use Rattle.std.specs.Prelude.{◌≡◌, ◌+◌, [], true, false, All, length, map, IfOk, OnErr, OnOk};
 ghost use Rattle.mf_policy.specs.Modules.{module_of};
 ghost use Rattle.mf_list.specs.Lists.{IsFresh};
-ghost use Rattle.mf_script.specs.WellFormed.{IsWellFormed};
+ghost use Rattle.mf_calls.specs.WellFormed.{IsWellFormed};
 ghost use Rattle.mf_step.specs.Verdict as step;
 ghost use Rattle.mf_core.specs.declared.progress.Turn.TheVariants as turn;
 ghost use Rattle.mf_core.specs.Policies.{AreAllModules};
@@ -12,11 +12,11 @@ ghost use Rattle.mf_share.specs.Passes.{AreBack, AreFirst, AreOneEach, lines_sum
 use crate::desk::Desk;
 use crate::pass::{Job, Pass, Ticket};
 use crate::policies::Policies;
+use mf_calls::Script;
 use mf_core::{Commit, Core, Outcome, Turn};
 use mf_list::PolicyList;
 use mf_plan::Plan;
 use mf_policy::Policy;
-use mf_script::Script;
 use mf_step::Verdict;
 use std::alloc::{AllocError, Global};
 use std::marker::Model;

@@ -1,3 +1,3 @@
 pub mod Places
 pub mod ZonesLaws
-pub mod Making
+pub mod Relabelling

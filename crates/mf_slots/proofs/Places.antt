@@ -2,18 +2,18 @@
 use Rattle.std.proofs.Common.{◌≡◌, ℕ, ◌<◌, List, [], ◌∷◌, Option, Some, None, length, get_or, set, map, refl, ap, sym, ◌∙◌, subst, arith, inl, inr, zero, suc, IsSome, ◌+◌}
 use Rattle.std.proofs.lemmas.List.{set-get_or, get_or-set_same, get_or-set_other, get_or-map, length-map}
 use Rattle.std.proofs.lemmas.Bool.{cases_eq}
-use Rattle.slab.specs.Slab.{Slab, get, Updates, with_value}
+use Rattle.slab.specs.Slab.{Slab, get, with_value, Updates as UpdatesSlab}
 use Rattle.mf_elem.specs.declared.label.LabelValue.{LabelValue}
-use Rattle.mf_slots.specs.Zones.{Contents, Handles, handle, under, Writes, IsKept, Makes, Frees, GivesUpBelow}
+use Rattle.mf_slots.specs.Zones.{Contents, Handles, handle, under, Writes, Updates, Adds, Makes, Frees}
 
 -- what contracts see of the slabs
 abbrev pub seen : List (Slab LabelValue) → Contents
 seen slabs = map (λ (s : Slab LabelValue). s.slots) slabs
 
-seen_at : (slabs : List (Slab LabelValue)) (i : ℕ) (d : Slab LabelValue) → i < length slabs → get_or (seen slabs) i [] ≡ (get_or slabs i d).slots
+pub seen_at : (slabs : List (Slab LabelValue)) (i : ℕ) (d : Slab LabelValue) → i < length slabs → get_or (seen slabs) i [] ≡ (get_or slabs i d).slots
 seen_at slabs i d h = get_or-map (λ (s : Slab LabelValue). s.slots) slabs i d [] h
 
-seen_set : (slabs : List (Slab LabelValue)) (i : ℕ) (s : Slab LabelValue) → seen (set slabs i s) ≡ set (seen slabs) i s.slots
+pub seen_set : (slabs : List (Slab LabelValue)) (i : ℕ) (s : Slab LabelValue) → seen (set slabs i s) ≡ set (seen slabs) i s.slots
 seen_set [] i s = refl
 seen_set (x ∷ slabs) zero s = refl
 seen_set (x ∷ slabs) (suc i) s = ap (λ (zs : Contents). x.slots ∷ zs) (seen_set slabs i s)
@@ -28,7 +28,7 @@ seen_kept slabs i old new within is same =
 
 -- one zone that was updated under a key
 pub writes_zone : (slabs : List (Slab LabelValue)) (i : ℕ) (old new : Slab LabelValue) (k : ℕ) (v : Option LabelValue)
-    → i < length slabs → get_or slabs i old ≡ old → Updates old new k v
+    → i < length slabs → get_or slabs i old ≡ old → Updates old.slots new.slots k v
     → Writes (seen slabs) (seen (set slabs i new)) i k v
 writes_zone slabs i old new k v within is up =
     let zone : get_or (seen slabs) i [] ≡ old.slots = seen_at slabs i old within ∙ ap (λ (s : Slab LabelValue). s.slots) is in
@@ -52,36 +52,37 @@ at_zone slabs i zone k within is =
 
 -- a slot of a label is made
 pub made : (slabs : List (Slab LabelValue)) (i : ℕ) (old new : Slab LabelValue) (k : ℕ) (v : LabelValue) (keys : Handles)
-    → i < length slabs → i < length keys → get_or slabs i old ≡ old → IsKept old new k v
+    → i < length slabs → i < length keys → get_or slabs i old ≡ old → Adds old.slots new.slots (Some k) v
     → Makes (seen slabs) (seen (set slabs i new)) keys (set keys i (Some k)) i v
-made slabs i old new k v keys within long is kept =
+made slabs i old new k v keys within long is adds =
+    let same : adds.new ≡ k = cc in
+    let free : get old k ≡ None = ap (get old) (sym same) ∙ adds.was_free in
+    let updates : Updates old.slots new.slots k (Some v) = subst (λ (n : ℕ). Updates old.slots new.slots n (Some v)) same adds.updates in
     record {
       new = k;
-      was_free = at_zone slabs i old k within is ∙ kept.was_free;
-      writes = writes_zone slabs i old new k (Some v) within is kept.updates;
+      was_free = at_zone slabs i old k within is ∙ free;
+      writes = writes_zone slabs i old new k (Some v) within is updates;
       here = get_or-set_same keys i (Some k) None long;
       elsewhere = λ s ne. get_or-set_other keys i s (Some k) None ne;
     }
 
 -- a write under a key that has a value
-updates_at : (zone : Slab LabelValue) (k : ℕ) (v : LabelValue) → k < length zone.slots → Updates zone (with_value zone k v) k (Some v)
+pub updates_at : (zone : Slab LabelValue) (k : ℕ) (v : LabelValue) → k < length zone.slots → Updates zone.slots (with_value zone k v).slots k (Some v)
 updates_at zone k v within =
     record {
       changed = get_or-set_same zone.slots k (Some v) None within;
       others = λ j ne. get_or-set_other zone.slots k j (Some v) None ne;
     }
 
-has_place : (xs : List (Option LabelValue)) (k : ℕ) → IsSome (get_or xs k None) → k < length xs
+pub has_place : (xs : List (Option LabelValue)) (k : ℕ) → IsSome (get_or xs k None) → k < length xs
 has_place [] k h = cc
 has_place (x ∷ xs) zero h = omega arith
 has_place (x ∷ xs) (suc k) h = let l : k < length xs = has_place xs k h in omega arith
 
-pub written : (slabs : List (Slab LabelValue)) (i : ℕ) (zone : Slab LabelValue) (k : ℕ) (v : LabelValue)
-    → i < length slabs → get_or slabs i zone ≡ zone → IsSome (under (seen slabs) i k)
-    → Writes (seen slabs) (seen (set slabs i (with_value zone k v))) i k (Some v)
-written slabs i zone k v within is some =
-    writes_zone slabs i zone (with_value zone k v) k (Some v) within is
-    (updates_at zone k v (has_place zone.slots k (subst (λ (o : Option LabelValue). IsSome o) (at_zone slabs i zone k within is) some)))
+-- the values of the label's slots below n are freed, and all else is as before
+pub record GivesUpBelow (n : ℕ) (zones zones' : Contents) (label : Handles) : Type 0 where
+  pub freed : (slot h : ℕ) → slot < n → handle label slot ≡ Some h → under zones' slot h ≡ None
+  pub others : (s k : ℕ) → (s < n → handle label s ≡ Some k → ⊥) → under zones' s k ≡ under zones s k
 
 pub gives_up_none : (zones : Contents) (label : Handles) → GivesUpBelow 0 zones zones label
 gives_up_none zones label = record { freed = λ slot h l e. absurd (omega arith); others = λ s k no. refl }
@@ -105,10 +106,10 @@ gives_up_more n zones zones1 zones2 label before frees =
 
 -- a zone that lost a key
 pub frees_zone : (slabs : List (Slab LabelValue)) (i : ℕ) (old new : Slab LabelValue) (k : ℕ)
-    → i < length slabs → get_or slabs i old ≡ old → Updates old new k None
+    → i < length slabs → get_or slabs i old ≡ old → UpdatesSlab old new k None
     → Frees (seen slabs) (seen (set slabs i new)) i (Some k)
 frees_zone slabs i old new k within is up =
-    let w = writes_zone slabs i old new k None within is up in
+    let w = writes_zone slabs i old new k None within is (record { changed = up.changed; others = up.others }) in
     record {
       freed = λ h e. let same : k ≡ h = cc in subst (λ j. under (seen (set slabs i new)) i j ≡ None) same w.changed;
       others = λ s j no. w.others s j (λ si jk. no si (ap (λ (n : ℕ). Some n) (sym jk)));

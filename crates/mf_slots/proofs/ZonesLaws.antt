@@ -3,7 +3,7 @@ use Rattle.std.proofs.Common.{◌≡◌, ◌≢◌, ℕ, ◌↔◌, List, [], Op
 use Rattle.std.proofs.lemmas.Bool.{cases_eq, cases_lt}
 use Rattle.mf_elem.specs.declared.label.LabelValue.{LabelValue}
 use Rattle.mf_elem.specs.declared.label.LabelValue.TheVariants.{Unset}
-use Rattle.mf_slots.specs.Zones.{Contents, Handles, handle, under, value_at, value_of, value_or_unset, IsHeldAt, NoneUnset, IsSame, Writes, MakesLabel, Frees, GivesUp}
+use Rattle.mf_slots.specs.Zones.{Contents, Handles, handle, under, value_at, value_of, value_or_unset, IsHeldAt, NoneUnset, Writes, MakesLabel, Frees, GivesUp}
 
 value_at-same : (zones zones' : Contents) (slot : ℕ) (key : Option ℕ)
     → ((h : ℕ) → key ≡ Some h → under zones' slot h ≡ under zones slot h) → value_at zones' slot key ≡ value_at zones slot key
@@ -32,9 +32,6 @@ set_none = record { each = by_slot }
     by_slot (suc (suc (suc zero))) h e = cc
     by_slot (suc (suc (suc (suc slot)))) h e = cc
 
-pub set_same : (zones zones' : Contents) → NoneUnset zones → IsSame zones zones' → NoneUnset zones'
-set_same zones zones' set same = record { each = λ slot h e. set.each slot h (sym (same.same slot h) ∙ e) }
-
 pub set_writes : (zones zones' : Contents) (slot h : ℕ) (v : LabelValue) → NoneUnset zones → v ≢ Unset → Writes zones zones' slot h (Some v) → NoneUnset zones'
 set_writes zones zones' slot h v set value writes =
     record {
@@ -56,12 +53,8 @@ set_makes zones zones' label values set makes =
     record {
       each = λ slot h e. elim (has_handle (handle label slot) h) [
         | inl own ↦
-            elim (cases_lt slot 4) [
-              | inl l ↦
-                  let unset : value_of zones' label slot ≡ Unset = ap (value_at zones' slot) own ∙ ap value_or_unset e in
-                  apart h (handle label slot) (makes.unset slot l (sym (makes.made slot l) ∙ unset)) own
-              | inr later ↦ apart h (handle label slot) (makes.later slot later) own
-            ]
+            let unset : value_of zones' label slot ≡ Unset = ap (value_at zones' slot) own ∙ ap value_or_unset e in
+            apart h (handle label slot) (makes.unset slot (sym (makes.made slot) ∙ unset)) own
         | inr other ↦ set.each slot h (sym (makes.others slot h other) ∙ e)
       ];
     }

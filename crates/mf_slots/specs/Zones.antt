@@ -1,42 +1,55 @@
 -- Label values in zones: one zone for each slot number, in which each value lies under a handle.
-use Rattle.std.specs.Prelude.{◌≡◌, ◌≢◌, ℕ, ◌<◌, ◌≤◌, List, [], Option, Some, None, IsSome, slice_index_or}
-use Rattle.slab.specs.Slab.{Slab, Updates, get}
+use Rattle.std.specs.Prelude.{◌≡◌, ◌≢◌, ℕ, ◌<◌, List, [], Option, Some, None, IsSome, slice_index_or}
+use Rattle.slab.specs.Slab.{Slab, HasRoomFor}
 use Rattle.mf_elem.specs.declared.label.LabelValue.{LabelValue}
-use Rattle.mf_elem.specs.declared.label.LabelValue.TheVariants.{Unset, Range, Number}
+use Rattle.mf_elem.specs.declared.label.TheConstants.{SLOTS}
+use Rattle.mf_elem.specs.declared.label.LabelValue.TheVariants.{Unset}
 
 -- a label: the handle of each slot that is made
 abbrev pub Handles : Type 0
 Handles = List (Option ℕ)
 
--- the zones: for each slot what is under each handle
+-- what a zone has under each handle
+abbrev pub Zone : Type 0
+Zone = List (Option LabelValue)
+
+-- the zones of the slots
 abbrev pub Contents : Type 0
-Contents = List (List (Option LabelValue))
+Contents = List Zone
 
 -- the handle of a slot, where it is made
 abbrev pub handle : Handles → ℕ → Option ℕ
 handle label slot = slice_index_or label slot None
 
+-- what a zone has under a handle
+abbrev pub at_handle : Zone → ℕ → Option LabelValue
+at_handle zone h = slice_index_or zone h None
+
+-- the zone of a slot
+abbrev pub zone_of : Contents → ℕ → Zone
+zone_of zones slot = slice_index_or zones slot []
+
 -- what the zone of a slot has under a handle
 abbrev pub under : Contents → ℕ → ℕ → Option LabelValue
-under zones slot h = slice_index_or (slice_index_or zones slot []) h None
+under zones slot h = at_handle (zone_of zones slot) h
 
 -- no value in the zones is Unset: a slot is Unset where it isn't made
 pub record NoneUnset (zones : Contents) : Type 0 where
   pub each : (slot h : ℕ) → under zones slot h ≢ Some Unset
-
--- every handle of every zone has what it had
-pub record IsSame (zones zones' : Contents) : Type 0 where
-  pub same : (slot h : ℕ) → under zones' slot h ≡ under zones slot h
 
 -- the zone of this slot has this under the handle, and all else is as before
 pub record Writes (zones zones' : Contents) (slot h : ℕ) (v : Option LabelValue) : Type 0 where
   pub changed : under zones' slot h ≡ v
   pub others : (s k : ℕ) → (s ≡ slot → k ≡ h → ⊥) → under zones' s k ≡ under zones s k
 
+-- no handle, or one under which the zone has a value
+abbrev pub IsIn : Zone → Option ℕ → Type 0
+IsIn zone None = Unit {0}
+IsIn zone (Some h) = IsSome (at_handle zone h)
+
 -- no slot, or one whose value lies in these zones
 abbrev pub IsHeldAt : Contents → ℕ → Option ℕ → Type 0
-IsHeldAt zones slot None = Unit {0}
-IsHeldAt zones slot (Some h) = IsSome (under zones slot h)
+IsHeldAt zones slot key = IsIn (zone_of zones slot) key
 
 -- a slot whose value lies in these zones
 abbrev pub IsMadeAt : Contents → ℕ → Option ℕ → Type 0
@@ -45,7 +58,7 @@ IsMadeAt zones slot (Some h) = IsSome (under zones slot h)
 
 -- the value of every made slot of the label lies in these zones
 pub record IsHeld (zones : Contents) (label : Handles) : Type 0 where
-  pub each : (slot : ℕ) → slot < 4 → IsHeldAt zones slot (handle label slot)
+  pub each : (slot : ℕ) → slot < SLOTS → IsHeldAt zones slot (handle label slot)
 
 abbrev pub value_or_unset : Option LabelValue → LabelValue
 value_or_unset None = Unset
@@ -59,6 +72,10 @@ value_at zones slot (Some h) = value_or_unset (under zones slot h)
 abbrev pub value_of : Contents → Handles → ℕ → LabelValue
 value_of zones label slot = value_at zones slot (handle label slot)
 
+-- one of the values of a label
+abbrev pub value_for : List LabelValue → ℕ → LabelValue
+value_for values slot = slice_index_or values slot Unset
+
 -- a slot of the label is made, under a handle that was free
 pub record Makes (zones zones' : Contents) (label label' : Handles) (slot : ℕ) (v : LabelValue) : Type 0 where
   pub new : ℕ
@@ -66,25 +83,6 @@ pub record Makes (zones zones' : Contents) (label label' : Handles) (slot : ℕ)
   pub writes : Writes zones zones' slot new (Some v)
   pub here : handle label' slot ≡ Some new
   pub elsewhere : (s : ℕ) → s ≢ slot → handle label' s ≡ handle label s
-
--- the slots of a new label below n are made with these values, each under a handle that was free; an Unset one is not made
-pub record MakesBelow (n : ℕ) (zones zones' : Contents) (label : Handles) (values : List LabelValue) : Type 0 where
-  pub made : (slot : ℕ) → slot < n → value_of zones' label slot ≡ slice_index_or values slot Unset
-  pub unset : (slot : ℕ) → slot < n → slice_index_or values slot Unset ≡ Unset → handle label slot ≡ None
-  pub later : (slot : ℕ) → n ≤ slot → handle label slot ≡ None
-  pub held : (slot h : ℕ) → handle label slot ≡ Some h → IsSome (under zones' slot h)
-  pub was_free : (slot h : ℕ) → handle label slot ≡ Some h → under zones slot h ≡ None
-  pub others : (slot h : ℕ) → (handle label slot ≡ Some h → ⊥) → under zones' slot h ≡ under zones slot h
-
--- a slot of the label is made, unless the value is Unset
-abbrev pub MakesUnlessUnset : Contents → Contents → Handles → Handles → ℕ → LabelValue → Type 0
-MakesUnlessUnset zones zones' label label' slot Unset = (zones' ≡ zones) × (label' ≡ label)
-MakesUnlessUnset zones zones' label label' slot (Range r) = Makes zones zones' label label' slot (Range r)
-MakesUnlessUnset zones zones' label label' slot (Number n) = Makes zones zones' label label' slot (Number n)
-
--- a new label is made with these values
-abbrev pub MakesLabel : Contents → Contents → Handles → List LabelValue → Type 0
-MakesLabel zones zones' label values = MakesBelow 4 zones zones' label values
 
 -- a made slot of the label has this value, and all else is as before
 abbrev pub SetsAt : Contents → Contents → ℕ → Option ℕ → LabelValue → Type 0
@@ -96,16 +94,56 @@ pub record Frees (zones zones' : Contents) (slot : ℕ) (key : Option ℕ) : Typ
   pub freed : (h : ℕ) → key ≡ Some h → under zones' slot h ≡ None
   pub others : (s k : ℕ) → (s ≡ slot → key ≡ Some k → ⊥) → under zones' s k ≡ under zones s k
 
--- the values of the label's slots below n are freed, and all else is as before
-pub record GivesUpBelow (n : ℕ) (zones zones' : Contents) (label : Handles) : Type 0 where
-  pub freed : (slot h : ℕ) → slot < n → handle label slot ≡ Some h → under zones' slot h ≡ None
-  pub others : (s k : ℕ) → (s < n → handle label s ≡ Some k → ⊥) → under zones' s k ≡ under zones s k
-
 -- all values of the label are freed, and all else is as before
-abbrev pub GivesUp : Contents → Contents → Handles → Type 0
-GivesUp zones zones' label = GivesUpBelow 4 zones zones' label
+pub record GivesUp (zones zones' : Contents) (label : Handles) : Type 0 where
+  pub freed : (slot h : ℕ) → slot < SLOTS → handle label slot ≡ Some h → under zones' slot h ≡ None
+  pub others : (s k : ℕ) → (s < SLOTS → handle label s ≡ Some k → ⊥) → under zones' s k ≡ under zones s k
 
--- a value is under a key that was free, and every other key has what it had
-pub record IsKept {T : Type 0} (zone zone' : Slab T) (key : ℕ) (v : T) : Type 0 where
-  pub was_free : get zone key ≡ None
-  pub updates : Updates zone zone' key (Some v)
+-- Whole labels
+
+-- the zone has this under the handle, and all else is as before
+pub record Updates (zone zone' : Zone) (h : ℕ) (v : Option LabelValue) : Type 0 where
+  pub changed : at_handle zone' h ≡ v
+  pub others : (k : ℕ) → k ≢ h → at_handle zone' k ≡ at_handle zone k
+
+-- the value is under a handle that was free, and all else is as before
+pub record Adds (zone zone' : Zone) (key : Option ℕ) (v : LabelValue) : Type 0 where
+  pub new : ℕ
+  pub here : key ≡ Some new
+  pub was_free : at_handle zone new ≡ None
+  pub updates : Updates zone zone' new (Some v)
+
+-- A slot that has the first handle gets this value, and then has the second handle: a made slot keeps its handle, one that
+-- isn't made gets a free one, and what gets Unset is freed.
+abbrev pub Rewrites : Zone → Zone → Option ℕ → Option ℕ → LabelValue → Type 0
+Rewrites zone zone' None key Unset = (zone' ≡ zone) × (key ≡ None)
+Rewrites zone zone' None key v = Adds zone zone' key v
+Rewrites zone zone' (Some h) key Unset = Updates zone zone' h None × (key ≡ None)
+Rewrites zone zone' (Some h) key v = Updates zone zone' h (Some v) × (key ≡ Some h)
+
+-- every slot of the label gets its value of these
+pub record Relabels (zones zones' : Contents) (label label' : Handles) (values : List LabelValue) : Type 0 where
+  pub each : (slot : ℕ) → Rewrites (zone_of zones slot) (zone_of zones' slot) (handle label slot) (handle label' slot) (value_for values slot)
+
+-- a label with these values is made: each slot under a handle that was free, and none where the value is Unset
+pub record MakesLabel (zones zones' : Contents) (label : Handles) (values : List LabelValue) : Type 0 where
+  pub made : (slot : ℕ) → value_of zones' label slot ≡ value_for values slot
+  pub unset : (slot : ℕ) → value_for values slot ≡ Unset → handle label slot ≡ None
+  pub held : (slot h : ℕ) → handle label slot ≡ Some h → IsSome (under zones' slot h)
+  pub was_free : (slot h : ℕ) → handle label slot ≡ Some h → under zones slot h ≡ None
+  pub others : (slot h : ℕ) → (handle label slot ≡ Some h → ⊥) → under zones' slot h ≡ under zones slot h
+
+-- the value is Unset, or the handle is there for it
+abbrev pub IsMadeFor : Option ℕ → LabelValue → Type 0
+IsMadeFor key Unset = Unit {0}
+IsMadeFor key v = IsSome key
+
+-- each slot that gets a value is made
+abbrev pub AreMade : Handles → List LabelValue → Type 0
+AreMade label values = (slot : ℕ) → slot < SLOTS → IsMadeFor (handle label slot) (value_for values slot)
+
+-- the value can be written without an allocation
+abbrev pub HasRoomToWrite : Slab LabelValue → Option ℕ → LabelValue → Type 0
+HasRoomToWrite zone (Some h) v = Unit {0}
+HasRoomToWrite zone None Unset = Unit {0}
+HasRoomToWrite zone None v = HasRoomFor zone 1

@@ -4,5 +4,5 @@
 mod numbers;
 mod zones;
 
-pub use numbers::{SLOTS, SlotNumbers};
+pub use numbers::SlotNumbers;
 pub use zones::{Label, Zones};

@@ -1,25 +1,25 @@
 //! Slot numbers, each of which is given once.
+ghost use Rattle.mf_elem.specs.declared.label.TheConstants.{SLOTS};
 ghost use Rattle.std.specs.Prelude.{◌≡◌, ◌+◌, ◌<◌, ◌≤◌, MatchOption, IfNone, IfSome};
 
+use mf_elem::SLOTS;
 use std::marker::Model;
 
-/// How many slots a label has.
-pub const SLOTS: u8 = 4;
-
-/// The slot numbers 0 to 3. Each policy that labels gets the next one. Contracts see how many were given.
+/// The numbers of the label slots, from 0. Each policy that labels gets the next one. Contracts see how many were given.
 #[derive(Drop)]
 pub struct SlotNumbers {
     given: u8,
 }
 
 impl Model for SlotNumbers {
+    ghost use Rattle.mf_elem.specs.declared.label.TheConstants.{SLOTS};
     ghost use Rattle.std.specs.Prelude.{ℕ, ◌≤◌};
 
     ghost Value = { ℕ };
 
     ghost view = { λ a. a.given };
 
-    ghost invariant = { λ a. a.given ≤ 4 };
+    ghost invariant = { λ a. a.given ≤ SLOTS };
 }
 
 impl SlotNumbers {
@@ -33,24 +33,17 @@ impl SlotNumbers {
     /// How many numbers were given.
     pub fn given(&self) -> u8
         ensures value { result ≡ self.now }
-        ensures most { self.now ≤ 4 }
+        ensures most { self.now ≤ SLOTS }
     {
         self.given
     }
 
-    /// A copy.
-    pub fn copy(&self) -> SlotNumbers
-        ensures { result ≡ self.now }
-    {
-        SlotNumbers { given: self.given }
-    }
-
-    /// The next slot number, None where all four were given. A number is never given again.
+    /// The next slot number, None where all were given. A number is never given again.
     pub fn take(&mut self) -> Option<u8>
-        ensures given { IfSome result (λ n. (n ≡ self.old) × (n < 4) × (self.new ≡ n + 1)) }
-        ensures none { IfNone result ((self.old ≡ 4) × (self.new ≡ self.old)) }
+        ensures given { IfSome result (λ n. (n ≡ self.old) × (n < SLOTS) × (self.new ≡ n + 1)) }
+        ensures none { IfNone result ((self.old ≡ SLOTS) × (self.new ≡ self.old)) }
     {
-        if self.given == SLOTS {
+        if self.given as usize == SLOTS {
             return None;
         }
         self.given += 1;

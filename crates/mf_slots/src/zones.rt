@@ -1,9 +1,11 @@
 //! Zones of label values over slabs, whose keys are the handles that labels hold.
-ghost use Rattle.std.specs.Prelude.{◌≡◌, ◌≢◌, ◌<◌, ◌↔◌, [], ◌∷◌, Some, None, OnOk, OnErr, IfOk, IsTrue, IsSome, replicate};
-ghost use Rattle.mf_slots.specs.Zones.{IsHeld, IsMadeAt, IsHeldAt, IsSame, Makes, MakesLabel, MakesUnlessUnset, SetsAt, Frees, GivesUp, handle, value_at, value_of, IsKept};
+ghost use Rattle.std.specs.Prelude.{◌≡◌, ◌≢◌, ◌<◌, ◌↔◌, [], ◌∷◌, Some, None, OnOk, OnErr, IfOk, IsOk, IsTrue, IsSome, replicate};
+ghost use Rattle.mf_elem.specs.declared.label.TheConstants.{SLOTS};
+ghost use Rattle.slab.specs.Slab.{HasRoomFor};
+ghost use Rattle.mf_slots.specs.Zones.{IsHeld, IsIn, IsMadeAt, IsHeldAt, Makes, MakesLabel, SetsAt, Frees, GivesUp, handle, value_at, value_of, Adds, Updates, Relabels, Rewrites, AreMade, IsMadeFor, HasRoomToWrite};
 ghost use Rattle.mf_elem.specs.declared.label.LabelValue.TheVariants.{Unset};
 
-use mf_elem::LabelValue;
+use mf_elem::{LabelValue, SLOTS};
 use slab::Slab;
 use std::alloc::{AllocError, Global};
 use std::marker::Model;
@@ -15,6 +17,7 @@ pub struct Zones {
 }
 
 impl Model for Zones {
+    ghost use Rattle.mf_elem.specs.declared.label.TheConstants.{SLOTS};
     ghost use Rattle.std.specs.Prelude.{◌≡◌, map, length};
     ghost use Rattle.mf_slots.specs.Zones.{Contents, NoneUnset};
 
@@ -22,34 +25,40 @@ impl Model for Zones {
 
     ghost view = { λ a. map (λ zone. zone.slots) a.zones.items };
 
-    ghost invariant = { λ a. (length a.zones.items ≡ 4) × NoneUnset (map (λ zone. zone.slots) a.zones.items) };
+    ghost invariant = { λ a. (length a.zones.items ≡ SLOTS) × NoneUnset (map (λ zone. zone.slots) a.zones.items) };
 }
 
 /// The label of an entity: for each slot that is made, the handle of its value in the zones.
 #[derive(Drop)]
 pub struct Label {
-    handles: [Option<usize>; 4],
+    handles: [Option<usize>; SLOTS],
 }
 
 impl Model for Label {
+    ghost use Rattle.mf_elem.specs.declared.label.TheConstants.{SLOTS};
+    ghost use Rattle.std.specs.Prelude.{◌≡◌, length};
     ghost use Rattle.mf_slots.specs.Zones.{Handles};
 
     ghost Value = { Handles };
 
     ghost view = { λ a. a.handles };
+
+    ghost invariant = { λ a. length a.handles ≡ SLOTS };
 }
 
 impl Label {
     /// No slot is made: each is Unset.
     pub fn new() -> Label
-        ensures { result ≡ replicate 4 None }
+        ensures { result ≡ replicate SLOTS None }
     {
-        Label { handles: [None; 4] }
+        Label {
+            handles: [None; SLOTS],
+        }
     }
 
     /// Whether the slot is made.
     pub fn is_made(&self, slot: u8) -> bool
-        requires { slot < 4 }
+        requires { slot < SLOTS }
         ensures { IsTrue result ↔ IsSome (handle self.now slot) }
     {
         self.handles[slot as usize].is_some()
@@ -59,9 +68,9 @@ impl Label {
 impl Zones {
     /// Empty zones.
     pub fn new(alloc: Global) -> Result<Zones, AllocError>
-        ensures { IfOk result (λ zones. zones ≡ replicate 4 []) }
+        ensures { IfOk result (λ zones. zones ≡ replicate SLOTS []) }
     {
-        let mut zones = Vec::with_capacity(alloc, 4)?;
+        let mut zones = Vec::with_capacity(alloc, SLOTS)?;
         zones.push(Slab::new(alloc))?;
         zones.push(Slab::new(alloc))?;
         zones.push(Slab::new(alloc))?;
@@ -71,7 +80,7 @@ impl Zones {
 
     /// Stores `value` in a slot of the label that is Unset. If memory runs out, nothing is changed.
     pub fn make(&mut self, label: &mut Label, slot: u8, value: LabelValue) -> Result<(), AllocError>
-        requires slot { slot < 4 }
+        requires slot { slot < SLOTS }
         requires unset { handle label.old slot ≡ None }
         requires value { value ≢ Unset }
         requires held { IsHeld self.old label.old }
@@ -84,62 +93,54 @@ impl Zones {
         Ok(())
     }
 
-    /// Makes a label with these values; a slot that is to be Unset isn't made. If memory runs out, every other label
-    /// reads as before.
-    pub fn make_label(&mut self, values: &[LabelValue; 4]) -> Result<Label, AllocError>
+    /// Makes a label with these values; a slot that is to be Unset isn't made. If memory runs out, nothing is changed.
+    pub fn make_label(&mut self, values: &[LabelValue; SLOTS]) -> Result<Label, AllocError>
         ensures ok { IfOk result (λ label. MakesLabel self.old self.new label values.now) }
-        ensures err { OnErr result (IsSame self.old self.new) }
+        ensures err { OnErr result (self.new ≡ self.old) }
     {
         let mut label = Label::new();
-        for slot in 0..4 {
-            let value = values[slot as usize];
-            match self.make_unless_unset(&mut label, slot, value) {
-                Ok(()) => {}
-                Err(error) => {
-                    self.give_up(label);
-                    return Err(error);
-                }
-            }
-        }
+        self.relabel(&mut label, values)?;
         Ok(label)
     }
 
-    fn make_unless_unset(
+    /// Gives the slots of the label these values; a slot that is to be Unset is given up. If memory runs out, nothing is
+    /// changed. Slots that are made already take no memory.
+    pub fn relabel(
         &mut self,
         label: &mut Label,
-        slot: u8,
-        value: LabelValue,
+        values: &[LabelValue; SLOTS],
     ) -> Result<(), AllocError>
-        requires slot { slot < 4 }
-        requires unset { handle label.old slot ≡ None }
-        requires held { IsHeld self.old label.old }
-        ensures ok { OnOk result (MakesUnlessUnset self.old self.new label.old label.new slot value) }
+        requires { IsHeld self.old label.old }
+        ensures ok { OnOk result (Relabels self.old self.new label.old label.new values.now) }
+        ensures made { AreMade label.old values.now → IsOk result }
         ensures err { OnErr result ((self.new ≡ self.old) × (label.new ≡ label.old)) }
     {
-        match value {
-            LabelValue::Unset => Ok(()),
-            LabelValue::Range(_) | LabelValue::Number(_) => self.make(label, slot, value),
+        for slot in 0..SLOTS {
+            let zone = &mut self.zones[slot];
+            make_room(zone, label.handles[slot], values[slot])?;
         }
+        for slot in 0..SLOTS {
+            let zone = &mut self.zones[slot];
+            label.handles[slot] = rewrite(zone, label.handles[slot], values[slot]);
+        }
+        Ok(())
     }
 
     /// Writes a slot that is made.
     pub fn set(&mut self, label: &Label, slot: u8, value: LabelValue)
-        requires slot { slot < 4 }
+        requires slot { slot < SLOTS }
         requires made { IsMadeAt self.old slot (handle label.now slot) }
         requires value { value ≢ Unset }
         ensures { SetsAt self.old self.new slot (handle label.now slot) value }
     {
         if let Some(key) = label.handles[slot as usize] {
-            let zone = &mut self.zones[slot as usize];
-            if let Some(place) = zone.get_mut(key) {
-                *place = value;
-            }
+            put(&mut self.zones[slot as usize], key, value);
         }
     }
 
     /// What a slot holds: Unset exactly where it isn't made.
     pub fn value(&self, label: &Label, slot: u8) -> LabelValue
-        requires slot { slot < 4 }
+        requires slot { slot < SLOTS }
         requires held { IsHeldAt self.now slot (handle label.now slot) }
         ensures value { result ≡ value_of self.now label.now slot }
         ensures unset { (result ≡ Unset) ↔ (handle label.now slot ≡ None) }
@@ -151,7 +152,7 @@ impl Zones {
     }
 
     fn under(&self, slot: u8, key: usize) -> LabelValue
-        requires { slot < 4 }
+        requires { slot < SLOTS }
         ensures value { result ≡ value_at self.now slot (Some key) }
         ensures set { IsHeldAt self.now slot (Some key) → result ≢ Unset }
     {
@@ -165,14 +166,14 @@ impl Zones {
         ensures { GivesUp self.old self.new label }
     {
         let Label { handles } = label;
-        for slot in 0..4 {
+        for slot in 0..SLOTS {
             self.free(slot, handles[slot]);
         }
     }
 
     /// Frees the value under the key, if there is one.
     fn free(&mut self, slot: usize, key: Option<usize>)
-        requires { slot < 4 }
+        requires { slot < SLOTS }
         ensures { Frees self.old self.new slot key }
     {
         if let Some(key) = key {
@@ -182,13 +183,67 @@ impl Zones {
     }
 }
 
+/// Makes room for a value that has no key yet.
+fn make_room(
+    zone: &mut Slab<LabelValue>,
+    key: Option<usize>,
+    value: LabelValue,
+) -> Result<(), AllocError>
+    ensures room { OnOk result (HasRoomToWrite zone.new key value) }
+    ensures made { IsMadeFor key value → IsOk result }
+    ensures same { zone.new.slots ≡ zone.old.slots }
+{
+    match (key, value) {
+        (None, LabelValue::Range(_) | LabelValue::Number(_)) => zone.reserve(1),
+        (Some(_), _) | (None, LabelValue::Unset) => Ok(()),
+    }
+}
+
+/// Puts the value under its key, or a free one, and returns the key. Unset has none.
+fn rewrite(zone: &mut Slab<LabelValue>, key: Option<usize>, value: LabelValue) -> Option<usize>
+    requires room { HasRoomToWrite zone.old key value }
+    requires held { IsIn zone.old.slots key }
+    ensures { Rewrites zone.old.slots zone.new.slots key result value }
+{
+    match (key, value) {
+        (None, LabelValue::Unset) => None,
+        (None, LabelValue::Range(_) | LabelValue::Number(_)) => Some(add(zone, value)),
+        (Some(key), LabelValue::Unset) => {
+            let _freed = zone.try_remove(key);
+            None
+        }
+        (Some(key), LabelValue::Range(_) | LabelValue::Number(_)) => {
+            put(zone, key, value);
+            Some(key)
+        }
+    }
+}
+
+/// Writes the value under a key that has one.
+fn put(zone: &mut Slab<LabelValue>, key: usize, value: LabelValue)
+    requires { IsIn zone.old.slots (Some key) }
+    ensures { Updates zone.old.slots zone.new.slots key (Some value) }
+{
+    if let Some(place) = zone.get_mut(key) {
+        *place = value;
+    }
+}
+
 /// Puts the value under a free key.
-fn keep<T: Drop>(zone: &mut Slab<T>, value: T) -> Result<usize, AllocError>
-    ensures ok { IfOk result (λ key. IsKept zone.old zone.new key value) }
+fn keep(zone: &mut Slab<LabelValue>, value: LabelValue) -> Result<usize, AllocError>
+    ensures ok { IfOk result (λ key. Adds zone.old.slots zone.new.slots (Some key) value) }
     ensures err { OnErr result (zone.new.slots ≡ zone.old.slots) }
 {
     zone.reserve(1)?;
-    Ok(zone.insert_reserved(value))
+    Ok(add(zone, value))
+}
+
+/// Puts the value under a free key, for which there is room.
+fn add(zone: &mut Slab<LabelValue>, value: LabelValue) -> usize
+    requires { HasRoomFor zone.old 1 }
+    ensures { Adds zone.old.slots zone.new.slots (Some result) value }
+{
+    zone.insert_reserved(value)
 }
 
 #[cfg(test)]

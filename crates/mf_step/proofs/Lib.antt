@@ -1,4 +1,3 @@
 mod Entries
-mod Holders
 mod Keeping
 mod LastName

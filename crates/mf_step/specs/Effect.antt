@@ -11,8 +11,9 @@ use Rattle.mf_objects.specs.declared.entity.What.{What}
 use Rattle.mf_objects.specs.declared.entity.What.TheVariants.{Process}
 use Rattle.mf_objects.specs.Live.{Entities, has_id, cred_at, file_at, label_at}
 use Rattle.mf_objects.specs.Changes.{with_entity, without, goes_with, with_change, with_what, appended, with_message, with_messages, cleared, with_mode, new_vnode, new_pipe, new_socket}
-use Rattle.mf_script.specs.declared.script.Call.{Call}
-use Rattle.mf_script.specs.declared.script.Call.TheVariants as call
+use Rattle.mf_calls.specs.declared.limits.TheConstants.{FILE_MODE, DIRECTORY_MODE}
+use Rattle.mf_calls.specs.declared.script.Call.{Call}
+use Rattle.mf_calls.specs.declared.script.Call.TheVariants as call
 use Rattle.mf_plan.specs.declared.state.State.{State}
 use Rattle.mf_plan.specs.declared.target.Target.{Target}
 use Rattle.mf_plan.specs.declared.target.Target.TheVariants.{Root, Name, Nowhere}
@@ -20,7 +21,8 @@ use Rattle.mf_plan.specs.Loading.{loadable}
 use Rattle.mf_plan.specs.Names.{child_name}
 use Rattle.mf_plan.specs.Path.{last_name, walk_along}
 use Rattle.mf_plan.specs.Views.{pipe_named, socket_named}
-use Rattle.mf_step.specs.Labels.{created_label}
+use Rattle.mf_policy.specs.declared.labels.Origin.TheVariants.{Maker}
+use Rattle.mf_policy.specs.NewLabels.{new_label}
 use Rattle.mf_step.specs.Reply.{file_at_path}
 
 -- the state with these live entities
@@ -30,7 +32,7 @@ with_objects s objects = record s { objects = objects }
 -- one entity more, with the label that its maker's gives it
 abbrev pub with_created : State → Id → Kind → List ℕ → What → State
 with_created s maker kind name what =
-    with_objects s (with_entity s.objects name (created_label s.specs kind (label_at s.objects maker)) what)
+    with_objects s (with_entity s.objects name (new_label s.specs kind (Maker (label_at s.objects maker))) what)
 
 -- one live entity is changed, where it is found
 abbrev pub with_changed : State → (What → What) → Option Id → State
@@ -86,8 +88,8 @@ effect_of s task caller (call.Signal name) = s
 effect_of s task caller (call.Debug name) = s
 effect_of s task caller (call.Sched name) = s
 effect_of s task caller (call.Exec path) = s
-effect_of s task caller (call.Create path) = with_file s caller 420 false (last_name path) (walk_along s.objects path).target
-effect_of s task caller (call.Mkdir path) = with_file s caller 493 true (last_name path) (walk_along s.objects path).target
+effect_of s task caller (call.Create path) = with_file s caller FILE_MODE false (last_name path) (walk_along s.objects path).target
+effect_of s task caller (call.Mkdir path) = with_file s caller DIRECTORY_MODE true (last_name path) (walk_along s.objects path).target
 effect_of s task caller (call.Read path) = s
 effect_of s task caller (call.Write path text) = with_changed s (appended text) (file_at_path s.objects path)
 effect_of s task caller (call.Stat path) = s

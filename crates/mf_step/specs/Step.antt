@@ -1,7 +1,7 @@
 -- One call of the sequential framework: its reply, and the state after it.
 use Rattle.std.specs.Prelude.{ℕ, List, Option, Some, None}
 use Rattle.mf_objects.specs.declared.id.Id.{Id}
-use Rattle.mf_script.specs.declared.script.Call.{Call}
+use Rattle.mf_calls.specs.declared.script.Call.{Call}
 use Rattle.mf_plan.specs.declared.reply.Reply.{Reply}
 use Rattle.mf_plan.specs.declared.reply.Reply.TheVariants as reply
 use Rattle.mf_plan.specs.declared.state.State.{State}

@@ -8,7 +8,7 @@ use Rattle.mf_policy.specs.Registration.{Entry}
 use Rattle.mf_plan.specs.declared.plan.Plan.{Plan}
 use Rattle.mf_step.specs.declared.verdict.Denial.{Denial}
 use Rattle.mf_step.specs.declared.verdict.Verdict.{Verdict}
-use Rattle.mf_list.specs.Asked.{asked}
+use Rattle.mf_list.specs.Asked.{answer_to}
 
 abbrev pub denial_at : ℕ → Errno → Option Module → Option Denial → Option Denial
 denial_at n Success by later = later
@@ -17,7 +17,7 @@ denial_at n errno by later = Some (record { item = n; errno = errno; by = by })
 -- the denial of the first of the checks that is denied, where they count from n
 abbrev pub denial_from : List Entry → ℕ → List Item → Option Denial
 denial_from policies n [] = None
-denial_from policies n (i ∷ is) = denial_at n (asked policies i).errno (asked policies i).by (denial_from policies (n + 1) is)
+denial_from policies n (i ∷ is) = denial_at n (answer_to policies i).errno (answer_to policies i).by (denial_from policies (n + 1) is)
 
 -- the verdict of these policies on a plan
 abbrev pub verdict_of : List Entry → Plan → Verdict

@@ -1,5 +1,7 @@
 //! What the calls on pipes and sockets change.
 ghost use Rattle.std.specs.Prelude.{◌≡◌, ◌<◌, ◌≤◌, OnOk, OnErr, drop, length};
+ghost use Rattle.mf_names.specs.declared.limits.TheConstants.{SCRIPT_LIMIT};
+ghost use Rattle.mf_objects.specs.declared.limits.TheConstants.{ID_LIMIT};
 ghost use Rattle.mf_item.specs.declared.view.Kind.TheVariants as kinds;
 ghost use Rattle.mf_objects.specs.Changes as change;
 ghost use Rattle.mf_objects.specs.Live.{IsLive, is_pipe, is_process, is_socket, live_named};
@@ -22,7 +24,7 @@ pub(crate) fn pipe(
 ) -> Result<(), AllocError>
     requires caller { IsLive is_process state.old.objects caller }
     requires can { doing.CanMake state.old.objects (live_named is_pipe state.old.objects name.now) }
-    requires next { state.old.objects.next < 4294967295 }
+    requires next { state.old.objects.next < ID_LIMIT }
     ensures ok { OnOk result (state.new ≡ spec.with_created state.old caller kinds.Pipe name.now (change.new_pipe caller)) }
     ensures err { OnErr result (state.new ≡ state.old) }
 {
@@ -40,7 +42,7 @@ pub(crate) fn socket(
 ) -> Result<(), AllocError>
     requires caller { IsLive is_process state.old.objects caller }
     requires can { doing.CanMake state.old.objects (live_named is_socket state.old.objects name.now) }
-    requires next { state.old.objects.next < 4294967295 }
+    requires next { state.old.objects.next < ID_LIMIT }
     ensures ok { OnOk result (state.new ≡ spec.with_created state.old caller kinds.Socket name.now (change.new_socket caller)) }
     ensures err { OnErr result (state.new ≡ state.old) }
 {
@@ -77,7 +79,7 @@ pub(crate) fn deliver(
     to: &str,
     text: &[u8],
 ) -> Result<(), AllocError>
-    requires text { length text.now ≤ 1048576 }
+    requires text { length text.now ≤ SCRIPT_LIMIT }
     requires can { doing.CanDeliver state.old.objects to.now }
     ensures ok { OnOk result (state.new
         ≡ spec.with_changed state.old (change.with_messages (change.with_message text.now)) (view.socket_named state.old.objects to.now)) }

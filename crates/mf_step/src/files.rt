@@ -1,5 +1,6 @@
 //! What the calls on files and directories change.
 ghost use Rattle.std.specs.Prelude.{◌≡◌, ◌<◌, ◌≤◌, [], OnOk, OnErr, None, find, length, false, true};
+ghost use Rattle.mf_objects.specs.declared.limits.TheConstants.{ID_LIMIT, MOST_ENTITIES};
 ghost use Rattle.mf_item.specs.declared.view.Kind.TheVariants as kinds;
 ghost use Rattle.mf_objects.specs.Changes as change;
 ghost use Rattle.mf_objects.specs.Live.{IsLive, is_child, is_directory, is_process};
@@ -10,31 +11,26 @@ ghost use Rattle.mf_step.specs.Reply.{file_at_path};
 
 use crate::found::{file_at, last_name};
 use crate::processes::label_from;
+use mf_calls::{DIRECTORY_MODE, FILE_MODE};
 use mf_cred::FileView;
 use mf_item::Kind;
+use mf_names::Path;
 use mf_objects::Id;
 use mf_plan::{State, Target, target_of};
-use mf_script::Name;
 use std::alloc::{AllocError, Global};
-
-/// The mode bits of a new file, and of a new directory.
-const FILE_MODE: u16 = 0o644;
-
-const DIRECTORY_MODE: u16 = 0o755;
 
 /// Makes an empty regular file. If memory runs out, the state is unchanged.
 pub(crate) fn create(
     alloc: Global,
     state: &mut State,
     caller: Id,
-    path: &[Name],
+    path: &Path,
 ) -> Result<(), AllocError>
     requires caller { IsLive is_process state.old.objects caller }
-    requires path { length path.now ≤ 8 }
     requires can { doing.CanCreate state.old.objects path.now }
-    requires next { state.old.objects.next < 4294967295 }
+    requires next { state.old.objects.next < ID_LIMIT }
     ensures ok { OnOk result (state.new
-        ≡ spec.with_file state.old caller 420 false (walks.last_name path.now) (walks.walk_along state.old.objects path.now).target) }
+        ≡ spec.with_file state.old caller FILE_MODE false (walks.last_name path.now) (walks.walk_along state.old.objects path.now).target) }
     ensures err { OnErr result (state.new ≡ state.old) }
 {
     make(alloc, state, caller, path, FILE_MODE, false)
@@ -45,14 +41,13 @@ pub(crate) fn mkdir(
     alloc: Global,
     state: &mut State,
     caller: Id,
-    path: &[Name],
+    path: &Path,
 ) -> Result<(), AllocError>
     requires caller { IsLive is_process state.old.objects caller }
-    requires path { length path.now ≤ 8 }
     requires can { doing.CanCreate state.old.objects path.now }
-    requires next { state.old.objects.next < 4294967295 }
+    requires next { state.old.objects.next < ID_LIMIT }
     ensures ok { OnOk result (state.new
-        ≡ spec.with_file state.old caller 493 true (walks.last_name path.now) (walks.walk_along state.old.objects path.now).target) }
+        ≡ spec.with_file state.old caller DIRECTORY_MODE true (walks.last_name path.now) (walks.walk_along state.old.objects path.now).target) }
     ensures err { OnErr result (state.new ≡ state.old) }
 {
     make(alloc, state, caller, path, DIRECTORY_MODE, true)
@@ -63,21 +58,28 @@ fn make(
     alloc: Global,
     state: &mut State,
     caller: Id,
-    path: &[Name],
+    path: &Path,
     mode: u16,
     dir: bool,
 ) -> Result<(), AllocError>
     requires caller { IsLive is_process state.old.objects caller }
-    requires path { length path.now ≤ 8 }
     requires can { doing.CanCreate state.old.objects path.now }
-    requires next { state.old.objects.next < 4294967295 }
+    requires next { state.old.objects.next < ID_LIMIT }
     ensures ok { OnOk result (state.new
         ≡ spec.with_file state.old caller mode dir (walks.last_name path.now) (walks.walk_along state.old.objects path.now).target) }
     ensures err { OnErr result (state.new ≡ state.old) }
 {
     match target_of(&state.objects, path) {
         Target::Name(parent, None) => {
-            add_file(alloc, state, caller, parent, last_name(path), mode, dir)
+            add_file(
+                alloc,
+                state,
+                caller,
+                parent,
+                last_name(path.as_slice()),
+                mode,
+                dir,
+            )
         }
         _ => Ok(()),
     }
@@ -95,8 +97,8 @@ fn add_file(
     requires caller { IsLive is_process state.old.objects caller }
     requires parent { IsLive is_directory state.old.objects parent }
     requires name { find (is_child parent name.now) state.old.objects.live ≡ None }
-    requires few { length state.old.objects.live < 1024 }
-    requires next { state.old.objects.next < 4294967295 }
+    requires few { length state.old.objects.live < MOST_ENTITIES }
+    requires next { state.old.objects.next < ID_LIMIT }
     ensures ok { OnOk result (state.new
         ≡ spec.with_created state.old caller kinds.Vnode name.now (change.new_vnode parent (spec.new_file state.old.objects caller parent mode dir) [])) }
     ensures err { OnErr result (state.new ≡ state.old) }
@@ -115,8 +117,7 @@ fn add_file(
 }
 
 /// Appends to the file. If memory runs out, the state is unchanged.
-pub(crate) fn write(state: &mut State, path: &[Name], text: &[u8]) -> Result<(), AllocError>
-    requires path { length path.now ≤ 8 }
+pub(crate) fn write(state: &mut State, path: &Path, text: &[u8]) -> Result<(), AllocError>
     requires can { doing.CanWrite state.old.objects path.now text.now }
     ensures ok { OnOk result (state.new ≡ spec.with_changed state.old (change.appended text.now) (file_at_path state.old.objects path.now)) }
     ensures err { OnErr result (state.new ≡ state.old) }
@@ -128,8 +129,7 @@ pub(crate) fn write(state: &mut State, path: &[Name], text: &[u8]) -> Result<(),
 }
 
 /// Gives the file or directory these mode bits.
-pub(crate) fn chmod(state: &mut State, path: &[Name], mode: u16)
-    requires { length path.now ≤ 8 }
+pub(crate) fn chmod(state: &mut State, path: &Path, mode: u16)
     ensures { state.new ≡ spec.with_changed state.old (change.with_mode mode) (file_at_path state.old.objects path.now) }
 {
     if let Some(id) = file_at(&state.objects, path) {
@@ -138,8 +138,7 @@ pub(crate) fn chmod(state: &mut State, path: &[Name], mode: u16)
 }
 
 /// Removes the entry at the path.
-pub(crate) fn unlink(state: &mut State, path: &[Name])
-    requires path { length path.now ≤ 8 }
+pub(crate) fn unlink(state: &mut State, path: &Path)
     requires can { doing.CanUnlink state.old.objects path.now }
     ensures { state.new ≡ spec.without_entry state.old (walks.walk_along state.old.objects path.now).target }
 {

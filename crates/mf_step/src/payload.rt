@@ -2,30 +2,30 @@
 ghost use Rattle.std.specs.Prelude.{◌≡◌, ◌≤◌, IfOk, IsOk, IfSome, IsSome, false, length, map};
 ghost use Rattle.mf_objects.specs.Live.{live_at};
 ghost use Rattle.mf_plan.specs.Loading as loading;
-ghost use Rattle.mf_script.specs.WellFormed.{IsFormedCall};
+ghost use Rattle.mf_calls.specs.WellFormed.{IsFormedCall};
 ghost use Rattle.mf_step.specs.Reply as spec;
 
 use crate::found::file_at;
 use crate::modules::slot_for;
+use mf_calls::Call;
 use mf_cred::ArrayVec;
 use mf_objects::{Id, Objects};
 use mf_plan::{Loaded, Payload, State, loadable};
-use mf_policy::SpecList;
-use mf_script::Call;
+use mf_policy::{MOST_LISTED, SpecList};
 use std::alloc::{AllocError, Global};
 
 /// What the call hands back where it is done. Only the names of a directory take memory.
 pub fn payload_of(alloc: Global, state: &State, call: &Call) -> Result<Payload, AllocError>
     requires formed { IsFormedCall call.now }
-    requires few { length state.now.specs ≤ 8 }
+    requires few { length state.now.specs ≤ MOST_LISTED }
     ensures value { IfOk result (λ payload. payload ≡ spec.payload_of state.now call.now) }
     ensures memory { spec.payload_takes_memory call.now ≡ false → IsOk result }
 {
     let objects = &state.objects;
     match call {
-        Call::Read(path) => Ok(head(objects, file_at(objects, path.as_slice()))),
-        Call::Stat(path) => Ok(stat(objects, file_at(objects, path.as_slice()))),
-        Call::Readdir(path) => names(alloc, objects, file_at(objects, path.as_slice())),
+        Call::Read(path) => Ok(head(objects, file_at(objects, path))),
+        Call::Stat(path) => Ok(stat(objects, file_at(objects, path))),
+        Call::Readdir(path) => names(alloc, objects, file_at(objects, path)),
         Call::Pread(name) => Ok(head(objects, objects.pipe(name.as_str()))),
         Call::Pstat(name) => Ok(size(objects, objects.pipe(name.as_str()))),
         Call::Recv(name) => Ok(message(objects, objects.socket(name.as_str()))),
@@ -110,8 +110,8 @@ fn message(objects: &Objects, found: Option<Id>) -> Payload
 }
 
 /// The listed modules in walk order.
-fn loaded(specs: &SpecList) -> ArrayVec<Loaded, 8>
-    requires { length specs.now ≤ 8 }
+fn loaded(specs: &SpecList) -> ArrayVec<Loaded, MOST_LISTED>
+    requires { length specs.now ≤ MOST_LISTED }
     ensures { result ≡ map spec.loaded specs.now }
 {
     let mut modules = ArrayVec::new();

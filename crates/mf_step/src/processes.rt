@@ -1,28 +1,31 @@
 //! What the calls on processes change.
 ghost use Rattle.std.specs.Prelude.{◌≡◌, ◌<◌, OnOk, OnErr, IsSome};
+ghost use Rattle.mf_objects.specs.declared.limits.TheConstants.{ID_LIMIT};
 ghost use Rattle.mf_item.specs.declared.view.Kind.TheVariants as kinds;
 ghost use Rattle.mf_objects.specs.Changes as change;
 ghost use Rattle.mf_objects.specs.Live.{IsLive, cred_at, is_process, label_at, live_at, live_named};
 ghost use Rattle.mf_objects.specs.declared.entity.What.TheVariants as what;
 ghost use Rattle.mf_plan.specs.Doing.{CanMake};
 ghost use Rattle.mf_plan.specs.Names as names;
-ghost use Rattle.mf_script.specs.WellFormed.{IsName};
+ghost use Rattle.mf_calls.specs.WellFormed.{IsName};
+ghost use Rattle.mf_policy.specs.NewLabels.{new_label};
+ghost use Rattle.mf_policy.specs.declared.labels.Origin.TheVariants.{Maker};
 ghost use Rattle.mf_step.specs.Effect as spec;
-ghost use Rattle.mf_step.specs.Labels as labels;
 
-use crate::label::created_label;
-use mf_elem::LabelValue;
+use mf_elem::{LabelValue, SLOTS};
 use mf_item::Kind;
 use mf_objects::Id;
 use mf_plan::{State, child_name};
+use mf_policy::{Origin, new_label};
 use std::alloc::{AllocError, Global};
 
 /// The label of an entity that the process makes.
-pub(crate) fn label_from(state: &State, maker: Id, kind: Kind) -> [LabelValue; 4]
+pub(crate) fn label_from(state: &State, maker: Id, kind: Kind) -> [LabelValue; SLOTS]
     requires { IsSome (live_at state.now.objects maker) }
-    ensures { result ≡ labels.created_label state.now.specs kind (label_at state.now.objects maker) }
+    ensures { result ≡ new_label state.now.specs kind (Maker (label_at state.now.objects maker)) }
 {
-    created_label(&state.specs, kind, &state.objects.label(maker))
+    let origin = Origin::Maker(state.objects.label(maker));
+    new_label(&state.specs, kind, &origin)
 }
 
 /// Makes the task's child of that name, with the caller's credential. If memory runs out, the state is unchanged.
@@ -37,7 +40,7 @@ pub(crate) fn fork(
     requires child { IsName child.now }
     requires caller { IsLive is_process state.old.objects caller }
     requires can { CanMake state.old.objects (live_named is_process state.old.objects (names.child_name task.now child.now)) }
-    requires next { state.old.objects.next < 4294967295 }
+    requires next { state.old.objects.next < ID_LIMIT }
     ensures ok { OnOk result (state.new
         ≡ spec.with_created state.old caller kinds.Process (names.child_name task.now child.now) (what.Process (cred_at state.old.objects caller))) }
     ensures err { OnErr result (state.new ≡ state.old) }

@@ -1,2 +1,3 @@
-pub mod Saturation
+pub mod Appending
+pub mod Numerals
 pub mod Unescaping

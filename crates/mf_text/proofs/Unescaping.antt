@@ -5,7 +5,7 @@ use Rattle.std.proofs.lemmas.Bool.{lt-ltb}
 use Rattle.std.proofs.lemmas.Str.{digit_value-digit_char}
 use Rattle.std.specs.Char.{digit_value, digit_char}
 use Rattle.std.specs.List.{flat_map, AllByRecursion}
-use Rattle.mf_text.specs.Escape.{bytes_from, bytes_of, with_first, canonical, canonical_byte, is_plain}
+use Rattle.mf_text.specs.Escape.{bytes_from, bytes_of, with_first, escaped, escaped_byte, is_literal}
 
 -- the bytes in front of those that were read behind them
 abbrev pub behind : List ℕ → Result (List ℕ) ℕ → Result (List ℕ) ℕ
@@ -49,24 +49,24 @@ escaped_read place byte rest fits =
     ∙ ap (λ n. with_first (byte / 16 * 16 + n) (bytes_from (place + 3) rest)) low
     ∙ ap (λ n. with_first n (bytes_from (place + 3) rest)) (nibbles byte)
 
-not_backslash : (byte : ℕ) → is_plain byte ≡ true → byte ≢ 92
+not_backslash : (byte : ℕ) → is_literal byte ≡ true → byte ≢ 92
 not_backslash byte plain = grind (arith, nat_tests)
 
--- the canonical text of a byte stands for it
-canonical_byte_read : (place byte : ℕ) (rest : List ℕ) → byte < 256 → (next : ℕ) × (bytes_from place (canonical_byte byte ++ rest) ≡ with_first byte (bytes_from next rest))
-canonical_byte_read place byte rest fits =
-    elim (is_plain byte) as (λ plain. is_plain byte ≡ plain → (next : ℕ) × (bytes_from place (cond plain (byte ∷ []) (92 ∷ digit_char (byte / 16) ∷ digit_char (byte % 16) ∷ []) ++ rest) ≡ with_first byte (bytes_from next rest))) [
+-- the escaped text of a byte stands for it
+escaped_byte_read : (place byte : ℕ) (rest : List ℕ) → byte < 256 → (next : ℕ) × (bytes_from place (escaped_byte byte ++ rest) ≡ with_first byte (bytes_from next rest))
+escaped_byte_read place byte rest fits =
+    elim (is_literal byte) as (λ plain. is_literal byte ≡ plain → (next : ℕ) × (bytes_from place (cond plain (byte ∷ []) (92 ∷ digit_char (byte / 16) ∷ digit_char (byte % 16) ∷ []) ++ rest) ≡ with_first byte (bytes_from next rest))) [
       | true ↦ λ plain. (place + 1, plain_read place byte rest (not_backslash byte plain))
       | false ↦ λ plain. (place + 3, escaped_read place byte rest fits)
     ] refl
 
-canonical_read : (place : ℕ) (bytes : List ℕ) → AllByRecursion (λ byte. byte < 256) bytes → bytes_from place (flat_map canonical_byte bytes) ≡ Ok bytes
+all_escaped_read : (place : ℕ) (bytes : List ℕ) → AllByRecursion (λ byte. byte < 256) bytes → bytes_from place (flat_map escaped_byte bytes) ≡ Ok bytes
 unfolding bytes_from
-canonical_read place [] fit = refl
-canonical_read place (byte ∷ bytes) fit =
-    let first = canonical_byte_read place byte (flat_map canonical_byte bytes) fit.0 in
-    first.1 ∙ ap (with_first byte) (canonical_read first.0 bytes fit.1)
+all_escaped_read place [] fit = refl
+all_escaped_read place (byte ∷ bytes) fit =
+    let first = escaped_byte_read place byte (flat_map escaped_byte bytes) fit.0 in
+    first.1 ∙ ap (with_first byte) (all_escaped_read first.0 bytes fit.1)
 
-pub canonical_stands : (bytes : List ℕ) → AllByRecursion (λ byte. byte < 256) bytes → bytes_of (canonical bytes) ≡ Ok bytes
-unfolding canonical
-canonical_stands bytes fit = canonical_read 0 bytes fit
+pub escaped_stands : (bytes : List ℕ) → AllByRecursion (λ byte. byte < 256) bytes → bytes_of (escaped bytes) ≡ Ok bytes
+unfolding escaped
+escaped_stands bytes fit = all_escaped_read 0 bytes fit

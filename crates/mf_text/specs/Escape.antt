@@ -6,16 +6,16 @@ use Rattle.mf_text.specs.declared.escapes.TextFault.{TextFault}
 use Rattle.mf_text.specs.declared.escapes.TextFault.TheVariants.{BadEscape, Memory}
 
 -- the printable bytes of ASCII from `!` to `~` stand for themselves, but for the backslash
-abbrev pub is_plain : ℕ → Bool
-is_plain byte = nat_le 33 byte && nat_le byte 126 && not (byte == 92)
+abbrev pub is_literal : ℕ → Bool
+is_literal byte = nat_le 33 byte && nat_le byte 126 && not (byte == 92)
 
--- the canonical text of one byte: itself, or a backslash and two hexadecimal digits in lower case
-abbrev pub canonical_byte : ℕ → List ℕ
-canonical_byte byte = if is_plain byte then byte ∷ [] else 92 ∷ digit_char (byte / 16) ∷ digit_char (byte % 16) ∷ []
+-- the escaped text of one byte: itself, or a backslash and two hexadecimal digits in lower case
+abbrev pub escaped_byte : ℕ → List ℕ
+escaped_byte byte = if is_literal byte then byte ∷ [] else 92 ∷ digit_char (byte / 16) ∷ digit_char (byte % 16) ∷ []
 
--- the canonical text of bytes
-unfoldable pub canonical : List ℕ → List ℕ
-canonical bytes = flat_map canonical_byte bytes
+-- the escaped text of bytes
+unfoldable pub escaped : List ℕ → List ℕ
+escaped bytes = flat_map escaped_byte bytes
 
 -- the byte in front of those that the rest stands for
 abbrev pub with_first : ℕ → Result (List ℕ) ℕ → Result (List ℕ) ℕ
@@ -51,6 +51,6 @@ abbrev pub IsFaultOf : TextFault → Result (List ℕ) ℕ → Type 0
 IsFaultOf (BadEscape place) read = read ≡ Err place
 IsFaultOf Memory read = Unit {0}
 
--- What is read of the canonical text of bytes are these bytes.
-abbrev pub CanonicalTextStandsForItsBytes : Type 0
-CanonicalTextStandsForItsBytes = (bytes : List ℕ) → AllByRecursion (λ byte. byte < 256) bytes → bytes_of (canonical bytes) ≡ Ok bytes
+-- What the escaped text of bytes stands for are these bytes.
+abbrev pub EscapedTextStandsForItsBytes : Type 0
+EscapedTextStandsForItsBytes = (bytes : List ℕ) → AllByRecursion (λ byte. byte < 256) bytes → bytes_of (escaped bytes) ≡ Ok bytes

@@ -1,7 +1,8 @@
 //! Texts that stand for bytes, with an escape for each byte that isn't printable.
 ghost use Rattle.std.specs.Prelude.{◌≡◌, ◌≢◌, ℕ, ◌+◌, ◌-◌, ◌<◌, ◌++◌, [], ◌∷◌, length, Ok, Err, MatchOption, MatchResult, IfOk, IfErr, IfSome, OnOk, OnErr, string_bytes};
 ghost use Rattle.std.specs.Char.{digit_char};
-ghost use Rattle.mf_text.specs.Escape.{canonical, canonical_byte, is_plain, bytes_of, BeginsWithBadEscape, StandsForByteThen, IsFaultOf, CanonicalTextStandsForItsBytes};
+ghost use Rattle.mf_text.specs.Appending.{Extends};
+ghost use Rattle.mf_text.specs.Escape.{escaped, escaped_byte, is_literal, bytes_of, BeginsWithBadEscape, StandsForByteThen, IsFaultOf, EscapedTextStandsForItsBytes};
 ghost use Rattle.mf_text.specs.declared.escapes.TextFault.TheVariants.{Memory};
 
 use std::alloc::{AllocError, AllocFailed, Global};
@@ -88,32 +89,37 @@ fn split_escape(text: &[u8]) -> Option<(u8, &[u8])>
     Some(((high * 16 + low) as u8, rest))
 }
 
-/// Appends the canonical text of the bytes: the printable bytes of ASCII but the backslash as themselves, each other
+/// Appends the escaped text of the bytes: the printable bytes of ASCII but the backslash as themselves, each other
 /// byte, the blank too, as a backslash and two hexadecimal digits in lower case. If memory runs out, `out` is
 /// unchanged.
-pub fn escape(alloc: Global, bytes: &[u8], out: &mut String) -> Result<(), AllocError>
-    ensures ok { OnOk result (string_bytes out.new ≡ string_bytes out.old ++ canonical bytes.now) }
+pub fn escape(bytes: &[u8], out: &mut String) -> Result<(), AllocError>
+    ensures ok { OnOk result (string_bytes out.new ≡ string_bytes out.old ++ escaped bytes.now) }
     ensures err { OnErr result (string_bytes out.new ≡ string_bytes out.old) }
 {
-    let text = escaped(alloc, bytes)?;
-    out.push_str(text.as_str())
+    let length = out.len();
+    let appended = push_all_escaped(bytes, out);
+    if appended.is_err() {
+        out.truncate(length);
+    }
+    appended
 }
 
-#[tactic(auto, unfolding(crate::specs::Escape::canonical))]
-fn escaped(alloc: Global, bytes: &[u8]) -> Result<String, AllocError>
-    ensures { IfOk result (λ text. string_bytes text ≡ canonical bytes.now) }
+#[tactic(auto, unfolding(crate::specs::Escape::escaped))]
+fn push_all_escaped(bytes: &[u8], out: &mut String) -> Result<(), AllocError>
+    ensures ok { OnOk result (string_bytes out.new ≡ string_bytes out.old ++ escaped bytes.now) }
+    ensures err { OnErr result (Extends (string_bytes out.old) (string_bytes out.new)) }
 {
-    let mut text = String::new(alloc);
     for byte in bytes {
-        push_escaped(*byte, &mut text)?;
+        push_escaped(*byte, out)?;
     }
-    Ok(text)
+    Ok(())
 }
 
 fn push_escaped(byte: u8, out: &mut String) -> Result<(), AllocError>
-    ensures { OnOk result (string_bytes out.new ≡ string_bytes out.old ++ canonical_byte byte) }
+    ensures ok { OnOk result (string_bytes out.new ≡ string_bytes out.old ++ escaped_byte byte) }
+    ensures err { OnErr result (Extends (string_bytes out.old) (string_bytes out.new)) }
 {
-    if is_plain(byte) {
+    if is_literal(byte) {
         return out.push(char::from(byte));
     }
     out.push('\\')?;
@@ -121,10 +127,10 @@ fn push_escaped(byte: u8, out: &mut String) -> Result<(), AllocError>
     out.push(hexadecimal_digit(byte % 16))
 }
 
-fn is_plain(byte: u8) -> bool
-    ensures { result ≡ is_plain byte }
+fn is_literal(byte: u8) -> bool
+    ensures { result ≡ is_literal byte }
 {
-    33 <= byte && byte <= 126 && byte != BACKSLASH
+    byte.is_ascii_graphic() && byte != BACKSLASH
 }
 
 fn hexadecimal_digit(value: u8) -> char
@@ -132,16 +138,12 @@ fn hexadecimal_digit(value: u8) -> char
     ensures digit { result ≡ digit_char value }
     ensures ascii { result < 128 }
 {
-    char::from(if value < 10 {
-        b'0' + value
-    } else {
-        b'a' + value - 10
-    })
+    char::from_digit(u32::from(value), 16).unwrap()
 }
 
 /// Unescaping the text that `escape` writes gives the bytes that it was written from.
 pub fn escape_and_back()
-    ensures { CanonicalTextStandsForItsBytes }
+    ensures { EscapedTextStandsForItsBytes }
 {}
 
 #[cfg(test)]
@@ -149,10 +151,10 @@ mod tests {
     use super::*;
 
     #[test]
-    fn bytes_and_their_canonical_text(rt: HostRuntime) -> Result<(), TextFault> {
+    fn bytes_and_their_escaped_text(rt: HostRuntime) -> Result<(), TextFault> {
         let bytes = [97, 32, 92, 0, 255];
         let mut text = String::from_str(rt.alloc(), "text ")?;
-        escape(rt.alloc(), &bytes, &mut text)?;
+        escape(&bytes, &mut text)?;
         assert!(rt; text.as_str() == "text a\\20\\5c\\00\\ff");
         let read = unescape(rt.alloc(), "a\\20\\5C\\00\\fF")?;
         assert!(rt; read.as_slice() == bytes.as_slice());

@@ -5,4 +5,4 @@ mod escapes;
 mod number;
 
 pub use escapes::{TextFault, escape, unescape, unescape_bytes};
-pub use number::{NumberFault, read_number, read_number_bytes, read_octal, read_octal_bytes};
+pub use number::{NumberFault, print_number, read_number, read_octal};

@@ -1,12 +1,13 @@
 //! Numbers in decimal or octal digits.
-ghost use Rattle.std.specs.Prelude.{◌≡◌, ◌<◌, ◌≤◌, true, not, min, IfOk};
+ghost use Rattle.std.specs.Prelude.{◌≡◌, ◌≢◌, ◌≤◌, ◌^◌, ◌++◌, [], not, IfOk, OnOk, OnErr, MatchOption, string_bytes};
 ghost use Rattle.std.specs.List.{position};
-ghost use Rattle.std.specs.Char.{is_digit, digit_value};
+ghost use Rattle.std.specs.Char.{is_digit};
+ghost use Rattle.std.specs.Fmt.{decimal};
 ghost use Rattle.std.specs.Str.Parse.{digits_value};
-ghost use Rattle.mf_text.specs.Number.{number_in, within};
+ghost use Rattle.mf_text.specs.Number.{number_in};
 
-/// Greater than every `u32`: a value that saturates here is out of every range.
-const CEILING: u64 = 1 << 32;
+use itoa::Buffer;
+use std::alloc::AllocError;
 
 /// What is wrong with the text of a number.
 #[derive(Clone, Copy, Debug, PartialEq, Eq)]
@@ -24,14 +25,6 @@ pub fn read_number(text: &str, least: u32, greatest: u32) -> Result<u32, NumberF
     ensures value { result ≡ number_in 10 least greatest text.now }
     ensures within { IfOk result (λ value. (least ≤ value) × (value ≤ greatest)) }
 {
-    read_in_base(text.as_bytes(), 10, least, greatest)
-}
-
-/// The same as `read_number` for the bytes of a text.
-pub fn read_number_bytes(text: &[u8], least: u32, greatest: u32) -> Result<u32, NumberFault>
-    ensures value { result ≡ number_in 10 least greatest text.now }
-    ensures within { IfOk result (λ value. (least ≤ value) × (value ≤ greatest)) }
-{
     read_in_base(text, 10, least, greatest)
 }
 
@@ -40,19 +33,11 @@ pub fn read_octal(text: &str, greatest: u32) -> Result<u32, NumberFault>
     ensures value { result ≡ number_in 8 0 greatest text.now }
     ensures within { IfOk result (λ value. value ≤ greatest) }
 {
-    read_in_base(text.as_bytes(), 8, 0, greatest)
-}
-
-/// The same as `read_octal` for the bytes of a text.
-pub fn read_octal_bytes(text: &[u8], greatest: u32) -> Result<u32, NumberFault>
-    ensures value { result ≡ number_in 8 0 greatest text.now }
-    ensures within { IfOk result (λ value. value ≤ greatest) }
-{
     read_in_base(text, 8, 0, greatest)
 }
 
 #[tactic(auto, unfolding(crate::specs::Number::number_in))]
-fn read_in_base(text: &[u8], base: u32, least: u32, greatest: u32) -> Result<u32, NumberFault>
+fn read_in_base(text: &str, base: u32, least: u32, greatest: u32) -> Result<u32, NumberFault>
     requires lower { 2 ≤ base }
     requires upper { base ≤ 10 }
     ensures value { result ≡ number_in base least greatest text.now }
@@ -61,9 +46,12 @@ fn read_in_base(text: &[u8], base: u32, least: u32, greatest: u32) -> Result<u32
     if text.is_empty() {
         return Err(NumberFault::Empty);
     }
-    match first_other(text, base) {
+    match first_other(text.as_bytes(), base) {
         Some(place) => Err(NumberFault::NotDigit(place)),
-        None => value_within(saturated_value(text, base), least, greatest),
+        None => match value_of(text, base) {
+            Some(value) if least <= value && value <= greatest => Ok(value),
+            _ => Err(NumberFault::OutOfRange),
+        },
     }
 }
 
@@ -84,38 +72,23 @@ fn first_other(text: &[u8], base: u32) -> Option<usize>
     text.iter().position(|byte| !is_digit(*byte, base))
 }
 
-/// The value of the digits, saturated at `CEILING`.
-fn saturated_value(digits: &[u8], base: u32) -> u64
+/// The value of a text of digits. None where it has more than 32 bits.
+fn value_of(digits: &str, base: u32) -> Option<u32>
     requires lower { 2 ≤ base }
     requires upper { base ≤ 10 }
+    requires some { digits.now ≢ [] }
     requires digits { position (λ byte. not (is_digit byte base)) digits.now ≡ None }
-    ensures { result ≡ min (digits_value base digits.now) CEILING }
+    ensures { MatchOption result (2 ^ 32 ≤ digits_value base digits.now) (λ value. value ≡ digits_value base digits.now) }
 {
-    let mut value = 0;
-    for digit in digits {
-        value = (value * u64::from(base) + digit_value(*digit, base)).min(CEILING);
-    }
-    value
+    u32::from_str_radix(digits, base).ok()
 }
 
-fn digit_value(byte: u8, base: u32) -> u64
-    requires lower { 2 ≤ base }
-    requires upper { base ≤ 10 }
-    ensures value { is_digit byte base ≡ true → result ≡ digit_value byte }
-    ensures small { result < 10 }
+/// Appends the number in decimal digits, without leading zeros. If memory runs out, `out` is unchanged.
+pub fn print_number(number: u64, out: &mut String) -> Result<(), AllocError>
+    ensures ok { OnOk result (string_bytes out.new ≡ string_bytes out.old ++ decimal number) }
+    ensures err { OnErr result (string_bytes out.new ≡ string_bytes out.old) }
 {
-    u64::from(char::from(byte).to_digit(base).unwrap_or(0))
-}
-
-fn value_within(value: u64, least: u32, greatest: u32) -> Result<u32, NumberFault>
-    ensures value { result ≡ within least greatest value }
-    ensures within { IfOk result (λ value. (least ≤ value) × (value ≤ greatest)) }
-{
-    if u64::from(least) <= value && value <= u64::from(greatest) {
-        Ok(value as u32)
-    } else {
-        Err(NumberFault::OutOfRange)
-    }
+    out.push_str(Buffer::new().format(number))
 }
 
 #[cfg(test)]
@@ -138,13 +111,21 @@ mod tests {
             assert!(rt; read_number(text, 0, 65535) == *answer);
         }
         assert!(rt; read_number("0", 1, 256) == Err(NumberFault::OutOfRange));
-        assert!(rt; read_number_bytes(b"256", 1, 256) == Ok(256));
+        assert!(rt; read_number("256", 1, 256) == Ok(256));
+    }
+
+    #[test]
+    fn numbers_in_decimal_digits(rt: HostRuntime) -> Result<(), AllocError> {
+        let mut out = String::from_str(rt.alloc(), "uid ")?;
+        print_number(4294967295, &mut out)?;
+        assert!(rt; out.as_str() == "uid 4294967295");
+        Ok(())
     }
 
     #[test]
     fn octal_numbers(rt: HostRuntime) {
         assert!(rt; read_octal("00755", 4095) == Ok(493));
         assert!(rt; read_octal("08", 4095) == Err(NumberFault::NotDigit(1)));
-        assert!(rt; read_octal_bytes(b"10000", 4095) == Err(NumberFault::OutOfRange));
+        assert!(rt; read_octal("10000", 4095) == Err(NumberFault::OutOfRange));
     }
 }

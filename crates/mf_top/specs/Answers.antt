@@ -1,6 +1,6 @@
 -- What the program may return and write, and why.
 use Rattle.std.specs.Prelude.{◌≡◌, ◌⊎◌, ℕ, ◌≤◌, List, [], ◌∷◌, ◌++◌, length, Some, Option, None, IfSome, IsSomeAnd, Result, Ok, Err, codes}
-use Rattle.mf_script.specs.declared.script.Script.{Script}
+use Rattle.mf_calls.specs.declared.script.Script.{Script}
 use Rattle.mf_script.specs.declared.error.ScriptError.TheVariants as script_error
 use Rattle.mf_script.specs.Grammar.{script_of}
 use Rattle.mf_core.specs.declared.history.History.{History}
@@ -14,7 +14,8 @@ use Rattle.mf_top.specs.declared.command.Command.{Command}
 use Rattle.mf_top.specs.declared.command.Command.TheVariants as command
 use Rattle.mf_top.specs.Commands.{command_of}
 use Rattle.mf_io.specs.Outside.{Seen, FaultsRose, HadNoFault, Took, TookPart}
-use Rattle.mf_top.specs.Reading.{IsTooLong, most_script}
+use Rattle.mf_top.specs.Reading.{IsTooLong}
+use Rattle.mf_names.specs.declared.limits.TheConstants.{SCRIPT_LIMIT}
 use Rattle.mf_hist.specs.HistoryText.{history_text}
 use Rattle.mf_load.specs.Summary.{load_summary}
 
@@ -27,7 +28,7 @@ IsRunOf s text =
 
 -- the bytes are a script and no more than one may have, and the text is that of a legal and complete history of it
 abbrev pub IsRunText : List ℕ → List ℕ → Type 0
-IsRunText bytes text = (length bytes ≤ most_script) × (s : Script) × (script_of bytes ≡ Ok s) × IsRunOf s text
+IsRunText bytes text = (length bytes ≤ SCRIPT_LIMIT) × (s : Script) × (script_of bytes ≡ Ok s) × IsRunOf s text
 
 -- Where the bytes of source and sink are known: the source held a script to its end, and the sink took the text of one
 -- history that is legal and complete for it, and nothing else.
@@ -50,7 +51,7 @@ abbrev pub IsRunOutcome : Seen → Result (List ℕ) Refusal → Type 0
 IsRunOutcome source (Ok text) = HadNoFault source × IfSome source.before (λ bytes. IsRunText bytes text × (source.after ≡ Some []))
 IsRunOutcome source (Err refusal.Usage) = ⊥
 IsRunOutcome source (Err refusal.NotYet) = HadNoFault source
-    × IfSome source.before (λ bytes. (length bytes ≤ most_script) × (script_of bytes ≡ Err script_error.NotYet) × (source.after ≡ Some []))
+    × IfSome source.before (λ bytes. (length bytes ≤ SCRIPT_LIMIT) × (script_of bytes ≡ Err script_error.NotYet) × (source.after ≡ Some []))
 IsRunOutcome source (Err refusal.ReadFault) = FaultsRose source
 IsRunOutcome source (Err refusal.TooLong) = HadNoFault source × IsTooLong source.before source.after
 IsRunOutcome source (Err refusal.Memory) = HadNoFault source
@@ -110,7 +111,7 @@ IsWritten sink outcome status =
 -- what the words ask for can be done: the source holds a script, where one is read
 abbrev pub CanBeDone : Option Command → Seen → Type 0
 CanBeDone None source = ⊥
-CanBeDone (Some command.Run) source = IsSomeAnd source.before (λ bytes. (length bytes ≤ most_script) × ((s : Script) × (script_of bytes ≡ Ok s)))
+CanBeDone (Some command.Run) source = IsSomeAnd source.before (λ bytes. (length bytes ≤ SCRIPT_LIMIT) × ((s : Script) × (script_of bytes ≡ Ok s)))
 CanBeDone (Some (command.Gen lines tasks)) source = Unit {0}
 
 -- The right words, known bytes of a script where one is read, and no fault of source or sink.

@@ -1,9 +1,6 @@
 -- What the reader of a whole source has read.
 use Rattle.std.specs.Prelude.{◌≡◌, ℕ, ◌+◌, ◌<◌, List, [], ◌++◌, length, Option, Some, IfSome, IsSomeAnd}
-
--- the most bytes of a script
-abbrev pub most_script : ℕ
-most_script = 1048576
+use Rattle.mf_names.specs.declared.limits.TheConstants.{SCRIPT_LIMIT}
 
 -- where the source's bytes are known: they are these, and all of them are taken
 abbrev pub IsWhole : Option (List ℕ) → Option (List ℕ) → List ℕ → Type 0
@@ -11,7 +8,7 @@ IsWhole before now bytes = IfSome before (λ all. (bytes ≡ all) × (now ≡ So
 
 -- where the source's bytes are known: they are more than a script may have, and one more than that was taken
 abbrev pub IsTooLong : Option (List ℕ) → Option (List ℕ) → Type 0
-IsTooLong before now = IfSome before (λ all. (most_script < length all) × IsSomeAnd now (λ rest. (taken : List ℕ) × (length taken ≡ most_script + 1) × (all ≡ taken ++ rest)))
+IsTooLong before now = IfSome before (λ all. (SCRIPT_LIMIT < length all) × IsSomeAnd now (λ rest. (taken : List ℕ) × (length taken ≡ SCRIPT_LIMIT + 1) × (all ≡ taken ++ rest)))
 
 -- where the source's bytes are known: n of them came behind those so far, and none only at the end
 abbrev pub GaveOn : Option (List ℕ) → Option (List ℕ) → List ℕ → List ℕ → ℕ → Type 0

@@ -2,13 +2,12 @@
 ghost use Rattle.std.specs.Prelude.{◌≡◌, ◌<◌, ◌≤◌, ◌+◌, length, IfOk, IsErrOf};
 ghost use Rattle.mf_top.specs.declared.read.ReadError.TheVariants.{Memory, Failed as ReadFailed};
 ghost use Rattle.mf_io.specs.Outside.{HasRisen, Gave};
-ghost use Rattle.mf_top.specs.Reading.{IsWhole, IsTooLong, GaveOn, most_script};
+ghost use Rattle.mf_top.specs.Reading.{IsWhole, IsTooLong, GaveOn};
+ghost use Rattle.mf_names.specs.declared.limits.TheConstants.{SCRIPT_LIMIT};
 
 use mf_io::{Failed, Source};
+use mf_names::SCRIPT_LIMIT;
 use std::alloc::{AllocError, Global};
-
-/// The most bytes of a script.
-pub const MOST_SCRIPT: usize = 1048576;
 
 /// Why a source was not read to its end.
 #[derive(Clone, Copy, Debug, PartialEq, Eq)]
@@ -40,14 +39,14 @@ impl From<Failed> for ReadError {
 /// All that the source holds, to its end. It asks for at most one byte more than a script may have.
 pub fn read_all<S: Source>(alloc: Global, source: &mut S) -> Result<Vec<u8>, ReadError>
     ensures whole { IfOk result (λ bytes. IsWhole (S.left source.old) (S.left source.new) bytes.items) }
-    ensures most { IfOk result (λ bytes. length bytes.items ≤ most_script) }
+    ensures most { IfOk result (λ bytes. length bytes.items ≤ SCRIPT_LIMIT) }
     ensures quiet { ¬ IsErrOf result ReadError.Failed → S.faults source.new ≡ S.faults source.old }
     ensures failed { IsErrOf result ReadError.Failed → HasRisen (S.faults source.old) (S.faults source.new) }
     ensures too_long { IsErrOf result ReadError.TooLong → IsTooLong (S.left source.old) (S.left source.new) }
 {
     let mut bytes = Vec::new(alloc);
-    while bytes.len() <= MOST_SCRIPT {
-        let room = MOST_SCRIPT + 1 - bytes.len();
+    while bytes.len() <= SCRIPT_LIMIT {
+        let room = SCRIPT_LIMIT + 1 - bytes.len();
         if read_some(source, &mut bytes, room)? == 0 {
             return Ok(bytes);
         }

@@ -2,7 +2,8 @@
 ghost use Rattle.std.specs.Prelude.{◌≡◌, ◌≤◌, ◌+◌, ℕ, false, length, map, vec_len, ◌↔◌, All, IfOk, IsTrue, string_bytes};
 ghost use Rattle.mf_policy.specs.Modules.{module_of};
 ghost use Rattle.mf_list.specs.Lists.{IsFresh};
-ghost use Rattle.mf_script.specs.WellFormed.{IsWellFormed};
+ghost use Rattle.mf_calls.specs.declared.limits.TheConstants.{LINE_LIMIT, TASK_LIMIT};
+ghost use Rattle.mf_calls.specs.WellFormed.{IsWellFormed};
 ghost use Rattle.mf_core.specs.declared.progress.Turn.TheVariants as turn;
 ghost use Rattle.mf_core.specs.Policies.{AreAllModules};
 ghost use Rattle.mf_core.specs.Run.{all_lines, done_of, open_of};
@@ -11,6 +12,7 @@ ghost use Rattle.mf_load.specs.Summary.{load_summary};
 ghost use Rattle.mf_top.specs.Answers.{IsRunOf};
 ghost use Rattle.mf_top.specs.Passes.{HaveAll, IsBack, IsLine, IsSameTicket, WentOn};
 
+use mf_calls::{Script, generate};
 use mf_core::{Commit, Core, Turn};
 use mf_flow::{print_sources, sources};
 use mf_hist::print_history;
@@ -18,7 +20,6 @@ use mf_io::Gate;
 use mf_load::{summary_is_settled, summary_text};
 use mf_plan::Plan;
 use mf_policy::Policy;
-use mf_script::{Script, generate};
 use mf_share::{Job, Kernel, Pass, Ticket};
 use std::alloc::{AllocError, Global};
 use std::marker::Brand;
@@ -44,8 +45,8 @@ pub fn run_script<P: Policy, G: Gate, R: Threads + Wait + Sync>(
     let history = core.history();
     let table = sources(alloc, script, history)?;
     let mut text = String::new(alloc);
-    print_history(alloc, script, history, &mut text)?;
-    print_sources(alloc, &table, &mut text)?;
+    print_history(script, history, &mut text)?;
+    print_sources(&table, &mut text)?;
     Ok(text)
 }
 
@@ -58,8 +59,8 @@ pub fn run_load<P: Policy, G: Gate, R: Threads + Wait + Sync>(
     gate: &G,
     modules: Vec<P>,
 ) -> Result<String, AllocError>
-    requires lines { lines ≤ 4096 }
-    requires tasks { tasks ≤ 16 }
+    requires lines { lines ≤ LINE_LIMIT }
+    requires tasks { tasks ≤ TASK_LIMIT }
     requires modules { AreAllModules (map (λ p. module_of (P.spec p)) modules.items) }
     requires fresh { All (λ p. IsFresh (P.spec p)) modules.items }
     ensures { IfOk result (λ text. string_bytes text ≡ load_summary lines tasks) }

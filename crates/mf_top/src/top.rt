@@ -2,6 +2,7 @@
 ghost use Rattle.std.specs.Prelude.{◌≡◌, ◌≤◌, ◌⊎◌, All, List, ℕ, map, Some, Result, string_bytes};
 ghost use Rattle.mf_policy.specs.Modules.{module_of};
 ghost use Rattle.mf_list.specs.Lists.{IsFresh};
+ghost use Rattle.mf_calls.specs.declared.limits.TheConstants.{LINE_LIMIT, TASK_LIMIT};
 ghost use Rattle.mf_core.specs.Policies.{AreAllModules};
 ghost use Rattle.mf_top.specs.declared.refusal.Refusal.{Refusal};
 ghost use Rattle.mf_io.specs.Outside.{seen};
@@ -92,8 +93,8 @@ fn run_generated<G: Gate, P: Policy, R: Threads + Wait + Sync>(
     gate: &G,
     modules: Vec<P>,
 ) -> Result<String, Refusal>
-    requires lines { lines ≤ 4096 }
-    requires tasks { tasks ≤ 16 }
+    requires lines { lines ≤ LINE_LIMIT }
+    requires tasks { tasks ≤ TASK_LIMIT }
     requires modules { AreAllModules (map (λ p. module_of (P.spec p)) modules.items) }
     requires fresh { All (λ p. IsFresh (P.spec p)) modules.items }
     ensures { IsLoaded lines tasks (bytes_of_outcome result) }

@@ -1,6 +1,6 @@
 //! The calls of a core that do the call of a line: commits of entries, and changes of the policies.
 ghost use Rattle.std.specs.Prelude.{◌≡◌, ◌+◌, ◌<◌, ◌↔◌, length, IfOk, IsTrue, OnErr, Some};
-ghost use Rattle.mf_script.specs.WellFormed.{lines_of};
+ghost use Rattle.mf_calls.specs.WellFormed.{lines_of};
 ghost use Rattle.mf_core.specs.Progress.{progress_at};
 ghost use Rattle.mf_step.specs.Verdict.{verdict_of};
 ghost use Rattle.mf_core.specs.declared.progress.Turn.TheVariants as turn;
@@ -105,9 +105,9 @@ impl<'s> Core<'s> {
         let name = self.script.name_of(task);
         let plan = plan_of(&self.state, name, line.child_name(), &line.call);
         let verdict = Core::walk(list, &plan);
-        let mut numbers = self.state.numbers.copy();
+        let given = self.state.numbers.given();
         let reply = step(alloc, &mut self.state, name, line, &plan, &verdict)?;
-        follow(list, catalogue, &mut numbers, &reply, &line.call);
+        follow(list, catalogue, given, &reply, &line.call);
         self.history
             .events
             .push(Event::Changed(task, lines + 1, reply));

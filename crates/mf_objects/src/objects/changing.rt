@@ -1,6 +1,8 @@
 //! Changes of one entity: its content, its messages, its mode and its label.
 ghost use Rattle.std.specs.Prelude.{◌≡◌, ◌≢◌, ◌≤◌, ◌<◌, [], length, drop, IsSome, IsOk, OnOk, OnErr, slice_index_or};
 ghost use Rattle.mf_elem.specs.declared.label.LabelValue.TheVariants.{Unset};
+ghost use Rattle.mf_names.specs.declared.limits.TheConstants.{SCRIPT_LIMIT};
+ghost use Rattle.mf_elem.specs.declared.label.TheConstants.{SLOTS};
 ghost use Rattle.mf_objects.specs.Head.{head_of};
 ghost use Rattle.mf_objects.specs.Live as live;
 ghost use Rattle.mf_objects.specs.Changes as change;
@@ -8,8 +10,8 @@ ghost use Rattle.mf_objects.specs.Changes as change;
 use super::Objects;
 use crate::head::Head;
 use crate::id::Id;
-use crate::texts::Bytes;
-use mf_elem::LabelValue;
+use mf_elem::{LabelValue, SLOTS};
+use mf_names::Bytes;
 use std::alloc::{AllocError, Global};
 
 impl Objects {
@@ -37,7 +39,7 @@ impl Objects {
     /// Appends a message to those of a socket that has room for it.
     pub fn push_message(&mut self, alloc: Global, id: Id, text: &[u8]) -> Result<(), AllocError>
         requires room { live.IsLiveWhere change.FitsMessage (live.live_at self.old id) }
-        requires fits { length text.now ≤ 1048576 }
+        requires fits { length text.now ≤ SCRIPT_LIMIT }
         ensures ok { OnOk result (self.new
             ≡ change.with_change (change.with_what (change.with_messages (change.with_message text.now))) self.old id) }
         ensures err { OnErr result (self.new ≡ self.old) }
@@ -73,7 +75,7 @@ impl Objects {
     /// Gives a slot of the entity's label this value, and makes the slot first where it is Unset.
     pub fn set_label(&mut self, id: Id, slot: u8, value: LabelValue) -> Result<(), AllocError>
         requires live { IsSome (live.live_at self.old id) }
-        requires slot { slot < 4 }
+        requires slot { slot < SLOTS }
         requires value { value ≢ Unset }
         ensures ok { OnOk result (self.new ≡ change.with_change (change.with_value slot value) self.old id) }
         ensures made { live.value_at self.old id slot ≢ Unset → IsOk result }
@@ -86,5 +88,17 @@ impl Objects {
             return Ok(());
         }
         self.zones.make(label, slot, value)
+    }
+    /// Gives the slots of the entity's label these values; a slot that is to be Unset is given up. Slots that are made
+    /// already take no memory.
+    pub fn relabel(&mut self, id: Id, values: &[LabelValue; SLOTS]) -> Result<(), AllocError>
+        requires { IsSome (live.live_at self.old id) }
+        ensures ok { OnOk result (self.new ≡ change.with_change (change.with_label values.now) self.old id) }
+        ensures made { live.HasSlotsFor (live.label_at self.old id) values.now → IsOk result }
+        ensures err { OnErr result (self.new ≡ self.old) }
+    {
+        let place = self.place(id);
+        let label = &mut self.entities[place].label;
+        self.zones.relabel(label, values)
     }
 }

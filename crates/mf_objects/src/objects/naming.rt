@@ -1,6 +1,5 @@
 //! Entry names of directories, and titles of entities.
-ghost use Rattle.std.specs.Prelude.{◌≡◌, ◌++◌, IfOk, OnOk, OnErr, IsSome, map, filter, reverse, string_bytes};
-ghost use Rattle.std.specs.List.{};
+ghost use Rattle.std.specs.Prelude.{◌≡◌, ◌++◌, IfOk, OnOk, OnErr, IsSome, map, filter, reverse, codes, string_bytes};
 ghost use Rattle.mf_objects.specs.Live as live;
 ghost use Rattle.mf_objects.specs.Titles as title;
 ghost use Rattle.mf_objects.specs.Sound.{link};
@@ -8,95 +7,136 @@ ghost use Rattle.mf_objects.specs.Sound.{link};
 use super::Objects;
 use crate::entity::{Entity, What};
 use crate::id::Id;
-use crate::texts::{Name, NameList};
+use crate::limits::MOST_NAMES;
+use mf_names::{Name, NameList};
 use std::alloc::{AllocError, Global};
 
-/// The most names that a listing of a directory has.
-pub const MOST_NAMES: usize = 16;
-
 impl Objects {
-    /// The first 16 entry names of a directory in byte order.
+    /// The first entry names of a directory in byte order.
     pub fn names(&self, alloc: Global, dir: Id) -> Result<NameList, AllocError>
         requires { live.IsLive live.is_directory self.now dir }
         ensures value { IfOk result (λ names. names ≡ title.names_at self.now dir) }
         ensures first { IfOk result (λ names. title.IsFirstNames names (title.entry_names dir self.now.live)) }
     {
         let mut names = entry_names(alloc, &self.entities, dir)?;
+        names.sort_unstable();
         names.truncate(MOST_NAMES);
-        Ok(names)
+        listed(alloc, &names)
     }
 
     /// Appends the entity's title: its kind, a colon, and its name or its path. If memory runs out, the text is
     /// unchanged.
-    pub fn title(&self, alloc: Global, id: Id, out: &mut String) -> Result<(), AllocError>
+    pub fn title(&self, id: Id, out: &mut String) -> Result<(), AllocError>
         requires { IsSome (live.live_at self.now id) }
         ensures ok { OnOk result (string_bytes out.new ≡ string_bytes out.old ++ title.title_at self.now id) }
         ensures err { OnErr result (string_bytes out.new ≡ string_bytes out.old) }
     {
-        let path = path(alloc, &self.entities, id)?;
         let entity = self.entity(id);
-        let title = title_of(alloc, path.as_str(), entity)?;
-        out.push_str(title.as_str())
+        let start = out.len();
+        out.push_str(prefix(&entity.what))?;
+        match push_own_name(&self.entities, entity, id, out) {
+            Ok(()) => Ok(()),
+            Err(error) => {
+                out.truncate(start);
+                Err(error)
+            }
+        }
     }
 }
 
-/// The names of a directory's entries in byte order.
-fn entry_names(alloc: Global, entities: &[Entity], dir: Id) -> Result<NameList, AllocError>
-    ensures { IfOk result (λ names. names ≡ title.in_byte_order (map (λ e. e.name) (filter (λ e. live.is_entry dir e.what) entities.now))) }
+/// The names of a directory's entries by rising id.
+fn entry_names<'a>(
+    alloc: Global,
+    entities: &'a [Entity],
+    dir: Id,
+) -> Result<Vec<&'a str>, AllocError>
+    ensures { IfOk result (λ names. map (λ name. name.now) names.items ≡ map (λ e. e.name) (filter (λ e. live.is_entry dir e.what) entities.now)) }
 {
-    let mut names = NameList::new(alloc);
-    let mut place = entities.len();
-    while place > 0 {
-        place -= 1;
-        let entity = &entities[place];
+    let mut names = Vec::new(alloc);
+    for entity in entities {
         if entity.is_entry(dir) {
-            names.insert(Name::from_str(alloc, entity.name.as_str())?)?;
+            names.push(entity.name.as_str())?;
         }
     }
     Ok(names)
 }
 
-/// The path of an id, walking from the newest entity to its directory.
-fn path(alloc: Global, entities: &[Entity], id: Id) -> Result<String, AllocError>
-    ensures { IfOk result (λ text. string_bytes text ≡ title.path_in (reverse (map link entities.now)) id) }
+/// A list of these names.
+fn listed(alloc: Global, names: &[&str]) -> Result<NameList, AllocError>
+    ensures { IfOk result (λ list. list ≡ map (λ name. name.now) names.now) }
+{
+    let mut list = NameList::new(alloc);
+    for name in names {
+        list.push(Name::from_str(alloc, name)?)?;
+    }
+    Ok(list)
+}
+
+/// What the titles of its kind begin with.
+fn prefix(what: &What) -> &'static str
+    ensures { result.now ≡ title.prefix_of what.now }
+{
+    match what {
+        What::Process(_) => "proc:",
+        What::Vnode(_) => "vnode:",
+        What::Pipe(_) => "pipe:",
+        What::Socket(_) => "socket:",
+    }
+}
+
+/// Appends the name of the entity, or its path.
+fn push_own_name(
+    entities: &[Entity],
+    entity: &Entity,
+    id: Id,
+    out: &mut String,
+) -> Result<(), AllocError>
+    ensures ok { OnOk result (string_bytes out.new
+        ≡ string_bytes out.old ++ title.own_name (title.path_in (reverse (map link entities.now)) id) entity.now.name entity.now.what) }
+    ensures err { OnErr result (title.IsAppended (string_bytes out.old) (string_bytes out.new)) }
+{
+    match entity.what {
+        What::Vnode(_) => push_rooted_path(entities, id, out),
+        What::Process(_) | What::Pipe(_) | What::Socket(_) => out.push_str(entity.name.as_str()),
+    }
+}
+
+/// Appends the path of an id, a slash for the root.
+fn push_rooted_path(entities: &[Entity], id: Id, out: &mut String) -> Result<(), AllocError>
+    ensures ok { OnOk result (string_bytes out.new ≡ string_bytes out.old ++ title.rooted_path (title.path_in (reverse (map link entities.now)) id)) }
+    ensures err { OnErr result (title.IsAppended (string_bytes out.old) (string_bytes out.new)) }
+{
+    let start = out.len();
+    push_path(entities, id, out)?;
+    if out.len() == start {
+        return out.push_str("/");
+    }
+    Ok(())
+}
+
+/// Appends the path of an id, walking from the newest entity to its directory.
+fn push_path(entities: &[Entity], id: Id, out: &mut String) -> Result<(), AllocError>
+    ensures ok { OnOk result (string_bytes out.new ≡ string_bytes out.old ++ title.path_in (reverse (map link entities.now)) id) }
+    ensures err { OnErr result (title.IsAppended (string_bytes out.old) (string_bytes out.new)) }
 {
     match entities.split_last() {
-        None => Ok(String::new(alloc)),
+        None => Ok(()),
         Some((entity, older)) if entity.has_id(id) => match entity.what.parent() {
-            None => Ok(String::new(alloc)),
+            None => Ok(()),
             Some(dir) => {
-                let mut text = path(alloc, older, dir)?;
-                text.push_str("/")?;
-                text.push_str(entity.name.as_str())?;
-                Ok(text)
+                push_path(older, dir, out)?;
+                push_component(entity.name.as_str(), out)
             }
         },
-        Some((_, older)) => path(alloc, older, id),
+        Some((_, older)) => push_path(older, id, out),
     }
 }
 
-fn title_of(alloc: Global, path: &str, entity: &Entity) -> Result<String, AllocError>
-    ensures { IfOk result (λ text. string_bytes text ≡ title.title_of path.now entity.now.name entity.now.what) }
+/// Appends a slash and the name.
+fn push_component(name: &str, out: &mut String) -> Result<(), AllocError>
+    ensures ok { OnOk result (string_bytes out.new ≡ string_bytes out.old ++ codes "/" ++ name.now) }
+    ensures err { OnErr result (title.IsAppended (string_bytes out.old) (string_bytes out.new)) }
 {
-    let name = entity.name.as_str();
-    match &entity.what {
-        What::Process(_) => joined(alloc, "proc:", name),
-        What::Vnode(_) => joined(alloc, "vnode:", rooted(path)),
-        What::Pipe(_) => joined(alloc, "pipe:", name),
-        What::Socket(_) => joined(alloc, "socket:", name),
-    }
-}
-
-fn rooted(path: &str) -> &str
-    ensures { result.now ≡ title.rooted_path path.now }
-{
-    if path.is_empty() { "/" } else { path }
-}
-
-fn joined(alloc: Global, kind: &str, name: &str) -> Result<String, AllocError>
-    ensures { IfOk result (λ text. string_bytes text ≡ kind.now ++ name.now) }
-{
-    let mut text = String::from_str(alloc, kind)?;
-    text.push_str(name)?;
-    Ok(text)
+    out.push_str("/")?;
+    out.push_str(name)
 }

@@ -2,6 +2,9 @@
 //! bytes.
 ghost use Rattle.std.specs.Prelude.{◌≡◌, ◌≢◌, ◌≤◌, ◌<◌, length, find, count_by, option_map, nat_le, ◌&&◌, [], false, Some, IsSome, IfSome, IfNone, All, slice_index_or};
 ghost use Rattle.std.specs.Str.{bytes_eq};
+ghost use Rattle.mf_names.specs.declared.limits.TheConstants.{CONTENT_LIMIT};
+ghost use Rattle.mf_objects.specs.declared.limits.TheConstants.{MOST_ENTITIES};
+ghost use Rattle.mf_elem.specs.declared.label.TheConstants.{SLOTS};
 ghost use Rattle.mf_objects.specs.Head.{head_of};
 ghost use Rattle.mf_objects.specs.Live as live;
 ghost use Rattle.mf_objects.specs.Population.{IsPopulation};
@@ -12,14 +15,14 @@ use crate::entity::{Entity, What};
 use crate::head::Head;
 use crate::id::Id;
 use mf_cred::{Cred, FileView};
-use mf_elem::LabelValue;
+use mf_elem::{LabelValue, SLOTS};
 use mf_item::Kind;
 
 impl Objects {
     /// How many entities live. The clause `population` is the invariant of the live entities.
     pub fn live(&self) -> u32
         ensures value { result ≡ length self.now.live }
-        ensures most { result ≤ 1024 }
+        ensures most { result ≤ MOST_ENTITIES }
         ensures population { IsPopulation self.now }
     {
         self.entities.len() as u32
@@ -114,7 +117,7 @@ impl Objects {
     pub fn size(&self, id: Id) -> u32
         requires { IsSome (live.live_at self.now id) }
         ensures value { result ≡ length (live.content_at self.now id) }
-        ensures most { result ≤ 65536 }
+        ensures most { result ≤ CONTENT_LIMIT }
         ensures directory { live.IsLive live.is_directory self.now id → result ≡ 0 }
     {
         self.entity(id).what.content().len() as u32
@@ -140,7 +143,7 @@ impl Objects {
     pub fn count(&self, id: Id) -> u32
         requires { IsSome (live.live_at self.now id) }
         ensures value { result ≡ live.count_at self.now id }
-        ensures most { result ≤ 1024 }
+        ensures most { result ≤ MOST_ENTITIES }
     {
         match &self.entity(id).what {
             What::Socket(socket) => socket.messages.len() as u32,
@@ -151,7 +154,7 @@ impl Objects {
     }
 
     /// The values of the entity's label.
-    pub fn label(&self, id: Id) -> [LabelValue; 4]
+    pub fn label(&self, id: Id) -> [LabelValue; SLOTS]
         requires { IsSome (live.live_at self.now id) }
         ensures { result ≡ live.label_at self.now id }
     {
@@ -168,7 +171,7 @@ impl Objects {
     /// What a slot of the entity's label holds.
     pub fn value(&self, id: Id, slot: u8) -> LabelValue
         requires live { IsSome (live.live_at self.now id) }
-        requires slot { slot < 4 }
+        requires slot { slot < SLOTS }
         ensures { result ≡ live.value_at self.now id slot }
     {
         let place = self.place(id);

@@ -1,5 +1,6 @@
 //! Files, processes, pipes and sockets through their lives.
 use super::*;
+use crate::limits::{ID_LIMIT, MOST_ENTITIES};
 use mf_item::Kind;
 use std::process::Abort;
 use std::test::Fail;
@@ -22,7 +23,7 @@ fn add_file(
         dir: false,
     };
     let root = objects.root();
-    assert!(rt; objects.live() < MOST_ENTITIES && objects.next_id() < u32::MAX);
+    assert!(rt; objects.live() < MOST_ENTITIES && objects.next_id() < ID_LIMIT);
     match objects.child(root, name) {
         Some(id) => Ok(id),
         None => objects.add_vnode(alloc, root, name, &file, b"text", &labelled(1)),
@@ -30,7 +31,7 @@ fn add_file(
 }
 
 fn add_process(rt: &impl Abort, alloc: Global, objects: &mut Objects) -> Result<(), AllocError> {
-    assert!(rt; objects.live() < MOST_ENTITIES && objects.next_id() < u32::MAX);
+    assert!(rt; objects.live() < MOST_ENTITIES && objects.next_id() < ID_LIMIT);
     if objects.process("t").is_none() {
         let t = objects.add_process(alloc, "t", &Cred::default(), &labelled(3))?;
         assert!(rt; objects.kind(t) == Kind::Process && objects.cred(t).uid == 0);
@@ -62,13 +63,13 @@ fn an_exit_takes_its_pipes(rt: HostRuntime) -> Result<(), Fail> {
     let alloc = rt.alloc();
     let mut objects = Objects::new(alloc, &labelled(7))?;
     add_process(&rt, alloc, &mut objects)?;
-    assert!(rt; objects.live() < MOST_ENTITIES && objects.next_id() < u32::MAX);
+    assert!(rt; objects.live() < MOST_ENTITIES && objects.next_id() < ID_LIMIT);
     if let Some(t) = objects.process("t") {
         if objects.pipe("p").is_none() {
             let p = objects.add_pipe(alloc, "p", t, &labelled(3))?;
             assert_eq!(rt; objects.label(p)[0], LabelValue::Number(3));
             let mut title = String::new(alloc);
-            objects.title(alloc, p, &mut title)?;
+            objects.title(p, &mut title)?;
             assert_eq!(rt; title.as_str(), "pipe:p");
         }
     }
@@ -96,7 +97,7 @@ fn the_oldest_message_first(rt: HostRuntime) -> Result<(), Fail> {
     let alloc = rt.alloc();
     let mut objects = Objects::new(alloc, &labelled(7))?;
     add_process(&rt, alloc, &mut objects)?;
-    assert!(rt; objects.live() < MOST_ENTITIES && objects.next_id() < u32::MAX);
+    assert!(rt; objects.live() < MOST_ENTITIES && objects.next_id() < ID_LIMIT);
     if let Some(t) = objects.process("t") {
         if objects.socket("s").is_none() {
             let _s = objects.add_socket(alloc, "s", t, &labelled(3))?;
@@ -112,6 +113,18 @@ fn the_oldest_message_first(rt: HostRuntime) -> Result<(), Fail> {
         assert!(rt; objects.count(s) > 0);
         assert_eq!(rt; objects.pop_message(s).len, 3);
     }
+    Ok(())
+}
+
+#[test]
+fn a_whole_label_at_once(rt: HostRuntime) -> Result<(), Fail> {
+    let unset = LabelValue::Unset;
+    let values = [unset, LabelValue::Number(2), LabelValue::Number(3), unset];
+    let mut objects = Objects::new(rt.alloc(), &labelled(7))?;
+    let root = objects.root();
+    objects.relabel(root, &values)?;
+    let root = objects.root();
+    assert!(rt; objects.label(root) == values);
     Ok(())
 }
 

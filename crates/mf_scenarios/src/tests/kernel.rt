@@ -2,20 +2,22 @@
 ghost use Rattle.std.specs.Prelude.{◌≡◌, ◌+◌, false, All, length, map};
 ghost use Rattle.mf_policy.specs.Modules.{module_of};
 ghost use Rattle.mf_list.specs.Lists.{IsFresh};
-ghost use Rattle.mf_script.specs.WellFormed.{IsWellFormed};
+ghost use Rattle.mf_calls.specs.WellFormed.{IsWellFormed};
 ghost use Rattle.mf_step.specs.Verdict.{verdict_of};
 ghost use Rattle.mf_core.specs.Policies.{AreAllModules};
 ghost use Rattle.mf_top.specs.Passes.{IsSameTicket};
 
 use mf_biba::Biba;
+use mf_calls::Script;
 use mf_core::{Commit, Turn};
 use mf_hist::print_history;
 use mf_list::PolicyList;
 use mf_mls::Mls;
+use mf_names::SCRIPT_LIMIT;
 use mf_partition::Partition;
 use mf_plan::Plan;
 use mf_policy::Policy;
-use mf_script::{Script, read_script};
+use mf_script::read_script;
 use mf_share::{Job, Kernel, Ticket};
 use mf_step::Verdict;
 use std::alloc::{AllocError, Global};
@@ -82,7 +84,7 @@ fn changed_during_a_read<P: Policy, J: Job, B: Ledger, R: Wait + Abort>(
     assert!(rt; matches!(changed, Ok(Commit::Done)));
     assert!(rt; matches!(read, Ok(Commit::Done)));
     let mut text = String::new(alloc);
-    print_history(alloc, script, core.history(), &mut text)?;
+    print_history(script, core.history(), &mut text)?;
     Ok(text)
 }
 
@@ -127,6 +129,7 @@ fn commit_twice<P: Policy, J: Job, B: Ledger, R: Wait>(
 #[test]
 fn a_plan_goes_stale(rt: HostRuntime) -> Result<(), Fail> {
     let alloc = rt.alloc();
+    assert!(rt; CHANGED_DURING_A_READ.len() <= SCRIPT_LIMIT);
     let script = read_script(alloc, CHANGED_DURING_A_READ.as_bytes())?;
     let parts = script.tasks.len() as u64 + 1;
     let mut modules: Vec<Box<dyn Policy + Send + Sync>> = Vec::new(alloc);

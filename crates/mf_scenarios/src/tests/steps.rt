@@ -2,18 +2,20 @@
 ghost use Rattle.std.specs.Prelude.{◌≡◌, All, OnOk, length, map};
 ghost use Rattle.mf_policy.specs.Modules.{module_of};
 ghost use Rattle.mf_list.specs.Lists.{IsFresh};
-ghost use Rattle.mf_script.specs.WellFormed.{IsWellFormed};
+ghost use Rattle.mf_calls.specs.WellFormed.{IsWellFormed};
 ghost use Rattle.mf_core.specs.Policies.{AreAllModules, AreOf};
 ghost use Rattle.mf_core.specs.Run.{specs_of};
 
 use mf_biba::Biba;
+use mf_calls::Script;
 use mf_core::{Commit, Core, Outcome, Turn};
 use mf_list::{Catalogue, PolicyList};
 use mf_mls::Mls;
+use mf_names::SCRIPT_LIMIT;
 use mf_partition::Partition;
 use mf_plan::Plan;
 use mf_policy::Policy;
-use mf_script::{Script, read_script};
+use mf_script::read_script;
 use std::alloc::{AllocError, Global};
 use std::process::Abort;
 use std::test::Fail;
@@ -103,6 +105,7 @@ fn change_during_entry<P: Policy, R: Abort>(
 #[test]
 fn a_change_waits_while_an_entry_is_open(rt: HostRuntime) -> Result<(), Fail> {
     let alloc = rt.alloc();
+    assert!(rt; UNLOADED_DURING_A_READ.len() <= SCRIPT_LIMIT);
     let script = read_script(alloc, UNLOADED_DURING_A_READ.as_bytes())?;
     assert_eq!(rt; script.tasks.len(), 2);
     let mut modules: Vec<Box<dyn Policy + Send + Sync>> = Vec::new(alloc);

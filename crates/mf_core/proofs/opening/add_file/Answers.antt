@@ -1,4 +1,4 @@
-use Rattle.std.proofs.Common.{◌≡◌, ℕ, List, None, ap, sym, ◌∙◌}
+use Rattle.std.proofs.Common.{◌≡◌, None, ap, sym, ◌∙◌}
 use Rattle.mf_plan.specs.declared.target.Target.TheVariants.{Name}
 use Rattle.mf_plan.specs.Path.{walk_along}
 use Rattle.mf_plan.proofs.Walking.{free_name}
@@ -9,6 +9,6 @@ add_vnode-requires-clause-name c =
     let objects = c.args.objects.now in
     let path = c.args.file.now.path in
     let leads : (walk_along objects path).target ≡ Name c.in-Name-default-None.dir None =
-    ap (λ (p : List (List ℕ)). (walk_along objects p).target) (sym c.as_slice.ensures) ∙ sym c.target_of.ensures.value ∙ c.in-Name-default-None.is
+    sym c.target_of.ensures.value ∙ c.in-Name-default-None.is
     ∙ ap (Name c.in-Name-default-None.dir) c.in-Name-default-None.field-1-is in
-    rw (c.last_name-name.ensures, c.as_slice-in-Name-default-None.ensures) (free_name objects path c.in-Name-default-None.dir leads)
+    rw (c.last_name-name.ensures, c.as_slice.ensures.value) (free_name objects path c.in-Name-default-None.dir leads)

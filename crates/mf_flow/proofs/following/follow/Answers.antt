@@ -1,5 +1,5 @@
 use Rattle.std.proofs.Common.{ap, sym, map, List, ℕ, Option, ◌∙◌}
-use Rattle.mf_script.specs.declared.script.Script.{Script}
+use Rattle.mf_calls.specs.declared.script.Script.{Script}
 use Rattle.mf_plan.specs.declared.plan.Plan.{Plan}
 use Rattle.mf_plan.specs.Names.{caller_name}
 use Rattle.mf_plan.specs.Outline.{item_of}

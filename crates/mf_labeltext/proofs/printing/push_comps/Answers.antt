@@ -16,7 +16,7 @@ loop-place-preserved c =
     let place = c.loop-place.place in
     elim c.if-has.branch [
       | then-has+in_ok-push_comp w ↦
-          let pushed = w.in_ok-push_comp.ensures in
+          let pushed = w.in_ok-push_comp.ensures.ok in
           let present = w.if-has.ensures in
           subst (λ separator. Printed test before (string_bytes c.if-has.out) separator (place + 1)) (sym w.separator-is)
           (printed_more test before after (string_bytes c.if-has.out) c.loop-place.separator place c.loop-place.invariant (sym present) (ap string_bytes w.out-is ∙ pushed))
@@ -27,5 +27,5 @@ loop-place-preserved c =
           (printed_not test before after c.loop-place.separator place c.loop-place.invariant (sym absent)))
     ]
 
-pub returns : goal.returns
-returns c = all_printed c.args.comps.now (string_bytes c.args.out.now) (string_bytes c.loop-place.out) c.loop-place.separator c.loop-place.place c.loop-place.invariant (omega arith)
+pub returns-clause-ok : goal.returns-clause-ok
+returns-clause-ok c = all_printed c.args.comps.now (string_bytes c.args.out.now) (string_bytes c.loop-place.out) c.loop-place.separator c.loop-place.place c.loop-place.invariant (omega arith)

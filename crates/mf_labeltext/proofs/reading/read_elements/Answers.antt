@@ -1,5 +1,6 @@
-use Rattle.std.proofs.Common.{◌≡◌, ℕ, ◌+◌, ◌-◌, length, ap, sym, ◌∙◌, arith}
+use Rattle.std.proofs.Common.{◌≡◌, ℕ, ◌+◌, ◌-◌, length, lit<, ap, sym, ◌∙◌, arith}
 use Rattle.mf_labeltext.specs.Reading.{parts, elements_in}
+use Rattle.mf_labeltext.proofs.Cutting.{text_behind}
 use Rattle.mf_labeltext.proofs.ElementsReading.{behind, elements_more, elements_end}
 use Rattle.mf_labeltext.proofs.reading.read_elements.Goals as goal
 
@@ -28,6 +29,7 @@ loop-element-preserved c =
           ∙ sym (elements_more place c.loop-element.request rest element after split.cut)
           ∙ c.loop-element.invariant.read;
       within = omega (arith, split.whole);
+      text = text_behind 44 rest element after (lit< tt) c.loop-element.invariant.text split.cut;
     }
 
 pub returns : goal.returns

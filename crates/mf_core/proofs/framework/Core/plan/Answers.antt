@@ -1,6 +1,6 @@
 use Rattle.std.proofs.Common.{List, length, ap, sym, arith, ◌∙◌}
-use Rattle.mf_script.specs.declared.script.Script.{Script}
-use Rattle.mf_script.specs.WellFormed.{lines_of}
+use Rattle.mf_calls.specs.declared.script.Script.{Script}
+use Rattle.mf_calls.specs.WellFormed.{lines_of}
 use Rattle.mf_core.specs.declared.progress.Progress.{Progress}
 use Rattle.mf_core.specs.Progress.{progress_at}
 use Rattle.mf_core.proofs.Consistency.{entered_below}

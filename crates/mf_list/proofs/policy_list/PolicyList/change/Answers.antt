@@ -4,7 +4,7 @@ use Rattle.mf_list.specs.Held.{IsListedOnce}
 use Rattle.mf_list.specs.Lists.{ListView}
 use Rattle.mf_list.specs.Places.{IsEntryPlace}
 use Rattle.mf_list.specs.Registration.{change_in}
-use Rattle.mf_list.proofs.Counts.{listed_once-meaning}
+use Rattle.mf_list.proofs.Counts.{listed_once-spec}
 use Rattle.mf_list.proofs.Changes.{changed_in, stays_at}
 use Rattle.mf_list.proofs.policy_list.PolicyList.change.Goals as goal
 
@@ -15,7 +15,7 @@ invariant_of-self g c =
     subst (λ (v : ListView). IsEntryPlace c.args.module v.entries c.in-Some.place) (sym c.self.view_is) at in
     let there = stays_at c.args.module c.self.inside.policies.items c.in-Some.place c.index_mut.result.now c.change.new.self here c.index_mut.ensures.value c.change.ensures.registration in
     subst (λ (es : List Entry). IsListedOnce es) (sym (here.written c.change.new.self there))
-    (listed_once-meaning c.args.module c.change.new.self.1 c.self.inside.policies.items c.self.invariant)
+    (listed_once-spec c.args.module c.change.new.self.1 c.self.inside.policies.items c.self.invariant)
 
 pub returns-in-Some-clause-ok : goal.returns-in-Some-clause-ok
 returns-in-Some-clause-ok g c =

@@ -1,30 +1,16 @@
-use Rattle.std.proofs.Common.{◌≡◌, ◌<◌, ℕ, List, [], ◌∷◌, ◌++◌, ◌+◌, length, ap, sym, ◌∙◌, subst, arith, refl}
+use Rattle.std.specs.Prelude.{find}
+use Rattle.std.proofs.Common.{◌≡◌, ◌<◌, ℕ, List, [], ◌∷◌, ◌++◌, ◌+◌, length, ap, sym, ◌∙◌, subst, arith, refl, None}
 use Rattle.std.proofs.lemmas.List.{length-map}
 use Rattle.mf_objects.specs.declared.id.Id.{Id}
 use Rattle.mf_objects.specs.declared.entity.Entity.{Entity}
 use Rattle.mf_objects.specs.Live.{Live, Entities, live_at}
 use Rattle.mf_objects.specs.Changes.{MayJoin, with_entity, made}
-use Rattle.mf_objects.specs.Population.{IsRising, Belongs}
+use Rattle.mf_objects.specs.Population.{IsRising, Belongs, is_namesake}
 use Rattle.mf_objects.specs.Sound.{live_of, seen}
 use Rattle.mf_objects.proofs.Rising.{find_new}
 use Rattle.mf_objects.proofs.Belonging.{joins, joins_bare}
-use Rattle.mf_objects.proofs.Kept.{view, Becomes, same_zones, added, on_err}
+use Rattle.mf_objects.proofs.Kept.{view, Becomes, added}
 use Rattle.mf_objects.proofs.objects.Objects.add.Goals as goal
-
-pub invariant_of-self-in_err-label : goal.invariant_of-self-in_err-label
-invariant_of-self-in_err-label c =
-    let zones = c.self.inside.zones in
-    let es = c.self.inside.entities.items in
-    rw c.reserve.ensures.items (same_zones c.self.inside.next zones c.make_label.new.self es c.self.invariant c.in_err-label.ensures.err).sound
-
-pub returns-in_err-label-clause-err : goal.returns-in_err-label-clause-err
-returns-in_err-label-clause-err c =
-    let zones = c.self.inside.zones in
-    let es = c.self.inside.entities.items in
-    on_err c.from_residual-in_err-label.result (view c.self.inside.next c.make_label.new.self c.reserve.new.self.items ≡ c.args.self.now)
-    (ap (λ (xs : List Entity). view c.self.inside.next c.make_label.new.self xs) c.reserve.ensures.items
-    ∙ (same_zones c.self.inside.next zones c.make_label.new.self es c.self.invariant c.in_err-label.ensures.err).shows
-    ∙ c.self.view_is)
 
 pub invariant_of-self-2 : goal.invariant_of-self-2
 invariant_of-self-2 c =
@@ -35,9 +21,13 @@ invariant_of-self-2 c =
     let four : length c.args.values.now ≡ 4 = omega arith in
     let belongs : Belongs (live_of zones es) c.self.inside.next c.args.what =
     joins (view c.self.inside.next zones es) c.args.what c.self.invariant.population.rising (subst (λ (o : Entities). MayJoin o c.args.what) (sym c.self.view_is) c.requires.joins) in
+    let free : find (is_namesake e.name e.what) (live_of zones es) ≡ None =
+    ap (λ (n : List ℕ). find (is_namesake n c.args.what) (live_of zones es)) (let n = c.in_ok-name.ensures in n)
+    ∙ ap (λ (o : Entities). find (is_namesake c.args.name.now c.args.what) o.live) c.self.view_is
+    ∙ c.requires.name in
     let b : Becomes (c.self.inside.next + 1) c.make_label.new.self (es ++ e ∷ [])
     (record { next = c.self.inside.next + 1; live = live_of zones es ++ record { id = e.id; name = e.name; label = c.args.values.now; what = e.what } ∷ [] }) =
-    added c.self.inside.next zones c.make_label.new.self es e c.args.values.now refl room four c.self.invariant belongs (joins_bare c.args.self.now c.args.what c.requires.joins) c.in_ok-label.ensures.ok in
+    added c.self.inside.next zones c.make_label.new.self es e c.args.values.now refl room four c.self.invariant belongs (joins_bare c.args.self.now c.args.what c.requires.joins) free c.in_ok-label.ensures.ok in
     let pushed : c.push.new.self.items ≡ c.reserve.new.self.items ++ e ∷ [] = rw c.unwrap.ensures at c.push.ensures.items in
     let items : c.push.new.self.items ≡ es ++ e ∷ [] = pushed ∙ ap (λ (xs : List Entity). xs ++ e ∷ []) c.reserve.ensures.items in
     rw items b.sound
@@ -51,9 +41,13 @@ returns-clause-ok c =
     let four : length c.args.values.now ≡ 4 = omega arith in
     let belongs : Belongs (live_of zones es) c.self.inside.next c.args.what =
     joins (view c.self.inside.next zones es) c.args.what c.self.invariant.population.rising (subst (λ (o : Entities). MayJoin o c.args.what) (sym c.self.view_is) c.requires.joins) in
+    let free : find (is_namesake e.name e.what) (live_of zones es) ≡ None =
+    ap (λ (n : List ℕ). find (is_namesake n c.args.what) (live_of zones es)) (let n = c.in_ok-name.ensures in n)
+    ∙ ap (λ (o : Entities). find (is_namesake c.args.name.now c.args.what) o.live) c.self.view_is
+    ∙ c.requires.name in
     let b : Becomes (c.self.inside.next + 1) c.make_label.new.self (es ++ e ∷ [])
     (record { next = c.self.inside.next + 1; live = live_of zones es ++ record { id = e.id; name = e.name; label = c.args.values.now; what = e.what } ∷ [] }) =
-    added c.self.inside.next zones c.make_label.new.self es e c.args.values.now refl room four c.self.invariant belongs (joins_bare c.args.self.now c.args.what c.requires.joins) c.in_ok-label.ensures.ok in
+    added c.self.inside.next zones c.make_label.new.self es e c.args.values.now refl room four c.self.invariant belongs (joins_bare c.args.self.now c.args.what c.requires.joins) free c.in_ok-label.ensures.ok in
     let pushed : c.push.new.self.items ≡ c.reserve.new.self.items ++ e ∷ [] = rw c.unwrap.ensures at c.push.ensures.items in
     let items : c.push.new.self.items ≡ es ++ e ∷ [] = pushed ∙ ap (λ (xs : List Entity). xs ++ e ∷ []) c.reserve.ensures.items in
     ap (λ (xs : List Entity). view (c.self.inside.next + 1) c.make_label.new.self xs) items
@@ -70,9 +64,13 @@ returns-clause-found c =
     let four : length c.args.values.now ≡ 4 = omega arith in
     let belongs : Belongs (live_of zones es) c.self.inside.next c.args.what =
     joins (view c.self.inside.next zones es) c.args.what c.self.invariant.population.rising (subst (λ (o : Entities). MayJoin o c.args.what) (sym c.self.view_is) c.requires.joins) in
+    let free : find (is_namesake e.name e.what) (live_of zones es) ≡ None =
+    ap (λ (n : List ℕ). find (is_namesake n c.args.what) (live_of zones es)) (let n = c.in_ok-name.ensures in n)
+    ∙ ap (λ (o : Entities). find (is_namesake c.args.name.now c.args.what) o.live) c.self.view_is
+    ∙ c.requires.name in
     let b : Becomes (c.self.inside.next + 1) c.make_label.new.self (es ++ e ∷ [])
     (record { next = c.self.inside.next + 1; live = live_of zones es ++ record { id = e.id; name = e.name; label = c.args.values.now; what = e.what } ∷ [] }) =
-    added c.self.inside.next zones c.make_label.new.self es e c.args.values.now refl room four c.self.invariant belongs (joins_bare c.args.self.now c.args.what c.requires.joins) c.in_ok-label.ensures.ok in
+    added c.self.inside.next zones c.make_label.new.self es e c.args.values.now refl room four c.self.invariant belongs (joins_bare c.args.self.now c.args.what c.requires.joins) free c.in_ok-label.ensures.ok in
     let pushed : c.push.new.self.items ≡ c.reserve.new.self.items ++ e ∷ [] = rw c.unwrap.ensures at c.push.ensures.items in
     let items : c.push.new.self.items ≡ es ++ e ∷ [] = pushed ∙ ap (λ (xs : List Entity). xs ++ e ∷ []) c.reserve.ensures.items in
     let whole : view (c.self.inside.next + 1) c.make_label.new.self c.push.new.self.items ≡ with_entity c.args.self.now c.args.name.now c.args.values.now c.args.what =

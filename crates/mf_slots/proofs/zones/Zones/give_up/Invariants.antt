@@ -1,4 +1,4 @@
-use Rattle.mf_slots.specs.Zones.{GivesUpBelow}
+use Rattle.mf_slots.proofs.Places.{GivesUpBelow}
 use Rattle.mf_slots.proofs.zones.Zones.give_up.Given as goal
 
 abbrev pub invariant-loop-slot : goal.invariant-loop-slot

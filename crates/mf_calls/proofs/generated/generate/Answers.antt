@@ -1,0 +1,11 @@
+use Rattle.std.proofs.Common.{sym, subst}
+use Rattle.mf_calls.specs.WellFormed.{IsWellFormed}
+use Rattle.mf_calls.proofs.Loads.{generated_formed}
+use Rattle.mf_calls.proofs.LoadSteps.{generated_is}
+use Rattle.mf_calls.proofs.generated.generate.Goals as goal
+
+pub returns-clause-formed : goal.returns-clause-formed
+returns-clause-formed c =
+    subst IsWellFormed
+    (sym (generated_is c.args.lines c.args.tasks c.push.new.self c.in_ok-files.files c.in_ok-tasks.tasks (cc (c.in_ok-push.ensures.ok, c.new-boots.ensures)) c.in_ok-files.ensures c.in_ok-tasks.ensures))
+    (generated_formed c.args.lines c.args.tasks c.requires.lines c.requires.tasks)

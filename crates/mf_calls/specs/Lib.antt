@@ -1,0 +1,5 @@
+pub mod Names
+pub mod Paths
+pub mod Boots
+pub mod WellFormed
+pub mod Generated

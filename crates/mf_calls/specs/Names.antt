@@ -1,0 +1,50 @@
+-- Which texts are names, components of paths, names of processes and words of a line.
+use Rattle.std.specs.Prelude.{◌≡◌, ℕ, ◌≤◌, Bool, true, false, not, ◌&&◌, ◌||◌, ◌==◌, nat_le, List, [], ◌∷◌, length, codes, All}
+use Rattle.std.specs.List.{list_all, slice_split}
+use Rattle.std.specs.Str.{bytes_eq}
+use Rattle.std.specs.Char.{is_ascii_alphanumeric, is_ascii_graphic}
+use Rattle.mf_names.specs.declared.limits.TheConstants.{SCRIPT_LIMIT}
+
+abbrev pub dash : ℕ
+dash = 45
+
+abbrev pub dot : ℕ
+dot = 46
+
+abbrev pub underscore : ℕ
+underscore = 95
+
+abbrev pub is_some_text : List ℕ → Bool
+is_some_text [] = false
+is_some_text (b ∷ bs) = true
+
+abbrev pub is_name_byte : ℕ → Bool
+is_name_byte b = is_ascii_alphanumeric b || b == underscore || b == dash
+
+-- a name is 1 to 32 letters, digits, `_` and `-`
+abbrev pub is_name : List ℕ → Bool
+is_name w = is_some_text w && nat_le (length w) 32 && list_all is_name_byte w
+
+-- a task's name, or a task's and a child's
+abbrev pub are_process_names : List (List ℕ) → Bool
+are_process_names [] = false
+are_process_names (name ∷ []) = is_name name
+are_process_names (name ∷ child ∷ []) = is_name name && is_name child
+are_process_names (name ∷ child ∷ more ∷ rest) = false
+
+-- the full name of a process: that of a task, or a task's, a dot and a child's
+abbrev pub is_process_name : List ℕ → Bool
+is_process_name w = are_process_names (slice_split (λ b. b == dot) w)
+
+abbrev pub is_component_byte : ℕ → Bool
+is_component_byte b = is_name_byte b || b == dot
+
+-- a component of a path is 1 to 32 bytes of names and dots, and neither `.` nor `..`
+abbrev pub is_component : List ℕ → Bool
+is_component w = is_some_text w && nat_le (length w) 32 && list_all is_component_byte w && not (bytes_eq w (codes ".")) && not (bytes_eq w (codes ".."))
+
+-- a word of a line: some printable bytes of ASCII, and no more than a script has
+pub record IsWord (w : List ℕ) : Type 0 where
+  pub some : is_some_text w ≡ true
+  pub each : All (λ b. is_ascii_graphic b ≡ true) w
+  pub few : length w ≤ SCRIPT_LIMIT

@@ -1,0 +1,139 @@
+-- Which scripts are well formed, and what a script says of its files and tasks.
+use Rattle.std.specs.Prelude.{◌≡◌, ◌≢◌, ℕ, ◌<◌, ◌≤◌, Bool, true, false, IsTrue, List, [], ◌∷◌, ◌++◌, length, All, AllPairs}
+use Rattle.std.specs.Prelude.{Option, Some, None, unwrap_or, option_map, slice_get}
+use Rattle.mf_errno.specs.declared.module.Module.{Module}
+use Rattle.mf_item.specs.declared.view.Kind.TheVariants as kinds
+use Rattle.mf_cred.specs.declared.cred.Cred.{Cred}
+use Rattle.mf_calls.specs.declared.script.Call.{Call}
+use Rattle.mf_calls.specs.declared.script.Call.TheVariants as call
+use Rattle.mf_calls.specs.declared.script.FileLine.{FileLine}
+use Rattle.mf_calls.specs.declared.script.Line.{Line}
+use Rattle.mf_calls.specs.declared.script.Task.{Task}
+use Rattle.mf_calls.specs.declared.script.Script.{Script}
+use Rattle.mf_calls.specs.Names.{is_name, is_process_name, is_component, IsWord}
+use Rattle.mf_calls.specs.Paths.{directory_of, has_directory}
+use Rattle.mf_calls.specs.Boots.{AreBoots, IsAsked}
+use Rattle.mf_calls.specs.declared.limits.TheConstants.{FILE_LIMIT, TASK_LIMIT, LINE_LIMIT, MODE_LIMIT, UID_MAX}
+use Rattle.mf_names.specs.declared.limits.TheConstants.{CONTENT_LIMIT, SCRIPT_LIMIT}
+use Rattle.mf_cred.specs.declared.cred.TheConstants.{MOST_GROUPS}
+use Rattle.mf_names.specs.declared.path.TheConstants.{PATH_LIMIT}
+
+-- the lines of a task, where there is one of that number
+abbrev pub lines_of : Script → ℕ → List Line
+lines_of s t = unwrap_or (option_map (λ task. task.lines) (slice_get s.tasks t)) []
+
+-- how many lines a task has
+abbrev pub line_count : Task → ℕ
+line_count task = length task.lines
+
+-- whether the call changes the list of policies, and so isn't an entry
+abbrev pub is_change : Call → Bool
+is_change (call.Kldload name) = true
+is_change (call.Kldunload name) = true
+is_change other = false
+
+-- the name of a task, where there is one of that number
+abbrev pub name_of : Script → ℕ → List ℕ
+name_of s t = unwrap_or (option_map (λ task. task.name) (slice_get s.tasks t)) []
+
+-- up to 8 components, each of which is a word of a path; the root directory has none
+pub record IsPath (path : List (List ℕ)) : Type 0 where
+  pub few : length path ≤ PATH_LIMIT
+  pub each : All (λ name. is_component name ≡ true) path
+
+-- at most so many bytes
+pub record IsText (most : ℕ) (text : List ℕ) : Type 0 where
+  pub few : length text ≤ most
+  pub each : All (λ byte. byte < 256) text
+
+-- A file below the root directory, of which the line may ask what it asks with these modules booted. A directory has no text.
+pub record IsFormedFile (boots : List Module) (f : FileLine) : Type 0 where
+  pub path : IsPath f.path
+  pub below_root : 1 ≤ length f.path
+  pub uid : f.file.uid ≤ UID_MAX
+  pub gid : f.file.gid ≤ UID_MAX
+  pub mode : f.file.mode ≤ MODE_LIMIT
+  pub label : IsAsked kinds.Vnode boots f.label
+  pub text : IsText CONTENT_LIMIT f.text
+  pub directory : f.file.dir ≡ true → f.text ≡ []
+
+-- each file stands in a directory of an earlier line: those that came earlier, and the rest
+abbrev pub AreInDirectories : List FileLine → List FileLine → Type 0
+AreInDirectories earlier [] = Unit {0}
+AreInDirectories earlier (f ∷ files) = IsTrue (has_directory earlier (directory_of f.path)) × AreInDirectories (earlier ++ f ∷ []) files
+
+-- one uid is the effective, the real and the saved one, and there are 1 to 16 groups
+pub record IsFormedCred (cred : Cred) : Type 0 where
+  pub real : cred.ruid ≡ cred.uid
+  pub saved : cred.svuid ≡ cred.uid
+  pub fits : cred.uid ≤ UID_MAX
+  pub some : 1 ≤ length cred.groups
+  pub few : length cred.groups ≤ MOST_GROUPS
+  pub each : All (λ group. group ≤ UID_MAX) cred.groups
+
+-- a name of a task, a child, a pipe or a socket
+abbrev pub IsName : List ℕ → Type 0
+IsName name = is_name name ≡ true
+
+-- the full name of a process
+abbrev pub IsProcessName : List ℕ → Type 0
+IsProcessName name = is_process_name name ≡ true
+
+-- what a call may name, and how much it may write
+abbrev pub IsFormedCall : Call → Type 0
+IsFormedCall (call.Fork child) = IsName child
+IsFormedCall call.Exit = Unit {0}
+IsFormedCall (call.See process) = IsProcessName process
+IsFormedCall (call.Signal process) = IsProcessName process
+IsFormedCall (call.Debug process) = IsProcessName process
+IsFormedCall (call.Sched process) = IsProcessName process
+IsFormedCall (call.Exec path) = IsPath path
+IsFormedCall (call.Create path) = IsPath path
+IsFormedCall (call.Mkdir path) = IsPath path
+IsFormedCall (call.Read path) = IsPath path
+IsFormedCall (call.Write path text) = IsPath path × IsText SCRIPT_LIMIT text
+IsFormedCall (call.Stat path) = IsPath path
+IsFormedCall (call.Readdir path) = IsPath path
+IsFormedCall (call.Chmod path mode) = IsPath path × (mode ≤ MODE_LIMIT)
+IsFormedCall (call.Unlink path) = IsPath path
+IsFormedCall (call.Pipe name) = IsName name
+IsFormedCall (call.Socket name) = IsName name
+IsFormedCall (call.Pread name) = IsName name
+IsFormedCall (call.Pwrite name text) = IsName name × IsText SCRIPT_LIMIT text
+IsFormedCall (call.Pstat name) = IsName name
+IsFormedCall (call.Send from to text) = IsName from × IsName to × IsText SCRIPT_LIMIT text
+IsFormedCall (call.Recv name) = IsName name
+IsFormedCall (call.Seesock name) = IsName name
+IsFormedCall call.Kldstat = Unit {0}
+IsFormedCall (call.Kldload word) = IsWord word
+IsFormedCall (call.Kldunload word) = IsWord word
+
+-- no child, or one of such a name
+abbrev pub IsFormedChild : Option (List ℕ) → Type 0
+IsFormedChild None = Unit {0}
+IsFormedChild (Some child) = IsName child
+
+-- a line that a task may have
+pub record IsFormedLine (line : Line) : Type 0 where
+  pub child : IsFormedChild line.child
+  pub call : IsFormedCall line.call
+
+-- a task that a script may have with these modules booted
+pub record IsFormedTask (boots : List Module) (task : Task) : Type 0 where
+  pub name : IsName task.name
+  pub cred : IsFormedCred task.cred
+  pub label : IsAsked kinds.Process boots task.label
+  pub few : length task.lines ≤ LINE_LIMIT
+  pub lines : All IsFormedLine task.lines
+
+-- The script boots what a boot line may name and is within the limits; paths of files differ, and so do names of tasks; each file and
+-- each task is one that a line may say, and each file stands in the root or in a directory of an earlier line.
+pub record IsWellFormed (s : Script) : Type 0 where
+  pub boots : AreBoots s.boots
+  pub files : length s.files ≤ FILE_LIMIT
+  pub paths : AllPairs (λ f g. f.path ≢ g.path) s.files
+  pub each_file : All (IsFormedFile s.boots) s.files
+  pub directories : AreInDirectories [] s.files
+  pub tasks : length s.tasks ≤ TASK_LIMIT
+  pub names : AllPairs (λ t u. t.name ≢ u.name) s.tasks
+  pub each_task : All (IsFormedTask s.boots) s.tasks

@@ -1,0 +1,46 @@
+//! Which modules a script boots, and what it may ask of their policies.
+ghost use Rattle.std.specs.Prelude.{◌≡◌};
+ghost use Rattle.std.specs.List.{list_all};
+ghost use Rattle.mf_calls.specs.Boots as spec;
+ghost use Rattle.mf_policy.specs.Modules as facts;
+
+use mf_elem::Request;
+use mf_errno::Module;
+use mf_item::Kind;
+use mf_policy::{has_spec, may_ask};
+
+fn is_booted(boots: &[Module], wanted: Module) -> bool
+    ensures { result ≡ spec.is_booted boots.now wanted }
+{
+    boots.iter().any(|booted| wanted.is(*booted))
+}
+
+/// Whether a boot line may name the module after `boots`: its policy is built in, and each module stands at most once.
+pub fn may_boot(boots: &[Module], booted: Module) -> bool
+    ensures { result ≡ spec.may_boot boots.now booted }
+{
+    has_spec(booted) && !is_booted(boots, booted)
+}
+
+/// Whether each policy that the request names is booted.
+fn names_booted(boots: &[Module], request: &Request) -> bool
+    ensures { result ≡ spec.names_booted boots.now request.now }
+{
+    (request.biba.is_none() || is_booted(boots, Module::Biba))
+        && (request.mls.is_none() || is_booted(boots, Module::Mls))
+        && (request.partition.is_none() || is_booted(boots, Module::Partition))
+        && !request.other
+}
+
+fn each_may_be_asked(boots: &[Module], kind: Kind, request: &Request) -> bool
+    ensures { result ≡ list_all (λ booted. facts.may_ask booted kind request.now) boots.now }
+{
+    boots.iter().all(|booted| may_ask(*booted, kind, request))
+}
+
+/// Whether a script that boots these modules may ask this for an entity of that kind.
+pub fn may_ask_for(kind: Kind, boots: &[Module], request: &Request) -> bool
+    ensures { result ≡ spec.may_ask_for kind boots.now request.now }
+{
+    names_booted(boots, request) && each_may_be_asked(boots, kind, request)
+}

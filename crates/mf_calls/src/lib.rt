@@ -1,0 +1,21 @@
+//! What a script says: its types, their limits, which scripts are well formed, and the script of a generated load.
+#![tactic(auto)]
+
+mod boots;
+mod generated;
+mod limits;
+mod names;
+mod paths;
+mod script;
+
+pub use boots::{may_ask_for, may_boot};
+pub use generated::generate;
+pub use limits::{
+    DIRECTORY_MODE, FILE_LIMIT, FILE_MODE, LINE_LIMIT, MODE_LIMIT, TASK_LIMIT, UID_MAX,
+};
+pub use mf_names::{
+    Bytes, CONTENT_LIMIT, Listing, Name, NameList, PATH_LIMIT, Path, SCRIPT_LIMIT, Word,
+};
+pub use names::{is_component, is_name};
+pub use paths::{directory_of, is_same_path};
+pub use script::{Call, FileLine, Line, Script, Task};

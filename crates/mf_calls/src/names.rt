@@ -1,0 +1,48 @@
+//! Names and components of paths.
+ghost use Rattle.std.specs.Prelude.{◌≡◌};
+ghost use Rattle.std.specs.List.{list_all};
+ghost use Rattle.mf_calls.specs.Names.{is_name_byte, is_name, is_component_byte, is_component};
+
+fn is_name_byte(byte: u8) -> bool
+    ensures { result ≡ is_name_byte byte }
+{
+    byte.is_ascii_alphanumeric() || byte == b'_' || byte == b'-'
+}
+
+fn is_component_byte(byte: u8) -> bool
+    ensures { result ≡ is_component_byte byte }
+{
+    is_name_byte(byte) || byte == b'.'
+}
+
+fn are_name_bytes(word: &[u8]) -> bool
+    ensures { result ≡ list_all is_name_byte word.now }
+{
+    word.iter().all(|byte| is_name_byte(*byte))
+}
+
+fn are_component_bytes(word: &[u8]) -> bool
+    ensures { result ≡ list_all is_component_byte word.now }
+{
+    word.iter().all(|byte| is_component_byte(*byte))
+}
+
+/// Whether the word is a name: 1 to 32 letters, digits, `_` and `-`.
+pub fn is_name(word: &str) -> bool
+    ensures { result ≡ is_name word.now }
+{
+    let bytes = word.as_bytes();
+    !bytes.is_empty() && bytes.len() <= 32 && are_name_bytes(bytes)
+}
+
+/// Whether the word is a component of a path: 1 to 32 bytes of names and dots, and neither `.` nor `..`.
+pub fn is_component(word: &str) -> bool
+    ensures { result ≡ is_component word.now }
+{
+    let bytes = word.as_bytes();
+    !bytes.is_empty()
+        && bytes.len() <= 32
+        && are_component_bytes(bytes)
+        && word != "."
+        && word != ".."
+}

@@ -1,0 +1,171 @@
+//! A script, as it was read.
+ghost use Rattle.std.specs.Prelude.{◌≡◌, ◌<◌, length};
+ghost use Rattle.std.specs.Option.{option_copied};
+
+use crate::{CONTENT_LIMIT, SCRIPT_LIMIT};
+use mf_cred::{Cred, FileView};
+use mf_elem::Request;
+use mf_errno::Module;
+use mf_names::{Bytes, Listing, Name, Path, Word};
+
+/// A call of a process. Processes are named by their full names: a task, or a task, a dot and the name that `fork` gave.
+#[derive(Drop)]
+pub enum Call {
+    /// Makes a child process of this name under the task's.
+    Fork(Name),
+    /// Ends the process.
+    Exit,
+    /// Asks whether the process is visible, as p_cansee(9) does.
+    See(Name),
+    /// Asks whether the process may be signalled, as the kernel's `p_cansignal` does.
+    Signal(Name),
+    /// Asks whether the process may be debugged, as p_candebug(9) does.
+    Debug(Name),
+    /// Asks whether the scheduling of the process may be changed, as the kernel's `p_cansched` does.
+    Sched(Name),
+    /// Asks whether the file may be executed. Nothing is run.
+    Exec(Path),
+    /// Makes an empty regular file.
+    Create(Path),
+    /// Makes an empty directory.
+    Mkdir(Path),
+    /// Reads the file.
+    Read(Path),
+    /// Appends the bytes to the file.
+    Write(Path, Bytes<SCRIPT_LIMIT>),
+    /// Reads the attributes of the file or directory.
+    Stat(Path),
+    /// Lists the directory.
+    Readdir(Path),
+    /// Gives the file or directory these mode bits.
+    Chmod(Path, u16),
+    /// Removes the file, or the directory without entries.
+    Unlink(Path),
+    /// Makes a pipe.
+    Pipe(Name),
+    /// Makes a socket.
+    Socket(Name),
+    /// Takes all bytes out of the pipe.
+    Pread(Name),
+    /// Puts the bytes into the pipe.
+    Pwrite(Name, Bytes<SCRIPT_LIMIT>),
+    /// Reads how many bytes the pipe holds.
+    Pstat(Name),
+    /// Sends the bytes as one message from the first socket to the second.
+    Send(Name, Name, Bytes<SCRIPT_LIMIT>),
+    /// Receives the oldest message of the socket.
+    Recv(Name),
+    /// Asks whether the socket is visible.
+    Seesock(Name),
+    /// Lists the loaded modules, as kldstat(8) does.
+    Kldstat,
+    /// Loads the module of that name, as kldload(8) does.
+    Kldload(Word),
+    /// Unloads the module of that name, as kldunload(8) does.
+    Kldunload(Word),
+}
+
+impl Call {
+    ghost use Rattle.mf_calls.specs.WellFormed.{is_change};
+
+    /// Whether the call changes the list of policies, and so isn't an entry.
+    pub fn is_change(&self) -> bool
+        ensures { result ≡ is_change self.now }
+    {
+        matches!(self, Call::Kldload(_) | Call::Kldunload(_))
+    }
+}
+
+/// A line of a task: a call of the task's own process, or of the child of that name.
+#[derive(Drop)]
+pub struct Line {
+    pub child: Option<Name>,
+    pub call: Call,
+}
+
+impl Line {
+    /// The name of the child that makes the call, where it isn't the task's own process.
+    pub fn child_name(&self) -> Option<&str>
+        ensures { option_copied result ≡ self.now.child }
+    {
+        match &self.child {
+            None => None,
+            Some(name) => Some(name.as_str()),
+        }
+    }
+}
+
+/// A task: the name, the credential and the label request of its process, and its lines.
+#[derive(Drop)]
+pub struct Task {
+    pub name: Name,
+    pub cred: Cred,
+    pub label: Request,
+    pub lines: Listing<Line>,
+}
+
+/// A file that is there at boot: its path, its attributes, its label request, and what it holds.
+#[derive(Drop)]
+pub struct FileLine {
+    pub path: Path,
+    pub file: FileView,
+    pub label: Request,
+    pub text: Bytes<CONTENT_LIMIT>,
+}
+
+/// A script: the modules in the order in which they are booted, the files, and the tasks.
+#[derive(Drop)]
+pub struct Script {
+    pub boots: Listing<Module>,
+    pub files: Listing<FileLine>,
+    pub tasks: Listing<Task>,
+}
+
+impl Script {
+    ghost use Rattle.std.specs.Prelude.{slice_get, Some, ◌≤◌};
+    ghost use Rattle.std.specs.List.{sum_by};
+    ghost use Rattle.mf_calls.specs.WellFormed.{IsWellFormed, line_count, lines_of, name_of};
+
+    /// The name of the task of that number, from 0. No text where the script has no such task.
+    pub fn name_of(&self, task: u32) -> &str
+        ensures { result.now ≡ name_of self.now task }
+    {
+        match self.tasks.as_slice().get(task as usize) {
+            None => "",
+            Some(found) => found.name.as_str(),
+        }
+    }
+
+    /// The line of the task at index `lines`, from 0.
+    pub fn line_at(&self, task: u32, lines: u32) -> &Line
+        requires task { task < length self.now.tasks }
+        requires line { lines < length (lines_of self.now task) }
+        ensures { slice_get (lines_of self.now task) lines ≡ Some result.now }
+    {
+        let tasks = self.tasks.as_slice();
+        let lines_of_task = tasks[task as usize].lines.as_slice();
+        &lines_of_task[lines as usize]
+    }
+
+    /// The line of the task at index `lines`, from 0; None past the last line.
+    pub fn next_line(&self, task: u32, lines: u32) -> Option<&Line>
+        requires { task < length self.now.tasks }
+        ensures { option_copied result ≡ slice_get (lines_of self.now task) lines }
+    {
+        let tasks = self.tasks.as_slice();
+        tasks[task as usize].lines.as_slice().get(lines as usize)
+    }
+
+    /// The number of lines of all tasks together.
+    pub fn line_count(&self) -> usize
+        requires { IsWellFormed self.now }
+        ensures value { result ≡ sum_by line_count self.now.tasks }
+        ensures most { result ≤ 65536 }
+    {
+        let mut count = 0;
+        for task in self.tasks.as_slice() {
+            count += task.lines.len();
+        }
+        count
+    }
+}

@@ -1,0 +1,14 @@
+use Rattle.std.proofs.Common.{◌++◌, List, ℕ, take, codes, ap, ◌∙◌, append_assoc, string_bytes}
+use Rattle.std.specs.List.{flat_map}
+use Rattle.mf_text.proofs.Appending.{extends_behind, on_err}
+use Rattle.mf_hist.specs.ReplyText.{loaded_text}
+use Rattle.mf_hist.proofs.reply.push_modules.Goals as goal
+
+pub returns-in_err-push_next_loaded-clause-err : goal.returns-in_err-push_next_loaded-clause-err
+returns-in_err-push_next_loaded-clause-err c =
+    let front : List ℕ = string_bytes c.args.out.now in
+    let first : List ℕ = loaded_text c.in-Some.first.now in
+    let others : List ℕ = flat_map (λ next. codes "," ++ loaded_text next) (take c.loop-loaded.loaded-index c.in-Some.rest.now) in
+    on_err c.from_residual-in_err-push_next_loaded.result
+    (extends_behind front (first ++ others) (string_bytes c.loop-loaded.out) (string_bytes c.push_next_loaded.new.out)
+    (c.loop-loaded.invariant ∙ ap (λ text. text ++ others) c.in_ok-push_loaded.ensures.ok ∙ append_assoc front first others) c.in_err-push_next_loaded.ensures.err)

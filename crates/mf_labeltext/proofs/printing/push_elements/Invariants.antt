@@ -1,0 +1,7 @@
+use Rattle.std.proofs.Common.{◌≡◌, ◌++◌, map, take, string_bytes}
+use Rattle.std.specs.List.{join_with_byte}
+use Rattle.mf_labeltext.specs.Canonical.{element_text}
+use Rattle.mf_labeltext.proofs.printing.push_elements.Given as goal
+
+abbrev pub invariant-loop-place : goal.invariant-loop-place
+invariant-loop-place l = string_bytes l.out ≡ string_bytes l.fn.out ++ join_with_byte 44 (map element_text (take l.place l.parts))

@@ -1,0 +1,149 @@
+//! Names and words.
+ghost use Rattle.std.specs.Prelude.{◌≡◌, [], ◌∷◌, ◌++◌, length, OnOk, OnErr, IfOk, string_bytes};
+
+use std::alloc::{AllocError, Global};
+use std::marker::Model;
+
+/// A name of a process, a pipe or a socket, or a component of a path. Contracts see its bytes.
+#[derive(Drop)]
+pub struct Name {
+    text: String,
+}
+
+impl Model for Name {
+    ghost use Rattle.std.specs.Prelude.{List, ℕ, string_bytes};
+
+    ghost Value = { List ℕ };
+
+    ghost view = { λ a. string_bytes a.text };
+}
+
+impl Name {
+    /// The name with this text.
+    pub fn from_string(text: String) -> Name
+        ensures { result ≡ string_bytes text }
+    {
+        Name { text }
+    }
+
+    /// The name that this text spells.
+    pub fn from_str(alloc: Global, text: &str) -> Result<Name, AllocError>
+        ensures { IfOk result (λ name. name ≡ text.now) }
+    {
+        let text = String::from_str(alloc, text)?;
+        Ok(Name { text })
+    }
+
+    /// The text of the name.
+    pub fn as_str(&self) -> &str
+        ensures { result.now ≡ self.now }
+    {
+        self.text.as_str()
+    }
+}
+
+/// Names in order. Contracts see their list.
+#[derive(Drop)]
+pub struct NameList {
+    names: Vec<Name>,
+}
+
+impl Model for NameList {
+    ghost use Rattle.std.specs.Prelude.{List, ℕ};
+
+    ghost Value = { List (List ℕ) };
+
+    ghost view = { λ a. a.names.items };
+}
+
+impl NameList {
+    /// No names.
+    pub fn new(alloc: Global) -> NameList
+        ensures { result ≡ [] }
+    {
+        NameList {
+            names: Vec::new(alloc),
+        }
+    }
+
+    /// These names.
+    pub fn from_vec(names: Vec<Name>) -> NameList
+        ensures { result ≡ names.items }
+    {
+        NameList { names }
+    }
+
+    /// How many names there are.
+    pub fn len(&self) -> usize
+        ensures { result ≡ length self.now }
+    {
+        self.names.len()
+    }
+
+    /// The names in order.
+    pub fn as_slice(&self) -> &[Name]
+        ensures { result.now ≡ self.now }
+    {
+        self.names.as_slice()
+    }
+
+    /// Appends a name. If memory runs out, the names are unchanged.
+    pub fn push(&mut self, name: Name) -> Result<(), AllocError>
+        ensures ok { OnOk result (self.new ≡ self.old ++ name ∷ []) }
+        ensures err { OnErr result (self.new ≡ self.old) }
+    {
+        self.names.push(name)?;
+        Ok(())
+    }
+}
+
+/// A word of a line, as it stands there. Contracts see its bytes.
+#[derive(Drop)]
+pub struct Word {
+    text: String,
+}
+
+impl Model for Word {
+    ghost use Rattle.std.specs.Prelude.{List, ℕ, string_bytes};
+
+    ghost Value = { List ℕ };
+
+    ghost view = { λ a. string_bytes a.text };
+}
+
+impl Word {
+    /// The word with this text.
+    pub fn from_string(text: String) -> Word
+        ensures { result ≡ string_bytes text }
+    {
+        Word { text }
+    }
+
+    /// The text of the word.
+    pub fn as_str(&self) -> &str
+        ensures { result.now ≡ self.now }
+    {
+        self.text.as_str()
+    }
+}
+
+#[cfg(test)]
+mod tests {
+    use super::*;
+
+    #[test]
+    fn names_keep_their_text(rt: HostRuntime) -> Result<(), AllocError> {
+        let word = Word::from_string(String::from_str(rt.alloc(), "mac_biba")?);
+        assert!(rt; word.as_str() == "mac_biba");
+        let mut names = NameList::new(rt.alloc());
+        names.push(Name::from_str(rt.alloc(), "t0")?)?;
+        names.push(Name::from_string(String::from_str(rt.alloc(), "t1")?))?;
+        assert_eq!(rt; names.len(), 2);
+        for name in names.as_slice() {
+            assert!(rt; name.as_str().len() == 2);
+        }
+        let listed = NameList::from_vec(Vec::new(rt.alloc()));
+        assert_eq!(rt; listed.len(), 0);
+        Ok(())
+    }
+}

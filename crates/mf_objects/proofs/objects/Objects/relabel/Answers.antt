@@ -1,0 +1,46 @@
+use Rattle.std.proofs.Common.{ap, sym, ◌∙◌, subst}
+use Rattle.std.proofs.lemmas.Result.{on_ok_weaker}
+use Rattle.mf_slots.specs.Zones.{Relabels}
+use Rattle.mf_objects.specs.Live.{Entities, HasSlotsFor, label_at}
+use Rattle.mf_objects.specs.Changes.{with_change, with_label}
+use Rattle.mf_objects.specs.Sound.{IsPlace}
+use Rattle.mf_objects.proofs.Kept.{view, held_place, place_within, label_changed, relabel_sound, slots_made}
+use Rattle.mf_objects.proofs.objects.Objects.relabel.Goals as goal
+
+pub relabel-requires : goal.relabel-requires
+relabel-requires c =
+    let zones = c.self.inside.zones in
+    let es = c.self.inside.entities.items in
+    let place : IsPlace (view c.self.inside.next zones es) c.args.id c.place-place.result =
+    subst (λ (o : Entities). IsPlace o c.args.id c.place-place.result) (sym c.self.view_is) c.place-place.ensures in
+    held_place c.self.inside.next zones es c.place-place.result c.index_mut.result.now
+    (place_within c.self.inside.next zones es c.args.id c.place-place.result place) c.index_mut.ensures.value c.self.invariant
+
+pub invariant_of-self : goal.invariant_of-self
+invariant_of-self c =
+    let zones = c.self.inside.zones in
+    let es = c.self.inside.entities.items in
+    let place : IsPlace (view c.self.inside.next zones es) c.args.id c.place-place.result =
+    subst (λ (o : Entities). IsPlace o c.args.id c.place-place.result) (sym c.self.view_is) c.place-place.ensures in
+    relabel_sound c.relabel.result c.self.inside.next zones c.relabel.new.self es c.args.id c.place-place.result c.index_mut.result.now c.relabel.new.label c.args.values.now
+    c.told-values place c.index_mut.ensures.value c.self.invariant c.relabel.ensures.ok c.relabel.ensures.err
+
+pub returns-clause-ok : goal.returns-clause-ok
+returns-clause-ok c =
+    let zones = c.self.inside.zones in
+    let es = c.self.inside.entities.items in
+    let place : IsPlace (view c.self.inside.next zones es) c.args.id c.place-place.result =
+    subst (λ (o : Entities). IsPlace o c.args.id c.place-place.result) (sym c.self.view_is) c.place-place.ensures in
+    on_ok_weaker c.relabel.result (λ (relabels : Relabels zones c.relabel.new.self c.index_mut.result.now.label c.relabel.new.label c.args.values.now).
+    (label_changed c.self.inside.next zones c.relabel.new.self es c.args.id c.place-place.result c.index_mut.result.now c.relabel.new.label c.args.values.now
+    c.told-values place c.index_mut.ensures.value c.self.invariant relabels).shows
+    ∙ ap (λ (o : Entities). with_change (with_label c.args.values.now) o c.args.id) c.self.view_is) c.relabel.ensures.ok
+
+pub returns-clause-made : goal.returns-clause-made
+returns-clause-made c has =
+    let zones = c.self.inside.zones in
+    let es = c.self.inside.entities.items in
+    let place : IsPlace (view c.self.inside.next zones es) c.args.id c.place-place.result =
+    subst (λ (o : Entities). IsPlace o c.args.id c.place-place.result) (sym c.self.view_is) c.place-place.ensures in
+    c.relabel.ensures.made (slots_made c.self.inside.next zones es c.args.id c.place-place.result c.index_mut.result.now c.args.values.now place c.index_mut.ensures.value
+    (subst (λ (o : Entities). HasSlotsFor (label_at o c.args.id) c.args.values.now) (sym c.self.view_is) has))

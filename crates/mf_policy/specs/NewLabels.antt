@@ -1,0 +1,27 @@
+-- The label of a new entity, at boot and at creation.
+use Rattle.std.specs.Prelude.{ℕ, List, [], ◌∷◌, map, slice_index_or, Option, Some, None, find}
+use Rattle.mf_errno.specs.declared.module.Module.{Module}
+use Rattle.mf_elem.specs.declared.label.LabelValue.{LabelValue}
+use Rattle.mf_elem.specs.declared.label.LabelValue.TheVariants.{Unset}
+use Rattle.mf_item.specs.declared.view.Kind.{Kind}
+use Rattle.mf_policy.specs.declared.labels.Origin.{Origin}
+use Rattle.mf_policy.specs.declared.labels.Origin.TheVariants.{Boot, Maker}
+use Rattle.mf_policy.specs.Modules.{boot_value, inherited}
+use Rattle.mf_policy.specs.Registration.{Entry, holds_slot}
+
+-- what a module whose slot this is gives a new entity
+abbrev pub value_by : Module → Kind → Origin → ℕ → LabelValue
+value_by m kind (Boot request) slot = boot_value m kind request
+value_by m kind (Maker label) slot = inherited m kind (slice_index_or label slot Unset)
+
+abbrev pub value_of : Option Entry → Kind → Origin → ℕ → LabelValue
+value_of None kind origin slot = Unset
+value_of (Some entry) kind origin slot = value_by entry.0.module kind origin slot
+
+-- the value in a slot: from the listed policy that holds the slot, and unset where none does
+abbrev pub new_value : List Entry → Kind → Origin → ℕ → LabelValue
+new_value listed kind origin slot = value_of (find (holds_slot slot) listed) kind origin slot
+
+-- the label of a new entity of that kind, while these policies are listed
+abbrev pub new_label : List Entry → Kind → Origin → List LabelValue
+new_label listed kind origin = map (new_value listed kind origin) (0 ∷ 1 ∷ 2 ∷ 3 ∷ [])

@@ -1,0 +1,166 @@
+//! What Biba and MLS share: the answer to a check, by the two directions of the policy.
+ghost use Rattle.std.specs.Prelude.{◌≡◌, ◌<◌};
+ghost use Rattle.mf_policy.specs.Answer as spec;
+ghost use Rattle.mf_policy.specs.Operations.{test_of};
+
+use crate::operations::{Test, row_of};
+use crate::relabel::{credential_relabel, object_relabel};
+use mf_elem::{Elem, LabelValue, RangeLabel, Request, SLOTS, privileged, same_level};
+use mf_errno::Errno;
+use mf_item::{Item, ObjectView};
+
+/// A policy whose labels have ranges.
+pub trait Lattice {
+    ghost use Rattle.mf_policy.specs.Answer.{LatticePolicy};
+
+    ghost lattice: { LatticePolicy };
+
+    /// Whether a subject of one element may observe an object of another.
+    fn may_observe(subject: &Elem, object: &Elem) -> bool
+        ensures { result ≡ lattice.may_observe subject.now object.now };
+
+    /// Whether a subject of one element may modify an object of another.
+    fn may_modify(subject: &Elem, object: &Elem) -> bool
+        ensures { result ≡ lattice.may_modify subject.now object.now };
+
+    /// The policy's part of a request.
+    fn part(request: &Request) -> &Option<RangeLabel>
+        ensures { result.now ≡ lattice.part request.now };
+
+    /// Whether only a privileged subject may load and unload modules.
+    fn guards_modules() -> bool
+        ensures { result ≡ lattice.guards_modules };
+}
+
+/// What such a policy, which holds this slot, answers to an item.
+pub fn lattice_answer<P: Lattice>(slot: u8, item: &Item) -> Errno
+    requires { slot < SLOTS }
+    ensures { result ≡ spec.lattice_answer P.lattice slot item.now }
+{
+    let subject = slot_label(&item.subject.label[slot as usize]);
+    let object = object_label(&item.object, slot);
+    let asked = part_of::<P>(&item.request);
+    match &subject.effective {
+        Some(element) => {
+            let test = row_of(item.op).test;
+            subject_answer::<P>(test, &subject, &asked, element, &object.effective)
+        }
+        None => Errno::Success,
+    }
+}
+
+/// The answer to a subject of this label and element: the tests of the subject alone, the relabel of an object, and the
+/// tests of elements.
+fn subject_answer<P: Lattice>(
+    test: Test,
+    label: &RangeLabel,
+    asked: &RangeLabel,
+    subject: &Elem,
+    object: &Option<Elem>,
+) -> Errno
+    ensures { result ≡ spec.subject_answer P.lattice test label.now asked.now subject.now object.now }
+{
+    match test {
+        Test::RelabelCredential => credential_relabel(label, asked),
+        Test::GuardModules => guard_answer::<P>(label),
+        Test::RelabelObject => relabel_answer(label, asked, object),
+        Test::Observe(_) | Test::Modify | Test::ObserveAndModify | Test::SameLevel | Test::Pass =>
+            between::<P>(test, subject, object),
+    }
+}
+
+fn guard_answer<P: Lattice>(label: &RangeLabel) -> Errno
+    ensures { result ≡ spec.guard_answer P.lattice label.now }
+{
+    if P::guards_modules() {
+        errno_unless(privileged(label), Errno::Eperm)
+    } else {
+        Errno::Success
+    }
+}
+
+fn relabel_answer(label: &RangeLabel, asked: &RangeLabel, object: &Option<Elem>) -> Errno
+    ensures { result ≡ spec.relabel_answer label.now asked.now object.now }
+{
+    match object {
+        None => Errno::Success,
+        Some(object) => object_relabel(label, object, asked),
+    }
+}
+
+fn between<P: Lattice>(test: Test, subject: &Elem, object: &Option<Elem>) -> Errno
+    ensures { result ≡ spec.between P.lattice test subject.now object.now }
+{
+    let Some(object) = object else {
+        return Errno::Success;
+    };
+    let may_observe = P::may_observe(subject, object);
+    let may_modify = P::may_modify(subject, object);
+    element_answer(test, may_observe, may_modify, same_level(subject, object))
+}
+
+/// The answer by whether the subject may observe the object, may modify it, and is of its level. Tests of other things
+/// pass.
+fn element_answer(test: Test, may_observe: bool, may_modify: bool, same_level: bool) -> Errno
+    ensures { result ≡ spec.element_answer test may_observe may_modify same_level }
+{
+    match test {
+        Test::Observe(errno) => errno_unless(may_observe, errno),
+        Test::Modify => errno_unless(may_modify, Errno::Eacces),
+        Test::ObserveAndModify if !may_observe => Errno::Esrch,
+        Test::ObserveAndModify => errno_unless(may_modify, Errno::Eacces),
+        Test::SameLevel => errno_unless(same_level, Errno::Eacces),
+        Test::RelabelObject | Test::RelabelCredential | Test::GuardModules | Test::Pass => {
+            Errno::Success
+        }
+    }
+}
+
+/// The label that a slot's value is read as. One without an effective element counts as unset.
+pub fn slot_label(value: &LabelValue) -> RangeLabel
+    ensures { result ≡ spec.range_label value.now }
+{
+    match value {
+        LabelValue::Range(label) => *label,
+        LabelValue::Unset | LabelValue::Number(_) => nothing(),
+    }
+}
+
+/// The label in a slot of the object; an empty one where there is no object.
+fn object_label(object: &Option<ObjectView>, slot: u8) -> RangeLabel
+    requires { slot < SLOTS }
+    ensures { result ≡ spec.range_label (spec.object_slot object.now slot) }
+{
+    match object {
+        Some(view) => slot_label(&view.label[slot as usize]),
+        None => nothing(),
+    }
+}
+
+fn part_of<P: Lattice>(request: &Option<Request>) -> RangeLabel
+    ensures { result ≡ spec.part_of P.lattice request.now }
+{
+    match request {
+        None => nothing(),
+        Some(request) => match P::part(request) {
+            Some(label) => *label,
+            None => nothing(),
+        },
+    }
+}
+
+/// Success where the test holds, else the error.
+pub fn errno_unless(holds: bool, errno: Errno) -> Errno
+    ensures { result ≡ spec.errno_unless holds errno }
+{
+    if holds { Errno::Success } else { errno }
+}
+
+fn nothing() -> RangeLabel
+    ensures { result ≡ spec.nothing }
+{
+    RangeLabel {
+        effective: None,
+        range: None,
+    }
+}

@@ -1,5 +1,0 @@
-use Rattle.std.proofs.lemmas.Str.Pattern.{strip_prefix_char}
-use Rattle.mf_script.proofs.parts.behind.Goals as goal
-
-pub returns : goal.returns
-returns c = strip_prefix_char c.args.first c.args.word.now c.strip_prefix.result c.strip_prefix.ensures.cases c.requires

@@ -1,0 +1,74 @@
+-- The lines, words and rows of a text.
+use Rattle.std.specs.Prelude.{ℕ, suc, Bool, false, not, ◌||◌, ◌==◌, if◌then◌else◌, List, [], ◌∷◌, Option, Some, None, map, filter}
+use Rattle.std.specs.Str.{bytes_eq}
+
+abbrev pub tab : ℕ
+tab = 9
+
+abbrev pub newline : ℕ
+newline = 10
+
+abbrev pub space : ℕ
+space = 32
+
+-- the byte `#`, which begins a comment
+abbrev pub number_sign : ℕ
+number_sign = 35
+
+-- a space or a tab
+abbrev pub is_blank : ℕ → Bool
+is_blank b = b == space || b == tab
+
+-- the byte in front of the first of the pieces
+abbrev pub onto_first : ℕ → List (List ℕ) → List (List ℕ)
+onto_first b [] = (b ∷ []) ∷ []
+onto_first b (piece ∷ pieces) = (b ∷ piece) ∷ pieces
+
+-- each line without its newline, which the last one may lack
+abbrev pub lines_in : List ℕ → List (List ℕ)
+lines_in [] = []
+lines_in (b ∷ bs) = if b == newline then [] ∷ lines_in bs else onto_first b (lines_in bs)
+
+-- where the first line ends
+abbrev pub line_end : List ℕ → ℕ
+line_end [] = 0
+line_end (b ∷ bs) = if b == newline then 0 else suc (line_end bs)
+
+-- the first byte is one of a word
+abbrev pub goes_on : List ℕ → Bool
+goes_on [] = false
+goes_on (b ∷ bs) = not (is_blank b)
+
+-- the words of a line, which blanks part
+abbrev pub words_in : List ℕ → List (List ℕ)
+words_in [] = []
+words_in (b ∷ bs) = if is_blank b then words_in bs else (if goes_on bs then onto_first b (words_in bs) else (b ∷ []) ∷ words_in bs)
+
+-- where the first word ends
+abbrev pub word_end : List ℕ → ℕ
+word_end [] = 0
+word_end (b ∷ bs) = if is_blank b then 0 else suc (word_end bs)
+
+abbrev pub is_comment : List ℕ → Bool
+is_comment [] = false
+is_comment (b ∷ bs) = b == number_sign
+
+-- a line that has words and whose first word begins no comment
+abbrev pub is_row : List (List ℕ) → Bool
+is_row [] = false
+is_row (word ∷ words) = not (is_comment word)
+
+abbrev pub Words : Type 0
+Words = List (List ℕ)
+
+-- the words behind the first, where the first is that
+abbrev pub behind : List ℕ → Words → Option Words
+behind text [] = None
+behind text (w ∷ ws) = if bytes_eq w text then Some ws else None
+
+abbrev pub Rows : Type 0
+Rows = List Words
+
+-- the rows of a text: the words of its lines, without those that are blank or comments
+abbrev pub rows_in : List ℕ → Rows
+rows_in bytes = filter is_row (map words_in (lines_in bytes))
