@@ -93,25 +93,21 @@ mod tests {
         Elem::Grade(grade, Comps::empty())
     }
 
-    fn item(op: CheckOp, subject: Elem, object: Elem) -> Item {
+    fn answer<P: Policy>(policy: &P, op: CheckOp, subject: Elem, object: Elem) -> Errno {
         let own = LabelValue::Range(RangeLabel::ranged(subject, Elem::Low, grade(20)));
         let other = LabelValue::Range(RangeLabel::effective(object));
-        Item {
-            op,
-            subject: SubjectView {
-                id: 0,
-                cred: Cred::default(),
-                label: [own; SLOTS],
-            },
-            object: Some(ObjectView {
-                id: 1,
-                kind: Kind::Vnode,
-                file: FileView::default(),
-                label: [other; SLOTS],
-            }),
-            request: None,
-            privilege: None,
-        }
+        let subject = SubjectView {
+            id: 0,
+            cred: Cred::default(),
+            label: [own; SLOTS],
+        };
+        let object = ObjectView {
+            id: 1,
+            kind: Kind::Vnode,
+            file: FileView::default(),
+            label: [other; SLOTS],
+        };
+        policy.check(0, &Item::new(op, &subject, Some(&object), None, None))
     }
 
     #[test]
@@ -139,11 +135,11 @@ mod tests {
         ];
         for (subject, object, read, write) in table {
             assert_eq!(rt;
-                policy.check(0, &item(CheckOp::VnodeOpenRead, subject, object)),
+                answer(&policy, CheckOp::VnodeOpenRead, subject, object),
                 read
             );
             assert_eq!(rt;
-                policy.check(0, &item(CheckOp::VnodeOpenWrite, subject, object)),
+                answer(&policy, CheckOp::VnodeOpenWrite, subject, object),
                 write
             );
         }
@@ -155,33 +151,29 @@ mod tests {
     fn equal_is_exempt_and_loads_modules(rt: HostRuntime) {
         let policy = Biba::new();
         assert_eq!(rt;
-            policy.check(0, &item(CheckOp::VnodeOpenWrite, Elem::Equal, Elem::High)),
+            answer(&policy, CheckOp::VnodeOpenWrite, Elem::Equal, Elem::High),
             Errno::Success
         );
         assert_eq!(rt;
-            policy.check(0, &item(CheckOp::KldLoad, Elem::Equal, Elem::High)),
+            answer(&policy, CheckOp::KldLoad, Elem::Equal, Elem::High),
             Errno::Success
         );
         assert_eq!(rt;
-            policy.check(0, &item(CheckOp::KldLoad, grade(10), Elem::High)),
+            answer(&policy, CheckOp::KldLoad, grade(10), Elem::High),
             Errno::Eperm
         );
     }
 
-    fn answer_of<P: Policy>(
-        policy: &mut P,
-        alloc: Global,
-        item: &Item,
-    ) -> Result<(Errno, Errno), AllocError> {
+    fn errno_of_change<P: Policy>(policy: &mut P, alloc: Global) -> Result<Errno, AllocError> {
         let changed = policy.change(alloc, &Change::FirstMatch(true))?;
-        Ok((policy.check(0, item), changed.errno))
+        Ok(changed.errno)
     }
 
     #[test]
     fn a_box_answers_as_the_policy_in_it(rt: HostRuntime) -> Result<(), AllocError> {
         let mut policy: Box<dyn Policy + Send + Sync> = Box::new(rt.alloc(), Biba::new())?;
-        let item = item(CheckOp::ProcSignal, grade(5), grade(3));
-        let (answer, changed) = answer_of(&mut policy, rt.alloc(), &item)?;
+        let changed = errno_of_change(&mut policy, rt.alloc())?;
+        let answer = answer(&policy, CheckOp::ProcSignal, grade(5), grade(3));
         assert_eq!(rt; (answer, changed), (Errno::Esrch, Errno::Enoent));
         Ok(())
     }

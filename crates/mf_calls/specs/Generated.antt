@@ -9,7 +9,7 @@ use Rattle.mf_elem.specs.declared.elem.Elem.TheVariants.{Equal, Grade}
 use Rattle.mf_elem.specs.declared.label.Request.{Request}
 use Rattle.mf_elem.specs.Comps.{comps_of}
 use Rattle.mf_cred.specs.declared.cred.Cred.{Cred}
-use Rattle.mf_calls.specs.declared.limits.TheConstants.{FILE_MODE, DIRECTORY_MODE}
+use Rattle.mf_cred.specs.declared.cred.TheConstants.{FILE_MODE, DIRECTORY_MODE}
 use Rattle.mf_calls.specs.declared.script.Call.{Call}
 use Rattle.mf_calls.specs.declared.script.Call.TheVariants as call
 use Rattle.mf_calls.specs.declared.script.Line.{Line}

@@ -3,7 +3,7 @@ use Rattle.std.specs.Prelude.{◌≡◌, ℕ, ◌≤◌, Bool, true, false, not,
 use Rattle.std.specs.List.{list_all, slice_split}
 use Rattle.std.specs.Str.{bytes_eq}
 use Rattle.std.specs.Char.{is_ascii_alphanumeric, is_ascii_graphic}
-use Rattle.mf_names.specs.declared.limits.TheConstants.{SCRIPT_LIMIT}
+use Rattle.mf_names.specs.declared.limits.TheConstants.{NAME_LIMIT, SCRIPT_LIMIT}
 
 abbrev pub dash : ℕ
 dash = 45
@@ -23,7 +23,7 @@ is_name_byte b = is_ascii_alphanumeric b || b == underscore || b == dash
 
 -- a name is 1 to 32 letters, digits, `_` and `-`
 abbrev pub is_name : List ℕ → Bool
-is_name w = is_some_text w && nat_le (length w) 32 && list_all is_name_byte w
+is_name w = is_some_text w && nat_le (length w) NAME_LIMIT && list_all is_name_byte w
 
 -- a task's name, or a task's and a child's
 abbrev pub are_process_names : List (List ℕ) → Bool
@@ -41,7 +41,7 @@ is_component_byte b = is_name_byte b || b == dot
 
 -- a component of a path is 1 to 32 bytes of names and dots, and neither `.` nor `..`
 abbrev pub is_component : List ℕ → Bool
-is_component w = is_some_text w && nat_le (length w) 32 && list_all is_component_byte w && not (bytes_eq w (codes ".")) && not (bytes_eq w (codes ".."))
+is_component w = is_some_text w && nat_le (length w) NAME_LIMIT && list_all is_component_byte w && not (bytes_eq w (codes ".")) && not (bytes_eq w (codes ".."))
 
 -- a word of a line: some printable bytes of ASCII, and no more than a script has
 pub record IsWord (w : List ℕ) : Type 0 where

@@ -14,9 +14,8 @@ use Rattle.mf_calls.specs.Names.{is_name, is_process_name, is_component, IsWord}
 use Rattle.mf_calls.specs.Paths.{directory_of, has_directory}
 use Rattle.mf_calls.specs.Boots.{AreBoots, IsAsked}
 use Rattle.mf_calls.specs.declared.limits.TheConstants.{FILE_LIMIT, TASK_LIMIT, LINE_LIMIT, MODE_LIMIT, UID_MAX}
-use Rattle.mf_names.specs.declared.limits.TheConstants.{CONTENT_LIMIT, SCRIPT_LIMIT}
+use Rattle.mf_names.specs.declared.limits.TheConstants.{CONTENT_LIMIT, PATH_LIMIT, SCRIPT_LIMIT}
 use Rattle.mf_cred.specs.declared.cred.TheConstants.{MOST_GROUPS}
-use Rattle.mf_names.specs.declared.path.TheConstants.{PATH_LIMIT}
 
 -- the lines of a task, where there is one of that number
 abbrev pub lines_of : Script → ℕ → List Line

@@ -7,7 +7,7 @@ ghost use Rattle.mf_policy.specs.Modules as facts;
 use mf_elem::Request;
 use mf_errno::Module;
 use mf_item::Kind;
-use mf_policy::{has_spec, may_ask};
+use mf_policy::{has_spec, is_named, may_ask};
 
 fn is_booted(boots: &[Module], wanted: Module) -> bool
     ensures { result ≡ spec.is_booted boots.now wanted }
@@ -22,14 +22,23 @@ pub fn may_boot(boots: &[Module], booted: Module) -> bool
     has_spec(booted) && !is_booted(boots, booted)
 }
 
+fn may_name(boots: &[Module], request: &Request, named: Module) -> bool
+    ensures { result ≡ spec.may_name boots.now request.now named }
+{
+    !is_named(named, request) || is_booted(boots, named)
+}
+
+fn may_name_each(boots: &[Module], request: &Request, modules: &[Module]) -> bool
+    ensures { result ≡ list_all (spec.may_name boots.now request.now) modules.now }
+{
+    modules.iter().all(|named| may_name(boots, request, *named))
+}
+
 /// Whether each policy that the request names is booted.
 fn names_booted(boots: &[Module], request: &Request) -> bool
     ensures { result ≡ spec.names_booted boots.now request.now }
 {
-    (request.biba.is_none() || is_booted(boots, Module::Biba))
-        && (request.mls.is_none() || is_booted(boots, Module::Mls))
-        && (request.partition.is_none() || is_booted(boots, Module::Partition))
-        && !request.other
+    may_name_each(boots, request, &Module::all()) && !request.other
 }
 
 fn each_may_be_asked(boots: &[Module], kind: Kind, request: &Request) -> bool

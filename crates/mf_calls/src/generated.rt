@@ -116,7 +116,7 @@ fn load_tasks(alloc: Global, lines: u32, tasks: u32) -> Result<Listing<Task>, Al
 }
 
 fn load_task(alloc: Global, lines: u32, task: u32) -> Result<Task, AllocError>
-    requires { task < 16 }
+    requires { task < TASK_LIMIT }
     ensures { IfOk result (λ t. t ≡ load_task lines task) }
 {
     let name = format!(in alloc; "t{task}")?;
@@ -138,7 +138,7 @@ fn task_grade(task: u32) -> u16
 
 /// The lines of a task.
 fn load_lines(alloc: Global, task: u32, count: u32) -> Result<Listing<Line>, AllocError>
-    requires { task < 16 }
+    requires { task < TASK_LIMIT }
     ensures { IfOk result (λ lines. lines ≡ load_lines task count) }
 {
     let mut lines = Listing::new(alloc);

@@ -1,4 +1,4 @@
-//! The limits of a script, and the modes of new files.
+//! The limits of a script.
 
 /// The most file lines of a script.
 pub const FILE_LIMIT: usize = 256;
@@ -9,14 +9,11 @@ pub const TASK_LIMIT: usize = 16;
 /// The most lines of a task.
 pub const LINE_LIMIT: usize = 4096;
 
+/// The most lines of all tasks together.
+pub const ALL_LINES_LIMIT: usize = TASK_LIMIT * LINE_LIMIT;
+
 /// The greatest mode of a file, as chmod(2) has it.
 pub const MODE_LIMIT: u16 = 0o7777;
 
 /// The greatest uid, and the greatest gid, as in sys/limits.h.
 pub const UID_MAX: u32 = 4_294_967_295;
-
-/// The mode of a new regular file.
-pub const FILE_MODE: u16 = 0o644;
-
-/// The mode of a new directory.
-pub const DIRECTORY_MODE: u16 = 0o755;

@@ -3,6 +3,8 @@ ghost use Rattle.std.specs.Prelude.{◌≡◌};
 ghost use Rattle.std.specs.List.{list_all};
 ghost use Rattle.mf_calls.specs.Names.{is_name_byte, is_name, is_component_byte, is_component};
 
+use mf_names::NAME_LIMIT;
+
 fn is_name_byte(byte: u8) -> bool
     ensures { result ≡ is_name_byte byte }
 {
@@ -27,21 +29,21 @@ fn are_component_bytes(word: &[u8]) -> bool
     word.iter().all(|byte| is_component_byte(*byte))
 }
 
-/// Whether the word is a name: 1 to 32 letters, digits, `_` and `-`.
+/// Whether the word is a name: 1 to `NAME_LIMIT` letters, digits, `_` and `-`.
 pub fn is_name(word: &str) -> bool
     ensures { result ≡ is_name word.now }
 {
     let bytes = word.as_bytes();
-    !bytes.is_empty() && bytes.len() <= 32 && are_name_bytes(bytes)
+    !bytes.is_empty() && bytes.len() <= NAME_LIMIT && are_name_bytes(bytes)
 }
 
-/// Whether the word is a component of a path: 1 to 32 bytes of names and dots, and neither `.` nor `..`.
+/// Whether the word is a component of a path: 1 to `NAME_LIMIT` bytes of names and dots, and neither `.` nor `..`.
 pub fn is_component(word: &str) -> bool
     ensures { result ≡ is_component word.now }
 {
     let bytes = word.as_bytes();
     !bytes.is_empty()
-        && bytes.len() <= 32
+        && bytes.len() <= NAME_LIMIT
         && are_component_bytes(bytes)
         && word != "."
         && word != ".."

@@ -124,6 +124,7 @@ pub struct Script {
 impl Script {
     ghost use Rattle.std.specs.Prelude.{slice_get, Some, ◌≤◌};
     ghost use Rattle.std.specs.List.{sum_by};
+    ghost use Rattle.mf_calls.specs.declared.limits.TheConstants.{ALL_LINES_LIMIT};
     ghost use Rattle.mf_calls.specs.WellFormed.{IsWellFormed, line_count, lines_of, name_of};
 
     /// The name of the task of that number, from 0. No text where the script has no such task.
@@ -160,7 +161,7 @@ impl Script {
     pub fn line_count(&self) -> usize
         requires { IsWellFormed self.now }
         ensures value { result ≡ sum_by line_count self.now.tasks }
-        ensures most { result ≤ 65536 }
+        ensures most { result ≤ ALL_LINES_LIMIT }
     {
         let mut count = 0;
         for task in self.tasks.as_slice() {

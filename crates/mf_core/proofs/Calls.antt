@@ -1,115 +1,103 @@
--- What doing the call of a line makes of a core: of the call of an entry, and of a change.
-use Rattle.std.proofs.Common.{◌≡◌, ℕ, ◌+◌, ◌<◌, ◌≤◌, List, [], ◌∷◌, ◌++◌, length, Some, slice_get, sym, ◌∙◌, ap, subst}
-use Rattle.mf_errno.specs.declared.module.Module.{Module}
-use Rattle.mf_policy.specs.Registration.{Entry}
-use Rattle.mf_list.specs.Held.{times_held, IsListedOnce}
-use Rattle.mf_list.specs.Lists.{ListView, CatalogueView, IsReady}
+-- What the call of a task's next line makes of a run: the reply, the state, and the list of policies after it.
+use Rattle.std.proofs.Common.{◌≡◌, ℕ, false, true, List, Option, Some, refl, sym, ◌∙◌, ap, subst}
+use Rattle.mf_objects.specs.declared.id.Id.{Id}
 use Rattle.mf_calls.specs.declared.script.Line.{Line}
 use Rattle.mf_calls.specs.declared.script.Script.{Script}
-use Rattle.mf_calls.specs.WellFormed.{lines_of, name_of}
-use Rattle.mf_plan.specs.declared.state.State.{State}
+use Rattle.mf_calls.specs.WellFormed.{is_change, name_of}
+use Rattle.mf_plan.specs.declared.found.Found.{Found}
+use Rattle.mf_plan.specs.Planned.{Plan}
+use Rattle.mf_plan.specs.declared.plan.Tail.TheVariants.{Do}
 use Rattle.mf_plan.specs.declared.reply.Reply.{Reply}
-use Rattle.mf_step.specs.Step.{step_reply, step_state}
-use Rattle.mf_core.specs.declared.progress.Phase.TheVariants as phases
-use Rattle.mf_core.specs.declared.progress.Progress.{Progress}
-use Rattle.mf_core.specs.declared.progress.Turn.TheVariants as turns
-use Rattle.mf_core.specs.declared.history.Event.TheVariants as events
+use Rattle.mf_plan.specs.declared.state.State.{State}
+use Rattle.mf_plan.specs.Doing.{CanDo}
+use Rattle.mf_plan.specs.Found.{found_of}
+use Rattle.mf_plan.specs.Plan.{plan_of}
+use Rattle.mf_step.specs.declared.verdict.Verdict.{Verdict}
+use Rattle.mf_step.specs.Effect.{effect_of}
+use Rattle.mf_step.specs.Reply.{is_done, payload_of, reply_to}
+use Rattle.mf_step.specs.Step.{performed, step_reply, step_state}
+use Rattle.mf_step.specs.Verdict.{verdict_of}
 use Rattle.mf_core.specs.declared.history.History.{History}
-use Rattle.mf_core.specs.Log.{Log}
-use Rattle.mf_core.specs.LegalHistory.{next_line, next_reply, next_state}
-use Rattle.mf_core.specs.Policies.{AreOf, listed_after, listed_after_reply}
-use Rattle.mf_core.specs.Progress.{progress_at, open_entries, with_line, with_phase}
-use Rattle.mf_core.specs.Run.{Run, IsChanged, IsConsistent, progress_of, specs_of, turn_at}
-use Rattle.mf_core.proofs.Consistency.{changing_call, consistent_change, consistent_done, entered_call, moved, replied}
-use Rattle.mf_core.proofs.Insides.{below_here, changed_here, progress_here, same_specs_on, specs_here, specs_on, turn_here}
-use Rattle.mf_core.proofs.SameLists.{change_follows, entry_specs_same, goes_on, listed_once}
+use Rattle.mf_core.specs.declared.progress.Turn.TheVariants as turns
+use Rattle.mf_core.specs.LegalHistory.{RunState, found_at, next_found, next_line, next_plan, next_reply, next_state, plan_at, reply_at, state_at, turn_of}
+use Rattle.mf_core.specs.Consistency.{IsConsistent}
+use Rattle.mf_core.proofs.Consistency.{change_line, entered_line}
+use Rattle.mf_core.proofs.SameLists.{Keeps, change_can, change_effect, change_keeps, done_do, entry_keeps, refused_only}
 
--- The call of a line was done: its reply, and the state after it. The task's name, its progress and the line are the script's.
-pub record WasDone (s : Script) (state : State) (progress : List Progress) (t : ℕ) (at : Progress) (line : Line) (name : List ℕ) (reply : Reply) (state' : State) : Type 0 where
-  pub here : at ≡ progress_at progress t
-  pub next : slice_get (lines_of s t) at.lines ≡ Some line
-  pub named : name ≡ name_of s t
-  pub replied : reply ≡ step_reply state name line.child line.call
-  pub moved : state' ≡ step_state state name line.child line.call
-  pub booted : state'.booted ≡ state.booted
-  pub ids : state'.objects.next ≤ state.objects.next + 1
+same_line : (next : Option Line) (a b : Line) → next ≡ Some a → next ≡ Some b → a ≡ b
+same_line next a b is_a is_b = cc
 
-module _ (k : Run) (s : Script) (h : History) (state : State) (progress : List Progress) (is : record { script = s; history = h } ≡ k) (consistent : IsConsistent s h state progress)
-    (t : ℕ) (at : Progress) (line : Line) (name : List ℕ) (reply : Reply) (state' : State) (log : Log) (lt : t < length k.script.tasks)
-    (was : WasDone s state progress t at line name reply state') where
-  below : t < length s.tasks
-  below = below_here k s h state progress is consistent t lt
+same_reply : (next : Option Reply) (a b : Reply) → next ≡ Some a → next ≡ Some b → a ≡ b
+same_reply next a b is_a is_b = cc
 
-  next_is : next_line s progress t ≡ Some line
-  next_is = let P : Progress → Type 0 = λ x. slice_get (lines_of s t) x.lines ≡ Some line in subst P was.here was.next
+same_plan : (next : Option Plan) (a b : Plan) → next ≡ Some a → next ≡ Some b → a ≡ b
+same_plan next a b is_a is_b = cc
 
-  number_is : at.lines + 1 ≡ (progress_at progress t).lines + 1
-  number_is = ap (λ (x : Progress). x.lines + 1) was.here
+same_found : (next : Option Found) (a b : Found) → next ≡ Some a → next ≡ Some b → a ≡ b
+same_found next a b is_a is_b = cc
 
-  reply_is : reply ≡ step_reply state (name_of s t) line.child line.call
-  reply_is = was.replied ∙ ap (λ (n : List ℕ). step_reply state n line.child line.call) was.named
+module _ (s : Script) (r : RunState) (t : ℕ) (line : Line) (next : next_line s r.progress t ≡ Some line) where
+  pub replied : (reply : Reply) → next_reply s r t ≡ Some reply → reply ≡ step_reply r.state (name_of s t) line.child line.call
+  replied reply is = same_reply (next_reply s r t) reply (step_reply r.state (name_of s t) line.child line.call) is (ap (reply_at s r t) next)
 
-  state_is : state' ≡ step_state state (name_of s t) line.child line.call
-  state_is = was.moved ∙ ap (λ (n : List ℕ). step_state state n line.child line.call) was.named
+  pub moved : next_state s r t ≡ step_state r.state (name_of s t) line.child line.call
+  moved = ap (state_at s r t) next
 
-  replied_is : next_reply s (record { state = state; progress = progress }) t ≡ Some reply
-  replied_is = replied s h state progress t consistent below line reply next_is reply_is
+  pub found_is : (found : Found) → next_found s r t ≡ Some found → found ≡ found_of r.state (name_of s t) line.child line.call
+  found_is found is = same_found (next_found s r t) found (found_of r.state (name_of s t) line.child line.call) is (ap (found_at s r t) next)
 
-  moved_is : next_state s (record { state = state; progress = progress }) t ≡ state'
-  moved_is = moved s h state progress t consistent below line state' next_is state_is
+  module _ (plan : Plan) (planned : next_plan s r t ≡ Some plan) where
+    plan_is : plan_of r.state (name_of s t) line.child line.call ≡ plan
+    plan_is = same_plan (next_plan s r t) (plan_of r.state (name_of s t) line.child line.call) plan (ap (plan_at s r t) next) planned
 
-  -- The call of an entry
+    -- the reply by the plan and the policies' verdict on it
+    pub reply_by : (verdict : Verdict) → verdict ≡ verdict_of r.state.specs plan → next_reply s r t ≡ Some (reply_to plan verdict (payload_of r.state line.call))
+    reply_by verdict judged =
+        ap (reply_at s r t) next
+        ∙ ap (λ (p : Plan). Some (reply_to p (verdict_of r.state.specs p) (payload_of r.state line.call))) plan_is
+        ∙ ap (λ (v : Verdict). Some (reply_to plan v (payload_of r.state line.call))) (sym judged)
 
-  same_specs : turn_at k t ≡ turns.Entered → state'.specs ≡ state.specs
-  same_specs turn =
-      let entry = entered_call s h state progress t consistent below line (turn_here k s h state progress is consistent t turns.Entered turn) next_is in
-      entry_specs_same state state' (name_of s t) line.child line.call entry state_is
+    -- the plan of a call that is done ends with no refusal
+    pub plan_do : (reply : Reply) → next_reply s r t ≡ Some reply → is_done reply ≡ true → plan.tail ≡ Do
+    plan_do reply replies done =
+        done_do plan (verdict_of r.state.specs plan) (payload_of r.state line.call) reply
+        (same_reply (next_reply s r t) (reply_to plan (verdict_of r.state.specs plan) (payload_of r.state line.call)) reply (reply_by (verdict_of r.state.specs plan) refl) replies) done
 
-  pub done_consistent : (progress' : List Progress) → turn_at k t ≡ turns.Entered
-      → log ≡ record h.events { list = h.events.list ++ events.Done t (at.lines + 1) reply ∷ [] } → progress' ≡ with_phase progress t phases.Done
-      → IsConsistent s (record h { events = log }) state' progress'
-  done_consistent progress' turn more phase =
-      let O : List Entry → Type 0 = λ specs. IsListedOnce specs in
-      let follows = goes_on state state' consistent.booted (subst O (sym (same_specs turn)) consistent.once) was.booted was.ids in
-      rw (more, phase)
-      (consistent_done s h state progress t consistent below line (at.lines + 1) reply state' (turn_here k s h state progress is consistent t turns.Entered turn)
-      next_is number_is reply_is state_is follows)
+-- the call of an entry leaves the list of policies as it is
+pub entry_specs : (s : Script) (h : History) (r : RunState) (t : ℕ) → IsConsistent s h r → turn_of s r.progress t ≡ turns.Entered → (next_state s r t).specs ≡ r.state.specs
+entry_specs s h r t consistent turn =
+    let line = entered_line s h r consistent t turn in
+    ap (λ (x : State). x.specs) (moved s r t line.0 line.1) ∙ entry_keeps r.state (name_of s t) line.0.child line.0.call line.2
 
-  pub done_specs : turn_at k t ≡ turns.Entered → log ≡ record h.events { list = h.events.list ++ events.Done t (at.lines + 1) reply ∷ [] }
-      → specs_of (record { script = s; history = record h { events = log } }) ≡ specs_of k
-  done_specs turn more = same_specs_on k s h state progress is consistent log (events.Done t (at.lines + 1) reply) state' more moved_is (same_specs turn)
+-- the plan of an entry's call that is done ends with no refusal
+pub entry_do : (s : Script) (h : History) (r : RunState) (t : ℕ) (plan : Plan) (reply : Reply) → IsConsistent s h r → turn_of s r.progress t ≡ turns.Entered
+    → next_plan s r t ≡ Some plan → next_reply s r t ≡ Some reply → is_done reply ≡ true → plan.tail ≡ Do
+entry_do s h r t plan reply consistent turn planned replies done =
+    let line = entered_line s h r consistent t turn in plan_do s r t line.0 line.1 plan planned reply replies done
 
-  -- A change
+-- The change of a line
 
-  none_open : open_entries (progress_of k) ≡ 0 → open_entries progress ≡ 0
-  none_open none = sym (ap open_entries (progress_here k s h state progress is consistent)) ∙ none
+module _ (s : Script) (h : History) (r : RunState) (t : ℕ) (line : Line) (reply : Reply) (consistent : IsConsistent s h r) (turn : turn_of s r.progress t ≡ turns.Change)
+    (next : next_line s r.progress t ≡ Some line) (replies : next_reply s r t ≡ Some reply) where
+  pub is_a_change : is_change line.call ≡ true
+  is_a_change =
+      let found = change_line s h r consistent t turn in
+      ap (λ (l : Line). is_change l.call) (same_line (next_line s r.progress t) line found.0 next found.1) ∙ found.2
 
-  pub changed : log ≡ record h.events { list = h.events.list ++ events.Changed t (at.lines + 1) reply ∷ [] }
-      → IsChanged k t (record { script = s; history = record h { events = log } })
-  changed more = changed_here k s h state progress is consistent log t (at.lines + 1) reply more number_is replied_is
+  reply_is : step_reply r.state (name_of s t) line.child line.call ≡ reply
+  reply_is = sym (replied s r t line next reply replies)
 
-  module _ (list list' : ListView) (catalogue catalogue' : CatalogueView) (given : ℕ) (turn : turn_at k t ≡ turns.Change)
-      (policies : AreOf (specs_of k) list catalogue) (numbers : given ≡ state.numbers)
-      (entries : list'.entries ≡ listed_after_reply reply list.entries (listed_after line.call list catalogue given))
-      (held : (m : Module) → times_held m list' catalogue' ≡ times_held m list catalogue) (ready : IsReady list' catalogue')
-      (more : log ≡ record h.events { list = h.events.list ++ events.Changed t (at.lines + 1) reply ∷ [] }) where
-    follows_change : AreOf state'.specs list' catalogue'
-    follows_change =
-        let A : List Entry → Type 0 = λ specs. AreOf specs list catalogue in
-        let before : AreOf state.specs list catalogue = subst A (specs_here k s h state progress is consistent) policies in
-        let change = changing_call s h state progress t consistent below line (turn_here k s h state progress is consistent t turns.Change turn) next_is in
-        let same = ap (λ n. listed_after_reply reply list.entries (listed_after line.call list catalogue n)) numbers in
-        change_follows state (name_of s t) list catalogue before consistent.booted line.child line.call list' catalogue' reply state' change reply_is state_is (entries ∙ same) held ready
+  pub line_keeps : Keeps r.state (next_state s r t)
+  line_keeps = subst (Keeps r.state) (sym (moved s r t line next)) (change_keeps r.state (name_of s t) line.child line.call is_a_change)
 
-    pub changed_consistent : (progress' : List Progress) → open_entries (progress_of k) ≡ 0 → progress' ≡ with_line progress t
-        → IsConsistent s (record h { events = log }) state' progress'
-    changed_consistent progress' none phase =
-        let follows = goes_on state state' consistent.booted (listed_once state'.specs list' catalogue' follows_change) was.booted was.ids in
-        rw (more, phase)
-        (consistent_change s h state progress t consistent below line (at.lines + 1) reply state' (turn_here k s h state progress is consistent t turns.Change turn)
-        (none_open none) next_is number_is reply_is state_is follows)
+  pub line_refused : is_done reply ≡ false → next_state s r t ≡ r.state
+  line_refused refused =
+      moved s r t line next
+      ∙ refused_only (step_reply r.state (name_of s t) line.child line.call) r.state (performed r.state (name_of s t) line.child line.call) (ap is_done reply_is ∙ refused)
 
-    pub changed_policies : AreOf (specs_of (record { script = s; history = record h { events = log } })) list' catalogue'
-    changed_policies =
-        let A : List Entry → Type 0 = λ specs. AreOf specs list' catalogue' in
-        subst A (sym (specs_on k s h state progress is consistent log (events.Changed t (at.lines + 1) reply) state' more moved_is)) follows_change
+  module _ (done : is_done reply ≡ true) where
+    pub line_can : (task : List ℕ) → CanDo r.state task line.call
+    line_can task = change_can r.state (name_of s t) line.child line.call is_a_change reply reply_is done task
+
+    pub line_effect : (task : List ℕ) (caller : Id) → next_state s r t ≡ effect_of r.state task caller line.call
+    line_effect task caller = moved s r t line next ∙ change_effect r.state (name_of s t) line.child line.call is_a_change reply reply_is done task caller

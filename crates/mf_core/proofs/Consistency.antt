@@ -1,30 +1,28 @@
--- A core stays consistent with each event that may come.
-use Rattle.std.proofs.Common.{◌≡◌, ℕ, zero, suc, ◌+◌, ◌*◌, ◌-◌, ◌<◌, ◌≤◌, ◌⊎◌, inl, inr, Bool, true, false, List, [], ◌∷◌, length, map, get_or, set, Option, Some, None, unwrap_or, slice_get, option_map, refl, sym, ◌∙◌, ap, subst, arith, length-append, length-set}
+-- A history stays consistent with the state of its run, with each event that may come.
+use Rattle.std.proofs.Common.{◌≡◌, ◌≢◌, ℕ, zero, suc, ◌+◌, ◌*◌, ◌-◌, ◌<◌, ◌≤◌, ◌⊎◌, inl, inr, Bool, true, false, List, [], ◌∷◌, length, map, get_or, set, Option, Some, None, unwrap_or, slice_get, option_map, refl, sym, ◌∙◌, ap, subst, arith, length-append, length-set}
 use Rattle.std.specs.Prelude.{if◌then◌else◌}
 use Rattle.std.specs.List.{sum_by}
+use Rattle.std.proofs.Math.ListN.{get_or-eq_default}
 use Rattle.std.proofs.lemmas.List.Sums.{sum_by-cons}
-use Rattle.std.proofs.lemmas.Option.{slice_get_within}
+use Rattle.std.proofs.lemmas.Option.{slice_get_past, slice_get_within}
 use Rattle.mf_calls.specs.declared.script.Line.{Line}
 use Rattle.mf_calls.specs.declared.script.Task.{Task}
 use Rattle.mf_calls.specs.declared.script.Script.{Script}
-use Rattle.mf_calls.specs.WellFormed.{is_change, line_count, lines_of, name_of, IsWellFormed}
-use Rattle.mf_list.specs.Held.{IsListedOnce}
-use Rattle.mf_plan.specs.declared.state.State.{State}
-use Rattle.mf_plan.specs.declared.reply.Reply.{Reply}
-use Rattle.mf_step.specs.Step.{step_reply, step_state}
+use Rattle.mf_calls.specs.WellFormed.{is_change, line_count, lines_of, IsWellFormed}
 use Rattle.mf_core.specs.declared.progress.Phase.{Phase}
 use Rattle.mf_core.specs.declared.progress.Phase.TheVariants as phases
 use Rattle.mf_core.specs.declared.progress.Progress.{Progress}
+use Rattle.mf_core.specs.declared.progress.Turn.{Turn}
 use Rattle.mf_core.specs.declared.progress.Turn.TheVariants as turns
 use Rattle.mf_core.specs.declared.history.Event.{Event}
 use Rattle.mf_core.specs.declared.history.Event.TheVariants as events
 use Rattle.mf_core.specs.declared.history.History.{History}
 use Rattle.mf_core.specs.Log.{Log}
-use Rattle.mf_core.specs.Opening.{boots_of, opening_state}
-use Rattle.mf_core.specs.Progress.{progress_at, first_progress, with_phase, with_line, left_at, with_left, open_entries}
-use Rattle.mf_core.specs.LegalHistory.{RunState, MayCome, AllMayCome, after, run_state_of, opening, appended, reply_at, state_at, turn_at_line, turn_in, turn_of, next_line, next_reply, next_state}
-use Rattle.mf_core.specs.Run.{IsAtEntry, IsConsistent, HasLine, events_left, events_by}
-use Rattle.mf_core.proofs.Laws.{AllMayCome-append, run_state_after-append, progress_at-first, line_at_entry, line_at_change, entry_call, change_call}
+use Rattle.mf_core.specs.Opening.{boots_of}
+use Rattle.mf_core.specs.Progress.{progress_at, first_progress, left, left_at}
+use Rattle.mf_core.specs.LegalHistory.{RunState, MayCome, AllMayCome, after, run_state_of, opening, with_event, turn_at_line, turn_in, turn_of, next_line}
+use Rattle.mf_core.specs.Consistency.{IsAtEntry, IsConsistent, HasLine, events_left, events_by}
+use Rattle.mf_core.proofs.Laws.{AllMayCome-append, run_state_after-append, progress_at-first, line_at_entry, line_at_change}
 
 -- one event less is left where at least one more came at a task
 pub events_left-set : (ts : List Task) (xs : List Progress) (t : ℕ) (y : Progress) → t < length ts → length xs ≡ length ts
@@ -57,40 +55,6 @@ pub record GoesOn (s : Script) (t : ℕ) (old new : Progress) : Type 0 where
   pub fits : events_by new ≤ 3 * length (lines_of s t)
   pub has : HasLine new.phase new.lines (length (lines_of s t))
   pub at : IsAtEntry new.phase (slice_get (lines_of s t) new.lines)
-
--- a state after an event: boot has ended, no module is listed twice, and one id at most was given
-pub record Follows (old new : State) : Type 0 where
-  pub booted : new.booted ≡ true
-  pub once : IsListedOnce new.specs
-  pub ids : new.objects.next ≤ old.objects.next + 1
-
--- a run stays consistent with an event that may come
-pub consistent_on : (s : Script) (h : History) (state : State) (progress : List Progress) (e : Event) (state' : State) (t : ℕ) (y : Progress)
-    → IsConsistent s h state progress → t < length s.tasks
-    → MayCome s (record { state = state; progress = progress }) e
-    → after s (record { state = state; progress = progress }) e ≡ record { state = state'; progress = set progress t y }
-    → GoesOn s t (progress_at progress t) y → Follows state state'
-    → IsConsistent s (appended h e) state' (set progress t y)
-consistent_on s h state progress e state' t y consistent lt may next goes follows =
-    let P : ℕ → Progress → Type 0 = λ k x. HasLine x.phase x.lines (length (lines_of s k)) in
-    let Q : ℕ → Progress → Type 0 = λ k x. IsAtEntry x.phase (slice_get (lines_of s k) x.lines) in
-    let M : RunState → Type 0 = λ m. MayCome s m e in
-    let places : t < length progress = omega (arith, consistent.places) in
-    let left : events_left s.tasks (set progress t y) + 1 ≤ events_left s.tasks progress =
-    events_left-set s.tasks progress t y lt consistent.places goes.more goes.fits in
-    let longer = length-append h.events.list (e ∷ []) in
-    record {
-      legal = record { formed = consistent.legal.formed; boots = consistent.legal.boots; events = AllMayCome-append s (opening s) h.events.list e consistent.legal.events (subst M (sym consistent.here) may) };
-      here = run_state_after-append s (opening s) h.events.list e ∙ (ap (λ m. after s m e) consistent.here ∙ next);
-      places = length-set progress t y ∙ consistent.places;
-      lines = each-set P progress t y (length s.tasks) places consistent.lines goes.has;
-      entries = each-set Q progress t y (length s.tasks) places consistent.entries goes.at;
-      booted = follows.booted;
-      once = follows.once;
-      room = omega (arith, left, consistent.room, longer);
-      most = consistent.most;
-      ids = omega (arith, follows.ids, consistent.ids, longer);
-    }
 
 -- What a turn says of a phase
 
@@ -128,155 +92,161 @@ done_phase phases.Entered next e = cc
 done_phase phases.Done next e = refl
 done_phase phases.Stopped next e = cc
 
-module _ (s : Script) (h : History) (state : State) (progress : List Progress) (t : ℕ) (consistent : IsConsistent s h state progress) (lt : t < length s.tasks) where
-  stays : Follows state state
-  stays = record { booted = consistent.booted; once = consistent.once; ids = omega arith }
+-- A task of another number has no turn
 
-  -- there is room for one more event
-  room_for : (y : Progress) → GoesOn s t (progress_at progress t) y → length h.events.list < h.events.room
-  room_for y goes = omega (arith, events_left-set s.tasks progress t y lt consistent.places goes.more goes.fits, consistent.room)
+past_turn : (s : Script) (progress : List Progress) (t : ℕ) → length progress ≡ length s.tasks → length s.tasks ≤ t → turn_of s progress t ≡ turns.Finished
+past_turn s progress t places past =
+    let far : length progress ≤ t = omega arith in
+    let first : progress_at progress t ≡ first_progress = get_or-eq_default progress first_progress far in
+    let none : slice_get s.tasks t ≡ None = slice_get_past s.tasks t past in
+    ap (λ (x : Progress). turn_in x.phase (slice_get (lines_of s t) x.lines)) first
+    ∙ ap (λ (o : Option Task). turn_in phases.Idle (slice_get (unwrap_or (option_map (λ (task : Task). task.lines) o) []) 0)) none
 
-  -- a task whose turn is an entry has a line, and so has one whose turn is a change
-  entry_turn : turn_of s progress t ≡ turns.Entry → turn_at_line (next_line s progress t) ≡ turns.Entry
-  entry_turn turn =
-      let P : Phase → Type 0 = λ p. turn_in p (next_line s progress t) ≡ turns.Entry in
-      subst P (entry_phase _ (next_line s progress t) turn) turn
+not_past : (t n : ℕ) → (n ≤ t → ⊥) → t < n
+not_past t n absent = omega arith
 
-  change_turn : turn_of s progress t ≡ turns.Change → turn_at_line (next_line s progress t) ≡ turns.Change
-  change_turn turn =
-      let P : Phase → Type 0 = λ p. turn_in p (next_line s progress t) ≡ turns.Change in
-      subst P (change_phase _ (next_line s progress t) turn) turn
+-- the task of an event
+abbrev pub task_of : Event → ℕ
+task_of (events.Enter t) = t
+task_of (events.Done t n reply) = t
+task_of (events.Leave t) = t
+task_of (events.Changed t n reply) = t
 
-  entry_below : turn_of s progress t ≡ turns.Entry → (progress_at progress t).lines < length (lines_of s t)
-  entry_below turn =
-      let line = line_at_entry (next_line s progress t) (entry_turn turn) in
-      slice_get_within (lines_of s t) (progress_at progress t).lines line.0 line.1
+-- The progress of the event's task, which is one of the script, goes on to this.
+record Goes (s : Script) (r : RunState) (e : Event) : Type 0 where
+  within : task_of e < length s.tasks
+  progress : Progress
+  next : (after s r e).progress ≡ set r.progress (task_of e) progress
+  on : GoesOn s (task_of e) (progress_at r.progress (task_of e)) progress
 
-  pub change_below : turn_of s progress t ≡ turns.Change → (progress_at progress t).lines < length (lines_of s t)
-  change_below turn =
-      let line = line_at_change (next_line s progress t) (change_turn turn) in
-      slice_get_within (lines_of s t) (progress_at progress t).lines line.0 line.1
+module _ (s : Script) (h : History) (r : RunState) (consistent : IsConsistent s h r) where
+  within : (t : ℕ) (u : Turn) → turn_of s r.progress t ≡ u → u ≢ turns.Finished → t < length s.tasks
+  within t u turn other = not_past t (length s.tasks) (λ past. other (sym turn ∙ past_turn s r.progress t consistent.places past))
 
-  -- a task that has entered has a next line, whose call is no change
-  pub entered_below : turn_of s progress t ≡ turns.Entered → (progress_at progress t).lines < length (lines_of s t)
-  entered_below turn =
-      let P : Phase → Type 0 = λ p. HasLine p (progress_at progress t).lines (length (lines_of s t)) in
-      subst P (entered_phase _ (next_line s progress t) turn) (consistent.lines t lt)
+  -- A task whose turn is an entry has a next line, whose call is no change, and so has one that has entered. One whose turn is a change has a
+  -- next line whose call is a change.
 
-  entered_entry : turn_of s progress t ≡ turns.Entered → turn_at_line (next_line s progress t) ≡ turns.Entry
-  entered_entry turn =
-      let P : Phase → Type 0 = λ p. IsAtEntry p (next_line s progress t) in
-      subst P (entered_phase _ (next_line s progress t) turn) (consistent.entries t lt)
+  entry_turn : (t : ℕ) → turn_of s r.progress t ≡ turns.Entry → turn_at_line (next_line s r.progress t) ≡ turns.Entry
+  entry_turn t turn =
+      let P : Phase → Type 0 = λ p. turn_in p (next_line s r.progress t) ≡ turns.Entry in
+      subst P (entry_phase _ (next_line s r.progress t) turn) turn
 
-  pub entered_call : (line : Line) → turn_of s progress t ≡ turns.Entered → next_line s progress t ≡ Some line → is_change line.call ≡ false
-  entered_call line turn next = entry_call line (ap turn_at_line (sym next) ∙ entered_entry turn)
+  change_turn : (t : ℕ) → turn_of s r.progress t ≡ turns.Change → turn_at_line (next_line s r.progress t) ≡ turns.Change
+  change_turn t turn =
+      let P : Phase → Type 0 = λ p. turn_in p (next_line s r.progress t) ≡ turns.Change in
+      subst P (change_phase _ (next_line s r.progress t) turn) turn
 
-  pub changing_call : (line : Line) → turn_of s progress t ≡ turns.Change → next_line s progress t ≡ Some line → is_change line.call ≡ true
-  changing_call line turn next = change_call line (ap turn_at_line (sym next) ∙ change_turn turn)
+  entered_turn : (t : ℕ) → turn_of s r.progress t ≡ turns.Entered → turn_at_line (next_line s r.progress t) ≡ turns.Entry
+  entered_turn t turn =
+      let P : Phase → Type 0 = λ p. IsAtEntry p (next_line s r.progress t) in
+      subst P (entered_phase _ (next_line s r.progress t) turn) (consistent.entries t (within t turns.Entered turn (λ same. cc)))
 
-  -- Enter
+  pub entered_line : (t : ℕ) → turn_of s r.progress t ≡ turns.Entered → (line : Line) × (next_line s r.progress t ≡ Some line) × (is_change line.call ≡ false)
+  entered_line t turn = line_at_entry (next_line s r.progress t) (entered_turn t turn)
 
-  goes_entered : turn_of s progress t ≡ turns.Entry → GoesOn s t (progress_at progress t) (record { lines = (progress_at progress t).lines; phase = phases.Entered })
-  goes_entered turn =
-      let idle : (progress_at progress t).phase ≡ phases.Idle = entry_phase _ (next_line s progress t) turn in
-      let below = entry_below turn in
-      record { more = rw idle (omega arith); fits = omega arith; has = below; at = entry_turn turn }
+  pub change_line : (t : ℕ) → turn_of s r.progress t ≡ turns.Change → (line : Line) × (next_line s r.progress t ≡ Some line) × (is_change line.call ≡ true)
+  change_line t turn = line_at_change (next_line s r.progress t) (change_turn t turn)
 
-  pub consistent_enter : turn_of s progress t ≡ turns.Entry → IsConsistent s (appended h (events.Enter t)) state (with_phase progress t phases.Entered)
-  consistent_enter turn = consistent_on s h state progress (events.Enter t) state t _ consistent lt turn refl (goes_entered turn) stays
+  below : (t : ℕ) → ((line : Line) × (next_line s r.progress t ≡ Some line)) → (progress_at r.progress t).lines < length (lines_of s t)
+  below t line = slice_get_within (lines_of s t) (progress_at r.progress t).lines line.0 line.1
 
-  pub enter_room : turn_of s progress t ≡ turns.Entry → length h.events.list < h.events.room
-  enter_room turn = room_for _ (goes_entered turn)
+  entry_below : (t : ℕ) → turn_of s r.progress t ≡ turns.Entry → (progress_at r.progress t).lines < length (lines_of s t)
+  entry_below t turn = let line = line_at_entry (next_line s r.progress t) (entry_turn t turn) in below t (line.0, line.1)
 
-  -- Leave
+  change_below : (t : ℕ) → turn_of s r.progress t ≡ turns.Change → (progress_at r.progress t).lines < length (lines_of s t)
+  change_below t turn = let line = change_line t turn in below t (line.0, line.1)
 
-  done_below : turn_of s progress t ≡ turns.Done → (progress_at progress t).lines < length (lines_of s t)
-  done_below turn =
-      let P : Phase → Type 0 = λ p. HasLine p (progress_at progress t).lines (length (lines_of s t)) in
-      subst P (done_phase _ (next_line s progress t) turn) (consistent.lines t lt)
+  entered_below : (t : ℕ) → turn_of s r.progress t ≡ turns.Entered → (progress_at r.progress t).lines < length (lines_of s t)
+  entered_below t turn = let line = entered_line t turn in below t (line.0, line.1)
 
-  goes_left : turn_of s progress t ≡ turns.Done → GoesOn s t (progress_at progress t) (record { lines = (progress_at progress t).lines + 1; phase = phases.Idle })
-  goes_left turn =
-      let done : (progress_at progress t).phase ≡ phases.Done = done_phase _ (next_line s progress t) turn in
-      let below = done_below turn in
-      record { more = rw done (omega arith); fits = omega arith; has = omega arith; at = tt }
+  done_below : (t : ℕ) → turn_of s r.progress t ≡ turns.Done → (progress_at r.progress t).lines < length (lines_of s t)
+  done_below t turn =
+      let P : Phase → Type 0 = λ p. HasLine p (progress_at r.progress t).lines (length (lines_of s t)) in
+      subst P (done_phase _ (next_line s r.progress t) turn) (consistent.lines t (within t turns.Done turn (λ same. cc)))
 
-  goes_stopped : turn_of s progress t ≡ turns.Entered → GoesOn s t (progress_at progress t) (record { lines = (progress_at progress t).lines; phase = phases.Stopped })
-  goes_stopped turn =
-      let entered : (progress_at progress t).phase ≡ phases.Entered = entered_phase _ (next_line s progress t) turn in
-      let below = entered_below turn in
-      record { more = rw entered (omega arith); fits = omega arith; has = below; at = tt }
+  -- What each event makes of the task's progress
 
-  pub consistent_leave : (turn_of s progress t ≡ turns.Done) ⊎ (turn_of s progress t ≡ turns.Entered)
-      → IsConsistent s (appended h (events.Leave t)) state (with_left progress t)
-  consistent_leave (inl turn) =
-      let done : (progress_at progress t).phase ≡ phases.Done = done_phase _ (next_line s progress t) turn in
-      rw done (consistent_on s h state progress (events.Leave t) state t _ consistent lt (inl turn)
-      (ap (λ (p : Phase). record { state = state; progress = set progress t (left_at (progress_at progress t).lines p) }) done)
-      (goes_left turn) stays)
-  consistent_leave (inr turn) =
-      let entered : (progress_at progress t).phase ≡ phases.Entered = entered_phase _ (next_line s progress t) turn in
-      rw entered (consistent_on s h state progress (events.Leave t) state t _ consistent lt (inr turn)
-      (ap (λ (p : Phase). record { state = state; progress = set progress t (left_at (progress_at progress t).lines p) }) entered)
-      (goes_stopped turn) stays)
+  left_by : (t : ℕ) (p : Phase) → (progress_at r.progress t).phase ≡ p → GoesOn s t (progress_at r.progress t) (left_at (progress_at r.progress t).lines p)
+      → GoesOn s t (progress_at r.progress t) (left (progress_at r.progress t))
+  left_by t p is goes =
+      let P : Phase → Type 0 = λ p. GoesOn s t (progress_at r.progress t) (left_at (progress_at r.progress t).lines p) in
+      subst P (sym is) goes
 
-  pub leave_room : (turn_of s progress t ≡ turns.Done) ⊎ (turn_of s progress t ≡ turns.Entered) → length h.events.list < h.events.room
-  leave_room (inl turn) = room_for _ (goes_left turn)
-  leave_room (inr turn) = room_for _ (goes_stopped turn)
+  goes_left : (t : ℕ) → (turn_of s r.progress t ≡ turns.Done) ⊎ (turn_of s r.progress t ≡ turns.Entered) → GoesOn s t (progress_at r.progress t) (left (progress_at r.progress t))
+  goes_left t (inl turn) =
+      let done : (progress_at r.progress t).phase ≡ phases.Done = done_phase _ (next_line s r.progress t) turn in
+      let fits = done_below t turn in
+      left_by t phases.Done done (record { more = rw done (omega arith); fits = omega arith; has = omega arith; at = tt })
+  goes_left t (inr turn) =
+      let entered : (progress_at r.progress t).phase ≡ phases.Entered = entered_phase _ (next_line s r.progress t) turn in
+      let fits = entered_below t turn in
+      left_by t phases.Entered entered (record { more = rw entered (omega arith); fits = omega arith; has = fits; at = tt })
 
-  -- Done
+  left_within : (t : ℕ) → (turn_of s r.progress t ≡ turns.Done) ⊎ (turn_of s r.progress t ≡ turns.Entered) → t < length s.tasks
+  left_within t (inl turn) = within t turns.Done turn (λ same. cc)
+  left_within t (inr turn) = within t turns.Entered turn (λ same. cc)
 
-  goes_done : turn_of s progress t ≡ turns.Entered → GoesOn s t (progress_at progress t) (record { lines = (progress_at progress t).lines; phase = phases.Done })
-  goes_done turn =
-      let entered : (progress_at progress t).phase ≡ phases.Entered = entered_phase _ (next_line s progress t) turn in
-      let below = entered_below turn in
-      record { more = rw entered (omega arith); fits = omega arith; has = below; at = entered_entry turn }
+  goes : (e : Event) → MayCome s r e → Goes s r e
+  goes (events.Enter t) may =
+      let idle : (progress_at r.progress t).phase ≡ phases.Idle = entry_phase _ (next_line s r.progress t) may in
+      let fits = entry_below t may in
+      record {
+        within = within t turns.Entry may (λ same. cc);
+        progress = _;
+        next = refl;
+        on = record { more = rw idle (omega arith); fits = omega arith; has = fits; at = entry_turn t may };
+      }
+  goes (events.Done t n reply) may =
+      let entered : (progress_at r.progress t).phase ≡ phases.Entered = entered_phase _ (next_line s r.progress t) may.0 in
+      let fits = entered_below t may.0 in
+      record {
+        within = within t turns.Entered may.0 (λ same. cc);
+        progress = _;
+        next = refl;
+        on = record { more = rw entered (omega arith); fits = omega arith; has = fits; at = entered_turn t may.0 };
+      }
+  goes (events.Leave t) may = record { within = left_within t may; progress = _; next = refl; on = goes_left t may }
+  goes (events.Changed t n reply) may =
+      let idle : (progress_at r.progress t).phase ≡ phases.Idle = change_phase _ (next_line s r.progress t) may.1 in
+      let fits = change_below t may.1 in
+      record {
+        within = within t turns.Change may.1 (λ same. cc);
+        progress = _;
+        next = refl;
+        on = record { more = rw idle (omega arith); fits = omega arith; has = omega arith; at = tt };
+      }
 
-  pub done_room : turn_of s progress t ≡ turns.Entered → length h.events.list < h.events.room
-  done_room turn = room_for _ (goes_done turn)
+  -- there is room for an event that may come
+  pub room_for : (e : Event) → MayCome s r e → length h.events.list < h.events.room
+  room_for e may =
+      let goes_on = goes e may in
+      omega (arith, events_left-set s.tasks r.progress (task_of e) goes_on.progress goes_on.within consistent.places goes_on.on.more goes_on.on.fits, consistent.room)
 
-  pub replied : (line : Line) (reply : Reply) → next_line s progress t ≡ Some line → reply ≡ step_reply state (name_of s t) line.child line.call
-      → next_reply s (record { state = state; progress = progress }) t ≡ Some reply
-  replied line reply next is = ap (reply_at s (record { state = state; progress = progress }) t) next ∙ ap (λ r. Some r) (sym is)
+  pub task_within : (e : Event) → MayCome s r e → task_of e < length s.tasks
+  task_within e may = (goes e may).within
 
-  pub moved : (line : Line) (state' : State) → next_line s progress t ≡ Some line → state' ≡ step_state state (name_of s t) line.child line.call
-      → next_state s (record { state = state; progress = progress }) t ≡ state'
-  moved line state' next is = ap (state_at s (record { state = state; progress = progress }) t) next ∙ sym is
-
-  -- the call of an entry is done
-  pub consistent_done : (line : Line) (n : ℕ) (reply : Reply) (state' : State) → turn_of s progress t ≡ turns.Entered
-      → next_line s progress t ≡ Some line → n ≡ (progress_at progress t).lines + 1
-      → reply ≡ step_reply state (name_of s t) line.child line.call → state' ≡ step_state state (name_of s t) line.child line.call
-      → Follows state state'
-      → IsConsistent s (appended h (events.Done t n reply)) state' (with_phase progress t phases.Done)
-  consistent_done line n reply state' turn next number reply_is state_is follows =
-      consistent_on s h state progress (events.Done t n reply) state' t _ consistent lt
-      (turn, number, replied line reply next reply_is)
-      (ap (λ (x : State). record { state = x; progress = with_phase progress t phases.Done }) (moved line state' next state_is))
-      (goes_done turn) follows
-
-  -- Changed
-
-  goes_changed : turn_of s progress t ≡ turns.Change → GoesOn s t (progress_at progress t) (record { lines = (progress_at progress t).lines + 1; phase = phases.Idle })
-  goes_changed turn =
-      let idle : (progress_at progress t).phase ≡ phases.Idle = change_phase _ (next_line s progress t) turn in
-      let below = change_below turn in
-      record { more = rw idle (omega arith); fits = omega arith; has = omega arith; at = tt }
-
-  pub change_room : turn_of s progress t ≡ turns.Change → length h.events.list < h.events.room
-  change_room turn = room_for _ (goes_changed turn)
-
-  -- a change is made
-  pub consistent_change : (line : Line) (n : ℕ) (reply : Reply) (state' : State) → turn_of s progress t ≡ turns.Change → open_entries progress ≡ 0
-      → next_line s progress t ≡ Some line → n ≡ (progress_at progress t).lines + 1
-      → reply ≡ step_reply state (name_of s t) line.child line.call → state' ≡ step_state state (name_of s t) line.child line.call
-      → Follows state state'
-      → IsConsistent s (appended h (events.Changed t n reply)) state' (with_line progress t)
-  consistent_change line n reply state' turn none next number reply_is state_is follows =
-      consistent_on s h state progress (events.Changed t n reply) state' t _ consistent lt
-      (none, turn, number, replied line reply next reply_is)
-      (ap (λ (x : State). record { state = x; progress = with_line progress t }) (moved line state' next state_is))
-      (goes_changed turn) follows
+  -- after an event that may come, the history with it and the state after it are consistent
+  pub consistent_next : (e : Event) → MayCome s r e → IsConsistent s (with_event h e) (after s r e)
+  consistent_next e may =
+      let goes_on = goes e may in
+      let t = task_of e in
+      let y = goes_on.progress in
+      let P : ℕ → Progress → Type 0 = λ k x. HasLine x.phase x.lines (length (lines_of s k)) in
+      let Q : ℕ → Progress → Type 0 = λ k x. IsAtEntry x.phase (slice_get (lines_of s k) x.lines) in
+      let M : RunState → Type 0 = λ m. MayCome s m e in
+      let Each : (ℕ → Progress → Type 0) → List Progress → Type 0 = λ P xs. (k : ℕ) → k < length s.tasks → P k (progress_at xs k) in
+      let places : t < length r.progress = omega (arith, consistent.places, goes_on.within) in
+      let fewer : events_left s.tasks (set r.progress t y) + 1 ≤ events_left s.tasks r.progress =
+      events_left-set s.tasks r.progress t y goes_on.within consistent.places goes_on.on.more goes_on.on.fits in
+      let longer = length-append h.events.list (e ∷ []) in
+      record {
+        legal = record { formed = consistent.legal.formed; boots = consistent.legal.boots; events = AllMayCome-append s (opening s) h.events.list e consistent.legal.events (subst M (sym consistent.here) may) };
+        here = run_state_after-append s (opening s) h.events.list e ∙ ap (λ m. after s m e) consistent.here;
+        places = ap length goes_on.next ∙ (length-set r.progress t y ∙ consistent.places);
+        lines = subst (Each P) (sym goes_on.next) (each-set P r.progress t y (length s.tasks) places consistent.lines goes_on.on.has);
+        entries = subst (Each Q) (sym goes_on.next) (each-set Q r.progress t y (length s.tasks) places consistent.entries goes_on.on.at);
+        room = omega (arith, fewer, consistent.room, longer, ap (events_left s.tasks) goes_on.next);
+      }
 
 -- At the opening
 
@@ -288,27 +258,19 @@ events_first : (ts : List Task) → events_left ts (map (λ (x : Task). first_pr
 events_first [] = refl
 events_first (x ∷ ts) = omega (arith, events_first ts, sum_by-cons line_count x ts)
 
-pub consistent_first : (s : Script) (h : History) (state : State) (progress : List Progress) (n : ℕ) → IsWellFormed s
-    → h.boots ≡ boots_of s → h.events ≡ record { list = []; room = 3 * n } → n ≡ sum_by line_count s.tasks → n ≤ 65536
-    → state ≡ opening_state s → IsListedOnce state.specs → state.objects.next ≤ 273 → progress ≡ map (λ (x : Task). first_progress) s.tasks
-    → IsConsistent s h state progress
-consistent_first s h state progress n formed boots events count few state_is once ids progress_is =
+pub consistent_first : (s : Script) (h : History) (n : ℕ) → IsWellFormed s → h.boots ≡ boots_of s → h.events ≡ record { list = []; room = 3 * n }
+    → n ≡ sum_by line_count s.tasks → IsConsistent s h (opening s)
+consistent_first s h n formed boots events count =
     let list : h.events.list ≡ [] = ap (λ (l : Log). l.list) events in
     let room : h.events.room ≡ 3 * n = ap (λ (l : Log). l.room) events in
     let A : List Event → Type 0 = λ es. AllMayCome s (opening s) es in
-    let first : (t : ℕ) → progress_at progress t ≡ first_progress = λ t. ap (λ xs. progress_at xs t) progress_is ∙ progress_at-first s.tasks t in
     let H : Progress → ℕ → Type 0 = λ x t. HasLine x.phase x.lines (length (lines_of s t)) in
     let E : Progress → ℕ → Type 0 = λ x t. IsAtEntry x.phase (slice_get (lines_of s t) x.lines) in
     record {
       legal = record { formed = formed; boots = boots; events = subst A (sym list) tt };
-      here = ap (λ es. run_state_of s es) list ∙ (ap (λ (x : State). record { state = x; progress = map (λ (x : Task). first_progress) s.tasks }) (sym state_is)
-          ∙ ap (λ (xs : List Progress). record { state = state; progress = xs }) (sym progress_is));
-      places = ap length progress_is ∙ places_first s.tasks;
-      lines = λ t lt. subst (λ (x : Progress). H x t) (sym (first t)) (omega arith);
-      entries = λ t lt. subst (λ (x : Progress). E x t) (sym (first t)) tt;
-      booted = ap (λ (x : State). x.booted) state_is;
-      once = once;
-      room = omega (arith, ap length list, room, count, events_first s.tasks, ap (events_left s.tasks) progress_is);
-      most = omega arith;
-      ids = omega (arith, ap length list);
+      here = ap (λ es. run_state_of s es) list;
+      places = places_first s.tasks;
+      lines = λ t lt. subst (λ (x : Progress). H x t) (sym (progress_at-first s.tasks t)) (omega arith);
+      entries = λ t lt. subst (λ (x : Progress). E x t) (sym (progress_at-first s.tasks t)) tt;
+      room = omega (arith, ap length list, room, count, events_first s.tasks);
     }

@@ -1,17 +1,12 @@
 -- How often modules are listed and held.
 use Rattle.std.proofs.Common.{◌≡◌, ◌≢◌, ℕ, zero, suc, ◌+◌, ◌<◌, ◌≤◌, Bool, true, false, cond, ◌||◌, List, [], ◌∷◌, length, get_or, take, refl, ap, arith}
 use Rattle.std.specs.List.{list_any}
-use Rattle.std.proofs.lemmas.List.Elements.{All-nil, All-cons}
 use Rattle.mf_errno.specs.Module.{same_module}
 use Rattle.mf_errno.specs.declared.module.Module.{Module}
 use Rattle.mf_errno.specs.declared.module.Module.TheVariants.{Biba, Mls, Partition, Bsdextended, Priority}
-use Rattle.mf_policy.specs.declared.registration.Registration.{Registration}
-use Rattle.mf_policy.specs.Modules.{has_spec}
-use Rattle.mf_policy.specs.Registration.{Entry, is_of}
 use Rattle.mf_list.specs.Held.{how_many, are_distinct}
 use Rattle.mf_errno.proofs.Modules.{same_module-is}
-use Rattle.mf_core.specs.Opening.{registrations_in}
-use Rattle.mf_core.specs.Policies.{AreAllModules, AreAllThere, times_wanted}
+use Rattle.mf_core.specs.Policies.{AreAllModules, times_wanted}
 
 pub same_module-self : (m : Module) → same_module m m ≡ true
 same_module-self Biba = refl
@@ -80,17 +75,3 @@ distinct_if_once (m ∷ ms) once =
 
 pub distinct_modules : (ms : List Module) → AreAllModules ms → are_distinct ms ≡ true
 distinct_modules ms all = distinct_if_once ms (λ m. omega (arith, all m, wanted_once m))
-
-wanted_there : (b : Bool) → 1 ≤ cond b 1 0 → b ≡ true
-wanted_there true some = refl
-wanted_there false some = absurd (omega arith)
-
--- a list in which no module stands more often than it is wanted is of modules that there are
-pub listed_there : (es : List Entry) → ((m : Module) → how_many (is_of m) es ≤ times_wanted m) → AreAllThere (registrations_in es)
-listed_there [] few = All-nil (λ (r : Registration). has_spec r.module ≡ true)
-listed_there (e ∷ es) few =
-    let P : Registration → Type 0 = λ r. has_spec r.module ≡ true in
-    let here = few e.0.module in
-    let own = ap {B = ℕ} (λ (b : Bool). cond b 1 0) (same_module-self e.0.module) in
-    All-cons P e.0 (registrations_in es) (wanted_there (has_spec e.0.module) (omega (arith, here, own)))
-    (listed_there es (λ m. omega (arith, few m)))

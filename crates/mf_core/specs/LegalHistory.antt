@@ -4,7 +4,11 @@ use Rattle.mf_calls.specs.declared.script.Line.{Line}
 use Rattle.mf_calls.specs.declared.script.Script.{Script}
 use Rattle.mf_calls.specs.WellFormed.{is_change, lines_of, name_of, IsWellFormed}
 use Rattle.mf_plan.specs.declared.state.State.{State}
+use Rattle.mf_plan.specs.declared.found.Found.{Found}
+use Rattle.mf_plan.specs.Planned.{Plan}
 use Rattle.mf_plan.specs.declared.reply.Reply.{Reply}
+use Rattle.mf_plan.specs.Found.{found_of}
+use Rattle.mf_plan.specs.Plan.{plan_of}
 use Rattle.mf_core.specs.declared.progress.Phase.{Phase}
 use Rattle.mf_core.specs.declared.progress.Phase.TheVariants as phase
 use Rattle.mf_core.specs.declared.progress.Progress.{Progress}
@@ -45,7 +49,21 @@ turn_in phase.Stopped next = turn.Stopped
 abbrev pub turn_of : Script → List Progress → ℕ → Turn
 turn_of s list t = turn_in (progress_at list t).phase (next_line s list t)
 
--- The reply to the call of a task's next line, and the state after it
+-- The plan of the call of a task's next line, what the call is about, the reply to it, and the state after it
+
+abbrev pub plan_at : Script → RunState → ℕ → Option Line → Option Plan
+plan_at s r t None = None
+plan_at s r t (Some line) = Some (plan_of r.state (name_of s t) line.child line.call)
+
+abbrev pub next_plan : Script → RunState → ℕ → Option Plan
+next_plan s r t = plan_at s r t (next_line s r.progress t)
+
+abbrev pub found_at : Script → RunState → ℕ → Option Line → Option Found
+found_at s r t None = None
+found_at s r t (Some line) = Some (found_of r.state (name_of s t) line.child line.call)
+
+abbrev pub next_found : Script → RunState → ℕ → Option Found
+next_found s r t = found_at s r t (next_line s r.progress t)
 
 abbrev pub reply_at : Script → RunState → ℕ → Option Line → Option Reply
 reply_at s r t None = None
@@ -106,5 +124,5 @@ abbrev pub IsComplete : Script → History → Type 0
 IsComplete s h = (t : ℕ) → t < length s.tasks → turn_of s (run_state_of s h.events.list).progress t ≡ turn.Finished
 
 -- the history with one more event
-abbrev pub appended : History → Event → History
-appended h e = record h { events = record h.events { list = h.events.list ++ e ∷ [] } }
+abbrev pub with_event : History → Event → History
+with_event h e = record h { events = record h.events { list = h.events.list ++ e ∷ [] } }

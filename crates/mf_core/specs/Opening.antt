@@ -6,10 +6,9 @@ use Rattle.mf_item.specs.declared.view.Kind.TheVariants as kinds
 use Rattle.mf_policy.specs.declared.registration.Registration.{Registration}
 use Rattle.mf_policy.specs.declared.labels.Origin.TheVariants.{Boot}
 use Rattle.mf_policy.specs.NewLabels.{new_label}
-use Rattle.mf_policy.specs.Registration.{Entry}
-use Rattle.mf_list.specs.Registration.{given_after, registration_of, with_registered}
+use Rattle.mf_policy.specs.Registration.{Entry, given_after, registration_of, with_registered}
 use Rattle.mf_objects.specs.declared.id.Id.{Id}
-use Rattle.mf_objects.specs.declared.entity.What.TheVariants.{Process}
+use Rattle.mf_objects.specs.declared.entity.EntityData.TheVariants.{Process}
 use Rattle.mf_objects.specs.Live.{Entities}
 use Rattle.mf_objects.specs.Changes as objects
 use Rattle.mf_calls.specs.declared.script.Task.{Task}
@@ -18,7 +17,7 @@ use Rattle.mf_calls.specs.declared.script.Script.{Script}
 use Rattle.mf_plan.specs.declared.state.State.{State}
 use Rattle.mf_plan.specs.declared.target.Target.{Target}
 use Rattle.mf_plan.specs.declared.target.Target.TheVariants.{Root, Name, Nowhere}
-use Rattle.mf_plan.specs.Path.{last_name, walk_along}
+use Rattle.mf_plan.specs.Path.{last_name, lookup_along}
 use Rattle.mf_plan.specs.Views.{process_named}
 
 -- Registrations
@@ -63,7 +62,7 @@ with_file_at listed o f Root = o
 with_file_at listed o f (Nowhere errno) = o
 
 abbrev pub with_file : List Entry → Entities → FileLine → Entities
-with_file listed o f = with_file_at listed o f (walk_along o f.path).target
+with_file listed o f = with_file_at listed o f (lookup_along o f.path).target
 
 -- The process of a task is made under its name, which in a well-formed script is free.
 abbrev pub with_task_at : List Entry → Entities → Task → Option Id → Entities

@@ -1,17 +1,17 @@
 //! Registration at boot.
 ghost use Rattle.std.specs.Prelude.{◌≡◌, [], false, All, IfOk, map};
-ghost use Rattle.mf_policy.specs.Modules.{fresh_of, module_of};
+ghost use Rattle.mf_policy.specs.Modules.{module_of};
 ghost use Rattle.mf_list.specs.Lists.{IsFresh, IsReady};
 ghost use Rattle.mf_list.specs.Registration.{Registers, registration_of};
 ghost use Rattle.mf_calls.specs.Boots.{AreBoots};
 ghost use Rattle.mf_core.specs.Opening as spec;
-ghost use Rattle.mf_core.specs.Policies.{AreAllModules, AreAllThere, AreOf, CanBoot};
+ghost use Rattle.mf_core.specs.Policies.{AreAllModules, AreOf, CanBoot};
 
 use crate::history::BootList;
 use mf_errno::Module;
 use mf_list::{Catalogue, PolicyList};
 use mf_names::Listing;
-use mf_policy::{Policy, Registration, Spec, SpecList};
+use mf_policy::{Policy, Registration};
 use mf_slots::SlotNumbers;
 use std::alloc::{AllocError, Global};
 
@@ -30,18 +30,17 @@ pub fn unlisted<P: Policy>(
     Ok((list, catalogue))
 }
 
-/// Registers these modules in order, and returns the registrations and the slot numbers.
+/// Registers these modules in order, and returns the registrations.
 pub fn register_boots<P: Policy>(
     alloc: Global,
     modules: &Listing<Module>,
     list: &mut PolicyList<P>,
     catalogue: &mut Catalogue<P>,
-) -> Result<(BootList, SlotNumbers), AllocError>
+) -> Result<BootList, AllocError>
     requires boots { AreBoots modules.now }
     requires policies { AreOf [] list.old catalogue.old }
-    ensures boots { IfOk result (λ r. r.0 ≡ spec.registrations_from 0 modules.now) }
-    ensures numbers { IfOk result (λ r. r.1 ≡ spec.given_by modules.now) }
-    ensures policies { IfOk result (λ r. AreOf (spec.listed_by r.0) list.new catalogue.new) }
+    ensures boots { IfOk result (λ boots. boots ≡ spec.registrations_from 0 modules.now) }
+    ensures policies { IfOk result (λ boots. AreOf (spec.listed_by boots) list.new catalogue.new) }
 {
     let mut boots = Listing::new(alloc);
     let mut numbers = SlotNumbers::new();
@@ -49,7 +48,7 @@ pub fn register_boots<P: Policy>(
         let registration = register_boot(list, catalogue, &mut numbers, *booted);
         boots.push(registration)?;
     }
-    Ok((boots, numbers))
+    Ok(boots)
 }
 
 /// Registers a module before the end of boot.
@@ -69,17 +68,4 @@ fn register_boot<P: Policy>(
         Ok(registration) => registration,
         Err(_) => unreachable!(),
     }
-}
-
-/// These registrations, each with the initial spec of its module.
-pub fn loaded_specs(alloc: Global, listed: &[Registration]) -> Result<SpecList, AllocError>
-    requires { AreAllThere listed.now }
-    ensures { IfOk result (λ specs. specs ≡ map (λ r. (r, fresh_of r.«module»)) listed.now) }
-{
-    let mut specs = SpecList::new(alloc);
-    for registration in listed {
-        let fresh = Spec::fresh(alloc, registration.module)?;
-        specs.insert(specs.len(), *registration, fresh)?;
-    }
-    Ok(specs)
 }

@@ -1,51 +1,41 @@
 //! What a change of the policies does to the list and the catalogue.
-ghost use Rattle.std.specs.Prelude.{◌≡◌};
-ghost use Rattle.mf_errno.specs.declared.module.Module.{Module};
-ghost use Rattle.mf_list.specs.Held.{times_held};
-ghost use Rattle.mf_list.specs.Lists.{IsReady};
-ghost use Rattle.mf_core.specs.Policies.{listed_after, listed_after_reply};
+ghost use Rattle.std.specs.Prelude.{◌≡◌, ℕ, List, true};
+ghost use Rattle.mf_objects.specs.declared.id.Id.{Id};
+ghost use Rattle.mf_calls.specs.WellFormed.{is_change};
+ghost use Rattle.mf_plan.specs.Doing.{CanDo};
+ghost use Rattle.mf_step.specs.Effect.{effect_of};
+ghost use Rattle.mf_core.specs.Policies.{AreOf};
 
 use mf_calls::Call;
+use mf_errno::Module;
 use mf_list::{Catalogue, PolicyList};
-use mf_plan::Reply;
-use mf_policy::Policy;
+use mf_plan::{State, loadable};
+use mf_policy::{Policy, registration_of};
 
-/// Registers or unregisters the module that the call names, where the reply is Ok. So many slot numbers were given
-/// before the call.
+/// Lists the module that the call loads, or takes the one that it unloads off the list: with no judgement, and no memory. The
+/// call must be one that can be done in the state.
 pub fn follow<P: Policy>(
     list: &mut PolicyList<P>,
     catalogue: &mut Catalogue<P>,
-    given: u8,
-    reply: &Reply,
+    state: &State,
     call: &Call,
 )
-    requires { IsReady list.old catalogue.old }
-    ensures entries { list.new.entries ≡ listed_after_reply reply.now list.old.entries (listed_after call.now list.old catalogue.old given) }
-    ensures held { (m : Module) → times_held m list.new catalogue.new ≡ times_held m list.old catalogue.old }
-    ensures ready { IsReady list.new catalogue.new }
-{
-    if let Reply::Ok(_) = reply {
-        follow_call(list, catalogue, given, call);
-    }
-}
-
-fn follow_call<P: Policy>(
-    list: &mut PolicyList<P>,
-    catalogue: &mut Catalogue<P>,
-    given: u8,
-    call: &Call,
-)
-    requires { IsReady list.old catalogue.old }
-    ensures entries { list.new.entries ≡ listed_after call.now list.old catalogue.old given }
-    ensures held { (m : Module) → times_held m list.new catalogue.new ≡ times_held m list.old catalogue.old }
-    ensures ready { IsReady list.new catalogue.new }
+    requires change { is_change call.now ≡ true }
+    requires can { (task : List ℕ) → CanDo state.now task call.now }
+    requires policies { AreOf state.now.specs list.old catalogue.old }
+    ensures { (task : List ℕ) → (caller : Id) → AreOf (effect_of state.now task caller call.now).specs list.new catalogue.new }
 {
     match call {
         Call::Kldload(name) => {
-            let _ = list.register_at(catalogue, given, name.as_str(), true);
+            if let Some(wanted) = loadable(name.as_str()) {
+                let registration = registration_of(wanted, state.booted, state.numbers.given());
+                list.attach(catalogue, registration);
+            }
         }
         Call::Kldunload(name) => {
-            let _ = list.unregister(catalogue, name.as_str());
+            if let Some(wanted) = Module::from_name(name.as_str()) {
+                list.detach(catalogue, wanted);
+            }
         }
         _ => {}
     }

@@ -8,18 +8,18 @@ ghost use Rattle.mf_step.specs.Verdict as step;
 ghost use Rattle.mf_core.specs.declared.history.Event.TheVariants as event;
 ghost use Rattle.mf_core.specs.declared.progress.Turn.TheVariants as turn;
 ghost use Rattle.mf_core.specs.declared.progress.Phase.TheVariants as phase;
-ghost use Rattle.mf_core.specs.LegalHistory.{appended, IsComplete, IsLegal};
+ghost use Rattle.mf_core.specs.LegalHistory.{with_event, next_plan, IsComplete, IsLegal};
 ghost use Rattle.mf_core.specs.Opening.{boots_of};
 ghost use Rattle.mf_core.specs.Policies.{AreAllModules, AreOf};
-ghost use Rattle.mf_core.specs.Progress.{progress_at, first_progress, open_entries, left, Moves};
-ghost use Rattle.mf_core.specs.Run.{run_state, specs_of, progress_of, turn_at, next_plan, open_of, lines_at, done_of, all_lines, lines_left};
+ghost use Rattle.mf_core.specs.Progress.{progress_at, first_progress, open_entries, left, Advances};
+ghost use Rattle.mf_core.specs.CoreView.{run_state, specs_of, progress_of, turn_at, open_of, lines_at, done_of, all_lines, lines_left};
 
 mod changing;
 
-use crate::booting::{loaded_specs, register_boots, unlisted};
+use crate::booting::{register_boots, unlisted};
 use crate::history::{Event, EventList, History};
-use crate::opening::opening_objects;
-use crate::progress::{Phase, ProgressList, Turn};
+use crate::progress::Turn;
+use crate::run::Run;
 use mf_calls::Script;
 use mf_list::{Catalogue, PolicyList};
 use mf_plan::{Plan, State};
@@ -31,20 +31,19 @@ use std::marker::Model;
 /// A run of a script so far. Contracts see the script and the history, which is legal and determines all else.
 #[derive(Drop)]
 pub struct Core<'s> {
-    script: &'s Script,
+    run: Run<'s>,
     history: History,
-    state: State,
-    progress: ProgressList,
 }
 
 impl<'s> Model for Core<'s> {
-    ghost use Rattle.mf_core.specs.Run.{Run, IsConsistent};
+    ghost use Rattle.mf_core.specs.CoreView.{CoreView};
+    ghost use Rattle.mf_core.specs.Consistency.{IsConsistent};
 
-    ghost Value = { Run };
+    ghost Value = { CoreView };
 
-    ghost view = { λ c. record { script = c.script.now; history = c.history } };
+    ghost view = { λ c. record { script = c.run.script; history = c.history } };
 
-    ghost invariant = { λ c. IsConsistent c.script.now c.history c.state c.progress };
+    ghost invariant = { λ c. IsConsistent c.run.script c.history c.run.run };
 }
 
 impl<'s> Core<'s> {
@@ -66,24 +65,13 @@ impl<'s> Core<'s> {
         ensures entries { IfOk result (λ r. open_of r.0 ≡ 0) }
         ensures lines { IfOk result (λ r. done_of r.0 ≡ 0) }
     {
+        let run = Run::new(alloc, script)?;
         let (mut list, mut catalogue) = unlisted(alloc, modules)?;
-        let (boots, numbers) = register_boots(alloc, &script.boots, &mut list, &mut catalogue)?;
-        let listed = list.listed();
-        let specs = loaded_specs(alloc, listed.as_slice())?;
-        let objects = opening_objects(alloc, script, &specs)?;
-        let state = State {
-            objects,
-            specs,
-            numbers,
-            booted: true,
-        };
+        let boots = register_boots(alloc, &script.boots, &mut list, &mut catalogue)?;
         let events = EventList::with_room(alloc, 3 * script.line_count())?;
-        let progress = ProgressList::for_tasks(alloc, &script.tasks)?;
         let core = Core {
-            script,
+            run,
             history: History { boots, events },
-            state,
-            progress,
         };
         Ok((core, list, catalogue))
     }
@@ -93,63 +81,44 @@ impl<'s> Core<'s> {
         requires { task < length self.now.script.tasks }
         ensures { result ≡ turn_at self.now task }
     {
-        let progress = self.progress.at(task as usize);
-        match progress.phase {
-            Phase::Idle => Turn::at_line(self.script.next_line(task, progress.lines)),
-            Phase::Entered => Turn::Entered,
-            Phase::Done => Turn::Done,
-            Phase::Stopped => Turn::Stopped,
-        }
+        self.run.turn(task)
     }
 
     /// Begins an entry of the task.
     pub fn enter(&mut self, task: u32)
         requires task { task < length self.old.script.tasks }
         requires turn { turn_at self.old task ≡ turn.Entry }
-        ensures event { self.new ≡ record self.old { history = appended self.old.history (event.Enter task) } }
-        ensures progress { Moves (progress_of self.old) (progress_of self.new) task (record (progress_at (progress_of self.old) task) { phase = phase.Entered }) }
+        ensures event { self.new ≡ record self.old { history = with_event self.old.history (event.Enter task) } }
+        ensures progress { Advances (progress_of self.old) (progress_of self.new) task (record (progress_at (progress_of self.old) task) { phase = phase.Entered }) }
         ensures specs { specs_of self.new ≡ specs_of self.old }
         ensures entries { open_of self.new ≡ open_of self.old + 1 }
         ensures lines { done_of self.new ≡ done_of self.old }
     {
+        self.run.enter(task);
         self.history.events.push(Event::Enter(task));
-        self.progress.set_phase(task as usize, Phase::Entered);
     }
 
     /// Ends the task's entry. Where its call isn't done, the task stops.
     pub fn leave(&mut self, task: u32)
         requires task { task < length self.old.script.tasks }
         requires turn { (turn_at self.old task ≡ turn.Done) ⊎ (turn_at self.old task ≡ turn.Entered) }
-        ensures event { self.new ≡ record self.old { history = appended self.old.history (event.Leave task) } }
-        ensures progress { Moves (progress_of self.old) (progress_of self.new) task (left (progress_at (progress_of self.old) task)) }
+        ensures event { self.new ≡ record self.old { history = with_event self.old.history (event.Leave task) } }
+        ensures progress { Advances (progress_of self.old) (progress_of self.new) task (left (progress_at (progress_of self.old) task)) }
         ensures specs { specs_of self.new ≡ specs_of self.old }
         ensures entries { open_of self.new + 1 ≡ open_of self.old }
         ensures lines { done_of self.new ≡ done_of self.old + lines_left (turn_at self.old task) }
     {
+        self.run.leave(task);
         self.history.events.push(Event::Leave(task));
-        self.progress.leave(task as usize);
     }
 
     /// Makes `plan` that of the call that the task has entered for, from the present state.
     pub fn plan(&self, task: u32, plan: &mut Plan)
         requires task { task < length self.now.script.tasks }
         requires turn { turn_at self.now task ≡ turn.Entered }
-        ensures { next_plan self.now task ≡ Some plan.new }
+        ensures { next_plan self.now.script (run_state self.now) task ≡ Some plan.new }
     {
-        let lines = self.progress.at(task as usize).lines;
-        self.plan_at(task, lines, plan);
-    }
-
-    /// Makes `plan` that of the call of the task's line at index `lines`, from 0.
-    fn plan_at(&self, task: u32, lines: u32, plan: &mut Plan)
-        requires task { task < length self.now.script.tasks }
-        requires line { lines < length (lines_of self.now.script task) }
-        requires lines { lines ≡ (progress_at (progress_of self.now) task).lines }
-        ensures { next_plan self.now task ≡ Some plan.new }
-    {
-        let line = self.script.line_at(task, lines);
-        let name = self.script.name_of(task);
-        plan.make(&self.state, name, line.child_name(), &line.call);
+        let _found = self.run.plan(task, plan);
     }
 
     /// The listed policies' verdict on a plan: the first denial, if a check is denied.
@@ -163,7 +132,7 @@ impl<'s> Core<'s> {
     pub fn open_entries(&self) -> u32
         ensures { result ≡ open_entries (progress_of self.now) }
     {
-        self.progress.open_entries()
+        self.run.open_entries()
     }
 
     /// How many lines of the task are done: never more than the script gives it.
@@ -173,14 +142,14 @@ impl<'s> Core<'s> {
         ensures within { result ≤ length (lines_of self.now.script task) }
         ensures most { result ≤ LINE_LIMIT }
     {
-        self.progress.at(task as usize).lines
+        self.run.lines(task)
     }
 
     /// The present state.
     pub fn state(&self) -> &State
         ensures { result.now ≡ (run_state self.now).state }
     {
-        &self.state
+        self.run.state()
     }
 
     /// The history so far.

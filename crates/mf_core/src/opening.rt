@@ -2,7 +2,9 @@
 ghost use Rattle.std.specs.Prelude.{◌≡◌, ◌≤◌, ◌<◌, ◌+◌, ℕ, [], fold, length, IfOk, IsTrue, OnOk};
 ghost use Rattle.mf_names.specs.declared.limits.TheConstants.{CONTENT_LIMIT};
 ghost use Rattle.mf_objects.specs.declared.limits.TheConstants.{ID_LIMIT, MOST_ENTITIES};
+ghost use Rattle.mf_calls.specs.declared.limits.TheConstants.{FILE_LIMIT};
 ghost use Rattle.mf_calls.specs.WellFormed.{IsWellFormed};
+ghost use Rattle.mf_core.specs.declared.limits.TheConstants.{MOST_AT_OPENING};
 ghost use Rattle.mf_core.specs.Opening as spec;
 ghost use Rattle.mf_core.specs.Opening.{HasAtMost};
 
@@ -15,8 +17,7 @@ use mf_policy::{Origin, SpecList, new_label};
 use mf_step::last_name;
 use std::alloc::{AllocError, Global};
 
-/// The root, then the files, then the processes of the tasks, where these policies are listed: at most 1, 256 and 16
-/// entities.
+/// The root, then the files, then the processes of the tasks, where these policies are listed.
 pub fn opening_objects(
     alloc: Global,
     script: &Script,
@@ -24,7 +25,7 @@ pub fn opening_objects(
 ) -> Result<Objects, AllocError>
     requires { IsWellFormed script.now }
     ensures value { IfOk result (λ objects. objects ≡ spec.opening_objects listed.now script.now) }
-    ensures few { IfOk result (λ objects. HasAtMost objects 273) }
+    ensures few { IfOk result (λ objects. HasAtMost objects MOST_AT_OPENING) }
 {
     let root = new_label(listed, Kind::Vnode, &Origin::Boot(Request::none()));
     let mut objects = Objects::new(alloc, &root)?;
@@ -42,7 +43,7 @@ fn add_files(
     requires script { IsWellFormed script.now }
     requires few { HasAtMost objects.old 1 }
     ensures value { OnOk result (objects.new ≡ fold (spec.with_file listed.now) objects.old script.now.files) }
-    ensures few { OnOk result (HasAtMost objects.new 257) }
+    ensures few { OnOk result (HasAtMost objects.new (1 + FILE_LIMIT)) }
 {
     for file in script.files.as_slice() {
         add_file(alloc, objects, file, listed)?;
@@ -83,9 +84,9 @@ fn add_tasks(
     listed: &SpecList,
 ) -> Result<(), AllocError>
     requires script { IsWellFormed script.now }
-    requires few { HasAtMost objects.old 257 }
+    requires few { HasAtMost objects.old (1 + FILE_LIMIT) }
     ensures value { OnOk result (objects.new ≡ fold (spec.with_task listed.now) objects.old script.now.tasks) }
-    ensures few { OnOk result (HasAtMost objects.new 273) }
+    ensures few { OnOk result (HasAtMost objects.new MOST_AT_OPENING) }
 {
     for task in script.tasks.as_slice() {
         add_task(alloc, objects, task, listed)?;

@@ -74,6 +74,12 @@ impl Duplicate for Cred {
     }
 }
 
+/// The mode of a new regular file, as chmod(2) has it.
+pub const FILE_MODE: u16 = 0o644;
+
+/// The mode of a new directory, and of the root directory.
+pub const DIRECTORY_MODE: u16 = 0o755;
+
 /// The attributes of a file: its owner, its group, its mode bits as chmod(2) has them, and whether it is a directory.
 #[derive(Clone, Copy, PartialEq, Eq, Debug, Default)]
 pub struct FileView {

@@ -5,4 +5,4 @@ mod array_vec;
 mod cred;
 
 pub use array_vec::{ArrayVec, Duplicate};
-pub use cred::{Cred, FileView, MOST_GROUPS};
+pub use cred::{Cred, DIRECTORY_MODE, FILE_MODE, FileView, MOST_GROUPS};

@@ -54,7 +54,7 @@ impl Comps {
 /// Sets the bit of a place.
 fn set_bit(words: &mut [u64], place: usize)
     requires four { length words.old ≡ 4 }
-    requires within { place < 256 }
+    requires within { place < LAST_COMPARTMENT }
     ensures set { numbers_of words.new ≡ set.insert (numbers_of words.old) (place + 1) }
     ensures value { words.new ≡ words_of (set.insert (numbers_of words.old) (place + 1)) }
 {

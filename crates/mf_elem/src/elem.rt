@@ -67,12 +67,12 @@ pub fn range_in_range(l: &Elem, h: &Elem, low: &Elem, high: &Elem) -> bool
 #[cfg(test)]
 mod tests {
     use super::*;
-    use crate::{RangeLabel, has_equal, is_valid, privileged};
+    use crate::{LAST_COMPARTMENT, RangeLabel, has_equal, is_valid, privileged};
 
     fn grade(grade: u16, comps: &[u16]) -> Elem {
         let mut set = Comps::empty();
         for n in comps {
-            if 1 <= *n && *n <= 256 {
+            if 1 <= *n && *n <= LAST_COMPARTMENT {
                 set = set.with(*n);
             }
         }

@@ -1,5 +1,5 @@
 -- The numbers and the names of the errors.
-use Rattle.std.specs.Prelude.{ℕ, Bool, nat_eq, List, [], ◌∷◌, Option, find, codes}
+use Rattle.std.specs.Prelude.{◌≡◌, ℕ, Bool, nat_eq, List, [], ◌∷◌, Option, find, codes}
 use Rattle.std.specs.Str.{bytes_eq}
 use Rattle.mf_errno.specs.declared.errno.Errno.{Errno}
 use Rattle.mf_errno.specs.declared.errno.Errno.TheVariants.{Success, Eperm, Enoent, Esrch, Edeadlk, Enomem, Eacces, Ebusy, Eexist, Enotdir, Eisdir, Einval, Enfile, Efbig, Eagain, Enobufs, Enotempty}
@@ -55,3 +55,11 @@ errno_named name = find (λ e. bytes_eq (text_of e) name) all_errors
 -- whether the two errors are equal: their numbers tell them apart
 abbrev pub is_same : Errno → Errno → Bool
 is_same a b = nat_eq (number_of a) (number_of b)
+
+-- no two errors have one number
+abbrev pub NumbersDiffer : Type 0
+NumbersDiffer = (a b : Errno) → number_of a ≡ number_of b → a ≡ b
+
+-- no two errors have one name
+abbrev pub NamesDiffer : Type 0
+NamesDiffer = (a b : Errno) → text_of a ≡ text_of b → a ≡ b

@@ -23,6 +23,10 @@ module_text Partition = codes "mac_partition"
 module_text Bsdextended = codes "mac_bsdextended"
 module_text Priority = codes "mac_priority"
 
+-- all of them
+abbrev pub all_modules : List Module
+all_modules = Biba ∷ Mls ∷ Partition ∷ Bsdextended ∷ Priority ∷ []
+
 -- the module of that name
 unfoldable pub module_named : List ℕ → Option Module
-module_named name = find (λ m. bytes_eq (module_text m) name) (Biba ∷ Mls ∷ Partition ∷ Bsdextended ∷ Priority ∷ [])
+module_named name = find (λ m. bytes_eq (module_text m) name) all_modules

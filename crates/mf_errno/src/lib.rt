@@ -2,11 +2,13 @@
 #![tactic(auto)]
 
 mod errno;
+mod laws;
 mod module;
 mod privilege;
 mod selection;
 
 pub use errno::Errno;
+pub use laws::{names_differ, numbers_differ};
 pub use module::Module;
 pub use privilege::Priv;
 pub use selection::select;

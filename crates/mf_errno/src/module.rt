@@ -1,6 +1,6 @@
 //! The policy modules that the model knows, a part of those of mac(4).
 ghost use Rattle.std.specs.Prelude.{◌≡◌};
-ghost use Rattle.mf_errno.specs.Module.{module_named, module_text, same_module};
+ghost use Rattle.mf_errno.specs.Module.{all_modules, module_named, module_text, same_module};
 
 use std::fmt;
 
@@ -15,6 +15,19 @@ pub enum Module {
 }
 
 impl Module {
+    /// Every module.
+    pub fn all() -> [Module; 5]
+        ensures { result ≡ all_modules }
+    {
+        [
+            Module::Biba,
+            Module::Mls,
+            Module::Partition,
+            Module::Bsdextended,
+            Module::Priority,
+        ]
+    }
+
     /// The name of the module's manual page, as kldload(8) takes it.
     pub fn name(self) -> &'static str
         ensures { result.now ≡ module_text self }

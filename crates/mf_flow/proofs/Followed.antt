@@ -8,17 +8,18 @@ use Rattle.std.proofs.Math.Seq.{drop-cons}
 use Rattle.mf_errno.specs.declared.errno.Errno.TheVariants.{Success}
 use Rattle.mf_errno.specs.declared.module.Module.{Module}
 use Rattle.mf_errno.specs.declared.module.Module.TheVariants.{Biba, Mls, Partition, Bsdextended, Priority}
-use Rattle.mf_item.specs.declared.item.Item.{Item}
+use Rattle.mf_elem.specs.declared.label.TheConstants.{SLOTS}
+use Rattle.mf_item.specs.Item.{Item}
 use Rattle.mf_policy.specs.declared.registration.Registration.{Registration}
 use Rattle.mf_policy.specs.Answer.{LatticePolicy, lattice_answer}
 use Rattle.mf_list.specs.Asked.{slot_of}
 use Rattle.mf_objects.specs.declared.id.Id.{Id}
-use Rattle.mf_objects.specs.Live.{Live, Entities}
+use Rattle.mf_objects.specs.Live.{LiveEntity, Entities}
 use Rattle.mf_objects.specs.Live.{label_of as values_of}
 use Rattle.mf_calls.specs.declared.script.Call.{Call}
 use Rattle.mf_calls.specs.declared.script.Line.{Line}
 use Rattle.mf_calls.specs.declared.script.Script.{Script}
-use Rattle.mf_calls.specs.WellFormed.{lines_of, name_of}
+use Rattle.mf_calls.specs.WellFormed.{lines_of, name_of, IsWellFormed}
 use Rattle.mf_plan.specs.declared.state.State.{State}
 use Rattle.mf_plan.specs.declared.reply.Reply.{Reply}
 use Rattle.mf_plan.specs.declared.reply.Reply.TheVariants as reply
@@ -31,10 +32,10 @@ use Rattle.mf_core.specs.declared.history.History.{History}
 use Rattle.mf_core.specs.Opening.{opening_state}
 use Rattle.mf_core.specs.Progress.{progress_at}
 use Rattle.mf_core.specs.LegalHistory.{RunState, opening, next_line, reply_at, state_at, MayCome, after, AllMayCome, run_state_after, run_state_of, IsLegal}
-use Rattle.mf_core.specs.Replayed.{Replayed}
-use Rattle.mf_marks.proofs.Shape.{Shape}
-use Rattle.mf_marks.proofs.Entities.{IsStep, entity_step}
-use Rattle.mf_marks.proofs.Marked.{by_line, event_shape}
+use Rattle.mf_core.specs.RunView.{RunView}
+use Rattle.mf_step.proofs.StateChange.{StateChange}
+use Rattle.mf_step.proofs.EntityChange.{ChangesEntities, changes_entities}
+use Rattle.mf_lifetimes.proofs.Marked.{by_line, event_change}
 use Rattle.mf_flow.specs.Movement.{passed}
 use Rattle.mf_flow.specs.declared.following.Flow.{Flow}
 use Rattle.mf_flow.specs.declared.following.Flows.{Flows}
@@ -43,8 +44,8 @@ use Rattle.mf_flow.specs.Sources.{Sets, alone, element_in, moved_by_all, relabel
 use Rattle.mf_flow.specs.Table.{HasSources}
 use Rattle.mf_flow.proofs.Granted.{IsGranted, passed_granted, all_passed}
 use Rattle.mf_flow.proofs.Copies.{IsCopied, plan_copied}
-use Rattle.mf_flow.proofs.Flowing.{IsFlowing, IsOf, own_answer, line_objects, event_flowing, opening_flowing}
-use Rattle.mf_flow.proofs.RowsKept.{items_rows, created_rows, shape_next}
+use Rattle.mf_flow.proofs.Flowing.{IsFlowing, IsOf, all_labelled, own_answer, line_objects, event_flowing, opening_flowing}
+use Rattle.mf_flow.proofs.RowsKept.{items_rows, created_rows, change_next}
 use Rattle.mf_flow.proofs.Dominating.{IsBootedFor, biba_booted, mls_booted}
 
 never_relabels : (r : Registration) (s : State) (caller : Option Id) (c : Call) (said : Reply) (id : Id) → relabels r s caller c said id ≡ false
@@ -53,25 +54,25 @@ never_relabels r s caller c (reply.Denied errno op item by) id = refl
 never_relabels r s caller c (reply.Refused errno) id = refl
 
 call_rows : (p : LatticePolicy) (r : Registration) (s s' : State) (task : List ℕ) (line : Line) (said : Reply) (sets : Sets) (rows : Rows) → IsOf p r
-    → step_reply s task line.child line.call ≡ said → Shape (caller_of s task line) s s' → IsFlowing p r s sets → AreRows s.objects sets rows
+    → step_reply s task line.child line.call ≡ said → StateChange (caller_of s task line) s s' → IsFlowing p r s sets → AreRows s.objects sets rows
     → AreRows s'.objects (sets_after_line r s s' task (Some line) said sets) (rows_after_line (slot_of r) s s' task (Some line) said rows)
 call_rows p r s s' task line said sets rows of is shape flowing are =
     let by : Option Id = caller_of s task line in
     let items : List Item = passed said (plan_of s task line.child line.call).items in
-    let step : IsStep by s s' = entity_step by s s' shape flowing.rising in
+    let step : ChangesEntities by s s' = changes_entities by s s' shape flowing.held.kept.rising in
     let granted : AllByRecursion (IsGranted s.specs) items =
     subst (λ (x : Reply). AllByRecursion (IsGranted s.specs) (passed x (plan_of s task line.child line.call).items)) is
     (passed_granted s.specs (plan_of s task line.child line.call) (payload_of s line.call)) in
     let copied : AllByRecursion (IsCopied s.objects) items =
     all_passed (IsCopied s.objects) said (plan_of s task line.child line.call).items (plan_copied s task line.call by) in
-    let success : AllByRecursion (λ (item : Item). lattice_answer p (slot_of r) item ≡ Success) items = own_answer p r s.specs s.numbers items of flowing.pinned granted in
+    let success : AllByRecursion (λ (item : Item). lattice_answer p (slot_of r) item ≡ Success) items = own_answer p r s.specs s.numbers items of flowing.held.pinned granted in
     let after_checks : AreRows s.objects (moved_by_all r s.objects sets items) (fold (rows_moved (slot_of r) s.objects) rows items) =
-    items_rows p of.flows r s.objects flowing.rising flowing.elements sets rows items success copied flowing.fit are in
-    created_rows r by s s' flowing.rising step (shape_next by s s' shape) (relabels r s by line.call said) (never_relabels r s by line.call said)
+    items_rows p of.flows r s.objects flowing.held.kept.rising (all_labelled r s flowing.held) sets rows items success copied flowing.fit are in
+    created_rows r by s s' flowing.held.kept.rising step (change_next by s s' shape) (relabels r s by line.call said) (never_relabels r s by line.call said)
     (moved_by_all r s.objects sets items) (fold (rows_moved (slot_of r) s.objects) rows items) after_checks
 
 done_rows : (p : LatticePolicy) (r : Registration) (s : Script) (run : RunState) (t : ℕ) (next : Option Line) (said : Reply) (sets : Sets) (rows : Rows) → IsOf p r
-    → reply_at s run t next ≡ Some said → Shape (by_line s run t next) run.state (state_at s run t next) → IsFlowing p r run.state sets → AreRows run.state.objects sets rows
+    → reply_at s run t next ≡ Some said → StateChange (by_line s run t next) run.state (state_at s run t next) → IsFlowing p r run.state sets → AreRows run.state.objects sets rows
     → AreRows (state_at s run t next).objects (sets_after_line r run.state (state_at s run t next) (name_of s t) next said sets)
     (rows_after_line (slot_of r) run.state (state_at s run t next) (name_of s t) next said rows)
 done_rows p r s run t None said sets rows of is shape flowing are = cc
@@ -84,7 +85,7 @@ event_rows : (p : LatticePolicy) (r : Registration) (s : Script) (run : RunState
     → AreRows (after s run e).state.objects (sets_after_event s r run e sets) (rows_after_event s (slot_of r) run e rows)
 event_rows p r s run (event.Enter t) sets rows of may flowing are = are
 event_rows p r s run (event.Done t line said) sets rows of may flowing are =
-    done_rows p r s run t (next_line s run.progress t) said sets rows of may.2 (event_shape s run (event.Done t line said)) flowing are
+    done_rows p r s run t (next_line s run.progress t) said sets rows of may.2 (event_change s run (event.Done t line said)) flowing are
 event_rows p r s run (event.Leave t) sets rows of may flowing are = are
 event_rows p r s run (event.Changed t line said) sets rows of may flowing are =
     subst (λ (o : Entities). AreRows o sets rows) (sym (line_objects s run t (progress_at run.progress t).phase (next_line s run.progress t) may.1)) are
@@ -99,57 +100,57 @@ kept_rows o sets rows rows' kept are =
 -- Going through a history
 
 -- some of the events are gone through: how the rest leads to the state at the end
-pub record IsReplayed (s : Script) (es : List Event) (n : ℕ) (replay : Replayed) : Type 0 where
+pub record IsReplayed (s : Script) (es : List Event) (n : ℕ) (replay : RunView) : Type 0 where
   pub script : replay.script ≡ s
   pub may : AllMayCome s replay.run (drop n es)
   pub run : run_state_after s replay.run (drop n es) ≡ run_state_after s (opening s) es
 
 -- the sources so far, and how the rest leads to those of the history
-record Followed (p : LatticePolicy) (s : Script) (r : Registration) (es : List Event) (n : ℕ) (replay : Replayed) (rows : Rows) : Type 0 where
+record Followed (p : LatticePolicy) (s : Script) (r : Registration) (es : List Event) (n : ℕ) (replay : RunView) (rows : Rows) : Type 0 where
   sets : Sets
   flows : sets_after s r replay.run sets (drop n es) ≡ sources_of s r es
   flowing : IsFlowing p r replay.run.state sets
   kept : AreRows replay.run.state.objects sets rows
 
 -- the same for the policy that is booted so
-record IsFollowed (s : Script) (r : Registration) (es : List Event) (n : ℕ) (replay : Replayed) (rows : Rows) : Type 0 where
+record IsFollowed (s : Script) (r : Registration) (es : List Event) (n : ℕ) (replay : RunView) (rows : Rows) : Type 0 where
   policy : LatticePolicy
   of : IsOf policy r
   followed : Followed policy s r es n replay rows
 
-pub record IsFlow (s : Script) (es : List Event) (n : ℕ) (replay : Replayed) (r : Registration) (f : Flow) : Type 0 where
+pub record IsFlow (s : Script) (es : List Event) (n : ℕ) (replay : RunView) (r : Registration) (f : Flow) : Type 0 where
   slot : f.slot ≡ slot_of r
   rows : IsFollowed s r es n replay f.sets
 
 -- At the opening
 
-opening_for : (p : LatticePolicy) (s : Script) (h : History) (r : Registration) (rows : Rows) → IsBootedFor p s r
+opening_for : (p : LatticePolicy) (s : Script) (h : History) (r : Registration) (rows : Rows) → IsWellFormed s → IsBootedFor p s r
     → AreRows (opening_state s).objects (opening_sets s r) rows → IsFollowed s r h.events.list 0 (record { script = s; run = opening s }) rows
-opening_for p s h r rows booted are =
+opening_for p s h r rows formed booted are =
     record {
       policy = p;
       of = booted.of;
-      followed = record { sets = opening_sets s r; flows = refl; flowing = opening_flowing p r s booted.of booted.pinned; kept = are };
+      followed = record { sets = opening_sets s r; flows = refl; flowing = opening_flowing p r s formed booted.of booted.pinned; kept = are };
     }
 
-opening_followed : (s : Script) (h : History) (r : Registration) (es : List Event) (replay : Replayed) (rows : Rows) → es ≡ h.events.list → IsLegal s h → IsBooted h r
+opening_followed : (s : Script) (h : History) (r : Registration) (es : List Event) (replay : RunView) (rows : Rows) → es ≡ h.events.list → IsLegal s h → IsBooted h r
     → replay ≡ record { script = s; run = opening s } → AreRows (opening_state s).objects (opening_sets s r) rows → IsFollowed s r es 0 replay rows
 opening_followed s h r es replay rows all legal booted is are =
     subst (λ (x : List Event). IsFollowed s r x 0 replay rows) (sym all)
-    (subst (λ (x : Replayed). IsFollowed s r h.events.list 0 x rows) (sym is) (one r.module refl booted.1))
+    (subst (λ (x : RunView). IsFollowed s r h.events.list 0 x rows) (sym is) (one r.module refl booted.1))
   where
     one : (m : Module) → r.module ≡ m → HasSources m → IsFollowed s r h.events.list 0 (record { script = s; run = opening s }) rows
-    one Biba of has = opening_for _ s h r rows (biba_booted s h r legal booted.0 of) are
-    one Mls of has = opening_for _ s h r rows (mls_booted s h r legal booted.0 of) are
+    one Biba of has = opening_for _ s h r rows legal.formed (biba_booted s h r legal booted.0 of) are
+    one Mls of has = opening_for _ s h r rows legal.formed (mls_booted s h r legal booted.0 of) are
     one Partition of has = absurd has
     one Bsdextended of has = absurd has
     one Priority of has = absurd has
 
-pub opening_replayed : (s : Script) (h : History) (es : List Event) (replay : Replayed) → es ≡ h.events.list → IsLegal s h → replay ≡ record { script = s; run = opening s }
+pub opening_replayed : (s : Script) (h : History) (es : List Event) (replay : RunView) → es ≡ h.events.list → IsLegal s h → replay ≡ record { script = s; run = opening s }
     → IsReplayed s es 0 replay
 opening_replayed s h es replay all legal is =
     subst (λ (x : List Event). IsReplayed s x 0 replay) (sym all)
-    (subst (λ (x : Replayed). IsReplayed s h.events.list 0 x) (sym is) (record { script = refl; may = legal.events; run = refl }))
+    (subst (λ (x : RunView). IsReplayed s h.events.list 0 x) (sym is) (record { script = refl; may = legal.events; run = refl }))
 
 -- own elements are the sources at the opening
 own_sources_rows : (s : Script) (r : Registration) (o : Entities) (rows : Rows) → o ≡ (opening_state s).objects → AreOwnRows (slot_of r) o rows
@@ -158,15 +159,15 @@ own_sources_rows s r o rows here own =
     let at : AreOwnRows (slot_of r) (opening_state s).objects rows = subst (λ (x : Entities). AreOwnRows (slot_of r) x rows) here own in
     record {
       count = at.count;
-      each = λ id e live. at.each id e live ∙ ap (λ (found : Option Live). alone (element_in r (values_of found))) (sym live);
+      each = λ id e live. at.each id e live ∙ ap (λ (found : Option LiveEntity). alone (element_in r (values_of found))) (sym live);
     }
 
-pub opening_flows : (s : Script) (h : History) (r : Option Registration) (es : List Event) (replay : Replayed) (state : State) (flow : Option Flow) → es ≡ h.events.list → IsLegal s h
+pub opening_flows : (s : Script) (h : History) (r : Option Registration) (es : List Event) (replay : RunView) (state : State) (flow : Option Flow) → es ≡ h.events.list → IsLegal s h
     → IfSome r (IsBooted h) → replay ≡ record { script = s; run = opening s } → state ≡ replay.run.state → Alike (IsOpening state.objects) r flow
     → Alike (IsFlow s es 0 replay) r flow
 opening_flows s h None es replay state flow all legal booted is here none = none
 opening_flows s h (Some r) es replay state flow all legal booted is here opened =
-    let at : state.objects ≡ (opening_state s).objects = ap (λ (x : State). x.objects) (here ∙ ap (λ (x : Replayed). x.run.state) is) in
+    let at : state.objects ≡ (opening_state s).objects = ap (λ (x : State). x.objects) (here ∙ ap (λ (x : RunView). x.run.state) is) in
     let f : Flow = opened.0 in (
       f,
       opened.1,
@@ -178,23 +179,23 @@ opening_flows s h (Some r) es replay state flow all legal booted is here opened 
 
 -- The next event
 
-pub next_may : (s : Script) (es : List Event) (n : ℕ) (replay : Replayed) (d : Event) → n < length es → IsReplayed s es n replay → MayCome s replay.run (get_or es n d)
+pub next_may : (s : Script) (es : List Event) (n : ℕ) (replay : RunView) (d : Event) → n < length es → IsReplayed s es n replay → MayCome s replay.run (get_or es n d)
 next_may s es n replay d within replayed = (subst (AllMayCome s replay.run) (drop-cons es n d within) replayed.may).0
 
 rest_is : (es : List Event) (n : ℕ) (e d : Event) → n < length es → e ≡ get_or es n d → drop n es ≡ e ∷ drop (suc n) es
 rest_is es n e d within is = drop-cons es n d within ∙ ap (λ (x : Event). x ∷ drop (suc n) es) (sym is)
 
-pub replayed_more : (s : Script) (es : List Event) (n : ℕ) (replay replay' : Replayed) (e d : Event) → n < length es → IsReplayed s es n replay → e ≡ get_or es n d
+pub replayed_more : (s : Script) (es : List Event) (n : ℕ) (replay replay' : RunView) (e d : Event) → n < length es → IsReplayed s es n replay → e ≡ get_or es n d
     → replay' ≡ record { script = s; run = after s replay.run e } → IsReplayed s es (n + 1) replay'
 replayed_more s es n replay replay' e d within so_far is next =
     let rest : drop n es ≡ e ∷ drop (suc n) es = rest_is es n e d within is in
     let may : AllMayCome s replay.run (e ∷ drop (suc n) es) = subst (AllMayCome s replay.run) rest so_far.may in
     let place : suc n ≡ n + 1 = omega arith in
     subst (λ (k : ℕ). IsReplayed s es k replay') place
-    (subst (λ (x : Replayed). IsReplayed s es (suc n) x) (sym next)
+    (subst (λ (x : RunView). IsReplayed s es (suc n) x) (sym next)
     (record { script = refl; may = may.1; run = sym (ap (run_state_after s replay.run) rest) ∙ so_far.run }))
 
-followed_more : (s : Script) (r : Registration) (es : List Event) (n : ℕ) (replay replay' : Replayed) (rows rows' rows'' : Rows) (e d : Event) → n < length es
+followed_more : (s : Script) (r : Registration) (es : List Event) (n : ℕ) (replay replay' : RunView) (rows rows' rows'' : Rows) (e d : Event) → n < length es
     → IsReplayed s es n replay → IsFollowed s r es n replay rows → e ≡ get_or es n d → replay' ≡ record { script = s; run = after s replay.run e }
     → rows' ≡ rows_after_event s (slot_of r) replay.run e rows → AreKept (after s replay.run e).state.objects rows' rows'' → IsFollowed s r es (n + 1) replay' rows''
 followed_more s r es n replay replay' rows rows' rows'' e d within replayed followed is next rows_are kept =
@@ -207,7 +208,7 @@ followed_more s r es n replay replay' rows rows' rows'' e d within replayed foll
     let after_event : AreRows (after s replay.run e).state.objects sets rows' =
     subst (AreRows (after s replay.run e).state.objects sets) (sym rows_are) (event_rows p r s replay.run e so_far.sets rows followed.of may.0 so_far.flowing so_far.kept) in
     subst (λ (k : ℕ). IsFollowed s r es k replay' rows'') place
-    (subst (λ (x : Replayed). IsFollowed s r es (suc n) x rows'') (sym next)
+    (subst (λ (x : RunView). IsFollowed s r es (suc n) x rows'') (sym next)
     (record {
       policy = p;
       of = followed.of;
@@ -275,7 +276,7 @@ mls_after s run e flows = one e flows.biba flows.mls
     one (event.Changed t line said) biba None = refl
     one (event.Changed t line said) biba (Some f) = refl
 
-pub flow_more : (s : Script) (r : Option Registration) (es : List Event) (n : ℕ) (replay replay' : Replayed) (state : State) (flow flow' flow'' : Option Flow) (e d : Event) → n < length es
+pub flow_more : (s : Script) (r : Option Registration) (es : List Event) (n : ℕ) (replay replay' : RunView) (state : State) (flow flow' flow'' : Option Flow) (e d : Event) → n < length es
     → IsReplayed s es n replay → Alike (IsFlow s es n replay) r flow → e ≡ get_or es n d → replay' ≡ record { script = s; run = after s replay.run e } → state ≡ replay'.run.state
     → flow' ≡ flow_after_event s replay.run e flow → Alike (IsKept state.objects) flow' flow'' → Alike (IsFlow s es (n + 1) replay') r flow''
 flow_more s None es n replay replay' state flow flow' flow'' e d within replayed none is next here then kept =
@@ -286,7 +287,7 @@ flow_more s (Some r) es n replay replay' state flow flow' flow'' e d within repl
     let f' : Flow = record f { sets = rows_after_event s f.slot replay.run e f.sets } in
     let now : flow' ≡ Some f' = then ∙ ap (flow_after_event s replay.run e) so_far.1 in
     let left = subst (λ (x : Option Flow). Alike (IsKept state.objects) x flow'') now kept in
-    let at : state.objects ≡ (after s replay.run e).state.objects = ap (λ (x : State). x.objects) (here ∙ ap (λ (x : Replayed). x.run.state) next) in (
+    let at : state.objects ≡ (after s replay.run e).state.objects = ap (λ (x : State). x.objects) (here ∙ ap (λ (x : RunView). x.run.state) next) in (
       left.0,
       left.1,
       record {
@@ -298,12 +299,12 @@ flow_more s (Some r) es n replay replay' state flow flow' flow'' e d within repl
     )
 
 -- the policy's slot
-pub flow_slot : (s : Script) (r : Option Registration) (es : List Event) (n : ℕ) (replay : Replayed) (flow : Option Flow) → Alike (IsFlow s es n replay) r flow
-    → IfSome flow (λ f. f.slot < 4)
-flow_slot s None es n replay flow none = subst (λ (x : Option Flow). IfSome x (λ f. f.slot < 4)) (sym none) tt
+pub flow_slot : (s : Script) (r : Option Registration) (es : List Event) (n : ℕ) (replay : RunView) (flow : Option Flow) → Alike (IsFlow s es n replay) r flow
+    → IfSome flow (λ f. f.slot < SLOTS)
+flow_slot s None es n replay flow none = subst (λ (x : Option Flow). IfSome x (λ f. f.slot < SLOTS)) (sym none) tt
 flow_slot s (Some r) es n replay flow so_far =
-    let four : slot_of r < 4 = so_far.2.rows.of.four in
-    subst (λ (x : Option Flow). IfSome x (λ f. f.slot < 4)) (sym so_far.1) (omega (arith, so_far.2.slot, four))
+    let within : slot_of r < SLOTS = so_far.2.rows.of.within in
+    subst (λ (x : Option Flow). IfSome x (λ f. f.slot < SLOTS)) (sym so_far.1) (omega (arith, so_far.2.slot, within))
 
 -- At the end
 
@@ -311,13 +312,13 @@ nothing_left : (es : List Event) → drop (length es) es ≡ []
 nothing_left [] = refl
 nothing_left (e ∷ es) = nothing_left es
 
-pub all_replayed : (s : Script) (h : History) (es : List Event) (n : ℕ) (replay : Replayed) → es ≡ h.events.list → n ≡ length es → IsReplayed s es n replay
+pub all_replayed : (s : Script) (h : History) (es : List Event) (n : ℕ) (replay : RunView) → es ≡ h.events.list → n ≡ length es → IsReplayed s es n replay
     → replay.run ≡ run_state_of s h.events.list
 all_replayed s h es n replay all is replayed =
     let none : drop n es ≡ [] = ap (λ (k : ℕ). drop k es) is ∙ nothing_left es in
     sym (ap (run_state_after s replay.run) none) ∙ replayed.run ∙ ap (run_state_of s) all
 
-pub all_flows : (s : Script) (h : History) (r : Option Registration) (es : List Event) (n : ℕ) (replay : Replayed) (flow : Option Flow) → es ≡ h.events.list → n ≡ length es
+pub all_flows : (s : Script) (h : History) (r : Option Registration) (es : List Event) (n : ℕ) (replay : RunView) (flow : Option Flow) → es ≡ h.events.list → n ≡ length es
     → IsReplayed s es n replay → Alike (IsFlow s es n replay) r flow → Alike (IsFlowOf s h) r flow
 all_flows s h None es n replay flow all is replayed none = none
 all_flows s h (Some r) es n replay flow all is replayed so_far =

@@ -7,11 +7,12 @@ use Rattle.mf_errno.specs.declared.module.Module.{Module}
 use Rattle.mf_errno.specs.declared.module.Module.TheVariants.{Biba, Mls, Partition, Bsdextended, Priority}
 use Rattle.mf_errno.proofs.Modules.{same_module-is}
 use Rattle.mf_elem.specs.declared.elem.Elem.{Elem}
+use Rattle.mf_elem.specs.declared.label.TheConstants.{SLOTS}
 use Rattle.mf_elem.specs.Label.{is_equal}
 use Rattle.mf_policy.specs.declared.registration.Registration.{Registration}
 use Rattle.mf_list.specs.Asked.{slot_of}
 use Rattle.mf_objects.specs.declared.id.Id.{Id}
-use Rattle.mf_objects.specs.Live.{Live, Entities, has_id, is_from, id_of, live_at}
+use Rattle.mf_objects.specs.Live.{LiveEntity, Entities, has_id, is_from, id_of, live_at}
 use Rattle.mf_objects.specs.Population.{IsRising}
 use Rattle.mf_objects.specs.Titles.{title_at}
 use Rattle.mf_objects.proofs.Rising.{id_differs}
@@ -69,7 +70,7 @@ own_rows slot o rows n rising all first =
       each = λ id e live.
           let given : id.0 < o.next = find_given id e 0 o.next o.live live rising in
           first.each id.0 (omega arith)
-          ∙ ap (λ (found : Option Live). new_row slot found []) (first_from id e 0 o.next o.live rising live)
+          ∙ ap (λ (found : Option LiveEntity). new_row slot found []) (first_from id e 0 o.next o.live rising live)
           ∙ own_alone (element_of slot e.label);
     }
 
@@ -85,19 +86,19 @@ not_from : (n m : ℕ) → m < n → nat_le n m ≡ false
 not_from n m l = grind (arith, nat_tests)
 
 -- the first from a number on that is at most the first id
-first_is : (n least next : ℕ) (es : List Live) → n ≤ least → IsRising least next es → find (is_from n) es ≡ slice_get es 0
+first_is : (n least next : ℕ) (es : List LiveEntity) → n ≤ least → IsRising least next es → find (is_from n) es ≡ slice_get es 0
 first_is n least next [] l rising = refl
 first_is n least next (x ∷ es) l rising =
     let test : is_from n x ≡ true = from_less n x.id.0 (omega (arith, rising.0)) in
     rw test refl
 
-later_id : (es : List Live) (n least next : ℕ) (d : Live) → n < length es → IsRising least next es → least ≤ (get_or es n d).id.0
+later_id : (es : List LiveEntity) (n least next : ℕ) (d : LiveEntity) → n < length es → IsRising least next es → least ≤ (get_or es n d).id.0
 later_id [] n least next d within rising = absurd (omega arith)
 later_id (x ∷ es) zero least next d within rising = rising.0
 later_id (x ∷ es) (suc n) least next d within rising = omega (arith, rising.0, later_id es n (x.id.0 + 1) next d (omega arith) rising.1)
 
 -- behind one entity the next is found
-next_found : (es : List Live) (n least next : ℕ) (d : Live) → n < length es → IsRising least next es
+next_found : (es : List LiveEntity) (n least next : ℕ) (d : LiveEntity) → n < length es → IsRising least next es
     → find (is_from ((get_or es n d).id.0 + 1)) es ≡ slice_get es (n + 1)
 next_found [] n least next d within rising = absurd (omega arith)
 next_found (x ∷ es) zero least next d within rising =
@@ -144,13 +145,13 @@ listed_none m o rows table = record { listed = nothing_more table; next = from_s
     nothing_more [] = refl
     nothing_more (x ∷ xs) = ap (λ (ys : List Row). x ∷ ys) (nothing_more xs)
 
-    from_start : (es : List Live) → find (is_from 0) es ≡ slice_get es 0
+    from_start : (es : List LiveEntity) → find (is_from 0) es ≡ slice_get es 0
     from_start [] = refl
     from_start (x ∷ es) = let test : is_from 0 x ≡ true = from_less 0 x.id.0 (omega arith) in rw test refl
 
 -- the entity that is found next is the one in that place
 record IsNext (o : Entities) (n : ℕ) (id : Id) : Type 0 where
-  e : Live
+  e : LiveEntity
   here : slice_get o.live n ≡ Some e
   is : e.id ≡ id
 
@@ -158,7 +159,7 @@ found_next : (m : Module) (o : Entities) (rows : Rows) (before table : List Row)
     → Some id ≡ id_of (find (is_from from) o.live) → IsNext o n id
 found_next m o rows before table from n id so_far found = one (slice_get o.live n) refl (found ∙ ap id_of so_far.next)
   where
-    one : (x : Option Live) → slice_get o.live n ≡ x → Some id ≡ id_of x → IsNext o n id
+    one : (x : Option LiveEntity) → slice_get o.live n ≡ x → Some id ≡ id_of x → IsNext o n id
     one None is same = cc
     one (Some e) is same =
         let own : id ≡ e.id = cc in
@@ -170,16 +171,16 @@ pub listed_more : (m : Module) (o : Entities) (rows : Rows) (before table table'
     → AreListed m o rows before table' from' (n + 1)
 listed_more m o rows before table table' from from' n id new rising so_far within found is more next =
     let at : IsNext o n id = found_next m o rows before table from n id so_far found in
-    let f : Live → Row = row_of m o (λ (x : Id). row rows x.0) in
+    let f : LiveEntity → Row = row_of m o (λ (x : Id). row rows x.0) in
     let own : new ≡ f at.e = is ∙ ap (λ (x : Id). record { «module» = m; id = x; title = title_at o x; elements = row rows x.0 }) (sym at.is) in
     let behind : find (is_from (at.e.id.0 + 1)) o.live ≡ slice_get o.live (n + 1) =
-    ap (λ (x : Live). find (is_from (x.id.0 + 1)) o.live) (sym (got o.live n at.e at.e at.here)) ∙ next_found o.live n 0 o.next at.e within rising in
+    ap (λ (x : LiveEntity). find (is_from (x.id.0 + 1)) o.live) (sym (got o.live n at.e at.e at.here)) ∙ next_found o.live n 0 o.next at.e within rising in
     record {
       listed =
           more ∙ ap (λ (xs : List Row). xs ++ new ∷ []) so_far.listed ∙ ap (λ (x : Row). (before ++ map f (take n o.live)) ++ x ∷ []) own
           ∙ append_assoc before (map f (take n o.live)) (f at.e ∷ [])
           ∙ ap (λ (xs : List Row). before ++ xs) (sym (map_push f (take n o.live) at.e))
-          ∙ ap (λ (xs : List Live). before ++ map f xs) (sym (taken_more o.live n at.e at.here));
+          ∙ ap (λ (xs : List LiveEntity). before ++ map f xs) (sym (taken_more o.live n at.e at.here));
       next = ap (λ (k : ℕ). find (is_from k) o.live) (next ∙ ap (λ (x : Id). x.0 + 1) (sym at.is)) ∙ behind;
     }
 
@@ -188,7 +189,7 @@ pub not_over : (m : Module) (o : Entities) (rows : Rows) (before table : List Ro
     → found ≡ id_of (find (is_from from) o.live) → IsSome found
 not_over m o rows before table from n found so_far within is = one (slice_get o.live n) refl found (is ∙ ap id_of so_far.next)
   where
-    one : (x : Option Live) → slice_get o.live n ≡ x → (found : Option Id) → found ≡ id_of x → IsSome found
+    one : (x : Option LiveEntity) → slice_get o.live n ≡ x → (found : Option Id) → found ≡ id_of x → IsSome found
     one None none found same = absurd (there o.live n within none)
     one (Some e) some None same = cc
     one (Some e) some (Some id) same = refl
@@ -200,10 +201,10 @@ whole (x ∷ xs) = ap (λ (ys : List _). x ∷ ys) (whole xs)
 pub all_listed : (m : Module) (o : Entities) (rows : Rows) (before table : List Row) (from n : ℕ) → AreListed m o rows before table from n → n ≡ length o.live
     → table ≡ before ++ rows_in m o (λ (id : Id). row rows id.0)
 all_listed m o rows before table from n so_far all =
-    so_far.listed ∙ ap (λ (es : List Live). before ++ map (row_of m o (λ (id : Id). row rows id.0)) es) (ap (λ (k : ℕ). take k o.live) all ∙ whole o.live)
+    so_far.listed ∙ ap (λ (es : List LiveEntity). before ++ map (row_of m o (λ (id : Id). row rows id.0)) es) (ap (λ (k : ℕ). take k o.live) all ∙ whole o.live)
 
 -- the id that is found is live, so it was given
-pub found_given : (o : Entities) (id : Id) (found : Option Live) → IsRising 0 o.next o.live → live_at o id ≡ found → Some id ≡ id_of found → id.0 < o.next
+pub found_given : (o : Entities) (id : Id) (found : Option LiveEntity) → IsRising 0 o.next o.live → live_at o id ≡ found → Some id ≡ id_of found → id.0 < o.next
 found_given o id None rising is same = cc
 found_given o id (Some e) rising is same = find_given id e 0 o.next o.live is rising
 
@@ -218,8 +219,8 @@ is_found o from found id some is = sym some ∙ is
 
 -- The sources
 
-same_rows : (m : Module) (o : Entities) (sets : Sets) (rows : Rows) (least next : ℕ) (es : List Live) → IsRising least next es
-    → ((e : Live) → find (has_id e.id) es ≡ Some e → row rows e.id.0 ≡ sets e.id)
+same_rows : (m : Module) (o : Entities) (sets : Sets) (rows : Rows) (least next : ℕ) (es : List LiveEntity) → IsRising least next es
+    → ((e : LiveEntity) → find (has_id e.id) es ≡ Some e → row rows e.id.0 ≡ sets e.id)
     → map (row_of m o (λ (id : Id). row rows id.0)) es ≡ map (row_of m o sets) es
 same_rows m o sets rows least next [] rising each = refl
 same_rows m o sets rows least next (x ∷ es) rising each =
@@ -229,21 +230,21 @@ same_rows m o sets rows least next (x ∷ es) rising each =
     ap (λ (set : List Elem). record { «module» = m; id = x.id; title = title_at o x.id; elements = set } ∷ map (row_of m o (λ (id : Id). row rows id.0)) es) here
     ∙ ap (λ (ys : List Row). row_of m o sets x ∷ ys) rest
   where
-    itself : (x : Live) (es : List Live) → find (has_id x.id) (x ∷ es) ≡ Some x
+    itself : (x : LiveEntity) (es : List LiveEntity) → find (has_id x.id) (x ∷ es) ≡ Some x
     itself x es =
         let test : has_id x.id x ≡ true = grind (arith, nat_tests) in
         rw test refl
 
-    later : (e : Live) → find (has_id e.id) es ≡ Some e → find (has_id e.id) (x ∷ es) ≡ Some e
+    later : (e : LiveEntity) → find (has_id e.id) es ≡ Some e → find (has_id e.id) (x ∷ es) ≡ Some e
     later e found =
         let given : e.id.0 ≡ e.id.0 = refl in
         let miss : has_id e.id x ≡ false = id_differs e.id x (λ same. beyond e found same) in
         rw miss found
       where
-        beyond : (e : Live) → find (has_id e.id) es ≡ Some e → x.id.0 ≡ e.id.0 → ⊥
+        beyond : (e : LiveEntity) → find (has_id e.id) es ≡ Some e → x.id.0 ≡ e.id.0 → ⊥
         beyond e found same = before e es (x.id.0 + 1) (omega arith) rising.1 found
           where
-            before : (e : Live) (es : List Live) (least : ℕ) → e.id.0 < least → IsRising least next es → find (has_id e.id) es ≡ Some e → ⊥
+            before : (e : LiveEntity) (es : List LiveEntity) (least : ℕ) → e.id.0 < least → IsRising least next es → find (has_id e.id) es ≡ Some e → ⊥
             before e [] least early rising found = cc
             before e (y ∷ es) least early rising found =
                 let miss : has_id e.id y ≡ false = id_differs e.id y (λ same. omega (arith, rising.0)) in
@@ -259,19 +260,19 @@ all_sources m o rows before table from n sets rising so_far all are =
 -- The policies that were booted
 
 -- the slot of a policy that was booted
-boot_four : (s : Script) (h : History) (r : Registration) → IsLegal s h → Contains h.boots r → HasSources r.module → slot_of r < 4
-boot_four s h r legal booted has = one r.module refl has
+boot_within : (s : Script) (h : History) (r : Registration) → IsLegal s h → Contains h.boots r → HasSources r.module → slot_of r < SLOTS
+boot_within s h r legal booted has = one r.module refl has
   where
-    one : (m : Module) → r.module ≡ m → HasSources m → slot_of r < 4
-    one Biba of has = (biba_booted s h r legal booted of).of.four
-    one Mls of has = (mls_booted s h r legal booted of).of.four
+    one : (m : Module) → r.module ≡ m → HasSources m → slot_of r < SLOTS
+    one Biba of has = (biba_booted s h r legal booted of).of.within
+    one Mls of has = (mls_booted s h r legal booted of).of.within
     one Partition of has = absurd has
     one Bsdextended of has = absurd has
     one Priority of has = absurd has
 
-pub slot_four : (s : Script) (h : History) (r : Option Registration) → IsLegal s h → IfSome r (IsBooted h) → IfSome r (λ x. slot_of x < 4)
-slot_four s h None legal booted = tt
-slot_four s h (Some r) legal booted = boot_four s h r legal booted.0 booted.1
+pub slot_within : (s : Script) (h : History) (r : Option Registration) → IsLegal s h → IfSome r (IsBooted h) → IfSome r (λ x. slot_of x < SLOTS)
+slot_within s h None legal booted = tt
+slot_within s h (Some r) legal booted = boot_within s h r legal booted.0 booted.1
 
 -- the registration that is found was made at boot, and is the module's
 found_booted : (m : Module) (boots : List Registration) (r : Registration) → HasSources m → Some r ≡ booted_as boots m → Contains boots r × HasSources r.module

@@ -8,7 +8,7 @@ use Rattle.mf_elem.specs.declared.elem.Elem.{Elem}
 use Rattle.mf_elem.specs.declared.label.LabelValue.{LabelValue}
 use Rattle.mf_elem.specs.declared.label.LabelValue.TheVariants.{Unset}
 use Rattle.mf_elem.specs.Label.{is_equal}
-use Rattle.mf_item.specs.declared.item.Item.{Item}
+use Rattle.mf_item.specs.Item.{Item}
 use Rattle.mf_item.specs.declared.view.SubjectView.{SubjectView}
 use Rattle.mf_item.specs.declared.view.ObjectView.{ObjectView}
 use Rattle.mf_policy.specs.declared.registration.Registration.{Registration}
@@ -18,16 +18,16 @@ use Rattle.mf_policy.specs.declared.operations.Movement.{Movement}
 use Rattle.mf_policy.specs.declared.operations.Movement.TheVariants.{Still, ToSubject, ToObject, BothWays}
 use Rattle.mf_list.specs.Asked.{slot_of}
 use Rattle.mf_objects.specs.declared.id.Id.{Id}
-use Rattle.mf_objects.specs.Live.{Live, Entities, has_id, id_of, is_from, live_at}
+use Rattle.mf_objects.specs.Live.{LiveEntity, Entities, has_id, id_of, is_from, live_at}
 use Rattle.mf_objects.specs.Live.{label_of as values_of}
 use Rattle.mf_objects.specs.Population.{IsRising}
 use Rattle.mf_objects.proofs.Rising.{id_is}
 use Rattle.mf_plan.specs.declared.state.State.{State}
 use Rattle.mf_objects.proofs.Finding.{find_before, find_given}
-use Rattle.mf_marks.proofs.Entities.{Change, IsStep}
-use Rattle.mf_marks.proofs.Entities.Change.{absent, stays, comes, goes}
-use Rattle.mf_marks.proofs.Shape.{Shape}
-use Rattle.mf_marks.proofs.Shape.Shape.{same as still, created, changed, removed, loaded, unloaded}
+use Rattle.mf_step.proofs.EntityChange.{EntityChange, ChangesEntities}
+use Rattle.mf_step.proofs.EntityChange.EntityChange.{absent, stays, comes, goes}
+use Rattle.mf_step.proofs.StateChange.{StateChange}
+use Rattle.mf_step.proofs.StateChange.StateChange.{same as still, created, changed, removed, loaded, unloaded}
 use Rattle.mf_flow.specs.Order.{union}
 use Rattle.mf_flow.specs.Rows.{AreKept, AreRows, Rows, row, element_of, element_at as row_element, may_come, joined, received as row_received, rows_between, rows_with, rows_moved, new_row, maker_row, rows_created}
 use Rattle.mf_flow.specs.Sources.{Sets, element_in, element_at, held_by, alone, is_id, received, moved, moved_with, moved_by, moved_by_all, set_after, set_of, sets_across}
@@ -39,7 +39,7 @@ use Rattle.mf_flow.proofs.Flowing.{AllFit, HasElement, same_id, received_all, it
 
 -- each live entity has an element
 abbrev pub AllLabelled : Registration → Entities → Type 0
-AllLabelled r o = (id : Id) (e : Live) → live_at o id ≡ Some e → HasElement (element_in r e.label)
+AllLabelled r o = (id : Id) (e : LiveEntity) → live_at o id ≡ Some e → HasElement (element_in r e.label)
 
 module _ (p : LatticePolicy) (flows : IsFlowPolicy p) (r : Registration) (o : Entities) (rising : IsRising 0 o.next o.live) (labelled : AllLabelled r o) where
   -- what a party has after something came to it
@@ -51,12 +51,12 @@ module _ (p : LatticePolicy) (flows : IsFlowPolicy p) (r : Registration) (o : En
   joined_is own false plain mine set given_row given all is (Some x) fit told =
       rw plain (ap (λ (xs : List Elem). union xs given_row) is ∙ ap (union set) (told x refl))
 
-  own_row : (sets : Sets) (rows : Rows) (to from : Id) (e : Live) (given_row given : List Elem) → AllFit p r o sets → AreRows o sets rows → live_at o to ≡ Some e
-      → Fit p (element_at r o from) given → ((giver : Live) → live_at o from ≡ Some giver → given_row ≡ given)
+  own_row : (sets : Sets) (rows : Rows) (to from : Id) (e : LiveEntity) (given_row given : List Elem) → AllFit p r o sets → AreRows o sets rows → live_at o to ≡ Some e
+      → Fit p (element_at r o from) given → ((giver : LiveEntity) → live_at o from ≡ Some giver → given_row ≡ given)
       → row (row_received (slot_of r) o rows to.0 from.0 given_row) to.0 ≡ held_by (element_at r o to) (union (sets to) given)
   own_row sets rows to from e given_row given fit are live theirs told =
       let has : HasElement (element_in r e.label) = labelled to e live in
-      let is : element_at r o to ≡ Some has.0 = ap (λ (found : Option Live). element_in r (values_of found)) live ∙ has.1 in
+      let is : element_at r o to ≡ Some has.0 = ap (λ (found : Option LiveEntity). element_in r (values_of found)) live ∙ has.1 in
       get_or-set_same rows to.0 (joined (slot_of r) o to.0 from.0 (row rows to.0) given_row) [] within
       ∙ subst (λ (element : Option Elem). cond (may_come element (element_at r o from)) (union (row rows to.0) given_row) (row rows to.0) ≡ held_by element (union (sets to) given)) (sym is)
       (joined_is has.0 (is_equal has.0) refl (row rows to.0) (sets to) given_row given (subst (λ (element : Option Elem). Fit p element (sets to)) is (fit to)) (are.each to e live)
@@ -65,12 +65,12 @@ module _ (p : LatticePolicy) (flows : IsFlowPolicy p) (r : Registration) (o : En
       within : to.0 < length rows
       within = omega (arith, are.count, find_given to e 0 o.next o.live live rising)
 
-      given_by : (found : Option Live) → live_at o from ≡ found → (x : Elem) → element_in r (values_of found) ≡ Some x → given_row ≡ given
+      given_by : (found : Option LiveEntity) → live_at o from ≡ found → (x : Elem) → element_in r (values_of found) ≡ Some x → given_row ≡ given
       given_by None is x some = cc
       given_by (Some giver) is x some = told giver is
 
   received_rows : (sets : Sets) (rows : Rows) (to from : Id) (given_row given : List Elem) → AllFit p r o sets → AreRows o sets rows
-      → Fit p (element_at r o from) given → ((giver : Live) → live_at o from ≡ Some giver → given_row ≡ given)
+      → Fit p (element_at r o from) given → ((giver : LiveEntity) → live_at o from ≡ Some giver → given_row ≡ given)
       → AreRows o (received r o to given sets) (row_received (slot_of r) o rows to.0 from.0 given_row)
   received_rows sets rows to from given_row given fit are theirs told =
       record {
@@ -78,7 +78,7 @@ module _ (p : LatticePolicy) (flows : IsFlowPolicy p) (r : Registration) (o : En
         each = λ id e live. one id e live (is_id id to) refl;
       }
     where
-      one : (id : Id) (e : Live) → live_at o id ≡ Some e → (b : Bool) → is_id id to ≡ b
+      one : (id : Id) (e : LiveEntity) → live_at o id ≡ Some e → (b : Bool) → is_id id to ≡ b
           → row (row_received (slot_of r) o rows to.0 from.0 given_row) id.0 ≡ cond b (held_by (element_at r o to) (union (sets to) given)) (sets id)
       one id e live true same =
           let here : id ≡ to = same_id id to same in
@@ -134,13 +134,13 @@ module _ (p : LatticePolicy) (flows : IsFlowPolicy p) (r : Registration) (o : En
 -- Entities that come and go
 
 -- a step gives at most one id
-pub shape_next : (by : Option Id) (s s' : State) → Shape by s s' → s'.objects.next ≤ s.objects.next + 1
-shape_next by s s' (still is) = omega (arith, ap (λ (x : State). x.objects.next) is)
-shape_next by s s' (created from maker name what own live is) = omega (arith, ap (λ (x : State). x.objects.next) is)
-shape_next by s s' (changed change id is) = omega (arith, ap (λ (x : State). x.objects.next) is)
-shape_next by s s' (removed gone is) = omega (arith, ap (λ (x : State). x.objects.next) is)
-shape_next by s s' (loaded m none is) = omega (arith, ap (λ (x : State). x.objects.next) is)
-shape_next by s s' (unloaded m ok is) = omega (arith, ap (λ (x : State). x.objects.next) is)
+pub change_next : (by : Option Id) (s s' : State) → StateChange by s s' → s'.objects.next ≤ s.objects.next + 1
+change_next by s s' (still is) = omega (arith, ap (λ (x : State). x.objects.next) is)
+change_next by s s' (created from maker name what own live is) = omega (arith, ap (λ (x : State). x.objects.next) is)
+change_next by s s' (changed change id is) = omega (arith, ap (λ (x : State). x.objects.next) is)
+change_next by s s' (removed gone is) = omega (arith, ap (λ (x : State). x.objects.next) is)
+change_next by s s' (loaded m none is) = omega (arith, ap (λ (x : State). x.objects.next) is)
+change_next by s s' (unloaded m ok is) = omega (arith, ap (λ (x : State). x.objects.next) is)
 
 from_test : (n m : ℕ) → n ≤ m → nat_le n m ≡ true
 from_test n m l = grind (arith, nat_tests)
@@ -149,7 +149,7 @@ not_from : (n m : ℕ) → m < n → nat_le n m ≡ false
 not_from n m l = grind (arith, nat_tests)
 
 -- the live entity of an id is the first from its number on
-pub first_from : (id : Id) (e : Live) (least next : ℕ) (es : List Live) → IsRising least next es → find (has_id id) es ≡ Some e → find (is_from id.0) es ≡ Some e
+pub first_from : (id : Id) (e : LiveEntity) (least next : ℕ) (es : List LiveEntity) → IsRising least next es → find (has_id id) es ≡ Some e → find (is_from id.0) es ≡ Some e
 first_from id e least next [] rising found = cc
 first_from id e least next (x ∷ es) rising found = one (has_id id x) refl found (first_from id e (x.id.0 + 1) next es rising.1)
   where
@@ -169,14 +169,14 @@ first_from id e least next (x ∷ es) rising found = one (has_id id x) refl foun
         rw test here
     one false miss here rest = later here miss (is_from id.0 x) refl (rest here)
 
-its_number : (id : Id) (e : Live) (es : List Live) → find (has_id id) es ≡ Some e → e.id.0 ≡ id.0
+its_number : (id : Id) (e : LiveEntity) (es : List LiveEntity) → find (has_id id) es ≡ Some e → e.id.0 ≡ id.0
 its_number id e [] found = cc
 its_number id e (x ∷ es) found = one (has_id id x) refl found (its_number id e es)
   where
     one : (b : Bool) → has_id id x ≡ b → cond b (Some x) (find (has_id id) es) ≡ Some e → (find (has_id id) es ≡ Some e → e.id.0 ≡ id.0) → e.id.0 ≡ id.0
     one true hit here rest =
         let same : x ≡ e = cc in
-        ap (λ (y : Live). y.id.0) (sym same) ∙ id_is id x hit
+        ap (λ (y : LiveEntity). y.id.0) (sym same) ∙ id_is id x hit
     one false miss later rest = rest later
 
 -- The entity of a number
@@ -186,7 +186,7 @@ pub gone_at : (o : Entities) (n : ℕ) (found : Option Id) → IsRising 0 o.next
     → ((id : Id) → found ≡ Some id → id.0 ≡ n → ⊥) → live_at o (record { 0 = n }) ≡ None
 gone_at o n found rising is other = one (live_at o (record { 0 = n })) refl
   where
-    one : (at : Option Live) → live_at o (record { 0 = n }) ≡ at → at ≡ None
+    one : (at : Option LiveEntity) → live_at o (record { 0 = n }) ≡ at → at ≡ None
     one None none = refl
     one (Some e) live =
         let first : find (is_from n) o.live ≡ Some e = first_from (record { 0 = n }) e 0 o.next o.live rising live in
@@ -194,7 +194,7 @@ gone_at o n found rising is other = one (live_at o (record { 0 = n })) refl
 
 pub absent_at : (slot : ℕ) (o : Entities) (n : ℕ) (found : Option Id) → IsRising 0 o.next o.live → found ≡ id_of (find (is_from n) o.live)
     → ((id : Id) → found ≡ Some id → id.0 ≡ n → ⊥) → None ≡ row_element slot o n
-absent_at slot o n found rising is other = sym (ap (λ (at : Option Live). element_of slot (values_of at)) (gone_at o n found rising is other))
+absent_at slot o n found rising is other = sym (ap (λ (at : Option LiveEntity). element_of slot (values_of at)) (gone_at o n found rising is other))
 
 pub other_found : (n : ℕ) (id : Id) (number : ℕ) (found : Option Id) → found ≡ Some id → number ≡ id.0 → (number ≡ n → ⊥) → (x : Id) → found ≡ Some x → x.0 ≡ n → ⊥
 other_found n id number found is here differs x some at =
@@ -228,7 +228,7 @@ kept_more o rows rows' rows'' n kept gone is =
       each = λ id e live. get_or-set_other rows' n id.0 [] [] (λ same. differs id e live same) ∙ kept.each id e live;
     })
   where
-    differs : (id : Id) (e : Live) → live_at o id ≡ Some e → id.0 ≡ n → ⊥
+    differs : (id : Id) (e : LiveEntity) → live_at o id ≡ Some e → id.0 ≡ n → ⊥
     differs id e live same =
         let here : live_at o (record { 0 = n }) ≡ Some e = ap (λ (k : ℕ). live_at o (record { 0 = k })) (sym same) ∙ live in
         cc
@@ -243,9 +243,9 @@ former_row [] new n within = absurd (omega arith)
 former_row (x ∷ rows) new zero within = refl
 former_row (x ∷ rows) new (suc n) within = former_row rows new n (omega arith)
 
-module _ (r : Registration) (by : Option Id) (s s' : State) (rising : IsRising 0 s.objects.next s.objects.live) (step : IsStep by s s') (at_most : s'.objects.next ≤ s.objects.next + 1)
+module _ (r : Registration) (by : Option Id) (s s' : State) (rising : IsRising 0 s.objects.next s.objects.live) (step : ChangesEntities by s s') (at_most : s'.objects.next ≤ s.objects.next + 1)
     (relabelled : Id → Bool) (not_relabelled : (id : Id) → relabelled id ≡ false) (sets : Sets) (rows : Rows) (are : AreRows s.objects sets rows) where
-  maker_is : (from : Id) (maker : Live) → by ≡ Some from → live_at s.objects from ≡ Some maker → maker_row rows by ≡ set_of by sets
+  maker_is : (from : Id) (maker : LiveEntity) → by ≡ Some from → live_at s.objects from ≡ Some maker → maker_row rows by ≡ set_of by sets
   maker_is from maker made live =
       subst (λ (x : Option Id). maker_row rows x ≡ set_of x sets) (sym made) (are.each from maker live)
 
@@ -253,7 +253,7 @@ module _ (r : Registration) (by : Option Id) (s s' : State) (rising : IsRising 0
   new = new_row (slot_of r) (find (is_from s.objects.next) s'.objects.live) (maker_row rows by)
 
   -- the row of an entity that is live after the step
-  kept_row : (id : Id) (found found' : Option Live) (e : Live) → live_at s.objects id ≡ found → live_at s'.objects id ≡ found' → Change by s id found found' → found' ≡ Some e
+  kept_row : (id : Id) (found found' : Option LiveEntity) (e : LiveEntity) → live_at s.objects id ≡ found → live_at s'.objects id ≡ found' → EntityChange by s id found found' → found' ≡ Some e
       → (b : Bool) → nat_lt s.objects.next s'.objects.next ≡ b
       → row (cond b (rows ++ new ∷ []) rows) id.0 ≡ set_after r found found' (relabelled id) (sets id) (set_of by sets)
   kept_row id _ _ e was is absent now b more = cc
@@ -272,7 +272,7 @@ module _ (r : Registration) (by : Option Id) (s s' : State) (rising : IsRising 0
       let found : find (is_from s.objects.next) s'.objects.live ≡ Some next = subst (λ (n : ℕ). find (is_from n) s'.objects.live ≡ Some next) number first in
       let place : id.0 ≡ length rows = number ∙ sym are.count in
       ap (row (rows ++ new ∷ [])) place ∙ last_row rows new
-      ∙ ap (λ (x : Option Live). new_row (slot_of r) x (maker_row rows by)) found
+      ∙ ap (λ (x : Option LiveEntity). new_row (slot_of r) x (maker_row rows by)) found
       ∙ ap (λ (xs : List Elem). held_by (element_in r next.label) (union (alone (element_in r next.label)) xs)) (maker_is from maker made live)
   kept_row id _ _ e was is (goes old given) now b more = cc
 

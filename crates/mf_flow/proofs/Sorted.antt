@@ -8,14 +8,14 @@ use Rattle.std.specs.declared.cmp.Ordering.TheVariants.{Less, Equal, Greater}
 use Rattle.std.specs.Cmp.Lexicographic.{nat_list_cmp_total}
 use Rattle.mf_elem.specs.declared.elem.Elem.{Elem}
 use Rattle.mf_elem.specs.Label.{is_equal}
-use Rattle.mf_item.specs.declared.item.Item.{Item}
+use Rattle.mf_item.specs.Item.{Item}
 use Rattle.mf_item.specs.declared.view.ObjectView.{ObjectView}
 use Rattle.mf_policy.specs.declared.registration.Registration.{Registration}
 use Rattle.mf_policy.specs.Operations.{movement_of}
 use Rattle.mf_policy.specs.declared.operations.Movement.{Movement}
 use Rattle.mf_policy.specs.declared.operations.Movement.TheVariants.{Still, ToSubject, ToObject, BothWays}
 use Rattle.mf_objects.specs.declared.id.Id.{Id}
-use Rattle.mf_objects.specs.Live.{Live, Entities, live_at}
+use Rattle.mf_objects.specs.Live.{LiveEntity, Entities, live_at}
 use Rattle.mf_calls.specs.declared.script.Line.{Line}
 use Rattle.mf_calls.specs.declared.script.Script.{Script}
 use Rattle.mf_calls.specs.WellFormed.{name_of}
@@ -111,7 +111,7 @@ items_ordered r o sets [] all = all
 items_ordered r o sets (item ∷ items) all =
     items_ordered r o (moved_by r o sets item) items (with_ordered r o (record { 0 = item.subject.id }) item.object sets (movement_of item.op) all)
 
-after_ordered : (r : Registration) (found found' : Option Live) (relabelled : Bool) (set maker : List Elem) → Ordered set → Ordered maker
+after_ordered : (r : Registration) (found found' : Option LiveEntity) (relabelled : Bool) (set maker : List Elem) → Ordered set → Ordered maker
     → Ordered (set_after r found found' relabelled set maker)
 after_ordered r None None relabelled set maker sorted makers = tt
 after_ordered r (Some old) None relabelled set maker sorted makers = tt

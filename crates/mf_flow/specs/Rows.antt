@@ -1,10 +1,11 @@
 -- The sources as a list by the numbers of ids, as they are kept while a history is gone through.
 use Rattle.std.specs.Prelude.{◌≡◌, ◌<◌, Contains, IfSome, ℕ, Bool, false, not, nat_lt, List, [], ◌∷◌, ◌++◌, Option, Some, None, find, fold, length, slice_index_or, slice_set, if◌then◌else◌}
 use Rattle.mf_elem.specs.declared.elem.Elem.{Elem}
+use Rattle.mf_elem.specs.declared.label.TheConstants.{SLOTS}
 use Rattle.mf_elem.specs.declared.label.LabelValue.{LabelValue}
 use Rattle.mf_elem.specs.declared.label.LabelValue.TheVariants.{Unset}
 use Rattle.mf_elem.specs.Label.{is_equal}
-use Rattle.mf_item.specs.declared.item.Item.{Item}
+use Rattle.mf_item.specs.Item.{Item}
 use Rattle.mf_item.specs.declared.view.ObjectView.{ObjectView}
 use Rattle.mf_policy.specs.Answer.{range_label}
 use Rattle.mf_policy.specs.Operations.{movement_of}
@@ -13,7 +14,7 @@ use Rattle.mf_policy.specs.declared.operations.Movement.TheVariants.{Still, ToSu
 use Rattle.mf_policy.specs.declared.registration.Registration.{Registration}
 use Rattle.mf_list.specs.Asked.{slot_of}
 use Rattle.mf_objects.specs.declared.id.Id.{Id}
-use Rattle.mf_objects.specs.Live.{Live, Entities, is_from, label_at, live_at}
+use Rattle.mf_objects.specs.Live.{LiveEntity, Entities, is_from, label_at, live_at}
 use Rattle.mf_calls.specs.declared.script.Line.{Line}
 use Rattle.mf_calls.specs.declared.script.Script.{Script}
 use Rattle.mf_calls.specs.WellFormed.{name_of}
@@ -85,7 +86,7 @@ abbrev pub rows_by : ℕ → Entities → Rows → Check → Rows
 rows_by slot objects rows check = rows_moved slot objects rows (item_of objects check)
 
 -- the row of an entity that comes, made by a process with these sources
-abbrev pub new_row : ℕ → Option Live → List Elem → List Elem
+abbrev pub new_row : ℕ → Option LiveEntity → List Elem → List Elem
 new_row slot None maker = []
 new_row slot (Some e) maker = held_by (element_of slot e.label) (union (alone (element_of slot e.label)) maker)
 
@@ -128,8 +129,8 @@ flow_created next objects caller (Some f) = Some (record f { sets = rows_created
 
 -- each policy has a label slot
 pub record HaveSlots (flows : Flows) : Type 0 where
-  pub biba : IfSome flows.biba (λ f. f.slot < 4)
-  pub mls : IfSome flows.mls (λ f. f.slot < 4)
+  pub biba : IfSome flows.biba (λ f. f.slot < SLOTS)
+  pub mls : IfSome flows.mls (λ f. f.slot < SLOTS)
 
 unfoldable pub flows_moved : Entities → List Item → Flows → Flows
 flows_moved objects items flows = record { biba = flow_moved objects items flows.biba; mls = flow_moved objects items flows.mls }
@@ -155,7 +156,7 @@ flows_after_event s run (event.Changed t line reply) flows = flows
 -- the rows of live entities are the same
 pub record AreKept (o : Entities) (old new : Rows) : Type 0 where
   pub count : length new ≡ length old
-  pub each : (id : Id) (e : Live) → live_at o id ≡ Some e → row new id.0 ≡ row old id.0
+  pub each : (id : Id) (e : LiveEntity) → live_at o id ≡ Some e → row new id.0 ≡ row old id.0
 
 abbrev pub IsKept : Entities → Flow → Flow → Type 0
 IsKept o f f' = (f'.slot ≡ f.slot) × AreKept o f.sets f'.sets
@@ -163,12 +164,12 @@ IsKept o f f' = (f'.slot ≡ f.slot) × AreKept o f.sets f'.sets
 -- there is a row for each id that was given, and those of live entities have their sources
 pub record AreRows (o : Entities) (sets : Sets) (rows : Rows) : Type 0 where
   pub count : length rows ≡ o.next
-  pub each : (id : Id) (e : Live) → live_at o id ≡ Some e → row rows id.0 ≡ sets id
+  pub each : (id : Id) (e : LiveEntity) → live_at o id ≡ Some e → row rows id.0 ≡ sets id
 
 -- there is a row for each id that was given, and those of live entities have their own elements
 pub record AreOwnRows (slot : ℕ) (o : Entities) (rows : Rows) : Type 0 where
   pub count : length rows ≡ o.next
-  pub each : (id : Id) (e : Live) → live_at o id ≡ Some e → row rows id.0 ≡ alone (element_of slot e.label)
+  pub each : (id : Id) (e : LiveEntity) → live_at o id ≡ Some e → row rows id.0 ≡ alone (element_of slot e.label)
 
 -- the sources of a policy that was booted so, at the opening and at the end of a history
 

@@ -1,5 +1,6 @@
 //! The sources after each event of a history.
 ghost use Rattle.std.specs.Prelude.{◌≡◌, ◌<◌, IfOk, IfSome, OnOk, find, map};
+ghost use Rattle.mf_elem.specs.declared.label.TheConstants.{SLOTS};
 ghost use Rattle.mf_plan.specs.Outline.{item_of};
 ghost use Rattle.mf_objects.specs.Live.{is_from};
 ghost use Rattle.mf_calls.specs.WellFormed.{IsWellFormed};
@@ -12,7 +13,7 @@ use crate::elem_set::ElemSet;
 use crate::moving::{move_all, passed};
 use crate::set_list::SetList;
 use mf_calls::Script;
-use mf_core::{Event, Replay};
+use mf_core::{Event, Run};
 use mf_elem::Elem;
 use mf_objects::{Id, Objects};
 use mf_plan::{Check, caller_of, outline_of};
@@ -38,32 +39,33 @@ pub struct Flows {
 pub fn follow(
     alloc: Global,
     script: &Script,
-    replay: &mut Replay,
+    run: &mut Run,
     flows: &mut Flows,
     event: &Event,
 ) -> Result<(), AllocError>
     requires slots { spec.HaveSlots flows.old }
-    requires script { replay.old.script ≡ script.now }
+    requires script { run.old.script ≡ script.now }
     requires formed { IsWellFormed script.now }
-    requires may { MayCome script.now replay.old.run event.now }
-    ensures replay { OnOk result (replay.new ≡ record { script = script.now; run = after script.now replay.old.run event.now }) }
-    ensures flows { OnOk result (flows.new ≡ spec.flows_after_event script.now replay.old.run event.now flows.old) }
+    requires may { MayCome script.now run.old.run event.now }
+    ensures run { OnOk result (run.new ≡ record { script = script.now; run = after script.now run.old.run event.now }) }
+    ensures flows { OnOk result (flows.new ≡ spec.flows_after_event script.now run.old.run event.now flows.old) }
 {
     match event {
         Event::Done(task, number, reply) => {
             let line = script.line_at(*task, *number - 1);
             let name = script.name_of(*task);
-            let state = replay.state();
+            let state = run.state();
             let next = state.objects.next_id();
             let outline = outline_of(state, name, line.child_name(), &line.call);
             let caller = caller_of(&state.objects, name, line.child_name());
-            let checks = passed(reply, outline.checks.as_slice());
+            let said = reply.lend();
+            let checks = passed(said.get(), outline.checks.as_slice());
             move_in_both(alloc, &state.objects, checks, flows)?;
-            replay.next(alloc, event)?;
-            create_in_both(alloc, next, &replay.state().objects, caller, flows)?;
+            run.next(alloc, event)?;
+            create_in_both(alloc, next, &run.state().objects, caller, flows)?;
             Ok(())
         }
-        Event::Enter(_) | Event::Leave(_) | Event::Changed(..) => replay.next(alloc, event),
+        Event::Enter(_) | Event::Leave(_) | Event::Changed(..) => run.next(alloc, event),
     }
 }
 
@@ -106,9 +108,9 @@ fn move_in(
     checks: &[Check],
     flow: &mut Option<Flow>,
 ) -> Result<(), AllocError>
-    requires { IfSome flow.old (λ f. f.slot < 4) }
+    requires { IfSome flow.old (λ f. f.slot < SLOTS) }
     ensures moved { OnOk result (flow.new ≡ spec.flow_moved objects.now (map (item_of objects.now) checks.now) flow.old) }
-    ensures slot { OnOk result (IfSome flow.new (λ f. f.slot < 4)) }
+    ensures slot { OnOk result (IfSome flow.new (λ f. f.slot < SLOTS)) }
 {
     match flow {
         None => Ok(()),
@@ -124,7 +126,7 @@ fn create_in(
     caller: Option<Id>,
     flow: &mut Option<Flow>,
 ) -> Result<(), AllocError>
-    requires { IfSome flow.old (λ f. f.slot < 4) }
+    requires { IfSome flow.old (λ f. f.slot < SLOTS) }
     ensures { OnOk result (flow.new ≡ spec.flow_created next objects.now caller flow.old) }
 {
     match flow {
@@ -142,7 +144,7 @@ fn create(
     caller: Option<Id>,
     sets: &mut SetList,
 ) -> Result<(), AllocError>
-    requires { slot < 4 }
+    requires { slot < SLOTS }
     ensures { OnOk result (sets.new ≡ spec.rows_created slot next objects.now caller sets.old) }
 {
     if next < objects.next_id() {
@@ -168,7 +170,7 @@ pub fn new_sources(
     next: u32,
     maker: &[Elem],
 ) -> Result<ElemSet, AllocError>
-    requires { slot < 4 }
+    requires { slot < SLOTS }
     ensures { IfOk result (λ set. set ≡ spec.new_row slot (find (is_from next) objects.now.live) maker.now) }
 {
     match objects.least_from(next) {

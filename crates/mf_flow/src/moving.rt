@@ -1,5 +1,6 @@
 //! What the checks of a call move.
 ghost use Rattle.std.specs.Prelude.{◌≡◌, ◌<◌, fold, map, unwrap_or, IfOk, OnOk};
+ghost use Rattle.mf_elem.specs.declared.label.TheConstants.{SLOTS};
 ghost use Rattle.mf_plan.specs.Outline.{item_of};
 ghost use Rattle.mf_policy.specs.Operations.{movement_of};
 ghost use Rattle.mf_flow.specs.Movement as spec;
@@ -16,7 +17,7 @@ use std::alloc::{AllocError, Global};
 
 /// The effective element that the live entity of that number has in the slot; none where no such entity lives.
 fn element_at(objects: &Objects, slot: u8, number: u32) -> Option<Elem>
-    requires { slot < 4 }
+    requires { slot < SLOTS }
     ensures { result ≡ rows.element_at slot objects.now number }
 {
     let _live = objects.live();
@@ -28,7 +29,7 @@ fn element_at(objects: &Objects, slot: u8, number: u32) -> Option<Elem>
 
 /// Whether something can come to the one party from the other. One labelled equal has no sources.
 fn may_come(objects: &Objects, slot: u8, to: u32, from: u32) -> bool
-    requires { slot < 4 }
+    requires { slot < SLOTS }
     ensures { result ≡ rows.may_come (rows.element_at slot objects.now to) (rows.element_at slot objects.now from) }
 {
     match element_at(objects, slot, to) {
@@ -47,7 +48,7 @@ fn joined(
     set: &[Elem],
     given: &[Elem],
 ) -> Result<Option<ElemSet>, AllocError>
-    requires { slot < 4 }
+    requires { slot < SLOTS }
     ensures { IfOk result (λ new. unwrap_or new set.now ≡ rows.joined slot objects.now to from set.now given.now) }
 {
     if has_all(set, given) || !may_come(objects, slot, to, from) {
@@ -66,7 +67,7 @@ fn receive(
     to: u32,
     from: u32,
 ) -> Result<(), AllocError>
-    requires { slot < 4 }
+    requires { slot < SLOTS }
     ensures { OnOk result (sets.new ≡ rows.received slot objects.now sets.old to from (rows.row sets.old from)) }
 {
     let new = joined(alloc, slot, objects, to, from, sets.at(to), sets.at(from))?;
@@ -83,7 +84,7 @@ fn exchange(
     subject: u32,
     object: u32,
 ) -> Result<(), AllocError>
-    requires { slot < 4 }
+    requires { slot < SLOTS }
     ensures { OnOk result (sets.new ≡ rows.exchanged slot objects.now sets.old subject object) }
 {
     let before = sets.copy_of(alloc, subject)?;
@@ -111,7 +112,7 @@ fn move_between(
     subject: u32,
     object: u32,
 ) -> Result<(), AllocError>
-    requires { slot < 4 }
+    requires { slot < SLOTS }
     ensures { OnOk result (sets.new ≡ rows.rows_between slot objects.now sets.old (movement_of op) subject object) }
 {
     match row_of(op).movement {
@@ -131,7 +132,7 @@ fn move_by(
     sets: &mut SetList,
     check: &Check,
 ) -> Result<(), AllocError>
-    requires { slot < 4 }
+    requires { slot < SLOTS }
     ensures { OnOk result (sets.new ≡ rows.rows_by slot objects.now sets.old check.now) }
 {
     match check.object {
@@ -173,7 +174,7 @@ pub fn move_all(
     sets: &mut SetList,
     checks: &[Check],
 ) -> Result<(), AllocError>
-    requires { slot < 4 }
+    requires { slot < SLOTS }
     ensures { OnOk result (sets.new ≡ fold (rows.rows_moved slot objects.now) sets.old (map (item_of objects.now) checks.now)) }
 {
     for check in checks {

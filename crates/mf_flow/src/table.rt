@@ -1,6 +1,7 @@
 //! The table of the sources of a history.
 ghost use Rattle.std.specs.Prelude.{◌≡◌, ◌<◌, ◌++◌, map, IfOk, IfSome, IsSome, OnOk};
 ghost use Rattle.std.specs.Option.{option_copied};
+ghost use Rattle.mf_elem.specs.declared.label.TheConstants.{SLOTS};
 ghost use Rattle.mf_list.specs.Asked.{slot_of};
 ghost use Rattle.mf_objects.specs.Live.{live_at};
 ghost use Rattle.mf_objects.specs.Titles.{title_at};
@@ -16,7 +17,7 @@ use crate::elem_set::ElemSet;
 use crate::following::{Flow, Flows, follow, new_sources};
 use crate::set_list::{SetList, sweep};
 use mf_calls::Script;
-use mf_core::{BootList, History, Replay};
+use mf_core::{BootList, History, Run};
 use mf_errno::Module;
 use mf_names::{Listing, Name};
 use mf_objects::{Id, Objects};
@@ -49,8 +50,8 @@ pub fn sources(alloc: Global, script: &Script, history: &History) -> Result<Tabl
     if biba.is_none() && mls.is_none() {
         return Ok(table);
     }
-    let (replay, flows) = followed(alloc, script, history, biba, mls)?;
-    let objects = &replay.state().objects;
+    let (run, flows) = followed(alloc, script, history, biba, mls)?;
+    let objects = &run.state().objects;
     add_rows(alloc, biba, objects, &flows.biba, &mut table)?;
     add_rows(alloc, mls, objects, &flows.mls, &mut table)?;
     Ok(table)
@@ -73,7 +74,7 @@ fn followed<'s>(
     history: &History,
     biba: Option<&Registration>,
     mls: Option<&Registration>,
-) -> Result<(Replay<'s>, Flows), AllocError>
+) -> Result<(Run<'s>, Flows), AllocError>
     requires legal { IsLegal script.now history.now }
     requires biba { IfSome (option_copied biba) (IsBooted history.now) }
     requires mls { IfSome (option_copied mls) (IsBooted history.now) }
@@ -81,17 +82,17 @@ fn followed<'s>(
     ensures biba { IfOk result (λ r. Alike (IsFlowOf script.now history.now) (option_copied biba.entry) r.1.biba) }
     ensures mls { IfOk result (λ r. Alike (IsFlowOf script.now history.now) (option_copied mls.entry) r.1.mls) }
 {
-    let mut replay = Replay::new(alloc, script)?;
+    let mut run = Run::new(alloc, script)?;
     let mut flows = Flows {
-        biba: opening_flow(alloc, biba, &replay.state().objects)?,
-        mls: opening_flow(alloc, mls, &replay.state().objects)?,
+        biba: opening_flow(alloc, biba, &run.state().objects)?,
+        mls: opening_flow(alloc, mls, &run.state().objects)?,
     };
     for event in history.events.as_slice() {
-        follow(alloc, script, &mut replay, &mut flows, event)?;
-        free_gone(alloc, &replay.state().objects, &mut flows.biba);
-        free_gone(alloc, &replay.state().objects, &mut flows.mls);
+        follow(alloc, script, &mut run, &mut flows, event)?;
+        free_gone(alloc, &run.state().objects, &mut flows.biba);
+        free_gone(alloc, &run.state().objects, &mut flows.mls);
     }
-    Ok((replay, flows))
+    Ok((run, flows))
 }
 
 /// The sources in the opening state by a policy, where it was booted.
@@ -100,7 +101,7 @@ fn opening_flow(
     registration: Option<&Registration>,
     objects: &Objects,
 ) -> Result<Option<Flow>, AllocError>
-    requires { IfSome (option_copied registration) (λ r. slot_of r < 4) }
+    requires { IfSome (option_copied registration) (λ r. slot_of r < SLOTS) }
     ensures { IfOk result (λ flow. Alike (IsOpening objects.now) (option_copied registration.entry) flow) }
 {
     match registration {
@@ -143,7 +144,7 @@ fn add_rows(
 
 /// The own element of each live entity.
 fn own_sources(alloc: Global, slot: u8, objects: &Objects) -> Result<SetList, AllocError>
-    requires { slot < 4 }
+    requires { slot < SLOTS }
     ensures { IfOk result (λ sets. AreOwnRows slot objects.now sets) }
 {
     let mut sets = SetList::new(alloc);

@@ -1,82 +1,85 @@
 //! A check that the policies are asked for.
-ghost use Rattle.std.specs.Prelude.{◌≡◌, ◌↔◌, IsTrue};
+ghost use Rattle.std.specs.Prelude.{◌≡◌, option_copied};
 
 use crate::{CheckOp, ObjectView, SubjectView};
-use mf_cred::Duplicate;
 use mf_elem::Request;
 use mf_errno::Priv;
+use std::marker::Model;
 
 /// One check: whether the subject may do the operation on the object. A request is there exactly for relabels, a
 /// privilege exactly for `Priv`; an object for all operations but `CredRelabel`, `KldLoad`, `KldUnload` and `Priv`.
+/// Subject, object and request stay with the caller, since policies only look at them.
 #[derive(Drop)]
-pub struct Item {
-    pub op: CheckOp,
-    pub subject: SubjectView,
-    pub object: Option<ObjectView>,
-    pub request: Option<Request>,
-    pub privilege: Option<Priv>,
+pub struct Item<'a> {
+    op: CheckOp,
+    subject: &'a SubjectView,
+    object: Option<&'a ObjectView>,
+    request: Option<&'a Request>,
+    privilege: Option<Priv>,
 }
 
-impl Item {
-    /// Whether the two are one question.
-    pub fn same(&self, other: &Item) -> bool
-        ensures { IsTrue result ↔ (self.now ≡ other.now) }
+impl<'a> Model for Item<'a> {
+    ghost use Rattle.std.specs.Prelude.{option_copied};
+    ghost use Rattle.mf_item.specs.Item as spec;
+
+    ghost Value = { spec.Item };
+
+    ghost view = { λ i. record { op = i.op; subject = i.subject.now; object = option_copied i.object; request = option_copied i.request; privilege = i.privilege } };
+}
+
+impl<'a> Item<'a> {
+    /// The item of these parts.
+    pub fn new(
+        op: CheckOp,
+        subject: &'a SubjectView,
+        object: Option<&'a ObjectView>,
+        request: Option<&'a Request>,
+        privilege: Option<Priv>,
+    ) -> Item<'a>
+        ensures { result ≡ record { op = op; subject = subject.now; object = option_copied object.entry; request = option_copied request.entry; privilege = privilege } }
     {
-        self.op == other.op
-            && self.subject.same(&other.subject)
-            && same_object(&self.object, &other.object)
-            && same_request(&self.request, &other.request)
-            && same_privilege(self.privilege, other.privilege)
-    }
-}
-
-fn same_object(object: &Option<ObjectView>, other: &Option<ObjectView>) -> bool
-    ensures { IsTrue result ↔ (object.now ≡ other.now) }
-{
-    match (object, other) {
-        (None, None) => true,
-        (Some(object), Some(theirs)) => object.same(theirs),
-        _ => false,
-    }
-}
-
-fn same_request(request: &Option<Request>, other: &Option<Request>) -> bool
-    ensures { IsTrue result ↔ (request.now ≡ other.now) }
-{
-    match (request, other) {
-        (None, None) => true,
-        (Some(request), Some(theirs)) => request.same(theirs),
-        _ => false,
-    }
-}
-
-fn same_privilege(privilege: Option<Priv>, other: Option<Priv>) -> bool
-    ensures { IsTrue result ↔ (privilege ≡ other) }
-{
-    privilege == other
-}
-
-impl Default for Item {
-    fn default() -> Item {
         Item {
-            op: CheckOp::VnodeLookup,
-            subject: Default::default(),
-            object: None,
-            request: None,
-            privilege: None,
+            op,
+            subject,
+            object,
+            request,
+            privilege,
         }
     }
-}
 
-impl Duplicate for Item {
-    fn copy(&self) -> Item {
-        Item {
-            op: self.op,
-            subject: self.subject.copy(),
-            object: self.object,
-            request: self.request,
-            privilege: self.privilege,
-        }
+    /// The operation.
+    pub fn op(&self) -> CheckOp
+        ensures { result ≡ self.now.op }
+    {
+        self.op
+    }
+
+    /// The subject.
+    pub fn subject(&self) -> &'a SubjectView
+        ensures { result.now ≡ self.now.subject }
+    {
+        self.subject
+    }
+
+    /// The object, where the operation has one.
+    pub fn object(&self) -> Option<&'a ObjectView>
+        ensures { option_copied result ≡ self.now.object }
+    {
+        self.object
+    }
+
+    /// What a relabel asks for.
+    pub fn request(&self) -> Option<&'a Request>
+        ensures { option_copied result ≡ self.now.request }
+    {
+        self.request
+    }
+
+    /// The privilege that is asked for.
+    pub fn privilege(&self) -> Option<Priv>
+        ensures { result ≡ self.now.privilege }
+    {
+        self.privilege
     }
 }
 
@@ -86,18 +89,13 @@ mod tests {
     use std::alloc::AllocError;
 
     #[test]
-    fn a_copy_is_the_same(rt: HostRuntime) -> Result<(), AllocError> {
-        let item = Item {
-            op: CheckOp::CredRelabel,
-            subject: Default::default(),
-            object: None,
-            request: Some(Request::none()),
-            privilege: None,
-        };
-        assert!(rt; item.copy().same(&item));
-        assert!(rt; !item.same(&Item::default()));
-        assert_eq!(rt; item.op.name(), "cred_relabel");
-        assert_eq!(rt; CheckOp::from_name(item.op.name()), Some(item.op));
+    fn an_item_has_its_parts(rt: HostRuntime) -> Result<(), AllocError> {
+        let (subject, request) = (SubjectView::default(), Request::none());
+        let item = Item::new(CheckOp::CredRelabel, &subject, None, Some(&request), None);
+        assert!(rt; item.subject().same(&subject) && item.object().is_none());
+        assert!(rt; item.request().is_some() && item.privilege().is_none());
+        assert_eq!(rt; item.op().name(), "cred_relabel");
+        assert_eq!(rt; CheckOp::from_name(item.op().name()), Some(item.op()));
         let shown = format!(in rt.alloc(); "{}", CheckOp::KldLoad)?;
         assert!(rt; shown.as_str() == "kld_load");
         Ok(())

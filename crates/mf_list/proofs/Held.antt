@@ -21,36 +21,40 @@ unchanged : (m : Module) (list list' : ListView) (catalogue catalogue' : Catalog
 unchanged m list list' catalogue catalogue' same_list same_catalogue =
     ap (λ (l : ListView). times_held m l catalogue') same_list ∙ ap (λ (c : CatalogueView). times_held m list c) same_catalogue
 
+-- a policy that is attached leaves the catalogue
+pub held_after_attaching : (m : Module) (r : Registration) (list list' : ListView) (catalogue catalogue' : CatalogueView)
+    → Enters r list list' catalogue catalogue'
+    → times_held m list' catalogue' ≡ times_held m list catalogue
+held_after_attaching m r list list' catalogue catalogue' moves =
+    let listed = ap (how_many (is_of m)) moves.entries ∙ how_many-newest (is_of m) (r, fresh_of r.module) list.entries in
+    let left = how_many-without_module m r.module catalogue.modules moves.was_in_catalogue in
+    let rest = ap (how_many (same_module m)) moves.modules in
+    omega (arith, listed, left, rest)
+
+-- a policy that is detached goes back into the catalogue
+pub held_after_detaching : (m k : Module) (list list' : ListView) (catalogue catalogue' : CatalogueView)
+    → Unregisters k list list' catalogue catalogue'
+    → times_held m list' catalogue' ≡ times_held m list catalogue
+held_after_detaching m k list list' catalogue catalogue' moves =
+    let left = how_many-without_entry m k list.entries moves.was_listed in
+    let listed = ap (how_many (is_of m)) moves.entries in
+    let rest = ap (how_many (same_module m)) moves.modules ∙ how_many-push (same_module m) catalogue.modules k in
+    omega (arith, listed, left, rest)
+
 pub held_after_register : (m : Module) (list list' : ListView) (catalogue catalogue' : CatalogueView) (given given' : ℕ) (o : Result Registration RegisterFault)
     → IfOk o (λ r. Registers r list list' catalogue catalogue' given given')
     → OnErr o ((list' ≡ list) × (catalogue' ≡ catalogue) × (given' ≡ given))
     → times_held m list' catalogue' ≡ times_held m list catalogue
-held_after_register m list list' catalogue catalogue' given given' (Ok r) moves err =
-    let listed = ap (how_many (is_of m)) moves.entries ∙ how_many-newest (is_of m) (r, fresh_of r.module) list.entries in
-    let left = how_many-without_module m r.module catalogue.modules moves.was_in_catalogue in
-    let rest = ap (how_many (same_module m)) moves.modules in
-    omega (arith, listed, left, rest)
+held_after_register m list list' catalogue catalogue' given given' (Ok r) registers err =
+    held_after_attaching m r list list' catalogue catalogue' registers.moves
 held_after_register m list list' catalogue catalogue' given given' (Err f) ok same = unchanged m list list' catalogue catalogue' same.0 same.1
-
-pub held_after_listing : (m : Module) (list list' : ListView) (catalogue catalogue' : CatalogueView) (o : Result Registration RegisterFault)
-    → IfOk o (λ r. Enters r list list' catalogue catalogue') → OnErr o ((list' ≡ list) × (catalogue' ≡ catalogue))
-    → times_held m list' catalogue' ≡ times_held m list catalogue
-held_after_listing m list list' catalogue catalogue' (Ok r) moves err =
-    let listed = ap (how_many (is_of m)) moves.entries ∙ how_many-newest (is_of m) (r, fresh_of r.module) list.entries in
-    let left = how_many-without_module m r.module catalogue.modules moves.was_in_catalogue in
-    let rest = ap (how_many (same_module m)) moves.modules in
-    omega (arith, listed, left, rest)
-held_after_listing m list list' catalogue catalogue' (Err f) ok same = unchanged m list list' catalogue catalogue' same.0 same.1
 
 pub held_after_unregister : (m : Module) (list list' : ListView) (catalogue catalogue' : CatalogueView) (o : Result Registration UnregisterFault)
     → IfOk o (λ r. Unregisters r.module list list' catalogue catalogue')
     → OnErr o ((list' ≡ list) × (catalogue' ≡ catalogue))
     → times_held m list' catalogue' ≡ times_held m list catalogue
 held_after_unregister m list list' catalogue catalogue' (Ok r) moves err =
-    let left = how_many-without_entry m r.module list.entries moves.was_listed in
-    let listed = ap (how_many (is_of m)) moves.entries in
-    let rest = ap (how_many (same_module m)) moves.modules ∙ how_many-push (same_module m) catalogue.modules r.module in
-    omega (arith, listed, left, rest)
+    held_after_detaching m r.module list list' catalogue catalogue' moves
 held_after_unregister m list list' catalogue catalogue' (Err f) ok same = unchanged m list list' catalogue catalogue' same.0 same.1
 
 changed_at : (m k : Module) (change : Change) (entries : List Entry) (o : Option Entry) → how_many (is_of m) (change_at k change entries o).1 ≡ how_many (is_of m) entries

@@ -7,7 +7,7 @@ use Rattle.mf_errno.specs.declared.privilege.Priv.{Priv}
 use Rattle.mf_errno.specs.Errno.{is_same}
 use Rattle.mf_errno.specs.declared.module.Module.{Module}
 use Rattle.mf_cred.specs.declared.cred.Cred.{Cred}
-use Rattle.mf_item.specs.declared.item.Item.{Item}
+use Rattle.mf_item.specs.Item.{Item}
 use Rattle.mf_item.specs.declared.operation.CheckOp.{CheckOp}
 use Rattle.mf_item.specs.declared.operation.CheckOp.TheVariants as op
 use Rattle.mf_compose.specs.Composition.{composition, decider}

@@ -1,5 +1,5 @@
 -- What contracts see of the list of policies and of the catalogue.
-use Rattle.std.specs.Prelude.{◌≡◌, ℕ, ◌<◌, ◌≤◌, Bool, true, false, not, List, Option, Some, None, length}
+use Rattle.std.specs.Prelude.{◌≡◌, ℕ, ◌<◌, ◌≤◌, Bool, true, false, List, Option, Some, None, length}
 use Rattle.std.specs.List.{list_any}
 use Rattle.mf_elem.specs.declared.label.TheConstants.{SLOTS}
 use Rattle.mf_errno.specs.Module.{same_module}
@@ -42,7 +42,3 @@ pub record IsEntry (entry : Entry) : Type 0 where
 -- whether the module is in the catalogue
 abbrev pub in_catalogue : Module → List Module → Bool
 in_catalogue m modules = list_any (same_module m) modules
-
--- whether the entry is in the dynamic list
-abbrev pub is_dynamic : Entry → Bool
-is_dynamic entry = not entry.0.fixed

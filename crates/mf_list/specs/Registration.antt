@@ -1,15 +1,18 @@
 -- Registration: which calls are refused, and what becomes of list, catalogue and slot numbers.
-use Rattle.std.specs.Prelude.{◌≡◌, ℕ, ◌+◌, Bool, true, false, cond, not, ◌&&◌, ◌||◌, nat_le, List, [], ◌∷◌, ◌++◌, Option, Some, None, find, is_some, Result, Ok, Err}
-use Rattle.mf_elem.specs.declared.label.TheConstants.{SLOTS}
+use Rattle.std.specs.Prelude.{◌≡◌, ℕ, ◌+◌, Bool, true, false, cond, not, ◌||◌, List, [], ◌∷◌, ◌++◌, Option, Some, None, find, is_some, Result, Ok, Err}
 use Rattle.mf_errno.specs.Module.{same_module}
 use Rattle.mf_errno.specs.declared.module.Module.{Module}
+use Rattle.mf_policy.specs.declared.loading.LoadFault.{LoadFault}
+use Rattle.mf_policy.specs.declared.loading.LoadFault.TheVariants as loading
+use Rattle.mf_policy.specs.declared.loading.UnloadFault.{UnloadFault}
+use Rattle.mf_policy.specs.declared.loading.UnloadFault.TheVariants as unloading
 use Rattle.mf_policy.specs.declared.registration.Registration.{Registration}
 use Rattle.mf_policy.specs.declared.spec.Spec.{Spec}
 use Rattle.mf_policy.specs.declared.spec.Change.{Change}
 use Rattle.mf_policy.specs.declared.spec.Changed.{Changed}
-use Rattle.mf_policy.specs.LoadFlags.{is_notlate, is_unloadok}
-use Rattle.mf_policy.specs.Modules.{flags_of, fresh_of, wants_slot}
+use Rattle.mf_policy.specs.Loading.{load_fault, unload_fault}
 use Rattle.mf_policy.specs.Registration.{Entry, is_listed, is_of}
+pub use Rattle.mf_policy.specs.Registration.{entries_without, given_after, registration_of, slot_for, with_newest, with_registered, without_first}
 use Rattle.mf_policy.specs.Settings.{change_of, no_setting}
 use Rattle.mf_list.specs.declared.faults.RegisterFault.{RegisterFault}
 use Rattle.mf_list.specs.declared.faults.RegisterFault.TheVariants.{Unknown, NotLate, Exists, NoSlot}
@@ -17,40 +20,41 @@ use Rattle.mf_list.specs.declared.faults.UnregisterFault.{UnregisterFault}
 use Rattle.mf_list.specs.declared.faults.UnregisterFault.TheVariants.{NotLoaded, Pinned}
 use Rattle.mf_list.specs.Lists.{ListView, CatalogueView, in_catalogue}
 
--- the slot of a module where so many numbers were given: the next one where it wants one
-abbrev pub slot_for : Bool → ℕ → Option ℕ
-slot_for wanted given = cond wanted (Some given) None
+-- a refusal of what is known
+abbrev pub register_fault : LoadFault → RegisterFault
+register_fault loading.NotLate = NotLate
+register_fault loading.Exists = Exists
+register_fault loading.NoSlot = NoSlot
 
--- how a module is registered: in the static list before the end of boot, unless it may be unloaded
-abbrev pub registration_of : Module → Bool → ℕ → Registration
-registration_of m booted given =
-    record {
-      «module» = m;
-      slot = slot_for (wants_slot m) given;
-      fixed = not booted && not (is_unloadok (flags_of m));
-    }
+-- the registration, unless there is a fault
+abbrev pub registered_unless : Option LoadFault → Registration → Result Registration RegisterFault
+registered_unless None r = Ok r
+registered_unless (Some fault) r = Err (register_fault fault)
 
--- the answer to a registration, by the first test that fits
+-- the answer to a registration: neither list nor catalogue has the module, or it can't be loaded
 abbrev pub register_verdict : Module → Bool → ListView → CatalogueView → ℕ → Result Registration RegisterFault
 register_verdict m booted list catalogue given =
     cond (not (is_listed m list.entries || in_catalogue m catalogue.modules)) (Err Unknown)
-    (cond (booted && is_notlate (flags_of m)) (Err NotLate)
-    (cond (is_listed m list.entries) (Err Exists)
-    (cond (wants_slot m && nat_le SLOTS given) (Err NoSlot)
-    (Ok (registration_of m booted given)))))
+    (registered_unless (load_fault booted list.entries given m) (registration_of m booted given))
 
 -- the same for a name, which may be no module's
 abbrev pub register_verdict_by_name : Option Module → Bool → ListView → CatalogueView → ℕ → Result Registration RegisterFault
 register_verdict_by_name None booted list catalogue given = Err Unknown
 register_verdict_by_name (Some m) booted list catalogue given = register_verdict m booted list catalogue given
 
--- the answer to an unregistration, by the first test that fits
+abbrev pub unregister_fault : UnloadFault → UnregisterFault
+unregister_fault unloading.NotLoaded = NotLoaded
+unregister_fault unloading.Pinned = Pinned
+
+-- the registration that ends, unless there is a fault
+abbrev pub ended_unless : Option UnloadFault → Option Entry → Result Registration UnregisterFault
+ended_unless (Some fault) entry = Err (unregister_fault fault)
+ended_unless None None = Err NotLoaded
+ended_unless None (Some entry) = Ok entry.0
+
+-- the answer to an unregistration
 abbrev pub unregister_verdict : Module → ListView → Result Registration UnregisterFault
-unregister_verdict m list =
-    elim (find (is_of m) list.entries) [
-      | None ↦ Err NotLoaded
-      | Some entry ↦ cond (is_unloadok (flags_of m)) (Ok entry.0) (Err Pinned)
-    ]
+unregister_verdict m list = ended_unless (unload_fault list.entries m) (find (is_of m) list.entries)
 
 abbrev pub unregister_verdict_by_name : Option Module → ListView → Result Registration UnregisterFault
 unregister_verdict_by_name None list = Err NotLoaded
@@ -61,31 +65,9 @@ abbrev pub is_known : Option Module → ListView → CatalogueView → Bool
 is_known None list catalogue = false
 is_known (Some m) list catalogue = is_listed m list.entries || in_catalogue m catalogue.modules
 
--- the list with a new policy: the newest of the static list, which comes first, or of the dynamic one
-abbrev pub with_newest : Entry → List Entry → List Entry
-with_newest entry [] = entry ∷ []
-with_newest entry (x ∷ xs) =
-    cond (not entry.0.fixed && x.0.fixed) (x ∷ with_newest entry xs) (entry ∷ x ∷ xs)
-
--- the list without the first element that passes
-abbrev pub without_first : {X : Type 0} → (X → Bool) → List X → List X
-without_first p [] = []
-without_first p (x ∷ xs) = cond (p x) xs (x ∷ without_first p xs)
-
--- list and catalogue without the module
-abbrev pub entries_without : Module → List Entry → List Entry
-entries_without m entries = without_first (is_of m) entries
-
+-- the catalogue without the module
 abbrev pub modules_without : Module → List Module → List Module
 modules_without m modules = without_first (same_module m) modules
-
--- the list after a registration, with the policy in its initial state
-abbrev pub with_registered : List Entry → Registration → List Entry
-with_registered entries r = with_newest (r, fresh_of r.module) entries
-
--- how many slot numbers were given, after a registration of the module
-abbrev pub given_after : ℕ → Module → ℕ
-given_after given m = cond (wants_slot m) (given + 1) given
 
 -- list and catalogue after a registration
 pub record Enters (r : Registration) (list list' : ListView) (catalogue catalogue' : CatalogueView) : Type 0 where
@@ -95,9 +77,7 @@ pub record Enters (r : Registration) (list list' : ListView) (catalogue catalogu
 
 -- list, catalogue and how many numbers were given, after a registration
 pub record Registers (r : Registration) (list list' : ListView) (catalogue catalogue' : CatalogueView) (given given' : ℕ) : Type 0 where
-  pub was_in_catalogue : in_catalogue r.module catalogue.modules ≡ true
-  pub entries : list'.entries ≡ with_registered list.entries r
-  pub modules : catalogue'.modules ≡ modules_without r.module catalogue.modules
+  pub moves : Enters r list list' catalogue catalogue'
   pub slots : given' ≡ cond (is_some r.slot) (given + 1) given
 
 -- list and catalogue after an unregistration

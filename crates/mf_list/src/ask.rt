@@ -3,7 +3,7 @@ ghost use Rattle.std.specs.Prelude.{◌≡◌, ◌≤◌, length, map, option_an
 ghost use Rattle.std.specs.List.{list_any};
 ghost use Rattle.mf_list.specs.Asked as spec;
 
-use crate::listed::Listed;
+use crate::listed::ListedPolicy;
 use crate::policy_list::PolicyList;
 use mf_compose::{decider, fold, granted};
 use mf_errno::{Errno, Module};
@@ -29,7 +29,7 @@ impl<P: Policy> PolicyList<P> {
         let policies = self.as_slice();
         let room = answers(policies, item);
         let answers = &room[..policies.len()];
-        match item.op {
+        match item.op() {
             CheckOp::Priv => privilege_answer(fold(answers), has_privilege(policies, item)),
             _ => Answer {
                 errno: fold(answers),
@@ -51,15 +51,15 @@ fn privilege_answer(composition: Errno, has_privilege: bool) -> Answer
 }
 
 /// Whether the subject has the privilege that the item asks for.
-fn has_privilege<P: Policy>(policies: &[Listed<P>], item: &Item) -> bool
+fn has_privilege<P: Policy>(policies: &[ListedPolicy<P>], item: &Item) -> bool
     requires { length policies.now ≤ MOST_LISTED }
     ensures { result ≡ spec.has_privilege policies.now item.now }
 {
-    item.subject.cred.is_root() || is_granted(policies, item)
+    item.subject().cred.is_root() || is_granted(policies, item)
 }
 
 /// Whether some policy grants the privilege that the item asks for.
-fn is_granted<P: Policy>(policies: &[Listed<P>], item: &Item) -> bool
+fn is_granted<P: Policy>(policies: &[ListedPolicy<P>], item: &Item) -> bool
     requires { length policies.now ≤ MOST_LISTED }
     ensures { result ≡ list_any (spec.grant_of item.now.privilege item.now.subject.cred) policies.now }
 {
@@ -68,7 +68,7 @@ fn is_granted<P: Policy>(policies: &[Listed<P>], item: &Item) -> bool
 }
 
 /// The module of the policy in that place.
-fn module_at<P: Policy>(policies: &[Listed<P>], place: Option<usize>) -> Option<Module>
+fn module_at<P: Policy>(policies: &[ListedPolicy<P>], place: Option<usize>) -> Option<Module>
     ensures { result ≡ option_and_then (spec.module_at policies.now) place }
 {
     let policy = policies.get(place?)?;
@@ -76,7 +76,7 @@ fn module_at<P: Policy>(policies: &[Listed<P>], place: Option<usize>) -> Option<
 }
 
 /// The answers of the policies in walk order. The rest of the array is success.
-fn answers<P: Policy>(policies: &[Listed<P>], item: &Item) -> [Errno; MOST_LISTED]
+fn answers<P: Policy>(policies: &[ListedPolicy<P>], item: &Item) -> [Errno; MOST_LISTED]
     requires { length policies.now ≤ MOST_LISTED }
     ensures { take (length policies.now) result ≡ spec.answers policies.now item.now }
 {
@@ -88,7 +88,7 @@ fn answers<P: Policy>(policies: &[Listed<P>], item: &Item) -> [Errno; MOST_LISTE
 }
 
 /// Which policies grant the privilege, in walk order. The rest of the array is false.
-fn grants<P: Policy>(policies: &[Listed<P>], item: &Item) -> [bool; MOST_LISTED]
+fn grants<P: Policy>(policies: &[ListedPolicy<P>], item: &Item) -> [bool; MOST_LISTED]
     requires { length policies.now ≤ MOST_LISTED }
     ensures { take (length policies.now) result ≡ map (spec.grant_of item.now.privilege item.now.subject.cred) policies.now }
 {

@@ -10,7 +10,7 @@ ghost use Rattle.mf_list.specs.Registration.{is_known, modules_without};
 use crate::policy_list::PolicyList;
 use mf_errno::Module;
 use mf_policy::Policy;
-use std::alloc::{AllocError, Global};
+use std::alloc::AllocError;
 use std::marker::Model;
 
 /// The policies that aren't listed, each in its initial state. Contracts see their modules, and for how many more room

@@ -3,6 +3,7 @@ ghost use Rattle.std.specs.Prelude.{◌≡◌};
 ghost use Rattle.mf_list.specs.Faults.{register_errno, unregister_errno};
 
 use mf_errno::Errno;
+use mf_policy::{LoadFault, UnloadFault};
 use thiserror::Error;
 
 /// Why a module isn't registered: the first of these that applies.
@@ -33,6 +34,35 @@ pub enum UnregisterFault {
     Pinned,
 }
 
+impl From<LoadFault> for RegisterFault {
+    ghost use Rattle.std.specs.Prelude.{◌≡◌};
+    ghost use Rattle.mf_list.specs.Registration.{register_fault};
+
+    ghost from_gives = { λ fault refusal. refusal ≡ register_fault fault };
+
+    fn from(fault: LoadFault) -> RegisterFault {
+        match fault {
+            LoadFault::NotLate => RegisterFault::NotLate,
+            LoadFault::Exists => RegisterFault::Exists,
+            LoadFault::NoSlot => RegisterFault::NoSlot,
+        }
+    }
+}
+
+impl From<UnloadFault> for UnregisterFault {
+    ghost use Rattle.std.specs.Prelude.{◌≡◌};
+    ghost use Rattle.mf_list.specs.Registration.{unregister_fault};
+
+    ghost from_gives = { λ fault refusal. refusal ≡ unregister_fault fault };
+
+    fn from(fault: UnloadFault) -> UnregisterFault {
+        match fault {
+            UnloadFault::NotLoaded => UnregisterFault::NotLoaded,
+            UnloadFault::Pinned => UnregisterFault::Pinned,
+        }
+    }
+}
+
 impl RegisterFault {
     /// The errno with which a load is refused.
     pub fn errno(self) -> Errno
@@ -40,9 +70,9 @@ impl RegisterFault {
     {
         match self {
             RegisterFault::Unknown => Errno::Enoent,
-            RegisterFault::NotLate => Errno::Ebusy,
-            RegisterFault::Exists => Errno::Eexist,
-            RegisterFault::NoSlot => Errno::Enomem,
+            RegisterFault::NotLate => LoadFault::NotLate.errno(),
+            RegisterFault::Exists => LoadFault::Exists.errno(),
+            RegisterFault::NoSlot => LoadFault::NoSlot.errno(),
         }
     }
 }
@@ -53,8 +83,8 @@ impl UnregisterFault {
         ensures { result ≡ unregister_errno self }
     {
         match self {
-            UnregisterFault::NotLoaded => Errno::Enoent,
-            UnregisterFault::Pinned => Errno::Ebusy,
+            UnregisterFault::NotLoaded => UnloadFault::NotLoaded.errno(),
+            UnregisterFault::Pinned => UnloadFault::Pinned.errno(),
         }
     }
 }

@@ -1,10 +1,10 @@
 //! A policy in the list.
 ghost use Rattle.std.specs.Prelude.{◌≡◌, IsTrue, ◌↔◌, IfOk, OnErr};
 ghost use Rattle.mf_policy.specs.Modules as facts;
-ghost use Rattle.mf_policy.specs.Registration.{is_of};
+ghost use Rattle.mf_policy.specs.Registration.{is_dynamic, is_of};
 ghost use Rattle.mf_policy.specs.Settings.{change_of};
 ghost use Rattle.mf_list.specs.Asked.{answer_of, grant_of};
-ghost use Rattle.mf_list.specs.Lists.{IsEntry, is_dynamic};
+ghost use Rattle.mf_list.specs.Lists.{IsEntry};
 
 use mf_errno::{Errno, Module};
 use mf_item::Item;
@@ -14,12 +14,12 @@ use std::marker::Model;
 
 /// A policy with its registration. Contracts see the registration and the policy's spec.
 #[derive(Drop)]
-pub struct Listed<P: Policy> {
+pub struct ListedPolicy<P: Policy> {
     registration: Registration,
     policy: P,
 }
 
-impl<P: Policy> Model for Listed<P> {
+impl<P: Policy> Model for ListedPolicy<P> {
     ghost use Rattle.mf_policy.specs.Registration.{Entry};
     ghost use Rattle.mf_list.specs.Lists.{IsEntry};
 
@@ -30,13 +30,13 @@ impl<P: Policy> Model for Listed<P> {
     ghost invariant = { λ a. IsEntry (a.registration, P.spec a.policy) };
 }
 
-impl<P: Policy> Listed<P> {
+impl<P: Policy> ListedPolicy<P> {
     /// The policy with this registration.
-    pub fn new(registration: Registration, policy: P) -> Listed<P>
+    pub fn new(registration: Registration, policy: P) -> ListedPolicy<P>
         requires { IsEntry (registration, P.spec policy) }
         ensures { result ≡ (registration, P.spec policy) }
     {
-        Listed {
+        ListedPolicy {
             registration,
             policy,
         }
@@ -97,8 +97,8 @@ impl<P: Policy> Listed<P> {
     pub fn grants(&self, item: &Item) -> bool
         ensures { result ≡ grant_of item.now.privilege item.now.subject.cred self.now }
     {
-        match item.privilege {
-            Some(privilege) => self.policy.grant(&item.subject.cred, privilege),
+        match item.privilege() {
+            Some(privilege) => self.policy.grant(&item.subject().cred, privilege),
             None => false,
         }
     }
@@ -117,7 +117,7 @@ impl<P: Policy> Listed<P> {
         ensures fresh { P.spec result ≡ facts.fresh_of self.0.«module» }
         ensures of { facts.module_of (P.spec result) ≡ self.0.«module» }
     {
-        let Listed {
+        let ListedPolicy {
             registration: _,
             mut policy,
         } = self;

@@ -1,13 +1,13 @@
 //! The listed policies in walk order.
 ghost use Rattle.std.specs.Prelude.{◌≡◌, ◌+◌, ◌<◌, ◌≤◌, [], IsTrue, ◌↔◌, length, map, OnOk, OnErr, IfOk, false, true, MatchOption, position, slice_index_or};
 ghost use Rattle.std.specs.List.{insert, position_or_len, remove};
-ghost use Rattle.mf_policy.specs.Registration.{Entry, is_listed, is_of};
-ghost use Rattle.mf_list.specs.Lists.{IsReady, is_dynamic};
+ghost use Rattle.mf_policy.specs.Registration.{Entry, is_dynamic, is_listed, is_of, with_newest};
+ghost use Rattle.mf_list.specs.Lists.{IsReady};
 ghost use Rattle.mf_list.specs.Places.{IsAbsent, IsEntryPlace};
-ghost use Rattle.mf_list.specs.Registration.{change_in, with_newest};
+ghost use Rattle.mf_list.specs.Registration.{change_in};
 
 use crate::catalogue::Catalogue;
-use crate::listed::Listed;
+use crate::listed::ListedPolicy;
 use mf_cred::ArrayVec;
 use mf_errno::Module;
 use mf_policy::{Change, Changed, MOST_LISTED, Policy, Registration, SpecList};
@@ -18,7 +18,7 @@ use std::marker::Model;
 /// newest first. A module is listed at most once. Contracts see the entries, and for how many more room is reserved.
 #[derive(Drop)]
 pub struct PolicyList<P: Policy> {
-    policies: Vec<Listed<P>>,
+    policies: Vec<ListedPolicy<P>>,
 }
 
 impl<P: Policy> Model for PolicyList<P> {
@@ -109,7 +109,7 @@ impl<P: Policy> PolicyList<P> {
     }
 
     /// The listed policies in walk order.
-    pub(crate) fn as_slice(&self) -> &[Listed<P>]
+    pub(crate) fn as_slice(&self) -> &[ListedPolicy<P>]
         ensures value { result.now ≡ self.now.entries }
         ensures few { length self.now.entries ≤ MOST_LISTED }
     {
@@ -136,7 +136,7 @@ impl<P: Policy> PolicyList<P> {
     }
 
     /// Inserts a policy in its place. There must be room for it.
-    pub(crate) fn put(&mut self, listed: Listed<P>)
+    pub(crate) fn put(&mut self, listed: ListedPolicy<P>)
         requires room { 0 < self.old.spare }
         requires absent { is_listed listed.0.«module» self.old.entries ≡ false }
         ensures entries { self.new.entries ≡ with_newest listed self.old.entries }
@@ -151,7 +151,7 @@ impl<P: Policy> PolicyList<P> {
     }
 
     /// Removes the policy at a place and returns it.
-    pub(crate) fn take(&mut self, place: usize) -> Listed<P>
+    pub(crate) fn take(&mut self, place: usize) -> ListedPolicy<P>
         requires { place < length self.old.entries }
         ensures value { (other : Entry) → result ≡ slice_index_or self.old.entries place other }
         ensures entries { self.new.entries ≡ remove self.old.entries place }

@@ -1,19 +1,20 @@
 //! Registration: policies come from the catalogue into the list, and go back.
-ghost use Rattle.std.specs.Prelude.{◌≡◌, ◌+◌, ◌<◌, ◌++◌, ◌∷◌, [], OnErr, IfOk, true, false, ◌||◌, ◌&&◌, nat_le, if◌then◌else◌, Ok, Err, Some, None, IfSome, is_some, slice_index_or};
+ghost use Rattle.std.specs.Prelude.{◌≡◌, ◌+◌, ◌<◌, OnOk, OnErr, IfOk, true, false, ◌||◌, if◌then◌else◌, IfSome, is_some};
 ghost use Rattle.mf_errno.specs.Module.{module_named};
 ghost use Rattle.mf_policy.specs.Modules as facts;
-ghost use Rattle.mf_policy.specs.Registration.{Entry, is_listed};
+ghost use Rattle.mf_policy.specs.Loading.{load_fault};
+ghost use Rattle.mf_policy.specs.Registration.{is_listed};
 ghost use Rattle.mf_list.specs.Lists.{HasSlot, IsReady, in_catalogue};
 ghost use Rattle.mf_list.specs.Places.{IsEntryPlace};
-ghost use Rattle.mf_list.specs.Registration.{Enters, Registers, Unregisters, entries_without, modules_without, register_verdict, register_verdict_by_name, slot_for, unregister_verdict, unregister_verdict_by_name, with_newest};
+ghost use Rattle.mf_list.specs.Registration.{Enters, Registers, Unregisters, register_verdict, register_verdict_by_name, unregister_verdict, unregister_verdict_by_name};
 
 use crate::catalogue::Catalogue;
 use crate::faults::{RegisterFault, UnregisterFault};
-use crate::listed::Listed;
+use crate::listed::ListedPolicy;
 use crate::policy_list::PolicyList;
 use mf_elem::SLOTS;
 use mf_errno::Module;
-use mf_policy::{LoadFlags, Policy, Registration};
+use mf_policy::{LoadFault, LoadFlags, Policy, Registration, registration_of};
 use mf_slots::SlotNumbers;
 
 /// What has to be known of a module to register it.
@@ -46,29 +47,6 @@ impl<P: Policy> PolicyList<P> {
         }
     }
 
-    /// Lists the module of that name as `register` does where so many slot numbers were given. The number is not taken
-    /// here: this is for a list that follows a state which has taken it.
-    pub fn register_at(
-        &mut self,
-        catalogue: &mut Catalogue<P>,
-        given: u8,
-        name: &str,
-        booted: bool,
-    ) -> Result<Registration, RegisterFault>
-        requires { IsReady self.old catalogue.old }
-        ensures verdict { result ≡ register_verdict_by_name (module_named name.now) booted self.old catalogue.old given }
-        ensures ok { IfOk result (λ r. Enters r self.old self.new catalogue.old catalogue.new) }
-        ensures err { OnErr result ((self.new ≡ self.old) × (catalogue.new ≡ catalogue.old)) }
-        ensures ready { IsReady self.new catalogue.new }
-    {
-        let Some(wanted) = Module::from_name(name) else {
-            return Err(RegisterFault::Unknown);
-        };
-        let registration = self.judge(catalogue, given, wanted, booted)?;
-        self.enter(catalogue, registration);
-        Ok(registration)
-    }
-
     fn register_module(
         &mut self,
         catalogue: &mut Catalogue<P>,
@@ -84,7 +62,7 @@ impl<P: Policy> PolicyList<P> {
     {
         let registration = self.judge(catalogue, numbers.given(), wanted, booted)?;
         take_number(numbers, registration);
-        self.enter(catalogue, registration);
+        self.attach(catalogue, registration);
         Ok(registration)
     }
 
@@ -98,21 +76,37 @@ impl<P: Policy> PolicyList<P> {
     ) -> Result<Registration, RegisterFault>
         ensures { result ≡ register_verdict wanted booted self.now catalogue.now given }
     {
-        let Some(facts) = self.facts_of(catalogue, wanted) else {
+        let Some(known) = self.facts_of(catalogue, wanted) else {
             return Err(RegisterFault::Unknown);
         };
-        if booted && facts.flags.is_notlate() {
-            return Err(RegisterFault::NotLate);
+        match self.load_fault(&known, booted, given, wanted) {
+            Some(fault) => Err(RegisterFault::from(fault)),
+            None => Ok(registration_of(wanted, booted, given)),
+        }
+    }
+
+    /// Why the module of these facts can't be loaded.
+    fn load_fault(
+        &self,
+        known: &LoadFacts,
+        booted: bool,
+        given: u8,
+        wanted: Module,
+    ) -> Option<LoadFault>
+        requires flags { known.now.flags ≡ facts.flags_of wanted }
+        requires wants_slot { known.now.wants_slot ≡ facts.wants_slot wanted }
+        ensures { result ≡ load_fault booted self.now.entries given wanted }
+    {
+        if booted && known.flags.is_notlate() {
+            return Some(LoadFault::NotLate);
         }
         if self.holds(wanted) {
-            return Err(RegisterFault::Exists);
+            return Some(LoadFault::Exists);
         }
-        let slot = free_slot(facts.wants_slot, given)?;
-        Ok(Registration {
-            module: wanted,
-            slot,
-            fixed: !booted && !facts.flags.is_unloadok(),
-        })
+        if known.wants_slot && given as usize >= SLOTS {
+            return Some(LoadFault::NoSlot);
+        }
+        None
     }
 
     /// The module's facts, where it is listed or in the catalogue.
@@ -138,18 +132,19 @@ impl<P: Policy> PolicyList<P> {
         }
     }
 
-    /// Takes the module's policy out of the catalogue and lists it.
-    fn enter(&mut self, catalogue: &mut Catalogue<P>, registration: Registration)
+    /// Takes the policy of the registration's module out of the catalogue and lists it, with no judgement: for a list that
+    /// follows a state in which the module was loaded. Each of list and catalogue must have room for what the other
+    /// holds, and keeps it.
+    pub fn attach(&mut self, catalogue: &mut Catalogue<P>, registration: Registration)
         requires there { in_catalogue registration.«module» catalogue.old.modules ≡ true }
         requires absent { is_listed registration.«module» self.old.entries ≡ false }
         requires slot { HasSlot (facts.wants_slot registration.«module») registration.slot }
         requires ready { IsReady self.old catalogue.old }
-        ensures entries { self.new.entries ≡ with_newest (registration, facts.fresh_of registration.«module») self.old.entries }
-        ensures modules { catalogue.new.modules ≡ modules_without registration.«module» catalogue.old.modules }
+        ensures moves { Enters registration self.old self.new catalogue.old catalogue.new }
         ensures ready { IsReady self.new catalogue.new }
     {
         match catalogue.take(registration.module) {
-            Some(policy) => self.put(Listed::new(registration, policy)),
+            Some(policy) => self.put(ListedPolicy::new(registration, policy)),
             None => unreachable!(),
         }
     }
@@ -185,43 +180,51 @@ impl<P: Policy> PolicyList<P> {
         ensures err { OnErr result ((self.new ≡ self.old) × (catalogue.new ≡ catalogue.old)) }
         ensures ready { IsReady self.new catalogue.new }
     {
+        let registration = self.ending(wanted)?;
+        self.detach(catalogue, wanted);
+        Ok(registration)
+    }
+
+    /// Decides an unregistration, and changes nothing: the registration that ends.
+    fn ending(&self, wanted: Module) -> Result<Registration, UnregisterFault>
+        ensures verdict { result ≡ unregister_verdict wanted self.now }
+        ensures of { IfOk result (λ r. r.«module» ≡ wanted) }
+        ensures listed { OnOk result (is_listed wanted self.now.entries ≡ true) }
+    {
         let Some(place) = self.place_of(wanted) else {
             return Err(UnregisterFault::NotLoaded);
         };
-        if !self.as_slice()[place].flags().is_unloadok() {
+        let listed = &self.as_slice()[place];
+        if !listed.flags().is_unloadok() {
             return Err(UnregisterFault::Pinned);
         }
-        Ok(self.leave(catalogue, place, wanted))
+        Ok(listed.registration())
     }
 
-    /// Takes the module's policy off the list and puts it into the catalogue in its initial state.
-    fn leave(&mut self, catalogue: &mut Catalogue<P>, place: usize, wanted: Module) -> Registration
+    /// Takes the module's policy off the list and puts it into the catalogue in its initial state, with no judgement: for a
+    /// list that follows a state in which the module was unloaded. Each of list and catalogue must have room for what the
+    /// other holds, and keeps it.
+    pub fn detach(&mut self, catalogue: &mut Catalogue<P>, module: Module)
+        requires listed { is_listed «module» self.old.entries ≡ true }
+        requires ready { IsReady self.old catalogue.old }
+        ensures moves { Unregisters «module» self.old self.new catalogue.old catalogue.new }
+        ensures ready { IsReady self.new catalogue.new }
+    {
+        match self.place_of(module) {
+            Some(place) => self.leave(catalogue, place, module),
+            None => unreachable!(),
+        }
+    }
+
+    fn leave(&mut self, catalogue: &mut Catalogue<P>, place: usize, wanted: Module)
         requires place { IsEntryPlace wanted self.old.entries place }
         requires ready { IsReady self.old catalogue.old }
-        ensures registration { (other : Entry) → result ≡ (slice_index_or self.old.entries place other).0 }
-        ensures of { result.«module» ≡ wanted }
-        ensures entries { self.new.entries ≡ entries_without wanted self.old.entries }
-        ensures modules { catalogue.new.modules ≡ catalogue.old.modules ++ wanted ∷ [] }
+        ensures moves { Unregisters wanted self.old self.new catalogue.old catalogue.new }
         ensures ready { IsReady self.new catalogue.new }
     {
         let listed = self.take(place);
-        let registration = listed.registration();
         catalogue.put(listed.into_fresh());
-        registration
     }
-}
-
-/// The slot number that a module would get, where it wants one.
-fn free_slot(wanted: bool, given: u8) -> Result<Option<u8>, RegisterFault>
-    ensures { result ≡ (if wanted && nat_le SLOTS given then Err RegisterFault.NoSlot else Ok (slot_for wanted given)) }
-{
-    if !wanted {
-        return Ok(None);
-    }
-    if given as usize >= SLOTS {
-        return Err(RegisterFault::NoSlot);
-    }
-    Ok(Some(given))
 }
 
 /// Takes the number of the registration, which is the next one.

@@ -4,9 +4,9 @@ use Rattle.std.specs.Prelude.{find}
 use Rattle.std.specs.Str.{bytes_eq}
 use Rattle.std.proofs.lemmas.Bool.Decides.{nat_tests}
 use Rattle.mf_objects.specs.declared.id.Id.{Id}
-use Rattle.mf_objects.specs.declared.entity.What.{What}
-use Rattle.mf_objects.specs.declared.entity.What.TheVariants.{Process, Vnode, Pipe, Socket}
-use Rattle.mf_objects.specs.Live.{Live, Entities, has_id, is_process, is_entry, is_named, is_child}
+use Rattle.mf_objects.specs.declared.entity.EntityData.{EntityData}
+use Rattle.mf_objects.specs.declared.entity.EntityData.TheVariants.{Process, Vnode, Pipe, Socket}
+use Rattle.mf_objects.specs.Live.{LiveEntity, Entities, has_id, is_process, is_entry, is_named, is_child}
 use Rattle.mf_objects.specs.Changes.{appended, changed_at, with_what, with_change, without}
 use Rattle.mf_objects.specs.Titles.{entry_names}
 use Rattle.mf_objects.proofs.Rising.{rising_push, rising_changed}
@@ -20,10 +20,10 @@ ids_differ a b other = grind (arith, nat_tests)
 
 -- One entity more
 
-abbrev pub pushed : Entities → Live → Entities
+abbrev pub pushed : Entities → LiveEntity → Entities
 pushed o x = record { next = o.next + 1; live = o.live ++ x ∷ [] }
 
-pub push_fixed : (t a b : ℕ) (o : Entities) (content : ℕ → List ℕ) (x : Live) → x.id.0 ≡ o.next → IsLow (2 * t + 1) x.what → IsFixed t a b o content
+pub push_fixed : (t a b : ℕ) (o : Entities) (content : ℕ → List ℕ) (x : LiveEntity) → x.id.0 ≡ o.next → IsLow (2 * t + 1) x.what → IsFixed t a b o content
     → IsFixed t a b (pushed o x) content
 push_fixed t a b o content x next low fixed =
     record {
@@ -51,7 +51,7 @@ push_fixed t a b o content x next low fixed =
     }
 
 -- another file of the load
-pub push_scratch : (t u j : ℕ) (o : Entities) (x : Live) (held : Bool) → is_child (at (directory_id u)) (scratch_name j) x ≡ false
+pub push_scratch : (t u j : ℕ) (o : Entities) (x : LiveEntity) (held : Bool) → is_child (at (directory_id u)) (scratch_name j) x ≡ false
     → HasScratch t u j o held → HasScratch t u j (pushed o x) held
 push_scratch t u j o x false miss has = find_push_miss (is_child (at (directory_id u)) (scratch_name j)) o.live x miss ∙ has
 push_scratch t u j o x true miss has =
@@ -65,70 +65,70 @@ push_scratch t u j o x true miss has =
 
 -- A file is written
 
-abbrev written : List ℕ → ℕ → Live → Live
+abbrev written : List ℕ → ℕ → LiveEntity → LiveEntity
 written text n e = changed_at (with_what (appended text)) (at n) e
 
-appended_entry : (text : List ℕ) (dir : Id) (w : What) → is_entry dir (appended text w) ≡ is_entry dir w
+appended_entry : (text : List ℕ) (dir : Id) (w : EntityData) → is_entry dir (appended text w) ≡ is_entry dir w
 appended_entry text dir (Process cred) = refl
 appended_entry text dir (Vnode vnode) = refl
 appended_entry text dir (Pipe pipe) = refl
 appended_entry text dir (Socket socket) = refl
 
-appended_process : (text : List ℕ) (w : What) → is_process (appended text w) ≡ is_process w
+appended_process : (text : List ℕ) (w : EntityData) → is_process (appended text w) ≡ is_process w
 appended_process text (Process cred) = refl
 appended_process text (Vnode vnode) = refl
 appended_process text (Pipe pipe) = refl
 appended_process text (Socket socket) = refl
 
-appended_low : (text : List ℕ) (n : ℕ) (w : What) → IsLow n w → IsLow n (appended text w)
+appended_low : (text : List ℕ) (n : ℕ) (w : EntityData) → IsLow n w → IsLow n (appended text w)
 appended_low text n (Process cred) low = low
 appended_low text n (Vnode vnode) low = low
 appended_low text n (Pipe pipe) low = low
 appended_low text n (Socket socket) low = low
 
-written_child : (text : List ℕ) (n : ℕ) (dir : Id) (name : List ℕ) (e : Live) → is_child dir name (written text n e) ≡ is_child dir name e
+written_child : (text : List ℕ) (n : ℕ) (dir : Id) (name : List ℕ) (e : LiveEntity) → is_child dir name (written text n e) ≡ is_child dir name e
 written_child text n dir name e = one (has_id (at n) e)
   where
     one : (b : Bool) → is_child dir name (cond b (with_what (appended text) e) e) ≡ is_child dir name e
     one true = ap (λ (c : Bool). c && bytes_eq e.name name) (appended_entry text dir e.what)
     one false = refl
 
-written_entry : (text : List ℕ) (n : ℕ) (dir : Id) (e : Live) → is_entry dir (written text n e).what ≡ is_entry dir e.what
+written_entry : (text : List ℕ) (n : ℕ) (dir : Id) (e : LiveEntity) → is_entry dir (written text n e).what ≡ is_entry dir e.what
 written_entry text n dir e = one (has_id (at n) e)
   where
     one : (b : Bool) → is_entry dir (cond b (with_what (appended text) e) e).what ≡ is_entry dir e.what
     one true = appended_entry text dir e.what
     one false = refl
 
-written_name : (text : List ℕ) (n : ℕ) (e : Live) → (written text n e).name ≡ e.name
+written_name : (text : List ℕ) (n : ℕ) (e : LiveEntity) → (written text n e).name ≡ e.name
 written_name text n e = one (has_id (at n) e)
   where
     one : (b : Bool) → (cond b (with_what (appended text) e) e).name ≡ e.name
     one true = refl
     one false = refl
 
-written_process : (text : List ℕ) (n : ℕ) (name : List ℕ) (e : Live) → is_named is_process name (written text n e) ≡ is_named is_process name e
+written_process : (text : List ℕ) (n : ℕ) (name : List ℕ) (e : LiveEntity) → is_named is_process name (written text n e) ≡ is_named is_process name e
 written_process text n name e = one (has_id (at n) e)
   where
     one : (b : Bool) → is_named is_process name (cond b (with_what (appended text) e) e) ≡ is_named is_process name e
     one true = ap (λ (c : Bool). c && bytes_eq e.name name) (appended_process text e.what)
     one false = refl
 
-written_id : (text : List ℕ) (n : ℕ) (id : Id) (e : Live) → has_id id (written text n e) ≡ has_id id e
+written_id : (text : List ℕ) (n : ℕ) (id : Id) (e : LiveEntity) → has_id id (written text n e) ≡ has_id id e
 written_id text n id e = one (has_id (at n) e)
   where
     one : (b : Bool) → has_id id (cond b (with_what (appended text) e) e) ≡ has_id id e
     one true = refl
     one false = refl
 
-written_low : (text : List ℕ) (n m : ℕ) (e : Live) → IsLow m e.what → IsLow m (written text n e).what
+written_low : (text : List ℕ) (n m : ℕ) (e : LiveEntity) → IsLow m e.what → IsLow m (written text n e).what
 written_low text n m e low = one (has_id (at n) e)
   where
     one : (b : Bool) → IsLow m (cond b (with_what (appended text) e) e).what
     one true = appended_low text m e.what low
     one false = low
 
-written_same_id : (text : List ℕ) (n : ℕ) (e : Live) → (written text n e).id ≡ e.id
+written_same_id : (text : List ℕ) (n : ℕ) (e : LiveEntity) → (written text n e).id ≡ e.id
 written_same_id text n e = one (has_id (at n) e)
   where
     one : (b : Bool) → (cond b (with_what (appended text) e) e).id ≡ e.id
@@ -136,14 +136,14 @@ written_same_id text n e = one (has_id (at n) e)
     one false = refl
 
 -- another entity stays as it is
-written_other : (text : List ℕ) (n : ℕ) (test : Live → Bool) (es : List Live) (x : Live) → ((e : Live) → test (written text n e) ≡ test e) → x.id.0 ≢ n
+written_other : (text : List ℕ) (n : ℕ) (test : LiveEntity → Bool) (es : List LiveEntity) (x : LiveEntity) → ((e : LiveEntity) → test (written text n e) ≡ test e) → x.id.0 ≢ n
     → find test es ≡ Some x → find test (map (written text n) es) ≡ Some x
 written_other text n test es x same other found =
     let miss : nat_eq x.id.0 n ≡ false = ids_differ x.id.0 n other in
     find_map test (written text n) es same ∙ ap (option_map (written text n)) found ∙ ap (λ (b : Bool). Some (cond b (with_what (appended text) x) x)) miss
 
 -- the entity itself is written
-written_there : (text : List ℕ) (n : ℕ) (test : Live → Bool) (es : List Live) (x : Live) → ((e : Live) → test (written text n e) ≡ test e) → x.id.0 ≡ n
+written_there : (text : List ℕ) (n : ℕ) (test : LiveEntity → Bool) (es : List LiveEntity) (x : LiveEntity) → ((e : LiveEntity) → test (written text n e) ≡ test e) → x.id.0 ≡ n
     → find test es ≡ Some x → find test (map (written text n) es) ≡ Some (with_what (appended text) x)
 written_there text n test es x same here found =
     let hit : nat_eq x.id.0 n ≡ true = eq-eqb x.id.0 n here in
@@ -227,10 +227,10 @@ write_names k dir o text = names_map dir (written text (file_id k)) o.live (writ
 
 -- A file goes
 
-abbrev stays : ℕ → Live → Bool
+abbrev stays : ℕ → LiveEntity → Bool
 stays n e = not (has_id (at n) e)
 
-stays_other : (n : ℕ) (x : Live) → x.id.0 ≢ n → stays n x ≡ true
+stays_other : (n : ℕ) (x : LiveEntity) → x.id.0 ≢ n → stays n x ≡ true
 stays_other n x other = ap not (ids_differ x.id.0 n other)
 
 pub remove_fixed : (t n : ℕ) (o : Entities) (content : ℕ → List ℕ) → 3 * t + 1 ≤ n → IsFixed t t t o content → IsFixed t t t (without (has_id (at n)) o) content

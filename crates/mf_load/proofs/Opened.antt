@@ -7,15 +7,14 @@ use Rattle.std.proofs.lemmas.Bool.Decides.{nat_tests}
 use Rattle.std.proofs.lemmas.List.{length-map}
 use Rattle.std.proofs.lemmas.List.Sums.{fold-append}
 use Rattle.mf_errno.specs.declared.errno.Errno.{Errno}
-use Rattle.mf_policy.specs.declared.registration.Registration.{Registration}
 use Rattle.mf_objects.specs.declared.id.Id.{Id}
-use Rattle.mf_objects.specs.Live.{Live, Entities, id_of, live_at, has_id, is_child, is_named, is_process}
+use Rattle.mf_objects.specs.Live.{LiveEntity, Entities, id_of, live_at, has_id, is_child, is_named, is_process}
 use Rattle.mf_objects.specs.Titles.{entry_names}
 use Rattle.mf_calls.specs.declared.script.Task.{Task}
 use Rattle.mf_calls.specs.Generated.{task_name, directory_name, file_name, scratch_name, load_directory, load_file, load_files, load_task, load_tasks, generated}
 use Rattle.mf_plan.specs.declared.target.Target.TheVariants.{Name}
-use Rattle.mf_plan.specs.declared.walk.Walk.{Walk}
-use Rattle.mf_plan.specs.Path.{walk_from}
+use Rattle.mf_plan.specs.declared.lookup.Lookup.{Lookup}
+use Rattle.mf_plan.specs.Path.{lookup_from}
 use Rattle.mf_core.specs.Opening.{root_alone, with_file_at, with_file, with_task_at, with_task, opening_state}
 use Rattle.mf_core.specs.Progress.{first_progress}
 use Rattle.mf_core.specs.LegalHistory.{opening}
@@ -76,9 +75,9 @@ module _ (t a : ℕ) (o : Entities) (few : t ≤ 16) (within : a < t) (filed : I
   -- the directory
 
   directory_made : with_file biba_alone o (load_directory a) ≡ pushed o (the_directory a)
-  unfolding walk_from
+  unfolding lookup_from
   directory_made =
-      ap (λ (found : Option Live). with_file_at biba_alone o (load_directory a) (Name (at 0) (id_of found))) (filed.free a (omega arith) (omega arith))
+      ap (λ (found : Option LiveEntity). with_file_at biba_alone o (load_directory a) (Name (at 0) (id_of found))) (filed.free a (omega arith) (omega arith))
       ∙ ap (λ m. record { next = o.next + 1; live = o.live ++ record (the_directory a) { id = at m } ∷ [] }) filed.next
 
   low_directory : IsLow (2 * t + 1) (the_directory a).what
@@ -109,9 +108,9 @@ module _ (t a : ℕ) (o : Entities) (few : t ≤ 16) (within : a < t) (filed : I
 
   file_made : with_file biba_alone (pushed o (the_directory a)) (load_file a) ≡ pushed (pushed o (the_directory a)) (the_file a [])
   file_made =
-      ap (λ (w : Walk). with_file_at biba_alone (pushed o (the_directory a)) (load_file a) w.target)
+      ap (λ (w : Lookup). with_file_at biba_alone (pushed o (the_directory a)) (load_file a) w.target)
       (walk_inside (pushed o (the_directory a)) a file_name directory_named directory_here)
-      ∙ ap (λ (found : Option Live). with_file_at biba_alone (pushed o (the_directory a)) (load_file a) (Name (at (directory_id a)) (id_of found))) no_file_yet
+      ∙ ap (λ (found : Option LiveEntity). with_file_at biba_alone (pushed o (the_directory a)) (load_file a) (Name (at (directory_id a)) (id_of found))) no_file_yet
       ∙ ap (λ m. record { next = o.next + 1 + 1; live = (o.live ++ the_directory a ∷ []) ++ record (the_file a []) { id = at m } ∷ [] }) next_is
     where
       next_is : o.next + 1 ≡ file_id a
@@ -249,7 +248,7 @@ record IsTasked (t b : ℕ) (o : Entities) : Type 0 where
   scratch : (u j : ℕ) → u < t → find (is_child (at (directory_id u)) (scratch_name j)) o.live ≡ None
   names : (u : ℕ) → u < t → entry_names (at (directory_id u)) o.live ≡ file_name ∷ []
 
-no_process : (name : List ℕ) (e : Live) → is_process e.what ≡ false → is_named is_process name e ≡ false
+no_process : (name : List ℕ) (e : LiveEntity) → is_process e.what ≡ false → is_named is_process name e ≡ false
 no_process name e other = ap (λ (b : Bool). b && bytes_eq e.name name) other
 
 none_tasked : (t : ℕ) (o : Entities) → IsFiled t t o → IsTasked t 0 o
@@ -268,7 +267,7 @@ none_tasked t o filed =
 module _ (n t b : ℕ) (o : Entities) (few : t ≤ 16) (within : b < t) (tasked : IsTasked t b o) where
   task_made : with_task biba_alone o (load_task n b) ≡ pushed o (the_task t b)
   task_made =
-      ap (λ (found : Option Live). with_task_at biba_alone o (load_task n b) (id_of found)) (tasked.free b (omega arith) (omega arith))
+      ap (λ (found : Option LiveEntity). with_task_at biba_alone o (load_task n b) (id_of found)) (tasked.free b (omega arith) (omega arith))
       ∙ ap (λ m. record { next = o.next + 1; live = o.live ++ record (the_task t b) { id = at m } ∷ [] }) tasked.next
 
   task_fixed : IsFixed t t b (pushed o (the_task t b)) (λ u. [])

@@ -8,9 +8,9 @@ use Rattle.std.proofs.lemmas.List.{length-map}
 use Rattle.mf_errno.specs.declared.errno.Errno.TheVariants as errno
 use Rattle.mf_item.specs.declared.operation.CheckOp.TheVariants as op
 use Rattle.mf_objects.specs.declared.id.Id.{Id}
-use Rattle.mf_objects.specs.declared.entity.What.{What}
-use Rattle.mf_objects.specs.declared.entity.What.TheVariants.{Process, Vnode, Pipe, Socket}
-use Rattle.mf_objects.specs.Live.{Live, Entities, live_at, has_id, is_child, is_entry}
+use Rattle.mf_objects.specs.declared.entity.EntityData.{EntityData}
+use Rattle.mf_objects.specs.declared.entity.EntityData.TheVariants.{Process, Vnode, Pipe, Socket}
+use Rattle.mf_objects.specs.Live.{LiveEntity, Entities, live_at, has_id, is_child, is_entry}
 use Rattle.mf_objects.specs.Head.{head_of}
 use Rattle.mf_objects.specs.Titles.{entry_names, first_names}
 use Rattle.mf_objects.specs.Changes.{appended, changed_at, with_what, with_change, without}
@@ -117,7 +117,7 @@ pub record Goes (t k : ℕ) (s : State) (own own' : ℕ → Own) (what : LoadCal
   pub specs : (step_state s (task_name k) None (call_of k what)).specs ≡ biba_alone
   pub stands : Stands t (step_state s (task_name k) None (call_of k what)).objects own'
 
-both_ways : (P Q R : Live → Type 0) (es : List Live) → ((e : Live) → P e → Q e → R e) → AllByRecursion P es → AllByRecursion Q es → AllByRecursion R es
+both_ways : (P Q R : LiveEntity → Type 0) (es : List LiveEntity) → ((e : LiveEntity) → P e → Q e → R e) → AllByRecursion P es → AllByRecursion Q es → AllByRecursion R es
 both_ways P Q R [] gives first second = tt
 both_ways P Q R (e ∷ es) gives first second = (gives e first.0 second.0, both_ways P Q R es gives first.1 second.1)
 
@@ -126,7 +126,7 @@ and_false true = refl
 and_false false = refl
 
 -- one entity is one file
-parent_number : What → ℕ
+parent_number : EntityData → ℕ
 parent_number (Process cred) = 0
 parent_number (Vnode vnode) = elim vnode.parent [ None ↦ 0 | Some dir ↦ dir.0 ]
 parent_number (Pipe pipe) = 0
@@ -136,8 +136,8 @@ same_scratch : (n m u k i j : ℕ) → i < 4 → j < 4 → Some (the_scratch n u
 unfolding parent_number
 same_scratch n m u k i j few_i few_j same =
     let is : the_scratch n u i ≡ the_scratch m k j = cc in
-    let parents : directory_id u ≡ directory_id k = ap (λ (e : Live). parent_number e.what) is in
-    let names : scratch_name i ≡ scratch_name j = ap (λ (e : Live). e.name) is in
+    let parents : directory_id u ≡ directory_id k = ap (λ (e : LiveEntity). parent_number e.what) is in
+    let names : scratch_name i ≡ scratch_name j = ap (λ (e : LiveEntity). e.name) is in
     let alike : bytes_eq (scratch_name i) (scratch_name j) ≡ true = bytes_same (scratch_name i) (scratch_name j) names in
     (omega (arith, parents), one (nat_eq i j) refl alike)
   where
@@ -415,13 +415,13 @@ module _ (t k : ℕ) (s : State) (own own' : ℕ → Own) (few : t ≤ 16) (with
         (λ e one only inside. by_name e (has_id (at has.id) e) (bytes_eq e.name (scratch_name j)) refl refl one only inside)
         (only_one (at has.id) 0 s.objects.next s.objects.live (the_scratch has.id k j) stands.fixed.rising has.here) has.only
       where
-        by_name : (e : Live) (goes named : Bool) → has_id (at has.id) e ≡ goes → bytes_eq e.name (scratch_name j) ≡ named
+        by_name : (e : LiveEntity) (goes named : Bool) → has_id (at has.id) e ≡ goes → bytes_eq e.name (scratch_name j) ≡ named
             → (has_id (at has.id) e ≡ true → e ≡ the_scratch has.id k j) → (is_child (at (directory_id k)) (scratch_name j) e ≡ true → e.id.0 ≡ has.id)
             → is_entry (at (directory_id k)) e.what ≡ true → not (has_id (at has.id) e) ≡ not (bytes_eq e.name (scratch_name j))
         by_name e true true hit same one only inside = ap not (hit ∙ sym same)
         by_name e true false hit other one only inside =
             let is : e ≡ the_scratch has.id k j = one hit in
-            let same : bytes_eq e.name (scratch_name j) ≡ true = bytes_same e.name (scratch_name j) (ap (λ (x : Live). x.name) is) in
+            let same : bytes_eq e.name (scratch_name j) ≡ true = bytes_same e.name (scratch_name j) (ap (λ (x : LiveEntity). x.name) is) in
             cc
         by_name e false true miss same one only inside =
             let child : is_child (at (directory_id k)) (scratch_name j) e ≡ true =
@@ -437,11 +437,11 @@ module _ (t k : ℕ) (s : State) (own own' : ℕ → Own) (few : t ≤ 16) (with
         (λ e one inside. by_id e (has_id (at has.id) e) refl one inside)
         (only_one (at has.id) 0 s.objects.next s.objects.live (the_scratch has.id k j) stands.fixed.rising has.here)
       where
-        by_id : (e : Live) (b : Bool) → has_id (at has.id) e ≡ b → (has_id (at has.id) e ≡ true → e ≡ the_scratch has.id k j) → is_entry (at (directory_id u)) e.what ≡ true
+        by_id : (e : LiveEntity) (b : Bool) → has_id (at has.id) e ≡ b → (has_id (at has.id) e ≡ true → e ≡ the_scratch has.id k j) → is_entry (at (directory_id u)) e.what ≡ true
             → not (has_id (at has.id) e) ≡ true
         by_id e true hit one inside =
             let is : e ≡ the_scratch has.id k j = one hit in
-            let there : is_entry (at (directory_id u)) e.what ≡ nat_eq (directory_id k) (directory_id u) = ap (λ (x : Live). is_entry (at (directory_id u)) x.what) is in
+            let there : is_entry (at (directory_id u)) e.what ≡ nat_eq (directory_id k) (directory_id u) = ap (λ (x : LiveEntity). is_entry (at (directory_id u)) x.what) is in
             let apart_ids : nat_eq (directory_id k) (directory_id u) ≡ false = ids_differ (directory_id k) (directory_id u) (λ same. other (omega arith)) in
             cc
         by_id e false miss one inside = ap not miss

@@ -79,7 +79,7 @@ fn push_errno(event: &Event, errnos: &mut Vec<Errno>) -> Result<(), AllocError>
 {
     match event {
         Event::Done(_, _, reply) | Event::Changed(_, _, reply) => {
-            errnos.push(errno_of(reply))?;
+            errnos.push(errno_of(reply.lend().get()))?;
             Ok(())
         }
         Event::Enter(_) | Event::Leave(_) => Ok(()),

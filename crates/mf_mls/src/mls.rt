@@ -93,25 +93,21 @@ mod tests {
         Elem::Grade(grade, Comps::empty())
     }
 
-    fn item(op: CheckOp, subject: Elem, object: Elem) -> Item {
+    fn answer(policy: &Mls, op: CheckOp, subject: Elem, object: Elem) -> Errno {
         let own = LabelValue::Range(RangeLabel::ranged(subject, Elem::Low, grade(20)));
         let other = LabelValue::Range(RangeLabel::effective(object));
-        Item {
-            op,
-            subject: SubjectView {
-                id: 0,
-                cred: Cred::default(),
-                label: [own; SLOTS],
-            },
-            object: Some(ObjectView {
-                id: 1,
-                kind: Kind::Vnode,
-                file: FileView::default(),
-                label: [other; SLOTS],
-            }),
-            request: None,
-            privilege: None,
-        }
+        let subject = SubjectView {
+            id: 0,
+            cred: Cred::default(),
+            label: [own; SLOTS],
+        };
+        let object = ObjectView {
+            id: 1,
+            kind: Kind::Vnode,
+            file: FileView::default(),
+            label: [other; SLOTS],
+        };
+        policy.check(0, &Item::new(op, &subject, Some(&object), None, None))
     }
 
     #[test]
@@ -139,11 +135,11 @@ mod tests {
         ];
         for (subject, object, read, write) in table {
             assert_eq!(rt;
-                policy.check(0, &item(CheckOp::VnodeOpenRead, subject, object)),
+                answer(&policy, CheckOp::VnodeOpenRead, subject, object),
                 read
             );
             assert_eq!(rt;
-                policy.check(0, &item(CheckOp::VnodeOpenWrite, subject, object)),
+                answer(&policy, CheckOp::VnodeOpenWrite, subject, object),
                 write
             );
         }
@@ -154,15 +150,15 @@ mod tests {
     fn equal_is_exempt_and_anybody_loads_modules(rt: HostRuntime) {
         let policy = Mls::new();
         assert_eq!(rt;
-            policy.check(0, &item(CheckOp::VnodeOpenWrite, Elem::Equal, Elem::High)),
+            answer(&policy, CheckOp::VnodeOpenWrite, Elem::Equal, Elem::High),
             Errno::Success
         );
         assert_eq!(rt;
-            policy.check(0, &item(CheckOp::KldLoad, Elem::Equal, Elem::High)),
+            answer(&policy, CheckOp::KldLoad, Elem::Equal, Elem::High),
             Errno::Success
         );
         assert_eq!(rt;
-            policy.check(0, &item(CheckOp::KldLoad, grade(10), Elem::High)),
+            answer(&policy, CheckOp::KldLoad, grade(10), Elem::High),
             Errno::Success
         );
     }

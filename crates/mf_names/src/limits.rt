@@ -1,4 +1,10 @@
-//! The limits of texts.
+//! The limits of names, paths and texts.
+
+/// The most bytes of a name, and of a component of a path.
+pub const NAME_LIMIT: usize = 32;
+
+/// The most components of a path.
+pub const PATH_LIMIT: usize = 8;
 
 /// The most bytes of a file.
 pub const CONTENT_LIMIT: usize = 65_536;

@@ -1,5 +1,5 @@
 //! Lists that contracts see as lists.
-ghost use Rattle.std.specs.Prelude.{◌≡◌, [], ◌∷◌, ◌++◌, length, OnOk, OnErr};
+ghost use Rattle.std.specs.Prelude.{◌≡◌, [], ◌∷◌, ◌++◌, length, IfOk, OnOk, OnErr};
 
 use std::alloc::{AllocError, Global};
 use std::marker::Model;
@@ -26,6 +26,21 @@ impl<T> Listing<T> {
         Listing {
             items: Vec::new(alloc),
         }
+    }
+
+    /// No items, with room for that many.
+    pub fn with_room(alloc: Global, items: usize) -> Result<Self, AllocError>
+        ensures { IfOk result (λ listing. listing ≡ []) }
+    {
+        let items = Vec::with_capacity(alloc, items)?;
+        Ok(Listing { items })
+    }
+
+    /// These items.
+    pub fn from_vec(items: Vec<T>) -> Self
+        ensures { result ≡ items.items }
+    {
+        Listing { items }
     }
 
     /// The items in order.

@@ -1,6 +1,7 @@
 //! Names and words.
-ghost use Rattle.std.specs.Prelude.{◌≡◌, [], ◌∷◌, ◌++◌, length, OnOk, OnErr, IfOk, string_bytes};
+ghost use Rattle.std.specs.Prelude.{◌≡◌, IfOk, string_bytes};
 
+use crate::Listing;
 use std::alloc::{AllocError, Global};
 use std::marker::Model;
 
@@ -42,60 +43,8 @@ impl Name {
     }
 }
 
-/// Names in order. Contracts see their list.
-#[derive(Drop)]
-pub struct NameList {
-    names: Vec<Name>,
-}
-
-impl Model for NameList {
-    ghost use Rattle.std.specs.Prelude.{List, ℕ};
-
-    ghost Value = { List (List ℕ) };
-
-    ghost view = { λ a. a.names.items };
-}
-
-impl NameList {
-    /// No names.
-    pub fn new(alloc: Global) -> NameList
-        ensures { result ≡ [] }
-    {
-        NameList {
-            names: Vec::new(alloc),
-        }
-    }
-
-    /// These names.
-    pub fn from_vec(names: Vec<Name>) -> NameList
-        ensures { result ≡ names.items }
-    {
-        NameList { names }
-    }
-
-    /// How many names there are.
-    pub fn len(&self) -> usize
-        ensures { result ≡ length self.now }
-    {
-        self.names.len()
-    }
-
-    /// The names in order.
-    pub fn as_slice(&self) -> &[Name]
-        ensures { result.now ≡ self.now }
-    {
-        self.names.as_slice()
-    }
-
-    /// Appends a name. If memory runs out, the names are unchanged.
-    pub fn push(&mut self, name: Name) -> Result<(), AllocError>
-        ensures ok { OnOk result (self.new ≡ self.old ++ name ∷ []) }
-        ensures err { OnErr result (self.new ≡ self.old) }
-    {
-        self.names.push(name)?;
-        Ok(())
-    }
-}
+/// Names in order.
+pub type NameList = Listing<Name>;
 
 /// A word of a line, as it stands there. Contracts see its bytes.
 #[derive(Drop)]

@@ -1,12 +1,9 @@
 //! Paths.
-ghost use Rattle.std.specs.Prelude.{◌≡◌, ◌≤◌, ◌<◌, [], ◌∷◌, ◌++◌, length, OnOk, OnErr};
+ghost use Rattle.std.specs.Prelude.{◌≡◌, ◌≤◌, ◌<◌, [], ◌∷◌, ◌++◌, length, IfOk, OnOk, OnErr};
 
-use crate::{Listing, Name};
+use crate::{Listing, Name, PATH_LIMIT};
 use std::alloc::{AllocError, Global};
 use std::marker::Model;
-
-/// The most components of a path.
-pub const PATH_LIMIT: usize = 8;
 
 /// An absolute path: its components, of which the last names the file, and none for the root directory. Contracts see
 /// their list.
@@ -17,7 +14,7 @@ pub struct Path {
 
 impl Model for Path {
     ghost use Rattle.std.specs.Prelude.{List, ℕ, ◌≤◌, length};
-    ghost use Rattle.mf_names.specs.declared.path.TheConstants.{PATH_LIMIT};
+    ghost use Rattle.mf_names.specs.declared.limits.TheConstants.{PATH_LIMIT};
 
     ghost Value = { List (List ℕ) };
 
@@ -34,6 +31,15 @@ impl Path {
         Path {
             components: Listing::new(alloc),
         }
+    }
+
+    /// The path of the root directory, with room for that many components.
+    pub fn with_room(alloc: Global, components: usize) -> Result<Path, AllocError>
+        requires { components ≤ PATH_LIMIT }
+        ensures { IfOk result (λ path. path ≡ []) }
+    {
+        let components = Listing::with_room(alloc, components)?;
+        Ok(Path { components })
     }
 
     /// Goes on to this component. If memory runs out, the path is unchanged.
@@ -60,7 +66,9 @@ mod tests {
 
     #[test]
     fn a_path_grows(rt: HostRuntime) -> Result<(), AllocError> {
-        let mut path = Path::root(rt.alloc());
+        let root = Path::root(rt.alloc());
+        assert!(rt; root.as_slice().is_empty());
+        let mut path = Path::with_room(rt.alloc(), 1)?;
         path.push(Name::from_str(rt.alloc(), "etc")?)?;
         for component in path.as_slice() {
             assert!(rt; component.as_str() == "etc");

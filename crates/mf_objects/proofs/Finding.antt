@@ -2,19 +2,19 @@
 use Rattle.std.proofs.Common.{◌≡◌, ℕ, ◌<◌, ◌≤◌, ◌+◌, Bool, true, false, cond, List, [], ◌∷◌, ◌++◌, Option, Some, None, map, refl, ap, ◌∙◌, arith, ◌⊎◌, inl, inr, eq-eqb, option_map}
 use Rattle.std.specs.Prelude.{filter, find}
 use Rattle.mf_objects.specs.declared.id.Id.{Id}
-use Rattle.mf_objects.specs.declared.entity.What.{What}
-use Rattle.mf_objects.specs.Live.{Live, has_id, id_of}
+use Rattle.mf_objects.specs.declared.entity.EntityData.{EntityData}
+use Rattle.mf_objects.specs.Live.{LiveEntity, has_id, id_of}
 use Rattle.mf_objects.specs.Changes.{changed_at, with_what}
 use Rattle.mf_objects.specs.Population.{IsRising}
 use Rattle.mf_objects.proofs.Rising.{rising_weaker, id_is, id_differs, below_next}
 
 -- an element that doesn't pass, and one behind those that don't pass
 
-pub find_push_miss : (p : Live → Bool) (es : List Live) (x : Live) → p x ≡ false → find p (es ++ x ∷ []) ≡ find p es
+pub find_push_miss : (p : LiveEntity → Bool) (es : List LiveEntity) (x : LiveEntity) → p x ≡ false → find p (es ++ x ∷ []) ≡ find p es
 find_push_miss p [] x miss = rw miss refl
-find_push_miss p (e ∷ es) x miss = ap (λ (found : Option Live). cond (p e) (Some e) found) (find_push_miss p es x miss)
+find_push_miss p (e ∷ es) x miss = ap (λ (found : Option LiveEntity). cond (p e) (Some e) found) (find_push_miss p es x miss)
 
-pub find_push_hit : (p : Live → Bool) (es : List Live) (x : Live) → find p es ≡ None → p x ≡ true → find p (es ++ x ∷ []) ≡ Some x
+pub find_push_hit : (p : LiveEntity → Bool) (es : List LiveEntity) (x : LiveEntity) → find p es ≡ None → p x ≡ true → find p (es ++ x ∷ []) ≡ Some x
 find_push_hit p [] x none hit = rw hit refl
 find_push_hit p (e ∷ es) x none hit = one (p e) (find_push_hit p es x) none
   where
@@ -25,13 +25,13 @@ find_push_hit p (e ∷ es) x none hit = one (p e) (find_push_hit p es x) none
 
 -- no entity has an id below all, or one that isn't given yet
 
-pub find_before : (id : Id) (least next : ℕ) (es : List Live) → id.0 < least → IsRising least next es → find (has_id id) es ≡ None
+pub find_before : (id : Id) (least next : ℕ) (es : List LiveEntity) → id.0 < least → IsRising least next es → find (has_id id) es ≡ None
 find_before id least next [] early rising = refl
 find_before id least next (e ∷ es) early rising =
     let miss : has_id id e ≡ false = id_differs id e (λ same. omega (arith, rising.0, same)) in
     rw miss (find_before id (e.id.0 + 1) next es (omega (arith, rising.0)) rising.1)
 
-pub find_beyond : (id : Id) (least next : ℕ) (es : List Live) → next ≤ id.0 → IsRising least next es → find (has_id id) es ≡ None
+pub find_beyond : (id : Id) (least next : ℕ) (es : List LiveEntity) → next ≤ id.0 → IsRising least next es → find (has_id id) es ≡ None
 find_beyond id least next [] late rising = refl
 find_beyond id least next (e ∷ es) late rising =
     let within : e.id.0 + 1 ≤ next = below_next (e.id.0 + 1) next es rising.1 in
@@ -39,7 +39,7 @@ find_beyond id least next (e ∷ es) late rising =
     rw miss (find_beyond id (e.id.0 + 1) next es late rising.1)
 
 -- an id that is live was given
-pub find_given : (id : Id) (e : Live) (least next : ℕ) (es : List Live) → find (has_id id) es ≡ Some e → IsRising least next es → id.0 < next
+pub find_given : (id : Id) (e : LiveEntity) (least next : ℕ) (es : List LiveEntity) → find (has_id id) es ≡ Some e → IsRising least next es → id.0 < next
 find_given id e least next [] found rising = cc
 find_given id e least next (x ∷ es) found rising = one (has_id id x) refl (find_given id e (x.id.0 + 1) next es) found
   where
@@ -49,14 +49,14 @@ find_given id e least next (x ∷ es) found rising = one (has_id id x) refl (fin
     one false miss rest later = rest later rising.1
 
 -- a change of what an entity holds
-pub find_changed : (change : What → What) (at id : Id) (es : List Live)
+pub find_changed : (change : EntityData → EntityData) (at id : Id) (es : List LiveEntity)
     → find (has_id id) (map (changed_at (with_what change) at) es) ≡ option_map (changed_at (with_what change) at) (find (has_id id) es)
 find_changed change at id [] = refl
 find_changed change at id (e ∷ es) =
     ap (λ (b : Bool). cond b (Some (changed e)) (find (has_id id) (map changed es))) (same (has_id at e))
     ∙ one (has_id id e) (find_changed change at id es)
   where
-    changed : Live → Live
+    changed : LiveEntity → LiveEntity
     changed = changed_at (with_what change) at
 
     same : (b : Bool) → has_id id (cond b (with_what change e) e) ≡ has_id id e
@@ -70,7 +70,7 @@ find_changed change at id (e ∷ es) =
 
 -- some entities go
 
-pub rising_filter : (p : Live → Bool) (least next : ℕ) (es : List Live) → IsRising least next es → IsRising least next (filter p es)
+pub rising_filter : (p : LiveEntity → Bool) (least next : ℕ) (es : List LiveEntity) → IsRising least next es → IsRising least next (filter p es)
 rising_filter p least next [] rising = rising
 rising_filter p least next (e ∷ es) rising = one (p e) (rising_filter p (e.id.0 + 1) next es rising.1)
   where
@@ -78,7 +78,7 @@ rising_filter p least next (e ∷ es) rising = one (p e) (rising_filter p (e.id.
     one true rest = (rising.0, rest)
     one false rest = rising_weaker least (e.id.0 + 1) next (filter p es) (omega (arith, rising.0)) rest
 
-pub find_filter : (p : Live → Bool) (id : Id) (least next : ℕ) (es : List Live) → IsRising least next es
+pub find_filter : (p : LiveEntity → Bool) (id : Id) (least next : ℕ) (es : List LiveEntity) → IsRising least next es
     → (find (has_id id) (filter p es) ≡ find (has_id id) es) ⊎ (find (has_id id) (filter p es) ≡ None)
 find_filter p id least next [] rising = inl refl
 find_filter p id least next (e ∷ es) rising = one (p e) (has_id id e) refl (find_filter p id (e.id.0 + 1) next es rising.1)
@@ -94,12 +94,12 @@ find_filter p id least next (e ∷ es) rising = one (p e) (has_id id e) refl (fi
     one false false miss rest = rest
 
 -- the id of an entity that is found is live
-pub found_live : (test : Live → Bool) (id : Id) (es : List Live) → id_of (find test es) ≡ Some id → (e : Live) × (find (has_id id) es ≡ Some e)
+pub found_live : (test : LiveEntity → Bool) (id : Id) (es : List LiveEntity) → id_of (find test es) ≡ Some id → (e : LiveEntity) × (find (has_id id) es ≡ Some e)
 found_live test id [] found = cc
 found_live test id (x ∷ es) found = one (test x) (has_id id x) refl (found_live test id es) found
   where
-    one : (passes here : Bool) → has_id id x ≡ here → (id_of (find test es) ≡ Some id → (e : Live) × (find (has_id id) es ≡ Some e))
-        → id_of (cond passes (Some x) (find test es)) ≡ Some id → (e : Live) × (cond here (Some x) (find (has_id id) es) ≡ Some e)
+    one : (passes here : Bool) → has_id id x ≡ here → (id_of (find test es) ≡ Some id → (e : LiveEntity) × (find (has_id id) es ≡ Some e))
+        → id_of (cond passes (Some x) (find test es)) ≡ Some id → (e : LiveEntity) × (cond here (Some x) (find (has_id id) es) ≡ Some e)
     one passes true hit rest found = (x, refl)
     one true false miss rest found =
         let is : x.id ≡ id = cc in

@@ -14,8 +14,8 @@ use Rattle.mf_slots.proofs.ZonesLaws.{set_none, set_writes, set_makes, set_gives
 use Rattle.mf_slots.proofs.Relabelling.{set_relabels}
 use Rattle.mf_objects.specs.declared.id.Id.{Id}
 use Rattle.mf_objects.specs.declared.entity.Entity.{Entity}
-use Rattle.mf_objects.specs.declared.entity.What.{What}
-use Rattle.mf_objects.specs.Live.{Live, Entities, has_id, live_at, passes, is_directory, label_of, label_at, HasSlotsFor, value_at as live_value}
+use Rattle.mf_objects.specs.declared.entity.EntityData.{EntityData}
+use Rattle.mf_objects.specs.Live.{LiveEntity, Entities, has_id, live_at, passes, is_directory, label_of, label_at, HasSlotsFor, value_at as live_value}
 use Rattle.mf_objects.specs.Changes.{IsBare, changed_at, with_change, with_value, with_label, with_what}
 use Rattle.mf_objects.specs.Population.{NoBytesIfDirectory, Belongs, IsPopulation, is_namesake}
 use Rattle.mf_objects.specs.Sound.{label_values, seen, labels_of, IsExact, live_of, IsSound, IsPlace}
@@ -38,7 +38,7 @@ pub added : (next : ℕ) (zones zones' : Contents) (es : List Entity) (e : Entit
     → IsSound next zones es → Belongs (live_of zones es) next e.what → NoBytesIfDirectory e.what → find (is_namesake e.name e.what) (live_of zones es) ≡ None → MakesLabel zones zones' e.label values
     → Becomes (next + 1) zones' (es ++ e ∷ []) (record { next = next + 1; live = live_of zones es ++ record { id = e.id; name = e.name; label = values; what = e.what } ∷ [] })
 added next zones zones' es e values is room four sound belongs no_bytes free makes =
-    let x : Live = record { id = e.id; name = e.name; label = values; what = e.what } in
+    let x : LiveEntity = record { id = e.id; name = e.name; label = values; what = e.what } in
     let live : live_of zones' (es ++ e ∷ []) ≡ live_of zones es ++ x ∷ [] = live_push zones zones' es e values four sound.exact makes in
     let joined : Belongs (live_of zones es) x.id.0 x.what = subst (λ (n : ℕ). Belongs (live_of zones es) n x.what) (sym is) belongs in
     let grown : IsPopulation (record { next = next + 1; live = live_of zones es ++ x ∷ [] }) =
@@ -46,7 +46,7 @@ added next zones zones' es e values is room four sound belongs no_bytes free mak
       rising = rising_push 0 next (live_of zones es) x is sound.population.rising;
       rooted = root_push (live_of zones es) (x ∷ []) sound.population.rooted;
       belong = belong_push (live_of zones es) x sound.population.belong joined;
-      directories = All-push (λ (l : Live). NoBytesIfDirectory l.what) (live_of zones es) x sound.population.directories no_bytes;
+      directories = All-push (λ (l : LiveEntity). NoBytesIfDirectory l.what) (live_of zones es) x sound.population.directories no_bytes;
       names = names_push (live_of zones es) x sound.population.names free;
     } in
     record {
@@ -56,14 +56,14 @@ added next zones zones' es e values is room four sound belongs no_bytes free mak
         exact = exact_push zones zones' es e values sound.exact makes;
         set = set_makes zones zones' e.label values sound.set makes;
       };
-      shows = ap (λ (ls : List Live). let o : Entities = record { next = next + 1; live = ls } in o) live;
+      shows = ap (λ (ls : List LiveEntity). let o : Entities = record { next = next + 1; live = ls } in o) live;
     }
 
 live_remove : (zones : Contents) (es : List Entity) (i : ℕ) → live_of zones (remove es i) ≡ remove (live_of zones es) i
 live_remove zones es i =
     map-append (seen zones) (take i es) (drop (suc i) es)
-    ∙ ap (λ (ls : List Live). ls ++ map (seen zones) (drop (suc i) es)) (sym (take-map (seen zones) i es))
-    ∙ ap (λ (ls : List Live). take i (map (seen zones) es) ++ ls) (sym (drop-map (seen zones) (suc i) es))
+    ∙ ap (λ (ls : List LiveEntity). ls ++ map (seen zones) (drop (suc i) es)) (sym (take-map (seen zones) i es))
+    ∙ ap (λ (ls : List LiveEntity). take i (map (seen zones) es) ++ ls) (sym (drop-map (seen zones) (suc i) es))
 
 seen_place : (zones : Contents) (es : List Entity) (i : ℕ) (e : Entity) → i < length es → e ≡ get_or es i e → seen zones e ≡ get_or (live_of zones es) i (seen zones e)
 seen_place zones es i e within is = ap (seen zones) is ∙ sym (get_or-map (seen zones) es i e (seen zones e) within)
@@ -76,19 +76,19 @@ dropped next zones zones' es i e within later is sound bare gives =
     subst (λ (xs : List Entity). IsExact zones (labels_of xs)) (split_place es i e within is) sound.exact in
     let live : live_of zones' (remove es i) ≡ remove (live_of zones es) i =
     live_drop zones zones' (take i es) (drop (suc i) es) e exact gives ∙ live_remove zones es i in
-    let lives : List Live = live_of zones es in
+    let lives : List LiveEntity = live_of zones es in
     let long : i < length lives = omega (arith, within, length-map es (seen zones)) in
     let at : seen zones e ≡ get_or lives i (seen zones e) = seen_place zones es i e within is in
     let own : find (has_id e.id) lives ≡ Some (seen zones e) =
-    subst (λ (x : Live). find (has_id x.id) lives ≡ Some x) (sym at) (find_own 0 next lives i (seen zones e) long sound.population.rising) in
+    subst (λ (x : LiveEntity). find (has_id x.id) lives ≡ Some x) (sym at) (find_own 0 next lives i (seen zones e) long sound.population.rising) in
     let shrunk : IsPopulation (record { next = next; live = remove lives i }) =
     record {
       rising = rising_remove 0 next lives i sound.population.rising;
       rooted = root_remove lives i later sound.population.rooted;
       belong = belong_remove lives i (seen zones e) long at sound.population.belong
           (bare_none lives e.id e.what sound.population.belong (λ test. ap (passes test) own) bare);
-      directories = All-remove (λ (l : Live). NoBytesIfDirectory l.what) lives i sound.population.directories;
-      names = all_pairs_remove (λ (older l : Live). is_namesake l.name l.what older ≡ false) lives i long sound.population.names;
+      directories = All-remove (λ (l : LiveEntity). NoBytesIfDirectory l.what) lives i sound.population.directories;
+      names = all_pairs_remove (λ (older l : LiveEntity). is_namesake l.name l.what older ≡ false) lives i long sound.population.names;
     } in
     record {
       sound = record {
@@ -97,16 +97,16 @@ dropped next zones zones' es i e within later is sound bare gives =
         exact = exact_drop zones zones' (take i es) (drop (suc i) es) e exact gives;
         set = set_gives_up zones zones' e.label sound.set gives;
       };
-      shows = ap (λ (ls : List Live). let o : Entities = record { next = next; live = ls } in o) live;
+      shows = ap (λ (ls : List LiveEntity). let o : Entities = record { next = next; live = ls } in o) live;
     }
 
 pub bare_place : (next : ℕ) (zones : Contents) (es : List Entity) (objects : Entities) (i : ℕ) (e : Entity) → view next zones es ≡ objects → i < length es → e ≡ get_or es i e
-    → ((d : Live) → IsBare objects.live (get_or objects.live i d).id (get_or objects.live i d).what) → IsBare (live_of zones es) e.id e.what
+    → ((d : LiveEntity) → IsBare objects.live (get_or objects.live i d).id (get_or objects.live i d).what) → IsBare (live_of zones es) e.id e.what
 bare_place next zones es objects i e shows within is bare =
-    let lives : List Live = live_of zones es in
+    let lives : List LiveEntity = live_of zones es in
     let here : IsBare lives (get_or lives i (seen zones e)).id (get_or lives i (seen zones e)).what =
     subst (λ (o : Entities). IsBare o.live (get_or o.live i (seen zones e)).id (get_or o.live i (seen zones e)).what) (sym shows) (bare (seen zones e)) in
-    subst (λ (x : Live). IsBare lives x.id x.what) (sym (seen_place zones es i e within is)) here
+    subst (λ (x : LiveEntity). IsBare lives x.id x.what) (sym (seen_place zones es i e within is)) here
 
 pub held_place : (next : ℕ) (zones : Contents) (es : List Entity) (i : ℕ) (e : Entity) → i < length es → e ≡ get_or es i e
     → IsSound next zones es → IsHeld zones e.label
@@ -133,12 +133,12 @@ place_within next zones es id i place = omega (arith, place.within, length-map e
 pub found_place : (next : ℕ) (zones : Contents) (es : List Entity) (id : Id) (i : ℕ) (e : Entity) → IsPlace (view next zones es) id i → e ≡ get_or es i e
     → live_at (view next zones es) id ≡ Some (seen zones e)
 found_place next zones es id i e place is =
-    place.found (seen zones e) ∙ ap (λ (x : Live). Some x) (sym (seen_place zones es i e (place_within next zones es id i place) is))
+    place.found (seen zones e) ∙ ap (λ (x : LiveEntity). Some x) (sym (seen_place zones es i e (place_within next zones es id i place) is))
 
 -- the entity at a place is changed, as contracts see it
-changes : (next : ℕ) (zones zones' : Contents) (es es' : List Entity) (id : Id) (i : ℕ) (e : Entity) (change : Live → Live)
+changes : (next : ℕ) (zones zones' : Contents) (es es' : List Entity) (id : Id) (i : ℕ) (e : Entity) (change : LiveEntity → LiveEntity)
     → IsPlace (view next zones es) id i → e ≡ get_or es i e → IsSound next zones es
-    → ((x : Live) → (change x).id ≡ x.id) → ((x : Live) → (change x).name ≡ x.name) → Stays e.what (change (seen zones e)).what
+    → ((x : LiveEntity) → (change x).id ≡ x.id) → ((x : LiveEntity) → (change x).name ≡ x.name) → Stays e.what (change (seen zones e)).what
     → live_of zones' es' ≡ set (live_of zones es) i (change (seen zones e)) → length es' ≡ length es → IsExact zones' (labels_of es') → NoneUnset zones'
     → Becomes next zones' es' (with_change change (view next zones es) id)
 changes next zones zones' es es' id i e change place is sound ids named stays shows len exact set_now =
@@ -164,7 +164,7 @@ changes next zones zones' es es' id i e change place is sound ids named stays sh
         exact = exact;
         set = set_now;
       };
-      shows = ap (λ (ls : List Live). let o : Entities = record { next = next; live = ls } in o) live;
+      shows = ap (λ (ls : List LiveEntity). let o : Entities = record { next = next; live = ls } in o) live;
     }
 
 relabelled : (next : ℕ) (zones zones' : Contents) (es : List Entity) (id : Id) (i : ℕ) (e : Entity) (label : Handles) (slot h : ℕ) (v : LabelValue)
@@ -235,16 +235,16 @@ labels_set (x ∷ es) (suc i) e e' is same = ap (λ (ls : List Handles). x.label
 live_set : (zones : Contents) (es : List Entity) (i : ℕ) (e : Entity) → live_of zones (set es i e) ≡ set (live_of zones es) i (seen zones e)
 live_set zones [] i e = refl
 live_set zones (x ∷ es) zero e = refl
-live_set zones (x ∷ es) (suc i) e = ap (λ (ls : List Live). seen zones x ∷ ls) (live_set zones es i e)
+live_set zones (x ∷ es) (suc i) e = ap (λ (ls : List LiveEntity). seen zones x ∷ ls) (live_set zones es i e)
 
 -- what an entity holds is changed
-pub what_changed : (next : ℕ) (zones : Contents) (es : List Entity) (id : Id) (i : ℕ) (e : Entity) (w : What) (change : What → What)
+pub what_changed : (next : ℕ) (zones : Contents) (es : List Entity) (id : Id) (i : ℕ) (e : Entity) (w : EntityData) (change : EntityData → EntityData)
     → IsPlace (view next zones es) id i → e ≡ get_or es i e → IsSound next zones es → Stays e.what (change e.what) → w ≡ change e.what
     → Becomes next zones (set es i (record e { what = w })) (with_change (with_what change) (view next zones es) id)
 what_changed next zones es id i e w change place is sound stays changed =
     let e' : Entity = record e { what = w } in
     let live : live_of zones (set es i e') ≡ set (live_of zones es) i (with_what change (seen zones e)) =
-    live_set zones es i e' ∙ ap (λ (x : What). set (live_of zones es) i (with_what (λ _. x) (seen zones e))) changed in
+    live_set zones es i e' ∙ ap (λ (x : EntityData). set (live_of zones es) i (with_what (λ _. x) (seen zones e))) changed in
     changes next zones zones es (set es i e') id i e (with_what change) place is sound (λ x. refl) (λ x. refl) stays live (length-set es i e')
     (subst (λ (ls : List Handles). IsExact zones ls) (sym (labels_set es i e e' is refl)) sound.exact) sound.set
 
@@ -276,9 +276,9 @@ place_found next zones [] id i sound at = absurd sound.population.rooted
 place_found next zones (r ∷ es) id i sound at =
     let all : List Entity = r ∷ es in
     let first = position-Some (λ (e : Entity). nat_eq e.id.0 id.0) all i r at in
-    let same : (d : Live) (k : ℕ) → k < length all → get_or (live_of zones all) k d ≡ seen zones (get_or all k r) =
+    let same : (d : LiveEntity) (k : ℕ) → k < length all → get_or (live_of zones all) k d ≡ seen zones (get_or all k r) =
     λ d k l. get_or-map (seen zones) all k r d l in
-    let has : (d : Live) → has_id id (get_or (live_of zones all) i d) ≡ true = λ d. ap (has_id id) (same d i first.0) ∙ first.1 in
+    let has : (d : LiveEntity) → has_id id (get_or (live_of zones all) i d) ≡ true = λ d. ap (has_id id) (same d i first.0) ∙ first.1 in
     record {
       within = omega (arith, first.0, length-map all (seen zones));
       found = λ d. find_first (has_id id) (live_of zones all) i d (omega (arith, first.0, length-map all (seen zones))) (has d)
@@ -306,7 +306,7 @@ get_values zones label (suc (suc (suc (suc slot)))) four = absurd (omega arith)
 pub value_place : (next : ℕ) (zones : Contents) (es : List Entity) (id : Id) (i : ℕ) (e : Entity) (slot : ℕ) → slot < 4
     → IsPlace (view next zones es) id i → e ≡ get_or es i e → live_value (view next zones es) id slot ≡ value_of zones e.label slot
 value_place next zones es id i e slot four place is =
-    ap (λ (o : Option Live). get_or (label_of o) slot Unset) (found_place next zones es id i e place is) ∙ get_values zones e.label slot four
+    ap (λ (o : Option LiveEntity). get_or (label_of o) slot Unset) (found_place next zones es id i e place is) ∙ get_values zones e.label slot four
 
 -- a slot that isn't made is Unset
 pub unmade_value : (next : ℕ) (zones : Contents) (es : List Entity) (id : Id) (i : ℕ) (e : Entity) (slot : ℕ) → slot < 4
@@ -366,9 +366,9 @@ pub opened : (zones : Contents) (e : Entity) (values : List LabelValue) → leng
     → e.id.0 ≡ 0 → IsTrue (is_directory e.what) → Belongs (record { id = e.id; name = e.name; label = values; what = e.what } ∷ []) e.id.0 e.what → NoBytesIfDirectory e.what
     → Becomes 1 zones ([] ++ e ∷ []) (record { next = 1; live = record { id = e.id; name = e.name; label = values; what = e.what } ∷ [] })
 opened zones e values four makes first directory belongs no_bytes =
-    let x : Live = record { id = e.id; name = e.name; label = values; what = e.what } in
+    let x : LiveEntity = record { id = e.id; name = e.name; label = values; what = e.what } in
     let live : live_of zones ([] ++ e ∷ []) ≡ x ∷ [] = live_push (replicate 4 []) zones [] e values four exact_none makes in
-    let P : Live → Type 0 = λ l. NoBytesIfDirectory l.what in
+    let P : LiveEntity → Type 0 = λ l. NoBytesIfDirectory l.what in
     let alone : IsPopulation (record { next = 1; live = x ∷ [] }) =
     record { rising = (omega arith, omega (arith, first)); rooted = (first, directory); belong = belong_one x belongs; directories = All-cons P x [] no_bytes (All-nil P); names = names_one x } in
     record {
@@ -378,5 +378,5 @@ opened zones e values four makes first directory belongs no_bytes =
         exact = exact_push (replicate 4 []) zones [] e values exact_none makes;
         set = set_makes (replicate 4 []) zones e.label values set_none makes;
       };
-      shows = ap (λ (ls : List Live). let o : Entities = record { next = 1; live = ls } in o) live;
+      shows = ap (λ (ls : List LiveEntity). let o : Entities = record { next = 1; live = ls } in o) live;
     }

@@ -1,10 +1,14 @@
 pub mod Zoned
 pub mod Relabelled
+pub mod Compared
 pub mod Rising
 pub mod Finding
 pub mod Belonging
 pub mod Names
 pub mod Kept
+pub mod ById
+pub mod Indexed
+pub mod Members
 pub mod Found
 pub mod Removing
 pub mod Naming

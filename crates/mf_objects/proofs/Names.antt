@@ -9,15 +9,15 @@ use Rattle.std.proofs.lemmas.List.{get_or-map, length-map}
 use Rattle.std.proofs.lemmas.List.Elements.{All-nil, All-cons}
 use Rattle.std.proofs.lemmas.List.Quantifiers.{all_pairs_push}
 use Rattle.mf_objects.specs.declared.id.Id.{Id}
-use Rattle.mf_objects.specs.declared.entity.What.{What}
-use Rattle.mf_objects.specs.declared.entity.What.TheVariants.{Process, Vnode, Pipe, Socket}
-use Rattle.mf_objects.specs.Live.{Live, has_id, is_held_by}
+use Rattle.mf_objects.specs.declared.entity.EntityData.{EntityData}
+use Rattle.mf_objects.specs.declared.entity.EntityData.TheVariants.{Process, Vnode, Pipe, Socket}
+use Rattle.mf_objects.specs.Live.{LiveEntity, has_id, is_held_by}
 use Rattle.mf_objects.specs.Changes.{changed_at}
 use Rattle.mf_objects.specs.Population.{NamesDiffer, is_namesake, shares_names, is_entry_beside}
 use Rattle.mf_objects.proofs.Belonging.{Stays, StaysAt, stays_same, find_all}
 
 -- what needs another name than the other still does
-shares_kept : (w w' other : What) → Stays w w' → shares_names other w' ≡ shares_names other w
+shares_kept : (w w' other : EntityData) → Stays w w' → shares_names other w' ≡ shares_names other w
 shares_kept w w' (Process cred) stays = stays.process
 shares_kept w w' (Vnode vnode) stays = by_parent vnode.parent
   where
@@ -27,51 +27,51 @@ shares_kept w w' (Vnode vnode) stays = by_parent vnode.parent
 shares_kept w w' (Pipe pipe) stays = stays.pipe
 shares_kept w w' (Socket socket) stays = stays.socket
 
-namesake_kept : (x x' y y' : Live) → Stays x.what x'.what → Stays y.what y'.what → x'.name ≡ x.name → y'.name ≡ y.name
+namesake_kept : (x x' y y' : LiveEntity) → Stays x.what x'.what → Stays y.what y'.what → x'.name ≡ x.name → y'.name ≡ y.name
     → is_namesake y'.name y'.what x' ≡ is_namesake y.name y.what x
 namesake_kept x x' y y' stays_x stays_y name_x name_y =
     ap (λ (b : Bool). b && bytes_eq x'.name y'.name) (stays_y.names x'.what ∙ shares_kept x.what x'.what y.what stays_x)
     ∙ ap (λ (n : List ℕ). shares_names y.what x.what && bytes_eq n y'.name) name_x
     ∙ ap (λ (n : List ℕ). shares_names y.what x.what && bytes_eq x.name n) name_y
 
-pub names_changed : (change : Live → Live) (id : Id) (live : List Live) → ((e : Live) → (change e).name ≡ e.name) → StaysAt change id live
+pub names_changed : (change : LiveEntity → LiveEntity) (id : Id) (live : List LiveEntity) → ((e : LiveEntity) → (change e).name ≡ e.name) → StaysAt change id live
     → NamesDiffer live → NamesDiffer (map (changed_at change id) live)
 names_changed change id live names stays differ i j d before within =
     let short : j < length live = omega (arith, within, length-map live (changed_at change id)) in
-    let older : Live = get_or live i d in
-    let newer : Live = get_or live j d in
+    let older : LiveEntity = get_or live i d in
+    let newer : LiveEntity = get_or live j d in
     let kept : is_namesake (changed_at change id newer).name (changed_at change id newer).what (changed_at change id older) ≡ is_namesake newer.name newer.what older =
     namesake_kept older (changed_at change id older) newer (changed_at change id newer)
     (stay older (has_id id older) refl (stays i d (omega arith))) (stay newer (has_id id newer) refl (stays j d short)) (name older (has_id id older)) (name newer (has_id id newer)) in
     rw (get_or-map (changed_at change id) live i d d (omega arith), get_or-map (changed_at change id) live j d d short) (kept ∙ differ i j d before short)
   where
-    stay : (e : Live) (b : Bool) → has_id id e ≡ b → (has_id id e ≡ true → Stays e.what (change e).what) → Stays e.what (cond b (change e) e).what
+    stay : (e : LiveEntity) (b : Bool) → has_id id e ≡ b → (has_id id e ≡ true → Stays e.what (change e).what) → Stays e.what (cond b (change e) e).what
     stay e true has here = here has
     stay e false has here = stays_same e.what
 
-    name : (e : Live) (b : Bool) → (cond b (change e) e).name ≡ e.name
+    name : (e : LiveEntity) (b : Bool) → (cond b (change e) e).name ≡ e.name
     name e true = names e
     name e false = refl
 
 -- nothing that was looked for in vain is there
-none_passes : (test : Live → Bool) (live : List Live) → find test live ≡ None → All (λ e. test e ≡ false) live
-none_passes test [] none = All-nil (λ (e : Live). test e ≡ false)
+none_passes : (test : LiveEntity → Bool) (live : List LiveEntity) → find test live ≡ None → All (λ e. test e ≡ false) live
+none_passes test [] none = All-nil (λ (e : LiveEntity). test e ≡ false)
 none_passes test (e ∷ es) none = one (test e) refl (none_passes test es) none
   where
     one : (b : Bool) → test e ≡ b → (find test es ≡ None → All (λ x. test x ≡ false) es) → cond b (Some e) (find test es) ≡ None → All (λ x. test x ≡ false) (e ∷ es)
     one true is rest some = cc
-    one false is rest none = All-cons (λ (x : Live). test x ≡ false) e es is (rest none)
+    one false is rest none = All-cons (λ (x : LiveEntity). test x ≡ false) e es is (rest none)
 
-pub names_push : (live : List Live) (x : Live) → NamesDiffer live → find (is_namesake x.name x.what) live ≡ None → NamesDiffer (live ++ x ∷ [])
+pub names_push : (live : List LiveEntity) (x : LiveEntity) → NamesDiffer live → find (is_namesake x.name x.what) live ≡ None → NamesDiffer (live ++ x ∷ [])
 names_push live x differ free =
-    all_pairs_push (λ (older e : Live). is_namesake e.name e.what older ≡ false) live x differ (none_passes (is_namesake x.name x.what) live free)
+    all_pairs_push (λ (older e : LiveEntity). is_namesake e.name e.what older ≡ false) live x differ (none_passes (is_namesake x.name x.what) live free)
 
-pub names_one : (x : Live) → NamesDiffer (x ∷ [])
+pub names_one : (x : LiveEntity) → NamesDiffer (x ∷ [])
 names_one x i j d before within = absurd (omega (arith, before, within))
 
 -- One name, one entity
 
-shares_flip : (w other : What) → shares_names w other ≡ shares_names other w
+shares_flip : (w other : EntityData) → shares_names w other ≡ shares_names other w
 shares_flip (Process cred) (Process other) = refl
 shares_flip (Process cred) (Vnode other) = by_parent other.parent
   where
@@ -122,14 +122,14 @@ shares_flip (Socket socket) (Vnode other) = by_parent other.parent
 shares_flip (Socket socket) (Pipe other) = refl
 shares_flip (Socket socket) (Socket other) = refl
 
-inside_some : (x y : Live) → Some x ≡ Some y → x ≡ y
+inside_some : (x y : LiveEntity) → Some x ≡ Some y → x ≡ y
 inside_some x y e = cc
 
-namesakes : (x y : Live) → shares_names y.what x.what ≡ true → x.name ≡ y.name → is_namesake y.name y.what x ≡ true
+namesakes : (x y : LiveEntity) → shares_names y.what x.what ≡ true → x.name ≡ y.name → is_namesake y.name y.what x ≡ true
 namesakes x y shares same = rw (shares, (bytes_eq-Decides x.name y.name).1 same) refl
 
 -- of live entities, two that need different names and have one name are one
-pub one_name : (live : List Live) (a b : Id) (x y : Live) → NamesDiffer live → find (has_id a) live ≡ Some x → find (has_id b) live ≡ Some y
+pub one_name : (live : List LiveEntity) (a b : Id) (x y : LiveEntity) → NamesDiffer live → find (has_id a) live ≡ Some x → find (has_id b) live ≡ Some y
     → shares_names y.what x.what ≡ true → x.name ≡ y.name → x ≡ y
 one_name [] a b x y differ at_a at_b shares same = cc
 one_name (e ∷ es) a b x y differ at_a at_b shares same =
@@ -141,17 +141,17 @@ one_name (e ∷ es) a b x y differ at_a at_b shares same =
     later : NamesDiffer es
     later i j d before within = differ (suc i) (suc j) d (omega (arith, before)) (omega (arith, within))
 
-    apart : (z : Live) (id : Id) → find (has_id id) es ≡ Some z → is_namesake z.name z.what e ≡ false
-    apart z id at = find_all (λ (z : Live). is_namesake z.name z.what e ≡ false) (has_id id) es z younger at
+    apart : (z : LiveEntity) (id : Id) → find (has_id id) es ≡ Some z → is_namesake z.name z.what e ≡ false
+    apart z id at = find_all (λ (z : LiveEntity). is_namesake z.name z.what e ≡ false) (has_id id) es z younger at
 
     one : (hit_a hit_b : Bool) → (find (has_id a) es ≡ Some x → find (has_id b) es ≡ Some y → x ≡ y) → cond hit_a (Some e) (find (has_id a) es) ≡ Some x → cond hit_b (Some e) (find (has_id b) es) ≡ Some y → x ≡ y
     one true true rest at_a at_b = sym (inside_some e x at_a) ∙ inside_some e y at_b
     one true false rest at_a at_b =
         let is : e ≡ x = inside_some e x at_a in
-        let clash : is_namesake y.name y.what e ≡ true = subst (λ (z : Live). is_namesake y.name y.what z ≡ true) (sym is) (namesakes x y shares same) in
+        let clash : is_namesake y.name y.what e ≡ true = subst (λ (z : LiveEntity). is_namesake y.name y.what z ≡ true) (sym is) (namesakes x y shares same) in
         absurd (false≢true (sym (apart y b at_b) ∙ clash))
     one false true rest at_a at_b =
         let is : e ≡ y = inside_some e y at_b in
-        let clash : is_namesake x.name x.what e ≡ true = subst (λ (z : Live). is_namesake x.name x.what z ≡ true) (sym is) (namesakes y x (shares_flip x.what y.what ∙ shares) (sym same)) in
+        let clash : is_namesake x.name x.what e ≡ true = subst (λ (z : LiveEntity). is_namesake x.name x.what z ≡ true) (sym is) (namesakes y x (shares_flip x.what y.what ∙ shares) (sym same)) in
         absurd (false≢true (sym (apart x a at_a) ∙ clash))
     one false false rest at_a at_b = rest at_a at_b

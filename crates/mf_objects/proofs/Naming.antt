@@ -6,7 +6,7 @@ use Rattle.std.specs.Prelude.{filter, codes}
 use Rattle.mf_slots.specs.Zones.{Contents}
 use Rattle.mf_objects.specs.declared.id.Id.{Id}
 use Rattle.mf_objects.specs.declared.entity.Entity.{Entity}
-use Rattle.mf_objects.specs.Live.{Live, is_entry}
+use Rattle.mf_objects.specs.Live.{LiveEntity, is_entry}
 use Rattle.mf_objects.specs.Titles.{Link, path_in, below, parent_of, entry_names, link as live_link}
 use Rattle.mf_objects.specs.Sound.{seen, live_of, link}
 
@@ -19,7 +19,7 @@ names_live dir zones [] = refl
 names_live dir zones (e ∷ es) = one (is_entry dir e.what) (names_live dir zones es)
   where
     one : (b : Bool) → entry_names dir (live_of zones es) ≡ raw_names dir es
-        → map (λ (x : Live). x.name) (cond b (seen zones e ∷ filter (λ (x : Live). is_entry dir x.what) (live_of zones es)) (filter (λ (x : Live). is_entry dir x.what) (live_of zones es)))
+        → map (λ (x : LiveEntity). x.name) (cond b (seen zones e ∷ filter (λ (x : LiveEntity). is_entry dir x.what) (live_of zones es)) (filter (λ (x : LiveEntity). is_entry dir x.what) (live_of zones es)))
         ≡ map (λ (x : Entity). x.name) (cond b (e ∷ filter (λ (x : Entity). is_entry dir x.what) es) (filter (λ (x : Entity). is_entry dir x.what) es))
     one true rest = ap (λ (ns : List (List ℕ)). e.name ∷ ns) rest
     one false rest = rest

@@ -5,9 +5,9 @@ use Rattle.std.proofs.lemmas.Bool.Decides.{nat_tests}
 use Rattle.std.proofs.lemmas.List.{append-nil, append_assoc}
 use Rattle.std.proofs.lemmas.List.Elements.{All-nil, All-cons, All-head, All-tail}
 use Rattle.mf_objects.specs.declared.id.Id.{Id}
-use Rattle.mf_objects.specs.declared.entity.What.{What}
-use Rattle.mf_objects.specs.declared.entity.What.TheVariants.{Process, Vnode, Pipe, Socket}
-use Rattle.mf_objects.specs.Live.{Live, Entities, has_id, live_at, is_directory}
+use Rattle.mf_objects.specs.declared.entity.EntityData.{EntityData}
+use Rattle.mf_objects.specs.declared.entity.EntityData.TheVariants.{Process, Vnode, Pipe, Socket}
+use Rattle.mf_objects.specs.Live.{LiveEntity, Entities, has_id, live_at, is_directory}
 use Rattle.mf_objects.specs.Population.{Belongs, HasOlder, HasRoot, IsPopulation, IsRising}
 use Rattle.mf_objects.specs.Titles.{Link, link, parent_of, path_in, path_at, below}
 use Rattle.mf_objects.proofs.Belonging.{belongs_at}
@@ -31,14 +31,14 @@ skip links (l ∷ more) id none =
     ∙ path_push links l id
     ∙ ap (λ (b : Bool). cond b (below (path_in (reverse links)) l.parent l.name) (path_in (reverse links) id)) here
 
-younger : (id : Id) (least next : ℕ) (es : List Live) → id.0 < least → IsRising least next es → NoneOf id (map link es)
+younger : (id : Id) (least next : ℕ) (es : List LiveEntity) → id.0 < least → IsRising least next es → NoneOf id (map link es)
 younger id least next [] less rising = All-nil (λ (l : Link). nat_eq l.id.0 id.0 ≡ false)
 younger id least next (e ∷ es) less rising =
     All-cons (λ (l : Link). nat_eq l.id.0 id.0 ≡ false) (link e) (map link es) (differs id.0 e.id.0 (omega (arith, rising.0)))
     (younger id (e.id.0 + 1) next es (omega (arith, rising.0)) rising.1)
 
 -- the path of the entity that stands between some links and younger entities
-at_entity : (links : List Link) (e : Live) (es : List Live) (id : Id) (next : ℕ) → IsRising (e.id.0 + 1) next es → nat_eq e.id.0 id.0 ≡ true → id.0 < e.id.0 + 1
+at_entity : (links : List Link) (e : LiveEntity) (es : List LiveEntity) (id : Id) (next : ℕ) → IsRising (e.id.0 + 1) next es → nat_eq e.id.0 id.0 ≡ true → id.0 < e.id.0 + 1
     → path_in (reverse (links ++ link e ∷ map link es)) id ≡ below (path_in (reverse links)) (parent_of e.what) e.name
 at_entity links e es id next rising this older =
     ap (λ (ls : List Link). path_in (reverse ls) id) (sym (append_assoc links (link e ∷ []) (map link es)))
@@ -46,13 +46,13 @@ at_entity links e es id next rising this older =
     ∙ path_push links (link e) id
     ∙ ap (λ (b : Bool). cond b (below (path_in (reverse links)) (parent_of e.what) e.name) (path_in (reverse links) id)) this
 
-in_directory : (links : List Link) (least next : ℕ) (es : List Live) (id dir : Id) (e : Live) → IsRising least next es → find (has_id id) es ≡ Some e → parent_of e.what ≡ Some dir → dir.0 < e.id.0
+in_directory : (links : List Link) (least next : ℕ) (es : List LiveEntity) (id dir : Id) (e : LiveEntity) → IsRising least next es → find (has_id id) es ≡ Some e → parent_of e.what ≡ Some dir → dir.0 < e.id.0
     → path_in (reverse (links ++ map link es)) id ≡ path_in (reverse (links ++ map link es)) dir ++ codes "/" ++ e.name
 in_directory links least next [] id dir e rising is parent older = cc
 in_directory links least next (x ∷ es) id dir e rising is parent older =
     one (has_id id x) refl (in_directory (links ++ link x ∷ []) (x.id.0 + 1) next es id dir e rising.1) is
   where
-    inside_some : (a b : Live) → Some a ≡ Some b → a ≡ b
+    inside_some : (a b : LiveEntity) → Some a ≡ Some b → a ≡ b
     inside_some a b e = cc
 
     same_number : nat_eq x.id.0 id.0 ≡ true → x.id.0 ≡ id.0
@@ -65,20 +65,20 @@ in_directory links least next (x ∷ es) id dir e rising is parent older =
         → path_in (reverse (links ++ link x ∷ map link es)) id ≡ path_in (reverse (links ++ link x ∷ map link es)) dir ++ codes "/" ++ e.name
     one true this later is =
         let same : x ≡ e = inside_some x e is in
-        let up : parent_of x.what ≡ Some dir = ap (λ (l : Live). parent_of l.what) same ∙ parent in
-        let before : dir.0 < x.id.0 = subst (λ (l : Live). dir.0 < l.id.0) (sym same) older in
+        let up : parent_of x.what ≡ Some dir = ap (λ (l : LiveEntity). parent_of l.what) same ∙ parent in
+        let before : dir.0 < x.id.0 = subst (λ (l : LiveEntity). dir.0 < l.id.0) (sym same) older in
         let above : path_in (reverse (links ++ link x ∷ map link es)) dir ≡ path_in (reverse links) dir =
         skip links (link x ∷ map link es) dir (All-cons (λ (l : Link). nat_eq l.id.0 dir.0 ≡ false) (link x) (map link es) (differs dir.0 x.id.0 before)
         (younger dir (x.id.0 + 1) next es (omega (arith, before)) rising.1)) in
         at_entity links x es id next rising.1 this (omega (arith, same_number this))
         ∙ ap (λ (o : Option Id). below (path_in (reverse links)) o x.name) up
         ∙ ap (λ (p : List ℕ). p ++ codes "/" ++ x.name) (sym above)
-        ∙ ap (λ (l : Live). path_in (reverse (links ++ link x ∷ map link es)) dir ++ codes "/" ++ l.name) same
+        ∙ ap (λ (l : LiveEntity). path_in (reverse (links ++ link x ∷ map link es)) dir ++ codes "/" ++ l.name) same
     one false miss later is =
         let joined : (links ++ link x ∷ []) ++ map link es ≡ links ++ link x ∷ map link es = append_assoc links (link x ∷ []) (map link es) in
         subst (λ (ls : List Link). path_in (reverse ls) id ≡ path_in (reverse ls) dir ++ codes "/" ++ e.name) joined (later is parent older)
 
-parent_older : (live : List Live) (n : ℕ) (w : What) (dir : Id) → Belongs live n w → parent_of w ≡ Some dir → dir.0 < n
+parent_older : (live : List LiveEntity) (n : ℕ) (w : EntityData) (dir : Id) → Belongs live n w → parent_of w ≡ Some dir → dir.0 < n
 parent_older live n (Process cred) dir belongs parent = cc
 parent_older live n (Vnode vnode) dir belongs parent =
     let older : MatchOption (Some dir) (n ≡ 0) (λ d. HasOlder is_directory live n d) =
@@ -88,13 +88,13 @@ parent_older live n (Pipe pipe) dir belongs parent = cc
 parent_older live n (Socket socket) dir belongs parent = cc
 
 -- the path of what lies in a directory is that of the directory, a slash and the name
-pub path_of_entry : (objects : Entities) (id dir : Id) (e : Live) → IsPopulation objects → live_at objects id ≡ Some e → parent_of e.what ≡ Some dir
+pub path_of_entry : (objects : Entities) (id dir : Id) (e : LiveEntity) → IsPopulation objects → live_at objects id ≡ Some e → parent_of e.what ≡ Some dir
     → path_at objects id ≡ path_at objects dir ++ codes "/" ++ e.name
 path_of_entry objects id dir e population is parent =
     in_directory [] 0 objects.next objects.live id dir e population.rising is parent
     (parent_older objects.live e.id.0 e.what dir (belongs_at objects id e population is) parent)
 
-no_parent : (live : List Live) (n : ℕ) (w : What) → n ≡ 0 → Belongs live n w → parent_of w ≡ None
+no_parent : (live : List LiveEntity) (n : ℕ) (w : EntityData) → n ≡ 0 → Belongs live n w → parent_of w ≡ None
 no_parent live n (Process cred) first belongs = refl
 no_parent live n (Vnode vnode) first belongs = by_parent vnode.parent belongs
   where
@@ -108,8 +108,8 @@ no_parent live n (Socket socket) first belongs = refl
 pub path_of_root : (objects : Entities) (id : Id) → IsPopulation objects → id.0 ≡ 0 → path_at objects id ≡ []
 path_of_root objects id population first = by_live objects.live population.rooted population.rising (λ e. belongs_at objects id e population)
   where
-    by_live : (live : List Live) → HasRoot live → IsRising 0 objects.next live
-        → ((e : Live) → find (has_id id) live ≡ Some e → Belongs objects.live e.id.0 e.what) → path_in (reverse (map link live)) id ≡ []
+    by_live : (live : List LiveEntity) → HasRoot live → IsRising 0 objects.next live
+        → ((e : LiveEntity) → find (has_id id) live ≡ Some e → Belongs objects.live e.id.0 e.what) → path_in (reverse (map link live)) id ≡ []
     by_live [] root rising belongs = absurd root
     by_live (r ∷ es) root rising belongs =
         let this : nat_eq r.id.0 id.0 ≡ true = grind (arith, nat_tests, root.0, first) in

@@ -8,7 +8,7 @@ use Rattle.mf_elem.specs.declared.label.LabelValue.TheVariants.{Unset}
 use Rattle.mf_slots.specs.Zones.{Contents, Handles, handle, under, value_of, value_at, value_or_unset, value_for, MakesLabel, GivesUp, Writes, Makes, IsHeld, IsHeldAt}
 use Rattle.mf_slots.proofs.ZonesLaws.{value_of-same, has_handle}
 use Rattle.mf_objects.specs.declared.entity.Entity.{Entity}
-use Rattle.mf_objects.specs.Live.{Live}
+use Rattle.mf_objects.specs.Live.{LiveEntity}
 use Rattle.mf_objects.specs.Changes.{with_value}
 use Rattle.mf_objects.specs.Sound.{label_values, seen, labels_of, owned, owner_count, held_count, IsExact, live_of}
 
@@ -79,7 +79,7 @@ values_kept zones zones' label same =
 seen_kept : (zones zones' : Contents) (e : Entity)
     → ((slot h : ℕ) → slot < 4 → handle e.label slot ≡ Some h → under zones' slot h ≡ under zones slot h) → seen zones' e ≡ seen zones e
 seen_kept zones zones' e same =
-    ap (λ (ls : List LabelValue). let l : Live = record { id = e.id; name = e.name; label = ls; what = e.what } in l) (values_kept zones zones' e.label same)
+    ap (λ (ls : List LabelValue). let l : LiveEntity = record { id = e.id; name = e.name; label = ls; what = e.what } in l) (values_kept zones zones' e.label same)
 
 pub live_kept : (zones zones' : Contents) (es : List Entity) → Keeps zones zones' es → live_of zones' es ≡ live_of zones es
 live_kept zones zones' [] keeps = refl
@@ -87,7 +87,7 @@ live_kept zones zones' (e ∷ es) keeps =
     let here : seen zones' e ≡ seen zones e =
     seen_kept zones zones' e (λ slot h l own. keeps.same slot h l (omega (arith, owned_yes (handle e.label slot) h own))) in
     let rest : Keeps zones zones' es = record { same = λ slot h l own. keeps.same slot h l (omega (arith, own)) } in
-    ap (λ (x : Live). x ∷ live_of zones' es) here ∙ ap (λ (xs : List Live). seen zones e ∷ xs) (live_kept zones zones' es rest)
+    ap (λ (x : LiveEntity). x ∷ live_of zones' es) here ∙ ap (λ (xs : List LiveEntity). seen zones e ∷ xs) (live_kept zones zones' es rest)
 
 -- One entity more
 
@@ -111,7 +111,7 @@ exact_push zones zones' es e values exact makes =
           ];
     }
 
-four_values : (values : List LabelValue) → length values ≡ 4
+pub four_values : (values : List LabelValue) → length values ≡ 4
     → get_or values 0 Unset ∷ get_or values 1 Unset ∷ get_or values 2 Unset ∷ get_or values 3 Unset ∷ [] ≡ values
 four_values [] four = absurd (omega arith)
 four_values (a ∷ []) four = absurd (omega arith)
@@ -142,7 +142,7 @@ live_push zones zones' es e values four exact makes =
       ];
     } in
     map-append (seen zones') es (e ∷ [])
-    ∙ ap (λ (xs : List Live). xs ++ seen zones' e ∷ []) (live_kept zones zones' es keeps)
+    ∙ ap (λ (xs : List LiveEntity). xs ++ seen zones' e ∷ []) (live_kept zones zones' es keeps)
     ∙ ap (λ (ls : List LabelValue). live_of zones es ++ record { id = e.id; name = e.name; label = ls; what = e.what } ∷ []) (values_made zones' e.label values four makes.made)
 
 -- One entity less
@@ -318,13 +318,13 @@ live_relabel zones zones' xs ys e label slot h v relabels =
     let values : label_values zones' label ≡ set (label_values zones e.label) slot v =
     values_relabel zones zones' e.label label slot h v relabels.within relabels.writes relabels.here relabels.elsewhere in
     let here : seen zones' e' ≡ with_value slot v (seen zones e) =
-    ap (λ (ls : List LabelValue). let l : Live = record { id = e.id; name = e.name; label = ls; what = e.what } in l) values in
+    ap (λ (ls : List LabelValue). let l : LiveEntity = record { id = e.id; name = e.name; label = ls; what = e.what } in l) values in
     let front : live_of zones' xs ≡ live_of zones xs = live_kept zones zones' xs (record { same = λ s k l own. relabels.writes.others s k (apart xs relabels.before s k own) }) in
     let back : live_of zones' ys ≡ live_of zones ys = live_kept zones zones' ys (record { same = λ s k l own. relabels.writes.others s k (apart ys relabels.after s k own) }) in
     map-append (seen zones') xs (e' ∷ ys)
-    ∙ ap (λ (ls : List Live). ls ++ seen zones' e' ∷ live_of zones' ys) front
-    ∙ ap (λ (x : Live). live_of zones xs ++ x ∷ live_of zones' ys) here
-    ∙ ap (λ (ls : List Live). live_of zones xs ++ with_value slot v (seen zones e) ∷ ls) back
+    ∙ ap (λ (ls : List LiveEntity). ls ++ seen zones' e' ∷ live_of zones' ys) front
+    ∙ ap (λ (x : LiveEntity). live_of zones xs ++ x ∷ live_of zones' ys) here
+    ∙ ap (λ (ls : List LiveEntity). live_of zones xs ++ with_value slot v (seen zones e) ∷ ls) back
   where
     apart : (zs : List Entity) → owner_count slot h (labels_of zs) ≡ 0 → (s k : ℕ) → 1 ≤ owner_count s k (labels_of zs) → s ≡ slot → k ≡ h → ⊥
     apart zs none s k own same too =
@@ -337,10 +337,10 @@ live_relabel zones zones' xs ys e label slot h v relabels =
 pub split_place : (es : List Entity) (i : ℕ) (e : Entity) → i < length es → e ≡ get_or es i e → es ≡ take i es ++ e ∷ drop (suc i) es
 split_place es i e within is = sym (set-get_or es i e) ∙ ap (set es i) (sym is) ∙ set_split es i e within
 
-pub live_split : (zones : Contents) (xs ys : List Entity) (e : Entity) (i : ℕ) (x : Live) → length xs ≡ i
+pub live_split : (zones : Contents) (xs ys : List Entity) (e : Entity) (i : ℕ) (x : LiveEntity) → length xs ≡ i
     → live_of zones xs ++ x ∷ live_of zones ys ≡ set (live_of zones (xs ++ e ∷ ys)) i x
 live_split zones xs ys e i x len =
-    sym (ap (λ (ls : List Live). set ls i x) (map-append (seen zones) xs (e ∷ ys))
+    sym (ap (λ (ls : List LiveEntity). set ls i x) (map-append (seen zones) xs (e ∷ ys))
     ∙ set_at (live_of zones xs) (seen zones e) (live_of zones ys) x i (length-map xs (seen zones) ∙ len))
 
 -- Nothing yet

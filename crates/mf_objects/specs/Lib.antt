@@ -3,4 +3,5 @@ pub mod Live
 pub mod Population
 pub mod Changes
 pub mod Titles
+pub mod Index
 pub mod Sound

@@ -9,70 +9,70 @@ use Rattle.mf_cred.specs.declared.cred.FileView.{FileView}
 use Rattle.mf_item.specs.declared.view.Kind.{Kind}
 use Rattle.mf_item.specs.declared.view.Kind.TheVariants as kinds
 use Rattle.mf_objects.specs.declared.id.Id.{Id}
-use Rattle.mf_objects.specs.declared.entity.What.{What}
-use Rattle.mf_objects.specs.declared.entity.What.TheVariants.{Process, Vnode, Pipe, Socket}
+use Rattle.mf_objects.specs.declared.entity.EntityData.{EntityData}
+use Rattle.mf_objects.specs.declared.entity.EntityData.TheVariants.{Process, Vnode, Pipe, Socket}
 
 -- a live entity: its id, its name, the values of its four label slots, and what it is
-pub record Live : Type 0 where
+pub record LiveEntity : Type 0 where
   pub id : Id
   pub name : List ℕ
   pub label : List LabelValue
-  pub what : What
+  pub what : EntityData
 
 -- the live entities by rising id, and the id that is given next
 pub record Entities : Type 0 where
   pub next : ℕ
-  pub live : List Live
+  pub live : List LiveEntity
 
 -- Which entity it is
 
-abbrev pub has_id : Id → Live → Bool
+abbrev pub has_id : Id → LiveEntity → Bool
 has_id id e = nat_eq e.id.0 id.0
 
 -- the live entity of an id
-abbrev pub live_at : Entities → Id → Option Live
+abbrev pub live_at : Entities → Id → Option LiveEntity
 live_at objects id = find (has_id id) objects.live
 
-abbrev pub is_process : What → Bool
+abbrev pub is_process : EntityData → Bool
 is_process (Process cred) = true
 is_process (Vnode vnode) = false
 is_process (Pipe pipe) = false
 is_process (Socket socket) = false
 
-abbrev pub is_vnode : What → Bool
+abbrev pub is_vnode : EntityData → Bool
 is_vnode (Process cred) = false
 is_vnode (Vnode vnode) = true
 is_vnode (Pipe pipe) = false
 is_vnode (Socket socket) = false
 
-abbrev pub is_pipe : What → Bool
+abbrev pub is_pipe : EntityData → Bool
 is_pipe (Process cred) = false
 is_pipe (Vnode vnode) = false
 is_pipe (Pipe pipe) = true
 is_pipe (Socket socket) = false
 
-abbrev pub is_socket : What → Bool
+abbrev pub is_socket : EntityData → Bool
 is_socket (Process cred) = false
 is_socket (Vnode vnode) = false
 is_socket (Pipe pipe) = false
 is_socket (Socket socket) = true
 
-abbrev pub is_directory : What → Bool
+abbrev pub is_directory : EntityData → Bool
 is_directory (Process cred) = false
 is_directory (Vnode vnode) = vnode.file.dir
 is_directory (Pipe pipe) = false
 is_directory (Socket socket) = false
 
-abbrev pub passes : (What → Bool) → Option Live → Bool
+abbrev pub passes : (EntityData → Bool) → Option LiveEntity → Bool
 passes test None = false
 passes test (Some e) = test e.what
 
 -- a live process, vnode, pipe, socket or directory has this id
-abbrev pub IsLive : (What → Bool) → Entities → Id → Type 0
+abbrev pub IsLive : (EntityData → Bool) → Entities → Id → Type 0
 IsLive test objects id = IsTrue (passes test (live_at objects id))
 
 -- an entity was found, and the fact holds of what it is
-abbrev pub IsLiveWhere : (What → Type 0) → Option Live → Type 0
+abbrev pub IsLiveWhere : (EntityData → Type 0) → Option LiveEntity → Type 0
 IsLiveWhere P None = ⊥
 IsLiveWhere P (Some e) = P e.what
 
@@ -82,52 +82,52 @@ is_held_by dir None = false
 is_held_by dir (Some parent) = nat_eq parent.0 dir.0
 
 -- it is an entry of this directory
-abbrev pub is_entry : Id → What → Bool
+abbrev pub is_entry : Id → EntityData → Bool
 is_entry dir (Process cred) = false
 is_entry dir (Vnode vnode) = is_held_by dir vnode.parent
 is_entry dir (Pipe pipe) = false
 is_entry dir (Socket socket) = false
 
 -- it was made by this process: pipes and sockets alone have a maker
-abbrev pub is_made_by : Id → What → Bool
+abbrev pub is_made_by : Id → EntityData → Bool
 is_made_by maker (Process cred) = false
 is_made_by maker (Vnode vnode) = false
 is_made_by maker (Pipe pipe) = nat_eq pipe.maker.0 maker.0
 is_made_by maker (Socket socket) = nat_eq socket.maker.0 maker.0
 
 -- it passes the test and has this name
-abbrev pub is_named : (What → Bool) → List ℕ → Live → Bool
+abbrev pub is_named : (EntityData → Bool) → List ℕ → LiveEntity → Bool
 is_named test name e = test e.what && bytes_eq e.name name
 
 -- the live entity of this name that passes the test
-abbrev pub live_named : (What → Bool) → Entities → List ℕ → Option Live
+abbrev pub live_named : (EntityData → Bool) → Entities → List ℕ → Option LiveEntity
 live_named test objects name = find (is_named test name) objects.live
 
 -- it is an entry of this directory, and has this name
-abbrev pub is_child : Id → List ℕ → Live → Bool
+abbrev pub is_child : Id → List ℕ → LiveEntity → Bool
 is_child dir name e = is_entry dir e.what && bytes_eq e.name name
 
 -- its id is at least this number
-abbrev pub is_from : ℕ → Live → Bool
+abbrev pub is_from : ℕ → LiveEntity → Bool
 is_from n e = nat_le n e.id.0
 
 -- the least live id of at least n
-pub record IsLeast (n : ℕ) (live : List Live) (id : Id) : Type 0 where
+pub record IsLeast (n : ℕ) (live : List LiveEntity) (id : Id) : Type 0 where
   pub from : n ≤ id.0
   pub least : All (λ e. n ≤ e.id.0 → id.0 ≤ e.id.0) live
 
-abbrev pub id_of : Option Live → Option Id
+abbrev pub id_of : Option LiveEntity → Option Id
 id_of found = option_map (λ e. e.id) found
 
 -- the id is that of the first live entity that passes the test, and none where no live entity passes it
-pub record IsFound (test : Live → Bool) (objects : Entities) (found : Option Id) : Type 0 where
+pub record IsFound (test : LiveEntity → Bool) (objects : Entities) (found : Option Id) : Type 0 where
   pub id : found ≡ id_of (find test objects.live)
   pub live : IfSome found (λ id. live_at objects id ≡ find test objects.live)
   pub absent : IfNone found (find test objects.live ≡ None)
 
 -- What an entity holds. What doesn't live, or is of another kind, holds nothing: no bytes, no messages, numbers that are 0.
 
-abbrev pub kind_of : What → Kind
+abbrev pub kind_of : EntityData → Kind
 kind_of (Process cred) = kinds.Process
 kind_of (Vnode vnode) = kinds.Vnode
 kind_of (Pipe pipe) = kinds.Pipe
@@ -139,32 +139,32 @@ no_file = record { uid = 0; gid = 0; mode = 0; dir = false }
 abbrev pub no_cred : Cred
 no_cred = record { uid = 0; ruid = 0; svuid = 0; groups = 0 ∷ [] }
 
-abbrev pub file_of : What → FileView
+abbrev pub file_of : EntityData → FileView
 file_of (Process cred) = no_file
 file_of (Vnode vnode) = vnode.file
 file_of (Pipe pipe) = no_file
 file_of (Socket socket) = no_file
 
-abbrev pub cred_of : What → Cred
+abbrev pub cred_of : EntityData → Cred
 cred_of (Process cred) = cred
 cred_of (Vnode vnode) = no_cred
 cred_of (Pipe pipe) = no_cred
 cred_of (Socket socket) = no_cred
 
 -- the bytes of a vnode or a pipe
-abbrev pub content_of : What → List ℕ
+abbrev pub content_of : EntityData → List ℕ
 content_of (Process cred) = []
 content_of (Vnode vnode) = vnode.content
 content_of (Pipe pipe) = pipe.bytes
 content_of (Socket socket) = []
 
-abbrev pub messages_of : What → List (List ℕ)
+abbrev pub messages_of : EntityData → List (List ℕ)
 messages_of (Process cred) = []
 messages_of (Vnode vnode) = []
 messages_of (Pipe pipe) = []
 messages_of (Socket socket) = socket.messages
 
-abbrev pub reading : {A : Type 0} → (What → A) → A → Option Live → A
+abbrev pub reading : {A : Type 0} → (EntityData → A) → A → Option LiveEntity → A
 reading read none None = none
 reading read none (Some e) = read e.what
 
@@ -184,7 +184,7 @@ abbrev pub messages_at : Entities → Id → List (List ℕ)
 messages_at objects id = reading messages_of [] (live_at objects id)
 
 -- how many messages a socket has, and for all else this number of entries
-abbrev pub count_of : ℕ → What → ℕ
+abbrev pub count_of : ℕ → EntityData → ℕ
 count_of entries (Process cred) = entries
 count_of entries (Vnode vnode) = entries
 count_of entries (Pipe pipe) = entries
@@ -197,7 +197,7 @@ entry_count objects dir = count_by (λ e. is_entry dir e.what) objects.live
 abbrev pub count_at : Entities → Id → ℕ
 count_at objects id = reading (count_of (entry_count objects id)) 0 (live_at objects id)
 
-abbrev pub label_of : Option Live → List LabelValue
+abbrev pub label_of : Option LiveEntity → List LabelValue
 label_of None = []
 label_of (Some e) = e.label
 

@@ -2,57 +2,57 @@
 use Rattle.std.specs.Prelude.{◌≡◌, ℕ, ◌+◌, ◌<◌, ◌≤◌, Bool, false, ◌&&◌, IsTrue, List, [], ◌∷◌, All, AllPairs, Option, Some, None, find, MatchOption}
 use Rattle.std.specs.Str.{bytes_eq}
 use Rattle.mf_objects.specs.declared.id.Id.{Id}
-use Rattle.mf_objects.specs.declared.entity.What.{What}
-use Rattle.mf_objects.specs.declared.entity.What.TheVariants.{Process, Vnode, Pipe, Socket}
-use Rattle.mf_objects.specs.Live.{Live, Entities, has_id, passes, is_directory, is_process, is_pipe, is_socket, is_entry, content_of}
+use Rattle.mf_objects.specs.declared.entity.EntityData.{EntityData}
+use Rattle.mf_objects.specs.declared.entity.EntityData.TheVariants.{Process, Vnode, Pipe, Socket}
+use Rattle.mf_objects.specs.Live.{LiveEntity, Entities, has_id, passes, is_directory, is_process, is_pipe, is_socket, is_entry, content_of}
 
 -- the ids rise, are at least the first number and stay below the second
-abbrev pub IsRising : ℕ → ℕ → List Live → Type 0
+abbrev pub IsRising : ℕ → ℕ → List LiveEntity → Type 0
 IsRising least next [] = least ≤ next
 IsRising least next (e ∷ es) = (least ≤ e.id.0) × IsRising (e.id.0 + 1) next es
 
 -- the first entity is the root directory, whose id is 0
-abbrev pub HasRoot : List Live → Type 0
+abbrev pub HasRoot : List LiveEntity → Type 0
 HasRoot [] = ⊥
 HasRoot (e ∷ es) = (e.id.0 ≡ 0) × IsTrue (is_directory e.what)
 
 -- a live entity of this id passes the test, and is older than the one of the number
-abbrev pub HasOlder : (What → Bool) → List Live → ℕ → Id → Type 0
+abbrev pub HasOlder : (EntityData → Bool) → List LiveEntity → ℕ → Id → Type 0
 HasOlder test live n id = (id.0 < n) × IsTrue (passes test (find (has_id id) live))
 
 -- the directory in which the entity of this number lies, or the process that made it, is live and older. The root alone lies
 -- in no directory.
-abbrev pub Belongs : List Live → ℕ → What → Type 0
+abbrev pub Belongs : List LiveEntity → ℕ → EntityData → Type 0
 Belongs live n (Process cred) = Unit {0}
 Belongs live n (Vnode vnode) = MatchOption vnode.parent (n ≡ 0) (λ dir. HasOlder is_directory live n dir)
 Belongs live n (Pipe pipe) = HasOlder is_process live n pipe.maker
 Belongs live n (Socket socket) = HasOlder is_process live n socket.maker
 
-abbrev pub AllBelong : List Live → Type 0
+abbrev pub AllBelong : List LiveEntity → Type 0
 AllBelong live = All (λ e. Belongs live e.id.0 e.what) live
 
 -- a directory holds no bytes
-abbrev pub NoBytesIfDirectory : What → Type 0
+abbrev pub NoBytesIfDirectory : EntityData → Type 0
 NoBytesIfDirectory w = IsTrue (is_directory w) → content_of w ≡ []
 
 -- it is an entry of this directory, where there is one
-abbrev pub is_entry_beside : Option Id → What → Bool
+abbrev pub is_entry_beside : Option Id → EntityData → Bool
 is_entry_beside None other = false
 is_entry_beside (Some dir) other = is_entry dir other
 
 -- The two need different names: processes, pipes, sockets, and the entries of one directory. The root has no name to share.
-abbrev pub shares_names : What → What → Bool
+abbrev pub shares_names : EntityData → EntityData → Bool
 shares_names (Process cred) other = is_process other
 shares_names (Vnode vnode) other = is_entry_beside vnode.parent other
 shares_names (Pipe pipe) other = is_pipe other
 shares_names (Socket socket) other = is_socket other
 
 -- it has the name that such an entity is to have
-abbrev pub is_namesake : List ℕ → What → Live → Bool
+abbrev pub is_namesake : List ℕ → EntityData → LiveEntity → Bool
 is_namesake name what e = shares_names what e.what && bytes_eq e.name name
 
 -- names differ among processes, among pipes, among sockets, and in each directory
-abbrev pub NamesDiffer : List Live → Type 0
+abbrev pub NamesDiffer : List LiveEntity → Type 0
 NamesDiffer live = AllPairs (λ older e. is_namesake e.name e.what older ≡ false) live
 
 -- what is true of the live entities at any time

@@ -1,5 +1,5 @@
 -- What is true of every population of live entities and the zones of their labels.
-use Rattle.std.specs.Prelude.{◌≡◌, ◌≢◌, ℕ, ◌+◌, ◌<◌, ◌≤◌, nat_eq, true, slice_index_or, List, [], ◌∷◌, length, map, Option, Some, None, if◌then◌else◌}
+use Rattle.std.specs.Prelude.{◌≡◌, ◌≢◌, ℕ, ◌+◌, ◌<◌, ◌≤◌, nat_eq, true, slice_index_or, List, [], ◌∷◌, length, map, AllPairs, Option, Some, None, if◌then◌else◌}
 use Rattle.mf_elem.specs.declared.label.LabelValue.{LabelValue}
 use Rattle.mf_elem.specs.declared.label.TheConstants.{SLOTS}
 use Rattle.mf_slots.specs.Zones.{Contents, Handles, handle, under, value_of, NoneUnset}
@@ -7,7 +7,7 @@ use Rattle.mf_objects.specs.declared.limits.TheConstants.{MOST_ENTITIES}
 use Rattle.mf_objects.specs.declared.entity.Entity.{Entity}
 use Rattle.mf_objects.specs.declared.id.Id.{Id}
 use Rattle.mf_objects.specs.Titles.{Link, parent_of}
-use Rattle.mf_objects.specs.Live.{Live, Entities, has_id, live_at}
+use Rattle.mf_objects.specs.Live.{LiveEntity, Entities, has_id, live_at}
 use Rattle.mf_objects.specs.Population.{IsPopulation}
 
 -- the values of the four slots of a label
@@ -15,7 +15,7 @@ unfoldable pub label_values : Contents → Handles → List LabelValue
 label_values zones label = value_of zones label 0 ∷ value_of zones label 1 ∷ value_of zones label 2 ∷ value_of zones label 3 ∷ []
 
 -- an entity as contracts see it
-abbrev pub seen : Contents → Entity → Live
+abbrev pub seen : Contents → Entity → LiveEntity
 seen zones e = record { id = e.id; name = e.name; label = label_values zones e.label; what = e.what }
 
 abbrev pub labels_of : List Entity → List Handles
@@ -41,7 +41,7 @@ pub record IsExact (zones : Contents) (labels : List Handles) : Type 0 where
   pub each : (slot h : ℕ) → slot < SLOTS → owner_count slot h labels ≡ held_count (under zones slot h)
 
 -- the live entities as contracts see them
-abbrev pub live_of : Contents → List Entity → List Live
+abbrev pub live_of : Contents → List Entity → List LiveEntity
 live_of zones entities = map (seen zones) entities
 
 -- the entities are a population of no more than may live, and the zones hold the values of their labels: a slot is Unset where it isn't made
@@ -51,15 +51,19 @@ pub record IsSound (next : ℕ) (zones : Contents) (entities : List Entity) : Ty
   pub exact : IsExact zones (labels_of entities)
   pub set : NoneUnset zones
 
+-- the entities stand by rising id
+abbrev pub IsById : List Entity → Type 0
+IsById entities = AllPairs (λ (older e : Entity). older.id.0 < e.id.0) entities
+
 -- the entity of this id stands at this place, which is the first one only for the root
 pub record IsPlace (objects : Entities) (id : Id) (place : ℕ) : Type 0 where
   pub within : place < length objects.live
-  pub found : (d : Live) → live_at objects id ≡ Some (slice_index_or objects.live place d)
-  pub has : (d : Live) → has_id id (slice_index_or objects.live place d) ≡ true
+  pub found : (d : LiveEntity) → live_at objects id ≡ Some (slice_index_or objects.live place d)
+  pub has : (d : LiveEntity) → has_id id (slice_index_or objects.live place d) ≡ true
   pub later : id.0 ≢ 0 → 0 < place
 
 -- an entity as contracts see it, with these label values
-abbrev pub shown : List LabelValue → Entity → Live
+abbrev pub shown : List LabelValue → Entity → LiveEntity
 shown label e = record { id = e.id; name = e.name; label = label; what = e.what }
 
 -- what the path of an entity is made of

@@ -6,9 +6,9 @@ use Rattle.std.specs.Ordering.{nat_cmp, is_le}
 use Rattle.std.specs.Cmp.Lexicographic.{slice_cmp}
 use Rattle.mf_objects.specs.declared.limits.TheConstants.{MOST_NAMES}
 use Rattle.mf_objects.specs.declared.id.Id.{Id}
-use Rattle.mf_objects.specs.declared.entity.What.{What}
-use Rattle.mf_objects.specs.declared.entity.What.TheVariants.{Process, Vnode, Pipe, Socket}
-use Rattle.mf_objects.specs.Live.{Live, Entities, is_entry, live_at}
+use Rattle.mf_objects.specs.declared.entity.EntityData.{EntityData}
+use Rattle.mf_objects.specs.declared.entity.EntityData.TheVariants.{Process, Vnode, Pipe, Socket}
+use Rattle.mf_objects.specs.Live.{LiveEntity, Entities, is_entry, live_at}
 
 -- the first name isn't after the second in byte order
 abbrev pub comes_first : List ℕ → List ℕ → Bool
@@ -24,7 +24,7 @@ in_byte_order [] = []
 in_byte_order (name ∷ names) = with_name name (in_byte_order names)
 
 -- the names of the entries of a directory, by rising id
-abbrev pub entry_names : Id → List Live → List (List ℕ)
+abbrev pub entry_names : Id → List LiveEntity → List (List ℕ)
 entry_names dir live = map (λ e. e.name) (filter (λ e. is_entry dir e.what) live)
 
 abbrev pub first_names : ℕ → List (List ℕ) → List (List ℕ)
@@ -47,13 +47,13 @@ pub record Link : Type 0 where
   pub parent : Option Id
   pub name : List ℕ
 
-abbrev pub parent_of : What → Option Id
+abbrev pub parent_of : EntityData → Option Id
 parent_of (Process cred) = None
 parent_of (Vnode vnode) = vnode.parent
 parent_of (Pipe pipe) = None
 parent_of (Socket socket) = None
 
-abbrev pub link : Live → Link
+abbrev pub link : LiveEntity → Link
 link e = record { id = e.id; parent = parent_of e.what; name = e.name }
 
 -- the path of its directory, a slash and its name, or nothing for the root
@@ -75,14 +75,14 @@ abbrev pub path_at : Entities → Id → List ℕ
 path_at objects id = path_in (reverse (map link objects.live)) id
 
 -- what titles begin with: the kind
-abbrev pub prefix_of : What → List ℕ
+abbrev pub prefix_of : EntityData → List ℕ
 prefix_of (Process cred) = codes "proc:"
 prefix_of (Vnode vnode) = codes "vnode:"
 prefix_of (Pipe pipe) = codes "pipe:"
 prefix_of (Socket socket) = codes "socket:"
 
 -- what follows: the name, or the path of a vnode
-abbrev pub own_name : List ℕ → List ℕ → What → List ℕ
+abbrev pub own_name : List ℕ → List ℕ → EntityData → List ℕ
 own_name path name (Process cred) = name
 own_name path name (Vnode vnode) = rooted_path path
 own_name path name (Pipe pipe) = name
@@ -93,10 +93,10 @@ pub record IsAppended (old new : List ℕ) : Type 0 where
   pub text : List ℕ
   pub is : new ≡ old ++ text
 
-abbrev pub title_of : List ℕ → List ℕ → What → List ℕ
+abbrev pub title_of : List ℕ → List ℕ → EntityData → List ℕ
 title_of path name w = prefix_of w ++ own_name path name w
 
-abbrev pub title_in : List ℕ → Option Live → List ℕ
+abbrev pub title_in : List ℕ → Option LiveEntity → List ℕ
 title_in path None = []
 title_in path (Some e) = title_of path e.name e.what
 

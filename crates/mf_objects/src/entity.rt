@@ -1,12 +1,14 @@
 //! Entities, and what each kind of them holds.
-ghost use Rattle.std.specs.Prelude.{◌≡◌, ◌≤◌, nat_eq, nat_le, length, ◌∷◌, ◌&&◌, OnOk, OnErr, [], drop, slice_index_or};
+ghost use Rattle.std.specs.Prelude.{◌≡◌, ◌↔◌, IsTrue, ◌≤◌, nat_eq, nat_le, length, ◌∷◌, ◌&&◌, OnOk, OnErr, [], drop, slice_index_or};
 ghost use Rattle.std.specs.Str.{bytes_eq};
 ghost use Rattle.mf_names.specs.declared.limits.TheConstants.{CONTENT_LIMIT, SCRIPT_LIMIT};
+ghost use Rattle.mf_objects.specs.Index as index;
 ghost use Rattle.mf_objects.specs.Live as live;
 ghost use Rattle.mf_objects.specs.Changes as change;
 ghost use Rattle.mf_objects.specs.Titles as title;
 
 use crate::id::Id;
+use crate::index::Group;
 use crate::limits::PIPE_LIMIT;
 use crate::messages::Messages;
 use mf_cred::{ArrayVec, Cred, Duplicate, FileView};
@@ -40,7 +42,7 @@ pub struct Socket {
 
 /// What an entity is, with the data of its kind.
 #[derive(Drop)]
-pub enum What {
+pub enum EntityData {
     Process(Cred),
     Vnode(Vnode),
     Pipe(Pipe),
@@ -53,19 +55,19 @@ pub struct Entity {
     pub id: Id,
     pub name: Name,
     pub label: Label,
-    pub what: What,
+    pub what: EntityData,
 }
 
-impl What {
+impl EntityData {
     /// The kind of entity that this is.
     pub fn kind(&self) -> Kind
         ensures { result ≡ live.kind_of self.now }
     {
         match self {
-            What::Process(_) => Kind::Process,
-            What::Vnode(_) => Kind::Vnode,
-            What::Pipe(_) => Kind::Pipe,
-            What::Socket(_) => Kind::Socket,
+            EntityData::Process(_) => Kind::Process,
+            EntityData::Vnode(_) => Kind::Vnode,
+            EntityData::Pipe(_) => Kind::Pipe,
+            EntityData::Socket(_) => Kind::Socket,
         }
     }
 
@@ -74,8 +76,8 @@ impl What {
         ensures { result ≡ live.file_of self.now }
     {
         match self {
-            What::Vnode(vnode) => vnode.file,
-            What::Process(_) | What::Pipe(_) | What::Socket(_) => FileView {
+            EntityData::Vnode(vnode) => vnode.file,
+            EntityData::Process(_) | EntityData::Pipe(_) | EntityData::Socket(_) => FileView {
                 uid: 0,
                 gid: 0,
                 mode: 0,
@@ -89,8 +91,20 @@ impl What {
         ensures { result ≡ live.cred_of self.now }
     {
         match self {
-            What::Process(cred) => cred.copy(),
-            What::Vnode(_) | What::Pipe(_) | What::Socket(_) => no_cred(),
+            EntityData::Process(cred) => cred.copy(),
+            EntityData::Vnode(_) | EntityData::Pipe(_) | EntityData::Socket(_) => no_cred(),
+        }
+    }
+
+    /// Whether this is its credential.
+    pub fn has_cred(&self, cred: &Cred) -> bool
+        ensures { IsTrue result ↔ (cred.now ≡ live.cred_of self.now) }
+    {
+        match self {
+            EntityData::Process(own) => cred.same(own),
+            EntityData::Vnode(_) | EntityData::Pipe(_) | EntityData::Socket(_) => cred.same(
+                &no_cred(),
+            ),
         }
     }
 
@@ -100,9 +114,9 @@ impl What {
         ensures most { length result.now ≤ CONTENT_LIMIT }
     {
         match self {
-            What::Vnode(vnode) => vnode.content.as_slice(),
-            What::Pipe(pipe) => pipe.bytes.as_slice(),
-            What::Process(_) | What::Socket(_) => &[],
+            EntityData::Vnode(vnode) => vnode.content.as_slice(),
+            EntityData::Pipe(pipe) => pipe.bytes.as_slice(),
+            EntityData::Process(_) | EntityData::Socket(_) => &[],
         }
     }
 
@@ -112,8 +126,8 @@ impl What {
         ensures most { length result.now ≤ SCRIPT_LIMIT }
     {
         match self {
-            What::Socket(socket) => socket.messages.first(),
-            What::Process(_) | What::Vnode(_) | What::Pipe(_) => &[],
+            EntityData::Socket(socket) => socket.messages.first(),
+            EntityData::Process(_) | EntityData::Vnode(_) | EntityData::Pipe(_) => &[],
         }
     }
 
@@ -122,8 +136,8 @@ impl What {
         ensures { result ≡ title.parent_of self.now }
     {
         match self {
-            What::Vnode(vnode) => vnode.parent,
-            What::Process(_) | What::Pipe(_) | What::Socket(_) => None,
+            EntityData::Vnode(vnode) => vnode.parent,
+            EntityData::Process(_) | EntityData::Pipe(_) | EntityData::Socket(_) => None,
         }
     }
 
@@ -132,8 +146,33 @@ impl What {
         ensures { result ≡ live.is_entry dir self.now }
     {
         match self {
-            What::Vnode(vnode) => is_held_by(dir, vnode.parent),
-            What::Process(_) | What::Pipe(_) | What::Socket(_) => false,
+            EntityData::Vnode(vnode) => is_held_by(dir, vnode.parent),
+            EntityData::Process(_) | EntityData::Pipe(_) | EntityData::Socket(_) => false,
+        }
+    }
+
+    /// The group in which its name differs.
+    pub fn group(&self) -> Group
+        ensures { result ≡ index.group_of self.now }
+    {
+        match self {
+            EntityData::Process(_) => Group::Processes,
+            EntityData::Vnode(vnode) => Group::Entries(vnode.parent),
+            EntityData::Pipe(_) => Group::Pipes,
+            EntityData::Socket(_) => Group::Sockets,
+        }
+    }
+
+    /// Whether it belongs to the group.
+    pub fn is_in(&self, group: Group) -> bool
+        ensures { result ≡ index.is_in group self.now }
+    {
+        match group {
+            Group::Processes => matches!(self, EntityData::Process(_)),
+            Group::Pipes => matches!(self, EntityData::Pipe(_)),
+            Group::Sockets => matches!(self, EntityData::Socket(_)),
+            Group::Entries(None) => false,
+            Group::Entries(Some(dir)) => self.is_entry(dir),
         }
     }
 
@@ -142,9 +181,9 @@ impl What {
         ensures { result ≡ live.is_made_by maker self.now }
     {
         match self {
-            What::Process(_) | What::Vnode(_) => false,
-            What::Pipe(pipe) => pipe.maker.0 == maker.0,
-            What::Socket(socket) => socket.maker.0 == maker.0,
+            EntityData::Process(_) | EntityData::Vnode(_) => false,
+            EntityData::Pipe(pipe) => pipe.maker.0 == maker.0,
+            EntityData::Socket(socket) => socket.maker.0 == maker.0,
         }
     }
 
@@ -153,21 +192,23 @@ impl What {
         requires { change.FitsBytes (length text.now) self.old }
         ensures ok { OnOk result (self.new ≡ change.appended text.now self.old) }
         ensures err { OnErr result (self.new ≡ self.old) }
+        ensures group { index.group_of self.new ≡ index.group_of self.old }
     {
         match self {
-            What::Vnode(vnode) => vnode.content.append(text),
-            What::Pipe(pipe) => pipe.bytes.append(text),
-            What::Process(_) | What::Socket(_) => Ok(()),
+            EntityData::Vnode(vnode) => vnode.content.append(text),
+            EntityData::Pipe(pipe) => pipe.bytes.append(text),
+            EntityData::Process(_) | EntityData::Socket(_) => Ok(()),
         }
     }
 
     /// Empties a pipe.
     pub fn clear(&mut self)
-        ensures { self.new ≡ change.cleared self.old }
+        ensures value { self.new ≡ change.cleared self.old }
+        ensures group { index.group_of self.new ≡ index.group_of self.old }
     {
         match self {
-            What::Pipe(pipe) => pipe.bytes.clear(),
-            What::Process(_) | What::Vnode(_) | What::Socket(_) => {}
+            EntityData::Pipe(pipe) => pipe.bytes.clear(),
+            EntityData::Process(_) | EntityData::Vnode(_) | EntityData::Socket(_) => {}
         }
     }
 
@@ -176,10 +217,11 @@ impl What {
         requires { change.FitsMessage self.old }
         ensures ok { OnOk result (self.new ≡ change.with_messages (change.with_message message) self.old) }
         ensures err { OnErr result (self.new ≡ self.old) }
+        ensures group { index.group_of self.new ≡ index.group_of self.old }
     {
         match self {
-            What::Socket(socket) => socket.messages.push(message),
-            What::Process(_) | What::Vnode(_) | What::Pipe(_) => Ok(()),
+            EntityData::Socket(socket) => socket.messages.push(message),
+            EntityData::Process(_) | EntityData::Vnode(_) | EntityData::Pipe(_) => Ok(()),
         }
     }
 
@@ -188,20 +230,22 @@ impl What {
         requires { change.HasMessage self.old }
         ensures rest { self.new ≡ change.with_messages (drop 1) self.old }
         ensures oldest { live.messages_of self.old ≡ result ∷ live.messages_of self.new }
+        ensures group { index.group_of self.new ≡ index.group_of self.old }
     {
         match self {
-            What::Socket(socket) => socket.messages.pop(),
-            What::Process(_) | What::Vnode(_) | What::Pipe(_) => unreachable!(),
+            EntityData::Socket(socket) => socket.messages.pop(),
+            EntityData::Process(_) | EntityData::Vnode(_) | EntityData::Pipe(_) => unreachable!(),
         }
     }
 
     /// Gives a file or a directory these mode bits.
     pub fn set_mode(&mut self, mode: u16)
-        ensures { self.new ≡ change.with_mode mode self.old }
+        ensures value { self.new ≡ change.with_mode mode self.old }
+        ensures group { index.group_of self.new ≡ index.group_of self.old }
     {
         match self {
-            What::Vnode(vnode) => vnode.file.mode = mode,
-            What::Process(_) | What::Pipe(_) | What::Socket(_) => {}
+            EntityData::Vnode(vnode) => vnode.file.mode = mode,
+            EntityData::Process(_) | EntityData::Pipe(_) | EntityData::Socket(_) => {}
         }
     }
 }
@@ -248,31 +292,10 @@ impl Entity {
         self.what.is_entry(dir)
     }
 
-    /// Whether it is the entry of this name in the directory.
-    pub fn is_child(&self, dir: Id, name: &str) -> bool
-        ensures { result ≡ (live.is_entry dir self.now.what && bytes_eq self.now.name name.now) }
+    /// Whether it belongs to the group and has this name.
+    pub fn is_member(&self, group: Group, name: &str) -> bool
+        ensures { result ≡ (index.is_in group self.now.what && bytes_eq self.now.name name.now) }
     {
-        self.what.is_entry(dir) && self.name.as_str() == name
-    }
-
-    /// Whether it is the process of this name.
-    pub fn is_process_named(&self, name: &str) -> bool
-        ensures { result ≡ (live.is_process self.now.what && bytes_eq self.now.name name.now) }
-    {
-        matches!(self.what, What::Process(_)) && self.name.as_str() == name
-    }
-
-    /// Whether it is the pipe of this name.
-    pub fn is_pipe_named(&self, name: &str) -> bool
-        ensures { result ≡ (live.is_pipe self.now.what && bytes_eq self.now.name name.now) }
-    {
-        matches!(self.what, What::Pipe(_)) && self.name.as_str() == name
-    }
-
-    /// Whether it is the socket of this name.
-    pub fn is_socket_named(&self, name: &str) -> bool
-        ensures { result ≡ (live.is_socket self.now.what && bytes_eq self.now.name name.now) }
-    {
-        matches!(self.what, What::Socket(_)) && self.name.as_str() == name
+        self.what.is_in(group) && self.name.as_str() == name
     }
 }

@@ -4,6 +4,7 @@
 mod entity;
 mod head;
 mod id;
+mod index;
 mod limits;
 mod messages;
 mod objects;

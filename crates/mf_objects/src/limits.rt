@@ -1,4 +1,5 @@
 //! The limits of the live entities.
+use mf_cred::DIRECTORY_MODE;
 
 /// The most entities that live at once.
 pub const MOST_ENTITIES: u32 = 1024;
@@ -18,5 +19,5 @@ pub const MOST_NAMES: usize = 16;
 /// The most bytes that a head keeps.
 pub const HEAD_BYTES: usize = 64;
 
-/// The mode of the root directory, as chmod(2) has it.
-pub const ROOT_MODE: u16 = 0o755;
+/// The mode of the root directory.
+pub const ROOT_MODE: u16 = DIRECTORY_MODE;

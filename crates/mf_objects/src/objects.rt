@@ -5,22 +5,25 @@ ghost use Rattle.mf_objects.specs.declared.limits.TheConstants.{ID_LIMIT, MOST_E
 ghost use Rattle.mf_objects.specs.Live as live;
 ghost use Rattle.mf_objects.specs.Changes as change;
 ghost use Rattle.mf_objects.specs.Population.{is_namesake};
-ghost use Rattle.mf_objects.specs.Sound.{IsPlace};
-ghost use Rattle.mf_objects.specs.declared.entity.What.TheVariants as what;
+ghost use Rattle.mf_objects.specs.Sound.{IsPlace, IsById};
+ghost use Rattle.mf_objects.specs.Index.{bucket_of, with_id};
+ghost use Rattle.mf_slots.specs.Zones.{MakesLabel};
+ghost use Rattle.mf_objects.specs.declared.entity.EntityData.TheVariants as what;
 
 mod changing;
 mod naming;
 mod reading;
 mod removing;
 
-use crate::entity::{Entity, Pipe, Socket, Vnode, What};
+use crate::entity::{Entity, EntityData, Pipe, Socket, Vnode};
 use crate::id::Id;
+use crate::index::{Group, NameIndex};
 use crate::limits::ROOT_MODE;
 use crate::messages::Messages;
 use mf_cred::{Cred, Duplicate, FileView};
 use mf_elem::{LabelValue, SLOTS};
 use mf_names::{Bytes, Name};
-use mf_slots::Zones;
+use mf_slots::{Label, Zones};
 use std::alloc::{AllocError, Global};
 use std::marker::Model;
 
@@ -30,6 +33,7 @@ pub struct Objects {
     next: u32,
     zones: Zones,
     entities: Vec<Entity>,
+    index: NameIndex,
 }
 
 impl Model for Objects {
@@ -38,10 +42,11 @@ impl Model for Objects {
     ghost Value = { Entities };
 
     ghost use Rattle.mf_objects.specs.Sound.{live_of, IsSound};
+    ghost use Rattle.mf_objects.specs.Index.{IsIndex};
 
     ghost view = { λ a. record { next = a.next; live = live_of a.zones a.entities.items } };
 
-    ghost invariant = { λ a. IsSound a.next a.zones a.entities.items };
+    ghost invariant = { λ a. IsSound a.next a.zones a.entities.items × IsIndex a.index a.entities.items };
 }
 
 impl Objects {
@@ -55,7 +60,7 @@ impl Objects {
             id: Id(0),
             name: Name::from_str(alloc, "")?,
             label,
-            what: What::Vnode(Vnode {
+            what: EntityData::Vnode(Vnode {
                 parent: None,
                 file: FileView {
                     uid: 0,
@@ -66,12 +71,15 @@ impl Objects {
                 content: Bytes::new(alloc),
             }),
         };
+        let mut index = NameIndex::new(alloc)?;
+        index.insert(root.what.group(), root.name.as_str(), root.id)?;
         let mut entities = Vec::new(alloc);
         entities.push(root)?;
         Ok(Objects {
             next: 1,
             zones,
             entities,
+            index,
         })
     }
 
@@ -91,7 +99,7 @@ impl Objects {
         ensures id { IfOk result (λ id. id.0 ≡ self.old.next) }
         ensures err { OnErr result (self.new ≡ self.old) }
     {
-        self.add(alloc, name, values, What::Process(cred.copy()))
+        self.add(alloc, name, values, EntityData::Process(cred.copy()))
     }
 
     /// Makes a directory, or a regular file with this text.
@@ -122,7 +130,7 @@ impl Objects {
             file: *file,
             content,
         };
-        self.add(alloc, name, values, What::Vnode(vnode))
+        self.add(alloc, name, values, EntityData::Vnode(vnode))
     }
 
     /// Makes an empty pipe, which goes when its maker does.
@@ -143,7 +151,7 @@ impl Objects {
         ensures err { OnErr result (self.new ≡ self.old) }
     {
         let bytes = Bytes::new(alloc);
-        self.add(alloc, name, values, What::Pipe(Pipe { maker, bytes }))
+        self.add(alloc, name, values, EntityData::Pipe(Pipe { maker, bytes }))
     }
 
     /// Makes a socket without a message, which goes when its maker does.
@@ -168,18 +176,18 @@ impl Objects {
             alloc,
             name,
             values,
-            What::Socket(Socket { maker, messages }),
+            EntityData::Socket(Socket { maker, messages }),
         )
     }
 
-    /// Adds an entity under the next id. All memory is taken before the first change, so that a failure changes
+    /// Adds an entity under the next id. The list takes its memory before the first change, so that a failure changes
     /// nothing.
     fn add(
         &mut self,
         alloc: Global,
         name: &str,
         values: &[LabelValue; SLOTS],
-        what: What,
+        what: EntityData,
     ) -> Result<Id, AllocError>
         requires few { length self.old.live < MOST_ENTITIES }
         requires next { self.old.next < ID_LIMIT }
@@ -192,8 +200,16 @@ impl Objects {
     {
         let name = Name::from_str(alloc, name)?;
         self.entities.reserve(1)?;
-        let label = self.zones.make_label(values)?;
         let id = Id(self.next);
+        let group = what.group();
+        let label = enroll(
+            &mut self.zones,
+            &mut self.index,
+            values,
+            group,
+            name.as_str(),
+            id,
+        )?;
         self.next += 1;
         let entity = Entity {
             id,
@@ -214,10 +230,40 @@ impl Objects {
     }
 }
 
+/// Makes a label, and puts the id into the index under its name. If memory runs out, nothing changes.
+fn enroll(
+    zones: &mut Zones,
+    index: &mut NameIndex,
+    values: &[LabelValue; SLOTS],
+    group: Group,
+    name: &str,
+    id: Id,
+) -> Result<Label, AllocError>
+    ensures label { IfOk result (λ label. MakesLabel zones.old zones.new label values.now) }
+    ensures named { OnOk result (index.new ≡ with_id (bucket_of group name.now) id index.old) }
+    ensures err { OnErr result ((zones.new ≡ zones.old) × (index.new ≡ index.old)) }
+{
+    index.insert(group, name, id)?;
+    match zones.make_label(values) {
+        Ok(label) => Ok(label),
+        Err(error) => {
+            index.take_back(group, name);
+            Err(error)
+        }
+    }
+}
+
+/// The place of an id among entities that stand by rising id.
 fn place_of(entities: &[Entity], id: Id) -> Option<usize>
+    requires { IsById entities.now }
     ensures { result ≡ position (λ e. nat_eq e.id.0 id.0) entities.now }
 {
-    entities.iter().position(|e| e.has_id(id))
+    // Where nothing older is gone, an entity stands at the place of its number.
+    let first = id.0 as usize;
+    if first < entities.len() && entities[first].has_id(id) {
+        return Some(first);
+    }
+    entities.binary_search_by_key(&id.0, |e| e.id.0).ok()
 }
 
 #[cfg(test)]

@@ -1,5 +1,5 @@
 //! Partitions: a subject in a partition sees what is in it, and a subject in none sees everything.
-ghost use Rattle.std.specs.Prelude.{◌≡◌, ◌<◌};
+ghost use Rattle.std.specs.Prelude.{◌≡◌, ◌<◌, option_copied};
 ghost use Rattle.mf_policy.specs.Answer as spec;
 ghost use Rattle.mf_policy.specs.Operations.{partition_test_of};
 ghost use Rattle.mf_policy.specs.declared.spec.Spec.TheVariants as means;
@@ -49,10 +49,10 @@ impl Policy for Partition {
     }
 
     fn check(&self, slot: u8, item: &Item) -> Errno {
-        let subject = number(&item.subject.label[slot as usize]);
-        let object = object_number(&item.object, slot);
-        let wanted = wanted_number(&item.request);
-        verdict(item.op, &item.subject.cred, subject, object, wanted)
+        let subject = number(&item.subject().label[slot as usize]);
+        let object = object_number(item.object(), slot);
+        let wanted = wanted_number(item.request());
+        verdict(item.op(), &item.subject().cred, subject, object, wanted)
     }
 
     fn grant(&self, _cred: &Cred, _privilege: Priv) -> bool {
@@ -97,9 +97,9 @@ fn number(value: &LabelValue) -> u32
     }
 }
 
-fn object_number(object: &Option<ObjectView>, slot: u8) -> u32
+fn object_number(object: Option<&ObjectView>, slot: u8) -> u32
     requires { slot < SLOTS }
-    ensures { result ≡ spec.partition_of (spec.object_slot object.now slot) }
+    ensures { result ≡ spec.partition_of (spec.object_slot (option_copied object.entry) slot) }
 {
     match object {
         Some(view) => number(&view.label[slot as usize]),
@@ -107,8 +107,8 @@ fn object_number(object: &Option<ObjectView>, slot: u8) -> u32
     }
 }
 
-fn wanted_number(request: &Option<Request>) -> u32
-    ensures { result ≡ spec.partition_asked request.now }
+fn wanted_number(request: Option<&Request>) -> u32
+    ensures { result ≡ spec.partition_asked (option_copied request.entry) }
 {
     match request {
         Some(request) => number_asked(Module::Partition, request).unwrap_or(0),
@@ -122,33 +122,25 @@ mod tests {
     use mf_cred::FileView;
     use mf_item::{Kind, SubjectView};
 
-    fn item(op: CheckOp, subject: LabelValue, object: LabelValue) -> Item {
-        Item {
-            op,
-            subject: SubjectView {
-                id: 0,
-                cred: Cred::default(),
-                label: [
-                    LabelValue::Unset,
-                    subject,
-                    LabelValue::Unset,
-                    LabelValue::Unset,
-                ],
-            },
-            object: Some(ObjectView {
-                id: 1,
-                kind: Kind::Process,
-                file: FileView::default(),
-                label: [
-                    LabelValue::Unset,
-                    object,
-                    LabelValue::Unset,
-                    LabelValue::Unset,
-                ],
-            }),
-            request: None,
-            privilege: None,
-        }
+    fn labelled(partition: LabelValue) -> [LabelValue; SLOTS] {
+        let mut label = [LabelValue::Unset; SLOTS];
+        label[1] = partition;
+        label
+    }
+
+    fn answer(policy: &Partition, op: CheckOp, subject: LabelValue, object: LabelValue) -> Errno {
+        let subject = SubjectView {
+            id: 0,
+            cred: Cred::default(),
+            label: labelled(subject),
+        };
+        let object = ObjectView {
+            id: 1,
+            kind: Kind::Process,
+            file: FileView::default(),
+            label: labelled(object),
+        };
+        policy.check(1, &Item::new(op, &subject, Some(&object), None, None))
     }
 
     #[test]
@@ -176,15 +168,15 @@ mod tests {
             (LabelValue::Number(0), LabelValue::Number(7), Errno::Success),
             (LabelValue::Unset, LabelValue::Number(7), Errno::Success),
         ];
-        for (subject, object, answer) in table {
-            let visible = item(CheckOp::ProcVisible, subject, object);
-            assert_eq!(rt; policy.check(1, &visible), answer);
+        for (subject, object, wanted) in table {
+            let visible = answer(&policy, CheckOp::ProcVisible, subject, object);
+            assert_eq!(rt; visible, wanted);
         }
         let (seven, eight) = (LabelValue::Number(7), LabelValue::Number(8));
-        let socket = item(CheckOp::SocketVisible, seven, eight);
-        assert_eq!(rt; policy.check(1, &socket), Errno::Enoent);
-        let file = item(CheckOp::VnodeOpenRead, seven, eight);
-        assert_eq!(rt; policy.check(1, &file), Errno::Success);
+        let socket = answer(&policy, CheckOp::SocketVisible, seven, eight);
+        assert_eq!(rt; socket, Errno::Enoent);
+        let file = answer(&policy, CheckOp::VnodeOpenRead, seven, eight);
+        assert_eq!(rt; file, Errno::Success);
     }
 
     #[test]
@@ -197,12 +189,11 @@ mod tests {
             (1001, None, Errno::Success),
         ];
         for (uid, partition, answer) in table {
-            let mut relabel = item(CheckOp::CredRelabel, LabelValue::Unset, LabelValue::Unset);
             let mut request = Request::none();
             request.partition = partition;
-            relabel.subject.cred.uid = uid;
-            relabel.object = None;
-            relabel.request = Some(request);
+            let mut subject = SubjectView::default();
+            subject.cred.uid = uid;
+            let relabel = Item::new(CheckOp::CredRelabel, &subject, None, Some(&request), None);
             assert_eq!(rt; policy.check(1, &relabel), answer);
         }
     }

@@ -1,5 +1,5 @@
 -- What a plan says that ends with `Do`: the caller lives, and the state is one in which the call can be done.
-use Rattle.std.proofs.Common.{◌≡◌, ℕ, Bool, true, false, List, length, Option, Some, None, IsSome, Result, Ok, Err, is_some, refl, ap, ◌∙◌, arith, if◌then◌else◌}
+use Rattle.std.proofs.Common.{◌≡◌, ℕ, Bool, true, false, List, length, Option, Some, None, IsSome, Result, Ok, Err, is_some, refl, ap, ◌∙◌, arith, if◌then◌else◌, not, option_map}
 use Rattle.std.proofs.lemmas.Bool.{eqb-false, leb-false, ltb-false}
 use Rattle.mf_errno.specs.Module.{module_named}
 use Rattle.mf_errno.specs.declared.errno.Errno.{Errno}
@@ -8,25 +8,29 @@ use Rattle.mf_errno.specs.declared.module.Module.{Module}
 use Rattle.mf_item.specs.declared.operation.CheckOp.TheVariants as op
 use Rattle.mf_item.specs.declared.view.SubjectView.{SubjectView}
 use Rattle.mf_objects.specs.declared.id.Id.{Id}
-use Rattle.mf_objects.specs.Live.{Live, Entities, id_of, live_named, is_pipe, is_process, is_socket}
+use Rattle.mf_objects.specs.Live.{LiveEntity, Entities, id_of, live_named, is_pipe, is_process, is_socket}
 use Rattle.mf_objects.proofs.Laws.{fits_file, fits_message, fits_pipe, has_message, vnode_count}
 use Rattle.mf_calls.specs.declared.script.Call.{Call}
 use Rattle.mf_calls.specs.declared.script.Call.TheVariants as call
 use Rattle.mf_policy.specs.LoadFlags.{is_unloadok}
 use Rattle.mf_policy.specs.Modules.{flags_of}
-use Rattle.mf_plan.specs.declared.plan.Plan.{Plan}
+use Rattle.mf_plan.specs.Planned.{Plan}
 use Rattle.mf_plan.specs.declared.plan.Tail.TheVariants.{Do}
 use Rattle.mf_plan.specs.declared.state.State.{State}
 use Rattle.mf_plan.specs.declared.target.Target.{Target}
 use Rattle.mf_plan.specs.declared.target.Target.TheVariants.{Root, Name, Nowhere}
 use Rattle.mf_plan.specs.Doing.{CanMake, CanCreate, CanWrite, CanFind, CanUnlink, CanRead, CanFill, CanDeliver, CanReceive, CanLoad, CanUnload, CanDo}
-use Rattle.mf_plan.specs.Loading.{loadable, load_fault, unload_fault, unload_fault_of}
+use Rattle.mf_policy.specs.declared.loading.LoadFault.{LoadFault}
+use Rattle.mf_policy.specs.declared.loading.UnloadFault.{UnloadFault}
+use Rattle.mf_policy.specs.declared.loading.UnloadFault.TheVariants.{NotLoaded, Pinned}
+use Rattle.mf_policy.specs.Loading.{load_fault, unload_fault, load_errno, unload_errno}
+use Rattle.mf_plan.specs.Loading.{loadable, load_refusal, unload_refusal}
 use Rattle.mf_policy.specs.Registration.{is_listed}
 use Rattle.mf_plan.specs.Names.{caller_name, child_name}
-use Rattle.mf_plan.specs.Path.{walk_along, found_at, free_at, entry_at}
+use Rattle.mf_plan.specs.Path.{lookup_along, found_at, free_at, entry_at}
 use Rattle.mf_plan.specs.Plan.{ask, on, found, or_refuse, refuse_if, refuse_by, proceed, make_row, create_row, write_row, unlink_row, deliver_row, send_row, load_row, exec_row, read_row, readdir_row, check_row, pread_row, pwrite_row, recv_row, plan_for, plan_by, plan_of}
 use Rattle.mf_plan.specs.Views.{subject_of, process_named, pipe_named, socket_named, is_full, is_dir, has_entries, overfills_file, overfills_pipe, is_full_socket, is_empty_socket}
-use Rattle.mf_plan.proofs.Walking.{free_name}
+use Rattle.mf_plan.proofs.LookingUp.{free_name}
 
 -- What each part of a row says
 
@@ -74,32 +78,32 @@ entry_target (Name d None) place is = cc
 entry_target (Name d (Some id)) place is = cc
 entry_target (Nowhere e) place is = cc
 
-no_holder : (o : Option Live) → is_some (id_of o) ≡ false → o ≡ None
+no_holder : (o : Option LiveEntity) → is_some (id_of o) ≡ false → o ≡ None
 no_holder None none = refl
 no_holder (Some e) none = cc
 
 -- Calls
 
-makes : (o : Entities) (holder : Option Live) → (make_row o (id_of holder)).tail ≡ Do → CanMake o holder
+makes : (o : Entities) (holder : Option LiveEntity) → (make_row o (id_of holder)).tail ≡ Do → CanMake o holder
 makes o holder done =
     let free = passes (is_some (id_of holder)) errno.Eexist (refuse_if (is_full o) errno.Enfile proceed) done in
     let few = passes (is_full o) errno.Enfile proceed free.rest in
     record { few = leb-false 1024 (length o.live) few.passed; free = no_holder holder free.passed }
 
-creates : (o : Entities) (me : SubjectView) (path : List (List ℕ)) → (or_refuse (create_row o me) (free_at (walk_along o path).target)).tail ≡ Do → CanCreate o path
+creates : (o : Entities) (me : SubjectView) (path : List (List ℕ)) → (or_refuse (create_row o me) (free_at (lookup_along o path).target)).tail ≡ Do → CanCreate o path
 creates o me path done =
-    let place = reaches (create_row o me) (free_at (walk_along o path).target) done in
+    let place = reaches (create_row o me) (free_at (lookup_along o path).target) done in
     let few = passes (is_full o) errno.Enfile proceed place.rest in
-    let target = free_target (walk_along o path).target place.at place.is in
+    let target = free_target (lookup_along o path).target place.at place.is in
     record { dir = place.at; target = target; few = leb-false 1024 (length o.live) few.passed; free = free_name o path place.at target }
 
-reads : (o : Entities) (path : List (List ℕ)) (row : Id → Plan) → (or_refuse row (found_at (walk_along o path).target)).tail ≡ Do → CanFind o path
-reads o path row done = let place = reaches row (found_at (walk_along o path).target) done in record { id = place.at; target = place.is }
+reads : (o : Entities) (path : List (List ℕ)) (row : Id → Plan) → (or_refuse row (found_at (lookup_along o path).target)).tail ≡ Do → CanFind o path
+reads o path row done = let place = reaches row (found_at (lookup_along o path).target) done in record { id = place.at; target = place.is }
 
 writes : (o : Entities) (me : SubjectView) (path : List (List ℕ)) (text : List ℕ)
-    → (or_refuse (write_row o me text) (found_at (walk_along o path).target)).tail ≡ Do → CanWrite o path text
+    → (or_refuse (write_row o me text) (found_at (lookup_along o path).target)).tail ≡ Do → CanWrite o path text
 writes o me path text done =
-    let place = reaches (write_row o me text) (found_at (walk_along o path).target) done in
+    let place = reaches (write_row o me text) (found_at (lookup_along o path).target) done in
     let id = place.at in
     let size = refuse_if (overfills_file o text id) errno.Efbig proceed in
     let checks = ask (on o me op.VnodeOpenWrite id) (ask (on o me op.VnodeWrite id) size) in
@@ -114,14 +118,14 @@ writes o me path text done =
     }
 
 unlinks : (o : Entities) (me : SubjectView) (path : List (List ℕ))
-    → (or_refuse (λ (place : Id × Id). unlink_row o me place.0 place.1) (entry_at (walk_along o path).target)).tail ≡ Do → CanUnlink o path
+    → (or_refuse (λ (place : Id × Id). unlink_row o me place.0 place.1) (entry_at (lookup_along o path).target)).tail ≡ Do → CanUnlink o path
 unlinks o me path done =
-    let place = reaches (λ (p : Id × Id). unlink_row o me p.0 p.1) (entry_at (walk_along o path).target) done in
+    let place = reaches (λ (p : Id × Id). unlink_row o me p.0 p.1) (entry_at (lookup_along o path).target) done in
     let empty = passes (has_entries o place.at.1) errno.Enotempty proceed place.rest in
     record {
       dir = place.at.0;
       id = place.at.1;
-      target = entry_target (walk_along o path).target place.at place.is;
+      target = entry_target (lookup_along o path).target place.at place.is;
       empty = empty.passed;
       bare = λ live. omega (arith, vnode_count o place.at.1 live, ltb-false 0 _ empty.passed);
     }
@@ -148,16 +152,26 @@ receives o me name done =
 takes : (o : Entities) (name : List ℕ) (row : Id → Plan) → (found errno.Enoent row (pipe_named o name)).tail ≡ Do → CanRead o name
 takes o name row done = let pipe = finds errno.Enoent row (pipe_named o name) done in record { id = pipe.id; named = pipe.is }
 
+loadable_module : (fault : Option LoadFault) → option_map load_errno fault ≡ None → fault ≡ None
+loadable_module None none = refl
+loadable_module (Some fault) none = cc
+
 loads : (s : State) (me : SubjectView) (name : List ℕ) (wanted : Option Module) → loadable name ≡ wanted → (load_row s me wanted).tail ≡ Do → CanLoad s name
 loads s me name None is done = cc
-loads s me name (Some m) is done = record { wanted = m; named = is; fault = no_fault (load_fault s m) proceed done }
+loads s me name (Some m) is done =
+    record { wanted = m; named = is; fault = loadable_module (load_fault s.booted s.specs s.numbers m) (no_fault (load_refusal s m) proceed done) }
 
-unloads : (s : State) (name : List ℕ) (wanted : Option Module) → module_named name ≡ wanted → unload_fault_of s wanted ≡ None → CanUnload s name
+unloadable_module : (fault : Option UnloadFault) → option_map unload_errno fault ≡ None → fault ≡ None
+unloadable_module None none = refl
+unloadable_module (Some fault) none = cc
+
+unloads : (s : State) (name : List ℕ) (wanted : Option Module) → module_named name ≡ wanted → unload_refusal s wanted ≡ None → CanUnload s name
 unloads s name None is none = cc
 unloads s name (Some m) is none =
-    record { wanted = m; named = is; listed = by_test (is_listed m s.specs) none; fault = ap (unload_fault_of s) is ∙ none }
+    let fault = unloadable_module (unload_fault s.specs m) none in
+    record { wanted = m; named = is; listed = by_test (is_listed m s.specs) fault; fault = fault }
   where
-    by_test : (b : Bool) → (if b then (if is_unloadok (flags_of m) then None else Some errno.Ebusy) else Some errno.Enoent) ≡ None → b ≡ true
+    by_test : (b : Bool) → (if not b then Some NotLoaded else if is_unloadok (flags_of m) then None else Some Pinned) ≡ None → b ≡ true
     by_test true none = refl
     by_test false none = cc
 
@@ -189,7 +203,7 @@ can_do_for s task me (call.Recv name) done = receives s.objects me name done
 can_do_for s task me (call.Seesock name) done = tt
 can_do_for s task me call.Kldstat done = tt
 can_do_for s task me (call.Kldload name) done = loads s me name (loadable name) refl done
-can_do_for s task me (call.Kldunload name) done = unloads s name (module_named name) refl (no_fault (unload_fault s name) proceed done)
+can_do_for s task me (call.Kldunload name) done = unloads s name (module_named name) refl (no_fault (unload_refusal s (module_named name)) proceed done)
 
 by_caller : (s : State) (task : List ℕ) (c : Call) (caller : Option Id) → (plan_by s task c caller).tail ≡ Do → IsSome caller × CanDo s task c
 by_caller s task c None done = cc

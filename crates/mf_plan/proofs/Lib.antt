@@ -1,3 +1,4 @@
-pub mod Walking
+pub mod LookingUp
 pub mod Asking
 pub mod Laws
+mod Viewing

@@ -6,33 +6,34 @@ use Rattle.mf_errno.specs.declared.module.Module.{Module}
 use Rattle.mf_objects.specs.declared.id.Id.{Id}
 use Rattle.mf_objects.specs.declared.limits.TheConstants.{MOST_ENTITIES}
 use Rattle.mf_objects.specs.Changes.{FitsBytes, FitsMessage, HasMessage}
-use Rattle.mf_objects.specs.Live.{Live, Entities, IsLive, IsLiveWhere, live_at, live_named, entry_count, is_child, is_pipe, is_process, is_socket, is_vnode}
+use Rattle.mf_objects.specs.Live.{LiveEntity, Entities, IsLive, IsLiveWhere, live_at, live_named, entry_count, is_child, is_pipe, is_process, is_socket, is_vnode}
 use Rattle.mf_calls.specs.declared.script.Call.{Call}
 use Rattle.mf_calls.specs.declared.script.Call.TheVariants as call
 use Rattle.mf_plan.specs.declared.state.State.{State}
 use Rattle.mf_plan.specs.declared.target.Target.TheVariants.{Name}
-use Rattle.mf_plan.specs.Loading.{loadable, load_fault, unload_fault}
+use Rattle.mf_plan.specs.Loading.{loadable}
+use Rattle.mf_policy.specs.Loading.{load_fault, unload_fault}
 use Rattle.mf_policy.specs.Registration.{is_listed}
 use Rattle.mf_plan.specs.Names.{child_name}
-use Rattle.mf_plan.specs.Path.{walk_along, found_at, last_name}
+use Rattle.mf_plan.specs.Path.{lookup_along, found_at, last_name}
 use Rattle.mf_plan.specs.Views.{pipe_named, socket_named, is_dir, has_entries, overfills_file, overfills_pipe, is_full_socket, is_empty_socket}
 
 -- a process, pipe or socket of that name can be made
-pub record CanMake (o : Entities) (holder : Option Live) : Type 0 where
+pub record CanMake (o : Entities) (holder : Option LiveEntity) : Type 0 where
   pub few : length o.live < MOST_ENTITIES
   pub free : holder ≡ None
 
 -- a file or directory can be made at the end of the path
 pub record CanCreate (o : Entities) (path : List (List ℕ)) : Type 0 where
   pub dir : Id
-  pub target : (walk_along o path).target ≡ Name dir None
+  pub target : (lookup_along o path).target ≡ Name dir None
   pub few : length o.live < MOST_ENTITIES
   pub free : find (is_child dir (last_name path)) o.live ≡ None
 
 -- the bytes fit the regular file at the end of the path
 pub record CanWrite (o : Entities) (path : List (List ℕ)) (text : List ℕ) : Type 0 where
   pub id : Id
-  pub target : found_at (walk_along o path).target ≡ Ok id
+  pub target : found_at (lookup_along o path).target ≡ Ok id
   pub regular : is_dir o id ≡ false
   pub room : overfills_file o text id ≡ false
   pub fits : IsLive is_vnode o id → IsLiveWhere (FitsBytes (length text)) (live_at o id)
@@ -40,13 +41,13 @@ pub record CanWrite (o : Entities) (path : List (List ℕ)) (text : List ℕ) : 
 -- there is a file or directory at the end of the path
 pub record CanFind (o : Entities) (path : List (List ℕ)) : Type 0 where
   pub id : Id
-  pub target : found_at (walk_along o path).target ≡ Ok id
+  pub target : found_at (lookup_along o path).target ≡ Ok id
 
 -- there is an entry of a directory at the end of the path, and it has no entries
 pub record CanUnlink (o : Entities) (path : List (List ℕ)) : Type 0 where
   pub dir : Id
   pub id : Id
-  pub target : (walk_along o path).target ≡ Name dir (Some id)
+  pub target : (lookup_along o path).target ≡ Name dir (Some id)
   pub empty : has_entries o id ≡ false
   pub bare : IsLive is_vnode o id → entry_count o id ≡ 0
 
@@ -80,14 +81,14 @@ pub record CanReceive (o : Entities) (name : List ℕ) : Type 0 where
 pub record CanLoad (s : State) (name : List ℕ) : Type 0 where
   pub wanted : Module
   pub named : loadable name ≡ Some wanted
-  pub fault : load_fault s wanted ≡ None
+  pub fault : load_fault s.booted s.specs s.numbers wanted ≡ None
 
 -- the module of that name can be unloaded
 pub record CanUnload (s : State) (name : List ℕ) : Type 0 where
   pub wanted : Module
   pub named : module_named name ≡ Some wanted
   pub listed : is_listed wanted s.specs ≡ true
-  pub fault : unload_fault s name ≡ None
+  pub fault : unload_fault s.specs wanted ≡ None
 
 -- The table: what the change of a call of the task needs.
 abbrev pub CanDo : State → List ℕ → Call → Type 0

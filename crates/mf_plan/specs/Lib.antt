@@ -2,6 +2,9 @@ pub mod Views
 pub mod Path
 pub mod Names
 pub mod Loading
+pub mod Planned
 pub mod Plan
+pub mod Found
 pub mod Outline
+pub mod Viewing
 pub mod Doing

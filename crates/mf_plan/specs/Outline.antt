@@ -2,12 +2,12 @@
 use Rattle.std.specs.Prelude.{All, IfSome, IsSome, List, map, Option, None, option_map}
 use Rattle.mf_item.specs.declared.view.SubjectView.{SubjectView}
 use Rattle.mf_item.specs.declared.view.ObjectView.{ObjectView}
-use Rattle.mf_item.specs.declared.item.Item.{Item}
+use Rattle.mf_item.specs.Item.{Item}
 use Rattle.mf_objects.specs.declared.id.Id.{Id}
 use Rattle.mf_objects.specs.Live.{Entities, cred_at, label_at, live_at}
 use Rattle.mf_plan.specs.declared.outline.Check.{Check}
 use Rattle.mf_plan.specs.declared.outline.Outline.{Outline}
-use Rattle.mf_plan.specs.declared.plan.Plan.{Plan}
+use Rattle.mf_plan.specs.Planned.{Plan}
 use Rattle.mf_plan.specs.Views.{object_of}
 
 -- the subject, with the credential of the process that calls

@@ -1,12 +1,13 @@
 -- Where a path leads, and the directories in which its components are looked up.
-use Rattle.std.specs.Prelude.{◌≢◌, ℕ, List, [], ◌∷◌, Option, Some, None, IfSome, Result, Ok, Err, find, if◌then◌else◌}
+use Rattle.std.specs.Prelude.{◌≢◌, ℕ, List, [], ◌∷◌, Option, Some, None, IfSome, Result, Ok, Err, find, option_map, if◌then◌else◌}
+use Rattle.std.specs.Result.{result_ok}
 use Rattle.mf_errno.specs.declared.errno.Errno.{Errno}
 use Rattle.mf_errno.specs.declared.errno.Errno.TheVariants.{Enoent, Eexist, Enotdir, Einval}
 use Rattle.mf_objects.specs.declared.id.Id.{Id}
 use Rattle.mf_objects.specs.Live.{Entities, IsLive, id_of, is_child, is_directory, is_vnode}
 use Rattle.mf_plan.specs.declared.target.Target.{Target}
 use Rattle.mf_plan.specs.declared.target.Target.TheVariants.{Root, Name, Nowhere}
-use Rattle.mf_plan.specs.declared.walk.Walk.{Walk}
+use Rattle.mf_plan.specs.declared.lookup.Lookup.{Lookup}
 use Rattle.mf_plan.specs.Views.{is_dir}
 
 abbrev pub root : Id
@@ -17,28 +18,28 @@ abbrev pub entry_of : Entities → Id → List ℕ → Option Id
 entry_of objects dir name = id_of (find (is_child dir name) objects.live)
 
 -- the path leads nowhere
-abbrev pub nowhere : Errno → Walk
+abbrev pub nowhere : Errno → Lookup
 nowhere errno = record { lookups = []; target = Nowhere errno }
 
 -- the directory is looked into first
-abbrev pub looking_into : Id → Walk → Walk
+abbrev pub looking_into : Id → Lookup → Lookup
 looking_into dir rest = record rest { lookups = dir ∷ rest.lookups }
 
 -- goes on from an entry, which must be a directory
-abbrev pub going_on : Entities → (Id → Walk) → Option Id → Walk
+abbrev pub going_on : Entities → (Id → Lookup) → Option Id → Lookup
 going_on objects rest None = nowhere Enoent
 going_on objects rest (Some id) = if is_dir objects id then rest id else nowhere Enotdir
 
--- the walk along some components from a directory
-unfoldable pub walk_from : Entities → List (List ℕ) → Id → Walk
-walk_from objects [] dir = record { lookups = []; target = Root }
-walk_from objects (name ∷ []) dir = record { lookups = dir ∷ []; target = Name dir (entry_of objects dir name) }
-walk_from objects (name ∷ below ∷ rest) dir =
-    looking_into dir (going_on objects (walk_from objects (below ∷ rest)) (entry_of objects dir name))
+-- the look-up of some components from a directory
+unfoldable pub lookup_from : Entities → List (List ℕ) → Id → Lookup
+lookup_from objects [] dir = record { lookups = []; target = Root }
+lookup_from objects (name ∷ []) dir = record { lookups = dir ∷ []; target = Name dir (entry_of objects dir name) }
+lookup_from objects (name ∷ below ∷ rest) dir =
+    looking_into dir (going_on objects (lookup_from objects (below ∷ rest)) (entry_of objects dir name))
 
--- the walk along a path, from the root directory
-abbrev pub walk_along : Entities → List (List ℕ) → Walk
-walk_along objects path = walk_from objects path root
+-- the look-up of a path, from the root directory
+abbrev pub lookup_along : Entities → List (List ℕ) → Lookup
+lookup_along objects path = lookup_from objects path root
 
 -- the last component of a path, and no byte for the root directory
 abbrev pub last_name : List (List ℕ) → List ℕ
@@ -68,6 +69,18 @@ entry_at Root = Err Einval
 entry_at (Name dir None) = Err Enoent
 entry_at (Name dir (Some id)) = Ok (dir, id)
 entry_at (Nowhere errno) = Err errno
+
+-- the file or directory at a path
+abbrev pub file_at_path : Entities → List (List ℕ) → Option Id
+file_at_path objects path = result_ok (found_at (lookup_along objects path).target)
+
+-- the directory in which the last name of a path is free
+abbrev pub free_dir_at : Entities → List (List ℕ) → Option Id
+free_dir_at objects path = result_ok (free_at (lookup_along objects path).target)
+
+-- the entry of a directory at a path
+abbrev pub entry_at_path : Entities → List (List ℕ) → Option Id
+entry_at_path objects path = option_map (λ place. place.1) (result_ok (entry_at (lookup_along objects path).target))
 
 -- what is so wherever a path leads: the directory of a name is live, and the entry under it a live vnode other than the root
 abbrev pub IsTarget : Entities → Target → Type 0

@@ -5,26 +5,27 @@
 use Rattle.std.specs.Prelude.{ℕ, Bool, not, List, [], ◌∷◌, ◌++◌, map, Option, Some, None, is_some, Result, Ok, Err, if◌then◌else◌}
 use Rattle.mf_errno.specs.declared.errno.Errno.{Errno}
 use Rattle.mf_errno.specs.declared.errno.Errno.TheVariants as errno
+use Rattle.mf_errno.specs.Module.{module_named}
 use Rattle.mf_errno.specs.declared.module.Module.{Module}
 use Rattle.mf_errno.specs.declared.privilege.Priv.{Priv}
 use Rattle.mf_errno.specs.declared.privilege.Priv.TheVariants as privilege
 use Rattle.mf_item.specs.declared.operation.CheckOp.{CheckOp}
 use Rattle.mf_item.specs.declared.operation.CheckOp.TheVariants as op
 use Rattle.mf_item.specs.declared.view.SubjectView.{SubjectView}
-use Rattle.mf_item.specs.declared.item.Item.{Item}
+use Rattle.mf_item.specs.Item.{Item}
 use Rattle.mf_objects.specs.declared.id.Id.{Id}
 use Rattle.mf_objects.specs.Live.{Entities}
 use Rattle.mf_calls.specs.declared.script.Call.{Call}
 use Rattle.mf_calls.specs.declared.script.Call.TheVariants as call
-use Rattle.mf_plan.specs.declared.plan.Plan.{Plan}
+use Rattle.mf_plan.specs.Planned.{Plan}
 use Rattle.mf_plan.specs.declared.plan.Tail.{Tail}
 use Rattle.mf_plan.specs.declared.plan.Tail.TheVariants.{Do, Refuse}
 use Rattle.mf_plan.specs.declared.state.State.{State}
 use Rattle.mf_plan.specs.declared.target.Target.{Target}
-use Rattle.mf_plan.specs.Loading.{loadable, load_fault, unload_fault}
+use Rattle.mf_plan.specs.Loading.{loadable, load_refusal, unload_refusal}
 use Rattle.mf_plan.specs.Names.{caller_name, child_name}
-use Rattle.mf_plan.specs.Path.{walk_along, found_at, free_at, entry_at}
-use Rattle.mf_plan.specs.declared.walk.Walk.{Walk}
+use Rattle.mf_plan.specs.Path.{lookup_along, found_at, free_at, entry_at}
+use Rattle.mf_plan.specs.declared.lookup.Lookup.{Lookup}
 use Rattle.mf_plan.specs.Views.{subject_of, object_of, sender_of, process_named, pipe_named, socket_named, is_full, is_dir, has_entries, overfills_file, overfills_pipe, is_empty_pipe, is_full_socket, is_empty_socket}
 
 -- Parts of a row
@@ -70,11 +71,11 @@ or_refuse row (Err e) = refuse e
 -- Paths: first the look-ups, then the rest of the row, by where the path leads
 
 -- these checks come first
-abbrev pub after : List Item → Plan → Plan
-after checks rest = record rest { items = checks ++ rest.items }
+abbrev pub asking_first : List Item → Plan → Plan
+asking_first checks rest = record rest { items = checks ++ rest.items }
 
-abbrev pub along : Entities → SubjectView → (Target → Plan) → Walk → Plan
-along objects subject row walk = after (map (on objects subject op.VnodeLookup) walk.lookups) (row walk.target)
+abbrev pub along : Entities → SubjectView → (Target → Plan) → Lookup → Plan
+along objects subject row walk = asking_first (map (on objects subject op.VnodeLookup) walk.lookups) (row walk.target)
 
 -- the file or directory must be there
 abbrev pub at_found : (Id → Plan) → Target → Plan
@@ -135,7 +136,7 @@ recv_row o me id = ask (on o me op.SocketReceive id) (refuse_if (is_empty_socket
 
 abbrev pub load_row : State → SubjectView → Option Module → Plan
 load_row s me None = refuse errno.Enoent
-load_row s me (Some m) = ask (about_modules me op.KldLoad) (refuse_by (load_fault s m) proceed)
+load_row s me (Some m) = ask (about_modules me op.KldLoad) (refuse_by (load_refusal s m) proceed)
 
 -- The table: the plan of a call of a live process of the task.
 abbrev pub plan_for : State → List ℕ → SubjectView → Call → Plan
@@ -145,15 +146,15 @@ plan_for s task me (call.See name) = found errno.Esrch (check_row s.objects me o
 plan_for s task me (call.Signal name) = found errno.Esrch (check_row s.objects me op.ProcSignal) (process_named s.objects name)
 plan_for s task me (call.Debug name) = found errno.Esrch (check_row s.objects me op.ProcDebug) (process_named s.objects name)
 plan_for s task me (call.Sched name) = found errno.Esrch (check_row s.objects me op.ProcSched) (process_named s.objects name)
-plan_for s task me (call.Exec path) = along s.objects me (at_found (exec_row s.objects me)) (walk_along s.objects path)
-plan_for s task me (call.Create path) = along s.objects me (at_free (create_row s.objects me)) (walk_along s.objects path)
-plan_for s task me (call.Mkdir path) = along s.objects me (at_free (create_row s.objects me)) (walk_along s.objects path)
-plan_for s task me (call.Read path) = along s.objects me (at_found (read_row s.objects me)) (walk_along s.objects path)
-plan_for s task me (call.Write path text) = along s.objects me (at_found (write_row s.objects me text)) (walk_along s.objects path)
-plan_for s task me (call.Stat path) = along s.objects me (at_found (check_row s.objects me op.VnodeStat)) (walk_along s.objects path)
-plan_for s task me (call.Readdir path) = along s.objects me (at_found (readdir_row s.objects me)) (walk_along s.objects path)
-plan_for s task me (call.Chmod path mode) = along s.objects me (at_found (check_row s.objects me op.VnodeSetmode)) (walk_along s.objects path)
-plan_for s task me (call.Unlink path) = along s.objects me (at_entry (unlink_row s.objects me)) (walk_along s.objects path)
+plan_for s task me (call.Exec path) = along s.objects me (at_found (exec_row s.objects me)) (lookup_along s.objects path)
+plan_for s task me (call.Create path) = along s.objects me (at_free (create_row s.objects me)) (lookup_along s.objects path)
+plan_for s task me (call.Mkdir path) = along s.objects me (at_free (create_row s.objects me)) (lookup_along s.objects path)
+plan_for s task me (call.Read path) = along s.objects me (at_found (read_row s.objects me)) (lookup_along s.objects path)
+plan_for s task me (call.Write path text) = along s.objects me (at_found (write_row s.objects me text)) (lookup_along s.objects path)
+plan_for s task me (call.Stat path) = along s.objects me (at_found (check_row s.objects me op.VnodeStat)) (lookup_along s.objects path)
+plan_for s task me (call.Readdir path) = along s.objects me (at_found (readdir_row s.objects me)) (lookup_along s.objects path)
+plan_for s task me (call.Chmod path mode) = along s.objects me (at_found (check_row s.objects me op.VnodeSetmode)) (lookup_along s.objects path)
+plan_for s task me (call.Unlink path) = along s.objects me (at_entry (unlink_row s.objects me)) (lookup_along s.objects path)
 plan_for s task me (call.Pipe name) = make_row s.objects (pipe_named s.objects name)
 plan_for s task me (call.Socket name) = make_row s.objects (socket_named s.objects name)
 plan_for s task me (call.Pread name) = found errno.Enoent (pread_row s.objects me) (pipe_named s.objects name)
@@ -165,7 +166,7 @@ plan_for s task me (call.Seesock name) = found errno.Enoent (check_row s.objects
 plan_for s task me call.Kldstat = proceed
 plan_for s task me (call.Kldload name) = ask (privileged me privilege.KldLoad) (load_row s me (loadable name))
 plan_for s task me (call.Kldunload name) =
-    ask (privileged me privilege.KldUnload) (ask (about_modules me op.KldUnload) (refuse_by (unload_fault s name) proceed))
+    ask (privileged me privilege.KldUnload) (ask (about_modules me op.KldUnload) (refuse_by (unload_refusal s (module_named name)) proceed))
 
 -- a caller that doesn't live makes no call
 abbrev pub plan_by : State → List ℕ → Call → Option Id → Plan
@@ -178,10 +179,10 @@ plan_of s task child call = plan_by s task call (process_named s.objects (caller
 
 -- How a plan is put together
 
-abbrev pub tail_of : Result (Unit {0}) Errno → Tail
-tail_of (Ok done) = Do
+abbrev pub tail_of : {A : Type 0} → Result A Errno → Tail
+tail_of (Ok place) = Do
 tail_of (Err e) = Refuse e
 
 -- the plan with these checks and this end
-abbrev pub ended : List Item → Result (Unit {0}) Errno → Plan
+abbrev pub ended : {A : Type 0} → List Item → Result A Errno → Plan
 ended checks end = record { items = checks; tail = tail_of end }

@@ -1,33 +1,34 @@
 //! The checks of calls on files and directories.
-ghost use Rattle.std.specs.Prelude.{◌≡◌, ◌≤◌, [], map, length, All};
+ghost use Rattle.std.specs.Prelude.{◌≡◌, ◌≤◌, [], map, length, All, IfOk};
 ghost use Rattle.mf_item.specs.declared.operation.CheckOp.TheVariants as op;
 ghost use Rattle.mf_objects.specs.Live.{IsLive, is_directory};
 ghost use Rattle.mf_plan.specs.Outline as outline;
-ghost use Rattle.mf_plan.specs.Path.{IsTarget, walk_along};
+ghost use Rattle.mf_plan.specs.Path as paths;
+ghost use Rattle.mf_plan.specs.Path.{IsTarget, lookup_along};
 ghost use Rattle.mf_plan.specs.Plan as spec;
 ghost use Rattle.mf_plan.specs.Views as view;
 
+use crate::lookup::lookup_along;
 use crate::outline::{Checks, ask};
 use crate::target::Target;
 use crate::views::{is_full, overfills_file};
-use crate::walk::walk_along;
 use mf_errno::Errno;
 use mf_item::CheckOp;
 use mf_names::{PATH_LIMIT, Path, SCRIPT_LIMIT};
 use mf_objects::{Id, Objects};
 
-/// Walks along the path, and adds the check of each look-up.
+/// Looks the path up, and adds the check of each component's look-up.
 fn look_up(objects: &Objects, caller: Id, path: &Path, checks: &mut Checks) -> Target
     requires empty { checks.old ≡ [] }
     requires asking { outline.IsAsking objects.now caller checks.old }
     ensures checks { map (outline.item_of objects.now) checks.new
-        ≡ map (spec.on objects.now (view.subject_of objects.now caller) op.VnodeLookup) (walk_along objects.now path.now).lookups }
+        ≡ map (spec.on objects.now (view.subject_of objects.now caller) op.VnodeLookup) (lookup_along objects.now path.now).lookups }
     ensures few { length checks.new ≤ PATH_LIMIT }
-    ensures target { result ≡ (walk_along objects.now path.now).target }
+    ensures target { result ≡ (lookup_along objects.now path.now).target }
     ensures live { IsTarget objects.now result }
     ensures asking { outline.IsAsking objects.now caller checks.new }
 {
-    let walk = walk_along(objects, path);
+    let walk = lookup_along(objects, path);
     ask_lookups(objects, caller, walk.lookups.as_slice(), checks);
     walk.target
 }
@@ -54,17 +55,18 @@ pub(crate) fn on_file(
     op: CheckOp,
     path: &Path,
     checks: &mut Checks,
-) -> Result<(), Errno>
+) -> Result<Option<Id>, Errno>
     requires empty { checks.old ≡ [] }
     requires asking { outline.IsAsking objects.now caller checks.old }
     ensures plan { spec.ended (map (outline.item_of objects.now) checks.new) result
         ≡ spec.along objects.now (view.subject_of objects.now caller)
-        (spec.at_found (spec.check_row objects.now (view.subject_of objects.now caller) op)) (walk_along objects.now path.now) }
+        (spec.at_found (spec.check_row objects.now (view.subject_of objects.now caller) op)) (lookup_along objects.now path.now) }
+    ensures target { IfOk result (λ target. target ≡ paths.file_at_path objects.now path.now) }
     ensures asking { outline.IsAsking objects.now caller checks.new }
 {
     let id = look_up(objects, caller, path, checks).found(objects)?;
     ask(objects, caller, op, id, checks);
-    Ok(())
+    Ok(Some(id))
 }
 
 pub(crate) fn exec(
@@ -72,12 +74,13 @@ pub(crate) fn exec(
     caller: Id,
     path: &Path,
     checks: &mut Checks,
-) -> Result<(), Errno>
+) -> Result<Option<Id>, Errno>
     requires empty { checks.old ≡ [] }
     requires asking { outline.IsAsking objects.now caller checks.old }
     ensures plan { spec.ended (map (outline.item_of objects.now) checks.new) result
         ≡ spec.along objects.now (view.subject_of objects.now caller)
-        (spec.at_found (spec.exec_row objects.now (view.subject_of objects.now caller))) (walk_along objects.now path.now) }
+        (spec.at_found (spec.exec_row objects.now (view.subject_of objects.now caller))) (lookup_along objects.now path.now) }
+    ensures target { IfOk result (λ target. target ≡ paths.file_at_path objects.now path.now) }
     ensures asking { outline.IsAsking objects.now caller checks.new }
 {
     let id = look_up(objects, caller, path, checks).found(objects)?;
@@ -85,7 +88,7 @@ pub(crate) fn exec(
         return Err(Errno::Eacces);
     }
     ask(objects, caller, CheckOp::VnodeExec, id, checks);
-    Ok(())
+    Ok(Some(id))
 }
 
 /// The checks and tests of `create` and `mkdir`.
@@ -94,12 +97,13 @@ pub(crate) fn create(
     caller: Id,
     path: &Path,
     checks: &mut Checks,
-) -> Result<(), Errno>
+) -> Result<Option<Id>, Errno>
     requires empty { checks.old ≡ [] }
     requires asking { outline.IsAsking objects.now caller checks.old }
     ensures plan { spec.ended (map (outline.item_of objects.now) checks.new) result
         ≡ spec.along objects.now (view.subject_of objects.now caller)
-        (spec.at_free (spec.create_row objects.now (view.subject_of objects.now caller))) (walk_along objects.now path.now) }
+        (spec.at_free (spec.create_row objects.now (view.subject_of objects.now caller))) (lookup_along objects.now path.now) }
+    ensures target { IfOk result (λ target. target ≡ paths.free_dir_at objects.now path.now) }
     ensures asking { outline.IsAsking objects.now caller checks.new }
 {
     let dir = look_up(objects, caller, path, checks).free()?;
@@ -107,7 +111,7 @@ pub(crate) fn create(
     if is_full(objects) {
         return Err(Errno::Enfile);
     }
-    Ok(())
+    Ok(Some(dir))
 }
 
 pub(crate) fn read(
@@ -115,12 +119,13 @@ pub(crate) fn read(
     caller: Id,
     path: &Path,
     checks: &mut Checks,
-) -> Result<(), Errno>
+) -> Result<Option<Id>, Errno>
     requires empty { checks.old ≡ [] }
     requires asking { outline.IsAsking objects.now caller checks.old }
     ensures plan { spec.ended (map (outline.item_of objects.now) checks.new) result
         ≡ spec.along objects.now (view.subject_of objects.now caller)
-        (spec.at_found (spec.read_row objects.now (view.subject_of objects.now caller))) (walk_along objects.now path.now) }
+        (spec.at_found (spec.read_row objects.now (view.subject_of objects.now caller))) (lookup_along objects.now path.now) }
+    ensures target { IfOk result (λ target. target ≡ paths.file_at_path objects.now path.now) }
     ensures asking { outline.IsAsking objects.now caller checks.new }
 {
     let id = look_up(objects, caller, path, checks).found(objects)?;
@@ -129,7 +134,7 @@ pub(crate) fn read(
     }
     ask(objects, caller, CheckOp::VnodeOpenRead, id, checks);
     ask(objects, caller, CheckOp::VnodeRead, id, checks);
-    Ok(())
+    Ok(Some(id))
 }
 
 pub(crate) fn write(
@@ -138,13 +143,14 @@ pub(crate) fn write(
     path: &Path,
     text: &[u8],
     checks: &mut Checks,
-) -> Result<(), Errno>
+) -> Result<Option<Id>, Errno>
     requires text { length text.now ≤ SCRIPT_LIMIT }
     requires empty { checks.old ≡ [] }
     requires asking { outline.IsAsking objects.now caller checks.old }
     ensures plan { spec.ended (map (outline.item_of objects.now) checks.new) result
         ≡ spec.along objects.now (view.subject_of objects.now caller)
-        (spec.at_found (spec.write_row objects.now (view.subject_of objects.now caller) text.now)) (walk_along objects.now path.now) }
+        (spec.at_found (spec.write_row objects.now (view.subject_of objects.now caller) text.now)) (lookup_along objects.now path.now) }
+    ensures target { IfOk result (λ target. target ≡ paths.file_at_path objects.now path.now) }
     ensures asking { outline.IsAsking objects.now caller checks.new }
 {
     let id = look_up(objects, caller, path, checks).found(objects)?;
@@ -156,7 +162,7 @@ pub(crate) fn write(
     if overfills_file(objects, text, id) {
         return Err(Errno::Efbig);
     }
-    Ok(())
+    Ok(Some(id))
 }
 
 pub(crate) fn readdir(
@@ -164,12 +170,13 @@ pub(crate) fn readdir(
     caller: Id,
     path: &Path,
     checks: &mut Checks,
-) -> Result<(), Errno>
+) -> Result<Option<Id>, Errno>
     requires empty { checks.old ≡ [] }
     requires asking { outline.IsAsking objects.now caller checks.old }
     ensures plan { spec.ended (map (outline.item_of objects.now) checks.new) result
         ≡ spec.along objects.now (view.subject_of objects.now caller)
-        (spec.at_found (spec.readdir_row objects.now (view.subject_of objects.now caller))) (walk_along objects.now path.now) }
+        (spec.at_found (spec.readdir_row objects.now (view.subject_of objects.now caller))) (lookup_along objects.now path.now) }
+    ensures target { IfOk result (λ target. target ≡ paths.file_at_path objects.now path.now) }
     ensures asking { outline.IsAsking objects.now caller checks.new }
 {
     let id = look_up(objects, caller, path, checks).found(objects)?;
@@ -177,7 +184,7 @@ pub(crate) fn readdir(
         return Err(Errno::Enotdir);
     }
     ask(objects, caller, CheckOp::VnodeReaddir, id, checks);
-    Ok(())
+    Ok(Some(id))
 }
 
 pub(crate) fn unlink(
@@ -185,12 +192,13 @@ pub(crate) fn unlink(
     caller: Id,
     path: &Path,
     checks: &mut Checks,
-) -> Result<(), Errno>
+) -> Result<Option<Id>, Errno>
     requires empty { checks.old ≡ [] }
     requires asking { outline.IsAsking objects.now caller checks.old }
     ensures plan { spec.ended (map (outline.item_of objects.now) checks.new) result
         ≡ spec.along objects.now (view.subject_of objects.now caller)
-        (spec.at_entry (spec.unlink_row objects.now (view.subject_of objects.now caller))) (walk_along objects.now path.now) }
+        (spec.at_entry (spec.unlink_row objects.now (view.subject_of objects.now caller))) (lookup_along objects.now path.now) }
+    ensures target { IfOk result (λ target. target ≡ paths.entry_at_path objects.now path.now) }
     ensures asking { outline.IsAsking objects.now caller checks.new }
 {
     let (dir, id) = look_up(objects, caller, path, checks).entry()?;
@@ -199,5 +207,5 @@ pub(crate) fn unlink(
     if objects.count(id) > 0 {
         return Err(Errno::Enotempty);
     }
-    Ok(())
+    Ok(Some(id))
 }

@@ -2,7 +2,9 @@
 #![tactic(auto)]
 
 mod files;
+mod found;
 mod loading;
+mod lookup;
 mod named;
 mod names;
 mod outline;
@@ -12,9 +14,10 @@ mod reply;
 mod state;
 mod target;
 mod views;
-mod walk;
 
+pub use found::{Found, found_of};
 pub use loading::loadable;
+pub use lookup::{Lookup, lookup_along, target_of};
 pub use names::{ChildName, caller_of, child_name};
 pub use outline::{Check, Outline};
 pub use plan::{MOST_CHECKS, Plan, Tail};
@@ -22,4 +25,3 @@ pub use planning::{outline_of, plan_of};
 pub use reply::{Loaded, Payload, Reply};
 pub use state::State;
 pub use target::Target;
-pub use walk::{Walk, target_of, walk_along};

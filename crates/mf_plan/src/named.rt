@@ -1,5 +1,5 @@
 //! The checks of calls on processes, pipes and sockets, which go by name.
-ghost use Rattle.std.specs.Prelude.{◌≡◌, ◌≤◌, [], length, map};
+ghost use Rattle.std.specs.Prelude.{◌≡◌, ◌≤◌, [], length, map, IfOk, None};
 ghost use Rattle.mf_errno.specs.declared.errno.Errno.TheVariants as errno;
 ghost use Rattle.mf_item.specs.declared.operation.CheckOp.TheVariants as op;
 ghost use Rattle.mf_calls.specs.WellFormed.{IsName};
@@ -18,8 +18,9 @@ use mf_objects::{Id, MOST_MESSAGES, Objects};
 
 /// The tests of a call that makes an entity: EEXIST where `holder` has its name already, ENFILE where no further entity
 /// can be made.
-pub(crate) fn make(objects: &Objects, holder: Option<Id>) -> Result<(), Errno>
-    ensures { spec.ended [] result ≡ spec.make_row objects.now holder }
+pub(crate) fn make(objects: &Objects, holder: Option<Id>) -> Result<Option<Id>, Errno>
+    ensures plan { spec.ended [] result ≡ spec.make_row objects.now holder }
+    ensures target { IfOk result (λ target. target ≡ None) }
 {
     if holder.is_some() {
         return Err(Errno::Eexist);
@@ -27,15 +28,16 @@ pub(crate) fn make(objects: &Objects, holder: Option<Id>) -> Result<(), Errno>
     if is_full(objects) {
         return Err(Errno::Enfile);
     }
-    Ok(())
+    Ok(None)
 }
 
 /// The tests of `fork`.
-pub(crate) fn fork(objects: &Objects, task: &str, child: &str) -> Result<(), Errno>
+pub(crate) fn fork(objects: &Objects, task: &str, child: &str) -> Result<Option<Id>, Errno>
     requires task { IsName task.now }
     requires child { IsName child.now }
-    ensures { spec.ended [] result
+    ensures plan { spec.ended [] result
         ≡ spec.make_row objects.now (view.process_named objects.now (child_name task.now child.now)) }
+    ensures target { IfOk result (λ target. target ≡ None) }
 {
     let name = child_name(task, child);
     make(objects, objects.process(name.as_str()))
@@ -48,16 +50,17 @@ pub(crate) fn on_process(
     op: CheckOp,
     name: &str,
     checks: &mut Checks,
-) -> Result<(), Errno>
+) -> Result<Option<Id>, Errno>
     requires empty { checks.old ≡ [] }
     requires asking { outline.IsAsking objects.now caller checks.old }
     ensures plan { spec.ended (map (outline.item_of objects.now) checks.new) result
         ≡ spec.found errno.Esrch (spec.check_row objects.now (view.subject_of objects.now caller) op) (view.process_named objects.now name.now) }
+    ensures target { IfOk result (λ target. target ≡ None) }
     ensures asking { outline.IsAsking objects.now caller checks.new }
 {
     let id = objects.process(name).ok_or(Errno::Esrch)?;
     ask(objects, caller, op, id, checks);
-    Ok(())
+    Ok(None)
 }
 
 /// One check of a pipe.
@@ -66,16 +69,17 @@ pub(crate) fn pstat(
     caller: Id,
     name: &str,
     checks: &mut Checks,
-) -> Result<(), Errno>
+) -> Result<Option<Id>, Errno>
     requires empty { checks.old ≡ [] }
     requires asking { outline.IsAsking objects.now caller checks.old }
     ensures plan { spec.ended (map (outline.item_of objects.now) checks.new) result
         ≡ spec.found errno.Enoent (spec.check_row objects.now (view.subject_of objects.now caller) op.PipeStat) (view.pipe_named objects.now name.now) }
+    ensures target { IfOk result (λ target. target ≡ view.pipe_named objects.now name.now) }
     ensures asking { outline.IsAsking objects.now caller checks.new }
 {
     let id = objects.pipe(name).ok_or(Errno::Enoent)?;
     ask(objects, caller, CheckOp::PipeStat, id, checks);
-    Ok(())
+    Ok(Some(id))
 }
 
 pub(crate) fn pread(
@@ -83,11 +87,12 @@ pub(crate) fn pread(
     caller: Id,
     name: &str,
     checks: &mut Checks,
-) -> Result<(), Errno>
+) -> Result<Option<Id>, Errno>
     requires empty { checks.old ≡ [] }
     requires asking { outline.IsAsking objects.now caller checks.old }
     ensures plan { spec.ended (map (outline.item_of objects.now) checks.new) result
         ≡ spec.found errno.Enoent (spec.pread_row objects.now (view.subject_of objects.now caller)) (view.pipe_named objects.now name.now) }
+    ensures target { IfOk result (λ target. target ≡ view.pipe_named objects.now name.now) }
     ensures asking { outline.IsAsking objects.now caller checks.new }
 {
     let id = objects.pipe(name).ok_or(Errno::Enoent)?;
@@ -95,7 +100,7 @@ pub(crate) fn pread(
     if objects.size(id) == 0 {
         return Err(Errno::Eagain);
     }
-    Ok(())
+    Ok(Some(id))
 }
 
 pub(crate) fn pwrite(
@@ -104,12 +109,13 @@ pub(crate) fn pwrite(
     name: &str,
     text: &[u8],
     checks: &mut Checks,
-) -> Result<(), Errno>
+) -> Result<Option<Id>, Errno>
     requires empty { checks.old ≡ [] }
     requires text { length text.now ≤ SCRIPT_LIMIT }
     requires asking { outline.IsAsking objects.now caller checks.old }
     ensures plan { spec.ended (map (outline.item_of objects.now) checks.new) result
         ≡ spec.found errno.Enoent (spec.pwrite_row objects.now (view.subject_of objects.now caller) text.now) (view.pipe_named objects.now name.now) }
+    ensures target { IfOk result (λ target. target ≡ view.pipe_named objects.now name.now) }
     ensures asking { outline.IsAsking objects.now caller checks.new }
 {
     let id = objects.pipe(name).ok_or(Errno::Enoent)?;
@@ -117,7 +123,7 @@ pub(crate) fn pwrite(
     if overfills_pipe(objects, text, id) {
         return Err(Errno::Eagain);
     }
-    Ok(())
+    Ok(Some(id))
 }
 
 /// The checks and tests of `send`. The receiver is looked up after the check of the sender, so a denial wins over its
@@ -128,11 +134,12 @@ pub(crate) fn send(
     from: &str,
     to: &str,
     checks: &mut Checks,
-) -> Result<(), Errno>
+) -> Result<Option<Id>, Errno>
     requires empty { checks.old ≡ [] }
     requires asking { outline.IsAsking objects.now caller checks.old }
     ensures plan { spec.ended (map (outline.item_of objects.now) checks.new) result
         ≡ spec.found errno.Enoent (spec.send_row objects.now (view.subject_of objects.now caller) to.now) (view.socket_named objects.now from.now) }
+    ensures target { IfOk result (λ target. target ≡ view.socket_named objects.now to.now) }
     ensures asking { outline.IsAsking objects.now caller checks.new }
 {
     let from = objects.socket(from).ok_or(Errno::Enoent)?;
@@ -142,7 +149,7 @@ pub(crate) fn send(
     if objects.count(to) as usize >= MOST_MESSAGES {
         return Err(Errno::Enobufs);
     }
-    Ok(())
+    Ok(Some(to))
 }
 
 pub(crate) fn recv(
@@ -150,11 +157,12 @@ pub(crate) fn recv(
     caller: Id,
     name: &str,
     checks: &mut Checks,
-) -> Result<(), Errno>
+) -> Result<Option<Id>, Errno>
     requires empty { checks.old ≡ [] }
     requires asking { outline.IsAsking objects.now caller checks.old }
     ensures plan { spec.ended (map (outline.item_of objects.now) checks.new) result
         ≡ spec.found errno.Enoent (spec.recv_row objects.now (view.subject_of objects.now caller)) (view.socket_named objects.now name.now) }
+    ensures target { IfOk result (λ target. target ≡ view.socket_named objects.now name.now) }
     ensures asking { outline.IsAsking objects.now caller checks.new }
 {
     let id = objects.socket(name).ok_or(Errno::Enoent)?;
@@ -162,7 +170,7 @@ pub(crate) fn recv(
     if objects.count(id) == 0 {
         return Err(Errno::Eagain);
     }
-    Ok(())
+    Ok(Some(id))
 }
 
 /// One check of a socket.
@@ -171,14 +179,15 @@ pub(crate) fn seesock(
     caller: Id,
     name: &str,
     checks: &mut Checks,
-) -> Result<(), Errno>
+) -> Result<Option<Id>, Errno>
     requires empty { checks.old ≡ [] }
     requires asking { outline.IsAsking objects.now caller checks.old }
     ensures plan { spec.ended (map (outline.item_of objects.now) checks.new) result
         ≡ spec.found errno.Enoent (spec.check_row objects.now (view.subject_of objects.now caller) op.SocketVisible) (view.socket_named objects.now name.now) }
+    ensures target { IfOk result (λ target. target ≡ None) }
     ensures asking { outline.IsAsking objects.now caller checks.new }
 {
     let id = objects.socket(name).ok_or(Errno::Enoent)?;
     ask(objects, caller, CheckOp::SocketVisible, id, checks);
-    Ok(())
+    Ok(None)
 }

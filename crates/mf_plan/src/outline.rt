@@ -6,6 +6,7 @@ ghost use Rattle.mf_plan.specs.Outline as spec;
 ghost use Rattle.mf_plan.specs.Plan as plan;
 ghost use Rattle.mf_plan.specs.Views as view;
 
+use crate::found::Found;
 use crate::plan::{MOST_CHECKS, Tail};
 use mf_cred::ArrayVec;
 use mf_errno::Priv;
@@ -49,9 +50,11 @@ impl Default for Check {
 /// Checks in the order in which they are asked.
 pub(crate) type Checks = ArrayVec<Check, MOST_CHECKS>;
 
-/// The checks of a call, in the order in which they are asked, and its end: a plan without its views.
+/// The checks of a call, in the order in which they are asked, and its end: a plan without its views. What was found on
+/// the way goes with it, for a call that is done.
 #[derive(Drop)]
 pub struct Outline {
+    pub found: Found,
     pub checks: ArrayVec<Check, MOST_CHECKS>,
     pub tail: Tail,
 }

@@ -1,10 +1,17 @@
 //! Plans: the checks that a call asks the policies for, in order, and how it ends where none is denied.
-ghost use Rattle.std.specs.Prelude.{◌≡◌, ◌↔◌, IsTrue};
+ghost use Rattle.std.specs.Prelude.{◌≡◌, ◌↔◌, ◌<◌, ◌≤◌, length, slice_index_or, IsTrue};
+ghost use Rattle.mf_item.specs.Item.{Item};
+ghost use Rattle.mf_objects.specs.Live.{Entities};
+ghost use Rattle.mf_plan.specs.Outline as outlines;
 ghost use Rattle.mf_plan.specs.Plan.{proceed};
 
+use crate::outline::Outline;
+use crate::views::{CheckView, add_views, are_views};
 use mf_cred::ArrayVec;
 use mf_errno::Errno;
-use mf_item::Item;
+use mf_item::{Item, SubjectView};
+use mf_objects::Objects;
+use std::marker::Model;
 
 /// The most checks that a plan has room for. No call asks for more than 10: 8 look-ups and 2 more.
 pub const MOST_CHECKS: usize = 12;
@@ -18,11 +25,23 @@ pub enum Tail {
     Refuse(Errno),
 }
 
-/// The checks of a call, in the order in which they are asked, and its end.
+/// The checks of a call, in the order in which they are asked, and its end. Contracts see each check as an item with its
+/// subject. It lies here once for all that share it, and checks of one call have one subject, but for what a socket delivers.
 #[derive(Drop)]
 pub struct Plan {
-    pub items: ArrayVec<Item, MOST_CHECKS>,
-    pub tail: Tail,
+    subjects: ArrayVec<SubjectView, MOST_CHECKS>,
+    checks: ArrayVec<CheckView, MOST_CHECKS>,
+    tail: Tail,
+}
+
+impl Model for Plan {
+    ghost use Rattle.mf_plan.specs.Planned.{Plan, HaveSubjects, items_with};
+
+    ghost Value = { Plan };
+
+    ghost view = { λ p. record { items = items_with p.subjects p.checks; tail = p.tail } };
+
+    ghost invariant = { λ p. HaveSubjects p.subjects p.checks };
 }
 
 impl Plan {
@@ -31,39 +50,63 @@ impl Plan {
         ensures { result ≡ proceed }
     {
         Plan {
-            items: ArrayVec::new(),
+            subjects: ArrayVec::new(),
+            checks: ArrayVec::new(),
             tail: Tail::Do,
         }
     }
 
-    /// Whether the two are equal.
-    pub fn same(&self, other: &Plan) -> bool
-        ensures { IsTrue result ↔ (self.now ≡ other.now) }
+    /// How many checks there are.
+    pub fn len(&self) -> usize
+        ensures value { result ≡ length self.now.items }
+        ensures most { result ≤ MOST_CHECKS }
     {
-        same_items(self.items.as_slice(), other.items.as_slice()) && self.tail == other.tail
+        self.checks.len()
     }
 
-    /// A copy.
-    pub fn copy(&self) -> Plan
-        ensures { result ≡ self.now }
+    /// The check at that place, from 0, as policies see it.
+    pub fn item(&self, place: usize) -> Item<'_>
+        requires { place < length self.now.items }
+        ensures { (other : Item) → result ≡ slice_index_or self.now.items place other }
     {
-        Plan {
-            items: self.items.copy(),
-            tail: self.tail,
-        }
+        let check = &self.checks.as_slice()[place];
+        check.item(&self.subjects.as_slice()[check.subject])
     }
-}
 
-fn same_items(items: &[Item], others: &[Item]) -> bool
-    ensures { IsTrue result ↔ (items.now ≡ others.now) }
-{
-    if items.len() != others.len() {
-        return false;
+    /// How the call ends where no check is denied.
+    pub fn tail(&self) -> Tail
+        ensures { result ≡ self.now.tail }
+    {
+        self.tail
     }
-    for (i, item) in items.iter().enumerate() {
-        if !item.same(&others[i]) {
-            return false;
-        }
+
+    /// Becomes the plan of that outline in the present state.
+    pub(crate) fn fill(&mut self, objects: &Objects, outline: &Outline)
+        requires { outlines.AreLive objects.now outline.now.checks }
+        ensures { self.new ≡ outlines.plan_in objects.now outline.now }
+    {
+        self.subjects.clear();
+        self.checks.clear();
+        add_views(
+            objects,
+            outline.checks.as_slice(),
+            &mut self.subjects,
+            &mut self.checks,
+        );
+        self.tail = outline.tail;
     }
-    true
+
+    /// Whether this is the plan of that outline in the present state. What costs least is compared first.
+    pub(crate) fn is_outlined(&self, objects: &Objects, outline: &Outline) -> bool
+        requires { outlines.AreLive objects.now outline.now.checks }
+        ensures { IsTrue result ↔ (self.now ≡ outlines.plan_in objects.now outline.now) }
+    {
+        self.tail == outline.tail
+            && are_views(
+                objects,
+                outline.checks.as_slice(),
+                self.subjects.as_slice(),
+                self.checks.as_slice(),
+            )
+    }
 }

@@ -1,19 +1,21 @@
 //! The plan of a call.
-ghost use Rattle.std.specs.Prelude.{◌≡◌, ◌↔◌, [], map, IsTrue};
+ghost use Rattle.std.specs.Prelude.{◌≡◌, ◌↔◌, [], map, IfOk, IfSome, IsSome};
 ghost use Rattle.std.specs.Option.{option_copied};
 ghost use Rattle.mf_calls.specs.WellFormed.{IsFormedCall, IsFormedChild, IsName};
+ghost use Rattle.mf_plan.specs.declared.plan.Tail.TheVariants.{Do};
+ghost use Rattle.mf_plan.specs.Found.{found_of, target_of};
 ghost use Rattle.mf_plan.specs.Outline as outlines;
 ghost use Rattle.mf_plan.specs.Plan as spec;
 ghost use Rattle.mf_plan.specs.Views.{subject_of};
 
 use crate::files::{create, exec, on_file, read, readdir, unlink, write};
+use crate::found::Found;
 use crate::loading::{kldload, kldunload};
 use crate::named::{fork, make, on_process, pread, pstat, pwrite, recv, seesock, send};
 use crate::names::caller_of;
 use crate::outline::{Checks, Outline};
 use crate::plan::{Plan, Tail};
 use crate::state::State;
-use crate::views::{add_items, are_items};
 use mf_calls::Call;
 use mf_cred::ArrayVec;
 use mf_errno::Errno;
@@ -34,37 +36,40 @@ pub fn plan_of(state: &State, task: &str, child: Option<&str>, call: &Call) -> P
 }
 
 impl Plan {
-    /// Becomes the plan of a call, as `plan_of` makes it. A plan is large: this one is made where it lies, and never moved.
-    pub fn make(&mut self, state: &State, task: &str, child: Option<&str>, call: &Call)
+    /// Becomes the plan of a call, as `plan_of` makes it, and says what the call is about where it may be done. A plan is
+    /// large: this one is made where it lies, and never moved.
+    pub fn make(&mut self, state: &State, task: &str, child: Option<&str>, call: &Call) -> Found
         requires task { IsName task.now }
         requires child { IsFormedChild (option_copied child) }
         requires formed { IsFormedCall call.now }
-        ensures { self.new ≡ spec.plan_of state.now task.now (option_copied child.entry) call.now }
+        ensures plan { self.new ≡ spec.plan_of state.now task.now (option_copied child.entry) call.now }
+        ensures found { self.new.tail ≡ Do → result ≡ found_of state.now task.now (option_copied child.entry) call.now }
     {
         let outline = outline_of(state, task, child, call);
-        self.items.clear();
-        add_items(&state.objects, outline.checks.as_slice(), &mut self.items);
-        self.tail = outline.tail;
+        self.fill(&state.objects, &outline);
+        outline.found
     }
 
-    /// Whether this is the plan of a call in the present state.
-    pub fn is_of(&self, state: &State, task: &str, child: Option<&str>, call: &Call) -> bool
+    /// What the call is about, where this is its plan in the present state. None where it isn't.
+    pub fn is_of(
+        &self,
+        state: &State,
+        task: &str,
+        child: Option<&str>,
+        call: &Call,
+    ) -> Option<Found>
         requires task { IsName task.now }
         requires child { IsFormedChild (option_copied child) }
         requires formed { IsFormedCall call.now }
-        ensures { IsTrue result ↔ (self.now ≡ spec.plan_of state.now task.now (option_copied child.entry) call.now) }
+        ensures is { IsSome result ↔ (self.now ≡ spec.plan_of state.now task.now (option_copied child.entry) call.now) }
+        ensures found { self.now.tail ≡ Do → IfSome result (λ found. found ≡ found_of state.now task.now (option_copied child.entry) call.now) }
     {
         let outline = outline_of(state, task, child, call);
-        self.is_outlined(&state.objects, &outline)
-    }
-
-    /// Whether this is the plan of that outline in the present state. What costs least is compared first.
-    fn is_outlined(&self, objects: &Objects, outline: &Outline) -> bool
-        requires { outlines.AreLive objects.now outline.now.checks }
-        ensures { IsTrue result ↔ (self.now ≡ outlines.plan_in objects.now outline.now) }
-    {
-        self.tail == outline.tail
-            && are_items(objects, outline.checks.as_slice(), self.items.as_slice())
+        if self.is_outlined(&state.objects, &outline) {
+            Some(outline.found)
+        } else {
+            None
+        }
     }
 }
 
@@ -77,23 +82,29 @@ pub fn outline_of(state: &State, task: &str, child: Option<&str>, call: &Call) -
     ensures plan { outlines.plan_in state.now.objects result
         ≡ spec.plan_of state.now task.now (option_copied child.entry) call.now }
     ensures live { outlines.AreLive state.now.objects result.checks }
+    ensures found { result.tail ≡ Do → result.found ≡ found_of state.now task.now (option_copied child.entry) call.now }
 {
     let mut checks = ArrayVec::new();
-    let end = match caller_of(&state.objects, task, child) {
+    let caller = caller_of(&state.objects, task, child);
+    let end = match caller {
         None => Err(Errno::Esrch),
         Some(caller) => ask_for(state, task, caller, call, &mut checks),
     };
     Outline {
+        found: Found {
+            caller,
+            target: end.ok().flatten(),
+        },
         checks,
         tail: tail_of(end),
     }
 }
 
-fn tail_of(end: Result<(), Errno>) -> Tail
+fn tail_of(end: Result<Option<Id>, Errno>) -> Tail
     ensures { result ≡ spec.tail_of end }
 {
     match end {
-        Ok(()) => Tail::Do,
+        Ok(_) => Tail::Do,
         Err(errno) => Tail::Refuse(errno),
     }
 }
@@ -105,19 +116,20 @@ fn ask_for(
     caller: Id,
     call: &Call,
     checks: &mut Checks,
-) -> Result<(), Errno>
+) -> Result<Option<Id>, Errno>
     requires task { IsName task.now }
     requires formed { IsFormedCall call.now }
     requires empty { checks.old ≡ [] }
     requires asking { outlines.IsAsking state.now.objects caller checks.old }
     ensures plan { spec.ended (map (outlines.item_of state.now.objects) checks.new) result
         ≡ spec.plan_for state.now task.now (subject_of state.now.objects caller) call.now }
+    ensures target { IfOk result (λ target. target ≡ target_of state.now.objects call.now) }
     ensures asking { outlines.IsAsking state.now.objects caller checks.new }
 {
     let objects = &state.objects;
     match call {
         Call::Fork(child) => fork(objects, task, child.as_str()),
-        Call::Exit | Call::Kldstat => Ok(()),
+        Call::Exit | Call::Kldstat => Ok(None),
         Call::See(name) => on_process(objects, caller, CheckOp::ProcVisible, name.as_str(), checks),
         Call::Signal(name) => on_process(
             objects,

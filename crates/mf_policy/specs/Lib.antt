@@ -5,4 +5,5 @@ pub mod Modules
 pub mod LoadFlags
 pub mod Settings
 pub mod Registration
+pub mod Loading
 pub mod NewLabels

@@ -1,10 +1,12 @@
--- The listed policies, as values.
-use Rattle.std.specs.Prelude.{ℕ, Bool, false, nat_eq, List, Option, Some, None}
+-- The listed policies, as values, and what a registration and its end make of them.
+use Rattle.std.specs.Prelude.{ℕ, ◌+◌, Bool, false, cond, not, ◌&&◌, nat_eq, List, [], ◌∷◌, Option, Some, None}
 use Rattle.std.specs.List.{list_any}
 use Rattle.mf_errno.specs.Module.{same_module}
 use Rattle.mf_errno.specs.declared.module.Module.{Module}
 use Rattle.mf_policy.specs.declared.registration.Registration.{Registration}
 use Rattle.mf_policy.specs.declared.spec.Spec.{Spec}
+use Rattle.mf_policy.specs.LoadFlags.{is_unloadok}
+use Rattle.mf_policy.specs.Modules.{flags_of, fresh_of, wants_slot}
 
 -- a registration, and the policy's spec
 abbrev pub Entry : Type 0
@@ -25,3 +27,43 @@ is_slot slot (Some own) = nat_eq own slot
 -- whether the entry's policy holds the slot
 abbrev pub holds_slot : ℕ → Entry → Bool
 holds_slot slot entry = is_slot slot entry.0.slot
+
+-- whether the entry is in the dynamic list
+abbrev pub is_dynamic : Entry → Bool
+is_dynamic entry = not entry.0.fixed
+
+-- the slot of a module where so many numbers were given: the next one where it wants one
+abbrev pub slot_for : Bool → ℕ → Option ℕ
+slot_for wanted given = cond wanted (Some given) None
+
+-- how a module is registered: in the static list before the end of boot, unless it may be unloaded
+abbrev pub registration_of : Module → Bool → ℕ → Registration
+registration_of m booted given =
+    record {
+      «module» = m;
+      slot = slot_for (wants_slot m) given;
+      fixed = not booted && not (is_unloadok (flags_of m));
+    }
+
+-- how many slot numbers were given, after a registration of the module
+abbrev pub given_after : ℕ → Module → ℕ
+given_after given m = cond (wants_slot m) (given + 1) given
+
+-- the list with a new policy: the newest of the static list, which comes first, or of the dynamic one
+abbrev pub with_newest : Entry → List Entry → List Entry
+with_newest entry [] = entry ∷ []
+with_newest entry (x ∷ xs) =
+    cond (not entry.0.fixed && x.0.fixed) (x ∷ with_newest entry xs) (entry ∷ x ∷ xs)
+
+-- the list after a registration, with the policy in its initial state
+abbrev pub with_registered : List Entry → Registration → List Entry
+with_registered entries r = with_newest (r, fresh_of r.module) entries
+
+-- the list without the first element that passes
+abbrev pub without_first : {X : Type 0} → (X → Bool) → List X → List X
+without_first p [] = []
+without_first p (x ∷ xs) = cond (p x) xs (x ∷ without_first p xs)
+
+-- the list without the module
+abbrev pub entries_without : Module → List Entry → List Entry
+entries_without m entries = without_first (is_of m) entries

@@ -56,7 +56,7 @@ mod tests {
             slot: Some(1),
             fixed: true,
         };
-        listed.insert(0, mls, Spec::Mls)?;
+        listed.list(mls, Spec::Mls)?;
         let boot = Origin::Boot(Request::none());
         let [_, process, _, _] = new_label(&listed, Kind::Process, &boot);
         let whole = RangeLabel::ranged(Elem::Low, Elem::Low, Elem::High);

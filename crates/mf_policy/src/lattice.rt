@@ -1,7 +1,6 @@
 //! What Biba and MLS share: the answer to a check, by the two directions of the policy.
-ghost use Rattle.std.specs.Prelude.{◌≡◌, ◌<◌};
+ghost use Rattle.std.specs.Prelude.{◌≡◌, ◌<◌, option_copied};
 ghost use Rattle.mf_policy.specs.Answer as spec;
-ghost use Rattle.mf_policy.specs.Operations.{test_of};
 
 use crate::operations::{Test, row_of};
 use crate::relabel::{credential_relabel, object_relabel};
@@ -37,12 +36,12 @@ pub fn lattice_answer<P: Lattice>(slot: u8, item: &Item) -> Errno
     requires { slot < SLOTS }
     ensures { result ≡ spec.lattice_answer P.lattice slot item.now }
 {
-    let subject = slot_label(&item.subject.label[slot as usize]);
-    let object = object_label(&item.object, slot);
-    let asked = part_of::<P>(&item.request);
+    let subject = slot_label(&item.subject().label[slot as usize]);
+    let object = object_label(item.object(), slot);
+    let asked = part_of::<P>(item.request());
     match &subject.effective {
         Some(element) => {
-            let test = row_of(item.op).test;
+            let test = row_of(item.op()).test;
             subject_answer::<P>(test, &subject, &asked, element, &object.effective)
         }
         None => Errno::Success,
@@ -127,9 +126,9 @@ pub fn slot_label(value: &LabelValue) -> RangeLabel
 }
 
 /// The label in a slot of the object; an empty one where there is no object.
-fn object_label(object: &Option<ObjectView>, slot: u8) -> RangeLabel
+fn object_label(object: Option<&ObjectView>, slot: u8) -> RangeLabel
     requires { slot < SLOTS }
-    ensures { result ≡ spec.range_label (spec.object_slot object.now slot) }
+    ensures { result ≡ spec.range_label (spec.object_slot (option_copied object.entry) slot) }
 {
     match object {
         Some(view) => slot_label(&view.label[slot as usize]),
@@ -137,8 +136,8 @@ fn object_label(object: &Option<ObjectView>, slot: u8) -> RangeLabel
     }
 }
 
-fn part_of<P: Lattice>(request: &Option<Request>) -> RangeLabel
-    ensures { result ≡ spec.part_of P.lattice request.now }
+fn part_of<P: Lattice>(request: Option<&Request>) -> RangeLabel
+    ensures { result ≡ spec.part_of P.lattice (option_copied request.entry) }
 {
     match request {
         None => nothing(),

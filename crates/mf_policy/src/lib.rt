@@ -5,6 +5,7 @@
 mod labels;
 mod lattice;
 mod load_flags;
+mod loading;
 mod modules;
 mod operations;
 mod policy;
@@ -16,6 +17,7 @@ mod spec_list;
 pub use labels::{Origin, new_label};
 pub use lattice::{Lattice, errno_unless, lattice_answer, slot_label};
 pub use load_flags::LoadFlags;
+pub use loading::{LoadFault, UnloadFault, load_fault, registration_of, unload_fault};
 pub use modules::{
     Facts, Labelling, boot_value, facts_of, flags_of, has_spec, inherited, is_named, labels_kind,
     may_ask, number_asked, range_asked, takes, wants_slot,

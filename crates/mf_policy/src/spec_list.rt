@@ -1,7 +1,7 @@
 //! The listed registrations with the specs of their policies.
-ghost use Rattle.std.specs.Prelude.{◌≡◌, ◌<◌, ◌≤◌, [], nat_eq, find, length, option_map, position, slice_index_or, slice_set, OnOk, OnErr};
-ghost use Rattle.std.specs.List.{insert, remove};
-ghost use Rattle.mf_policy.specs.Registration.{Entry, holds_slot, is_listed, is_of};
+ghost use Rattle.std.specs.Prelude.{◌≡◌, ◌<◌, ◌≤◌, [], nat_eq, find, length, option_map, position, slice_index_or, slice_set, IfOk, OnOk, OnErr};
+ghost use Rattle.std.specs.List.{insert, position_or_len};
+ghost use Rattle.mf_policy.specs.Registration.{Entry, entries_without, holds_slot, is_dynamic, is_listed, is_of, with_newest};
 
 use crate::{Registration, Spec};
 use mf_errno::Module;
@@ -108,12 +108,33 @@ impl SpecList {
         Ok(())
     }
 
-    /// Removes the entry at a place.
-    pub fn remove(&mut self, place: usize)
-        requires { place < length self.old }
-        ensures { self.new ≡ remove self.old place }
+    /// Lists the policy as the newest of the static or of the dynamic list. If memory runs out, the list is unchanged.
+    pub fn list(&mut self, registration: Registration, spec: Spec) -> Result<(), AllocError>
+        ensures ok { OnOk result (self.new ≡ with_newest (registration, spec) self.old) }
+        ensures err { OnErr result (self.new ≡ self.old) }
     {
-        self.entries.remove(place);
+        let place = place_for(&self.entries, registration.fixed);
+        self.insert(place, registration, spec)
+    }
+
+    /// Takes the module off the list, where it is listed.
+    pub fn unlist(&mut self, module: Module)
+        ensures { self.new ≡ entries_without «module» self.old }
+    {
+        if let Some(place) = self.find(module) {
+            self.entries.remove(place);
+        }
+    }
+
+    /// A copy.
+    pub fn copy(&self, alloc: Global) -> Result<SpecList, AllocError>
+        ensures { IfOk result (λ copy. copy ≡ self.now) }
+    {
+        let mut copy = SpecList::new(alloc);
+        for (registration, spec) in &self.entries {
+            copy.insert(copy.len(), *registration, spec.copy(alloc)?)?;
+        }
+        Ok(copy)
     }
 }
 
@@ -127,6 +148,31 @@ fn place_in(entries: &[(Registration, Spec)], module: Module) -> Option<usize>
     ensures { result ≡ position (is_of «module») entries.now }
 {
     entries.iter().position(|entry| module.is(entry.0.module))
+}
+
+/// The place of a new entry: the front of the static list, or of the dynamic one.
+fn place_for(entries: &[(Registration, Spec)], fixed: bool) -> usize
+    ensures within { result ≤ length entries.now }
+    ensures place { (entry : Entry) → entry.0.fixed ≡ fixed → insert entries.now result entry ≡ with_newest entry entries.now }
+{
+    if fixed { 0 } else { static_len(entries) }
+}
+
+/// The length of the static list.
+fn static_len(entries: &[(Registration, Spec)]) -> usize
+    ensures value { result ≡ position_or_len is_dynamic entries.now }
+    ensures within { result ≤ length entries.now }
+{
+    match first_dynamic(entries) {
+        Some(place) => place,
+        None => entries.len(),
+    }
+}
+
+fn first_dynamic(entries: &[(Registration, Spec)]) -> Option<usize>
+    ensures { result ≡ position is_dynamic entries.now }
+{
+    entries.iter().position(|entry| !entry.0.fixed)
 }
 
 fn holder_in(entries: &[(Registration, Spec)], slot: u8) -> Option<Module>
@@ -148,7 +194,7 @@ mod tests {
             slot: Some(0),
             fixed: true,
         };
-        list.insert(0, biba, Spec::fresh(rt.alloc(), Module::Biba)?)?;
+        list.list(biba, Spec::fresh(rt.alloc(), Module::Biba)?)?;
         list.put(0, list.spec(0).copy(rt.alloc())?);
         assert!(rt; list.spec(0).same(&Spec::Biba));
         assert_eq!(rt; list.registration(0), biba);
@@ -160,7 +206,7 @@ mod tests {
             (list.holder(0), list.holder(1)),
             (Some(Module::Biba), None)
         );
-        list.remove(0);
+        list.unlist(Module::Biba);
         assert!(rt; list.is_empty() && !list.is_listed(Module::Biba));
         Ok(())
     }

@@ -1,6 +1,7 @@
 //! Runs of the program over the modules that are built in.
 
 mod cases;
+mod failures;
 mod gates;
 mod kernel;
 mod load;

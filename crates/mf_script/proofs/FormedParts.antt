@@ -16,7 +16,7 @@ use Rattle.mf_labeltext.specs.declared.fault.LabelFault.{LabelFault}
 use Rattle.mf_labeltext.specs.Reading.{request_in}
 use Rattle.mf_labeltext.proofs.Requests.{request_spells}
 use Rattle.mf_labeltext.proofs.Formed.{spelled_is_request}
-use Rattle.mf_names.specs.declared.path.TheConstants.{PATH_LIMIT}
+use Rattle.mf_names.specs.declared.limits.TheConstants.{PATH_LIMIT}
 use Rattle.mf_cred.specs.declared.cred.TheConstants.{MOST_GROUPS}
 use Rattle.mf_item.specs.declared.view.Kind.{Kind}
 use Rattle.mf_words.specs.Words.{Words}

@@ -19,7 +19,7 @@ use Rattle.mf_calls.specs.Names.{is_name, is_process_name, is_component}
 use Rattle.mf_cred.specs.declared.cred.TheConstants.{MOST_GROUPS}
 use Rattle.mf_calls.specs.declared.limits.TheConstants.{UID_MAX, MODE_LIMIT}
 use Rattle.mf_names.specs.declared.limits.TheConstants.{CONTENT_LIMIT}
-use Rattle.mf_names.specs.declared.path.TheConstants.{PATH_LIMIT}
+use Rattle.mf_names.specs.declared.limits.TheConstants.{PATH_LIMIT}
 use Rattle.mf_words.specs.Words.{Words}
 
 -- one word, read by a function of it

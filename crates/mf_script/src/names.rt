@@ -1,7 +1,7 @@
 //! Readers of names and paths.
 #![tactic(auto, unfolding(crate::specs::Readers::and_then))]
 
-ghost use Rattle.std.specs.Prelude.{◌≡◌, ◌≢◌, ◌<◌, ◌∷◌, MatchOption, List, ℕ};
+ghost use Rattle.std.specs.Prelude.{◌≡◌, ◌≢◌, ◌<◌, ◌≤◌, ◌∷◌, MatchOption, List, ℕ};
 ghost use Rattle.mf_calls.specs.Names.{is_process_name};
 ghost use Rattle.mf_script.specs.Readers.{Gives};
 ghost use Rattle.mf_script.specs.Parts.{word_by, name_in, child_in, process_of, with_component, components_of, behind_root, path_of};
@@ -103,11 +103,19 @@ fn add_component(alloc: Global, path: &mut Path, word: &str) -> Result<(), Scrip
     Ok(())
 }
 
+/// How many components a path is given room for: what is read is kept to the end of a run, and most paths are short.
+fn room_for(word: &str) -> usize
+    ensures { result ≤ PATH_LIMIT }
+{
+    let slashes = word.as_bytes().iter().filter(|byte| **byte == b'/').count();
+    PATH_LIMIT.min(slashes.saturating_add(1))
+}
+
 #[tactic(auto, unfolding(crate::specs::Parts::components_of))]
 fn components_of(alloc: Global, word: &str) -> Result<Path, ScriptError>
     ensures { Gives (λ path. path) result (components_of word.now) }
 {
-    let mut path = Path::root(alloc);
+    let mut path = Path::with_room(alloc, room_for(word))?;
     let mut rest = word;
     while let Some((component, after)) = split_at(rest, '/') {
         match add_component(alloc, &mut path, component) {

@@ -5,12 +5,12 @@ use Rattle.mf_calls.specs.declared.script.Script.{Script}
 use Rattle.mf_calls.specs.WellFormed.{lines_of}
 use Rattle.mf_core.specs.declared.progress.Commit.{Commit}
 use Rattle.mf_core.specs.declared.progress.Commit.TheVariants as commit
-use Rattle.mf_core.specs.declared.progress.Outcome.{Outcome}
-use Rattle.mf_core.specs.declared.progress.Outcome.TheVariants as outcome
+use Rattle.mf_core.specs.declared.progress.ChangeOutcome.{ChangeOutcome}
+use Rattle.mf_core.specs.declared.progress.ChangeOutcome.TheVariants as outcome
 use Rattle.mf_core.specs.declared.progress.Turn.{Turn}
 use Rattle.mf_core.specs.declared.progress.Turn.TheVariants as turn
 use Rattle.mf_core.specs.LegalHistory.{turn_at_line}
-use Rattle.mf_core.specs.Run.{Run, lines_at, turn_at}
+use Rattle.mf_core.specs.CoreView.{CoreView, lines_at, turn_at}
 
 -- the script without lines
 abbrev pub no_script : Script
@@ -71,11 +71,11 @@ ticket_turn false = turn.Entered
 
 -- the core's turn of the task, and its lines done, are those that the pass says, or the ticket
 
-pub record AgreesWithPass (run : Run) (pass : PassView) : Type 0 where
+pub record AgreesWithPass (run : CoreView) (pass : PassView) : Type 0 where
   pub turn_is : turn_at run pass.task ≡ pass_turn run.script pass
   pub lines_are : lines_at run pass.task ≡ pass.lines
 
-pub record AgreesWithTicket (run : Run) (ticket : TicketView) : Type 0 where
+pub record AgreesWithTicket (run : CoreView) (ticket : TicketView) : Type 0 where
   pub turn_is : turn_at run ticket.task ≡ ticket_turn ticket.committed
   pub lines_are : lines_at run ticket.task ≡ ticket.lines
 
@@ -94,7 +94,7 @@ pass_left true pass = record pass { lines = pass.lines + 1; out = false }
 pass_left false pass = record pass { out = false; stopped = true }
 
 -- the pass after a change
-abbrev pub pass_changed : Outcome → PassView → PassView
+abbrev pub pass_changed : ChangeOutcome → PassView → PassView
 pass_changed outcome.Done pass = record pass { lines = pass.lines + 1 }
 pass_changed (outcome.Waits n) pass = pass
 

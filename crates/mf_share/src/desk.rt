@@ -3,14 +3,14 @@ ghost use Rattle.std.specs.Prelude.{◌≡◌, ◌<◌, true, false, IfOk, IfErr
 ghost use Rattle.mf_step.specs.Verdict.{verdict_of};
 ghost use Rattle.mf_core.specs.declared.history.Event.TheVariants as event;
 ghost use Rattle.mf_core.specs.declared.progress.Turn.TheVariants as turn;
-ghost use Rattle.mf_core.specs.LegalHistory.{appended};
+ghost use Rattle.mf_core.specs.LegalHistory.{next_plan, with_event};
 ghost use Rattle.mf_core.specs.Policies.{StaysWhileWaiting};
-ghost use Rattle.mf_core.specs.Run.{specs_of, next_plan, open_of, Changes, Commits};
+ghost use Rattle.mf_core.specs.CoreView.{specs_of, run_state, open_of, Changes, Commits};
 ghost use Rattle.mf_share.specs.Passes.{AgreesWithPass, AgreesWithTicket, pass_changed, pass_left, pass_turn, ticket_after, ticket_for};
 
 use crate::pass::{Job, Pass, Ticket};
 use crate::policies::Policies;
-use mf_core::{Commit, Core, Outcome, Turn};
+use mf_core::{ChangeOutcome, Commit, Core, Turn};
 use mf_list::PolicyList;
 use mf_plan::Plan;
 use mf_policy::Policy;
@@ -31,9 +31,9 @@ pub struct Desk<'s, J: Job, B: Ledger> {
 
 impl<'s, J: Job, B: Ledger> Model for Desk<'s, J, B> {
     ghost use Rattle.std.specs.Prelude.{◌≡◌};
-    ghost use Rattle.mf_core.specs.Run.{Run, done_of, open_of};
+    ghost use Rattle.mf_core.specs.CoreView.{CoreView, done_of, open_of};
 
-    ghost Value = { Run };
+    ghost Value = { CoreView };
 
     ghost view = { λ d. d.core };
 
@@ -54,7 +54,7 @@ impl<'s, J: Job, B: Ledger> Desk<'s, J, B> {
         requires out { pass.old.out ≡ false }
         requires turn { pass_turn J.script pass.old ≡ turn.Entry }
         ensures some { IfSome result (λ ticket. AgreesWithPass self.old pass.old
-            × (self.new ≡ record self.old { history = appended self.old.history (event.Enter pass.old.task) })
+            × (self.new ≡ record self.old { history = with_event self.old.history (event.Enter pass.old.task) })
             × (ticket ≡ ticket_for pass.old) × (pass.new ≡ record pass.old { out = true })) }
         ensures none { IfNone result (¬ AgreesWithPass self.old pass.old × (self.new ≡ self.old) × (pass.new ≡ pass.old)) }
     {
@@ -80,7 +80,7 @@ impl<'s, J: Job, B: Ledger> Desk<'s, J, B> {
     /// then nothing changes.
     pub fn plan(&self, ticket: &Ticket<J, B>, plan: &mut Plan) -> bool
         requires { ticket.now.committed ≡ false }
-        ensures made { IsTrue result → AgreesWithTicket self.now ticket.now × (next_plan self.now ticket.now.task ≡ Some plan.new) }
+        ensures made { IsTrue result → AgreesWithTicket self.now ticket.now × (next_plan self.now.script (run_state self.now) ticket.now.task ≡ Some plan.new) }
         ensures none { result ≡ false → ¬ AgreesWithTicket self.now ticket.now × (plan.new ≡ plan.old) }
     {
         let task = ticket.task;
@@ -131,7 +131,7 @@ impl<'s, J: Job, B: Ledger> Desk<'s, J, B> {
         requires lines { ticket.lines ≡ pass.old.lines }
         requires out { pass.old.out ≡ true }
         ensures ok { IfOk result (λ _. AgreesWithTicket self.old ticket
-            × (self.new ≡ record self.old { history = appended self.old.history (event.Leave ticket.task) })
+            × (self.new ≡ record self.old { history = with_event self.old.history (event.Leave ticket.task) })
             × (pass.new ≡ pass_left ticket.committed pass.old)) }
         ensures err { IfErr result (λ back. ¬ AgreesWithTicket self.old ticket × (back ≡ ticket) × (self.new ≡ self.old) × (pass.new ≡ pass.old)) }
     {
@@ -173,7 +173,7 @@ impl<'s, J: Job, B: Ledger> Desk<'s, J, B> {
         alloc: Global,
         pass: &mut Pass<J, B>,
         policies: &mut Policies<P>,
-    ) -> Result<Option<Outcome>, AllocError>
+    ) -> Result<Option<ChangeOutcome>, AllocError>
         requires out { pass.old.out ≡ false }
         requires turn { pass_turn J.script pass.old ≡ turn.Change }
         ensures some { IfOk result (λ found. IfSome found (λ outcome. AgreesWithPass self.old pass.old
@@ -200,12 +200,12 @@ impl<'s, J: Job, B: Ledger> Desk<'s, J, B> {
             .core
             .change(alloc, task, &mut policies.list, &mut policies.catalogue)
         {
-            Ok(Outcome::Done) => {
+            Ok(ChangeOutcome::Done) => {
                 self.done.add(&mut pass.done, 1);
                 pass.lines += 1;
-                Ok(Some(Outcome::Done))
+                Ok(Some(ChangeOutcome::Done))
             }
-            Ok(Outcome::Waits(open)) => Ok(Some(Outcome::Waits(open))),
+            Ok(ChangeOutcome::Waits(open)) => Ok(Some(ChangeOutcome::Waits(open))),
             Err(error) => {
                 pass.stopped = true;
                 Err(error)

@@ -6,14 +6,14 @@ ghost use Rattle.mf_calls.specs.WellFormed.{IsWellFormed};
 ghost use Rattle.mf_step.specs.Verdict as step;
 ghost use Rattle.mf_core.specs.declared.progress.Turn.TheVariants as turn;
 ghost use Rattle.mf_core.specs.Policies.{AreAllModules};
-ghost use Rattle.mf_core.specs.Run.{done_of, open_of};
+ghost use Rattle.mf_core.specs.CoreView.{done_of, open_of};
 ghost use Rattle.mf_share.specs.Passes.{AreBack, AreFirst, AreOneEach, lines_sum, pass_left, pass_turn, ticket_after, ticket_for};
 
 use crate::desk::Desk;
 use crate::pass::{Job, Pass, Ticket};
 use crate::policies::Policies;
 use mf_calls::Script;
-use mf_core::{Commit, Core, Outcome, Turn};
+use mf_core::{ChangeOutcome, Commit, Core, Turn};
 use mf_list::PolicyList;
 use mf_plan::Plan;
 use mf_policy::Policy;
@@ -240,7 +240,7 @@ impl<'s, P: Policy, J: Job, B: Ledger> Kernel<'s, P, J, B> {
             if desk.open_entries() == 0 {
                 let mut policies = self.policies.write(rt);
                 let found = desk.change(alloc, pass, &mut policies)?;
-                if let Some(Outcome::Done) = found {
+                if let Some(ChangeOutcome::Done) = found {
                     self.quiet.notify_all();
                     return Ok(());
                 }

@@ -1,8 +1,8 @@
 //! Zones of label values over slabs, whose keys are the handles that labels hold.
-ghost use Rattle.std.specs.Prelude.{◌≡◌, ◌≢◌, ◌<◌, ◌↔◌, [], ◌∷◌, Some, None, OnOk, OnErr, IfOk, IsOk, IsTrue, IsSome, replicate};
+ghost use Rattle.std.specs.Prelude.{◌≡◌, ◌≢◌, ◌<◌, ◌↔◌, [], ◌∷◌, Some, None, OnOk, OnErr, IfOk, IsOk, IsTrue, IsSome, replicate, ℕ};
 ghost use Rattle.mf_elem.specs.declared.label.TheConstants.{SLOTS};
 ghost use Rattle.slab.specs.Slab.{HasRoomFor};
-ghost use Rattle.mf_slots.specs.Zones.{IsHeld, IsIn, IsMadeAt, IsHeldAt, Makes, MakesLabel, SetsAt, Frees, GivesUp, handle, value_at, value_of, Adds, Updates, Relabels, Rewrites, AreMade, IsMadeFor, HasRoomToWrite};
+ghost use Rattle.mf_slots.specs.Zones.{IsHeld, IsIn, IsMadeAt, IsHeldAt, Makes, MakesLabel, SetsAt, Frees, GivesUp, handle, value_at, value_of, value_for, Adds, Updates, Relabels, Rewrites, AreMade, IsMadeFor, HasRoomToWrite};
 ghost use Rattle.mf_elem.specs.declared.label.LabelValue.TheVariants.{Unset};
 
 use mf_elem::{LabelValue, SLOTS};
@@ -148,6 +148,32 @@ impl Zones {
         match label.handles[slot as usize] {
             Some(key) => self.under(slot, key),
             None => LabelValue::Unset,
+        }
+    }
+
+    /// Whether these are the values of the label's slots, of which none is copied.
+    pub fn holds(&self, label: &Label, values: &[LabelValue; SLOTS]) -> bool
+        ensures { IsTrue result ↔ ((slot : ℕ) → slot < SLOTS → value_of self.now label.now slot ≡ value_for values.now slot) }
+    {
+        for slot in 0..SLOTS {
+            if !self.has_under(slot, label.handles[slot], &values[slot]) {
+                return false;
+            }
+        }
+        true
+    }
+
+    /// Whether the zone of a slot has this value under the key. Without a key the value is Unset.
+    fn has_under(&self, slot: usize, key: Option<usize>, value: &LabelValue) -> bool
+        requires { slot < SLOTS }
+        ensures { IsTrue result ↔ (value_at self.now slot key ≡ value.now) }
+    {
+        match key {
+            Some(key) => match self.zones[slot].get(key) {
+                Some(found) => found.same(value),
+                None => value.same(&LabelValue::Unset),
+            },
+            None => value.same(&LabelValue::Unset),
         }
     }
 

@@ -1,3 +1,11 @@
+pub mod StateChange
+pub mod EntityChange
+pub mod Relisting
+pub mod Replies
+mod Targets
+mod Effects
 mod Entries
 mod Keeping
+mod Denials
 mod LastName
+mod Loads

@@ -5,13 +5,12 @@ use Rattle.mf_errno.specs.declared.module.Module.{Module}
 use Rattle.mf_cred.specs.declared.cred.FileView.{FileView}
 use Rattle.mf_item.specs.declared.view.Kind.{Kind}
 use Rattle.mf_item.specs.declared.view.Kind.TheVariants as kinds
-use Rattle.mf_list.specs.Registration.{entries_without, given_after, registration_of, with_registered}
 use Rattle.mf_objects.specs.declared.id.Id.{Id}
-use Rattle.mf_objects.specs.declared.entity.What.{What}
-use Rattle.mf_objects.specs.declared.entity.What.TheVariants.{Process}
+use Rattle.mf_objects.specs.declared.entity.EntityData.{EntityData}
+use Rattle.mf_objects.specs.declared.entity.EntityData.TheVariants.{Process}
 use Rattle.mf_objects.specs.Live.{Entities, has_id, cred_at, file_at, label_at}
 use Rattle.mf_objects.specs.Changes.{with_entity, without, goes_with, with_change, with_what, appended, with_message, with_messages, cleared, with_mode, new_vnode, new_pipe, new_socket}
-use Rattle.mf_calls.specs.declared.limits.TheConstants.{FILE_MODE, DIRECTORY_MODE}
+use Rattle.mf_cred.specs.declared.cred.TheConstants.{FILE_MODE, DIRECTORY_MODE}
 use Rattle.mf_calls.specs.declared.script.Call.{Call}
 use Rattle.mf_calls.specs.declared.script.Call.TheVariants as call
 use Rattle.mf_plan.specs.declared.state.State.{State}
@@ -19,23 +18,23 @@ use Rattle.mf_plan.specs.declared.target.Target.{Target}
 use Rattle.mf_plan.specs.declared.target.Target.TheVariants.{Root, Name, Nowhere}
 use Rattle.mf_plan.specs.Loading.{loadable}
 use Rattle.mf_plan.specs.Names.{child_name}
-use Rattle.mf_plan.specs.Path.{last_name, walk_along}
+use Rattle.mf_plan.specs.Path.{file_at_path, last_name, lookup_along}
 use Rattle.mf_plan.specs.Views.{pipe_named, socket_named}
 use Rattle.mf_policy.specs.declared.labels.Origin.TheVariants.{Maker}
 use Rattle.mf_policy.specs.NewLabels.{new_label}
-use Rattle.mf_step.specs.Reply.{file_at_path}
+use Rattle.mf_policy.specs.Registration.{entries_without, given_after, registration_of, with_registered}
 
 -- the state with these live entities
 abbrev pub with_objects : State → Entities → State
 with_objects s objects = record s { objects = objects }
 
 -- one entity more, with the label that its maker's gives it
-abbrev pub with_created : State → Id → Kind → List ℕ → What → State
+abbrev pub with_created : State → Id → Kind → List ℕ → EntityData → State
 with_created s maker kind name what =
     with_objects s (with_entity s.objects name (new_label s.specs kind (Maker (label_at s.objects maker))) what)
 
 -- one live entity is changed, where it is found
-abbrev pub with_changed : State → (What → What) → Option Id → State
+abbrev pub with_changed : State → (EntityData → EntityData) → Option Id → State
 with_changed s change None = s
 with_changed s change (Some id) = with_objects s (with_change (with_what change) s.objects id)
 
@@ -88,14 +87,14 @@ effect_of s task caller (call.Signal name) = s
 effect_of s task caller (call.Debug name) = s
 effect_of s task caller (call.Sched name) = s
 effect_of s task caller (call.Exec path) = s
-effect_of s task caller (call.Create path) = with_file s caller FILE_MODE false (last_name path) (walk_along s.objects path).target
-effect_of s task caller (call.Mkdir path) = with_file s caller DIRECTORY_MODE true (last_name path) (walk_along s.objects path).target
+effect_of s task caller (call.Create path) = with_file s caller FILE_MODE false (last_name path) (lookup_along s.objects path).target
+effect_of s task caller (call.Mkdir path) = with_file s caller DIRECTORY_MODE true (last_name path) (lookup_along s.objects path).target
 effect_of s task caller (call.Read path) = s
 effect_of s task caller (call.Write path text) = with_changed s (appended text) (file_at_path s.objects path)
 effect_of s task caller (call.Stat path) = s
 effect_of s task caller (call.Readdir path) = s
 effect_of s task caller (call.Chmod path mode) = with_changed s (with_mode mode) (file_at_path s.objects path)
-effect_of s task caller (call.Unlink path) = without_entry s (walk_along s.objects path).target
+effect_of s task caller (call.Unlink path) = without_entry s (lookup_along s.objects path).target
 effect_of s task caller (call.Pipe name) = with_created s caller kinds.Pipe name (new_pipe caller)
 effect_of s task caller (call.Socket name) = with_created s caller kinds.Socket name (new_socket caller)
 effect_of s task caller (call.Pread name) = with_changed s cleared (pipe_named s.objects name)

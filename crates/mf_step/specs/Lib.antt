@@ -1,4 +1,5 @@
 pub mod Verdict
 pub mod Reply
 pub mod Effect
+pub mod Suits
 pub mod Step

@@ -1,20 +1,18 @@
 -- The reply to a call.
 use Rattle.std.specs.Prelude.{ℕ, ◌-◌, Bool, true, false, List, [], length, map, Option, Some, None, unwrap_or, option_map, slice_get, slice_index_or, if◌then◌else◌}
-use Rattle.std.specs.Result.{result_ok}
 use Rattle.mf_errno.specs.declared.module.Module.{Module}
 use Rattle.mf_item.specs.declared.operation.CheckOp.{CheckOp}
 use Rattle.mf_item.specs.declared.operation.CheckOp.TheVariants.{VnodeLookup}
-use Rattle.mf_item.specs.declared.item.Item.{Item}
+use Rattle.mf_item.specs.Item.{Item}
 use Rattle.mf_policy.specs.Modules.{wants_slot}
-use Rattle.mf_policy.specs.Registration.{Entry}
-use Rattle.mf_list.specs.Registration.{slot_for}
+use Rattle.mf_policy.specs.Registration.{Entry, slot_for}
 use Rattle.mf_objects.specs.declared.id.Id.{Id}
 use Rattle.mf_objects.specs.Head.{head_of}
 use Rattle.mf_objects.specs.Live.{Entities, file_at, content_at, count_at, messages_at}
 use Rattle.mf_objects.specs.Titles.{names_at}
 use Rattle.mf_calls.specs.declared.script.Call.{Call}
 use Rattle.mf_calls.specs.declared.script.Call.TheVariants as call
-use Rattle.mf_plan.specs.declared.plan.Plan.{Plan}
+use Rattle.mf_plan.specs.Planned.{Plan}
 use Rattle.mf_plan.specs.declared.plan.Tail.{Tail}
 use Rattle.mf_plan.specs.declared.plan.Tail.TheVariants.{Do, Refuse}
 use Rattle.mf_plan.specs.declared.reply.Loaded.{Loaded}
@@ -24,16 +22,12 @@ use Rattle.mf_plan.specs.declared.reply.Reply.{Reply}
 use Rattle.mf_plan.specs.declared.reply.Reply.TheVariants as reply
 use Rattle.mf_plan.specs.declared.state.State.{State}
 use Rattle.mf_plan.specs.Loading.{loadable}
-use Rattle.mf_plan.specs.Path.{found_at, walk_along}
+use Rattle.mf_plan.specs.Path.{file_at_path}
 use Rattle.mf_plan.specs.Views.{is_dir, pipe_named, socket_named}
 use Rattle.mf_step.specs.declared.verdict.Denial.{Denial}
 use Rattle.mf_step.specs.declared.verdict.Verdict.{Verdict}
 
 -- Payloads
-
--- the file or directory at a path
-abbrev pub file_at_path : Entities → List (List ℕ) → Option Id
-file_at_path objects path = result_ok (found_at (walk_along objects path).target)
 
 -- what is read of an entity, where it is found
 abbrev pub payload_of_found : (Id → Payload) → Option Id → Payload
@@ -116,3 +110,14 @@ denied_reply plan (Some d) p = reply.Denied d.errno (op_at plan.items d.item) d.
 -- a denial first, then the framework's refusal, then the payload
 abbrev pub reply_to : Plan → Verdict → Payload → Reply
 reply_to plan verdict p = denied_reply plan verdict.denied p
+
+-- the refusal or denial where there is one, or else the payload
+abbrev pub refused_or : Option Reply → Payload → Reply
+refused_or None p = reply.Ok p
+refused_or (Some refusal) p = refusal
+
+-- neither denied nor refused
+abbrev pub is_done : Reply → Bool
+is_done (reply.Ok payload) = true
+is_done (reply.Denied errno op item by) = false
+is_done (reply.Refused errno) = false

@@ -3,9 +3,9 @@ use Rattle.std.specs.Prelude.{ℕ, ◌+◌, List, [], ◌∷◌, Option, Some, N
 use Rattle.mf_errno.specs.declared.errno.Errno.{Errno}
 use Rattle.mf_errno.specs.declared.errno.Errno.TheVariants.{Success}
 use Rattle.mf_errno.specs.declared.module.Module.{Module}
-use Rattle.mf_item.specs.declared.item.Item.{Item}
+use Rattle.mf_item.specs.Item.{Item}
 use Rattle.mf_policy.specs.Registration.{Entry}
-use Rattle.mf_plan.specs.declared.plan.Plan.{Plan}
+use Rattle.mf_plan.specs.Planned.{Plan}
 use Rattle.mf_step.specs.declared.verdict.Denial.{Denial}
 use Rattle.mf_step.specs.declared.verdict.Verdict.{Verdict}
 use Rattle.mf_list.specs.Asked.{answer_to}

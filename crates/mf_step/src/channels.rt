@@ -1,12 +1,11 @@
-//! What the calls on pipes and sockets change.
-ghost use Rattle.std.specs.Prelude.{◌≡◌, ◌<◌, ◌≤◌, OnOk, OnErr, drop, length};
+//! What the calls on pipes and sockets change, and how bytes come to a file or a pipe.
+ghost use Rattle.std.specs.Prelude.{◌≡◌, ◌<◌, ◌≤◌, OnOk, OnErr, IfSome, drop, length};
 ghost use Rattle.mf_names.specs.declared.limits.TheConstants.{SCRIPT_LIMIT};
 ghost use Rattle.mf_objects.specs.declared.limits.TheConstants.{ID_LIMIT};
 ghost use Rattle.mf_item.specs.declared.view.Kind.TheVariants as kinds;
 ghost use Rattle.mf_objects.specs.Changes as change;
-ghost use Rattle.mf_objects.specs.Live.{IsLive, is_pipe, is_process, is_socket, live_named};
+ghost use Rattle.mf_objects.specs.Live.{IsLive, IsLiveWhere, is_pipe, is_process, is_socket, live_at, live_named};
 ghost use Rattle.mf_plan.specs.Doing as doing;
-ghost use Rattle.mf_plan.specs.Views as view;
 ghost use Rattle.mf_step.specs.Effect as spec;
 
 use crate::processes::label_from;
@@ -52,21 +51,22 @@ pub(crate) fn socket(
 }
 
 /// Takes all bytes out of the pipe.
-pub(crate) fn pread(state: &mut State, name: &str)
-    ensures { state.new ≡ spec.with_changed state.old change.cleared (view.pipe_named state.old.objects name.now) }
+pub(crate) fn pread(state: &mut State, pipe: Option<Id>)
+    requires { IfSome pipe (λ id. IsLive is_pipe state.old.objects id) }
+    ensures { state.new ≡ spec.with_changed state.old change.cleared pipe }
 {
-    if let Some(id) = state.objects.pipe(name) {
+    if let Some(id) = pipe {
         state.objects.clear(id);
     }
 }
 
-/// Puts the bytes into the pipe. If memory runs out, the state is unchanged.
-pub(crate) fn pwrite(state: &mut State, name: &str, text: &[u8]) -> Result<(), AllocError>
-    requires { doing.CanFill state.old.objects name.now text.now }
-    ensures ok { OnOk result (state.new ≡ spec.with_changed state.old (change.appended text.now) (view.pipe_named state.old.objects name.now)) }
+/// Puts the bytes at the end of what the file or pipe holds. If memory runs out, the state is unchanged.
+pub(crate) fn append(state: &mut State, target: Option<Id>, text: &[u8]) -> Result<(), AllocError>
+    requires { IfSome target (λ id. IsLiveWhere (change.FitsBytes (length text.now)) (live_at state.old.objects id)) }
+    ensures ok { OnOk result (state.new ≡ spec.with_changed state.old (change.appended text.now) target) }
     ensures err { OnErr result (state.new ≡ state.old) }
 {
-    match state.objects.pipe(name) {
+    match target {
         Some(id) => state.objects.append(id, text),
         None => Ok(()),
     }
@@ -76,27 +76,27 @@ pub(crate) fn pwrite(state: &mut State, name: &str, text: &[u8]) -> Result<(), A
 pub(crate) fn deliver(
     alloc: Global,
     state: &mut State,
-    to: &str,
+    socket: Option<Id>,
     text: &[u8],
 ) -> Result<(), AllocError>
     requires text { length text.now ≤ SCRIPT_LIMIT }
-    requires can { doing.CanDeliver state.old.objects to.now }
+    requires room { IfSome socket (λ id. IsLiveWhere change.FitsMessage (live_at state.old.objects id)) }
     ensures ok { OnOk result (state.new
-        ≡ spec.with_changed state.old (change.with_messages (change.with_message text.now)) (view.socket_named state.old.objects to.now)) }
+        ≡ spec.with_changed state.old (change.with_messages (change.with_message text.now)) socket) }
     ensures err { OnErr result (state.new ≡ state.old) }
 {
-    match state.objects.socket(to) {
+    match socket {
         Some(id) => state.objects.push_message(alloc, id, text),
         None => Ok(()),
     }
 }
 
 /// Takes the oldest message out of the socket.
-pub(crate) fn recv(state: &mut State, name: &str)
-    requires { doing.CanReceive state.old.objects name.now }
-    ensures { state.new ≡ spec.with_changed state.old (change.with_messages (drop 1)) (view.socket_named state.old.objects name.now) }
+pub(crate) fn recv(state: &mut State, socket: Option<Id>)
+    requires { IfSome socket (λ id. IsLiveWhere change.HasMessage (live_at state.old.objects id)) }
+    ensures { state.new ≡ spec.with_changed state.old (change.with_messages (drop 1)) socket }
 {
-    if let Some(id) = state.objects.socket(name) {
+    if let Some(id) = socket {
         state.objects.pop_message(id);
     }
 }

@@ -1,34 +1,40 @@
 //! What a call hands back.
 ghost use Rattle.std.specs.Prelude.{◌≡◌, ◌≤◌, IfOk, IsOk, IfSome, IsSome, false, length, map};
 ghost use Rattle.mf_objects.specs.Live.{live_at};
+ghost use Rattle.mf_plan.specs.Found.{target_of};
 ghost use Rattle.mf_plan.specs.Loading as loading;
 ghost use Rattle.mf_calls.specs.WellFormed.{IsFormedCall};
 ghost use Rattle.mf_step.specs.Reply as spec;
 
-use crate::found::file_at;
-use crate::modules::slot_for;
 use mf_calls::Call;
 use mf_cred::ArrayVec;
 use mf_objects::{Id, Objects};
 use mf_plan::{Loaded, Payload, State, loadable};
-use mf_policy::{MOST_LISTED, SpecList};
+use mf_policy::{MOST_LISTED, SpecList, registration_of};
 use std::alloc::{AllocError, Global};
 
-/// What the call hands back where it is done. Only the names of a directory take memory.
-pub fn payload_of(alloc: Global, state: &State, call: &Call) -> Result<Payload, AllocError>
+/// What the call, which is about the target, hands back where it is done. Only the names of a directory take memory.
+pub fn payload_of(
+    alloc: Global,
+    state: &State,
+    target: Option<Id>,
+    call: &Call,
+) -> Result<Payload, AllocError>
+    requires target { target ≡ target_of state.now.objects call.now }
     requires formed { IsFormedCall call.now }
     requires few { length state.now.specs ≤ MOST_LISTED }
     ensures value { IfOk result (λ payload. payload ≡ spec.payload_of state.now call.now) }
     ensures memory { spec.payload_takes_memory call.now ≡ false → IsOk result }
 {
     let objects = &state.objects;
+    // Counting the entities shows the proof that the target lives.
+    let _live = objects.live();
     match call {
-        Call::Read(path) => Ok(head(objects, file_at(objects, path))),
-        Call::Stat(path) => Ok(stat(objects, file_at(objects, path))),
-        Call::Readdir(path) => names(alloc, objects, file_at(objects, path)),
-        Call::Pread(name) => Ok(head(objects, objects.pipe(name.as_str()))),
-        Call::Pstat(name) => Ok(size(objects, objects.pipe(name.as_str()))),
-        Call::Recv(name) => Ok(message(objects, objects.socket(name.as_str()))),
+        Call::Read(_) | Call::Pread(_) => Ok(head(objects, target)),
+        Call::Stat(_) => Ok(stat(objects, target)),
+        Call::Readdir(_) => names(alloc, objects, target),
+        Call::Pstat(_) => Ok(size(objects, target)),
+        Call::Recv(_) => Ok(message(objects, target)),
         Call::Kldstat => Ok(Payload::Modules(loaded(&state.specs))),
         Call::Kldload(name) => Ok(slot(state, name.as_str())),
         Call::Fork(_)
@@ -131,6 +137,9 @@ fn slot(state: &State, name: &str) -> Payload
 {
     match loadable(name) {
         None => Payload::None,
-        Some(module) => Payload::Slot(slot_for(module, &state.numbers)),
+        Some(module) => {
+            let registration = registration_of(module, state.booted, state.numbers.given());
+            Payload::Slot(registration.slot)
+        }
     }
 }

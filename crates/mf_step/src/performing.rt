@@ -1,47 +1,50 @@
 //! What a call changes.
-ghost use Rattle.std.specs.Prelude.{◌≡◌, ◌+◌, ◌<◌, ◌≤◌, IsOk, OnOk, OnErr, false};
+ghost use Rattle.std.specs.Prelude.{◌≡◌, ◌+◌, ◌<◌, ◌≤◌, IfSome, IsOk, OnOk, OnErr, false};
 ghost use Rattle.mf_objects.specs.declared.limits.TheConstants.{ID_LIMIT};
-ghost use Rattle.std.specs.Option.{option_copied};
 ghost use Rattle.mf_objects.specs.Live.{IsLive, is_process};
 ghost use Rattle.mf_plan.specs.Doing.{CanDo};
+ghost use Rattle.mf_plan.specs.Found.{found_of, target_of};
 ghost use Rattle.mf_plan.specs.Plan.{plan_of};
 ghost use Rattle.mf_plan.specs.declared.plan.Tail.TheVariants.{Do};
-ghost use Rattle.mf_calls.specs.WellFormed.{IsFormedCall, IsFormedChild, IsName};
+ghost use Rattle.mf_calls.specs.WellFormed.{IsFormedCall, IsFormedLine, IsName};
 ghost use Rattle.mf_step.specs.Effect.{change_takes_memory, effect_of};
 ghost use Rattle.mf_step.specs.Step.{performed};
+ghost use Rattle.mf_step.specs.Suits.{Suits};
 
-use crate::channels::{deliver, pipe, pread, pwrite, recv, socket};
-use crate::files::{chmod, create, mkdir, unlink, write};
+use crate::channels::{append, deliver, pipe, pread, recv, socket};
+use crate::files::{chmod, make_file, unlink};
 use crate::modules::{kldload, kldunload};
 use crate::processes::{exit, fork};
-use mf_calls::Call;
+use mf_calls::{Call, DIRECTORY_MODE, FILE_MODE, Line};
 use mf_objects::Id;
-use mf_plan::{State, caller_of};
+use mf_plan::{Found, State};
 use std::alloc::{AllocError, Global};
 
-/// Does the call of the task's own process, or of its child of that name. Its plan must end without a refusal, and no
-/// check of it be denied. If memory runs out, the state is unchanged.
+/// Does the call of a line of the task, which is about what was found. Its plan must end without a refusal, and no check of it
+/// be denied. If memory runs out, the state is unchanged.
 pub fn perform(
     alloc: Global,
     state: &mut State,
     task: &str,
-    child: Option<&str>,
-    call: &Call,
+    line: &Line,
+    found: Found,
 ) -> Result<(), AllocError>
     requires task { IsName task.now }
-    requires child { IsFormedChild (option_copied child) }
-    requires formed { IsFormedCall call.now }
-    requires proceeds { (plan_of state.old task.now (option_copied child) call.now).tail ≡ Do }
+    requires line { IsFormedLine line.now }
+    requires proceeds { (plan_of state.old task.now line.now.child line.now.call).tail ≡ Do }
+    requires found { found ≡ found_of state.old task.now line.now.child line.now.call }
     requires next { state.old.objects.next < ID_LIMIT }
-    ensures ok { OnOk result (state.new ≡ performed state.old task.now (option_copied child.entry) call.now) }
+    ensures ok { OnOk result (state.new ≡ performed state.old task.now line.now.child line.now.call) }
     ensures err { OnErr result (state.new ≡ state.old) }
     ensures next { state.new.objects.next ≤ state.old.objects.next + 1 }
     ensures rises { state.old.objects.next ≤ state.new.objects.next }
     ensures kept { state.new.booted ≡ state.old.booted }
-    ensures memory { change_takes_memory call.now ≡ false → IsOk result }
+    ensures memory { change_takes_memory line.now.call ≡ false → IsOk result }
 {
-    match caller_of(&state.objects, task, child) {
-        Some(caller) => perform_by(alloc, state, task, caller, call),
+    // Counting the entities shows the proof that what was found among them lives.
+    let _live = state.objects.live();
+    match found.caller {
+        Some(caller) => perform_by(alloc, state, task, caller, found.target, &line.call),
         None => Ok(()),
     }
 }
@@ -52,12 +55,15 @@ fn perform_by(
     state: &mut State,
     task: &str,
     caller: Id,
+    target: Option<Id>,
     call: &Call,
 ) -> Result<(), AllocError>
     requires task { IsName task.now }
     requires formed { IsFormedCall call.now }
     requires caller { IsLive is_process state.old.objects caller }
     requires can { CanDo state.old task.now call.now }
+    requires target { target ≡ target_of state.old.objects call.now }
+    requires suits { IfSome target (λ id. Suits state.old.objects call.now id) }
     requires next { state.old.objects.next < ID_LIMIT }
     ensures ok { OnOk result (state.new ≡ effect_of state.old task.now caller call.now) }
     ensures err { OnErr result (state.new ≡ state.old) }
@@ -66,17 +72,17 @@ fn perform_by(
     match call {
         Call::Fork(child) => fork(alloc, state, task, caller, child.as_str())?,
         Call::Exit => exit(state, caller),
-        Call::Create(path) => create(alloc, state, caller, path)?,
-        Call::Mkdir(path) => mkdir(alloc, state, caller, path)?,
-        Call::Write(path, text) => write(state, path, text.as_slice())?,
-        Call::Chmod(path, mode) => chmod(state, path, *mode),
-        Call::Unlink(path) => unlink(state, path),
+        Call::Create(path) => make_file(alloc, state, caller, target, path, FILE_MODE, false)?,
+        Call::Mkdir(path) => make_file(alloc, state, caller, target, path, DIRECTORY_MODE, true)?,
+        Call::Write(_, text) => append(state, target, text.as_slice())?,
+        Call::Chmod(_, mode) => chmod(state, target, *mode),
+        Call::Unlink(_) => unlink(state, target),
         Call::Pipe(name) => pipe(alloc, state, caller, name.as_str())?,
         Call::Socket(name) => socket(alloc, state, caller, name.as_str())?,
-        Call::Pread(name) => pread(state, name.as_str()),
-        Call::Pwrite(name, text) => pwrite(state, name.as_str(), text.as_slice())?,
-        Call::Send(_, to, text) => deliver(alloc, state, to.as_str(), text.as_slice())?,
-        Call::Recv(name) => recv(state, name.as_str()),
+        Call::Pread(_) => pread(state, target),
+        Call::Pwrite(_, text) => append(state, target, text.as_slice())?,
+        Call::Send(_, _, text) => deliver(alloc, state, target, text.as_slice())?,
+        Call::Recv(_) => recv(state, target),
         Call::Kldload(name) => kldload(alloc, state, name.as_str())?,
         Call::Kldunload(name) => kldunload(state, name.as_str()),
         Call::See(_)

@@ -4,7 +4,7 @@ ghost use Rattle.mf_objects.specs.declared.limits.TheConstants.{ID_LIMIT};
 ghost use Rattle.mf_item.specs.declared.view.Kind.TheVariants as kinds;
 ghost use Rattle.mf_objects.specs.Changes as change;
 ghost use Rattle.mf_objects.specs.Live.{IsLive, cred_at, is_process, label_at, live_at, live_named};
-ghost use Rattle.mf_objects.specs.declared.entity.What.TheVariants as what;
+ghost use Rattle.mf_objects.specs.declared.entity.EntityData.TheVariants as what;
 ghost use Rattle.mf_plan.specs.Doing.{CanMake};
 ghost use Rattle.mf_plan.specs.Names as names;
 ghost use Rattle.mf_calls.specs.WellFormed.{IsName};

@@ -1,35 +1,47 @@
-//! The reply to a call.
-ghost use Rattle.std.specs.Prelude.{◌≡◌};
+//! The replies to calls that aren't done.
+ghost use Rattle.std.specs.Prelude.{◌≡◌, IfSome, false};
+ghost use Rattle.mf_plan.specs.declared.reply.Payload.{Payload};
 ghost use Rattle.mf_step.specs.Reply as spec;
 
-use crate::verdict::Verdict;
-use mf_item::{CheckOp, Item};
-use mf_plan::{Payload, Plan, Reply, Tail};
+use crate::verdict::{Denial, Verdict};
+use mf_item::CheckOp;
+use mf_plan::{Plan, Reply, Tail};
 
-/// The reply to a call, by its plan and the policies' verdict; `payload` is what it hands back where it is done.
-pub fn reply_to(plan: &Plan, verdict: &Verdict, payload: Payload) -> Reply
-    ensures { result ≡ spec.reply_to plan.now verdict.now payload }
+/// The reply to a call that isn't done, by its plan and the policies' verdict: the denial, or else the framework's own
+/// refusal. None where the call is to be done.
+pub fn refusal_of(plan: &Plan, verdict: &Verdict) -> Option<Reply>
+    ensures reply { (payload : Payload) → spec.reply_to plan.now verdict.now payload ≡ spec.refused_or result payload }
+    ensures refused { IfSome result (λ reply. spec.is_done reply ≡ false) }
 {
     match verdict.denied {
-        Some(denial) => Reply::Denied {
-            errno: denial.errno,
-            op: op_at(plan.items.as_slice(), denial.item),
-            item: denial.item,
-            by: denial.by,
-        },
-        None => match plan.tail {
-            Tail::Do => Reply::Ok(payload),
-            Tail::Refuse(errno) => Reply::Refused(errno),
+        Some(denial) => Some(denied(plan, denial)),
+        None => match plan.tail() {
+            Tail::Do => None,
+            Tail::Refuse(errno) => Some(Reply::Refused(errno)),
         },
     }
 }
 
-/// The operation of the check of that number, from 1.
-fn op_at(items: &[Item], number: u8) -> CheckOp
-    ensures { result ≡ spec.op_at items.now number }
+fn denied(plan: &Plan, denial: Denial) -> Reply
+    ensures reply { (payload : Payload) → result ≡ spec.denied_reply plan.now (Some denial) payload }
+    ensures refused { spec.is_done result ≡ false }
 {
-    match items.get(usize::from(number).saturating_sub(1)) {
-        None => CheckOp::VnodeLookup,
-        Some(item) => item.op,
+    Reply::Denied {
+        errno: denial.errno,
+        op: op_at(plan, denial.item),
+        item: denial.item,
+        by: denial.by,
+    }
+}
+
+/// The operation of the check of that number, from 1.
+fn op_at(plan: &Plan, number: u8) -> CheckOp
+    ensures { result ≡ spec.op_at plan.now.items number }
+{
+    let place = usize::from(number).saturating_sub(1);
+    if place < plan.len() {
+        plan.item(place).op()
+    } else {
+        CheckOp::VnodeLookup
     }
 }

@@ -27,8 +27,8 @@ pub fn verdict_of<P: Policy>(list: &PolicyList<P>, plan: &Plan) -> Verdict
     ensures { result ≡ spec.verdict_of list.now.entries plan.now }
 {
     let mut number = 1;
-    for item in plan.items.as_slice() {
-        let answer = list.ask(item);
+    for place in 0..plan.len() {
+        let answer = list.ask(&plan.item(place));
         match answer.errno {
             Errno::Success => {}
             errno => {

@@ -11,7 +11,7 @@ use mf_errno::Module;
 use mf_item::Kind;
 use mf_list::{Catalogue, PolicyList};
 use mf_objects::Objects;
-use mf_plan::{Reply, State, plan_of};
+use mf_plan::{Plan, Reply, State};
 use mf_policy::{Origin, Registration, Spec, SpecList, new_label};
 use mf_slots::SlotNumbers;
 use mf_step::{step, verdict_of};
@@ -71,7 +71,7 @@ fn booted(rt: &impl Abort, alloc: Global, t: Elem, u: Elem) -> Result<Machine, A
         slot: Some(0),
         fixed: true,
     };
-    specs.insert(0, registration, Spec::Biba)?;
+    specs.list(registration, Spec::Biba)?;
     let mut numbers = SlotNumbers::new();
     let _number = numbers.take();
     Ok(Machine {
@@ -99,9 +99,18 @@ fn reply_of(
     let list = &machine.list;
     assert!(rt; list.same_specs(&machine.state.specs));
     assert!(rt; machine.state.specs.len() <= 8 && machine.state.objects.next_id() < u32::MAX);
-    let plan = plan_of(&machine.state, task, line.child_name(), &line.call);
+    let mut plan = Plan::new();
+    let found = plan.make(&machine.state, task, line.child_name(), &line.call);
     let verdict = verdict_of(list, &plan);
-    step(alloc, &mut machine.state, task, line, &plan, &verdict)
+    step(
+        alloc,
+        &mut machine.state,
+        task,
+        line,
+        found,
+        &plan,
+        &verdict,
+    )
 }
 
 fn reply_text(alloc: Global, reply: &Reply) -> Result<String, AllocError> {

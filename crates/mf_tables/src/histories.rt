@@ -2,7 +2,7 @@
 
 use crate::scripts::script_of;
 use mf_calls::Script;
-use mf_core::{Event, EventList, History};
+use mf_core::{Event, EventList, History, KeptReply};
 use mf_cred::{ArrayVec, FileView};
 use mf_errno::{Errno, Module};
 use mf_hist::{
@@ -114,9 +114,11 @@ fn lines_of_a_history(rt: HostRuntime) -> Result<(), Fail> {
     })?;
     let mut events = EventList::with_room(rt.alloc(), 4)?;
     events.push(Event::Enter(0));
-    events.push(Event::Done(0, 1, Reply::Ok(Payload::None)));
+    let done = KeptReply::new(rt.alloc(), Reply::Ok(Payload::None))?;
+    events.push(Event::Done(0, 1, done));
     events.push(Event::Leave(0));
-    events.push(Event::Changed(0, 2, Reply::Refused(Errno::Eexist)));
+    let refused = KeptReply::new(rt.alloc(), Reply::Refused(Errno::Eexist))?;
+    events.push(Event::Changed(0, 2, refused));
     let history = History { boots, events };
     let mut out = String::new(rt.alloc());
     print_history(&script, &history, &mut out)?;

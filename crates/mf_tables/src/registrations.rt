@@ -4,7 +4,7 @@ use mf_biba::Biba;
 use mf_cred::Cred;
 use mf_elem::{Elem, LabelValue, RangeLabel};
 use mf_errno::{Errno, Module, Priv};
-use mf_item::{CheckOp, Item, Kind, ObjectView};
+use mf_item::{CheckOp, Item, Kind, ObjectView, SubjectView};
 use mf_list::{Answer, Catalogue, PolicyList, RegisterFault, UnregisterFault};
 use mf_mls::Mls;
 use mf_partition::Partition;
@@ -189,6 +189,23 @@ fn labelled(element: Elem) -> [LabelValue; 4] {
     [value, value, LabelValue::Unset, LabelValue::Unset]
 }
 
+fn subject(label: [LabelValue; 4]) -> SubjectView {
+    SubjectView {
+        id: 1,
+        cred: Cred::default(),
+        label,
+    }
+}
+
+fn process(label: [LabelValue; 4]) -> ObjectView {
+    ObjectView {
+        id: 2,
+        kind: Kind::Process,
+        file: Default::default(),
+        label,
+    }
+}
+
 #[test]
 fn precedence_against_walk_order(rt: HostRuntime) -> Result<(), AllocError> {
     let (mut list, mut catalogue) = all_three(rt.alloc())?;
@@ -197,16 +214,10 @@ fn precedence_against_walk_order(rt: HostRuntime) -> Result<(), AllocError> {
     let biba = list.register(&mut catalogue, &mut numbers, "mac_biba", false);
     let mls = list.register(&mut catalogue, &mut numbers, "mac_mls", false);
     assert!(rt; biba.is_ok() && mls.is_ok());
-    let mut item = Item::default();
-    item.op = CheckOp::ProcSignal;
-    item.subject.label = labelled(Elem::High);
-    item.object = Some(ObjectView {
-        id: 2,
-        kind: Kind::Process,
-        file: Default::default(),
-        label: labelled(Elem::Low),
-    });
-    let answer = list.ask(&item);
+    let object = process(labelled(Elem::Low));
+    let high = subject(labelled(Elem::High));
+    let signal = Item::new(CheckOp::ProcSignal, &high, Some(&object), None, None);
+    let answer = list.ask(&signal);
     assert_eq!(rt;
         answer,
         Answer {
@@ -214,9 +225,9 @@ fn precedence_against_walk_order(rt: HostRuntime) -> Result<(), AllocError> {
             by: Some(Module::Biba)
         }
     );
-    item.op = CheckOp::ProcVisible;
-    item.subject.label = labelled(Elem::Low);
-    let answer = list.ask(&item);
+    let low = subject(labelled(Elem::Low));
+    let visible = Item::new(CheckOp::ProcVisible, &low, Some(&object), None, None);
+    let answer = list.ask(&visible);
     assert_eq!(rt;
         answer,
         Answer {
@@ -235,19 +246,13 @@ fn partition_against_biba(rt: HostRuntime) -> Result<(), AllocError> {
     let biba = list.register(&mut catalogue, &mut numbers, "mac_biba", false);
     let partition = list.register(&mut catalogue, &mut numbers, "mac_partition", false);
     assert!(rt; biba.is_ok() && partition.is_ok());
-    let mut item = Item::default();
-    item.op = CheckOp::ProcSignal;
-    item.subject.label = labelled(Elem::Low);
-    item.subject.label[1] = LabelValue::Number(1);
-    let mut label = labelled(Elem::High);
-    label[1] = LabelValue::Number(2);
-    item.object = Some(ObjectView {
-        id: 2,
-        kind: Kind::Process,
-        file: Default::default(),
-        label,
-    });
-    let answer = list.ask(&item);
+    let mut low = labelled(Elem::Low);
+    low[1] = LabelValue::Number(1);
+    let mut high = labelled(Elem::High);
+    high[1] = LabelValue::Number(2);
+    let (subject, object) = (subject(low), process(high));
+    let signal = Item::new(CheckOp::ProcSignal, &subject, Some(&object), None, None);
+    let answer = list.ask(&signal);
     assert_eq!(rt;
         answer,
         Answer {
@@ -265,11 +270,10 @@ fn root_has_every_privilege(rt: HostRuntime) -> Result<(), AllocError> {
     let mut numbers = SlotNumbers::new();
     let biba = list.register(&mut catalogue, &mut numbers, "mac_biba", false);
     assert!(rt; biba.is_ok());
-    let mut item = Item::default();
-    item.op = CheckOp::Priv;
-    item.privilege = Some(Priv::SchedRtprio);
     for (uid, errno) in [(0, Errno::Success), (1001, Errno::Eperm)] {
-        item.subject.cred.uid = uid;
+        let mut subject = SubjectView::default();
+        subject.cred.uid = uid;
+        let item = Item::new(CheckOp::Priv, &subject, None, None, Some(Priv::SchedRtprio));
         let answer = list.ask(&item);
         assert_eq!(rt; answer, Answer { errno, by: None });
     }

@@ -4,3 +4,4 @@ pub mod Modules
 pub mod Whole
 pub mod Passes
 pub mod Summed
+mod Told

@@ -1,5 +1,5 @@
 -- What the program may return and write, and why.
-use Rattle.std.specs.Prelude.{◌≡◌, ◌⊎◌, ℕ, ◌≤◌, List, [], ◌∷◌, ◌++◌, length, Some, Option, None, IfSome, IsSomeAnd, Result, Ok, Err, codes}
+use Rattle.std.specs.Prelude.{◌≡◌, ◌⊎◌, ℕ, ◌≤◌, List, [], ◌++◌, length, Some, Option, None, IfSome, IsSomeAnd, Result, Ok, Err, codes}
 use Rattle.mf_calls.specs.declared.script.Script.{Script}
 use Rattle.mf_script.specs.declared.error.ScriptError.TheVariants as script_error
 use Rattle.mf_script.specs.Grammar.{script_of}
@@ -7,7 +7,7 @@ use Rattle.mf_core.specs.declared.history.History.{History}
 use Rattle.mf_core.specs.LegalHistory.{IsLegal, IsComplete}
 use Rattle.mf_flow.specs.Laws.{AreInOrder}
 use Rattle.mf_flow.specs.SourcesText.{sources_text}
-use Rattle.mf_marks.specs.Laws.{AreMadeOnce}
+use Rattle.mf_lifetimes.specs.Laws.{AreMadeOnce}
 use Rattle.mf_top.specs.declared.refusal.Refusal.{Refusal}
 use Rattle.mf_top.specs.declared.refusal.Refusal.TheVariants as refusal
 use Rattle.mf_top.specs.declared.command.Command.{Command}
@@ -98,15 +98,15 @@ abbrev pub status_of : Result (List ℕ) Refusal → ℕ
 status_of (Ok text) = 0
 status_of (Err r) = refusal_status r
 
-abbrev pub text_of : Result (List ℕ) Refusal → List ℕ
-text_of (Ok text) = text
-text_of (Err r) = refusal_text r
+abbrev pub output_of : Result (List ℕ) Refusal → List ℕ
+output_of (Ok text) = text
+output_of (Err r) = refusal_text r
 
 -- The sink's faults stand where they stood, and it took the outcome's whole text; or they rose, and it took a beginning of that text.
 abbrev pub IsWritten : Seen → Result (List ℕ) Refusal → ℕ → Type 0
 IsWritten sink outcome status =
-    ((status ≡ status_of outcome) × HadNoFault sink × Took sink.before sink.after (text_of outcome))
-    ⊎ ((status ≡ 5) × FaultsRose sink × TookPart sink.before sink.after (text_of outcome))
+    ((status ≡ status_of outcome) × HadNoFault sink × Took sink.before sink.after (output_of outcome))
+    ⊎ ((status ≡ 5) × FaultsRose sink × TookPart sink.before sink.after (output_of outcome))
 
 -- what the words ask for can be done: the source holds a script, where one is read
 abbrev pub CanBeDone : Option Command → Seen → Type 0

@@ -1,4 +1,5 @@
--- Which refusal an error becomes.
+-- Which refusal an error becomes, and which is told.
+use Rattle.std.specs.Prelude.{◌≡◌, ◌⊎◌}
 use Rattle.mf_script.specs.declared.error.ScriptError.{ScriptError}
 use Rattle.mf_script.specs.declared.error.ScriptError.TheVariants as script_error
 use Rattle.mf_top.specs.declared.read.ReadError.{ReadError}
@@ -14,3 +15,7 @@ read_refusal read_error.Memory = refusal.Memory
 abbrev pub script_refusal : ScriptError → Refusal
 script_refusal script_error.NotYet = refusal.NotYet
 script_refusal script_error.Memory = refusal.Memory
+
+-- the refusal itself is told; or memory ran out as the line was built that tells of the script
+abbrev pub IsTold : Refusal → Refusal → Type 0
+IsTold r told = (told ≡ r) ⊎ ((r ≡ refusal.NotYet) × (told ≡ refusal.Memory))

@@ -15,7 +15,7 @@ use std::sync::Wait;
 use std::thread::Threads;
 
 /// The program over a source and a sink that never fail: it returns neither 4 nor 5.
-pub fn run_surely<G: Gate, P: Policy, R: Threads + Wait + Sync>(
+pub fn macsim_over_sure<G: Gate, P: Policy, R: Threads + Wait + Sync>(
     rt: &R,
     alloc: Global,
     words: &[String],

@@ -9,6 +9,9 @@ use mf_io::{Failed, Source};
 use mf_names::SCRIPT_LIMIT;
 use std::alloc::{AllocError, Global};
 
+/// The most bytes that are asked for at once.
+const PIECE_BYTES: usize = 4096;
+
 /// Why a source was not read to its end.
 #[derive(Clone, Copy, Debug, PartialEq, Eq)]
 pub enum ReadError {
@@ -68,8 +71,8 @@ fn read_some<S: Source>(
     ensures failed { IsErrOf result ReadError.Failed → HasRisen (S.faults source.old) (S.faults source.new) }
     ensures long { IsErrOf result ReadError.TooLong → ⊥ }
 {
-    let mut buffer = [0u8; 4096];
-    let end = room.min(4096);
+    let mut buffer = [0u8; PIECE_BYTES];
+    let end = room.min(PIECE_BYTES);
     let piece = &mut buffer[..end];
     let n = source.read(piece)?;
     bytes.extend_from_slice(&piece[..n])?;

@@ -1,11 +1,18 @@
 //! Why there is no history, and no summary of a load.
-ghost use Rattle.std.specs.Prelude.{◌≡◌};
+ghost use Rattle.std.specs.Prelude.{◌≡◌, IfOk, OnErr};
+ghost use Rattle.std.specs.Cow.{cow_str_bytes};
 ghost use Rattle.mf_top.specs.Answers.{refusal_status, refusal_text};
+ghost use Rattle.mf_top.specs.Refusals.{IsTold};
 ghost use Rattle.mf_top.specs.declared.refusal.Refusal.TheVariants as refusal;
 
 use crate::read::ReadError;
 use mf_script::ScriptError;
-use std::alloc::AllocError;
+use std::alloc::{AllocError, Global};
+use std::borrow::CowStr;
+use std::marker::Model;
+
+/// The line where memory ran out.
+const NO_MEMORY: &str = "macsim: no memory\n";
 
 /// Why no history and no summary is written.
 #[derive(Clone, Copy, Debug, PartialEq, Eq)]
@@ -36,17 +43,68 @@ impl Refusal {
         }
     }
 
-    /// The line that is written in their place.
-    pub fn text(self) -> &'static str
-        ensures { result.now ≡ refusal_text self }
+    /// The line that is written in their place. Only one that tells of the script takes memory.
+    pub fn text(self, alloc: Global) -> Result<CowStr<'static>, AllocError>
+        ensures text { IfOk result (λ text. cow_str_bytes text ≡ refusal_text self) }
+        ensures memory { OnErr result (self ≡ refusal.NotYet) }
     {
-        match self {
-            Refusal::Usage => "macsim: usage: run | gen N T\n",
-            Refusal::NotYet => "macsim: script not yet\n",
-            Refusal::ReadFault => "macsim: read fault\n",
-            Refusal::TooLong => "macsim: too long\n",
-            Refusal::Memory => "macsim: no memory\n",
+        let text = match self {
+            Refusal::Usage => CowStr::Borrowed("macsim: usage: run | gen N T\n"),
+            Refusal::NotYet => CowStr::Owned(format!(in alloc; "macsim: script not yet\n")?),
+            Refusal::ReadFault => CowStr::Borrowed("macsim: read fault\n"),
+            Refusal::TooLong => CowStr::Borrowed("macsim: too long\n"),
+            Refusal::Memory => CowStr::Borrowed(NO_MEMORY),
+        };
+        Ok(text)
+    }
+}
+
+/// A refusal with its line. Contracts see the refusal.
+#[derive(Drop)]
+pub struct ToldRefusal {
+    refusal: Refusal,
+    text: CowStr<'static>,
+}
+
+impl Model for ToldRefusal {
+    ghost use Rattle.std.specs.Prelude.{◌≡◌};
+    ghost use Rattle.std.specs.Cow.{cow_str_bytes};
+    ghost use Rattle.mf_top.specs.declared.refusal.Refusal.{Refusal};
+    ghost use Rattle.mf_top.specs.Answers.{refusal_text};
+
+    ghost Value = { Refusal };
+
+    ghost view = { λ r. r.refusal };
+
+    ghost invariant = { λ r. cow_str_bytes r.text ≡ refusal_text r.refusal };
+}
+
+impl ToldRefusal {
+    /// The refusal with its line. Where memory runs out as that is built, it is want of memory that is told.
+    pub fn new(alloc: Global, refusal: Refusal) -> ToldRefusal
+        ensures { IsTold refusal result }
+    {
+        match refusal.text(alloc) {
+            Ok(text) => ToldRefusal { refusal, text },
+            Err(AllocError) => ToldRefusal {
+                refusal: Refusal::Memory,
+                text: CowStr::Borrowed(NO_MEMORY),
+            },
         }
+    }
+
+    /// The program's exit status.
+    pub fn status(&self) -> u8
+        ensures { result ≡ refusal_status self.now }
+    {
+        self.refusal.status()
+    }
+
+    /// The line.
+    pub fn text(&self) -> &str
+        ensures { result.now ≡ refusal_text self.now }
+    {
+        self.text.as_str()
     }
 }
 

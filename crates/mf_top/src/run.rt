@@ -6,7 +6,7 @@ ghost use Rattle.mf_calls.specs.declared.limits.TheConstants.{LINE_LIMIT, TASK_L
 ghost use Rattle.mf_calls.specs.WellFormed.{IsWellFormed};
 ghost use Rattle.mf_core.specs.declared.progress.Turn.TheVariants as turn;
 ghost use Rattle.mf_core.specs.Policies.{AreAllModules};
-ghost use Rattle.mf_core.specs.Run.{all_lines, done_of, open_of};
+ghost use Rattle.mf_core.specs.CoreView.{all_lines, done_of, open_of};
 ghost use Rattle.mf_share.specs.Passes.{AreOneEach, pass_turn};
 ghost use Rattle.mf_load.specs.Summary.{load_summary};
 ghost use Rattle.mf_top.specs.Answers.{IsRunOf};

@@ -8,11 +8,11 @@ ghost use Rattle.mf_top.specs.declared.refusal.Refusal.{Refusal};
 ghost use Rattle.mf_io.specs.Outside.{seen};
 ghost use Rattle.mf_top.specs.declared.command.Command.TheVariants as command;
 ghost use Rattle.mf_top.specs.Commands.{command_of};
-ghost use Rattle.mf_top.specs.Answers.{WroteHistory, WroteSummary, IsRunOutcome, IsLoaded, IsOutcome, IsWritten, IsFaultless, status_of, text_of};
+ghost use Rattle.mf_top.specs.Answers.{WroteHistory, WroteSummary, IsRunOutcome, IsLoaded, IsOutcome, IsWritten, IsFaultless, status_of, output_of};
 ghost use Rattle.mf_top.specs.Outcomes.{bytes_of_outcome};
 
 use crate::command::Command;
-use crate::refusal::Refusal;
+use crate::refusal::{Refusal, ToldRefusal};
 use crate::{read, run, write};
 use mf_io::{Failed, Gate, Sink, Source};
 use mf_policy::Policy;
@@ -57,14 +57,34 @@ pub fn macsim<S: Source, K: Sink, G: Gate, P: Policy, R: Threads + Wait + Sync>(
     ensures complete { IsFaultless (map string_bytes words.now) (seen S.left S.faults source.old source.new) (seen K.taken K.faults sink.old sink.new)
         → (result ≡ 0) ⊎ (result ≡ 9) }
 {
-    let outcome = outcome_of(rt, alloc, words, source, gate, modules);
-    match write::write_all(sink, text_of(&outcome).as_bytes()) {
+    let outcome = told(rt, alloc, words, source, gate, modules);
+    match write::write_all(sink, output_of(&outcome).as_bytes()) {
         Ok(()) => status_of(&outcome),
         Err(Failed) => 5,
     }
 }
 
-/// What is to be written: the text of the run's history or of the load's summary, or why there is none.
+/// What is to be written: the text of the run's history or of the load's summary, or why there is none, with its line.
+#[tactic(auto, using(crate::proofs::Told::told_cause))]
+fn told<S: Source, G: Gate, P: Policy, R: Threads + Wait + Sync>(
+    rt: &R,
+    alloc: Global,
+    words: &[String],
+    source: &mut S,
+    gate: &G,
+    modules: Vec<P>,
+) -> Result<String, ToldRefusal>
+    requires modules { AreAllModules (map (λ p. module_of (P.spec p)) modules.items) }
+    requires fresh { All (λ p. IsFresh (P.spec p)) modules.items }
+    ensures { IsOutcome (map string_bytes words.now) (seen S.left S.faults source.old source.new) (bytes_of_outcome result) }
+{
+    match outcome_of(rt, alloc, words, source, gate, modules) {
+        Ok(text) => Ok(text),
+        Err(refusal) => Err(ToldRefusal::new(alloc, refusal)),
+    }
+}
+
+/// The text of the run's history or of the load's summary, or why there is none.
 fn outcome_of<S: Source, G: Gate, P: Policy, R: Threads + Wait + Sync>(
     rt: &R,
     alloc: Global,
@@ -117,24 +137,26 @@ fn run_source<S: Source, G: Gate, P: Policy, R: Threads + Wait + Sync>(
 {
     let bytes = read::read_all(alloc, source)?;
     let script = read_script(alloc, &bytes)?;
+    // A run takes memory of its own, and needs the script alone.
+    drop(bytes);
     let text = run::run_script(rt, alloc, &script, gate, modules)?;
     Ok(text)
 }
 
-fn status_of(outcome: &Result<String, Refusal>) -> u8
+fn status_of(outcome: &Result<String, ToldRefusal>) -> u8
     ensures { result ≡ status_of (bytes_of_outcome outcome.now) }
 {
     match outcome {
         Ok(_) => 0,
-        Err(refusal) => refusal.status(),
+        Err(refused) => refused.status(),
     }
 }
 
-fn text_of(outcome: &Result<String, Refusal>) -> &str
-    ensures { result.now ≡ text_of (bytes_of_outcome outcome.now) }
+fn output_of(outcome: &Result<String, ToldRefusal>) -> &str
+    ensures { result.now ≡ output_of (bytes_of_outcome outcome.now) }
 {
     match outcome {
         Ok(text) => text.as_str(),
-        Err(refusal) => refusal.text(),
+        Err(refused) => refused.text(),
     }
 }

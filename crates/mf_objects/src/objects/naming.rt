@@ -5,7 +5,7 @@ ghost use Rattle.mf_objects.specs.Titles as title;
 ghost use Rattle.mf_objects.specs.Sound.{link};
 
 use super::Objects;
-use crate::entity::{Entity, What};
+use crate::entity::{Entity, EntityData};
 use crate::id::Id;
 use crate::limits::MOST_NAMES;
 use mf_names::{Name, NameList};
@@ -73,14 +73,14 @@ fn listed(alloc: Global, names: &[&str]) -> Result<NameList, AllocError>
 }
 
 /// What the titles of its kind begin with.
-fn prefix(what: &What) -> &'static str
+fn prefix(what: &EntityData) -> &'static str
     ensures { result.now ≡ title.prefix_of what.now }
 {
     match what {
-        What::Process(_) => "proc:",
-        What::Vnode(_) => "vnode:",
-        What::Pipe(_) => "pipe:",
-        What::Socket(_) => "socket:",
+        EntityData::Process(_) => "proc:",
+        EntityData::Vnode(_) => "vnode:",
+        EntityData::Pipe(_) => "pipe:",
+        EntityData::Socket(_) => "socket:",
     }
 }
 
@@ -96,8 +96,10 @@ fn push_own_name(
     ensures err { OnErr result (title.IsAppended (string_bytes out.old) (string_bytes out.new)) }
 {
     match entity.what {
-        What::Vnode(_) => push_rooted_path(entities, id, out),
-        What::Process(_) | What::Pipe(_) | What::Socket(_) => out.push_str(entity.name.as_str()),
+        EntityData::Vnode(_) => push_rooted_path(entities, id, out),
+        EntityData::Process(_) | EntityData::Pipe(_) | EntityData::Socket(_) => out.push_str(
+            entity.name.as_str(),
+        ),
     }
 }
 

@@ -1,19 +1,20 @@
 //! Readings of the live entities. A reader of another kind's data gives nothing, or zeros: `head` of a process has no
 //! bytes.
-ghost use Rattle.std.specs.Prelude.{◌≡◌, ◌≢◌, ◌≤◌, ◌<◌, length, find, count_by, option_map, nat_le, ◌&&◌, [], false, Some, IsSome, IfSome, IfNone, All, slice_index_or};
-ghost use Rattle.std.specs.Str.{bytes_eq};
+ghost use Rattle.std.specs.Prelude.{◌≡◌, ◌↔◌, IsTrue, ◌≢◌, ◌≤◌, ◌<◌, length, find, count_by, option_map, nat_le, [], false, Some, IsSome, IfSome, IfNone, All, slice_index_or};
 ghost use Rattle.mf_names.specs.declared.limits.TheConstants.{CONTENT_LIMIT};
 ghost use Rattle.mf_objects.specs.declared.limits.TheConstants.{MOST_ENTITIES};
 ghost use Rattle.mf_elem.specs.declared.label.TheConstants.{SLOTS};
 ghost use Rattle.mf_objects.specs.Head.{head_of};
 ghost use Rattle.mf_objects.specs.Live as live;
 ghost use Rattle.mf_objects.specs.Population.{IsPopulation};
-ghost use Rattle.mf_objects.specs.Sound.{shown};
+ghost use Rattle.mf_objects.specs.Index as index;
+ghost use Rattle.mf_objects.specs.Sound.{shown, IsById};
 
-use super::Objects;
-use crate::entity::{Entity, What};
+use super::{Objects, place_of};
+use crate::entity::{Entity, EntityData};
 use crate::head::Head;
 use crate::id::Id;
+use crate::index::Group;
 use mf_cred::{Cred, FileView};
 use mf_elem::{LabelValue, SLOTS};
 use mf_item::Kind;
@@ -60,7 +61,7 @@ impl Objects {
         ensures found { live.IsFound (live.is_named live.is_process name.now) self.now result }
         ensures process { IfSome result (λ id. live.IsLive live.is_process self.now id) }
     {
-        process_named(&self.entities, name)
+        self.named(Group::Processes, name)
     }
 
     /// The live pipe of this name.
@@ -68,7 +69,7 @@ impl Objects {
         ensures found { live.IsFound (live.is_named live.is_pipe name.now) self.now result }
         ensures pipe { IfSome result (λ id. live.IsLive live.is_pipe self.now id) }
     {
-        pipe_named(&self.entities, name)
+        self.named(Group::Pipes, name)
     }
 
     /// The live socket of this name.
@@ -76,7 +77,7 @@ impl Objects {
         ensures found { live.IsFound (live.is_named live.is_socket name.now) self.now result }
         ensures socket { IfSome result (λ id. live.IsLive live.is_socket self.now id) }
     {
-        socket_named(&self.entities, name)
+        self.named(Group::Sockets, name)
     }
 
     /// The entry of this name in a directory.
@@ -85,7 +86,7 @@ impl Objects {
         ensures vnode { IfSome result (λ id. live.IsLive live.is_vnode self.now id) }
         ensures not_root { IfSome result (λ id. id.0 ≢ 0) }
     {
-        child_named(&self.entities, dir, name)
+        self.named(Group::Entries(Some(dir)), name)
     }
 
     /// Whether the entity is a process, a vnode, a pipe or a socket.
@@ -111,6 +112,14 @@ impl Objects {
         ensures { result ≡ live.cred_at self.now id }
     {
         self.entity(id).what.cred()
+    }
+
+    /// Whether this is the credential of the process. It isn't copied.
+    pub fn has_cred(&self, id: Id, cred: &Cred) -> bool
+        requires { IsSome (live.live_at self.now id) }
+        ensures { IsTrue result ↔ (cred.now ≡ live.cred_at self.now id) }
+    {
+        self.entity(id).what.has_cred(cred)
     }
 
     /// How many bytes a file or a pipe holds; a directory holds none.
@@ -146,8 +155,8 @@ impl Objects {
         ensures most { result ≤ MOST_ENTITIES }
     {
         match &self.entity(id).what {
-            What::Socket(socket) => socket.messages.len() as u32,
-            What::Process(_) | What::Vnode(_) | What::Pipe(_) => {
+            EntityData::Socket(socket) => socket.messages.len() as u32,
+            EntityData::Process(_) | EntityData::Vnode(_) | EntityData::Pipe(_) => {
                 entry_count(&self.entities, id) as u32
             }
         }
@@ -168,6 +177,15 @@ impl Objects {
         ]
     }
 
+    /// Whether these are the values of the entity's label. None of them is copied.
+    pub fn has_label(&self, id: Id, label: &[LabelValue; SLOTS]) -> bool
+        requires { IsSome (live.live_at self.now id) }
+        ensures { IsTrue result ↔ (label.now ≡ live.label_at self.now id) }
+    {
+        let place = self.place(id);
+        self.zones.holds(&self.entities[place].label, label)
+    }
+
     /// What a slot of the entity's label holds.
     pub fn value(&self, id: Id, slot: u8) -> LabelValue
         requires live { IsSome (live.live_at self.now id) }
@@ -176,6 +194,19 @@ impl Objects {
     {
         let place = self.place(id);
         self.zones.value(&self.entities[place].label, slot)
+    }
+
+    /// The live entity of this name in a group.
+    fn named(&self, group: Group, name: &str) -> Option<Id>
+        ensures found { live.IsFound (index.is_member group name.now) self.now result }
+        ensures population { IsPopulation self.now }
+    {
+        named_among(
+            &self.entities,
+            self.index.candidates(group, name),
+            group,
+            name,
+        )
     }
 
     pub(super) fn entity(&self, id: Id) -> &Entity
@@ -195,32 +226,28 @@ fn least_from(entities: &[Entity], n: u32) -> Option<Id>
     Some(found.id)
 }
 
-fn process_named(entities: &[Entity], name: &str) -> Option<Id>
-    ensures { result ≡ option_map (λ e. e.id) (find (λ e. live.is_process e.what && bytes_eq e.name name.now) entities.now) }
+/// The first of the candidates whose entity belongs to the group and has the name.
+fn named_among(entities: &[Entity], candidates: &[Id], group: Group, name: &str) -> Option<Id>
+    requires { IsById entities.now }
+    ensures { result ≡ find (index.is_named_at entities.now group name.now) candidates.now }
 {
-    let found = entities.iter().find(|e| e.is_process_named(name))?;
-    Some(found.id)
+    for id in candidates {
+        if is_named(entities, *id, group, name) {
+            return Some(*id);
+        }
+    }
+    None
 }
 
-fn pipe_named(entities: &[Entity], name: &str) -> Option<Id>
-    ensures { result ≡ option_map (λ e. e.id) (find (λ e. live.is_pipe e.what && bytes_eq e.name name.now) entities.now) }
+/// Whether the entity of this id belongs to the group and has the name.
+fn is_named(entities: &[Entity], id: Id, group: Group, name: &str) -> bool
+    requires { IsById entities.now }
+    ensures { result ≡ index.is_named_at entities.now group name.now id }
 {
-    let found = entities.iter().find(|e| e.is_pipe_named(name))?;
-    Some(found.id)
-}
-
-fn socket_named(entities: &[Entity], name: &str) -> Option<Id>
-    ensures { result ≡ option_map (λ e. e.id) (find (λ e. live.is_socket e.what && bytes_eq e.name name.now) entities.now) }
-{
-    let found = entities.iter().find(|e| e.is_socket_named(name))?;
-    Some(found.id)
-}
-
-fn child_named(entities: &[Entity], dir: Id, name: &str) -> Option<Id>
-    ensures { result ≡ option_map (λ e. e.id) (find (λ e. live.is_entry dir e.what && bytes_eq e.name name.now) entities.now) }
-{
-    let found = entities.iter().find(|e| e.is_child(dir, name))?;
-    Some(found.id)
+    match place_of(entities, id) {
+        Some(place) => entities[place].is_member(group, name),
+        None => false,
+    }
 }
 
 fn entry_count(entities: &[Entity], dir: Id) -> usize

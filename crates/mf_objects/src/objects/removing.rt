@@ -57,26 +57,27 @@ impl Objects {
 
     fn made_at(&self, place: usize, maker: Id) -> bool
         requires { place < length self.now.live }
-        ensures { (d : live.Live) → result ≡ live.is_made_by maker (slice_index_or self.now.live place d).what }
+        ensures { (d : live.LiveEntity) → result ≡ live.is_made_by maker (slice_index_or self.now.live place d).what }
     {
         self.entities[place].what.is_made_by(maker)
     }
 
-    /// Removes the entity at a place, which no other belongs to, and frees its label.
+    /// Removes the entity at a place, which no other belongs to, and frees its name and its label.
     fn remove_at(&mut self, place: usize)
         requires within { place < length self.old.live }
         requires later { 0 < place }
-        requires bare { (d : live.Live) → let e = slice_index_or self.old.live place d in change.IsBare self.old.live e.id e.what }
+        requires bare { (d : live.LiveEntity) → let e = slice_index_or self.old.live place d in change.IsBare self.old.live e.id e.what }
         ensures removed { self.new ≡ record self.old { live = remove self.old.live place } }
-        ensures by_id { (id : Id) → ((d : live.Live) → live.has_id id (slice_index_or self.old.live place d) ≡ true)
+        ensures by_id { (id : Id) → ((d : live.LiveEntity) → live.has_id id (slice_index_or self.old.live place d) ≡ true)
             → self.new ≡ change.without (live.has_id id) self.old }
     {
         let Entity {
-            id: _,
-            name: _,
+            id,
+            name,
             label,
-            what: _,
+            what,
         } = self.entities.remove(place);
+        self.index.remove(what.group(), name.as_str(), id);
         self.zones.give_up(label);
     }
 }

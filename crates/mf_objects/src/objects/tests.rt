@@ -35,6 +35,7 @@ fn add_process(rt: &impl Abort, alloc: Global, objects: &mut Objects) -> Result<
     if objects.process("t").is_none() {
         let t = objects.add_process(alloc, "t", &Cred::default(), &labelled(3))?;
         assert!(rt; objects.kind(t) == Kind::Process && objects.cred(t).uid == 0);
+        assert!(rt; objects.has_cred(t, &Cred::default()));
     }
     Ok(())
 }
@@ -124,7 +125,7 @@ fn a_whole_label_at_once(rt: HostRuntime) -> Result<(), Fail> {
     let root = objects.root();
     objects.relabel(root, &values)?;
     let root = objects.root();
-    assert!(rt; objects.label(root) == values);
+    assert!(rt; objects.label(root) == values && objects.has_label(root, &values));
     Ok(())
 }
 

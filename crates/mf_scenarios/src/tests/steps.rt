@@ -4,11 +4,11 @@ ghost use Rattle.mf_policy.specs.Modules.{module_of};
 ghost use Rattle.mf_list.specs.Lists.{IsFresh};
 ghost use Rattle.mf_calls.specs.WellFormed.{IsWellFormed};
 ghost use Rattle.mf_core.specs.Policies.{AreAllModules, AreOf};
-ghost use Rattle.mf_core.specs.Run.{specs_of};
+ghost use Rattle.mf_core.specs.CoreView.{specs_of};
 
 use mf_biba::Biba;
 use mf_calls::Script;
-use mf_core::{Commit, Core, Outcome, Turn};
+use mf_core::{ChangeOutcome, Commit, Core, Turn};
 use mf_list::{Catalogue, PolicyList};
 use mf_mls::Mls;
 use mf_names::SCRIPT_LIMIT;
@@ -69,7 +69,7 @@ fn try_change<P: Policy, R: Abort>(
     core: &mut Core,
     list: &mut PolicyList<P>,
     catalogue: &mut Catalogue<P>,
-) -> Result<Outcome, AllocError>
+) -> Result<ChangeOutcome, AllocError>
     requires tasks { length core.old.script.tasks ≡ 2 }
     requires policies { AreOf (specs_of core.old) list.old catalogue.old }
     ensures script { OnOk result (core.new.script ≡ core.old.script) }
@@ -94,10 +94,10 @@ fn change_during_entry<P: Policy, R: Abort>(
     let (mut core, mut list, mut catalogue) = Core::new(alloc, script, modules)?;
     begin_entry(rt, &mut core);
     let early = try_change(rt, alloc, &mut core, &mut list, &mut catalogue)?;
-    assert_eq!(rt; early, Outcome::Waits(1));
+    assert_eq!(rt; early, ChangeOutcome::Waits(1));
     finish_entry(rt, alloc, &mut core, &list)?;
     let late = try_change(rt, alloc, &mut core, &mut list, &mut catalogue)?;
-    assert_eq!(rt; late, Outcome::Done);
+    assert_eq!(rt; late, ChangeOutcome::Done);
     assert_eq!(rt; list.listed().len(), 0);
     Ok(())
 }

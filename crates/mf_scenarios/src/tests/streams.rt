@@ -6,7 +6,7 @@ use mf_io::{OpenGate, StdSink, StdSource, SureSink, SureSource};
 use mf_mls::Mls;
 use mf_partition::Partition;
 use mf_policy::Policy;
-use mf_top::law::run_surely;
+use mf_top::law::macsim_over_sure;
 use std::alloc::{AllocError, Global};
 use std::sync::Wait;
 use std::test::Fail;
@@ -23,7 +23,7 @@ fn run_over_sure<R: Threads + Wait + Sync>(
     modules.push(Box::new(alloc, Biba::new())?)?;
     modules.push(Box::new(alloc, Mls::new())?)?;
     modules.push(Box::new(alloc, Partition::new())?)?;
-    Ok(run_surely(rt, alloc, &words, source, sink, &OpenGate, modules))
+    Ok(macsim_over_sure(rt, alloc, &words, source, sink, &OpenGate, modules))
 }
 
 #[test]

@@ -1,10 +1,11 @@
 use Rattle.std.proofs.Common.{◌≡◌, ◌+◌, take}
 use Rattle.std.specs.Prelude.{fold}
+use Rattle.mf_calls.specs.declared.limits.TheConstants.{FILE_LIMIT}
 use Rattle.mf_core.specs.Opening.{HasAtMost, with_task}
 use Rattle.mf_core.proofs.opening.add_tasks.Given as goal
 
 abbrev pub invariant-loop-task : goal.invariant-loop-task
 invariant-loop-task l = record {
   value : l.objects ≡ fold (with_task l.listed) l.fn.objects (take l.task-index l.task-items);
-  few : HasAtMost l.objects (257 + l.task-index);
+  few : HasAtMost l.objects (1 + FILE_LIMIT + l.task-index);
 }

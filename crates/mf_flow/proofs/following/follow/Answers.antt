@@ -1,12 +1,13 @@
 use Rattle.std.proofs.Common.{ap, sym, map, List, ℕ, Option, ◌∙◌}
 use Rattle.mf_calls.specs.declared.script.Script.{Script}
-use Rattle.mf_plan.specs.declared.plan.Plan.{Plan}
+use Rattle.mf_plan.specs.Planned.{Plan}
+use Rattle.mf_plan.specs.declared.reply.Reply.{Reply}
 use Rattle.mf_plan.specs.Names.{caller_name}
 use Rattle.mf_plan.specs.Outline.{item_of}
 use Rattle.mf_plan.specs.Plan.{plan_of}
 use Rattle.mf_plan.specs.Views.{process_named}
 use Rattle.mf_core.specs.LegalHistory.{after}
-use Rattle.mf_core.specs.Replayed.{Replayed}
+use Rattle.mf_core.specs.RunView.{RunView}
 use Rattle.mf_flow.specs.Movement.{passed}
 use Rattle.mf_flow.proofs.Followed.{done_flows, done_line, passed_map}
 use Rattle.mf_flow.proofs.following.follow.Goals as goal
@@ -14,7 +15,7 @@ use Rattle.mf_flow.proofs.following.follow.Goals as goal
 pub returns-in_ok-create_in_both-in-Done-clause-flows : goal.returns-in_ok-create_in_both-in-Done-clause-flows
 returns-in_ok-create_in_both-in-Done-clause-flows c =
     let s = c.args.script.now in
-    let run = c.args.replay.now.run in
+    let run = c.args.run.now.run in
     let e = c.args.event.now in
     let state = c.state-state.result.now in
     let task = c.name_of-name.result.now in
@@ -22,10 +23,11 @@ returns-in_ok-create_in_both-in-Done-clause-flows c =
     done_flows s run e c.in-Done.task c.in-Done.number c.in-Done.reply state c.state.result.now task line c.args.flows.now c.move_in_both.new.flows c.create_in_both.new.flows
     (map (item_of state.objects) c.passed-checks.result.now) c.next_id-next.result c.caller_of-caller.result
     c.in-Done.is c.state-state.ensures
-    (c.state.ensures ∙ ap (λ (x : Replayed). x.run.state) c.in_ok-next-in-Done.ensures.ok ∙ ap (λ (x : Script). (after x run e).state) c.requires.script)
+    (c.state.ensures ∙ ap (λ (x : RunView). x.run.state) c.in_ok-next-in-Done.ensures.ok ∙ ap (λ (x : Script). (after x run e).state) c.requires.script)
     c.name_of-name.ensures
     (done_line s run e c.in-Done.task c.in-Done.number c.in-Done.reply line c.in-Done.is c.requires.may c.line_at-line.ensures)
-    (ap (map (item_of state.objects)) (c.passed-checks.ensures ∙ ap (λ xs. passed c.in-Done.reply xs) c.as_slice.ensures.value)
+    (ap (map (item_of state.objects)) (c.passed-checks.ensures ∙ ap (λ xs. passed c.get.result.now xs) c.as_slice.ensures.value
+    ∙ ap (λ (said : Reply). passed said c.outline_of-outline.result.checks) (c.get.ensures ∙ c.lend-said.ensures))
     ∙ sym (passed_map c.in-Done.reply (item_of state.objects) c.outline_of-outline.result.checks)
     ∙ ap (λ (p : Plan). passed c.in-Done.reply p.items) c.outline_of-outline.ensures.plan
     ∙ ap (λ (child : Option (List ℕ)). passed c.in-Done.reply (plan_of state task child line.call).items) c.child_name.ensures)

@@ -5,6 +5,6 @@ use Rattle.mf_flow.proofs.table.followed.Given as goal
 
 abbrev pub invariant-loop-event : goal.invariant-loop-event
 invariant-loop-event l =
-    IsReplayed l.script l.event-items l.event-index l.replay
-    × Alike (IsFlow l.script l.event-items l.event-index l.replay) (option_copied l.biba) l.flows.biba
-    × Alike (IsFlow l.script l.event-items l.event-index l.replay) (option_copied l.mls) l.flows.mls
+    IsReplayed l.script l.event-items l.event-index l.run
+    × Alike (IsFlow l.script l.event-items l.event-index l.run) (option_copied l.biba) l.flows.biba
+    × Alike (IsFlow l.script l.event-items l.event-index l.run) (option_copied l.mls) l.flows.mls

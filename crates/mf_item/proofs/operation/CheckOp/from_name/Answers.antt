@@ -1,4 +1,4 @@
-use Rattle.std.proofs.Common.{◌≢◌, ℕ, List, sym}
+use Rattle.std.proofs.Common.{◌≢◌, sym}
 use Rattle.mf_item.specs.Operation.{operation_text}
 use Rattle.mf_item.specs.declared.operation.CheckOp.{CheckOp}
 use Rattle.mf_item.specs.declared.operation.CheckOp.TheVariants as op

@@ -1,17 +1,14 @@
-use Rattle.std.proofs.Common.{◌≡◌, ◌∙◌, ap}
+use Rattle.std.proofs.Common.{◌≡◌, ◌∙◌, ◌++◌, ◌∷◌, [], ap}
+use Rattle.mf_errno.specs.declared.module.Module.{Module}
 use Rattle.mf_policy.specs.Registration.{Entry}
-use Rattle.mf_policy.specs.declared.registration.Registration.{Registration}
 use Rattle.mf_list.proofs.policy_list.PolicyList.leave.Goals as goal
 
-pub returns-clause-of : goal.returns-clause-of
-returns-clause-of g c =
-    ap (λ (r : Registration). r.module) c.registration-registration.ensures.value
-    ∙ ap (λ (entry : Entry). entry.0.module) (c.take-listed.ensures.value c.take-listed.result)
-    ∙ c.requires.place.here c.take-listed.result
-
-pub returns-clause-modules : goal.returns-clause-modules
-returns-clause-modules g c =
+pub returns-clause-moves : goal.returns-clause-moves
+returns-clause-moves g c =
     let of : c.take-listed.result.0.module ≡ c.args.wanted =
     ap (λ (entry : Entry). entry.0.module) (c.take-listed.ensures.value c.take-listed.result) ∙ c.requires.place.here c.take-listed.result in
-    let back = c.into_fresh.ensures.of in
-    cc
+    record {
+      was_listed = c.requires.place.listed;
+      entries = c.take-listed.ensures.entries ∙ c.requires.place.rest;
+      modules = c.put.ensures.modules ∙ ap (λ (m : Module). c.args.catalogue.now.modules ++ m ∷ []) (c.into_fresh.ensures.of ∙ of);
+    }

@@ -1,6 +1,6 @@
 use Rattle.std.proofs.Common.{◌∙◌, ap}
 use Rattle.std.specs.List.{insert}
-use Rattle.mf_list.proofs.Places.{insert_dynamic, insert_static}
+use Rattle.mf_policy.proofs.Places.{insert_dynamic, insert_static}
 use Rattle.mf_list.proofs.policy_list.PolicyList.place_for.Goals as goal
 
 pub returns-then-fixed-clause-place : goal.returns-then-fixed-clause-place

@@ -1,4 +1,4 @@
-use Rattle.std.proofs.Common.{◌≡◌, length, ap, sym, ◌∙◌, subst}
+use Rattle.std.proofs.Common.{refl, ◌≡◌, length, ap, sym, ◌∙◌, subst}
 use Rattle.std.proofs.lemmas.Result.{on_ok_weaker}
 use Rattle.mf_objects.specs.Live.{Entities, live_at, IsLiveWhere}
 use Rattle.mf_objects.specs.Changes.{with_change, with_what, appended, FitsBytes}
@@ -6,6 +6,7 @@ use Rattle.mf_objects.specs.Sound.{IsPlace}
 use Rattle.mf_objects.proofs.Kept.{view, what_changed}
 use Rattle.mf_objects.proofs.Belonging.{appended_stays}
 use Rattle.mf_objects.proofs.Found.{where_place, what_sound}
+use Rattle.mf_objects.proofs.Indexed.{index_set}
 use Rattle.mf_objects.proofs.objects.Objects.append.Goals as goal
 
 pub append-requires : goal.append-requires
@@ -29,9 +30,11 @@ invariant_of-self c =
     let place : IsPlace (view next zones es) c.args.id i = subst (λ (o : Entities). IsPlace o c.args.id i) (sym c.self.view_is) c.place-place.ensures in
     let fits : FitsBytes (length c.args.text.now) e.what =
     where_place (FitsBytes (length c.args.text.now)) next zones es c.args.id i e place c.index_mut-entity.ensures.value
-    (subst (λ (o : Entities). IsLiveWhere (FitsBytes (length c.args.text.now)) (live_at o c.args.id)) (sym c.self.view_is) c.requires) in
-    what_sound c.append.result next zones es c.args.id i e c.append.new.self (appended c.args.text.now) place c.index_mut-entity.ensures.value c.self.invariant (appended_stays c.args.text.now e.what fits)
-    c.append.ensures.ok c.append.ensures.err
+    (subst (λ (o : Entities). IsLiveWhere (FitsBytes (length c.args.text.now)) (live_at o c.args.id)) (sym c.self.view_is) c.requires) in (
+      what_sound c.append.result next zones es c.args.id i e c.append.new.self (appended c.args.text.now) place c.index_mut-entity.ensures.value c.self.invariant.0 (appended_stays c.args.text.now e.what fits)
+          c.append.ensures.ok c.append.ensures.err,
+      index_set c.self.inside.index es i e (record e { what = c.append.new.self }) c.index_mut-entity.ensures.value refl refl c.append.ensures.group c.self.invariant.1,
+    )
 
 pub returns-clause-ok : goal.returns-clause-ok
 returns-clause-ok c =
@@ -45,5 +48,5 @@ returns-clause-ok c =
     where_place (FitsBytes (length c.args.text.now)) next zones es c.args.id i e place c.index_mut-entity.ensures.value
     (subst (λ (o : Entities). IsLiveWhere (FitsBytes (length c.args.text.now)) (live_at o c.args.id)) (sym c.self.view_is) c.requires) in
     on_ok_weaker c.append.result (λ (changed : c.append.new.self ≡ (appended c.args.text.now) e.what).
-    (what_changed next zones es c.args.id i e c.append.new.self (appended c.args.text.now) place c.index_mut-entity.ensures.value c.self.invariant (appended_stays c.args.text.now e.what fits) changed).shows
+    (what_changed next zones es c.args.id i e c.append.new.self (appended c.args.text.now) place c.index_mut-entity.ensures.value c.self.invariant.0 (appended_stays c.args.text.now e.what fits) changed).shows
     ∙ ap (λ (o : Entities). with_change (with_what (appended c.args.text.now)) o c.args.id) c.self.view_is) c.append.ensures.ok

@@ -12,7 +12,7 @@ value-requires-clause-held c =
     let place : IsPlace (view c.self.inside.next zones es) c.args.id c.place-place.result =
     subst (λ (o : Entities). IsPlace o c.args.id c.place-place.result) (sym c.self.view_is) c.place-place.ensures in
     (held_place c.self.inside.next zones es c.place-place.result c.index.result.now
-    (place_within c.self.inside.next zones es c.args.id c.place-place.result place) c.index.ensures c.self.invariant).each 0 (omega arith)
+    (place_within c.self.inside.next zones es c.args.id c.place-place.result place) c.index.ensures c.self.invariant.0).each 0 (omega arith)
 
 pub value-requires-2-clause-held : goal.value-requires-2-clause-held
 value-requires-2-clause-held c =
@@ -21,7 +21,7 @@ value-requires-2-clause-held c =
     let place : IsPlace (view c.self.inside.next zones es) c.args.id c.place-place.result =
     subst (λ (o : Entities). IsPlace o c.args.id c.place-place.result) (sym c.self.view_is) c.place-place.ensures in
     (held_place c.self.inside.next zones es c.place-place.result c.index.result.now
-    (place_within c.self.inside.next zones es c.args.id c.place-place.result place) c.index.ensures c.self.invariant).each 1 (omega arith)
+    (place_within c.self.inside.next zones es c.args.id c.place-place.result place) c.index.ensures c.self.invariant.0).each 1 (omega arith)
 
 pub value-requires-3-clause-held : goal.value-requires-3-clause-held
 value-requires-3-clause-held c =
@@ -30,7 +30,7 @@ value-requires-3-clause-held c =
     let place : IsPlace (view c.self.inside.next zones es) c.args.id c.place-place.result =
     subst (λ (o : Entities). IsPlace o c.args.id c.place-place.result) (sym c.self.view_is) c.place-place.ensures in
     (held_place c.self.inside.next zones es c.place-place.result c.index.result.now
-    (place_within c.self.inside.next zones es c.args.id c.place-place.result place) c.index.ensures c.self.invariant).each 2 (omega arith)
+    (place_within c.self.inside.next zones es c.args.id c.place-place.result place) c.index.ensures c.self.invariant.0).each 2 (omega arith)
 
 pub value-requires-4-clause-held : goal.value-requires-4-clause-held
 value-requires-4-clause-held c =
@@ -39,7 +39,7 @@ value-requires-4-clause-held c =
     let place : IsPlace (view c.self.inside.next zones es) c.args.id c.place-place.result =
     subst (λ (o : Entities). IsPlace o c.args.id c.place-place.result) (sym c.self.view_is) c.place-place.ensures in
     (held_place c.self.inside.next zones es c.place-place.result c.index.result.now
-    (place_within c.self.inside.next zones es c.args.id c.place-place.result place) c.index.ensures c.self.invariant).each 3 (omega arith)
+    (place_within c.self.inside.next zones es c.args.id c.place-place.result place) c.index.ensures c.self.invariant.0).each 3 (omega arith)
 
 pub returns : goal.returns
 returns c =

@@ -14,7 +14,7 @@ returns-clause-found c =
     let found : c.least_from.result ≡ option_map (λ (e : Entity). e.id) (find (λ (e : Entity). test (seen zones e)) c.self.inside.entities.items) =
     c.least_from.ensures ∙ ap (λ (es : List Entity). option_map (λ (e : Entity). e.id) (find (λ (e : Entity). test (seen zones e)) es)) c.deref.ensures.value in
     subst (λ (o : Entities). IsFound test o c.least_from.result) c.self.view_is
-    (found_id test c.self.inside.next zones c.self.inside.entities.items c.least_from.result c.self.invariant found)
+    (found_id test c.self.inside.next zones c.self.inside.entities.items c.least_from.result c.self.invariant.0 found)
 
 pub returns-clause-live : goal.returns-clause-live
 returns-clause-live c =
@@ -24,7 +24,7 @@ returns-clause-live c =
     c.least_from.ensures ∙ ap (λ (es : List Entity). option_map (λ (e : Entity). e.id) (find (λ (e : Entity). test (seen zones e)) es)) c.deref.ensures.value in
     let is : IsFound test c.args.self.now c.least_from.result =
     subst (λ (o : Entities). IsFound test o c.least_from.result) c.self.view_is
-    (found_id test c.self.inside.next zones c.self.inside.entities.items c.least_from.result c.self.invariant found) in
+    (found_id test c.self.inside.next zones c.self.inside.entities.items c.least_from.result c.self.invariant.0 found) in
     live_found test c.args.self.now c.least_from.result is
 
 pub returns-clause-least : goal.returns-clause-least
@@ -35,8 +35,8 @@ returns-clause-least c =
     c.least_from.ensures ∙ ap (λ (es : List Entity). option_map (λ (e : Entity). e.id) (find (λ (e : Entity). test (seen zones e)) es)) c.deref.ensures.value in
     let is : IsFound test c.args.self.now c.least_from.result =
     subst (λ (o : Entities). IsFound test o c.least_from.result) c.self.view_is
-    (found_id test c.self.inside.next zones c.self.inside.entities.items c.least_from.result c.self.invariant found) in
-    found_least c.args.n c.args.self.now c.least_from.result (subst (λ (o : Entities). IsRising 0 o.next o.live) c.self.view_is c.self.invariant.population.rising) is
+    (found_id test c.self.inside.next zones c.self.inside.entities.items c.least_from.result c.self.invariant.0 found) in
+    found_least c.args.n c.args.self.now c.least_from.result (subst (λ (o : Entities). IsRising 0 o.next o.live) c.self.view_is c.self.invariant.0.population.rising) is
 
 pub returns-clause-none : goal.returns-clause-none
 returns-clause-none c =
@@ -46,5 +46,5 @@ returns-clause-none c =
     c.least_from.ensures ∙ ap (λ (es : List Entity). option_map (λ (e : Entity). e.id) (find (λ (e : Entity). test (seen zones e)) es)) c.deref.ensures.value in
     let is : IsFound test c.args.self.now c.least_from.result =
     subst (λ (o : Entities). IsFound test o c.least_from.result) c.self.view_is
-    (found_id test c.self.inside.next zones c.self.inside.entities.items c.least_from.result c.self.invariant found) in
+    (found_id test c.self.inside.next zones c.self.inside.entities.items c.least_from.result c.self.invariant.0 found) in
     none_from c.args.n c.args.self.now c.least_from.result is

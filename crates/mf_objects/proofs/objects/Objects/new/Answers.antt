@@ -1,10 +1,13 @@
-use Rattle.std.proofs.Common.{◌≡◌, ◌++◌, ◌∷◌, [], ℕ, List, length, replicate, ap, ◌∙◌, subst, arith, refl, None, true}
+use Rattle.std.proofs.Common.{◌≡◌, ◌++◌, ◌∷◌, [], ℕ, List, length, replicate, ap, sym, ◌∙◌, subst, arith, refl, None, true}
 use Rattle.mf_elem.specs.declared.label.LabelValue.{LabelValue}
 use Rattle.mf_slots.specs.Zones.{Contents, MakesLabel}
 use Rattle.mf_objects.specs.declared.entity.Entity.{Entity}
-use Rattle.mf_objects.specs.declared.entity.What.TheVariants.{Vnode}
+use Rattle.mf_objects.specs.declared.entity.EntityData.TheVariants.{Vnode}
+use Rattle.mf_objects.specs.declared.id.Id.{Id}
+use Rattle.mf_objects.specs.Index.{IsIndex}
 use Rattle.mf_objects.specs.Changes.{opening}
 use Rattle.mf_objects.proofs.Kept.{view, opened}
+use Rattle.mf_objects.proofs.Indexed.{index_none, index_added}
 use Rattle.mf_objects.proofs.objects.Objects.new.Goals as goal
 
 is_opening : (name content : List ℕ) (values : List LabelValue) → name ≡ [] → content ≡ []
@@ -18,6 +21,26 @@ is_opening : (name content : List ℕ) (values : List LabelValue) → name ≡ [
       } ∷ [];
     } ≡ opening values
 is_opening name content values none empty = rw (none, empty) refl
+
+pub invariant_of-result : goal.invariant_of-result
+invariant_of-result c =
+    let e : Entity =
+    record {
+      id = record { 0 = 0 };
+      name = c.in_ok-from_str.field-0;
+      label = c.in_ok-label.label;
+      what = Vnode (record { parent = None; file = record { uid = 0; gid = 0; mode = 493; dir = true }; content = c.new-2.result });
+    } in
+    let values = c.args.values.now in
+    let four : length values ≡ 4 = omega arith in
+    let makes : MakesLabel (replicate 4 []) c.make_label.new.self c.in_ok-label.label values =
+    subst (λ (z : Contents). MakesLabel z c.make_label.new.self c.in_ok-label.label values) c.in_ok-zones.ensures c.in_ok-label.ensures.ok in
+    let b = opened c.make_label.new.self e values four makes refl refl refl (λ _. c.new-2.ensures) in
+    let items : c.push.new.self.items ≡ [] ++ e ∷ [] = c.in_ok-push.ensures.items ∙ ap (λ (xs : List Entity). xs ++ e ∷ []) c.new-entities.ensures.items in (
+      rw items b.sound,
+      index_added c.in_ok-index.index c.insert.new.self [] c.push.new.self.items e c.group.result c.as_str.result.now c.group.ensures c.as_str.ensures c.in_ok-insert.ensures.ok items
+          (subst (λ (index : List (List Id)). IsIndex index []) (sym c.in_ok-index.ensures) index_none),
+    )
 
 pub returns : goal.returns
 returns c =

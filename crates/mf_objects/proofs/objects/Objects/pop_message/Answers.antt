@@ -1,4 +1,4 @@
-use Rattle.std.proofs.Common.{◌≡◌, ℕ, List, [], ◌∷◌, drop, get_or, ap, sym, ◌∙◌, subst}
+use Rattle.std.proofs.Common.{refl, ◌≡◌, ℕ, List, [], ◌∷◌, drop, get_or, ap, sym, ◌∙◌, subst}
 use Rattle.mf_objects.specs.Live.{Entities, live_at, IsLiveWhere, messages_at, messages_of}
 use Rattle.mf_objects.specs.Changes.{with_change, with_what, with_messages, HasMessage}
 use Rattle.mf_objects.specs.Head.{head_of}
@@ -6,6 +6,7 @@ use Rattle.mf_objects.specs.Sound.{IsPlace}
 use Rattle.mf_objects.proofs.Kept.{view, what_changed}
 use Rattle.mf_objects.proofs.Belonging.{messages_stay}
 use Rattle.mf_objects.proofs.Found.{where_place, messages_place}
+use Rattle.mf_objects.proofs.Indexed.{index_set}
 use Rattle.mf_objects.proofs.objects.Objects.pop_message.Goals as goal
 
 pub pop_message-message-requires : goal.pop_message-message-requires
@@ -26,9 +27,11 @@ invariant_of-self c =
     let es = c.self.inside.entities.items in
     let i = c.place-place.result in
     let e = c.index_mut-entity.result.now in
-    let place : IsPlace (view next zones es) c.args.id i = subst (λ (o : Entities). IsPlace o c.args.id i) (sym c.self.view_is) c.place-place.ensures in
-    (what_changed next zones es c.args.id i e c.pop_message-message.new.self (with_messages (drop 1)) place c.index_mut-entity.ensures.value c.self.invariant
-    (messages_stay (drop 1) e.what) c.pop_message-message.ensures.rest).sound
+    let place : IsPlace (view next zones es) c.args.id i = subst (λ (o : Entities). IsPlace o c.args.id i) (sym c.self.view_is) c.place-place.ensures in (
+      (what_changed next zones es c.args.id i e c.pop_message-message.new.self (with_messages (drop 1)) place c.index_mut-entity.ensures.value c.self.invariant.0
+          (messages_stay (drop 1) e.what) c.pop_message-message.ensures.rest).sound,
+      index_set c.self.inside.index es i e (record e { what = c.pop_message-message.new.self }) c.index_mut-entity.ensures.value refl refl c.pop_message-message.ensures.group c.self.invariant.1,
+    )
 
 pub returns-clause-rest : goal.returns-clause-rest
 returns-clause-rest c =
@@ -38,7 +41,7 @@ returns-clause-rest c =
     let i = c.place-place.result in
     let e = c.index_mut-entity.result.now in
     let place : IsPlace (view next zones es) c.args.id i = subst (λ (o : Entities). IsPlace o c.args.id i) (sym c.self.view_is) c.place-place.ensures in
-    (what_changed next zones es c.args.id i e c.pop_message-message.new.self (with_messages (drop 1)) place c.index_mut-entity.ensures.value c.self.invariant
+    (what_changed next zones es c.args.id i e c.pop_message-message.new.self (with_messages (drop 1)) place c.index_mut-entity.ensures.value c.self.invariant.0
     (messages_stay (drop 1) e.what) c.pop_message-message.ensures.rest).shows
     ∙ ap (λ (o : Entities). with_change (with_what (with_messages (drop 1))) o c.args.id) c.self.view_is
 

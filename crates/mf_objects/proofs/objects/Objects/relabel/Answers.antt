@@ -1,10 +1,11 @@
-use Rattle.std.proofs.Common.{ap, sym, ◌∙◌, subst}
+use Rattle.std.proofs.Common.{refl, ap, sym, ◌∙◌, subst}
 use Rattle.std.proofs.lemmas.Result.{on_ok_weaker}
 use Rattle.mf_slots.specs.Zones.{Relabels}
 use Rattle.mf_objects.specs.Live.{Entities, HasSlotsFor, label_at}
 use Rattle.mf_objects.specs.Changes.{with_change, with_label}
 use Rattle.mf_objects.specs.Sound.{IsPlace}
 use Rattle.mf_objects.proofs.Kept.{view, held_place, place_within, label_changed, relabel_sound, slots_made}
+use Rattle.mf_objects.proofs.Indexed.{index_set}
 use Rattle.mf_objects.proofs.objects.Objects.relabel.Goals as goal
 
 pub relabel-requires : goal.relabel-requires
@@ -14,16 +15,18 @@ relabel-requires c =
     let place : IsPlace (view c.self.inside.next zones es) c.args.id c.place-place.result =
     subst (λ (o : Entities). IsPlace o c.args.id c.place-place.result) (sym c.self.view_is) c.place-place.ensures in
     held_place c.self.inside.next zones es c.place-place.result c.index_mut.result.now
-    (place_within c.self.inside.next zones es c.args.id c.place-place.result place) c.index_mut.ensures.value c.self.invariant
+    (place_within c.self.inside.next zones es c.args.id c.place-place.result place) c.index_mut.ensures.value c.self.invariant.0
 
 pub invariant_of-self : goal.invariant_of-self
 invariant_of-self c =
     let zones = c.self.inside.zones in
     let es = c.self.inside.entities.items in
     let place : IsPlace (view c.self.inside.next zones es) c.args.id c.place-place.result =
-    subst (λ (o : Entities). IsPlace o c.args.id c.place-place.result) (sym c.self.view_is) c.place-place.ensures in
-    relabel_sound c.relabel.result c.self.inside.next zones c.relabel.new.self es c.args.id c.place-place.result c.index_mut.result.now c.relabel.new.label c.args.values.now
-    c.told-values place c.index_mut.ensures.value c.self.invariant c.relabel.ensures.ok c.relabel.ensures.err
+    subst (λ (o : Entities). IsPlace o c.args.id c.place-place.result) (sym c.self.view_is) c.place-place.ensures in (
+      relabel_sound c.relabel.result c.self.inside.next zones c.relabel.new.self es c.args.id c.place-place.result c.index_mut.result.now c.relabel.new.label c.args.values.now
+          c.told-values place c.index_mut.ensures.value c.self.invariant.0 c.relabel.ensures.ok c.relabel.ensures.err,
+      index_set c.self.inside.index es c.place-place.result c.index_mut.result.now (record c.index_mut.result.now { label = c.relabel.new.label }) c.index_mut.ensures.value refl refl refl c.self.invariant.1,
+    )
 
 pub returns-clause-ok : goal.returns-clause-ok
 returns-clause-ok c =
@@ -33,7 +36,7 @@ returns-clause-ok c =
     subst (λ (o : Entities). IsPlace o c.args.id c.place-place.result) (sym c.self.view_is) c.place-place.ensures in
     on_ok_weaker c.relabel.result (λ (relabels : Relabels zones c.relabel.new.self c.index_mut.result.now.label c.relabel.new.label c.args.values.now).
     (label_changed c.self.inside.next zones c.relabel.new.self es c.args.id c.place-place.result c.index_mut.result.now c.relabel.new.label c.args.values.now
-    c.told-values place c.index_mut.ensures.value c.self.invariant relabels).shows
+    c.told-values place c.index_mut.ensures.value c.self.invariant.0 relabels).shows
     ∙ ap (λ (o : Entities). with_change (with_label c.args.values.now) o c.args.id) c.self.view_is) c.relabel.ensures.ok
 
 pub returns-clause-made : goal.returns-clause-made

@@ -1,9 +1,10 @@
-use Rattle.std.proofs.Common.{ap, sym, ◌∙◌, subst}
+use Rattle.std.proofs.Common.{refl, ap, sym, ◌∙◌, subst}
 use Rattle.mf_objects.specs.Live.{Entities}
 use Rattle.mf_objects.specs.Changes.{with_change, with_what, with_mode}
 use Rattle.mf_objects.specs.Sound.{IsPlace}
 use Rattle.mf_objects.proofs.Kept.{view, what_changed}
 use Rattle.mf_objects.proofs.Belonging.{mode_stays}
+use Rattle.mf_objects.proofs.Indexed.{index_set}
 use Rattle.mf_objects.proofs.objects.Objects.set_mode.Goals as goal
 
 pub invariant_of-self : goal.invariant_of-self
@@ -13,8 +14,10 @@ invariant_of-self c =
     let es = c.self.inside.entities.items in
     let i = c.place-place.result in
     let e = c.index_mut-entity.result.now in
-    let place : IsPlace (view next zones es) c.args.id i = subst (λ (o : Entities). IsPlace o c.args.id i) (sym c.self.view_is) c.place-place.ensures in
-    (what_changed next zones es c.args.id i e c.set_mode.new.self (with_mode c.args.mode) place c.index_mut-entity.ensures.value c.self.invariant (mode_stays c.args.mode e.what) c.set_mode.ensures).sound
+    let place : IsPlace (view next zones es) c.args.id i = subst (λ (o : Entities). IsPlace o c.args.id i) (sym c.self.view_is) c.place-place.ensures in (
+      (what_changed next zones es c.args.id i e c.set_mode.new.self (with_mode c.args.mode) place c.index_mut-entity.ensures.value c.self.invariant.0 (mode_stays c.args.mode e.what) c.set_mode.ensures.value).sound,
+      index_set c.self.inside.index es i e (record e { what = c.set_mode.new.self }) c.index_mut-entity.ensures.value refl refl c.set_mode.ensures.group c.self.invariant.1,
+    )
 
 pub returns : goal.returns
 returns c =
@@ -24,5 +27,5 @@ returns c =
     let i = c.place-place.result in
     let e = c.index_mut-entity.result.now in
     let place : IsPlace (view next zones es) c.args.id i = subst (λ (o : Entities). IsPlace o c.args.id i) (sym c.self.view_is) c.place-place.ensures in
-    (what_changed next zones es c.args.id i e c.set_mode.new.self (with_mode c.args.mode) place c.index_mut-entity.ensures.value c.self.invariant (mode_stays c.args.mode e.what) c.set_mode.ensures).shows
+    (what_changed next zones es c.args.id i e c.set_mode.new.self (with_mode c.args.mode) place c.index_mut-entity.ensures.value c.self.invariant.0 (mode_stays c.args.mode e.what) c.set_mode.ensures.value).shows
     ∙ ap (λ (o : Entities). with_change (with_what (with_mode c.args.mode)) o c.args.id) c.self.view_is

@@ -1,6 +1,6 @@
 use Rattle.std.proofs.Common.{◌≡◌, ◌++◌, ℕ, List, ap, sym, ◌∙◌, map, reverse, string_bytes, Option, append_assoc}
 use Rattle.mf_objects.specs.declared.entity.Entity.{Entity}
-use Rattle.mf_objects.specs.Live.{Live, Entities}
+use Rattle.mf_objects.specs.Live.{LiveEntity, Entities}
 use Rattle.mf_objects.specs.Titles.{path_in, path_at, title_in, prefix_of, own_name, Link}
 use Rattle.mf_objects.specs.Sound.{link}
 use Rattle.mf_objects.proofs.Naming.{links_live}
@@ -22,4 +22,4 @@ returns-in-Ok-clause-ok c =
     name
     ∙ ap (λ (bytes : List ℕ). bytes ++ own_name (path_at c.args.self.now c.args.id) e.name e.what) kind
     ∙ append_assoc out (prefix_of e.what) (own_name (path_at c.args.self.now c.args.id) e.name e.what)
-    ∙ ap (λ (found : Option Live). out ++ title_in (path_at c.args.self.now c.args.id) found) (sym c.entity-entity.ensures.shown)
+    ∙ ap (λ (found : Option LiveEntity). out ++ title_in (path_at c.args.self.now c.args.id) found) (sym c.entity-entity.ensures.shown)

@@ -11,7 +11,7 @@ value-requires-clause-held c =
     let place : IsPlace (view c.self.inside.next zones es) c.args.id c.place-place.result =
     subst (λ (o : Entities). IsPlace o c.args.id c.place-place.result) (sym c.self.view_is) c.place-place.ensures in
     (held_place c.self.inside.next zones es c.place-place.result c.index.result.now
-    (place_within c.self.inside.next zones es c.args.id c.place-place.result place) c.index.ensures c.self.invariant).each c.args.slot c.requires.slot
+    (place_within c.self.inside.next zones es c.args.id c.place-place.result place) c.index.ensures c.self.invariant.0).each c.args.slot c.requires.slot
 
 pub returns : goal.returns
 returns c =

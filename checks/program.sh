@@ -1,0 +1,105 @@
+#!/bin/sh
+# Runs the program with words and inputs at their edges, since `main` has no contract: of each run is wanted its exit status, its whole
+# standard output, and nothing on the standard error. A line for each failure, then a count.
+cd "$(dirname "$0")/.." || exit 1
+folder=$(mktemp -d) || exit 1
+trap 'rm -rf "$folder"' EXIT
+script=examples/01-plainest-denial.macsim
+history=${script%.macsim}.out
+most=1048576
+passed=0
+failed=0
+
+# A script of so many bytes: a right one, and behind it a comment.
+script_of() {
+    {
+        cat "$script"
+        printf '#'
+        head -c "$(($1 - $(wc -c <"$script") - 2))" /dev/zero | tr '\0' x
+        printf '\n'
+    } >"$2"
+}
+
+# A text of the program, in a file of that name.
+text() {
+    printf '%s\n' "$2" >"$folder/$1"
+}
+
+# Whether a run over this input with these words ends with the status and prints what the file holds.
+ends() {
+    status=$1 input=$2 output=$3
+    shift 3
+    ./macsim "$@" <"$input" >"$folder/printed" 2>"$folder/told"
+    [ "$?" -eq "$status" ] && cmp -s "$folder/printed" "$output" && [ ! -s "$folder/told" ]
+}
+
+# Whether a run with these words leaves the whole input to who reads next.
+reads_nothing() {
+    { ./macsim "$@" >"$folder/printed" 2>&1; cat >"$folder/left"; } <"$script"
+    cmp -s "$folder/left" "$script"
+}
+
+# Whether a run over the script, with a device that takes nothing, tells so by its status.
+fails_to_write() {
+    ./macsim run <"$script" >/dev/full 2>"$folder/told"
+    [ "$?" -eq 5 ] && [ ! -s "$folder/told" ]
+}
+
+# Counts a case, of that name.
+check() {
+    case=$1
+    shift
+    if "$@"; then
+        passed=$((passed + 1))
+    else
+        failed=$((failed + 1))
+        echo "macsim: not as wanted: $case"
+    fi
+}
+
+# Counts a run that is refused for its words.
+check_usage() {
+    check "words: $*" ends 2 "$script" "$folder/usage" "$@"
+}
+
+# The program is there before the first run that counts.
+./macsim </dev/null >"$folder/printed" 2>&1
+
+text usage 'macsim: usage: run | gen N T'
+text not_yet 'macsim: script not yet'
+text read_fault 'macsim: read fault'
+text too_long 'macsim: too long'
+printf 'gen 2 2\nok 2\nENOENT 1\nEACCES 1\n' >"$folder/summary"
+printf 'foo\n' >"$folder/bad"
+script_of "$most" "$folder/longest"
+script_of "$((most + 1))" "$folder/longer"
+
+check_usage
+check_usage ''
+check_usage walk
+check_usage Run
+check_usage "$(printf '\377')"
+check_usage run "$script"
+check_usage gen 2
+check_usage gen 2 2 2
+check_usage gen 0 2
+check_usage gen 4097 2
+check_usage gen 2 0
+check_usage gen 2 17
+check_usage gen 2 x
+check_usage gen -2 2
+check 'words are refused: the input is not read' reads_nothing walk
+
+check 'run: a script' ends 0 "$script" "$history" run
+check 'run: no script' ends 3 "$folder/bad" "$folder/not_yet" run
+check 'run: the longest script' ends 0 "$folder/longest" "$history" run
+check 'run: one byte more' ends 6 "$folder/longer" "$folder/too_long" run
+check 'run: an input that cannot be read' ends 4 . "$folder/read_fault" run
+check 'run: an output that cannot be written' fails_to_write
+
+check 'gen: a load' ends 0 "$folder/bad" "$folder/summary" gen 2 2
+check 'gen: leading zeros' ends 0 "$folder/bad" "$folder/summary" gen 002 02
+check 'gen: the input is not read' reads_nothing gen 2 2
+
+echo "$passed passed, $failed failed"
+[ "$failed" -eq 0 ]

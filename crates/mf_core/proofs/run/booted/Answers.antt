@@ -1,0 +1,20 @@
+use Rattle.std.proofs.Common.{List, arith, sym, subst}
+use Rattle.std.proofs.lemmas.List.{get_or_default}
+use Rattle.mf_errno.specs.declared.module.Module.{Module}
+use Rattle.mf_calls.specs.Boots.{AreBoots}
+use Rattle.mf_calls.proofs.FewBoots.{few_boots}
+use Rattle.mf_core.proofs.Reached.{loaded_more}
+use Rattle.mf_core.proofs.run.booted.Goals as goal
+
+pub load-requires-clause-slots : goal.load-requires-clause-slots
+load-requires-clause-slots c =
+    let modules = c.as_slice-wanted-items.result.now in
+    let P : List Module → Type 0 = λ ms. AreBoots ms in
+    λ wants. omega (arith, c.loop-wanted.invariant.few, few_boots modules (subst P (sym c.as_slice-wanted-items.ensures) c.requires.boots))
+
+pub loop-wanted-preserved : goal.loop-wanted-preserved
+loop-wanted-preserved c =
+    let modules = c.as_slice-wanted-items.result.now in
+    let P : List Module → Type 0 = λ ms. AreBoots ms in
+    loaded_more modules c.loop-wanted.wanted-index _ c.loop-wanted.specs c.loop-wanted.numbers (subst P (sym c.as_slice-wanted-items.ensures) c.requires.boots) (omega arith)
+    (get_or_default modules c.loop-wanted.wanted-index _ _ (omega arith)) c.loop-wanted.invariant _ _ c.in_ok-load.ensures.specs c.in_ok-load.ensures.numbers

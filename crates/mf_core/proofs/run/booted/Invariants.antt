@@ -1,0 +1,5 @@
+use Rattle.mf_core.proofs.Reached.{AreLoaded}
+use Rattle.mf_core.proofs.run.booted.Given as goal
+
+abbrev pub invariant-loop-wanted : goal.invariant-loop-wanted
+invariant-loop-wanted l = AreLoaded l.wanted-items l.wanted-index l.specs l.numbers

@@ -1,0 +1,23 @@
+-- What contracts see of a run of a script, and what a run keeps true.
+use Rattle.std.specs.Prelude.{◌≡◌, ◌+◌, ◌≤◌, true, length}
+use Rattle.mf_calls.specs.declared.script.Script.{Script}
+use Rattle.mf_list.specs.Held.{IsListedOnce}
+use Rattle.mf_core.specs.declared.history.History.{History}
+use Rattle.mf_core.specs.declared.limits.TheConstants.{MOST_AT_OPENING, MOST_EVENTS}
+use Rattle.mf_core.specs.LegalHistory.{RunState}
+use Rattle.mf_core.specs.Consistency.{IsConsistent}
+
+-- a script, and the state that a run of it has reached
+pub record RunView : Type 0 where
+  pub script : Script
+  pub run : RunState
+
+-- Some legal history of the script determines this state of the run. Boot has ended, and no module is listed twice. The opening gives
+-- at most so many ids, and each event at most one.
+pub record IsReached (script : Script) (run : RunState) : Type 0 where
+  pub history : History
+  pub consistent : IsConsistent script history run
+  pub most : history.events.room ≤ MOST_EVENTS
+  pub booted : run.state.booted ≡ true
+  pub once : IsListedOnce run.state.specs
+  pub ids : run.state.objects.next ≤ MOST_AT_OPENING + length history.events.list

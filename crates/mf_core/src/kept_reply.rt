@@ -1,0 +1,136 @@
+//! Replies as a history keeps them.
+ghost use Rattle.std.specs.Prelude.{◌≡◌, IfOk, IsOk, false};
+ghost use Rattle.mf_step.specs.Reply.{is_done};
+
+use mf_errno::{Errno, Module};
+use mf_item::CheckOp;
+use mf_plan::{Payload, Reply};
+use std::alloc::{AllocError, Global};
+use std::marker::Model;
+
+/// A reply that a history keeps. Most take no memory: those of calls that are denied, refused, or done and hand nothing
+/// back. Contracts see the reply.
+#[derive(Drop)]
+pub struct KeptReply {
+    kept: Kept,
+}
+
+/// How a reply is kept.
+#[derive(Drop)]
+pub enum Kept {
+    /// The call was done, and handed nothing back.
+    Done,
+    Denied {
+        errno: Errno,
+        op: CheckOp,
+        item: u8,
+        by: Option<Module>,
+    },
+    Refused(Errno),
+    Other(Box<Reply>),
+}
+
+impl Model for KeptReply {
+    ghost use Rattle.mf_plan.specs.declared.reply.Reply.{Reply};
+    ghost use Rattle.mf_core.specs.Kept.{reply_by};
+
+    ghost Value = { Reply };
+
+    ghost view = { λ k. reply_by k.kept };
+}
+
+impl KeptReply {
+    /// Keeps the reply.
+    pub fn new(alloc: Global, reply: Reply) -> Result<KeptReply, AllocError>
+        ensures value { IfOk result (λ kept. kept ≡ reply) }
+        ensures memory { is_done reply ≡ false → IsOk result }
+    {
+        let kept = match reply {
+            Reply::Ok(Payload::None) => Kept::Done,
+            Reply::Denied {
+                errno,
+                op,
+                item,
+                by,
+            } => Kept::Denied {
+                errno,
+                op,
+                item,
+                by,
+            },
+            Reply::Refused(errno) => Kept::Refused(errno),
+            other => Kept::Other(Box::new(alloc, other)?),
+        };
+        Ok(KeptReply { kept })
+    }
+
+    /// Whether the call was done: neither denied nor refused.
+    pub fn is_done(&self) -> bool
+        ensures { result ≡ is_done self.now }
+    {
+        match self.lend().get() {
+            Reply::Ok(_) => true,
+            Reply::Denied { .. } | Reply::Refused(_) => false,
+        }
+    }
+
+    /// Lends the reply.
+    pub fn lend(&self) -> LentReply<'_>
+        ensures { result ≡ self.now }
+    {
+        match &self.kept {
+            Kept::Done => LentReply::of(Reply::Ok(Payload::None)),
+            Kept::Denied {
+                errno,
+                op,
+                item,
+                by,
+            } => LentReply::of(Reply::Denied {
+                errno: *errno,
+                op: *op,
+                item: *item,
+                by: *by,
+            }),
+            Kept::Refused(errno) => LentReply::of(Reply::Refused(*errno)),
+            Kept::Other(reply) => LentReply {
+                kept: Some(reply),
+                made: Reply::Ok(Payload::None),
+            },
+        }
+    }
+}
+
+/// A reply that is lent out of a history. Contracts see the reply.
+#[derive(Drop)]
+pub struct LentReply<'a> {
+    kept: Option<&'a Reply>,
+    /// What is lent where none is kept as it is.
+    made: Reply,
+}
+
+impl<'a> Model for LentReply<'a> {
+    ghost use Rattle.std.specs.Prelude.{option_map, unwrap_or};
+    ghost use Rattle.mf_plan.specs.declared.reply.Reply.{Reply};
+
+    ghost Value = { Reply };
+
+    ghost view = { λ l. unwrap_or (option_map (λ r. r.now) l.kept) l.made };
+}
+
+impl<'a> LentReply<'a> {
+    fn of(made: Reply) -> LentReply<'a>
+        ensures { result ≡ made }
+    {
+        LentReply { kept: None, made }
+    }
+
+    /// The reply.
+    pub fn get(&self) -> &Reply
+        ensures { result.now ≡ self.now }
+    {
+        match self.kept {
+            None => &self.made,
+            Some(reply) => reply,
+        }
+    }
+}

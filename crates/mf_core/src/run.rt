@@ -1,0 +1,284 @@
+//! A run of a script: the state of the framework, and how far each task is.
+ghost use Rattle.std.specs.Prelude.{◌≡◌, ◌<◌, ◌≤◌, ◌+◌, ◌⊎◌, ◌↔◌, length, true, false, IfOk, IsOk, IfSome, IsSome, OnOk, OnErr, Some};
+ghost use Rattle.mf_objects.specs.declared.limits.TheConstants.{ID_LIMIT};
+ghost use Rattle.mf_list.specs.Held.{IsListedOnce};
+ghost use Rattle.mf_calls.specs.declared.limits.TheConstants.{LINE_LIMIT};
+ghost use Rattle.mf_calls.specs.WellFormed.{lines_of, IsFormedLine, IsName, IsWellFormed};
+ghost use Rattle.mf_plan.specs.declared.plan.Tail.TheVariants.{Do};
+ghost use Rattle.mf_plan.specs.Found.{found_of};
+ghost use Rattle.mf_plan.specs.declared.reply.Payload.TheVariants as payload;
+ghost use Rattle.mf_step.specs.Reply.{is_done, reply_to};
+ghost use Rattle.mf_step.specs.Step.{step_reply, step_state};
+ghost use Rattle.mf_step.specs.Verdict.{verdict_of};
+ghost use Rattle.mf_core.specs.declared.history.Event.TheVariants as event;
+ghost use Rattle.mf_core.specs.declared.progress.Turn.TheVariants as turn;
+ghost use Rattle.mf_core.specs.LegalHistory.{after, next_found, next_line, next_plan, next_reply, opening, turn_of, MayCome};
+ghost use Rattle.mf_core.specs.Opening.{booted_specs, given_by};
+ghost use Rattle.mf_core.specs.Progress.{open_entries, progress_at};
+
+mod changing;
+
+use crate::history::Event;
+use crate::kept_reply::KeptReply;
+use crate::opening::opening_objects;
+use crate::progress::{Phase, ProgressList, Turn};
+use mf_calls::{Line, Script};
+use mf_plan::{Found, Plan, Reply, State, found_of};
+use mf_policy::SpecList;
+use mf_slots::SlotNumbers;
+use mf_step::{Verdict, load, payload_of, perform, refusal_of};
+use std::alloc::{AllocError, Global};
+use std::marker::Model;
+
+/// A run of a script, event by event. Contracts see the script and the state of the run.
+#[derive(Drop)]
+pub struct Run<'s> {
+    script: &'s Script,
+    state: State,
+    progress: ProgressList,
+}
+
+impl<'s> Model for Run<'s> {
+    ghost use Rattle.mf_core.specs.RunView.{RunView, IsReached};
+
+    ghost Value = { RunView };
+
+    ghost view = { λ r. record { script = r.script.now; run = record { state = r.state; progress = r.progress } } };
+
+    ghost invariant = { λ r. IsReached r.script.now (record { state = r.state; progress = r.progress }) };
+}
+
+impl<'s> Run<'s> {
+    /// The run before the first event of the script.
+    pub fn new(alloc: Global, script: &'s Script) -> Result<Run<'s>, AllocError>
+        requires { IsWellFormed script.now }
+        ensures { IfOk result (λ run. run ≡ record { script = script.now; run = opening script.now }) }
+    {
+        let (specs, numbers) = booted(alloc, script)?;
+        let objects = opening_objects(alloc, script, &specs)?;
+        let progress = ProgressList::for_tasks(alloc, &script.tasks)?;
+        let state = State {
+            objects,
+            specs,
+            numbers,
+            booted: true,
+        };
+        Ok(Run {
+            script,
+            state,
+            progress,
+        })
+    }
+
+    /// What the task may do next. Tasks count from 0.
+    pub fn turn(&self, task: u32) -> Turn
+        requires { task < length self.now.script.tasks }
+        ensures { result ≡ turn_of self.now.script self.now.run.progress task }
+    {
+        let progress = self.progress.at(task as usize);
+        match progress.phase {
+            Phase::Idle => Turn::at_line(self.script.next_line(task, progress.lines)),
+            Phase::Entered => Turn::Entered,
+            Phase::Done => Turn::Done,
+            Phase::Stopped => Turn::Stopped,
+        }
+    }
+
+    /// The task's next line.
+    pub(crate) fn line(&self, task: u32) -> &'s Line
+        requires task { task < length self.now.script.tasks }
+        requires line { IsSome (next_line self.now.script self.now.run.progress task) }
+        ensures value { next_line self.now.script self.now.run.progress task ≡ Some result.now }
+        ensures formed { IsFormedLine result.now }
+    {
+        let progress = self.progress.at(task as usize);
+        self.script.line_at(task, progress.lines)
+    }
+
+    /// Makes `plan` that of the call of the task's next line, from the present state, and returns what the call is about.
+    pub fn plan(&self, task: u32, plan: &mut Plan) -> Found
+        requires task { task < length self.now.script.tasks }
+        requires line { IsSome (next_line self.now.script self.now.run.progress task) }
+        ensures plan { next_plan self.now.script self.now.run task ≡ Some plan.new }
+        ensures found { plan.new.tail ≡ Do → next_found self.now.script self.now.run task ≡ Some result }
+    {
+        let line = self.line(task);
+        let name = self.script.name_of(task);
+        plan.make(&self.state, name, line.child_name(), &line.call)
+    }
+
+    /// What the call of the task's next line is about, where this is its plan in the present state. None where it isn't.
+    pub fn found_by(&self, task: u32, plan: &Plan) -> Option<Found>
+        requires task { task < length self.now.script.tasks }
+        requires line { IsSome (next_line self.now.script self.now.run.progress task) }
+        ensures is { IsSome result ↔ (next_plan self.now.script self.now.run task ≡ Some plan.now) }
+        ensures found { plan.now.tail ≡ Do → IfSome result (λ found. next_found self.now.script self.now.run task ≡ Some found) }
+    {
+        let line = self.line(task);
+        let name = self.script.name_of(task);
+        plan.is_of(&self.state, name, line.child_name(), &line.call)
+    }
+
+    /// What the call of the task's next line is about.
+    pub(crate) fn found(&self, task: u32) -> Found
+        requires task { task < length self.now.script.tasks }
+        requires line { IsSome (next_line self.now.script self.now.run.progress task) }
+        ensures { next_found self.now.script self.now.run task ≡ Some result }
+    {
+        let line = self.line(task);
+        let name = self.script.name_of(task);
+        found_of(&self.state, name, line.child_name(), &line.call)
+    }
+
+    /// The reply to the call of the task's next line. The plan, what was found as it was made, and the verdict of the state's
+    /// policies on it must be those of the call.
+    pub fn reply(
+        &self,
+        alloc: Global,
+        task: u32,
+        plan: &Plan,
+        found: Found,
+        verdict: &Verdict,
+    ) -> Result<KeptReply, AllocError>
+        requires task { task < length self.now.script.tasks }
+        requires plan { next_plan self.now.script self.now.run task ≡ Some plan.now }
+        requires found { plan.now.tail ≡ Do → next_found self.now.script self.now.run task ≡ Some found }
+        requires verdict { verdict.now ≡ verdict_of self.now.run.state.specs plan.now }
+        ensures value { IfOk result (λ reply. next_reply self.now.script self.now.run task ≡ Some reply) }
+        ensures memory { is_done (reply_to plan.now verdict.now payload.None) ≡ false → IsOk result }
+    {
+        if let Some(refusal) = refusal_of(plan, verdict) {
+            return KeptReply::new(alloc, refusal);
+        }
+        let line = self.line(task);
+        let payload = payload_of(alloc, &self.state, found.target, &line.call)?;
+        KeptReply::new(alloc, Reply::Ok(payload))
+    }
+
+    /// Goes on by an event that may come next. If memory runs out, nothing changes.
+    pub fn next(&mut self, alloc: Global, event: &Event) -> Result<(), AllocError>
+        requires { MayCome self.old.script self.old.run event.now }
+        ensures ok { OnOk result (self.new ≡ record self.old { run = after self.old.script self.old.run event.now }) }
+        ensures err { OnErr result (self.new ≡ self.old) }
+    {
+        match event {
+            Event::Enter(task) => {
+                self.enter(*task);
+                Ok(())
+            }
+            Event::Done(task, number, reply) => {
+                let found = self.found(*task);
+                self.commit(alloc, *task, *number, found, reply)
+            }
+            Event::Leave(task) => {
+                self.leave(*task);
+                Ok(())
+            }
+            Event::Changed(task, number, reply) => self.change(alloc, *task, *number, reply),
+        }
+    }
+
+    /// The task begins an entry.
+    pub(crate) fn enter(&mut self, task: u32)
+        requires { turn_of self.old.script self.old.run.progress task ≡ turn.Entry }
+        ensures { self.new ≡ record self.old { run = after self.old.script self.old.run (event.Enter task) } }
+    {
+        self.progress.set_phase(task as usize, Phase::Entered);
+    }
+
+    /// The task ends its entry.
+    pub(crate) fn leave(&mut self, task: u32)
+        requires { (turn_of self.old.script self.old.run.progress task ≡ turn.Done) ⊎ (turn_of self.old.script self.old.run.progress task ≡ turn.Entered) }
+        ensures { self.new ≡ record self.old { run = after self.old.script self.old.run (event.Leave task) } }
+    {
+        self.progress.leave(task as usize);
+    }
+
+    /// The call of the task's entry, at the line of that number, is done with this reply. If memory runs out, nothing changes.
+    pub(crate) fn commit(
+        &mut self,
+        alloc: Global,
+        task: u32,
+        number: u32,
+        found: Found,
+        reply: &KeptReply,
+    ) -> Result<(), AllocError>
+        requires may { MayCome self.old.script self.old.run (event.Done task number reply.now) }
+        requires found { is_done reply.now ≡ true → next_found self.old.script self.old.run task ≡ Some found }
+        ensures ok { OnOk result (self.new ≡ record self.old { run = after self.old.script self.old.run (event.Done task number reply.now) }) }
+        ensures err { OnErr result (self.new ≡ self.old) }
+        ensures memory { is_done reply.now ≡ false → IsOk result }
+    {
+        let line = self.line(task);
+        let name = self.script.name_of(task);
+        redo(alloc, &mut self.state, name, line, found, reply)?;
+        self.progress.set_phase(task as usize, Phase::Done);
+        Ok(())
+    }
+
+    /// How many entries are open.
+    pub fn open_entries(&self) -> u32
+        ensures { result ≡ open_entries self.now.run.progress }
+    {
+        self.progress.open_entries()
+    }
+
+    /// How many lines of the task are done: never more than the script gives it.
+    pub fn lines(&self, task: u32) -> u32
+        requires { task < length self.now.script.tasks }
+        ensures value { result ≡ (progress_at self.now.run.progress task).lines }
+        ensures within { result ≤ length (lines_of self.now.script task) }
+        ensures most { result ≤ LINE_LIMIT }
+    {
+        self.progress.at(task as usize).lines
+    }
+
+    /// The state of the framework.
+    pub fn state(&self) -> &State
+        ensures { result.now ≡ self.now.run.state }
+    {
+        &self.state
+    }
+}
+
+/// The policies that the script boots, in walk order, and how many slot numbers they took.
+fn booted(alloc: Global, script: &Script) -> Result<(SpecList, SlotNumbers), AllocError>
+    requires { IsWellFormed script.now }
+    ensures specs { IfOk result (λ r. r.0 ≡ booted_specs script.now) }
+    ensures numbers { IfOk result (λ r. r.1 ≡ given_by script.now.boots) }
+    ensures once { IfOk result (λ r. IsListedOnce r.0) }
+{
+    let mut specs = SpecList::new(alloc);
+    let mut numbers = SlotNumbers::new();
+    for wanted in script.boots.as_slice() {
+        load(alloc, &mut specs, &mut numbers, false, *wanted)?;
+    }
+    Ok((specs, numbers))
+}
+
+/// Does the call of a line of the task again where its reply was Ok. The reply must be that to the call in this state. If
+/// memory runs out, the state is unchanged.
+fn redo(
+    alloc: Global,
+    state: &mut State,
+    task: &str,
+    line: &Line,
+    found: Found,
+    reply: &KeptReply,
+) -> Result<(), AllocError>
+    requires task { IsName task.now }
+    requires line { IsFormedLine line.now }
+    requires reply { reply.now ≡ step_reply state.old task.now line.now.child line.now.call }
+    requires found { is_done reply.now ≡ true → found ≡ found_of state.old task.now line.now.child line.now.call }
+    requires next { state.old.objects.next < ID_LIMIT }
+    ensures state { OnOk result (state.new ≡ step_state state.old task.now line.now.child line.now.call) }
+    ensures err { OnErr result (state.new ≡ state.old) }
+    ensures ids { state.new.objects.next ≤ state.old.objects.next + 1 }
+    ensures booted { state.new.booted ≡ state.old.booted }
+    ensures memory { is_done reply.now ≡ false → IsOk result }
+{
+    if reply.is_done() {
+        perform(alloc, state, task, line, found)?;
+    }
+    Ok(())
+}

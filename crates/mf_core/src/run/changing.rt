@@ -1,0 +1,107 @@
+//! A change of the policies in three acts: the listed specs after it are made beside those of the state, the list and the
+//! catalogue follow, and the specs are put into the state. Only the first takes memory, and it changes nothing.
+ghost use Rattle.std.specs.Prelude.{◌≡◌, ◌<◌, ℕ, List, length, true, IfOk, IfSome, IsSome, MatchOption, OnOk, OnErr, Some};
+ghost use Rattle.mf_objects.specs.declared.id.Id.{Id};
+ghost use Rattle.mf_calls.specs.WellFormed.{is_change};
+ghost use Rattle.mf_plan.specs.Doing.{CanDo};
+ghost use Rattle.mf_step.specs.Effect.{effect_of};
+ghost use Rattle.mf_core.specs.declared.history.Event.TheVariants as event;
+ghost use Rattle.mf_core.specs.declared.progress.Turn.TheVariants as turn;
+ghost use Rattle.mf_core.specs.LegalHistory.{after, next_reply, next_state, turn_of, MayCome};
+ghost use Rattle.mf_core.specs.Policies.{AreListedAfter, AreOf};
+
+use super::Run;
+use crate::following::follow;
+use crate::kept_reply::KeptReply;
+use mf_calls::Call;
+use mf_list::{Catalogue, PolicyList};
+use mf_plan::State;
+use mf_policy::{Policy, SpecList};
+use mf_step::{listed_after, put_listed};
+use std::alloc::{AllocError, Global};
+
+impl<'s> Run<'s> {
+    /// The change of the task's line of that number is made with this reply. If memory runs out, nothing changes.
+    pub(crate) fn change(
+        &mut self,
+        alloc: Global,
+        task: u32,
+        number: u32,
+        reply: &KeptReply,
+    ) -> Result<(), AllocError>
+        requires { MayCome self.old.script self.old.run (event.Changed task number reply.now) }
+        ensures ok { OnOk result (self.new ≡ record self.old { run = after self.old.script self.old.run (event.Changed task number reply.now) }) }
+        ensures err { OnErr result (self.new ≡ self.old) }
+    {
+        let listed = self.listed_after(alloc, task, reply)?;
+        self.put(task, number, reply, listed);
+        Ok(())
+    }
+
+    /// The listed specs after the change of the task's next line, where it is done with this reply.
+    pub(crate) fn listed_after(
+        &self,
+        alloc: Global,
+        task: u32,
+        reply: &KeptReply,
+    ) -> Result<Option<SpecList>, AllocError>
+        requires turn { turn_of self.now.script self.now.run.progress task ≡ turn.Change }
+        requires reply { next_reply self.now.script self.now.run task ≡ Some reply.now }
+        ensures { IfOk result (AreListedAfter (next_state self.now.script self.now.run task) reply.now) }
+    {
+        if !reply.is_done() {
+            return Ok(None);
+        }
+        let line = self.line(task);
+        let specs = listed_after(alloc, &self.state, &line.call)?;
+        Ok(Some(specs))
+    }
+
+    /// The list and the catalogue follow the change of the task's next line, where it is done with this reply.
+    pub(crate) fn follow<P: Policy>(
+        &self,
+        task: u32,
+        reply: &KeptReply,
+        list: &mut PolicyList<P>,
+        catalogue: &mut Catalogue<P>,
+    )
+        requires turn { turn_of self.now.script self.now.run.progress task ≡ turn.Change }
+        requires reply { next_reply self.now.script self.now.run task ≡ Some reply.now }
+        requires policies { AreOf self.now.run.state.specs list.old catalogue.old }
+        ensures { AreOf (next_state self.now.script self.now.run task).specs list.new catalogue.new }
+    {
+        if reply.is_done() {
+            let line = self.line(task);
+            follow(list, catalogue, &self.state, &line.call);
+        }
+    }
+
+    /// Puts the listed specs after the change of the task's line of that number into the state. It takes no memory.
+    pub(crate) fn put(
+        &mut self,
+        task: u32,
+        number: u32,
+        reply: &KeptReply,
+        listed: Option<SpecList>,
+    )
+        requires may { MayCome self.old.script self.old.run (event.Changed task number reply.now) }
+        requires listed { AreListedAfter (next_state self.old.script self.old.run task) reply.now listed }
+        ensures { self.new ≡ record self.old { run = after self.old.script self.old.run (event.Changed task number reply.now) } }
+    {
+        let line = self.line(task);
+        put_after(&mut self.state, listed, &line.call);
+        self.progress.advance(task as usize);
+    }
+}
+
+/// Puts the listed specs after a change into the state, where it is done.
+fn put_after(state: &mut State, listed: Option<SpecList>, call: &Call)
+    requires change { is_change call.now ≡ true }
+    requires can { IsSome listed → (task : List ℕ) → CanDo state.old task call.now }
+    requires specs { IfSome listed (λ specs. (task : List ℕ) → (caller : Id) → specs ≡ (effect_of state.old task caller call.now).specs) }
+    ensures { MatchOption listed (state.new ≡ state.old) (λ specs. (task : List ℕ) → (caller : Id) → state.new ≡ effect_of state.old task caller call.now) }
+{
+    if let Some(specs) = listed {
+        put_listed(state, specs, call);
+    }
+}

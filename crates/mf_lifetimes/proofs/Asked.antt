@@ -1,0 +1,46 @@
+-- That the listed policies let a well-formed script ask what it asks.
+use Rattle.std.proofs.Common.{◌≡◌, ℕ, true, false, List, [], ◌∷◌, refl}
+use Rattle.std.specs.Prelude.{fold}
+use Rattle.std.specs.List.{AllByRecursion, list_all}
+use Rattle.std.proofs.lemmas.Bool.{and_parts}
+use Rattle.mf_errno.specs.declared.module.Module.{Module}
+use Rattle.mf_errno.specs.declared.module.Module.TheVariants.{Biba, Mls, Partition, Bsdextended, Priority}
+use Rattle.mf_elem.specs.declared.label.Request.{Request}
+use Rattle.mf_elem.specs.Label.{no_request}
+use Rattle.mf_item.specs.declared.view.Kind.{Kind}
+use Rattle.mf_item.specs.declared.view.Kind.TheVariants as kinds
+use Rattle.mf_policy.specs.Modules.{may_ask}
+use Rattle.mf_policy.specs.Registration.{Entry, given_after, with_newest, with_registered}
+use Rattle.mf_calls.specs.declared.script.Script.{Script}
+use Rattle.mf_calls.specs.Boots.{names_booted, IsAsked}
+use Rattle.mf_core.specs.Opening.{registrations_from, booted_specs}
+use Rattle.mf_lifetimes.proofs.Listing.{newest, all_newest}
+
+-- each listed policy lets a script ask this for an entity of that kind
+abbrev pub AllLetAsk : Kind → Request → List Entry → Type 0
+AllLetAsk kind request listed = AllByRecursion (λ entry. may_ask entry.0.module kind request ≡ true) listed
+
+all_let : (kind : Kind) (request : Request) (ms : List Module) (listed : List Entry) (given : ℕ) → list_all (λ m. may_ask m kind request) ms ≡ true
+    → AllLetAsk kind request listed → AllLetAsk kind request (fold with_registered listed (registrations_from given ms))
+all_let kind request [] listed given may all = all
+all_let kind request (m ∷ ms) listed given may all =
+    let both = and_parts (may_ask m kind request) (list_all (λ n. may_ask n kind request) ms) may in
+    all_let kind request ms (with_newest (newest m false given) listed) (given_after given m) both.1
+    (all_newest (λ entry. may_ask entry.0.module kind request ≡ true) (newest m false given) listed both.0 all)
+
+-- so do the policies that the script boots
+pub booted_let : (s : Script) (kind : Kind) (request : Request) → IsAsked kind s.boots request → AllLetAsk kind request (booted_specs s)
+booted_let s kind request asked =
+    all_let kind request s.boots [] 0 (and_parts (names_booted s.boots request) (list_all (λ m. may_ask m kind request) s.boots) asked.allowed).1 tt
+
+-- any policy lets a script ask nothing for a file
+nothing_asked : (m : Module) → may_ask m kinds.Vnode no_request ≡ true
+nothing_asked Biba = refl
+nothing_asked Mls = refl
+nothing_asked Partition = refl
+nothing_asked Bsdextended = refl
+nothing_asked Priority = refl
+
+pub let_nothing : (listed : List Entry) → AllLetAsk kinds.Vnode no_request listed
+let_nothing [] = tt
+let_nothing (entry ∷ listed) = (nothing_asked entry.0.module, let_nothing listed)

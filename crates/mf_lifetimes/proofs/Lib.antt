@@ -1,0 +1,10 @@
+pub mod Listing
+pub mod Valid
+pub mod Asked
+pub mod Boots
+pub mod Openings
+pub mod Kept
+pub mod Marked
+mod Leading
+mod Files
+mod Whole

@@ -1,0 +1,250 @@
+-- The marks of a slot over a legal history, and the laws about them.
+use Rattle.std.proofs.Common.{◌≡◌, ◌≢◌, ℕ, ◌<◌, ◌≤◌, Bool, true, false, if◌then◌else◌, List, [], ◌∷◌, ◌++◌, map, append-nil, Option, Some, None, refl, ap, sym, ◌∙◌, subst, arith, inl, inr, slice_index_or}
+use Rattle.std.specs.Prelude.{find, Contains}
+use Rattle.mf_elem.specs.declared.label.LabelValue.{LabelValue}
+use Rattle.mf_elem.specs.declared.label.LabelValue.TheVariants.{Unset, Range, Number}
+use Rattle.mf_elem.specs.declared.label.TheConstants.{SLOTS}
+use Rattle.mf_policy.specs.declared.registration.Registration.{Registration}
+use Rattle.mf_policy.specs.Registration.{Entry, holds_slot}
+use Rattle.mf_policy.specs.declared.labels.Origin.TheVariants.{Boot, Maker}
+use Rattle.mf_policy.specs.Modules.{facts_of}
+use Rattle.mf_policy.specs.NewLabels.{new_value}
+use Rattle.mf_objects.specs.declared.id.Id.{Id}
+use Rattle.mf_objects.specs.Live.{LiveEntity, kind_of, live_at}
+use Rattle.mf_calls.specs.declared.script.Line.{Line}
+use Rattle.mf_calls.specs.declared.script.Script.{Script}
+use Rattle.mf_calls.specs.WellFormed.{name_of, IsWellFormed}
+use Rattle.mf_plan.specs.declared.state.State.{State}
+use Rattle.mf_plan.specs.Names.{caller_name}
+use Rattle.mf_plan.specs.Views.{process_named}
+use Rattle.mf_core.specs.declared.history.Event.{Event}
+use Rattle.mf_core.specs.declared.history.Event.TheVariants as event
+use Rattle.mf_core.specs.Opening.{opening_state, booted_specs, given_by}
+use Rattle.mf_core.specs.LegalHistory.{RunState, opening, next_line, state_at, after, run_state_after}
+use Rattle.mf_lifetimes.specs.Marks.{Mark, made_marks, ends, is_registered, value_in, is_first, added, marks_across, marks_at_opening, marks_after, marks_of}
+use Rattle.mf_lifetimes.specs.Marks.Mark.{Made, Ended, Left}
+use Rattle.mf_lifetimes.specs.Laws.{AreOnce, state_of, SlotsAreMadeOnce, AreMarksOf, SetSlotsAreMarked, GoneSlotsHaveEnded, holds_valid, LabelsAll, BootedPoliciesLast}
+use Rattle.mf_lifetimes.specs.Laws.AreOnce.{never, made as made_once, ended as ended_once, left as left_once}
+use Rattle.mf_step.proofs.StateChange.{StateChange, step_change}
+use Rattle.mf_step.proofs.StateChange.StateChange.{same}
+use Rattle.mf_step.proofs.EntityChange.{EntityChange, ChangesEntities, changes_entities}
+use Rattle.mf_step.proofs.EntityChange.EntityChange.{absent, stays, comes, goes}
+use Rattle.mf_lifetimes.proofs.Listing.{lasting_labels, IsPinned, by_holder, one_labels}
+use Rattle.mf_lifetimes.proofs.Boots.{Standing, boots_standing, boots_pinned, boots_below, boots_single}
+use Rattle.mf_lifetimes.proofs.Openings.{AreBooted, opening_booted}
+use Rattle.mf_lifetimes.proofs.Kept.{four_values, created_marks, boot_marks, boot_holds, AllValid, keeps_valid, keeps_pinned, Holding, IsKept, keeps, maker_valid}
+
+-- An entity that isn't live has no slot that is made and hasn't ended, and no marks where its id isn't given yet; the marks of a live one
+-- tell the value.
+abbrev pub Agree : ℕ → Id → ℕ → Option LiveEntity → List Mark → Type 0
+Agree slot id next None marks = AreOnce marks × (next ≤ id.0 → marks ≡ []) × ((r : Registration) → marks ≢ Made r ∷ [])
+Agree slot id next (Some e) marks = AreMarksOf (value_in slot e) marks
+
+pub record IsMarked (slot : ℕ) (id : Id) (s : State) (marks : List Mark) : Type 0 where
+  pub kept : IsKept slot s
+  pub agree : Agree slot id s.objects.next (live_at s.objects id) marks
+
+-- One step
+
+-- the first value of a slot is never changed into another one by its being unset before
+no_first : (value : LabelValue) → is_first value value ≡ false
+no_first Unset = refl
+no_first (Range label) = refl
+no_first (Number n) = refl
+
+-- behind the one mark of a set slot stands its end
+pub record HaveEnded (marks : List Mark) : Type 0 where
+  pub once : AreOnce marks
+  pub over : (r : Registration) → marks ≢ Made r ∷ []
+
+made_ended : (specs : List Entry) (r : Registration) → HaveEnded (Made r ∷ ends specs (Made r ∷ []))
+made_ended specs r = one (is_registered r specs)
+  where
+    one : (b : Bool) → HaveEnded (Made r ∷ (if b then Ended r else Left r) ∷ [])
+    one true = record { once = ended_once r; over = λ q same. cc }
+    one false = record { once = left_once r; over = λ q same. cc }
+
+ends_once : (specs : List Entry) (value : LabelValue) (marks : List Mark) → AreMarksOf value marks → HaveEnded (marks ++ ends specs marks)
+ends_once specs Unset marks is = rw is (record { once = never; over = λ q same. cc })
+ends_once specs (Range label) marks is = subst (λ (ms : List Mark). HaveEnded (ms ++ ends specs ms)) (sym is.1) (made_ended specs is.0)
+ends_once specs (Number n) marks is = subst (λ (ms : List Mark). HaveEnded (ms ++ ends specs ms)) (sym is.1) (made_ended specs is.0)
+
+-- an entity that comes has its marks by the policies that label it
+comes_marked : (slot : ℕ) (s : State) (new maker : LiveEntity) (from : Id) → slot < SLOTS → IsKept slot s → live_at s.objects from ≡ Some maker
+    → value_in slot new ≡ new_value s.specs (kind_of new.what) (Maker maker.label) slot → AreMarksOf (value_in slot new) (made_marks s.specs slot new)
+comes_marked slot s new maker from within kept live is =
+    let marked = created_marks (find (holds_slot slot) s.specs) (kind_of new.what) maker.label slot
+    (λ x found lasting. maker_valid slot s from maker x kept live found lasting) in
+    let labelled : made_marks s.specs slot new ≡ map Made (by_holder (kind_of new.what) (find (holds_slot slot) s.specs)) =
+    ap (map Made) (one_labels slot (kind_of new.what) s.specs kept.slots.single) in
+    rw labelled (subst (λ (value : LabelValue). AreMarksOf value (map Made (by_holder (kind_of new.what) (find (holds_slot slot) s.specs)))) (sym is) marked)
+
+change_marked : {by : Option Id} (slot : ℕ) (id : Id) (s : State) (next : ℕ) (found found' : Option LiveEntity) (marks : List Mark) → slot < SLOTS → IsKept slot s → s.objects.next ≤ next
+    → EntityChange by s id found found' → Agree slot id s.objects.next found marks → Agree slot id next found' (marks ++ added s.specs slot marks found found')
+change_marked slot id s next _ _ marks within kept more absent agree =
+    rw (append-nil marks) (agree.0, λ later. agree.1 (omega arith), agree.2)
+change_marked slot id s next _ _ marks within kept more (stays old new label) agree =
+    let value : value_in slot new ≡ value_in slot old = ap (λ (values : List LabelValue). slice_index_or values slot Unset) label in
+    let not_first : is_first (value_in slot old) (value_in slot new) ≡ false = ap (is_first (value_in slot old)) value ∙ no_first (value_in slot old) in
+    rw (not_first, append-nil marks, value) agree
+change_marked slot id s next _ _ marks within kept more (comes new maker from own is live label) agree =
+    let none : marks ≡ [] = agree.1 (omega arith) in
+    let value : value_in slot new ≡ new_value s.specs (kind_of new.what) (Maker maker.label) slot =
+    ap (λ (values : List LabelValue). slice_index_or values slot Unset) label ∙ four_values (new_value s.specs (kind_of new.what) (Maker maker.label)) slot within in
+    subst (λ (ms : List Mark). AreMarksOf (value_in slot new) (ms ++ made_marks s.specs slot new)) (sym none) (comes_marked slot s new maker from within kept live value)
+change_marked slot id s next _ _ marks within kept more (goes old given) agree =
+    let ended = ends_once s.specs (value_in slot old) marks agree in
+    (ended.once, λ later. absurd (omega arith), ended.over)
+
+step_marked : {by : Option Id} (slot : ℕ) (id : Id) (s s' : State) (marks : List Mark) → slot < SLOTS → StateChange by s s' → IsMarked slot id s marks
+    → IsMarked slot id s' (marks_across id slot marks s s')
+step_marked {by = by} slot id s s' marks within shape marked =
+    let step : ChangesEntities by s s' = changes_entities by s s' shape marked.kept.rising in
+    record {
+      kept = keeps slot s s' within shape marked.kept;
+      agree = change_marked slot id s s'.objects.next (live_at s.objects id) (live_at s'.objects id) marks within marked.kept step.next (step.each id) marked.agree;
+    }
+
+-- A run
+
+-- the process that makes the call of a line, and of an event
+abbrev pub by_line : Script → RunState → ℕ → Option Line → Option Id
+by_line s r t None = None
+by_line s r t (Some line) = process_named r.state.objects (caller_name (name_of s t) line.child)
+
+abbrev pub by_event : Script → RunState → Event → Option Id
+by_event s r (event.Enter t) = None
+by_event s r (event.Done t line reply) = by_line s r t (next_line s r.progress t)
+by_event s r (event.Leave t) = None
+by_event s r (event.Changed t line reply) = by_line s r t (next_line s r.progress t)
+
+line_change : (s : Script) (r : RunState) (t : ℕ) (next : Option Line) → StateChange (by_line s r t next) r.state (state_at s r t next)
+line_change s r t None = same refl
+line_change s r t (Some line) = step_change r.state (name_of s t) line.child line.call
+
+pub event_change : (s : Script) (r : RunState) (e : Event) → StateChange (by_event s r e) r.state (after s r e).state
+event_change s r (event.Enter t) = same refl
+event_change s r (event.Done t line reply) = line_change s r t (next_line s r.progress t)
+event_change s r (event.Leave t) = same refl
+event_change s r (event.Changed t line reply) = line_change s r t (next_line s r.progress t)
+
+run_marked : (slot : ℕ) (id : Id) (s : Script) (r : RunState) (marks : List Mark) (es : List Event) → slot < SLOTS → IsMarked slot id r.state marks
+    → IsMarked slot id (run_state_after s r es).state (marks_after s id slot r marks es)
+run_marked slot id s r marks [] within marked = marked
+run_marked slot id s r marks (e ∷ es) within marked =
+    run_marked slot id s (after s r e) (marks_across id slot marks r.state (after s r e).state) es within
+    (step_marked slot id r.state (after s r e).state marks within (event_change s r e) marked)
+
+-- The opening state
+
+opening_valid : (slot : ℕ) (s : Script) (r : Registration) → slot < SLOTS → IsWellFormed s → IsPinned slot r (booted_specs s) (given_by s.boots)
+    → AllValid slot r.module (opening_state s).objects
+opening_valid slot s r within formed pinned id e found =
+    let booted = (opening_booted s formed).each id e found in
+    ap (λ (values : List LabelValue). holds_valid (facts_of r.module).labels (slice_index_or values slot Unset)) booted.label
+    ∙ boot_holds slot r (booted_specs s) (given_by s.boots) (kind_of e.what) booted.request within pinned booted.let_ask
+
+opening_holding : (slot : ℕ) (s : Script) → slot < SLOTS → IsWellFormed s → Standing slot (booted_specs s) (given_by s.boots) → Holding slot (opening_state s)
+opening_holding slot s within formed (inl pinned) = inl (pinned.0, pinned.1, opening_valid slot s pinned.0 within formed pinned.1)
+opening_holding slot s within formed (inr none) = inr none
+
+opening_marked : (slot : ℕ) (id : Id) (s : Script) → slot < SLOTS → IsWellFormed s → IsMarked slot id (opening_state s) (marks_at_opening (opening_state s) id slot)
+opening_marked slot id s within formed =
+    record {
+      kept = record {
+        rising = booted.rising;
+        booted = refl;
+        slots = record { below = boots_below s; single = boots_single s slot };
+        holding = opening_holding slot s within formed (boots_standing s slot);
+      };
+      agree = one (live_at (opening_state s).objects id) refl;
+    }
+  where
+    booted : AreBooted (booted_specs s) (opening_state s).objects
+    booted = opening_booted s formed
+
+    one : (found : Option LiveEntity) → live_at (opening_state s).objects id ≡ found
+        → Agree slot id (opening_state s).objects.next found (added (booted_specs s) slot [] None found)
+    one None is = (never, λ _. refl, λ r same. cc)
+    one (Some e) is =
+        let here = booted.each id e is in
+        let value : value_in slot e ≡ new_value (booted_specs s) (kind_of e.what) (Boot here.request) slot =
+        ap (λ (values : List LabelValue). slice_index_or values slot Unset) here.label ∙ four_values (new_value (booted_specs s) (kind_of e.what) (Boot here.request)) slot within in
+        let marked = boot_marks slot (booted_specs s) (kind_of e.what) here.request in
+        let labelled : made_marks (booted_specs s) slot e ≡ map Made (by_holder (kind_of e.what) (find (holds_slot slot) (booted_specs s))) =
+        ap (map Made) (one_labels slot (kind_of e.what) (booted_specs s) (boots_single s slot)) in
+        rw labelled (subst (λ (v : LabelValue). AreMarksOf v (map Made (by_holder (kind_of e.what) (find (holds_slot slot) (booted_specs s))))) (sym value) marked)
+
+-- The laws
+
+marked : (s : Script) (es : List Event) (id : Id) (slot : ℕ) → slot < SLOTS → IsWellFormed s → IsMarked slot id (run_state_after s (opening s) es).state (marks_of s es id slot)
+marked s es id slot within formed =
+    run_marked slot id s (opening s) (marks_at_opening (opening_state s) id slot) es within (opening_marked slot id s within formed)
+
+value_once : (value : LabelValue) (marks : List Mark) → AreMarksOf value marks → AreOnce marks
+value_once Unset marks is = rw is never
+value_once (Range label) marks is = subst AreOnce (sym is.1) (made_once is.0)
+value_once (Number n) marks is = subst AreOnce (sym is.1) (made_once is.0)
+
+agree_once : (slot : ℕ) (id : Id) (next : ℕ) (found : Option LiveEntity) (marks : List Mark) → Agree slot id next found marks → AreOnce marks
+agree_once slot id next None marks agree = agree.0
+agree_once slot id next (Some e) marks agree = value_once (value_in slot e) marks agree
+
+pub made_at_most_once : SlotsAreMadeOnce
+made_at_most_once s h legal id slot within =
+    let last : State = state_of s h in
+    agree_once slot id last.objects.next (live_at last.objects id) (marks_of s h.events.list id slot) (marked s h.events.list id slot within legal.formed).agree
+
+pub marks_tell_values : SetSlotsAreMarked
+marks_tell_values s h id e slot legal live within =
+    let last : State = state_of s h in
+    subst (λ (found : Option LiveEntity). Agree slot id last.objects.next found (marks_of s h.events.list id slot)) live (marked s h.events.list id slot within legal.formed).agree
+
+pub gone_have_ended : GoneSlotsHaveEnded
+gone_have_ended s h id slot r legal gone within =
+    let last : State = state_of s h in
+    let agree : Agree slot id last.objects.next None (marks_of s h.events.list id slot) =
+    subst (λ (found : Option LiveEntity). Agree slot id last.objects.next found (marks_of s h.events.list id slot)) gone (marked s h.events.list id slot within legal.formed).agree in
+    agree.2 r
+
+-- Policies that stay
+
+-- the registration stays, and its slot of each live entity holds a valid label
+pub record IsHeld (slot : ℕ) (r : Registration) (s : State) : Type 0 where
+  pub kept : IsKept slot s
+  pub pinned : IsPinned slot r s.specs s.numbers
+  pub valid : AllValid slot r.module s.objects
+
+pub opening_held : (slot : ℕ) (r : Registration) (s : Script) → slot < SLOTS → IsWellFormed s → IsPinned slot r (booted_specs s) (given_by s.boots)
+    → IsHeld slot r (opening_state s)
+opening_held slot r s within formed pinned =
+    record { kept = (opening_marked slot (record { 0 = 0 }) s within formed).kept; pinned = pinned; valid = opening_valid slot s r within formed pinned }
+
+pub step_held : {by : Option Id} (slot : ℕ) (r : Registration) (s s' : State) → slot < SLOTS → StateChange by s s' → IsHeld slot r s → IsHeld slot r s'
+step_held {by = by} slot r s s' within shape held =
+    let step : ChangesEntities by s s' = changes_entities by s s' shape held.kept.rising in
+    record {
+      kept = keeps slot s s' within shape held.kept;
+      pinned = keeps_pinned slot r s s' shape held.pinned;
+      valid = keeps_valid slot r s s' within step held.pinned held.valid;
+    }
+
+run_held : (slot : ℕ) (r : Registration) (s : Script) (run : RunState) (es : List Event) → slot < SLOTS → IsHeld slot r run.state
+    → IsHeld slot r (run_state_after s run es).state
+run_held slot r s run [] within held = held
+run_held slot r s run (e ∷ es) within held =
+    run_held slot r s (after s run e) es within (step_held slot r run.state (after s run e).state within (event_change s run e) held)
+
+labels_all : (slot : ℕ) (r : Registration) (s : State) → IsHeld slot r s → LabelsAll r slot s
+labels_all slot r s held =
+    record {
+      listed = λ kind. one_labels slot kind s.specs held.kept.slots.single
+          ∙ ap (by_holder kind) held.pinned.found
+          ∙ ap (λ (b : Bool). if b then r ∷ [] else []) (lasting_labels r.module kind held.pinned.lasting);
+      valid = held.valid;
+    }
+
+pub last_and_label : BootedPoliciesLast
+last_and_label s h r slot legal there fixed at within =
+    let pinned = boots_pinned s slot r (subst (λ (rs : List Registration). Contains rs r) legal.boots there) fixed at in
+    labels_all slot r (state_of s h) (run_held slot r s (opening s) h.events.list within (opening_held slot r s within legal.formed pinned))

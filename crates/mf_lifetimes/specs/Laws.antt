@@ -1,0 +1,79 @@
+-- What is true of the opening state, and of label slots and their marks over every legal history.
+use Rattle.std.specs.Prelude.{◌≡◌, ◌≢◌, ℕ, ◌<◌, ◌+◌, Bool, true, false, List, [], ◌∷◌, length, Some, None, Contains}
+use Rattle.mf_elem.specs.declared.label.TheConstants.{SLOTS}
+use Rattle.mf_elem.specs.declared.label.LabelValue.{LabelValue}
+use Rattle.mf_elem.specs.declared.label.LabelValue.TheVariants.{Unset, Range, Number}
+use Rattle.mf_elem.specs.Label.{is_valid}
+use Rattle.mf_item.specs.declared.view.Kind.{Kind}
+use Rattle.mf_policy.specs.declared.modules.Labelling.{Labelling}
+use Rattle.mf_policy.specs.declared.modules.Labelling.TheVariants.{Ranges, Partitions}
+use Rattle.mf_policy.specs.Modules.{facts_of}
+use Rattle.mf_policy.specs.declared.registration.Registration.{Registration}
+use Rattle.mf_objects.specs.declared.id.Id.{Id}
+use Rattle.mf_objects.specs.Live.{LiveEntity, live_at}
+use Rattle.mf_calls.specs.declared.script.Script.{Script}
+use Rattle.mf_calls.specs.WellFormed.{IsWellFormed}
+use Rattle.mf_plan.specs.declared.state.State.{State}
+use Rattle.mf_core.specs.declared.history.History.{History}
+use Rattle.mf_core.specs.Opening.{opening_state}
+use Rattle.mf_core.specs.LegalHistory.{run_state_of, IsLegal}
+use Rattle.mf_lifetimes.specs.Marks.{Mark, labellers, value_in, marks_of}
+use Rattle.mf_lifetimes.specs.Marks.Mark.{Made, Ended, Left}
+
+-- The slot was never made; or it was made, and may have ended once, under one and the same registration.
+pub data AreOnce : List Mark → Type 0 where
+  never : AreOnce []
+  made : (r : Registration) → AreOnce (Made r ∷ [])
+  ended : (r : Registration) → AreOnce (Made r ∷ Ended r ∷ [])
+  left : (r : Registration) → AreOnce (Made r ∷ Left r ∷ [])
+
+-- the state at the end of a history
+abbrev pub state_of : Script → History → State
+state_of s h = (run_state_of s h.events.list).state
+
+-- In this history each label slot of each entity is made at most once and ended at most once.
+abbrev pub AreMadeOnce : Script → History → Type 0
+AreMadeOnce s h = (id : Id) (slot : ℕ) → slot < SLOTS → AreOnce (marks_of s h.events.list id slot)
+
+-- It is so in every legal history.
+abbrev pub SlotsAreMadeOnce : Type 0
+SlotsAreMadeOnce = (s : Script) (h : History) → IsLegal s h → AreMadeOnce s h
+
+-- an unset slot has no mark, and a set one has been made, by some registration, and hasn't ended
+abbrev pub AreMarksOf : LabelValue → List Mark → Type 0
+AreMarksOf Unset marks = marks ≡ []
+AreMarksOf (Range label) marks = (r : Registration) × (marks ≡ Made r ∷ [])
+AreMarksOf (Number n) marks = (r : Registration) × (marks ≡ Made r ∷ [])
+
+-- A slot of a live entity is unset exactly where it has no mark.
+abbrev pub SetSlotsAreMarked : Type 0
+SetSlotsAreMarked = (s : Script) (h : History) (id : Id) (e : LiveEntity) (slot : ℕ) → IsLegal s h → live_at (state_of s h).objects id ≡ Some e → slot < SLOTS
+    → AreMarksOf (value_in slot e) (marks_of s h.events.list id slot)
+
+-- A slot of an entity that has gone isn't left as it was made: it was never made, or it has ended.
+abbrev pub GoneSlotsHaveEnded : Type 0
+GoneSlotsHaveEnded = (s : Script) (h : History) (id : Id) (slot : ℕ) (r : Registration) → IsLegal s h → live_at (state_of s h).objects id ≡ None → slot < SLOTS
+    → marks_of s h.events.list id slot ≢ Made r ∷ []
+
+-- whether a slot that is labelled so holds a valid label: by elements, one whose effective element is there, and lies in the range where there
+-- is one; by partitions, a number
+abbrev pub holds_valid : Labelling → LabelValue → Bool
+holds_valid (Ranges process other) (Range label) = is_valid label
+holds_valid Partitions (Number n) = true
+holds_valid labels value = false
+
+-- The registration alone is listed with this slot, and labels entities of every kind; and the slot of each live entity holds a valid label,
+-- with an effective element where the module labels by elements.
+pub record LabelsAll (r : Registration) (slot : ℕ) (state : State) : Type 0 where
+  pub listed : (kind : Kind) → labellers state.specs kind slot ≡ r ∷ []
+  pub valid : (id : Id) (e : LiveEntity) → live_at state.objects id ≡ Some e → holds_valid (facts_of r.module).labels (value_in slot e) ≡ true
+
+-- What was booted for good, with a label slot, labels all entities at any time, each with a valid label.
+abbrev pub BootedPoliciesLast : Type 0
+BootedPoliciesLast = (s : Script) (h : History) (r : Registration) (slot : ℕ) → IsLegal s h → Contains h.boots r → r.fixed ≡ true → r.slot ≡ Some slot → slot < SLOTS
+    → LabelsAll r slot (state_of s h)
+
+-- In the opening state of a well-formed script no file and no task is missing: beside the root directory as many entities live as there
+-- are files and tasks.
+abbrev pub OpeningIsWhole : Type 0
+OpeningIsWhole = (s : Script) → IsWellFormed s → length (opening_state s).objects.live ≡ 1 + length s.files + length s.tasks

@@ -1,0 +1,106 @@
+-- Marks of label slots: when a slot of an entity is made, and how it ends.
+use Rattle.std.specs.Prelude.{ℕ, Bool, true, false, not, ◌&&◌, nat_eq, if◌then◌else◌, List, [], ◌∷◌, ◌++◌, map, filter, slice_index_or, Option, Some, None}
+use Rattle.std.specs.List.{list_any}
+use Rattle.mf_elem.specs.declared.label.LabelValue.{LabelValue}
+use Rattle.mf_elem.specs.declared.label.LabelValue.TheVariants.{Unset, Range, Number}
+use Rattle.mf_item.specs.declared.view.Kind.{Kind}
+use Rattle.mf_policy.specs.declared.registration.Registration.{Registration}
+use Rattle.mf_errno.specs.Module.{same_module}
+use Rattle.mf_policy.specs.Modules.{labels_kind}
+use Rattle.mf_policy.specs.Registration.{Entry, holds_slot}
+use Rattle.mf_objects.specs.declared.id.Id.{Id}
+use Rattle.mf_objects.specs.Live.{LiveEntity, kind_of, live_at}
+use Rattle.mf_calls.specs.declared.script.Script.{Script}
+use Rattle.mf_plan.specs.declared.state.State.{State}
+use Rattle.mf_core.specs.declared.history.Event.{Event}
+use Rattle.mf_core.specs.Opening.{opening_state}
+use Rattle.mf_core.specs.LegalHistory.{RunState, opening, after}
+
+-- a mark of a label slot of an entity
+pub data Mark : Type 0 where
+  -- the slot is made while this registration holds it
+  Made : (r : Registration) → Mark
+  -- the entity goes while this registration, under which the slot was made, is listed
+  Ended : (r : Registration) → Mark
+  -- the entity goes after that registration has left the list
+  Left : (r : Registration) → Mark
+
+-- Who labels
+
+-- the entry is of a policy that holds the slot and labels entities of that kind
+abbrev pub labels : Kind → ℕ → Entry → Bool
+labels kind slot entry = holds_slot slot entry && labels_kind entry.0.module kind
+
+-- the listed registrations that hold the slot and label entities of that kind
+abbrev pub labellers : List Entry → Kind → ℕ → List Registration
+labellers specs kind slot = map (λ entry. entry.0) (filter (labels kind slot) specs)
+
+abbrev pub same_slot : Option ℕ → Option ℕ → Bool
+same_slot None None = true
+same_slot None (Some slot) = false
+same_slot (Some slot) None = false
+same_slot (Some slot) (Some other) = nat_eq slot other
+
+-- Of two registrations of one module the second has another slot number, since none is given twice.
+abbrev pub same_registration : Registration → Registration → Bool
+same_registration r q = same_module r.module q.module && same_slot r.slot q.slot
+
+-- the registration is listed
+abbrev pub is_registered : Registration → List Entry → Bool
+is_registered r specs = list_any (λ entry. same_registration r entry.0) specs
+
+-- Marks that are added
+
+-- the marks of a slot that is made now: one for each registration that labels it
+abbrev pub made_marks : List Entry → ℕ → LiveEntity → List Mark
+made_marks specs slot e = map Made (labellers specs (kind_of e.what) slot)
+
+-- how a slot ends that was made under this registration
+abbrev pub end_of : List Entry → Registration → Mark
+end_of specs r = if is_registered r specs then Ended r else Left r
+
+-- the ends of a slot that has these marks: one for each time that it was made
+abbrev pub ends : List Entry → List Mark → List Mark
+ends specs [] = []
+ends specs (Made r ∷ marks) = end_of specs r ∷ ends specs marks
+ends specs (Ended r ∷ marks) = ends specs marks
+ends specs (Left r ∷ marks) = ends specs marks
+
+-- the value in a label slot of an entity
+abbrev pub value_in : ℕ → LiveEntity → LabelValue
+value_in slot e = slice_index_or e.label slot Unset
+
+abbrev pub is_set : LabelValue → Bool
+is_set Unset = false
+is_set (Range label) = true
+is_set (Number n) = true
+
+-- the first value of a slot that was unset
+abbrev pub is_first : LabelValue → LabelValue → Bool
+is_first old new = not (is_set old) && is_set new
+
+-- What is added to the marks of a slot of an entity, by the entity before and after, while these policies are listed: its slot is made
+-- as it comes, or as the unset slot gets its first value, and it ends as the entity goes.
+abbrev pub added : List Entry → ℕ → List Mark → Option LiveEntity → Option LiveEntity → List Mark
+added specs slot marks None None = []
+added specs slot marks None (Some e) = made_marks specs slot e
+added specs slot marks (Some e) None = ends specs marks
+added specs slot marks (Some old) (Some new) = if is_first (value_in slot old) (value_in slot new) then made_marks specs slot new else []
+
+-- Marks over a history
+
+-- the marks after a step from one state to the other, where they were these
+abbrev pub marks_across : Id → ℕ → List Mark → State → State → List Mark
+marks_across id slot marks old new = marks ++ added old.specs slot marks (live_at old.objects id) (live_at new.objects id)
+
+-- the entities of the opening state come at its beginning
+abbrev pub marks_at_opening : State → Id → ℕ → List Mark
+marks_at_opening state id slot = added state.specs slot [] None (live_at state.objects id)
+
+abbrev pub marks_after : Script → Id → ℕ → RunState → List Mark → List Event → List Mark
+marks_after s id slot r marks [] = marks
+marks_after s id slot r marks (e ∷ es) = marks_after s id slot (after s r e) (marks_across id slot marks r.state (after s r e).state) es
+
+-- the marks that a slot of the entity of this id has after these events of a run of the script
+abbrev pub marks_of : Script → List Event → Id → ℕ → List Mark
+marks_of s es id slot = marks_after s id slot (opening s) (marks_at_opening (opening_state s) id slot) es

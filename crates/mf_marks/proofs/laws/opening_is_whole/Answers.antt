@@ -1,5 +1,0 @@
-use Rattle.mf_marks.proofs.Whole.{opening_whole}
-use Rattle.mf_marks.proofs.laws.opening_is_whole.Goals as goal
-
-pub returns : goal.returns
-returns c = opening_whole

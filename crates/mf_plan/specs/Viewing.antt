@@ -1,0 +1,31 @@
+-- How the views of a plan's checks are made and compared; inner contracts alone cite this.
+use Rattle.std.specs.Prelude.{◌≡◌, ℕ, ◌-◌, ◌<◌, List, ◌++◌, length, slice_index_or, Option, Some, None, option_map}
+use Rattle.mf_item.specs.declared.view.SubjectView.{SubjectView}
+use Rattle.mf_objects.specs.Live.{Entities}
+use Rattle.mf_plan.specs.declared.outline.Check.{Check}
+use Rattle.mf_plan.specs.declared.views.CheckView.{CheckView}
+use Rattle.mf_plan.specs.Outline.{subject_in}
+use Rattle.mf_plan.specs.Planned.{nobody}
+use Rattle.mf_plan.specs.Views.{object_of}
+
+-- the view is that of the check, but for its subject
+pub record IsAsked (objects : Entities) (check : Check) (seen : CheckView) : Type 0 where
+  pub op : seen.op ≡ check.op
+  pub object : seen.object ≡ option_map (object_of objects) check.object
+  pub privilege : seen.privilege ≡ check.privilege
+
+-- the check has the subject of the one before
+abbrev pub GoesOn : Option Check → Check → Type 0
+GoesOn None check = ⊥
+GoesOn (Some last) check = (check.caller ≡ last.caller) × (check.subject ≡ last.subject)
+
+-- the last of the subjects is that of the check before
+abbrev pub EndsWith : Entities → List SubjectView → Option Check → Type 0
+EndsWith objects subjects None = Unit {0}
+EndsWith objects subjects (Some last) =
+    (0 < length subjects) × (slice_index_or subjects (length subjects - 1) nobody ≡ subject_in objects last)
+
+-- subjects were added at most
+pub record GrowsTo (old new : List SubjectView) : Type 0 where
+  pub rest : List SubjectView
+  pub is : new ≡ old ++ rest

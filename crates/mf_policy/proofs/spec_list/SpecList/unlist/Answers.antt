@@ -1,0 +1,14 @@
+use Rattle.std.proofs.Common.{◌∙◌, List, ap, sym}
+use Rattle.std.specs.List.{remove}
+use Rattle.mf_policy.specs.Registration.{Entry, is_of}
+use Rattle.mf_policy.proofs.Places.{without_found, without_not_found}
+use Rattle.mf_policy.proofs.spec_list.SpecList.unlist.Goals as goal
+
+pub returns-in-Some : goal.returns-in-Some
+returns-in-Some c =
+    c.remove.ensures.items
+    ∙ ap (λ (entries : List Entry). remove entries c.in-Some.place) c.self.view_is
+    ∙ without_found (is_of c.args.module) c.args.self.now c.in-Some.place (sym c.find.ensures ∙ c.in-Some.is)
+
+pub returns-in_default : goal.returns-in_default
+returns-in_default c = without_not_found (is_of c.args.module) c.args.self.now (sym c.find.ensures ∙ c.in_default.is)

@@ -1,0 +1,253 @@
+-- What a call is about lives, and suits the change of a call that may be done.
+use Rattle.std.proofs.Common.{◌≡◌, ◌≢◌, ℕ, ◌+◌, ◌≤◌, Bool, true, false, cond, List, [], ◌∷◌, Option, Some, None, IsSome, option_map, length, refl, ap, sym, subst, arith, eq-eqb, if◌then◌else◌}
+use Rattle.std.specs.Prelude.{find, IfSome, IfNone, IsTrue}
+use Rattle.std.specs.Result.{result_ok}
+use Rattle.std.proofs.lemmas.Bool.{false≢true}
+use Rattle.std.proofs.lemmas.Option.{IfSome_then}
+use Rattle.mf_errno.specs.declared.errno.Errno.TheVariants.{Enotdir}
+use Rattle.mf_objects.specs.declared.id.Id.{Id}
+use Rattle.mf_objects.specs.declared.entity.EntityData.{EntityData}
+use Rattle.mf_objects.specs.Changes.{FitsBytes, FitsMessage, HasMessage}
+use Rattle.mf_objects.specs.Live.{LiveEntity, Entities, IsFound, IsLive, IsLiveWhere, has_id, id_of, is_child, is_directory, is_named, is_pipe, is_process, is_socket, is_vnode, live_at, live_named, passes}
+use Rattle.mf_objects.specs.Population.{HasRoot, IsPopulation, IsRising}
+use Rattle.mf_objects.proofs.Found.{child_kind, child_not_root, kind_found, named_kind}
+use Rattle.mf_objects.proofs.Laws.{directory_vnode, live_directory}
+use Rattle.mf_objects.proofs.Rising.{id_differs}
+use Rattle.mf_calls.specs.declared.script.Call.{Call}
+use Rattle.mf_calls.specs.declared.script.Call.TheVariants as call
+use Rattle.mf_plan.specs.declared.state.State.{State}
+use Rattle.mf_plan.specs.declared.target.Target.{Target}
+use Rattle.mf_plan.specs.declared.target.Target.TheVariants.{Root, Name, Nowhere}
+use Rattle.mf_plan.specs.Doing.{CanCreate, CanDo, CanFill, CanDeliver, CanReceive, CanUnlink, CanWrite}
+use Rattle.mf_plan.specs.Found.{target_of}
+use Rattle.mf_plan.specs.Path.{IsTarget, entry_at, entry_of, entry_at_path, file_at_path, found_at, free_at, free_dir_at, going_on, nowhere, root, lookup_along, lookup_from}
+use Rattle.mf_plan.specs.Views.{is_dir, pipe_named, process_named, socket_named}
+use Rattle.mf_step.specs.Suits.{HasFree, IsRemovable, Suits}
+
+-- What is found
+
+inside_some : {A : Type 0} (a b : A) → Some a ≡ Some b → a ≡ b
+inside_some a b is = cc
+
+find_least : (test : LiveEntity → Bool) (least next : ℕ) (es : List LiveEntity) (x : LiveEntity) → IsRising least next es → find test es ≡ Some x → least ≤ x.id.0
+find_least test least next [] x rising is = cc
+find_least test least next (e ∷ es) x rising is = one (test e) (find_least test (e.id.0 + 1) next es x rising.1) is
+  where
+    one : (b : Bool) → (find test es ≡ Some x → e.id.0 + 1 ≤ x.id.0) → cond b (Some e) (find test es) ≡ Some x → least ≤ x.id.0
+    one true later is = let same : e.id.0 ≡ x.id.0 = ap (λ (l : LiveEntity). l.id.0) (inside_some e x is) in omega (arith, same, rising.0)
+    one false later is = omega (arith, later is, rising.0)
+
+-- an id finds again what has it
+found_again : (test : LiveEntity → Bool) (least next : ℕ) (es : List LiveEntity) (x : LiveEntity) → IsRising least next es → find test es ≡ Some x → find (has_id x.id) es ≡ Some x
+found_again test least next [] x rising is = cc
+found_again test least next (e ∷ es) x rising is = one (test e) (found_again test (e.id.0 + 1) next es x rising.1) is
+  where
+    later : find test es ≡ Some x → e.id.0 + 1 ≤ x.id.0
+    later = find_least test (e.id.0 + 1) next es x rising.1
+
+    one : (b : Bool) → (find test es ≡ Some x → find (has_id x.id) es ≡ Some x) → cond b (Some e) (find test es) ≡ Some x → find (has_id x.id) (e ∷ es) ≡ Some x
+    one true rest is =
+        let hit : has_id x.id e ≡ true = eq-eqb e.id.0 x.id.0 (ap (λ (l : LiveEntity). l.id.0) (inside_some e x is)) in
+        rw hit is
+    one false rest is =
+        let above : e.id.0 + 1 ≤ x.id.0 = later is in
+        let miss : has_id x.id e ≡ false = id_differs x.id e (λ (same : e.id.0 ≡ x.id.0). omega (arith, same, above)) in
+        rw miss (rest is)
+
+is_found : (test : LiveEntity → Bool) (o : Entities) → IsPopulation o → IsFound test o (id_of (find test o.live))
+is_found test o population = record { id = refl; live = again (find test o.live) refl; absent = nothing (find test o.live) }
+  where
+    nothing : (found : Option LiveEntity) → IfNone (id_of found) (found ≡ None)
+    nothing None = refl
+    nothing (Some x) = tt
+
+    again : (found : Option LiveEntity) → find test o.live ≡ found → IfSome (id_of found) (λ id. live_at o id ≡ found)
+    again None is = tt
+    again (Some x) is = found_again test 0 o.next o.live x population.rising is
+
+-- a process, pipe or socket that is found by its name
+named_lives : (kind : EntityData → Bool) (o : Entities) (name : List ℕ) → IsPopulation o → IfSome (id_of (live_named kind o name)) (λ id. IsLive kind o id)
+named_lives kind o name population = kind_found (is_named kind name) kind (named_kind kind name) o (id_of (live_named kind o name)) (is_found (is_named kind name) o population)
+
+-- Where a path leads
+
+root_lives : (es : List LiveEntity) → HasRoot es → IsTrue (passes is_directory (find (has_id root) es))
+root_lives [] rooted = absurd rooted
+root_lives (e ∷ es) rooted = let hit : has_id root e ≡ true = eq-eqb e.id.0 0 rooted.0 in rw hit rooted.1
+
+module _ (o : Entities) (population : IsPopulation o) where
+  entry_lives : (dir : Id) (name : List ℕ) → IfSome (entry_of o dir name) (λ id. IsLive is_vnode o id × (id.0 ≢ 0))
+  entry_lives dir name =
+      let found = is_found (is_child dir name) o population in
+      both (entry_of o dir name) (kind_found (is_child dir name) is_vnode (child_kind dir name) o (entry_of o dir name) found)
+      (child_not_root dir name o (entry_of o dir name) population found)
+    where
+      both : (entry : Option Id) → IfSome entry (λ id. IsLive is_vnode o id) → IfSome entry (λ id. id.0 ≢ 0) → IfSome entry (λ id. IsLive is_vnode o id × (id.0 ≢ 0))
+      both None vnode other = tt
+      both (Some id) vnode other = (vnode, other)
+
+  walk_lives : (path : List (List ℕ)) (from : Id) → IsLive is_directory o from → IsTarget o (lookup_from o path from).target
+  unfolding lookup_from
+  walk_lives [] from live = root_lives o.live population.rooted
+  walk_lives (name ∷ []) from live = (live, entry_lives from name)
+  walk_lives (name ∷ below ∷ rest) from live = by_entry (λ (id : Id). walk_lives (below ∷ rest) id) (entry_of o from name)
+    where
+      by_test : (b : Bool) (id : Id) → is_dir o id ≡ b → (IsLive is_directory o id → IsTarget o (lookup_from o (below ∷ rest) id).target)
+          → IsTarget o (if b then lookup_from o (below ∷ rest) id else nowhere Enotdir).target
+      by_test true id is onwards = onwards (live_directory o id is)
+      by_test false id is onwards = tt
+
+      by_entry : ((id : Id) → IsLive is_directory o id → IsTarget o (lookup_from o (below ∷ rest) id).target) → (entry : Option Id)
+          → IsTarget o (going_on o (lookup_from o (below ∷ rest)) entry).target
+      by_entry onwards None = tt
+      by_entry onwards (Some id) = by_test (is_dir o id) id refl (onwards id)
+
+  path_lives : (path : List (List ℕ)) → IsTarget o (lookup_along o path).target
+  path_lives path = walk_lives path root (root_lives o.live population.rooted)
+
+  file_lives : (path : List (List ℕ)) → IfSome (file_at_path o path) (λ id. IsLive is_vnode o id)
+  file_lives path = one (lookup_along o path).target (path_lives path)
+    where
+      one : (target : Target) → IsTarget o target → IfSome (result_ok (found_at target)) (λ id. IsLive is_vnode o id)
+      one Root live = directory_vnode o root live
+      one (Name dir None) live = tt
+      one (Name dir (Some id)) live = live.1.0
+      one (Nowhere errno) live = tt
+
+  dir_lives : (path : List (List ℕ)) → IfSome (free_dir_at o path) (λ dir. IsLive is_directory o dir)
+  dir_lives path = one (lookup_along o path).target (path_lives path)
+    where
+      one : (target : Target) → IsTarget o target → IfSome (result_ok (free_at target)) (λ dir. IsLive is_directory o dir)
+      one Root live = tt
+      one (Name dir None) live = live.0
+      one (Name dir (Some id)) live = tt
+      one (Nowhere errno) live = tt
+
+  removable_lives : (path : List (List ℕ)) → IfSome (entry_at_path o path) (λ id. IsLive is_vnode o id × (id.0 ≢ 0))
+  removable_lives path = one (lookup_along o path).target (path_lives path)
+    where
+      one : (target : Target) → IsTarget o target → IfSome (option_map (λ (place : Id × Id). place.1) (result_ok (entry_at target))) (λ id. IsLive is_vnode o id × (id.0 ≢ 0))
+      one Root live = tt
+      one (Name dir None) live = tt
+      one (Name dir (Some id)) live = live.1
+      one (Nowhere errno) live = tt
+
+-- What a call is about lives
+
+some_live : (kind : EntityData → Bool) (o : Entities) (id : Id) → IsLive kind o id → IsSome (live_at o id)
+some_live kind o id live = one (live_at o id) live
+  where
+    one : (found : Option LiveEntity) → IsTrue (passes kind found) → IsSome found
+    one None live = absurd (false≢true live)
+    one (Some e) live = refl
+
+target_lives : (o : Entities) (c : Call) → IsPopulation o → IfSome (target_of o c) (λ id. IsSome (live_at o id))
+target_lives o (call.Exec path) population = IfSome_then (file_at_path o path) (file_lives o population path) (some_live is_vnode o)
+target_lives o (call.Create path) population = IfSome_then (free_dir_at o path) (dir_lives o population path) (some_live is_directory o)
+target_lives o (call.Mkdir path) population = IfSome_then (free_dir_at o path) (dir_lives o population path) (some_live is_directory o)
+target_lives o (call.Read path) population = IfSome_then (file_at_path o path) (file_lives o population path) (some_live is_vnode o)
+target_lives o (call.Write path text) population = IfSome_then (file_at_path o path) (file_lives o population path) (some_live is_vnode o)
+target_lives o (call.Stat path) population = IfSome_then (file_at_path o path) (file_lives o population path) (some_live is_vnode o)
+target_lives o (call.Readdir path) population = IfSome_then (file_at_path o path) (file_lives o population path) (some_live is_vnode o)
+target_lives o (call.Chmod path mode) population = IfSome_then (file_at_path o path) (file_lives o population path) (some_live is_vnode o)
+target_lives o (call.Unlink path) population = IfSome_then (entry_at_path o path) (removable_lives o population path) (λ id live. some_live is_vnode o id live.0)
+target_lives o (call.Pread name) population = IfSome_then (pipe_named o name) (named_lives is_pipe o name population) (some_live is_pipe o)
+target_lives o (call.Pwrite name text) population = IfSome_then (pipe_named o name) (named_lives is_pipe o name population) (some_live is_pipe o)
+target_lives o (call.Pstat name) population = IfSome_then (pipe_named o name) (named_lives is_pipe o name population) (some_live is_pipe o)
+target_lives o (call.Send from to text) population = IfSome_then (socket_named o to) (named_lives is_socket o to population) (some_live is_socket o)
+target_lives o (call.Recv name) population = IfSome_then (socket_named o name) (named_lives is_socket o name population) (some_live is_socket o)
+target_lives o (call.Fork child) population = tt
+target_lives o call.Exit population = tt
+target_lives o (call.See name) population = tt
+target_lives o (call.Signal name) population = tt
+target_lives o (call.Debug name) population = tt
+target_lives o (call.Sched name) population = tt
+target_lives o (call.Pipe name) population = tt
+target_lives o (call.Socket name) population = tt
+target_lives o (call.Seesock name) population = tt
+target_lives o call.Kldstat population = tt
+target_lives o (call.Kldload name) population = tt
+target_lives o (call.Kldunload name) population = tt
+
+-- What a call is about suits it, where the call may be done
+
+-- what is found is what is known
+at_known : (P Q : Id → Type 0) (found : Option Id) (id : Id) → found ≡ Some id → IfSome found P → (P id → Q id) → IfSome found Q
+at_known P Q found id is lives gives = subst (λ (o : Option Id). IfSome o Q) (sym is) (gives (subst (λ (o : Option Id). IfSome o P) is lives))
+
+anything : (found : Option Id) → IfSome found (λ id. Unit {0})
+anything None = tt
+anything (Some id) = tt
+
+module _ (o : Entities) (population : IsPopulation o) where
+  create_suits : (path : List (List ℕ)) → CanCreate o path → IfSome (free_dir_at o path) (λ id. HasFree o path id)
+  create_suits path can =
+      at_known (λ id. IsLive is_directory o id) (λ id. HasFree o path id) (free_dir_at o path) can.dir (ap (λ (t : Target). result_ok (free_at t)) can.target)
+      (dir_lives o population path) (λ live. record { directory = live; free = can.free })
+
+  write_suits : (path : List (List ℕ)) (text : List ℕ) → CanWrite o path text → IfSome (file_at_path o path) (λ id. IsLiveWhere (FitsBytes (length text)) (live_at o id))
+  write_suits path text can =
+      at_known (λ id. IsLive is_vnode o id) (λ id. IsLiveWhere (FitsBytes (length text)) (live_at o id)) (file_at_path o path) can.id (ap result_ok can.target)
+      (file_lives o population path) can.fits
+
+  unlink_suits : (path : List (List ℕ)) → CanUnlink o path → IfSome (entry_at_path o path) (λ id. IsRemovable o id)
+  unlink_suits path can =
+      at_known (λ id. IsLive is_vnode o id × (id.0 ≢ 0)) (λ id. IsRemovable o id) (entry_at_path o path) can.id
+      (ap (λ (t : Target). option_map (λ (place : Id × Id). place.1) (result_ok (entry_at t))) can.target) (removable_lives o population path)
+      (λ live. record { vnode = live.0; not_root = live.1; empty = can.bare live.0 })
+
+  fill_suits : (name text : List ℕ) → CanFill o name text → IfSome (pipe_named o name) (λ id. IsLiveWhere (FitsBytes (length text)) (live_at o id))
+  fill_suits name text can =
+      at_known (λ id. IsLive is_pipe o id) (λ id. IsLiveWhere (FitsBytes (length text)) (live_at o id)) (pipe_named o name) can.id can.named
+      (named_lives is_pipe o name population) can.fits
+
+  deliver_suits : (to : List ℕ) → CanDeliver o to → IfSome (socket_named o to) (λ id. IsLiveWhere FitsMessage (live_at o id))
+  deliver_suits to can =
+      at_known (λ id. IsLive is_socket o id) (λ id. IsLiveWhere FitsMessage (live_at o id)) (socket_named o to) can.id can.named
+      (named_lives is_socket o to population) can.fits
+
+  receive_suits : (name : List ℕ) → CanReceive o name → IfSome (socket_named o name) (λ id. IsLiveWhere HasMessage (live_at o id))
+  receive_suits name can =
+      at_known (λ id. IsLive is_socket o id) (λ id. IsLiveWhere HasMessage (live_at o id)) (socket_named o name) can.id can.named
+      (named_lives is_socket o name population) can.waits
+
+suits : (s : State) (task : List ℕ) (c : Call) → IsPopulation s.objects → CanDo s task c → IfSome (target_of s.objects c) (λ id. Suits s.objects c id)
+suits s task (call.Create path) population can = create_suits s.objects population path can
+suits s task (call.Mkdir path) population can = create_suits s.objects population path can
+suits s task (call.Write path text) population can = write_suits s.objects population path text can
+suits s task (call.Chmod path mode) population can = file_lives s.objects population path
+suits s task (call.Unlink path) population can = unlink_suits s.objects population path can
+suits s task (call.Pread name) population can = named_lives is_pipe s.objects name population
+suits s task (call.Pwrite name text) population can = fill_suits s.objects population name text can
+suits s task (call.Send from to text) population can = deliver_suits s.objects population to can
+suits s task (call.Recv name) population can = receive_suits s.objects population name can
+suits s task (call.Exec path) population can = anything (file_at_path s.objects path)
+suits s task (call.Read path) population can = anything (file_at_path s.objects path)
+suits s task (call.Stat path) population can = anything (file_at_path s.objects path)
+suits s task (call.Readdir path) population can = anything (file_at_path s.objects path)
+suits s task (call.Pstat name) population can = anything (pipe_named s.objects name)
+suits s task (call.Fork child) population can = tt
+suits s task call.Exit population can = tt
+suits s task (call.See name) population can = tt
+suits s task (call.Signal name) population can = tt
+suits s task (call.Debug name) population can = tt
+suits s task (call.Sched name) population can = tt
+suits s task (call.Pipe name) population can = tt
+suits s task (call.Socket name) population can = tt
+suits s task (call.Seesock name) population can = tt
+suits s task call.Kldstat population can = tt
+suits s task (call.Kldload name) population can = tt
+suits s task (call.Kldunload name) population can = tt
+
+-- so does what was found, by its id
+
+pub caller_lives : (o : Entities) (caller : Id) (name : List ℕ) → IsPopulation o → Some caller ≡ process_named o name → IsLive is_process o caller
+caller_lives o caller name population is =
+    subst (λ (found : Option Id). IfSome found (λ id. IsLive is_process o id)) (sym is) (named_lives is_process o name population)
+
+pub target_suits : (s : State) (task : List ℕ) (c : Call) (target : Option Id) → IsPopulation s.objects → CanDo s task c → target ≡ target_of s.objects c
+    → IfSome target (λ id. Suits s.objects c id)
+target_suits s task c target population can is = subst (λ (found : Option Id). IfSome found (λ id. Suits s.objects c id)) (sym is) (suits s task c population can)
+
+pub found_lives : (o : Entities) (c : Call) (target : Option Id) → IsPopulation o → target ≡ target_of o c → IfSome target (λ id. IsSome (live_at o id))
+found_lives o c target population is = subst (λ (found : Option Id). IfSome found (λ id. IsSome (live_at o id))) (sym is) (target_lives o c population)
