@@ -70,11 +70,11 @@ fn changed_during_a_read<P: Policy, J: Job, B: Ledger, R: Wait + Abort>(
     let list = policies.list();
     assert!(rt; kernel.turn(&passes[0]) == Turn::Entry);
     let mut first = kernel.enter(rt, &mut passes[0]);
+    assert!(rt; kernel.turn(&passes[1]) == Turn::Entry);
+    let mut second = kernel.enter(rt, &mut passes[1]);
     let mut early = Plan::new();
     kernel.plan(rt, &first, &mut early);
     let early_verdict = Kernel::walk(list, &first, &early);
-    assert!(rt; kernel.turn(&passes[1]) == Turn::Entry);
-    let mut second = kernel.enter(rt, &mut passes[1]);
     let changed = commit_new_plan(rt, alloc, &kernel, &mut second, list);
     kernel.leave(rt, second, &mut passes[1]);
     let read = commit_twice(rt, alloc, &kernel, &mut first, list, &early, &early_verdict);
