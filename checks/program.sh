@@ -66,11 +66,21 @@ check_usage() {
 ./macsim </dev/null >"$folder/printed" 2>&1
 
 text usage 'macsim: usage: run | gen N T'
-text not_yet 'macsim: script not yet'
+text unknown_word 'macsim: script line 1 fault 2 UnknownWord'
+text no_module 'macsim: script line 1 fault 12 BootRefused ENOENT'
+text no_end 'macsim: script line 3 fault 10 NoEnd'
+text too_many 'macsim: script line 1 fault 11 TooMany'
 text read_fault 'macsim: read fault'
 text too_long 'macsim: too long'
 printf 'gen 2 2\nok 2\nENOENT 1\nEACCES 1\n' >"$folder/summary"
 printf 'foo\n' >"$folder/bad"
+printf 'boot mac_foo' >"$folder/unbooted"
+printf 'task t uid 0 gid 0 label -\nread /a\n' >"$folder/unended"
+{
+    printf 'file /a reg uid 0 gid 0 mode 644 label - text '
+    head -c 65537 /dev/zero | tr '\0' a
+} >"$folder/heavy"
+{ cat "$script"; printf 'steps\nenter t\nend\n'; } >"$folder/stepped"
 script_of "$most" "$folder/longest"
 script_of "$((most + 1))" "$folder/longer"
 
@@ -91,7 +101,11 @@ check_usage gen -2 2
 check 'words are refused: the input is not read' reads_nothing walk
 
 check 'run: a script' ends 0 "$script" "$history" run
-check 'run: no script' ends 3 "$folder/bad" "$folder/not_yet" run
+check 'run: a word that is none' ends 3 "$folder/bad" "$folder/unknown_word" run
+check 'run: a module that is none' ends 3 "$folder/unbooted" "$folder/no_module" run
+check 'run: a task without its end' ends 3 "$folder/unended" "$folder/no_end" run
+check 'run: a file that holds too much' ends 3 "$folder/heavy" "$folder/too_many" run
+check 'run: steps are left aside' ends 0 "$folder/stepped" "$history" run
 check 'run: the longest script' ends 0 "$folder/longest" "$history" run
 check 'run: one byte more' ends 6 "$folder/longer" "$folder/too_long" run
 check 'run: an input that cannot be read' ends 4 . "$folder/read_fault" run

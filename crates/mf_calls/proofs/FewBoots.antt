@@ -6,7 +6,8 @@ use Rattle.mf_errno.specs.declared.module.Module.TheVariants.{Biba, Mls, Partiti
 use Rattle.mf_errno.specs.Module.{same_module}
 use Rattle.mf_errno.proofs.Modules.{same_module-is}
 use Rattle.mf_policy.specs.Modules.{has_spec}
-use Rattle.mf_calls.specs.Boots.{is_booted, AreBoots}
+use Rattle.mf_calls.specs.WellFormed.{AreBoots}
+use Rattle.mf_calls.specs.Boots.{is_booted}
 
 one_if : Bool → ℕ
 one_if true = 1

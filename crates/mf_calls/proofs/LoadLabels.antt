@@ -11,7 +11,8 @@ use Rattle.mf_elem.specs.declared.elem.Elem.TheVariants.{Equal}
 use Rattle.mf_elem.proofs.CompsLaws.{bits_with}
 use Rattle.mf_item.specs.declared.view.Kind.{Kind}
 use Rattle.mf_item.specs.declared.view.Kind.TheVariants as kinds
-use Rattle.mf_calls.specs.Boots.{may_ask_for, IsAsked}
+use Rattle.mf_calls.specs.WellFormed.{IsAsked}
+use Rattle.mf_calls.specs.Boots.{may_ask_for}
 use Rattle.mf_calls.specs.Generated.{asked, plain_grade}
 
 words_fit : (s : FinSet nat_cmp) (k : ℕ) → slice_index (words_of s) k < 2 ^ 64

@@ -5,6 +5,7 @@ use Rattle.mf_errno.specs.declared.module.Module.TheVariants.{Biba}
 use Rattle.mf_calls.specs.declared.script.Call.{Call}
 use Rattle.mf_calls.specs.declared.script.Line.{Line}
 use Rattle.mf_calls.specs.declared.script.Task.{Task}
+use Rattle.mf_calls.specs.declared.script.Step.{Step}
 use Rattle.mf_calls.specs.declared.script.FileLine.{FileLine}
 use Rattle.mf_calls.specs.Generated.{next_number, number_at, drawn, drawn_at, call_of, load_line, load_lines, load_directory, load_file, load_files, load_task, load_tasks, generated}
 
@@ -59,13 +60,15 @@ line_is k i number number' call is next drawn_is =
     let same : number' ≡ number_at k (suc i) = next ∙ ap next_number is ∙ sym (number_next k i) in
     ap (λ (x : Call). record { child = None; call = x }) (drawn_is ∙ ap (λ m. call_of k (drawn m)) same)
 
-pub generated_is : (n t : ℕ) (boots : List Module) (files : List FileLine) (tasks : List Task) → boots ≡ Biba ∷ [] → files ≡ load_files t → tasks ≡ load_tasks n t
-    → record { boots = boots; files = files; tasks = tasks } ≡ generated n t
+pub generated_is : (n t : ℕ) (boots : List Module) (files : List FileLine) (tasks : List Task) (steps : List Step)
+    → boots ≡ Biba ∷ [] → files ≡ load_files t → tasks ≡ load_tasks n t → steps ≡ []
+    → record { boots = boots; files = files; tasks = tasks; steps = steps } ≡ generated n t
 unfolding generated
-generated_is n t boots files tasks booted filed tasked =
-    ap (λ (b : List Module). record { boots = b; files = files; tasks = tasks }) booted
-    ∙ ap (λ (f : List FileLine). record { boots = Biba ∷ []; files = f; tasks = tasks }) filed
-    ∙ ap (λ (ts : List Task). record { boots = Biba ∷ []; files = load_files t; tasks = ts }) tasked
+generated_is n t boots files tasks steps booted filed tasked stepped =
+    ap (λ (b : List Module). record { boots = b; files = files; tasks = tasks; steps = steps }) booted
+    ∙ ap (λ (f : List FileLine). record { boots = Biba ∷ []; files = f; tasks = tasks; steps = steps }) filed
+    ∙ ap (λ (ts : List Task). record { boots = Biba ∷ []; files = load_files t; tasks = ts; steps = steps }) tasked
+    ∙ ap (λ (ss : List Step). record { boots = Biba ∷ []; files = load_files t; tasks = load_tasks n t; steps = ss }) stepped
 
 pub line_more : (k i number number' : ℕ) (call : Call) (lines lines' : List Line) → lines ≡ load_lines k i → number ≡ number_at k i → number' ≡ next_number number
     → call ≡ call_of k (drawn number') → lines' ≡ lines ++ record { child = None; call = call } ∷ [] → lines' ≡ load_lines k (i + 1)

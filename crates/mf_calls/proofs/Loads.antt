@@ -1,10 +1,11 @@
 -- The script of a load: its tasks and lines by their numbers, and that it is well formed.
 use Rattle.std.proofs.Common.{◌≡◌, ◌≢◌, ℕ, zero, suc, ◌<◌, ◌≤◌, ◌+◌, ◌/◌, ◌%◌, nat_eq, nat_lt, Bool, true, false, cond, ◌||◌, List, [], ◌∷◌, ◌++◌, Option, Some, None, option_map, unwrap_or, slice_get, length, get_or, length-append, append_assoc, refl, ap, sym, ◌∙◌, subst, arith, All, AllPairs}
-use Rattle.std.specs.List.{list_any}
+use Rattle.std.specs.List.{list_any, sum_by}
 use Rattle.std.proofs.lemmas.Bool.Decides.{nat_tests}
 use Rattle.std.proofs.lemmas.Bool.{or_right}
 use Rattle.std.proofs.lemmas.List.Elements.{All-nil, All-cons, All-push}
 use Rattle.std.proofs.lemmas.List.Folds.{list_any-append}
+use Rattle.std.proofs.lemmas.List.Sums.{sum_by-le}
 use Rattle.std.proofs.lemmas.Option.{get_or_from_slice_get}
 use Rattle.std.proofs.lemmas.List.Quantifiers.{all_pairs_push}
 use Rattle.mf_errno.specs.declared.module.Module.TheVariants.{Biba}
@@ -15,8 +16,8 @@ use Rattle.mf_calls.specs.Names.{is_component}
 use Rattle.mf_calls.specs.Paths.{directory_of, has_directory, is_directory_at, is_same_path}
 use Rattle.mf_item.specs.declared.view.Kind.TheVariants as kinds
 use Rattle.mf_policy.specs.Modules.{has_spec}
-use Rattle.mf_calls.specs.Boots.{AreBoots}
-use Rattle.mf_calls.specs.WellFormed.{lines_of, name_of, IsPath, IsText, IsFormedFile, AreInDirectories, IsFormedCall, IsFormedLine, IsFormedTask, IsWellFormed}
+use Rattle.mf_calls.specs.WellFormed.{AreBoots, rule_list_count, IsPath, IsText, IsFormedFile, AreInDirectories, IsFormedCall, IsFormedLine, IsFormedTask, IsWellFormed}
+use Rattle.mf_calls.specs.Tasks.{lines_of, lists_rules, name_of}
 use Rattle.mf_calls.specs.Generated.{LoadCall, load_call, drawn, drawn_at, number_at, call_of, load_line, load_lines, load_directory, load_file, load_files, load_task, load_tasks, task_grade, is_even, task_name, directory_name, file_name, scratch_name, directory_path, path_in, generated}
 use Rattle.mf_calls.specs.Generated.{LoadCall as load}
 use Rattle.mf_calls.proofs.Directories.{same_path, last_in_directory}
@@ -229,6 +230,48 @@ tasks_formed : (n t : ℕ) → n ≤ 4096 → t ≤ 16 → All (IsFormedTask (Bi
 tasks_formed n t short few =
     all_in (IsFormedTask (Biba ∷ [])) (load_task n) t (load_tasks n) (no_task n) (λ k within. task_formed n k short (omega arith)) (tasks_more n) t (omega arith)
 
+-- No line of a load lists the rules.
+
+lists_nothing : (k : ℕ) (what : LoadCall) → lists_rules (call_of k what) ≡ false
+lists_nothing k load.Write = refl
+lists_nothing k load.Read = refl
+lists_nothing k load.Stat = refl
+lists_nothing k load.Readdir = refl
+lists_nothing k (load.Create j) = refl
+lists_nothing k (load.Unlink j) = refl
+
+ListsNone : Line → Type 0
+ListsNone line = cond (lists_rules line.call) 1 0 ≤ 0
+
+line_lists_none : (k : ℕ) (what : LoadCall) → ListsNone (load_line k what)
+unfolding ListsNone
+line_lists_none k what = let none : cond {A = ℕ} (lists_rules (call_of k what)) 1 0 ≡ 0 = ap {B = ℕ} (λ b. cond b 1 0) (lists_nothing k what) in omega (arith, none)
+
+no_line_listed : (k : ℕ) → All ListsNone (load_lines k 0)
+unfolding load_lines
+no_line_listed k = All-nil _
+
+task_lists_none : (n k : ℕ) → rule_list_count (load_task n k) ≤ 0
+unfolding ListsNone
+task_lists_none n k =
+    omega (
+      arith,
+      sum_by-le (λ line. cond (lists_rules line.call) 1 0) 0 (load_lines k n)
+          (all_in ListsNone (λ i. load_line k (drawn_at k i)) n (load_lines k) (no_line_listed k) (λ i within. line_lists_none k (drawn_at k i)) (lines_more k) n (omega arith)),
+    )
+
+no_task_listed : (n : ℕ) → All (λ task. rule_list_count task ≤ 0) (load_tasks n 0)
+unfolding load_tasks
+no_task_listed n = All-nil _
+
+load_lists_none : (n t : ℕ) → sum_by rule_list_count (load_tasks n t) ≤ 64
+load_lists_none n t =
+    omega (
+      arith,
+      sum_by-le rule_list_count 0 (load_tasks n t)
+          (all_in (λ task. rule_list_count task ≤ 0) (load_task n) t (load_tasks n) (no_task_listed n) (λ k within. task_lists_none n k) (tasks_more n) t (omega arith)),
+    )
+
 -- names of tasks at two places differ
 named_apart : (n t : ℕ) → t ≤ 16 → AllPairs (λ v w. v.name ≢ w.name) (load_tasks n t)
 named_apart n t few i j d before within same =
@@ -334,4 +377,7 @@ generated_formed n t short few =
       tasks = omega (arith, (tasks_table n t).long);
       names = named_apart n t few;
       each_task = tasks_formed n t short few;
+      rule_lists = load_lists_none n t;
+      steps = omega arith;
+      each_step = All-nil _;
     }

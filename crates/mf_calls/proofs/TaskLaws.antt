@@ -7,7 +7,8 @@ use Rattle.mf_calls.specs.declared.limits.TheConstants.{LINE_LIMIT}
 use Rattle.mf_calls.specs.declared.script.Task.{Task}
 use Rattle.mf_calls.specs.declared.script.Script.{Script}
 use Rattle.mf_calls.specs.Names.{is_name}
-use Rattle.mf_calls.specs.WellFormed.{IsWellFormed, lines_of, name_of}
+use Rattle.mf_calls.specs.Tasks.{lines_of, name_of}
+use Rattle.mf_calls.specs.WellFormed.{IsWellFormed}
 
 -- the first task, where there is one of some number
 some_task : (tasks : List Task) (t : ℕ) → t < length tasks → Task

@@ -1,5 +1,5 @@
 -- The script of a generated load: tasks that each work in a directory of their own, with lines that are drawn from a sequence of
--- numbers.
+-- numbers. It is this model's own.
 use Rattle.std.specs.Prelude.{ℕ, zero, suc, ◌+◌, ◌*◌, ◌/◌, ◌%◌, nat_eq, if◌then◌else◌, Bool, true, false, List, [], ◌∷◌, ◌++◌, Some, None, codes}
 use Rattle.std.specs.Fmt.{decimal}
 use Rattle.std.specs.FinSet as set
@@ -135,4 +135,4 @@ load_tasks n (suc k) = load_tasks n k ++ load_task n k ∷ []
 
 -- the script of so many tasks with so many lines each
 unfoldable pub generated : ℕ → ℕ → Script
-generated n t = record { boots = Biba ∷ []; files = load_files t; tasks = load_tasks n t }
+generated n t = record { boots = Biba ∷ []; files = load_files t; tasks = load_tasks n t; steps = [] }

@@ -1,5 +1,6 @@
 pub mod Names
 pub mod Paths
 pub mod Boots
+pub mod Tasks
 pub mod WellFormed
 pub mod Generated

@@ -1,9 +1,9 @@
--- Which texts are names, components of paths, names of processes and words of a line.
-use Rattle.std.specs.Prelude.{◌≡◌, ℕ, ◌≤◌, Bool, true, false, not, ◌&&◌, ◌||◌, ◌==◌, nat_le, List, [], ◌∷◌, length, codes, All}
+-- Which texts are names, components of paths and names of processes, by docs/MANUAL.md (THE SCRIPT).
+use Rattle.std.specs.Prelude.{ℕ, Bool, true, false, not, ◌&&◌, ◌||◌, ◌==◌, nat_le, List, [], ◌∷◌, length, codes}
 use Rattle.std.specs.List.{list_all, slice_split}
 use Rattle.std.specs.Str.{bytes_eq}
-use Rattle.std.specs.Char.{is_ascii_alphanumeric, is_ascii_graphic}
-use Rattle.mf_names.specs.declared.limits.TheConstants.{NAME_LIMIT, SCRIPT_LIMIT}
+use Rattle.std.specs.Char.{is_ascii_alphanumeric}
+use Rattle.mf_names.specs.declared.limits.TheConstants.{NAME_LIMIT}
 
 abbrev pub dash : ℕ
 dash = 45
@@ -27,10 +27,9 @@ is_name w = is_some_text w && nat_le (length w) NAME_LIMIT && list_all is_name_b
 
 -- a task's name, or a task's and a child's
 abbrev pub are_process_names : List (List ℕ) → Bool
-are_process_names [] = false
 are_process_names (name ∷ []) = is_name name
 are_process_names (name ∷ child ∷ []) = is_name name && is_name child
-are_process_names (name ∷ child ∷ more ∷ rest) = false
+are_process_names other = false
 
 -- the full name of a process: that of a task, or a task's, a dot and a child's
 abbrev pub is_process_name : List ℕ → Bool
@@ -42,9 +41,3 @@ is_component_byte b = is_name_byte b || b == dot
 -- a component of a path is 1 to 32 bytes of names and dots, and neither `.` nor `..`
 abbrev pub is_component : List ℕ → Bool
 is_component w = is_some_text w && nat_le (length w) NAME_LIMIT && list_all is_component_byte w && not (bytes_eq w (codes ".")) && not (bytes_eq w (codes ".."))
-
--- a word of a line: some printable bytes of ASCII, and no more than a script has
-pub record IsWord (w : List ℕ) : Type 0 where
-  pub some : is_some_text w ≡ true
-  pub each : All (λ b. is_ascii_graphic b ≡ true) w
-  pub few : length w ≤ SCRIPT_LIMIT

@@ -1,4 +1,4 @@
--- Paths as lists of components, and the directories that files stand in.
+-- Paths as lists of components, and the directories that files stand in, by docs/MANUAL.md (THE SCRIPT).
 use Rattle.std.specs.Prelude.{ℕ, Bool, true, false, ◌&&◌, ◌||◌, ◌-◌, List, [], ◌∷◌, length, take}
 use Rattle.std.specs.List.{list_any}
 use Rattle.std.specs.Str.{bytes_eq}

@@ -1,8 +1,13 @@
--- Which scripts are well formed, and what a script says of its files and tasks.
-use Rattle.std.specs.Prelude.{◌≡◌, ◌≢◌, ℕ, ◌<◌, ◌≤◌, Bool, true, false, IsTrue, List, [], ◌∷◌, ◌++◌, length, All, AllPairs}
-use Rattle.std.specs.Prelude.{Option, Some, None, unwrap_or, option_map, slice_get}
+-- Which scripts are well formed, by the grammar and the limits of docs/MANUAL.md (THE SCRIPT, LIMITS).
+use Rattle.std.specs.Prelude.{◌≡◌, ◌≢◌, ℕ, ◌<◌, ◌≤◌, true, IsTrue, List, [], ◌∷◌, ◌++◌, length, Option, Some, None, All, AllPairs}
+use Rattle.std.specs.List.{sum_by, count_by}
+use Rattle.std.specs.Char.{is_ascii_graphic}
 use Rattle.mf_errno.specs.declared.module.Module.{Module}
+use Rattle.mf_elem.specs.declared.label.Request.{Request}
+use Rattle.mf_elem.specs.Label.{IsRequest}
+use Rattle.mf_item.specs.declared.view.Kind.{Kind}
 use Rattle.mf_item.specs.declared.view.Kind.TheVariants as kinds
+use Rattle.mf_policy.specs.Modules.{has_spec}
 use Rattle.mf_cred.specs.declared.cred.Cred.{Cred}
 use Rattle.mf_calls.specs.declared.script.Call.{Call}
 use Rattle.mf_calls.specs.declared.script.Call.TheVariants as call
@@ -10,30 +15,38 @@ use Rattle.mf_calls.specs.declared.script.FileLine.{FileLine}
 use Rattle.mf_calls.specs.declared.script.Line.{Line}
 use Rattle.mf_calls.specs.declared.script.Task.{Task}
 use Rattle.mf_calls.specs.declared.script.Script.{Script}
-use Rattle.mf_calls.specs.Names.{is_name, is_process_name, is_component, IsWord}
+use Rattle.mf_calls.specs.declared.script.Step.{Step}
+use Rattle.mf_calls.specs.Names.{is_some_text, is_name, is_process_name, is_component}
 use Rattle.mf_calls.specs.Paths.{directory_of, has_directory}
-use Rattle.mf_calls.specs.Boots.{AreBoots, IsAsked}
-use Rattle.mf_calls.specs.declared.limits.TheConstants.{FILE_LIMIT, TASK_LIMIT, LINE_LIMIT, MODE_LIMIT, UID_MAX}
+use Rattle.mf_calls.specs.Tasks.{lists_rules}
+use Rattle.mf_calls.specs.Boots.{may_ask_for}
+use Rattle.mf_calls.specs.declared.limits.TheConstants.{FILE_LIMIT, TASK_LIMIT, LINE_LIMIT, RULE_LIST_LIMIT, STEP_LIMIT, MODE_LIMIT, UID_MAX}
 use Rattle.mf_names.specs.declared.limits.TheConstants.{CONTENT_LIMIT, PATH_LIMIT, SCRIPT_LIMIT}
 use Rattle.mf_cred.specs.declared.cred.TheConstants.{MOST_GROUPS}
 
--- the lines of a task, where there is one of that number
-abbrev pub lines_of : Script → ℕ → List Line
-lines_of s t = unwrap_or (option_map (λ task. task.lines) (slice_get s.tasks t)) []
+-- some, all or none of the modules whose policies are built in, each at most once, in any order
+pub record AreBoots (boots : List Module) : Type 0 where
+  pub built_in : All (λ m. has_spec m ≡ true) boots
+  pub differ : AllPairs (λ m n. m ≢ n) boots
+
+-- what a line asks for an entity of that kind: a request that a label text can spell, and that the script may make
+pub record IsAsked (kind : Kind) (boots : List Module) (request : Request) : Type 0 where
+  pub spelled : IsRequest request
+  pub allowed : may_ask_for kind boots request ≡ true
 
 -- how many lines a task has
 abbrev pub line_count : Task → ℕ
 line_count task = length task.lines
 
--- whether the call changes the list of policies, and so isn't an entry
-abbrev pub is_change : Call → Bool
-is_change (call.Kldload name) = true
-is_change (call.Kldunload name) = true
-is_change other = false
+-- how many lines of a task list the rules
+abbrev pub rule_list_count : Task → ℕ
+rule_list_count task = count_by (λ line. lists_rules line.call) task.lines
 
--- the name of a task, where there is one of that number
-abbrev pub name_of : Script → ℕ → List ℕ
-name_of s t = unwrap_or (option_map (λ task. task.name) (slice_get s.tasks t)) []
+-- a word of a line: some printable bytes of ASCII, and no more than a script has
+pub record IsWord (w : List ℕ) : Type 0 where
+  pub some : is_some_text w ≡ true
+  pub each : All (λ b. is_ascii_graphic b ≡ true) w
+  pub few : length w ≤ SCRIPT_LIMIT
 
 -- up to 8 components, each of which is a word of a path; the root directory has none
 pub record IsPath (path : List (List ℕ)) : Type 0 where
@@ -125,8 +138,12 @@ pub record IsFormedTask (boots : List Module) (task : Task) : Type 0 where
   pub few : length task.lines ≤ LINE_LIMIT
   pub lines : All IsFormedLine task.lines
 
--- The script boots what a boot line may name and is within the limits; paths of files differ, and so do names of tasks; each file and
--- each task is one that a line may say, and each file stands in the root or in a directory of an earlier line.
+-- a step names a task, which the script need not have
+abbrev pub IsFormedStep : Step → Type 0
+IsFormedStep step = IsName step.task
+
+-- The script boots what a boot line may name and is within the limits; paths of files differ, and so do names of tasks; each file,
+-- each task and each step is one that a line may say, and each file stands in the root or in a directory of an earlier line.
 pub record IsWellFormed (s : Script) : Type 0 where
   pub boots : AreBoots s.boots
   pub files : length s.files ≤ FILE_LIMIT
@@ -136,3 +153,6 @@ pub record IsWellFormed (s : Script) : Type 0 where
   pub tasks : length s.tasks ≤ TASK_LIMIT
   pub names : AllPairs (λ t u. t.name ≢ u.name) s.tasks
   pub each_task : All (IsFormedTask s.boots) s.tasks
+  pub rule_lists : sum_by rule_list_count s.tasks ≤ RULE_LIST_LIMIT
+  pub steps : length s.steps ≤ STEP_LIMIT
+  pub each_step : All IsFormedStep s.steps

@@ -7,19 +7,13 @@ ghost use Rattle.mf_policy.specs.Modules as facts;
 use mf_elem::Request;
 use mf_errno::Module;
 use mf_item::Kind;
-use mf_policy::{has_spec, is_named, may_ask};
+use mf_policy::{is_named, may_ask};
 
-fn is_booted(boots: &[Module], wanted: Module) -> bool
+/// Whether one of the modules is this one.
+pub fn is_booted(boots: &[Module], wanted: Module) -> bool
     ensures { result ≡ spec.is_booted boots.now wanted }
 {
     boots.iter().any(|booted| wanted.is(*booted))
-}
-
-/// Whether a boot line may name the module after `boots`: its policy is built in, and each module stands at most once.
-pub fn may_boot(boots: &[Module], booted: Module) -> bool
-    ensures { result ≡ spec.may_boot boots.now booted }
-{
-    has_spec(booted) && !is_booted(boots, booted)
 }
 
 fn may_name(boots: &[Module], request: &Request, named: Module) -> bool

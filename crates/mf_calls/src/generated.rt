@@ -30,6 +30,7 @@ pub fn generate(alloc: Global, lines: u32, tasks: u32) -> Result<Script, AllocEr
         boots,
         files,
         tasks,
+        steps: Listing::new(alloc),
     })
 }
 

@@ -8,13 +8,16 @@ mod names;
 mod paths;
 mod script;
 
-pub use boots::{may_ask_for, may_boot};
+pub use boots::{is_booted, may_ask_for};
 pub use generated::generate;
-pub use limits::{ALL_LINES_LIMIT, FILE_LIMIT, LINE_LIMIT, MODE_LIMIT, TASK_LIMIT, UID_MAX};
+pub use limits::{
+    ALL_LINES_LIMIT, FILE_LIMIT, LINE_LIMIT, MODE_LIMIT, RULE_LIST_LIMIT, STEP_LIMIT, TASK_LIMIT,
+    UID_MAX,
+};
 pub use mf_cred::{DIRECTORY_MODE, FILE_MODE};
 pub use mf_names::{
     Bytes, CONTENT_LIMIT, Listing, NAME_LIMIT, Name, NameList, PATH_LIMIT, Path, SCRIPT_LIMIT, Word,
 };
 pub use names::{is_component, is_name};
 pub use paths::{directory_of, is_same_path};
-pub use script::{Call, FileLine, Line, Script, Task};
+pub use script::{Call, FileLine, Line, Script, Step, StepKind, Task};

@@ -12,6 +12,12 @@ pub const LINE_LIMIT: usize = 4096;
 /// The most lines of all tasks together.
 pub const ALL_LINES_LIMIT: usize = TASK_LIMIT * LINE_LIMIT;
 
+/// The most steps of a script.
+pub const STEP_LIMIT: usize = 65_536;
+
+/// The most lines of all tasks together that list the rules.
+pub const RULE_LIST_LIMIT: usize = 64;
+
 /// The greatest mode of a file, as chmod(2) has it.
 pub const MODE_LIMIT: u16 = 0o7777;
 

@@ -66,13 +66,20 @@ pub enum Call {
 }
 
 impl Call {
-    ghost use Rattle.mf_calls.specs.WellFormed.{is_change};
+    ghost use Rattle.mf_calls.specs.Tasks.{is_change, lists_rules};
 
     /// Whether the call changes the list of policies, and so isn't an entry.
     pub fn is_change(&self) -> bool
         ensures { result ≡ is_change self.now }
     {
         matches!(self, Call::Kldload(_) | Call::Kldunload(_))
+    }
+
+    /// Whether the call lists the rules, as `ugidfw list` will. No call does so yet.
+    pub fn lists_rules(&self) -> bool
+        ensures { result ≡ lists_rules self.now }
+    {
+        false
     }
 }
 
@@ -113,19 +120,39 @@ pub struct FileLine {
     pub text: Bytes<CONTENT_LIMIT>,
 }
 
-/// A script: the modules in the order in which they are booted, the files, and the tasks.
+/// What a step does for its task's next call: it enters, makes the plan, commits or leaves, or makes a change.
+#[derive(Clone, Copy, Debug, PartialEq, Eq)]
+pub enum StepKind {
+    Enter,
+    Plan,
+    Done,
+    Leave,
+    Change,
+}
+
+/// A step, and the name of the task that it is for. The script need not have that task.
+#[derive(Drop)]
+pub struct Step {
+    pub kind: StepKind,
+    pub task: Name,
+}
+
+/// A script: the modules in the order in which they are booted, the files, the tasks, and the steps, which fix the order of
+/// what the tasks do.
 #[derive(Drop)]
 pub struct Script {
     pub boots: Listing<Module>,
     pub files: Listing<FileLine>,
     pub tasks: Listing<Task>,
+    pub steps: Listing<Step>,
 }
 
 impl Script {
     ghost use Rattle.std.specs.Prelude.{slice_get, Some, ◌≤◌};
     ghost use Rattle.std.specs.List.{sum_by};
     ghost use Rattle.mf_calls.specs.declared.limits.TheConstants.{ALL_LINES_LIMIT};
-    ghost use Rattle.mf_calls.specs.WellFormed.{IsWellFormed, line_count, lines_of, name_of};
+    ghost use Rattle.mf_calls.specs.Tasks.{lines_of, name_of};
+    ghost use Rattle.mf_calls.specs.WellFormed.{IsWellFormed, line_count};
 
     /// The name of the task of that number, from 0. No text where the script has no such task.
     pub fn name_of(&self, task: u32) -> &str

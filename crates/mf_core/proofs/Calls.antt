@@ -1,20 +1,23 @@
 -- What the call of a task's next line makes of a run: the reply, the state, and the list of policies after it.
-use Rattle.std.proofs.Common.{◌≡◌, ℕ, false, true, List, Option, Some, refl, sym, ◌∙◌, ap, subst}
+use Rattle.std.proofs.Common.{◌≡◌, ℕ, false, true, List, Option, Some, None, refl, sym, ◌∙◌, ap, subst}
 use Rattle.mf_objects.specs.declared.id.Id.{Id}
 use Rattle.mf_calls.specs.declared.script.Line.{Line}
 use Rattle.mf_calls.specs.declared.script.Script.{Script}
-use Rattle.mf_calls.specs.WellFormed.{is_change, name_of}
+use Rattle.mf_calls.specs.Tasks.{is_change, name_of}
 use Rattle.mf_plan.specs.declared.found.Found.{Found}
 use Rattle.mf_plan.specs.Planned.{Plan}
-use Rattle.mf_plan.specs.declared.plan.Tail.TheVariants.{Do}
+use Rattle.mf_plan.specs.declared.plan.Tail.{Tail}
+use Rattle.mf_plan.specs.declared.plan.Tail.TheVariants.{Do, Refuse}
+use Rattle.mf_plan.specs.declared.reply.Payload.{Payload}
 use Rattle.mf_plan.specs.declared.reply.Reply.{Reply}
 use Rattle.mf_plan.specs.declared.state.State.{State}
 use Rattle.mf_plan.specs.Doing.{CanDo}
 use Rattle.mf_plan.specs.Found.{found_of}
 use Rattle.mf_plan.specs.Plan.{plan_of}
+use Rattle.mf_step.specs.declared.verdict.Denial.{Denial}
 use Rattle.mf_step.specs.declared.verdict.Verdict.{Verdict}
 use Rattle.mf_step.specs.Effect.{effect_of}
-use Rattle.mf_step.specs.Reply.{is_done, payload_of, reply_to}
+use Rattle.mf_step.specs.Reply.{denied_reply, is_done, payload_of, reply_to, tail_reply}
 use Rattle.mf_step.specs.Step.{performed, step_reply, step_state}
 use Rattle.mf_step.specs.Verdict.{verdict_of}
 use Rattle.mf_core.specs.declared.history.History.{History}
@@ -36,6 +39,14 @@ same_plan next a b is_a is_b = cc
 same_found : (next : Option Found) (a b : Found) → next ≡ Some a → next ≡ Some b → a ≡ b
 same_found next a b is_a is_b = cc
 
+refused_tail : (tail : Tail) (p q : Payload) → is_done (tail_reply tail p) ≡ false → is_done (tail_reply tail q) ≡ false
+refused_tail Do p q is = cc
+refused_tail (Refuse errno) p q is = refl
+
+refused_anyhow : (plan : Plan) (denied : Option Denial) (p q : Payload) → is_done (denied_reply plan denied p) ≡ false → is_done (denied_reply plan denied q) ≡ false
+refused_anyhow plan None p q is = refused_tail plan.tail p q is
+refused_anyhow plan (Some denial) p q is = refl
+
 module _ (s : Script) (r : RunState) (t : ℕ) (line : Line) (next : next_line s r.progress t ≡ Some line) where
   pub replied : (reply : Reply) → next_reply s r t ≡ Some reply → reply ≡ step_reply r.state (name_of s t) line.child line.call
   replied reply is = same_reply (next_reply s r t) reply (step_reply r.state (name_of s t) line.child line.call) is (ap (reply_at s r t) next)
@@ -56,6 +67,13 @@ module _ (s : Script) (r : RunState) (t : ℕ) (line : Line) (next : next_line s
         ap (reply_at s r t) next
         ∙ ap (λ (p : Plan). Some (reply_to p (verdict_of r.state.specs p) (payload_of r.state line.call))) plan_is
         ∙ ap (λ (v : Verdict). Some (reply_to plan v (payload_of r.state line.call))) (sym judged)
+
+    -- a call that is denied or refused is so whatever it would hand back
+    pub refused_by : (verdict : Verdict) → verdict ≡ verdict_of r.state.specs plan → (reply : Reply) → next_reply s r t ≡ Some reply → is_done reply ≡ false
+        → (p : Payload) → is_done (reply_to plan verdict p) ≡ false
+    refused_by verdict judged reply replies refused p =
+        refused_anyhow plan verdict.denied (payload_of r.state line.call) p
+        (ap is_done (same_reply (next_reply s r t) (reply_to plan verdict (payload_of r.state line.call)) reply (reply_by verdict judged) replies) ∙ refused)
 
     -- the plan of a call that is done ends with no refusal
     pub plan_do : (reply : Reply) → next_reply s r t ≡ Some reply → is_done reply ≡ true → plan.tail ≡ Do

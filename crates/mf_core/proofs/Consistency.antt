@@ -8,7 +8,8 @@ use Rattle.std.proofs.lemmas.Option.{slice_get_past, slice_get_within}
 use Rattle.mf_calls.specs.declared.script.Line.{Line}
 use Rattle.mf_calls.specs.declared.script.Task.{Task}
 use Rattle.mf_calls.specs.declared.script.Script.{Script}
-use Rattle.mf_calls.specs.WellFormed.{is_change, line_count, lines_of, IsWellFormed}
+use Rattle.mf_calls.specs.Tasks.{is_change, lines_of}
+use Rattle.mf_calls.specs.WellFormed.{line_count, IsWellFormed}
 use Rattle.mf_core.specs.declared.progress.Phase.{Phase}
 use Rattle.mf_core.specs.declared.progress.Phase.TheVariants as phases
 use Rattle.mf_core.specs.declared.progress.Progress.{Progress}
@@ -240,7 +241,8 @@ module _ (s : Script) (h : History) (r : RunState) (consistent : IsConsistent s 
       events_left-set s.tasks r.progress t y goes_on.within consistent.places goes_on.on.more goes_on.on.fits in
       let longer = length-append h.events.list (e ∷ []) in
       record {
-        legal = record { formed = consistent.legal.formed; boots = consistent.legal.boots; events = AllMayCome-append s (opening s) h.events.list e consistent.legal.events (subst M (sym consistent.here) may) };
+        formed = consistent.formed;
+        legal = record { boots = consistent.legal.boots; events = AllMayCome-append s (opening s) h.events.list e consistent.legal.events (subst M (sym consistent.here) may) };
         here = run_state_after-append s (opening s) h.events.list e ∙ ap (λ m. after s m e) consistent.here;
         places = ap length goes_on.next ∙ (length-set r.progress t y ∙ consistent.places);
         lines = subst (Each P) (sym goes_on.next) (each-set P r.progress t y (length s.tasks) places consistent.lines goes_on.on.has);
@@ -267,7 +269,8 @@ consistent_first s h n formed boots events count =
     let H : Progress → ℕ → Type 0 = λ x t. HasLine x.phase x.lines (length (lines_of s t)) in
     let E : Progress → ℕ → Type 0 = λ x t. IsAtEntry x.phase (slice_get (lines_of s t) x.lines) in
     record {
-      legal = record { formed = formed; boots = boots; events = subst A (sym list) tt };
+      formed = formed;
+      legal = record { boots = boots; events = subst A (sym list) tt };
       here = ap (λ es. run_state_of s es) list;
       places = places_first s.tasks;
       lines = λ t lt. subst (λ (x : Progress). H x t) (sym (progress_at-first s.tasks t)) (omega arith);

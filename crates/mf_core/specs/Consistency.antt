@@ -3,7 +3,8 @@ use Rattle.std.specs.Prelude.{◌≡◌, ℕ, ◌+◌, ◌*◌, ◌-◌, ◌<◌
 use Rattle.mf_calls.specs.declared.script.Line.{Line}
 use Rattle.mf_calls.specs.declared.script.Task.{Task}
 use Rattle.mf_calls.specs.declared.script.Script.{Script}
-use Rattle.mf_calls.specs.WellFormed.{lines_of}
+use Rattle.mf_calls.specs.Tasks.{lines_of}
+use Rattle.mf_calls.specs.WellFormed.{IsWellFormed}
 use Rattle.mf_core.specs.declared.progress.Phase.{Phase}
 use Rattle.mf_core.specs.declared.progress.Phase.TheVariants as phase
 use Rattle.mf_core.specs.declared.progress.Progress.{Progress}
@@ -16,8 +17,7 @@ use Rattle.mf_core.specs.LegalHistory.{RunState, run_state_of, turn_at_line, nex
 abbrev pub events_in : Phase → ℕ
 events_in phase.Idle = 0
 events_in phase.Entered = 1
-events_in phase.Done = 2
-events_in phase.Stopped = 2
+events_in other = 2
 
 abbrev pub events_by : Progress → ℕ
 events_by progress = 3 * progress.lines + events_in progress.phase
@@ -31,20 +31,18 @@ events_left (t ∷ ts) (x ∷ xs) = (3 * length t.lines - events_by x) + events_
 -- a task that isn't between its lines has a next line
 abbrev pub HasLine : Phase → ℕ → ℕ → Type 0
 HasLine phase.Idle lines n = lines ≤ n
-HasLine phase.Entered lines n = lines < n
-HasLine phase.Done lines n = lines < n
-HasLine phase.Stopped lines n = lines < n
+HasLine other lines n = lines < n
 
 -- an open entry is at a line whose call is no change
 abbrev pub IsAtEntry : Phase → Option Line → Type 0
-IsAtEntry phase.Idle next = Unit {0}
 IsAtEntry phase.Entered next = turn_at_line next ≡ turn.Entry
 IsAtEntry phase.Done next = turn_at_line next ≡ turn.Entry
-IsAtEntry phase.Stopped next = Unit {0}
+IsAtEntry other next = Unit {0}
 
--- The history is legal and determines this state of the run, in which each task is within its lines. There is room for all events that
--- may still come.
+-- The script is well formed, and the history is legal and determines this state of the run, in which each task is within its lines. There
+-- is room for all events that may still come.
 pub record IsConsistent (script : Script) (history : History) (run : RunState) : Type 0 where
+  pub formed : IsWellFormed script
   pub legal : IsLegal script history
   pub here : run_state_of script history.events.list ≡ run
   pub places : length run.progress ≡ length script.tasks

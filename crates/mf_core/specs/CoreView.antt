@@ -90,12 +90,8 @@ AdvancesOn commit.Stale old t new = new ≡ old
 
 -- how many lines more are done after a leave from that turn
 abbrev pub lines_left : Turn → ℕ
-lines_left turn.Entry = 0
-lines_left turn.Change = 0
-lines_left turn.Entered = 0
 lines_left turn.Done = 1
-lines_left turn.Finished = 0
-lines_left turn.Stopped = 0
+lines_left other = 0
 
 -- how many lines more are done after a change with that outcome
 abbrev pub lines_changed : ChangeOutcome → ℕ

@@ -1,8 +1,8 @@
--- Which histories are legal for a script, and the state that a history determines.
+-- Which histories are legal for a script, and the state that a history determines: this model's own.
 use Rattle.std.specs.Prelude.{◌≡◌, ◌⊎◌, ℕ, ◌+◌, ◌<◌, if◌then◌else◌, List, [], ◌∷◌, ◌++◌, length, map, Option, Some, None, slice_get}
 use Rattle.mf_calls.specs.declared.script.Line.{Line}
 use Rattle.mf_calls.specs.declared.script.Script.{Script}
-use Rattle.mf_calls.specs.WellFormed.{is_change, lines_of, name_of, IsWellFormed}
+use Rattle.mf_calls.specs.Tasks.{is_change, lines_of, name_of}
 use Rattle.mf_plan.specs.declared.state.State.{State}
 use Rattle.mf_plan.specs.declared.found.Found.{Found}
 use Rattle.mf_plan.specs.Planned.{Plan}
@@ -113,9 +113,8 @@ run_state_of s es = run_state_after s (opening s) es
 
 -- Histories
 
--- The script is well formed, the boot registrations are the script's, and each event may come after those before it.
+-- The boot registrations are the script's, and each event may come after those before it.
 pub record IsLegal (s : Script) (h : History) : Type 0 where
-  pub formed : IsWellFormed s
   pub boots : h.boots ≡ boots_of s
   pub events : AllMayCome s (opening s) h.events.list
 

@@ -1,4 +1,4 @@
--- The registrations at boot, and the opening state of a script.
+-- The registrations at boot, and the opening state of a script, by docs/MANUAL.md (THE SCRIPT).
 use Rattle.std.specs.Prelude.{ℕ, ◌≤◌, false, true, List, [], ◌∷◌, length, map, fold, Option, Some, None}
 use Rattle.mf_errno.specs.declared.module.Module.{Module}
 use Rattle.mf_elem.specs.Label.{no_request}
@@ -57,9 +57,7 @@ root_alone listed = objects.opening (new_label listed kinds.Vnode (Boot no_reque
 abbrev pub with_file_at : List Entry → Entities → FileLine → Target → Entities
 with_file_at listed o f (Name dir None) =
     objects.with_entity o (last_name f.path) (new_label listed kinds.Vnode (Boot f.label)) (objects.new_vnode dir f.file f.text)
-with_file_at listed o f (Name dir (Some id)) = o
-with_file_at listed o f Root = o
-with_file_at listed o f (Nowhere errno) = o
+with_file_at listed o f other = o
 
 abbrev pub with_file : List Entry → Entities → FileLine → Entities
 with_file listed o f = with_file_at listed o f (lookup_along o f.path).target

@@ -1,4 +1,4 @@
--- What a core has to do with the list of policies and the catalogue that came with it.
+-- What a core has to do with the list of policies and the catalogue that came with it: this model's own.
 use Rattle.std.specs.Prelude.{◌≡◌, ℕ, ◌<◌, true, false, cond, List, Option, Some, None}
 use Rattle.mf_errno.specs.Module.{same_module}
 use Rattle.mf_errno.specs.declared.module.Module.{Module}

@@ -3,7 +3,8 @@ ghost use Rattle.std.specs.Prelude.{◌≡◌, ◌+◌, ◌<◌, ◌≤◌, ◌�
 ghost use Rattle.mf_policy.specs.Modules.{module_of};
 ghost use Rattle.mf_list.specs.Lists.{IsFresh};
 ghost use Rattle.mf_calls.specs.declared.limits.TheConstants.{LINE_LIMIT};
-ghost use Rattle.mf_calls.specs.WellFormed.{IsWellFormed, lines_of};
+ghost use Rattle.mf_calls.specs.Tasks.{lines_of};
+ghost use Rattle.mf_calls.specs.WellFormed.{IsWellFormed};
 ghost use Rattle.mf_step.specs.Verdict as step;
 ghost use Rattle.mf_core.specs.declared.history.Event.TheVariants as event;
 ghost use Rattle.mf_core.specs.declared.progress.Turn.TheVariants as turn;
@@ -155,6 +156,7 @@ impl<'s> Core<'s> {
     /// The history so far.
     pub fn history(&self) -> &History
         ensures value { result.now ≡ self.now.history }
+        ensures formed { IsWellFormed self.now.script }
         ensures legal { IsLegal self.now.script self.now.history }
         ensures complete { open_of self.now ≡ 0 → done_of self.now ≡ all_lines self.now.script → IsComplete self.now.script self.now.history }
     {

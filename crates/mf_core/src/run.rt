@@ -3,7 +3,8 @@ ghost use Rattle.std.specs.Prelude.{◌≡◌, ◌<◌, ◌≤◌, ◌+◌, ◌�
 ghost use Rattle.mf_objects.specs.declared.limits.TheConstants.{ID_LIMIT};
 ghost use Rattle.mf_list.specs.Held.{IsListedOnce};
 ghost use Rattle.mf_calls.specs.declared.limits.TheConstants.{LINE_LIMIT};
-ghost use Rattle.mf_calls.specs.WellFormed.{lines_of, IsFormedLine, IsName, IsWellFormed};
+ghost use Rattle.mf_calls.specs.Tasks.{lines_of};
+ghost use Rattle.mf_calls.specs.WellFormed.{IsFormedLine, IsName, IsWellFormed};
 ghost use Rattle.mf_plan.specs.declared.plan.Tail.TheVariants.{Do};
 ghost use Rattle.mf_plan.specs.Found.{found_of};
 ghost use Rattle.mf_plan.specs.declared.reply.Payload.TheVariants as payload;
@@ -195,7 +196,7 @@ impl<'s> Run<'s> {
     }
 
     /// The call of the task's entry, at the line of that number, is done with this reply. If memory runs out, nothing changes.
-    pub(crate) fn commit(
+    pub fn commit(
         &mut self,
         alloc: Global,
         task: u32,

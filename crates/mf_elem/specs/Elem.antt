@@ -33,9 +33,7 @@ dominates Equal Equal = true
 
 abbrev pub is_equal : Elem → Bool
 is_equal Equal = true
-is_equal Low = false
-is_equal High = false
-is_equal (Grade grade comps) = false
+is_equal other = false
 
 -- whether two elements are one, where compartments are compared as sets
 abbrev pub is_same_element : Elem → Elem → Bool

@@ -1,4 +1,6 @@
--- What a range label says of its subject, which label is valid, and what a label text can ask for.
+-- What a range label says of its subject, which label is valid, and what a label text can ask for: ranges and the privilege of a subject are those
+-- of mac_biba(4) and mac_mls(4).
+use Rattle.std.specs.Option.{option_or}
 use Rattle.std.specs.Prelude.{◌≡◌, ℕ, ◌≤◌, Bool, true, false, ◌&&◌, ◌||◌, Option, Some, None, is_some, IfSome}
 pub use Rattle.mf_elem.specs.Elem.{is_equal}
 use Rattle.mf_elem.specs.Comps.{AreWords}
@@ -13,15 +15,11 @@ use Rattle.mf_elem.specs.declared.label.Request.{Request}
 
 abbrev pub is_low : Elem → Bool
 is_low Low = true
-is_low (Grade grade comps) = false
-is_low High = false
-is_low Equal = false
+is_low other = false
 
 abbrev pub is_high : Elem → Bool
-is_high Low = false
-is_high (Grade grade comps) = false
 is_high High = true
-is_high Equal = false
+is_high other = false
 
 abbrev pub has_equal_effective : Option Elem → Bool
 has_equal_effective None = false
@@ -61,15 +59,10 @@ is_valid label = is_valid_for label.effective label.range
 abbrev pub no_request : Request
 no_request = record { biba = None; mls = None; partition = None; other = false }
 
--- what is given, or else one's own
-abbrev pub given_or : {A : Type 0} → Option A → Option A → Option A
-given_or None own = own
-given_or (Some given) own = Some given
-
 -- the label with the parts that are given in place of its own
 abbrev pub replaced : RangeLabel → Option RangeLabel → RangeLabel
 replaced label None = label
-replaced label (Some given) = record { effective = given_or given.effective label.effective; range = given_or given.range label.range }
+replaced label (Some given) = record { effective = option_or given.effective label.effective; range = option_or given.range label.range }
 
 -- a grade of 16 bits, with compartments of the numbers that there are
 pub record IsGrade (grade : ℕ) (comps : Comps) : Type 0 where
@@ -79,9 +72,7 @@ pub record IsGrade (grade : ℕ) (comps : Comps) : Type 0 where
 -- an element that a label text can spell
 abbrev pub IsElement : Elem → Type 0
 IsElement (Grade grade comps) = IsGrade grade comps
-IsElement Low = Unit
-IsElement High = Unit
-IsElement Equal = Unit
+IsElement other = Unit
 
 -- a label that it can ask for: such an effective element, a range of such elements, or both
 pub record IsAskedLabel (label : RangeLabel) : Type 0 where

@@ -1,4 +1,4 @@
--- The numbers and the names of the errors.
+-- The numbers and the names of the errors, as errno(2) has them. The name of success is this model's own.
 use Rattle.std.specs.Prelude.{◌≡◌, ℕ, Bool, nat_eq, List, [], ◌∷◌, Option, find, codes}
 use Rattle.std.specs.Str.{bytes_eq}
 use Rattle.mf_errno.specs.declared.errno.Errno.{Errno}

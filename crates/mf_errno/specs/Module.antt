@@ -1,4 +1,4 @@
--- The modules by number and by name.
+-- The modules by name, as their manual pages have them; their numbers are this model's own.
 use Rattle.std.specs.Prelude.{ℕ, Bool, nat_eq, List, [], ◌∷◌, Option, find, codes}
 use Rattle.std.specs.Str.{bytes_eq}
 use Rattle.mf_errno.specs.declared.module.Module.{Module}

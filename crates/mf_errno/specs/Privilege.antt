@@ -1,4 +1,4 @@
--- The names of the privileges.
+-- The names of the privileges, as priv(9) has them, without their prefix.
 use Rattle.std.specs.Prelude.{◌≡◌, ◌≢◌, ℕ, List, Option, codes, MatchOption}
 use Rattle.mf_errno.specs.declared.privilege.Priv.{Priv}
 use Rattle.mf_errno.specs.declared.privilege.Priv.TheVariants.{KldLoad, KldUnload, MacPartition, SchedRtprio, SchedIdprio}

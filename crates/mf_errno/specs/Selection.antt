@@ -1,4 +1,4 @@
--- Which of several answers counts.
+-- Which of several answers counts, as the kernel's `mac_error_select` has it (sys/security/mac/mac_framework.c).
 use Rattle.std.specs.Prelude.{Bool, cond, List, [], ◌∷◌}
 use Rattle.std.specs.List.{list_any}
 use Rattle.mf_errno.specs.declared.errno.Errno.{Errno}

@@ -1,5 +1,5 @@
 -- The rows that are kept while a history is gone through are its sources.
-use Rattle.std.proofs.Common.{◌≡◌, ℕ, ◌<◌, ◌+◌, ◌-◌, slice_get, suc, false, List, [], ◌∷◌, length, drop, get_or, Option, Some, None, refl, ap, sym, ◌∙◌, subst, arith}
+use Rattle.std.proofs.Common.{◌≡◌, ℕ, ◌<◌, ◌+◌, ◌-◌, slice_get, suc, false, List, [], ◌∷◌, length, drop, get_or, Option, Some, None, refl, true, ap, sym, ◌∙◌, subst, arith}
 use Rattle.std.specs.Prelude.{IfSome}
 use Rattle.std.specs.Prelude.{fold, map}
 use Rattle.std.proofs.lemmas.List.{take-map}
@@ -19,20 +19,25 @@ use Rattle.mf_objects.specs.Live.{label_of as values_of}
 use Rattle.mf_calls.specs.declared.script.Call.{Call}
 use Rattle.mf_calls.specs.declared.script.Line.{Line}
 use Rattle.mf_calls.specs.declared.script.Script.{Script}
-use Rattle.mf_calls.specs.WellFormed.{lines_of, name_of, IsWellFormed}
+use Rattle.mf_calls.specs.Tasks.{lines_of, name_of}
+use Rattle.mf_calls.specs.WellFormed.{IsWellFormed}
 use Rattle.mf_plan.specs.declared.state.State.{State}
 use Rattle.mf_plan.specs.declared.reply.Reply.{Reply}
 use Rattle.mf_plan.specs.declared.reply.Reply.TheVariants as reply
+use Rattle.mf_plan.specs.declared.found.Found.{Found}
+use Rattle.mf_plan.specs.declared.plan.Tail.TheVariants.{Do}
+use Rattle.mf_plan.specs.Found.{found_of}
 use Rattle.mf_plan.specs.Plan.{plan_of}
-use Rattle.mf_step.specs.Reply.{payload_of}
+use Rattle.mf_step.specs.Reply.{is_done, payload_of}
 use Rattle.mf_step.specs.Step.{step_reply}
 use Rattle.mf_core.specs.declared.history.Event.{Event}
 use Rattle.mf_core.specs.declared.history.Event.TheVariants as event
 use Rattle.mf_core.specs.declared.history.History.{History}
 use Rattle.mf_core.specs.Opening.{opening_state}
 use Rattle.mf_core.specs.Progress.{progress_at}
-use Rattle.mf_core.specs.LegalHistory.{RunState, opening, next_line, reply_at, state_at, MayCome, after, AllMayCome, run_state_after, run_state_of, IsLegal}
+use Rattle.mf_core.specs.LegalHistory.{RunState, found_at, opening, next_found, next_line, reply_at, state_at, MayCome, after, AllMayCome, run_state_after, run_state_of, IsLegal}
 use Rattle.mf_core.specs.RunView.{RunView}
+use Rattle.mf_core.proofs.SameLists.{done_tail}
 use Rattle.mf_step.proofs.StateChange.{StateChange}
 use Rattle.mf_step.proofs.EntityChange.{ChangesEntities, changes_entities}
 use Rattle.mf_lifetimes.proofs.Marked.{by_line, event_change}
@@ -133,15 +138,15 @@ opening_for p s h r rows formed booted are =
       followed = record { sets = opening_sets s r; flows = refl; flowing = opening_flowing p r s formed booted.of booted.pinned; kept = are };
     }
 
-opening_followed : (s : Script) (h : History) (r : Registration) (es : List Event) (replay : RunView) (rows : Rows) → es ≡ h.events.list → IsLegal s h → IsBooted h r
+opening_followed : (s : Script) (h : History) (r : Registration) (es : List Event) (replay : RunView) (rows : Rows) → es ≡ h.events.list → IsWellFormed s → IsLegal s h → IsBooted h r
     → replay ≡ record { script = s; run = opening s } → AreRows (opening_state s).objects (opening_sets s r) rows → IsFollowed s r es 0 replay rows
-opening_followed s h r es replay rows all legal booted is are =
+opening_followed s h r es replay rows all formed legal booted is are =
     subst (λ (x : List Event). IsFollowed s r x 0 replay rows) (sym all)
     (subst (λ (x : RunView). IsFollowed s r h.events.list 0 x rows) (sym is) (one r.module refl booted.1))
   where
     one : (m : Module) → r.module ≡ m → HasSources m → IsFollowed s r h.events.list 0 (record { script = s; run = opening s }) rows
-    one Biba of has = opening_for _ s h r rows legal.formed (biba_booted s h r legal booted.0 of) are
-    one Mls of has = opening_for _ s h r rows legal.formed (mls_booted s h r legal booted.0 of) are
+    one Biba of has = opening_for _ s h r rows formed (biba_booted s h r formed legal booted.0 of) are
+    one Mls of has = opening_for _ s h r rows formed (mls_booted s h r formed legal booted.0 of) are
     one Partition of has = absurd has
     one Bsdextended of has = absurd has
     one Priority of has = absurd has
@@ -162,18 +167,18 @@ own_sources_rows s r o rows here own =
       each = λ id e live. at.each id e live ∙ ap (λ (found : Option LiveEntity). alone (element_in r (values_of found))) (sym live);
     }
 
-pub opening_flows : (s : Script) (h : History) (r : Option Registration) (es : List Event) (replay : RunView) (state : State) (flow : Option Flow) → es ≡ h.events.list → IsLegal s h
-    → IfSome r (IsBooted h) → replay ≡ record { script = s; run = opening s } → state ≡ replay.run.state → Alike (IsOpening state.objects) r flow
+pub opening_flows : (s : Script) (h : History) (r : Option Registration) (es : List Event) (replay : RunView) (state : State) (flow : Option Flow) → es ≡ h.events.list
+    → IsWellFormed s → IsLegal s h → IfSome r (IsBooted h) → replay ≡ record { script = s; run = opening s } → state ≡ replay.run.state → Alike (IsOpening state.objects) r flow
     → Alike (IsFlow s es 0 replay) r flow
-opening_flows s h None es replay state flow all legal booted is here none = none
-opening_flows s h (Some r) es replay state flow all legal booted is here opened =
+opening_flows s h None es replay state flow all formed legal booted is here none = none
+opening_flows s h (Some r) es replay state flow all formed legal booted is here opened =
     let at : state.objects ≡ (opening_state s).objects = ap (λ (x : State). x.objects) (here ∙ ap (λ (x : RunView). x.run.state) is) in
     let f : Flow = opened.0 in (
       f,
       opened.1,
       record {
         slot = opened.2.0;
-        rows = opening_followed s h r es replay f.sets all legal booted is (own_sources_rows s r state.objects f.sets at opened.2.1);
+        rows = opening_followed s h r es replay f.sets all formed legal booted is (own_sources_rows s r state.objects f.sets at opened.2.1);
       },
     )
 
@@ -372,3 +377,18 @@ done_line s run e t number said line is may found =
     let told : MayCome s run (event.Done t number said) = subst (MayCome s run) is may in
     let place : (progress_at run.progress t).lines ≡ number - 1 = omega (arith, told.1) in
     ap (slice_get (lines_of s t)) place ∙ found
+
+-- what a call that is done is about was found as its plan was made
+pub done_found : (s : Script) (run : RunState) (e : Event) (t number : ℕ) (said : Reply) (state : State) (task : List ℕ) (line : Line) (found : Found) → e ≡ event.Done t number said → MayCome s run e
+    → state ≡ run.state → task ≡ name_of s t → next_line s run.progress t ≡ Some line
+    → ((plan_of state task line.child line.call).tail ≡ Do → found ≡ found_of state task line.child line.call) → is_done said ≡ true → next_found s run t ≡ Some found
+done_found s run e t number said state task line found is may here task_is line_is found_is done =
+    let told : MayCome s run (event.Done t number said) = subst (MayCome s run) is may in
+    let replied : reply_at s run t (Some line) ≡ Some said = sym (ap (reply_at s run t) line_is) ∙ told.2 in
+    let same : said ≡ step_reply run.state (name_of s t) line.child line.call = cc in
+    let tail : (plan_of state task line.child line.call).tail ≡ Do =
+    ap (λ (x : State). (plan_of x task line.child line.call).tail) here ∙ ap (λ (x : List ℕ). (plan_of run.state x line.child line.call).tail) task_is
+    ∙ done_tail run.state (name_of s t) line.child line.call said same done in
+    let found_here : found ≡ found_of run.state (name_of s t) line.child line.call =
+    found_is tail ∙ ap (λ (x : State). found_of x task line.child line.call) here ∙ ap (λ (x : List ℕ). found_of run.state x line.child line.call) task_is in
+    ap (found_at s run t) line_is ∙ ap (λ (f : Found). Some f) (sym found_here)

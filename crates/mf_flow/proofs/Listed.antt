@@ -17,6 +17,7 @@ use Rattle.mf_objects.specs.Population.{IsRising}
 use Rattle.mf_objects.specs.Titles.{title_at}
 use Rattle.mf_objects.proofs.Rising.{id_differs}
 use Rattle.mf_calls.specs.declared.script.Script.{Script}
+use Rattle.mf_calls.specs.WellFormed.{IsWellFormed}
 use Rattle.mf_core.specs.declared.history.History.{History}
 use Rattle.mf_core.specs.LegalHistory.{IsLegal}
 use Rattle.mf_objects.proofs.Finding.{find_given}
@@ -260,19 +261,19 @@ all_sources m o rows before table from n sets rising so_far all are =
 -- The policies that were booted
 
 -- the slot of a policy that was booted
-boot_within : (s : Script) (h : History) (r : Registration) → IsLegal s h → Contains h.boots r → HasSources r.module → slot_of r < SLOTS
-boot_within s h r legal booted has = one r.module refl has
+boot_within : (s : Script) (h : History) (r : Registration) → IsWellFormed s → IsLegal s h → Contains h.boots r → HasSources r.module → slot_of r < SLOTS
+boot_within s h r formed legal booted has = one r.module refl has
   where
     one : (m : Module) → r.module ≡ m → HasSources m → slot_of r < SLOTS
-    one Biba of has = (biba_booted s h r legal booted of).of.within
-    one Mls of has = (mls_booted s h r legal booted of).of.within
+    one Biba of has = (biba_booted s h r formed legal booted of).of.within
+    one Mls of has = (mls_booted s h r formed legal booted of).of.within
     one Partition of has = absurd has
     one Bsdextended of has = absurd has
     one Priority of has = absurd has
 
-pub slot_within : (s : Script) (h : History) (r : Option Registration) → IsLegal s h → IfSome r (IsBooted h) → IfSome r (λ x. slot_of x < SLOTS)
-slot_within s h None legal booted = tt
-slot_within s h (Some r) legal booted = boot_within s h r legal booted.0 booted.1
+pub slot_within : (s : Script) (h : History) (r : Option Registration) → IsWellFormed s → IsLegal s h → IfSome r (IsBooted h) → IfSome r (λ x. slot_of x < SLOTS)
+slot_within s h None formed legal booted = tt
+slot_within s h (Some r) formed legal booted = boot_within s h r formed legal booted.0 booted.1
 
 -- the registration that is found was made at boot, and is the module's
 found_booted : (m : Module) (boots : List Registration) (r : Registration) → HasSources m → Some r ≡ booted_as boots m → Contains boots r × HasSources r.module

@@ -1,4 +1,4 @@
--- The order of elements in which the sources of a party are listed, and sets of elements in that order.
+-- The order of elements in which the sources of a party are listed, and sets of elements in that order: this model's own.
 use Rattle.std.specs.Prelude.{ℕ, Bool, true, false, List, [], ◌∷◌, if◌then◌else◌}
 use Rattle.std.specs.Ordering.{nat_cmp}
 use Rattle.std.specs.declared.cmp.Ordering.{Ordering}

@@ -17,7 +17,7 @@ use Rattle.mf_objects.specs.declared.id.Id.{Id}
 use Rattle.mf_objects.specs.Live.{LiveEntity, Entities, is_from, label_at, live_at}
 use Rattle.mf_calls.specs.declared.script.Line.{Line}
 use Rattle.mf_calls.specs.declared.script.Script.{Script}
-use Rattle.mf_calls.specs.WellFormed.{name_of}
+use Rattle.mf_calls.specs.Tasks.{name_of}
 use Rattle.mf_plan.specs.declared.outline.Check.{Check}
 use Rattle.mf_plan.specs.declared.reply.Reply.{Reply}
 use Rattle.mf_plan.specs.declared.state.State.{State}
@@ -106,11 +106,9 @@ rows_after_line slot s s' task (Some line) reply rows =
     (fold (rows_moved slot s.objects) rows (passed reply (plan_of s task line.child line.call).items))
 
 abbrev pub rows_after_event : Script → ℕ → RunState → Event → Rows → Rows
-rows_after_event s slot run (event.Enter t) rows = rows
 rows_after_event s slot run (event.Done t line reply) rows =
     rows_after_line slot run.state (after s run (event.Done t line reply)).state (name_of s t) (next_line s run.progress t) reply rows
-rows_after_event s slot run (event.Leave t) rows = rows
-rows_after_event s slot run (event.Changed t line reply) rows = rows
+rows_after_event s slot run other rows = rows
 
 -- Both policies
 
@@ -145,11 +143,9 @@ flows_after_line s s' task (Some line) reply flows =
 
 -- the sources by both policies after the event
 abbrev pub flows_after_event : Script → RunState → Event → Flows → Flows
-flows_after_event s run (event.Enter t) flows = flows
 flows_after_event s run (event.Done t line reply) flows =
     flows_after_line run.state (after s run (event.Done t line reply)).state (name_of s t) (next_line s run.progress t) reply flows
-flows_after_event s run (event.Leave t) flows = flows
-flows_after_event s run (event.Changed t line reply) flows = flows
+flows_after_event s run other flows = flows
 
 -- Rows and sources
 

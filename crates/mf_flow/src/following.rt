@@ -16,7 +16,7 @@ use mf_calls::Script;
 use mf_core::{Event, Run};
 use mf_elem::Elem;
 use mf_objects::{Id, Objects};
-use mf_plan::{Check, caller_of, outline_of};
+use mf_plan::{Check, outline_of};
 use mf_policy::slot_label;
 use std::alloc::{AllocError, Global};
 
@@ -57,12 +57,17 @@ pub fn follow(
             let state = run.state();
             let next = state.objects.next_id();
             let outline = outline_of(state, name, line.child_name(), &line.call);
-            let caller = caller_of(&state.objects, name, line.child_name());
             let said = reply.lend();
             let checks = passed(said.get(), outline.checks.as_slice());
             move_in_both(alloc, &state.objects, checks, flows)?;
-            run.next(alloc, event)?;
-            create_in_both(alloc, next, &run.state().objects, caller, flows)?;
+            run.commit(alloc, *task, *number, outline.found, reply)?;
+            create_in_both(
+                alloc,
+                next,
+                &run.state().objects,
+                outline.found.caller,
+                flows,
+            )?;
             Ok(())
         }
         Event::Enter(_) | Event::Leave(_) | Event::Changed(..) => run.next(alloc, event),

@@ -6,6 +6,7 @@ ghost use Rattle.mf_list.specs.Asked.{slot_of};
 ghost use Rattle.mf_objects.specs.Live.{live_at};
 ghost use Rattle.mf_objects.specs.Titles.{title_at};
 ghost use Rattle.mf_calls.specs.declared.script.Script.{Script as ScriptValue};
+ghost use Rattle.mf_calls.specs.WellFormed.{IsWellFormed};
 ghost use Rattle.mf_core.specs.declared.history.History.{History as HistoryValue};
 ghost use Rattle.mf_core.specs.LegalHistory.{run_state_of, IsLegal};
 ghost use Rattle.mf_flow.specs.Laws.{AreInOrder};
@@ -40,7 +41,8 @@ pub type Table = Listing<Row>;
 /// The sources of each live entity at the end of a legal history. Under mac_biba each of them dominates the entity's element,
 /// and under mac_mls the element dominates each.
 pub fn sources(alloc: Global, script: &Script, history: &History) -> Result<Table, AllocError>
-    requires { IsLegal script.now history.now }
+    requires formed { IsWellFormed script.now }
+    requires legal { IsLegal script.now history.now }
     ensures table { IfOk result (λ table. table ≡ spec.table_of script.now history.now) }
     ensures order { OnOk result (AreInOrder script.now history.now) }
 {
@@ -75,6 +77,7 @@ fn followed<'s>(
     biba: Option<&Registration>,
     mls: Option<&Registration>,
 ) -> Result<(Run<'s>, Flows), AllocError>
+    requires formed { IsWellFormed script.now }
     requires legal { IsLegal script.now history.now }
     requires biba { IfSome (option_copied biba) (IsBooted history.now) }
     requires mls { IfSome (option_copied mls) (IsBooted history.now) }

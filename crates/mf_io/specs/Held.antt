@@ -1,4 +1,4 @@
--- What a source and a sink over memory hold.
+-- What a source and a sink over memory hold: this model's own.
 use Rattle.std.specs.Prelude.{ℕ, List, Option}
 use Rattle.mf_io.specs.declared.calls.Calls.{Calls}
 

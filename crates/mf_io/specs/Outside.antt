@@ -1,4 +1,4 @@
--- What a source has left, what a sink has taken, and how often each has failed.
+-- What a source has left, what a sink has taken, and how often each has failed: this model's own view of read(2) and write(2).
 use Rattle.std.specs.Prelude.{◌≡◌, ◌⊎◌, ℕ, ◌<◌, ◌≤◌, List, [], ◌++◌, take, Option, Some, None, IfSome, IsSomeAnd, ◌↔◌, Result, OnOk, OnErr}
 use Rattle.mf_io.specs.declared.source.Failed.{Failed}
 

@@ -1,4 +1,4 @@
--- What a call of a source or a sink over memory that never fails does.
+-- What a call of a source or a sink over memory that never fails does: this model's own.
 use Rattle.std.specs.Prelude.{◌≡◌, ℕ, List, ◌++◌, length, take, drop, min, nat_le, if◌then◌else◌, Option, Some, None, Result, Ok}
 use Rattle.mf_io.specs.declared.source.Failed.{Failed}
 use Rattle.mf_io.specs.Held.{SureStore}

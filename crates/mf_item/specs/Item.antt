@@ -1,4 +1,4 @@
--- A check that the policies are asked for.
+-- A check that the policies are asked for: one call of an entry point of mac(9), with what policies look at.
 use Rattle.std.specs.Prelude.{Option}
 use Rattle.mf_errno.specs.declared.privilege.Priv.{Priv}
 use Rattle.mf_elem.specs.declared.label.Request.{Request}

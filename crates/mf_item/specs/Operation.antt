@@ -1,4 +1,4 @@
--- The names of the operations.
+-- The names of the operations, after the policies' entry points in sys/security/mac/mac_policy.h.
 use Rattle.std.specs.Prelude.{ℕ, List, [], ◌∷◌, Option, find, codes}
 use Rattle.std.specs.Str.{bytes_eq}
 use Rattle.mf_item.specs.declared.operation.CheckOp.{CheckOp}

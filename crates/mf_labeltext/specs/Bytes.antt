@@ -1,4 +1,4 @@
--- The bytes that part a label text.
+-- The bytes that part a label text, as maclabel(7) has them.
 use Rattle.std.specs.Prelude.{ℕ}
 
 abbrev pub open_parenthesis : ℕ

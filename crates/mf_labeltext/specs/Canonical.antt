@@ -1,4 +1,4 @@
--- The canonical text of labels.
+-- The canonical text of labels: one of the texts of maclabel(7) for each label. Which one is this model's own.
 use Rattle.std.specs.Prelude.{ℕ, List, [], ◌∷◌, ◌++◌, Option, Some, None, map, filter, codes, ◌==◌, if◌then◌else◌}
 use Rattle.std.specs.List.{join_with_byte}
 use Rattle.std.specs.Fmt.{decimal}

@@ -1,4 +1,4 @@
--- Reading a label text from left to right: what it asks for, or its first fault.
+-- Reading a label text of maclabel(7) from left to right: what it asks for, or its first fault. The faults and their order are this model's own.
 use Rattle.std.specs.Prelude.{ℕ, ◌+◌, List, [], ◌∷◌, length, Option, Some, None, Result, Ok, Err, Bool, true, false, nat_le, ◌==◌, ◌&&◌, ◌||◌, if◌then◌else◌, codes}
 use Rattle.std.specs.List.{slice_split, list_all}
 use Rattle.std.specs.Option.{ok_or}

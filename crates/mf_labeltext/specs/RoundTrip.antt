@@ -19,17 +19,14 @@ value_of policy [] = None
 value_of policy (part ∷ parts) = if same_module policy part.0 then Some part.1 else value_of policy parts
 
 abbrev pub range_of : Option LabelValue → Option RangeLabel
-range_of None = None
-range_of (Some Unset) = None
 range_of (Some (Range label)) = Some label
-range_of (Some (Number n)) = None
+range_of other = None
 
 -- an Unset partition is 0
 abbrev pub number_of : Option LabelValue → Option ℕ
-number_of None = None
 number_of (Some Unset) = Some 0
-number_of (Some (Range label)) = None
 number_of (Some (Number n)) = Some n
+number_of other = None
 
 abbrev pub request_of : List (Module × LabelValue) → Request
 request_of parts = record { biba = range_of (value_of Biba parts); mls = range_of (value_of Mls parts); partition = number_of (value_of Partition parts); other = false }

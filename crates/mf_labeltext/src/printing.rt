@@ -245,18 +245,3 @@ fn push_comp(separator: char, n: u16, out: &mut String) -> Result<(), AllocError
 pub fn canonical_text_spells_its_parts()
     ensures { CanonicalTextSpellsItsParts }
 {}
-
-#[cfg(test)]
-mod tests {
-    use super::*;
-
-    #[test]
-    fn elements_are_appended(rt: HostRuntime) -> Result<(), AllocError> {
-        let comps = Comps::empty().with(256).with(2);
-        let mut out = String::from_str(rt.alloc(), "low,")?;
-        print_elem(&Elem::Grade(10, comps), &mut out)?;
-        assert!(rt; out.as_str() == "low,10:2+256");
-        assert!(rt; policy_name(Module::Mls) == "mls");
-        Ok(())
-    }
-}

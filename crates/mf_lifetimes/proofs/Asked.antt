@@ -12,7 +12,8 @@ use Rattle.mf_item.specs.declared.view.Kind.TheVariants as kinds
 use Rattle.mf_policy.specs.Modules.{may_ask}
 use Rattle.mf_policy.specs.Registration.{Entry, given_after, with_newest, with_registered}
 use Rattle.mf_calls.specs.declared.script.Script.{Script}
-use Rattle.mf_calls.specs.Boots.{names_booted, IsAsked}
+use Rattle.mf_calls.specs.WellFormed.{IsAsked}
+use Rattle.mf_calls.specs.Boots.{names_booted}
 use Rattle.mf_core.specs.Opening.{registrations_from, booted_specs}
 use Rattle.mf_lifetimes.proofs.Listing.{newest, all_newest}
 

@@ -13,7 +13,8 @@ use Rattle.mf_objects.specs.declared.id.Id.{Id}
 use Rattle.mf_objects.specs.Live.{LiveEntity, kind_of, live_at}
 use Rattle.mf_calls.specs.declared.script.Line.{Line}
 use Rattle.mf_calls.specs.declared.script.Script.{Script}
-use Rattle.mf_calls.specs.WellFormed.{name_of, IsWellFormed}
+use Rattle.mf_calls.specs.Tasks.{name_of}
+use Rattle.mf_calls.specs.WellFormed.{IsWellFormed}
 use Rattle.mf_plan.specs.declared.state.State.{State}
 use Rattle.mf_plan.specs.Names.{caller_name}
 use Rattle.mf_plan.specs.Views.{process_named}
@@ -191,20 +192,20 @@ agree_once slot id next None marks agree = agree.0
 agree_once slot id next (Some e) marks agree = value_once (value_in slot e) marks agree
 
 pub made_at_most_once : SlotsAreMadeOnce
-made_at_most_once s h legal id slot within =
+made_at_most_once s h formed legal id slot within =
     let last : State = state_of s h in
-    agree_once slot id last.objects.next (live_at last.objects id) (marks_of s h.events.list id slot) (marked s h.events.list id slot within legal.formed).agree
+    agree_once slot id last.objects.next (live_at last.objects id) (marks_of s h.events.list id slot) (marked s h.events.list id slot within formed).agree
 
 pub marks_tell_values : SetSlotsAreMarked
-marks_tell_values s h id e slot legal live within =
+marks_tell_values s h id e slot formed legal live within =
     let last : State = state_of s h in
-    subst (λ (found : Option LiveEntity). Agree slot id last.objects.next found (marks_of s h.events.list id slot)) live (marked s h.events.list id slot within legal.formed).agree
+    subst (λ (found : Option LiveEntity). Agree slot id last.objects.next found (marks_of s h.events.list id slot)) live (marked s h.events.list id slot within formed).agree
 
 pub gone_have_ended : GoneSlotsHaveEnded
-gone_have_ended s h id slot r legal gone within =
+gone_have_ended s h id slot r formed legal gone within =
     let last : State = state_of s h in
     let agree : Agree slot id last.objects.next None (marks_of s h.events.list id slot) =
-    subst (λ (found : Option LiveEntity). Agree slot id last.objects.next found (marks_of s h.events.list id slot)) gone (marked s h.events.list id slot within legal.formed).agree in
+    subst (λ (found : Option LiveEntity). Agree slot id last.objects.next found (marks_of s h.events.list id slot)) gone (marked s h.events.list id slot within formed).agree in
     agree.2 r
 
 -- Policies that stay
@@ -245,6 +246,6 @@ labels_all slot r s held =
     }
 
 pub last_and_label : BootedPoliciesLast
-last_and_label s h r slot legal there fixed at within =
+last_and_label s h r slot formed legal there fixed at within =
     let pinned = boots_pinned s slot r (subst (λ (rs : List Registration). Contains rs r) legal.boots there) fixed at in
-    labels_all slot r (state_of s h) (run_held slot r s (opening s) h.events.list within (opening_held slot r s within legal.formed pinned))
+    labels_all slot r (state_of s h) (run_held slot r s (opening s) h.events.list within (opening_held slot r s within formed pinned))

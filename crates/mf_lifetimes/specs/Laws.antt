@@ -1,4 +1,5 @@
--- What is true of the opening state, and of label slots and their marks over every legal history.
+-- What is true of the opening state, and of label slots and their marks over every legal history: labels are initialised and destroyed once, as
+-- mac(9) asks.
 use Rattle.std.specs.Prelude.{◌≡◌, ◌≢◌, ℕ, ◌<◌, ◌+◌, Bool, true, false, List, [], ◌∷◌, length, Some, None, Contains}
 use Rattle.mf_elem.specs.declared.label.TheConstants.{SLOTS}
 use Rattle.mf_elem.specs.declared.label.LabelValue.{LabelValue}
@@ -35,25 +36,24 @@ state_of s h = (run_state_of s h.events.list).state
 abbrev pub AreMadeOnce : Script → History → Type 0
 AreMadeOnce s h = (id : Id) (slot : ℕ) → slot < SLOTS → AreOnce (marks_of s h.events.list id slot)
 
--- It is so in every legal history.
+-- It is so in every legal history of a well-formed script.
 abbrev pub SlotsAreMadeOnce : Type 0
-SlotsAreMadeOnce = (s : Script) (h : History) → IsLegal s h → AreMadeOnce s h
+SlotsAreMadeOnce = (s : Script) (h : History) → IsWellFormed s → IsLegal s h → AreMadeOnce s h
 
 -- an unset slot has no mark, and a set one has been made, by some registration, and hasn't ended
 abbrev pub AreMarksOf : LabelValue → List Mark → Type 0
 AreMarksOf Unset marks = marks ≡ []
-AreMarksOf (Range label) marks = (r : Registration) × (marks ≡ Made r ∷ [])
-AreMarksOf (Number n) marks = (r : Registration) × (marks ≡ Made r ∷ [])
+AreMarksOf other marks = (r : Registration) × (marks ≡ Made r ∷ [])
 
 -- A slot of a live entity is unset exactly where it has no mark.
 abbrev pub SetSlotsAreMarked : Type 0
-SetSlotsAreMarked = (s : Script) (h : History) (id : Id) (e : LiveEntity) (slot : ℕ) → IsLegal s h → live_at (state_of s h).objects id ≡ Some e → slot < SLOTS
-    → AreMarksOf (value_in slot e) (marks_of s h.events.list id slot)
+SetSlotsAreMarked = (s : Script) (h : History) (id : Id) (e : LiveEntity) (slot : ℕ) → IsWellFormed s → IsLegal s h
+    → live_at (state_of s h).objects id ≡ Some e → slot < SLOTS → AreMarksOf (value_in slot e) (marks_of s h.events.list id slot)
 
 -- A slot of an entity that has gone isn't left as it was made: it was never made, or it has ended.
 abbrev pub GoneSlotsHaveEnded : Type 0
-GoneSlotsHaveEnded = (s : Script) (h : History) (id : Id) (slot : ℕ) (r : Registration) → IsLegal s h → live_at (state_of s h).objects id ≡ None → slot < SLOTS
-    → marks_of s h.events.list id slot ≢ Made r ∷ []
+GoneSlotsHaveEnded = (s : Script) (h : History) (id : Id) (slot : ℕ) (r : Registration) → IsWellFormed s → IsLegal s h
+    → live_at (state_of s h).objects id ≡ None → slot < SLOTS → marks_of s h.events.list id slot ≢ Made r ∷ []
 
 -- whether a slot that is labelled so holds a valid label: by elements, one whose effective element is there, and lies in the range where there
 -- is one; by partitions, a number
@@ -70,8 +70,8 @@ pub record LabelsAll (r : Registration) (slot : ℕ) (state : State) : Type 0 wh
 
 -- What was booted for good, with a label slot, labels all entities at any time, each with a valid label.
 abbrev pub BootedPoliciesLast : Type 0
-BootedPoliciesLast = (s : Script) (h : History) (r : Registration) (slot : ℕ) → IsLegal s h → Contains h.boots r → r.fixed ≡ true → r.slot ≡ Some slot → slot < SLOTS
-    → LabelsAll r slot (state_of s h)
+BootedPoliciesLast = (s : Script) (h : History) (r : Registration) (slot : ℕ) → IsWellFormed s → IsLegal s h
+    → Contains h.boots r → r.fixed ≡ true → r.slot ≡ Some slot → slot < SLOTS → LabelsAll r slot (state_of s h)
 
 -- In the opening state of a well-formed script no file and no task is missing: beside the root directory as many entities live as there
 -- are files and tasks.

@@ -1,4 +1,5 @@
--- Marks of label slots: when a slot of an entity is made, and how it ends.
+-- Marks of label slots: when a slot of an entity is made, and how it ends (initialised and destroyed, in the words of mac(9)).
+use Rattle.std.specs.Option.{option_eq}
 use Rattle.std.specs.Prelude.{ℕ, Bool, true, false, not, ◌&&◌, nat_eq, if◌then◌else◌, List, [], ◌∷◌, ◌++◌, map, filter, slice_index_or, Option, Some, None}
 use Rattle.std.specs.List.{list_any}
 use Rattle.mf_elem.specs.declared.label.LabelValue.{LabelValue}
@@ -35,15 +36,9 @@ labels kind slot entry = holds_slot slot entry && labels_kind entry.0.module kin
 abbrev pub labellers : List Entry → Kind → ℕ → List Registration
 labellers specs kind slot = map (λ entry. entry.0) (filter (labels kind slot) specs)
 
-abbrev pub same_slot : Option ℕ → Option ℕ → Bool
-same_slot None None = true
-same_slot None (Some slot) = false
-same_slot (Some slot) None = false
-same_slot (Some slot) (Some other) = nat_eq slot other
-
 -- Of two registrations of one module the second has another slot number, since none is given twice.
 abbrev pub same_registration : Registration → Registration → Bool
-same_registration r q = same_module r.module q.module && same_slot r.slot q.slot
+same_registration r q = same_module r.module q.module && option_eq nat_eq r.slot q.slot
 
 -- the registration is listed
 abbrev pub is_registered : Registration → List Entry → Bool
@@ -72,8 +67,7 @@ value_in slot e = slice_index_or e.label slot Unset
 
 abbrev pub is_set : LabelValue → Bool
 is_set Unset = false
-is_set (Range label) = true
-is_set (Number n) = true
+is_set other = true
 
 -- the first value of a slot that was unset
 abbrev pub is_first : LabelValue → LabelValue → Bool

@@ -1,4 +1,5 @@
--- What the listed policies answer together.
+-- What the listed policies answer together, as sys/security/mac/mac_framework.c composes it; and whether a subject has a privilege, as priv_check(9)
+-- has it. That a denial names who decided is this model's own.
 use Rattle.std.specs.Prelude.{ℕ, Bool, true, false, cond, ◌&&◌, ◌||◌, nat_eq, List, map, Option, Some, None, option_map, option_and_then, slice_get, unwrap_or}
 use Rattle.std.specs.List.{list_any}
 use Rattle.mf_errno.specs.declared.errno.Errno.{Errno}

@@ -1,4 +1,4 @@
--- The errno with which a load or an unload is refused.
+-- The errno with which a load or an unload is refused, as by sys/security/mac/mac_framework.c.
 use Rattle.mf_errno.specs.declared.errno.Errno.{Errno}
 use Rattle.mf_errno.specs.declared.errno.Errno.TheVariants.{Enoent}
 use Rattle.mf_policy.specs.declared.loading.LoadFault.TheVariants as loading

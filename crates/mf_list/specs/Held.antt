@@ -1,4 +1,4 @@
--- How often list and catalogue hold a module.
+-- How often list and catalogue hold a module. The catalogue is this model's own.
 use Rattle.std.specs.Prelude.{ℕ, ◌+◌, ◌≤◌, Bool, true, cond, not, ◌&&◌, List, [], ◌∷◌}
 use Rattle.mf_errno.specs.Module.{same_module}
 use Rattle.mf_errno.specs.declared.module.Module.{Module}

@@ -1,4 +1,4 @@
--- What contracts see of the list of policies and of the catalogue.
+-- What contracts see of the list of policies and of the catalogue, which is this model's own.
 use Rattle.std.specs.Prelude.{◌≡◌, ℕ, ◌<◌, ◌≤◌, Bool, true, false, List, Option, Some, None, length}
 use Rattle.std.specs.List.{list_any}
 use Rattle.mf_elem.specs.declared.label.TheConstants.{SLOTS}

@@ -10,10 +10,9 @@ use Rattle.mf_load.specs.Summary.{count_text}
 
 -- the errno of an event that is a reply
 abbrev pub errno_in : Event → List Errno
-errno_in (event.Enter t) = []
 errno_in (event.Done t line reply) = errno_of reply ∷ []
-errno_in (event.Leave t) = []
 errno_in (event.Changed t line reply) = errno_of reply ∷ []
+errno_in other = []
 
 -- the errnos of the replies among these events, in order
 abbrev pub errnos_in : List Event → List Errno

@@ -1,4 +1,4 @@
--- What the calls change.
+-- What the calls change. Entities, ids and limits are this model's own.
 use Rattle.std.specs.Prelude.{◌≡◌, ℕ, ◌+◌, ◌<◌, ◌≤◌, length, Bool, true, false, not, ◌||◌, List, [], ◌∷◌, ◌++◌, map, filter, slice_set, if◌then◌else◌, Some, None, IsTrue, MatchOption, count_by}
 use Rattle.mf_elem.specs.declared.label.LabelValue.{LabelValue}
 use Rattle.mf_cred.specs.declared.cred.FileView.{FileView}
@@ -44,24 +44,19 @@ with_label values e = record e { label = values }
 
 -- so many bytes more fit a regular file or a pipe
 abbrev pub FitsBytes : ℕ → EntityData → Type 0
-FitsBytes more (Process cred) = ⊥
 FitsBytes more (Vnode vnode) = (vnode.file.dir ≡ false) × (length vnode.content + more ≤ CONTENT_LIMIT)
 FitsBytes more (Pipe pipe) = length pipe.bytes + more ≤ PIPE_LIMIT
-FitsBytes more (Socket socket) = ⊥
+FitsBytes more other = ⊥
 
 -- one message more fits a socket
 abbrev pub FitsMessage : EntityData → Type 0
-FitsMessage (Process cred) = ⊥
-FitsMessage (Vnode vnode) = ⊥
-FitsMessage (Pipe pipe) = ⊥
 FitsMessage (Socket socket) = length socket.messages < MOST_MESSAGES
+FitsMessage other = ⊥
 
 -- a socket with a message
 abbrev pub HasMessage : EntityData → Type 0
-HasMessage (Process cred) = ⊥
-HasMessage (Vnode vnode) = ⊥
-HasMessage (Pipe pipe) = ⊥
 HasMessage (Socket socket) = 0 < length socket.messages
+HasMessage other = ⊥
 
 -- what a new entity is to belong to is live: its directory, or the process that makes it; and a new directory is empty
 abbrev pub MayJoin : Entities → EntityData → Type 0
@@ -74,8 +69,7 @@ MayJoin objects (Socket socket) = IsLive is_process objects socket.maker
 abbrev pub IsBare : List LiveEntity → Id → EntityData → Type 0
 IsBare live id (Process cred) = count_by (λ e. is_made_by id e.what) live ≡ 0
 IsBare live id (Vnode vnode) = count_by (λ e. is_entry id e.what) live ≡ 0
-IsBare live id (Pipe pipe) = Unit {0}
-IsBare live id (Socket socket) = Unit {0}
+IsBare live id other = Unit {0}
 
 -- bytes are appended to a file or a pipe
 abbrev pub appended : List ℕ → EntityData → EntityData

@@ -1,4 +1,4 @@
--- The beginning of some bytes.
+-- The beginning of some bytes, which is this model's own.
 use Rattle.std.specs.Prelude.{ℕ, List, take, length}
 use Rattle.mf_objects.specs.declared.head.Head.{Head}
 use Rattle.mf_objects.specs.declared.limits.TheConstants.{HEAD_BYTES}

@@ -1,4 +1,4 @@
--- The live entities, as contracts see them: the listing of a finite map by rising id.
+-- The live entities, as contracts see them: the listing of a finite map by rising id. Ids that are never used again are this model's own.
 use Rattle.std.specs.Prelude.{◌≡◌, ◌≢◌, ◌<◌, ◌≤◌, ℕ, All, Bool, true, false, IsTrue, nat_eq, nat_le, ◌&&◌, List, [], ◌∷◌, length, Option, Some, None, find, count_by, slice_index_or, option_map, IfSome, IfNone}
 use Rattle.std.specs.Str.{bytes_eq}
 use Rattle.mf_elem.specs.declared.label.LabelValue.{LabelValue}
@@ -35,33 +35,23 @@ live_at objects id = find (has_id id) objects.live
 
 abbrev pub is_process : EntityData → Bool
 is_process (Process cred) = true
-is_process (Vnode vnode) = false
-is_process (Pipe pipe) = false
-is_process (Socket socket) = false
+is_process other = false
 
 abbrev pub is_vnode : EntityData → Bool
-is_vnode (Process cred) = false
 is_vnode (Vnode vnode) = true
-is_vnode (Pipe pipe) = false
-is_vnode (Socket socket) = false
+is_vnode other = false
 
 abbrev pub is_pipe : EntityData → Bool
-is_pipe (Process cred) = false
-is_pipe (Vnode vnode) = false
 is_pipe (Pipe pipe) = true
-is_pipe (Socket socket) = false
+is_pipe other = false
 
 abbrev pub is_socket : EntityData → Bool
-is_socket (Process cred) = false
-is_socket (Vnode vnode) = false
-is_socket (Pipe pipe) = false
 is_socket (Socket socket) = true
+is_socket other = false
 
 abbrev pub is_directory : EntityData → Bool
-is_directory (Process cred) = false
 is_directory (Vnode vnode) = vnode.file.dir
-is_directory (Pipe pipe) = false
-is_directory (Socket socket) = false
+is_directory other = false
 
 abbrev pub passes : (EntityData → Bool) → Option LiveEntity → Bool
 passes test None = false
@@ -83,17 +73,14 @@ is_held_by dir (Some parent) = nat_eq parent.0 dir.0
 
 -- it is an entry of this directory
 abbrev pub is_entry : Id → EntityData → Bool
-is_entry dir (Process cred) = false
 is_entry dir (Vnode vnode) = is_held_by dir vnode.parent
-is_entry dir (Pipe pipe) = false
-is_entry dir (Socket socket) = false
+is_entry dir other = false
 
 -- it was made by this process: pipes and sockets alone have a maker
 abbrev pub is_made_by : Id → EntityData → Bool
-is_made_by maker (Process cred) = false
-is_made_by maker (Vnode vnode) = false
 is_made_by maker (Pipe pipe) = nat_eq pipe.maker.0 maker.0
 is_made_by maker (Socket socket) = nat_eq socket.maker.0 maker.0
+is_made_by maker other = false
 
 -- it passes the test and has this name
 abbrev pub is_named : (EntityData → Bool) → List ℕ → LiveEntity → Bool
@@ -140,29 +127,22 @@ abbrev pub no_cred : Cred
 no_cred = record { uid = 0; ruid = 0; svuid = 0; groups = 0 ∷ [] }
 
 abbrev pub file_of : EntityData → FileView
-file_of (Process cred) = no_file
 file_of (Vnode vnode) = vnode.file
-file_of (Pipe pipe) = no_file
-file_of (Socket socket) = no_file
+file_of other = no_file
 
 abbrev pub cred_of : EntityData → Cred
 cred_of (Process cred) = cred
-cred_of (Vnode vnode) = no_cred
-cred_of (Pipe pipe) = no_cred
-cred_of (Socket socket) = no_cred
+cred_of other = no_cred
 
 -- the bytes of a vnode or a pipe
 abbrev pub content_of : EntityData → List ℕ
-content_of (Process cred) = []
 content_of (Vnode vnode) = vnode.content
 content_of (Pipe pipe) = pipe.bytes
-content_of (Socket socket) = []
+content_of other = []
 
 abbrev pub messages_of : EntityData → List (List ℕ)
-messages_of (Process cred) = []
-messages_of (Vnode vnode) = []
-messages_of (Pipe pipe) = []
 messages_of (Socket socket) = socket.messages
+messages_of other = []
 
 abbrev pub reading : {A : Type 0} → (EntityData → A) → A → Option LiveEntity → A
 reading read none None = none
@@ -185,10 +165,8 @@ messages_at objects id = reading messages_of [] (live_at objects id)
 
 -- how many messages a socket has, and for all else this number of entries
 abbrev pub count_of : ℕ → EntityData → ℕ
-count_of entries (Process cred) = entries
-count_of entries (Vnode vnode) = entries
-count_of entries (Pipe pipe) = entries
 count_of entries (Socket socket) = length socket.messages
+count_of entries other = entries
 
 -- how many entries a directory has
 abbrev pub entry_count : Entities → Id → ℕ

@@ -1,4 +1,4 @@
--- The entries of directories in byte order, the paths of vnodes, and the titles of entities.
+-- The entries of directories in byte order, the paths of vnodes, and the titles of entities. All of it is this model's own.
 use Rattle.std.specs.Prelude.{◌≡◌, ℕ, min, length, Bool, List, [], ◌∷◌, ◌++◌, Option, Some, None, take, insert, filter, map, reverse, codes, if◌then◌else◌, nat_eq}
 use Rattle.std.specs.List.{position_or_len}
 use Rattle.std.specs.List.Sorted.{IsSorted, IsPermutation}
@@ -48,10 +48,8 @@ pub record Link : Type 0 where
   pub name : List ℕ
 
 abbrev pub parent_of : EntityData → Option Id
-parent_of (Process cred) = None
 parent_of (Vnode vnode) = vnode.parent
-parent_of (Pipe pipe) = None
-parent_of (Socket socket) = None
+parent_of other = None
 
 abbrev pub link : LiveEntity → Link
 link e = record { id = e.id; parent = parent_of e.what; name = e.name }
@@ -83,10 +81,8 @@ prefix_of (Socket socket) = codes "socket:"
 
 -- what follows: the name, or the path of a vnode
 abbrev pub own_name : List ℕ → List ℕ → EntityData → List ℕ
-own_name path name (Process cred) = name
 own_name path name (Vnode vnode) = rooted_path path
-own_name path name (Pipe pipe) = name
-own_name path name (Socket socket) = name
+own_name path name other = name
 
 -- some text was appended
 pub record IsAppended (old new : List ℕ) : Type 0 where

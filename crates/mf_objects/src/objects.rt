@@ -265,6 +265,3 @@ fn place_of(entities: &[Entity], id: Id) -> Option<usize>
     }
     entities.binary_search_by_key(&id.0, |e| e.id.0).ok()
 }
-
-#[cfg(test)]
-mod tests;

@@ -1,7 +1,7 @@
 -- The views of a plan's checks, as they are filled in.
-use Rattle.std.proofs.Common.{◌≡◌, ℕ, suc, ◌+◌, ◌<◌, ◌≤◌, List, [], ◌∷◌, ◌++◌, Option, Some, None, length, get_or, take, map, All, refl, ap, sym, ◌∙◌, subst, length-append, arith}
+use Rattle.std.proofs.Common.{◌≡◌, ℕ, suc, ◌+◌, ◌<◌, ◌≤◌, List, [], ◌∷◌, ◌++◌, Option, Some, None, length, get_or, set, take, map, refl, ap, sym, ◌∙◌, subst, length-append, arith}
 use Rattle.std.specs.Prelude.{Bool, true, false, IsTrue}
-use Rattle.std.proofs.lemmas.List.{map_more, map_push, get_or-map, places}
+use Rattle.std.proofs.lemmas.List.{map_more, map_push, get_or-map, length-set, places, take_more_set}
 use Rattle.std.proofs.lemmas.List.Elements.{All-push}
 use Rattle.mf_item.specs.declared.view.SubjectView.{SubjectView}
 use Rattle.mf_item.specs.Item.{Item}
@@ -14,10 +14,11 @@ use Rattle.mf_plan.specs.Viewing.{EndsWith, GrowsTo, IsAsked}
 
 -- so many checks are filled in
 pub record IsFilled (objects : Entities) (checks : List Check) (done : ℕ) (subjects : List SubjectView) (seen : List CheckView) (last : Option Check) : Type 0 where
-  pub items : items_with subjects seen ≡ map (item_of objects) (take done checks)
-  pub subjects_of : HaveSubjects subjects seen
-  pub few : length subjects ≤ done
+  pub items : items_with subjects (take done seen) ≡ map (item_of objects) (take done checks)
+  pub subjects_of : HaveSubjects subjects (take done seen)
+  pub few : length subjects ≤ done + 1
   pub ends : EndsWith objects subjects last
+  pub room : length checks ≤ length seen
 
 -- a check keeps its subject as subjects are added
 kept : (subjects rest : List SubjectView) (check : CheckView) → check.subject < length subjects → item_with (subjects ++ rest) check ≡ item_with subjects check
@@ -43,32 +44,46 @@ asked_item objects check subjects view asked subject =
     λ k. record { op = asked.op k; subject = subject k; object = asked.object k; request = None; privilege = asked.privilege k }
 
 pub one_more : (objects : Entities) (checks : List Check) (done : ℕ) (subjects subjects' : List SubjectView) (seen : List CheckView) (last : Option Check)
-    (d : Check) (view : CheckView)
+    (d : Check) (view : CheckView) (place : ℕ)
     → IsFilled objects checks done subjects seen last → done < length checks → GrowsTo subjects subjects'
-    → view.subject < length subjects' → get_or subjects' view.subject nobody ≡ subject_in objects (get_or checks done d) → IsAsked objects (get_or checks done d) view
+    → view.subject ≡ place → place < length subjects' → get_or subjects' place nobody ≡ subject_in objects (get_or checks done d) → IsAsked objects (get_or checks done d) view
     → EndsWith objects subjects' (Some (get_or checks done d)) → length subjects' ≤ length subjects + 1
-    → IsFilled objects checks (done + 1) subjects' (seen ++ view ∷ []) (Some (get_or checks done d))
-one_more objects checks done subjects subjects' seen last d view filled within grows place subject asked ends few =
+    → IsFilled objects checks (done + 1) subjects' (set seen done view) (Some (get_or checks done d))
+one_more objects checks done subjects subjects' seen last d view place filled within grows at below shows asked ends few =
     record {
-      items = pushed ∙ more ∙ sym (map_more (item_of objects) checks done d within);
-      subjects_of = All-push (λ (c : CheckView). c.subject < length subjects') seen view still place;
+      items = ap (items_with subjects') is_set ∙ pushed ∙ more ∙ sym (map_more (item_of objects) checks done d within);
+      subjects_of = subst (HaveSubjects subjects') (sym is_set) (All-push (λ (c : CheckView). c.subject < length subjects') (take done seen) view still sits);
       few = omega (arith, filled.few, few);
       ends = ends;
+      room = room;
     }
   where
     check : Check
     check = get_or checks done d
 
-    still : HaveSubjects subjects' seen
-    still = subst (λ (s : List SubjectView). HaveSubjects s seen) (sym grows.is) (longer subjects grows.rest seen filled.subjects_of)
+    sits : view.subject < length subjects'
+    sits = subst (λ (n : ℕ). n < length subjects') (sym at) below
 
-    old : items_with subjects' seen ≡ map (item_of objects) (take done checks)
-    old = ap (λ (s : List SubjectView). items_with s seen) grows.is ∙ all_kept subjects grows.rest seen filled.subjects_of ∙ filled.items
+    subject : get_or subjects' view.subject nobody ≡ subject_in objects check
+    subject = subst (λ (n : ℕ). get_or subjects' n nobody ≡ subject_in objects check) (sym at) shows
 
-    pushed : items_with subjects' (seen ++ view ∷ []) ≡ items_with subjects' seen ++ item_with subjects' view ∷ []
-    pushed = map_push (item_with subjects') seen view
+    -- the view is put behind those that are filled in
+    is_set : take (done + 1) (set seen done view) ≡ take done seen ++ view ∷ []
+    is_set = take_more_set seen done view (omega (arith, filled.room, within))
 
-    more : items_with subjects' seen ++ item_with subjects' view ∷ [] ≡ map (item_of objects) (take done checks) ++ item_of objects check ∷ []
+    room : length checks ≤ length (set seen done view)
+    room = omega (arith, filled.room, length-set seen done view)
+
+    still : HaveSubjects subjects' (take done seen)
+    still = subst (λ (s : List SubjectView). HaveSubjects s (take done seen)) (sym grows.is) (longer subjects grows.rest (take done seen) filled.subjects_of)
+
+    old : items_with subjects' (take done seen) ≡ map (item_of objects) (take done checks)
+    old = ap (λ (s : List SubjectView). items_with s (take done seen)) grows.is ∙ all_kept subjects grows.rest (take done seen) filled.subjects_of ∙ filled.items
+
+    pushed : items_with subjects' (take done seen ++ view ∷ []) ≡ items_with subjects' (take done seen) ++ item_with subjects' view ∷ []
+    pushed = map_push (item_with subjects') (take done seen) view
+
+    more : items_with subjects' (take done seen) ++ item_with subjects' view ∷ [] ≡ map (item_of objects) (take done checks) ++ item_of objects check ∷ []
     more = λ k. old k ++ asked_item objects check subjects' view asked subject k ∷ []
 
 -- where one check is seen otherwise, all together are

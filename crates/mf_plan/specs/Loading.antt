@@ -1,4 +1,4 @@
--- Which calls load and unload a module, and with which errno the framework refuses them.
+-- Which calls load and unload a module, as kldload(8) and kldunload(8) do, and with which errno the framework refuses them.
 use Rattle.std.specs.Prelude.{ℕ, if◌then◌else◌, List, Option, Some, None, option_and_then, option_map}
 use Rattle.mf_errno.specs.Module.{module_named}
 use Rattle.mf_errno.specs.declared.errno.Errno.{Errno}

@@ -1,4 +1,4 @@
--- Names of processes.
+-- Names of processes, which are this model's own.
 use Rattle.std.specs.Prelude.{ℕ, List, ◌++◌, Option, Some, None, codes}
 
 -- the full name of a task's child

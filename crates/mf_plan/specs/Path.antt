@@ -1,4 +1,4 @@
--- Where a path leads, and the directories in which its components are looked up.
+-- Where a path leads, and the directories in which its components are looked up, as namei(9) does without links and mounts.
 use Rattle.std.specs.Prelude.{◌≢◌, ℕ, List, [], ◌∷◌, Option, Some, None, IfSome, Result, Ok, Err, find, option_map, if◌then◌else◌}
 use Rattle.std.specs.Result.{result_ok}
 use Rattle.mf_errno.specs.declared.errno.Errno.{Errno}

@@ -1,4 +1,5 @@
--- The plan of each call: its checks in the order in which they are asked, and its end.
+-- The plan of each call: its checks in the order in which they are asked, and its end, by the tables of calls in docs/MANUAL.md (CALLS). The
+-- checks are the kernel's of such a call, but for those that docs/DIFFERENCES.md names.
 --
 -- A row is read from the left: `ask` is a check, `refuse_if` a test of the framework that ends the plan with an errno, and
 -- `proceed` the end of a call that may be done.

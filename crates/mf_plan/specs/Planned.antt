@@ -1,4 +1,4 @@
--- A plan, as contracts see it.
+-- A plan, as contracts see it: this model's own.
 use Rattle.std.specs.Prelude.{ℕ, ◌<◌, List, [], length, map, All, slice_index_or, None}
 use Rattle.mf_item.specs.Item.{Item}
 use Rattle.mf_item.specs.declared.view.SubjectView.{SubjectView}

@@ -25,6 +25,11 @@ EndsWith objects subjects None = Unit {0}
 EndsWith objects subjects (Some last) =
     (0 < length subjects) × (slice_index_or subjects (length subjects - 1) nobody ≡ subject_in objects last)
 
+-- the subject at the place is that of the check before
+abbrev pub IsFoundAt : Entities → List SubjectView → Option Check → ℕ → Type 0
+IsFoundAt objects subjects None place = Unit {0}
+IsFoundAt objects subjects (Some last) place = slice_index_or subjects place nobody ≡ subject_in objects last
+
 -- subjects were added at most
 pub record GrowsTo (old new : List SubjectView) : Type 0 where
   pub rest : List SubjectView

@@ -1,4 +1,4 @@
--- Live entities as policies see them, and what the framework tests of them.
+-- Live entities as policies see them, and what the framework tests of them, by the limits of docs/MANUAL.md (LIMITS).
 use Rattle.std.specs.Prelude.{ℕ, ◌+◌, Bool, nat_eq, nat_le, nat_lt, List, length, Option}
 use Rattle.mf_item.specs.declared.view.SubjectView.{SubjectView}
 use Rattle.mf_item.specs.declared.view.ObjectView.{ObjectView}

@@ -6,8 +6,7 @@ ghost use Rattle.mf_plan.specs.Outline as outlines;
 ghost use Rattle.mf_plan.specs.Plan.{proceed};
 
 use crate::outline::Outline;
-use crate::views::{CheckView, add_views, are_views};
-use mf_cred::ArrayVec;
+use crate::views::{CheckView, Subjects, are_views, fill_views};
 use mf_errno::Errno;
 use mf_item::{Item, SubjectView};
 use mf_objects::Objects;
@@ -15,6 +14,9 @@ use std::marker::Model;
 
 /// The most checks that a plan has room for. No call asks for more than 10: 8 look-ups and 2 more.
 pub const MOST_CHECKS: usize = 12;
+
+/// The most subjects that a plan has room for: one for each check, and one that a plan before had.
+pub const MOST_SUBJECTS: usize = MOST_CHECKS + 1;
 
 /// How a call ends where no check is denied.
 #[derive(Clone, Copy, Debug, PartialEq, Eq)]
@@ -26,22 +28,26 @@ pub enum Tail {
 }
 
 /// The checks of a call, in the order in which they are asked, and its end. Contracts see each check as an item with its
-/// subject. It lies here once for all that share it, and checks of one call have one subject, but for what a socket delivers.
+/// subject. It lies here once for all that share it, and checks of one call have one subject, but for what a socket delivers. The
+/// views after the first `count` are left from calls before.
 #[derive(Drop)]
 pub struct Plan {
-    subjects: ArrayVec<SubjectView, MOST_CHECKS>,
-    checks: ArrayVec<CheckView, MOST_CHECKS>,
+    subjects: Subjects,
+    checks: [CheckView; MOST_CHECKS],
+    count: usize,
     tail: Tail,
 }
 
 impl Model for Plan {
+    ghost use Rattle.std.specs.Prelude.{◌≡◌, ◌≤◌, length, take};
+    ghost use Rattle.mf_plan.specs.declared.plan.TheConstants.{MOST_CHECKS};
     ghost use Rattle.mf_plan.specs.Planned.{Plan, HaveSubjects, items_with};
 
     ghost Value = { Plan };
 
-    ghost view = { λ p. record { items = items_with p.subjects p.checks; tail = p.tail } };
+    ghost view = { λ p. record { items = items_with p.subjects (take p.count p.checks); tail = p.tail } };
 
-    ghost invariant = { λ p. HaveSubjects p.subjects p.checks };
+    ghost invariant = { λ p. (length p.checks ≡ MOST_CHECKS) × (p.count ≤ MOST_CHECKS) × HaveSubjects p.subjects (take p.count p.checks) };
 }
 
 impl Plan {
@@ -50,8 +56,9 @@ impl Plan {
         ensures { result ≡ proceed }
     {
         Plan {
-            subjects: ArrayVec::new(),
-            checks: ArrayVec::new(),
+            subjects: Subjects::new(),
+            checks: [CheckView::none(); MOST_CHECKS],
+            count: 0,
             tail: Tail::Do,
         }
     }
@@ -61,7 +68,7 @@ impl Plan {
         ensures value { result ≡ length self.now.items }
         ensures most { result ≤ MOST_CHECKS }
     {
-        self.checks.len()
+        self.count
     }
 
     /// The check at that place, from 0, as policies see it.
@@ -69,7 +76,8 @@ impl Plan {
         requires { place < length self.now.items }
         ensures { (other : Item) → result ≡ slice_index_or self.now.items place other }
     {
-        let check = &self.checks.as_slice()[place];
+        let checks = &self.checks[..self.count];
+        let check = &checks[place];
         check.item(&self.subjects.as_slice()[check.subject])
     }
 
@@ -85,14 +93,9 @@ impl Plan {
         requires { outlines.AreLive objects.now outline.now.checks }
         ensures { self.new ≡ outlines.plan_in objects.now outline.now }
     {
-        self.subjects.clear();
-        self.checks.clear();
-        add_views(
-            objects,
-            outline.checks.as_slice(),
-            &mut self.subjects,
-            &mut self.checks,
-        );
+        let checks = outline.checks.as_slice();
+        fill_views(objects, checks, &mut self.subjects, &mut self.checks);
+        self.count = checks.len();
         self.tail = outline.tail;
     }
 
@@ -106,7 +109,7 @@ impl Plan {
                 objects,
                 outline.checks.as_slice(),
                 self.subjects.as_slice(),
-                self.checks.as_slice(),
+                &self.checks[..self.count],
             )
     }
 }

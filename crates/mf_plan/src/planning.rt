@@ -6,7 +6,8 @@ ghost use Rattle.mf_plan.specs.declared.plan.Tail.TheVariants.{Do};
 ghost use Rattle.mf_plan.specs.Found.{found_of, target_of};
 ghost use Rattle.mf_plan.specs.Outline as outlines;
 ghost use Rattle.mf_plan.specs.Plan as spec;
-ghost use Rattle.mf_plan.specs.Views.{subject_of};
+ghost use Rattle.mf_plan.specs.Names.{caller_name};
+ghost use Rattle.mf_plan.specs.Views.{process_named, subject_of};
 
 use crate::files::{create, exec, on_file, read, readdir, unlink, write};
 use crate::found::Found;
@@ -82,22 +83,24 @@ pub fn outline_of(state: &State, task: &str, child: Option<&str>, call: &Call) -
     ensures plan { outlines.plan_in state.now.objects result
         ≡ spec.plan_of state.now task.now (option_copied child.entry) call.now }
     ensures live { outlines.AreLive state.now.objects result.checks }
+    ensures caller { result.found.caller ≡ process_named state.now.objects (caller_name task.now (option_copied child.entry)) }
     ensures found { result.tail ≡ Do → result.found ≡ found_of state.now task.now (option_copied child.entry) call.now }
 {
-    let mut checks = ArrayVec::new();
-    let caller = caller_of(&state.objects, task, child);
-    let end = match caller {
-        None => Err(Errno::Esrch),
-        Some(caller) => ask_for(state, task, caller, call, &mut checks),
-    };
-    Outline {
+    // It is filled in where it lies: a move would copy all the room for checks.
+    let mut outline = Outline {
         found: Found {
-            caller,
-            target: end.ok().flatten(),
+            caller: caller_of(&state.objects, task, child),
+            target: None,
         },
-        checks,
-        tail: tail_of(end),
+        checks: ArrayVec::new(),
+        tail: Tail::Refuse(Errno::Esrch),
+    };
+    if let Some(caller) = outline.found.caller {
+        let end = ask_for(state, task, caller, call, &mut outline.checks);
+        outline.found.target = end.ok().flatten();
+        outline.tail = tail_of(end);
     }
+    outline
 }
 
 fn tail_of(end: Result<Option<Id>, Errno>) -> Tail

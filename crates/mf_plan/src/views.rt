@@ -1,5 +1,5 @@
 //! Checks and live entities as policies see them, and what the framework tests of entities.
-ghost use Rattle.std.specs.Prelude.{◌≡◌, ◌↔◌, ◌≤◌, ◌<◌, ◌+◌, [], length, map, option_map, IfSome, IsSome, IsTrue, Some, None, slice_index_or};
+ghost use Rattle.std.specs.Prelude.{◌≡◌, ◌↔◌, ◌≤◌, ◌<◌, ◌+◌, [], length, map, option_map, take, IfSome, IsSome, IsTrue, Some, None, slice_index_or};
 ghost use Rattle.mf_objects.specs.Live.{live_at};
 ghost use Rattle.mf_plan.specs.Outline as outline;
 ghost use Rattle.mf_plan.specs.Planned.{HaveSubjects, item_with, items_with, nobody};
@@ -7,15 +7,18 @@ ghost use Rattle.mf_plan.specs.Viewing as viewing;
 ghost use Rattle.mf_plan.specs.Views as view;
 
 use crate::outline::Check;
-use crate::plan::MOST_CHECKS;
+use crate::plan::{MOST_CHECKS, MOST_SUBJECTS};
 use mf_cred::ArrayVec;
 use mf_errno::Priv;
 use mf_item::{CheckOp, Item, ObjectView, SubjectView};
 use mf_names::{CONTENT_LIMIT, SCRIPT_LIMIT};
 use mf_objects::{Id, MOST_ENTITIES, Objects, PIPE_LIMIT};
 
+/// The subjects of a plan's checks, with room for one that a plan before had.
+pub(crate) type Subjects = ArrayVec<SubjectView, MOST_SUBJECTS>;
+
 /// A check of a plan: the place of its subject among those of the plan, and its object.
-#[derive(Drop)]
+#[derive(Clone, Copy)]
 pub struct CheckView {
     pub op: CheckOp,
     pub subject: usize,
@@ -24,22 +27,21 @@ pub struct CheckView {
 }
 
 impl CheckView {
-    /// The check as policies see it, with its subject.
-    pub(crate) fn item<'a>(&'a self, subject: &'a SubjectView) -> Item<'a>
-        ensures { result ≡ record { op = self.now.op; subject = subject.now; object = self.now.object; request = None; privilege = self.now.privilege } }
-    {
-        Item::new(self.op, subject, self.object.as_ref(), None, self.privilege)
-    }
-}
-
-impl Default for CheckView {
-    fn default() -> CheckView {
+    /// A view that no check has been given yet.
+    pub(crate) fn none() -> CheckView {
         CheckView {
             op: CheckOp::VnodeLookup,
             subject: 0,
             object: None,
             privilege: None,
         }
+    }
+
+    /// The check as policies see it, with its subject.
+    pub(crate) fn item<'a>(&'a self, subject: &'a SubjectView) -> Item<'a>
+        ensures { result ≡ record { op = self.now.op; subject = subject.now; object = self.now.object; request = None; privilege = self.now.privilege } }
+    {
+        Item::new(self.op, subject, self.object.as_ref(), None, self.privilege)
     }
 }
 
@@ -130,15 +132,39 @@ fn goes_on(last: Option<Check>, check: Check) -> bool
     }
 }
 
+/// Keeps the only subject where it is still that of the first check, which is returned then, and else none.
+fn keep_first(objects: &Objects, checks: &[Check], subjects: &mut Subjects) -> Option<Check>
+    requires { outline.AreLive objects.now checks.now }
+    ensures last { viewing.EndsWith objects.now subjects.new result }
+    ensures few { length subjects.new ≤ 1 }
+{
+    match checks.first() {
+        Some(check) if is_alone(objects, *check, subjects.as_slice()) => Some(*check),
+        _ => {
+            subjects.clear();
+            None
+        }
+    }
+}
+
+/// Whether the check's subject is the only one.
+fn is_alone(objects: &Objects, check: Check, subjects: &[SubjectView]) -> bool
+    requires { outline.IsLiveCheck objects.now check }
+    ensures one { IsTrue result → length subjects.now ≡ 1 }
+    ensures subject { IsTrue result → slice_index_or subjects.now 0 nobody ≡ outline.subject_in objects.now check }
+{
+    subjects.len() == 1 && is_subject(objects, check, &subjects[0])
+}
+
 /// The place of the check's subject, which is looked up and kept where it isn't that of the check before.
 fn place_of_subject(
     objects: &Objects,
     last: Option<Check>,
     check: Check,
-    subjects: &mut ArrayVec<SubjectView, MOST_CHECKS>,
+    subjects: &mut Subjects,
 ) -> usize
     requires live { outline.IsLiveCheck objects.now check }
-    requires few { length subjects.old < MOST_CHECKS }
+    requires few { length subjects.old < MOST_SUBJECTS }
     requires last { viewing.EndsWith objects.now subjects.old last }
     ensures place { slice_index_or subjects.new result nobody ≡ outline.subject_in objects.now check }
     ensures within { result < length subjects.new }
@@ -152,42 +178,79 @@ fn place_of_subject(
     subjects.len() - 1
 }
 
-/// Fills in the checks as policies see them.
+/// Makes the view that of the check. An object that it shows as it is isn't copied again.
+fn look_again(objects: &Objects, check: Check, subject: usize, seen: &mut CheckView)
+    requires { outline.IsLiveCheck objects.now check }
+    ensures asked { viewing.IsAsked objects.now check seen.new }
+    ensures subject { seen.new.subject ≡ subject }
+{
+    seen.op = check.op;
+    seen.subject = subject;
+    seen.privilege = check.privilege;
+    if !is_object(objects, check.object, &seen.object) {
+        seen.object = object_in(objects, check.object);
+    }
+}
+
+/// Makes the first views those of the checks. What they showed before is kept where it still holds, since calls in a row
+/// mostly look at the same.
 #[tactic(auto, unfolding(crate::specs::Outline::item_of))]
-pub(crate) fn add_views(
+pub(crate) fn fill_views(
     objects: &Objects,
     checks: &[Check],
-    subjects: &mut ArrayVec<SubjectView, MOST_CHECKS>,
-    seen: &mut ArrayVec<CheckView, MOST_CHECKS>,
+    subjects: &mut Subjects,
+    seen: &mut [CheckView],
 )
     requires few { length checks.now ≤ MOST_CHECKS }
+    requires room { length checks.now ≤ length seen.old }
     requires live { outline.AreLive objects.now checks.now }
-    requires no_subjects { subjects.old ≡ [] }
-    requires empty { seen.old ≡ [] }
-    ensures items { items_with subjects.new seen.new ≡ map (outline.item_of objects.now) checks.now }
-    ensures places { HaveSubjects subjects.new seen.new }
+    ensures items { items_with subjects.new (take (length checks.now) seen.new) ≡ map (outline.item_of objects.now) checks.now }
+    ensures places { HaveSubjects subjects.new (take (length checks.now) seen.new) }
 {
-    let mut last = None;
-    for check in checks {
+    let mut last = keep_first(objects, checks, subjects);
+    for (place, check) in checks.iter().enumerate() {
         let subject = place_of_subject(objects, last, *check, subjects);
-        seen.push(CheckView {
-            op: check.op,
-            subject,
-            object: object_in(objects, check.object),
-            privilege: check.privilege,
-        });
+        look_again(objects, *check, subject, &mut seen[place]);
         last = Some(*check);
     }
 }
 
-/// Whether policies see the check so.
+/// Whether the subject at this place is that of the check. The one before was found to have that at `before`, so a check
+/// that goes on with it isn't compared again.
+fn is_subject_at(
+    objects: &Objects,
+    last: Option<Check>,
+    before: usize,
+    check: Check,
+    subjects: &[SubjectView],
+    place: usize,
+) -> bool
+    requires live { outline.IsLiveCheck objects.now check }
+    requires place { place < length subjects.now }
+    requires last { viewing.IsFoundAt objects.now subjects.now last before }
+    ensures { IsTrue result ↔ (slice_index_or subjects.now place nobody ≡ outline.subject_in objects.now check) }
+{
+    place == before && goes_on(last, check) || is_subject(objects, check, &subjects[place])
+}
+
+/// Whether policies see the check so, where the subject of the check before is at `before`.
 #[tactic(auto, unfolding(crate::specs::Outline::item_of))]
-fn is_view(objects: &Objects, check: Check, subjects: &[SubjectView], seen: &CheckView) -> bool
+fn is_view(
+    objects: &Objects,
+    last: Option<Check>,
+    before: usize,
+    check: Check,
+    subjects: &[SubjectView],
+    seen: &CheckView,
+) -> bool
     requires live { outline.IsLiveCheck objects.now check }
     requires place { seen.now.subject < length subjects.now }
-    ensures { IsTrue result ↔ (item_with subjects.now seen.now ≡ outline.item_of objects.now check) }
+    requires last { viewing.IsFoundAt objects.now subjects.now last before }
+    ensures is { IsTrue result ↔ (item_with subjects.now seen.now ≡ outline.item_of objects.now check) }
+    ensures found { IsTrue result → viewing.IsFoundAt objects.now subjects.now (Some check) seen.now.subject }
 {
-    is_asked(objects, check, seen) && is_subject(objects, check, &subjects[seen.subject])
+    is_asked(objects, check, seen)
+        && is_subject_at(objects, last, before, check, subjects, seen.subject)
 }
 
 /// Whether policies see these checks so.
@@ -205,10 +268,14 @@ pub(crate) fn are_views(
     if seen.len() != checks.len() {
         return false;
     }
+    let mut last = None;
+    let mut before = 0;
     for (i, check) in checks.iter().enumerate() {
-        if !is_view(objects, *check, subjects, &seen[i]) {
+        if !is_view(objects, last, before, *check, subjects, &seen[i]) {
             return false;
         }
+        last = Some(*check);
+        before = seen[i].subject;
     }
     true
 }

@@ -1,4 +1,5 @@
--- What a policy answers to an item, by its spec and the table of operations.
+-- What a policy answers to an item, by its spec and the table of operations: mac_biba(4), mac_mls(4) and mac_partition(4), with the errnos of
+-- docs/MANUAL.md (POLICIES).
 use Rattle.std.specs.Prelude.{ℕ, Bool, true, false, cond, ◌||◌, nat_eq, Option, Some, None, unwrap_or, slice_index_or}
 use Rattle.mf_errno.specs.declared.errno.Errno.{Errno}
 use Rattle.mf_errno.specs.declared.errno.Errno.TheVariants.{Success, Esrch, Eacces, Eperm}
@@ -58,9 +59,8 @@ nothing = record { effective = None; range = None }
 
 -- the label that a slot is read as; without an effective element it counts as unset
 abbrev pub range_label : LabelValue → RangeLabel
-range_label Unset = nothing
 range_label (Range label) = label
-range_label (Number partition) = nothing
+range_label other = nothing
 
 -- a slot of the object; unset where there is no object
 abbrev pub object_slot : Option ObjectView → ℕ → LabelValue
@@ -89,29 +89,16 @@ element_answer test may_observe may_modify same_level = Success
 abbrev pub guard_answer : LatticePolicy → RangeLabel → Errno
 guard_answer policy label = cond policy.guards_modules (errno_unless (is_privileged label) Eperm) Success
 
--- the answer to a subject that asks for this label of an object, which may be unset
-abbrev pub relabel_answer : RangeLabel → RangeLabel → Option Elem → Errno
-relabel_answer label asked None = Success
-relabel_answer label asked (Some object) = object_relabel label object asked
-
--- the answer by the elements of subject and object, which may be unset
-abbrev pub between : LatticePolicy → Test → Elem → Option Elem → Errno
-between policy test subject None = Success
-between policy test subject (Some object) =
-    element_answer test (policy.may_observe subject object) (policy.may_modify subject object) (same_level subject object)
-
--- the answer to a subject of this label and element: the tests of the subject alone, the relabel of an object, and the tests of
--- elements
-abbrev pub subject_answer : LatticePolicy → Test → RangeLabel → RangeLabel → Elem → Option Elem → Errno
-subject_answer policy RelabelCredential label asked subject object = credential_relabel label asked
-subject_answer policy GuardModules label asked subject object = guard_answer policy label
-subject_answer policy RelabelObject label asked subject object = relabel_answer label asked object
-subject_answer policy test label asked subject object = between policy test subject object
-
--- the answer to a subject of this label that asks for that one, by the elements of subject and object, each of which may be unset
+-- The answer to a subject of this label that asks for that one, by the elements of subject and object, each of which may be unset: the tests of
+-- the subject alone, the relabel of an object, and the tests of elements.
 abbrev pub labels_answer : LatticePolicy → Test → RangeLabel → RangeLabel → Option Elem → Option Elem → Errno
 labels_answer policy test label asked None object = Success
-labels_answer policy test label asked (Some subject) object = subject_answer policy test label asked subject object
+labels_answer policy RelabelCredential label asked (Some subject) object = credential_relabel label asked
+labels_answer policy GuardModules label asked (Some subject) object = guard_answer policy label
+labels_answer policy test label asked (Some subject) None = Success
+labels_answer policy RelabelObject label asked (Some subject) (Some object) = object_relabel label object asked
+labels_answer policy test label asked (Some subject) (Some object) =
+    element_answer test (policy.may_observe subject object) (policy.may_modify subject object) (same_level subject object)
 
 -- what such a policy, which holds this slot, answers to an item
 abbrev pub lattice_answer : LatticePolicy → ℕ → Item → Errno
@@ -122,9 +109,8 @@ lattice_answer policy slot item =
 
 -- the number of the partition that a slot is read as; 0, which is no partition, where it holds none
 abbrev pub partition_of : LabelValue → ℕ
-partition_of Unset = 0
-partition_of (Range label) = 0
 partition_of (Number partition) = partition
+partition_of other = 0
 
 -- whether the partitions agree: a subject in no partition sees everything, and one in a partition what is in it
 abbrev pub agree : ℕ → ℕ → Bool
@@ -160,6 +146,4 @@ answer means.Partition slot item = partition_answer slot item
 
 -- whether a policy of this spec grants the privilege to a process of that credential
 abbrev pub grants : Spec → Cred → Priv → Bool
-grants means.Biba cred privilege = false
-grants means.Mls cred privilege = false
-grants means.Partition cred privilege = false
+grants other cred privilege = false

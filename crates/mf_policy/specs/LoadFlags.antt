@@ -1,4 +1,4 @@
--- The load-time flags of a module, as bits with the kernel's values.
+-- The load-time flags of a module, as bits with the kernel's values (sys/security/mac/mac_policy.h).
 use Rattle.std.specs.Prelude.{Bool, ◌==◌}
 use Rattle.std.specs.Int.RustNames.{bit_and}
 use Rattle.mf_policy.specs.declared.load_flags.LoadFlags.{LoadFlags}

@@ -1,4 +1,5 @@
--- Which modules can be loaded and unloaded, while these policies are listed.
+-- Which modules can be loaded and unloaded, while these policies are listed: the tests and errnos of `mac_policy_register` and
+-- `mac_policy_unregister` (sys/security/mac/mac_framework.c).
 use Rattle.std.specs.Prelude.{ℕ, Bool, not, ◌&&◌, nat_le, if◌then◌else◌, List, Option, Some, None}
 use Rattle.mf_elem.specs.declared.label.TheConstants.{SLOTS}
 use Rattle.mf_errno.specs.declared.errno.Errno.{Errno}

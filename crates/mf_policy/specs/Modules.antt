@@ -1,4 +1,5 @@
--- What is true of each module whatever its settings, and its spec in its initial state.
+-- What is true of each module whatever its settings, and its spec in its initial state. When a module may be loaded is mac(4)'s table, and the
+-- labels at boot are those of mac_biba(4) and mac_mls(4).
 use Rattle.std.specs.Prelude.{ℕ, Bool, true, false, not, ◌&&◌, ◌||◌, if◌then◌else◌, Option, Some, None, is_none, is_some, unwrap_or}
 use Rattle.mf_errno.specs.declared.module.Module.{Module}
 use Rattle.mf_errno.specs.declared.module.Module.TheVariants as modules
@@ -21,24 +22,16 @@ use Rattle.mf_policy.specs.LoadFlags.{notlate, unloadok}
 
 -- The table
 
-abbrev pub low_to_high : Option (Elem × Elem)
-low_to_high = Some (Low, High)
+-- the labels at boot of a policy with ranges, by its default element: of a process, with the range low to high, and of another entity
+abbrev pub ranges_at : Elem → Labelling
+ranges_at element =
+    Ranges (record { effective = Some element; range = Some (Low, High) }) (record { effective = Some element; range = None })
 
 -- Of each module: whether a policy of it is built in, when it may be loaded and unloaded, and what its labels are, with those at
--- boot of a process and of another entity: biba/high(low-high) and biba/high, mls/low(low-high) and mls/low.
+-- boot: biba/high(low-high) of a process and biba/high of another entity, mls/low(low-high) and mls/low.
 abbrev pub facts_of : Module → Facts
-facts_of modules.Biba =
-    record {
-      built_in = true;
-      flags = notlate;
-      labels = Ranges (record { effective = Some High; range = low_to_high }) (record { effective = Some High; range = None });
-    }
-facts_of modules.Mls =
-    record {
-      built_in = true;
-      flags = notlate;
-      labels = Ranges (record { effective = Some Low; range = low_to_high }) (record { effective = Some Low; range = None });
-    }
+facts_of modules.Biba = record { built_in = true; flags = notlate; labels = ranges_at High }
+facts_of modules.Mls = record { built_in = true; flags = notlate; labels = ranges_at Low }
 facts_of modules.Partition = record { built_in = true; flags = unloadok; labels = Partitions }
 facts_of modules.Bsdextended = record { built_in = false; flags = unloadok; labels = Nothing }
 facts_of modules.Priority = record { built_in = false; flags = unloadok; labels = Nothing }
@@ -47,17 +40,12 @@ facts_of modules.Priority = record { built_in = false; flags = unloadok; labels 
 abbrev pub range_asked : Module → Request → Option RangeLabel
 range_asked modules.Biba request = request.biba
 range_asked modules.Mls request = request.mls
-range_asked modules.Partition request = None
-range_asked modules.Bsdextended request = None
-range_asked modules.Priority request = None
+range_asked other request = None
 
 -- the partition that a request asks of a module
 abbrev pub number_asked : Module → Request → Option ℕ
-number_asked modules.Biba request = None
-number_asked modules.Mls request = None
 number_asked modules.Partition request = request.partition
-number_asked modules.Bsdextended request = None
-number_asked modules.Priority request = None
+number_asked other request = None
 
 -- the module of a spec
 abbrev pub module_of : Spec → Module
@@ -86,18 +74,16 @@ flags_of m = (facts_of m).flags
 
 abbrev pub is_labelling : Labelling → Bool
 is_labelling Nothing = false
-is_labelling (Ranges process other) = true
-is_labelling Partitions = true
+is_labelling other = true
 
 -- whether a module labels entities, and so has a label slot
 abbrev pub wants_slot : Module → Bool
 wants_slot m = is_labelling (facts_of m).labels
 
 abbrev pub has_partition : Kind → Bool
-has_partition kinds.Process = true
-has_partition kinds.Socket = true
 has_partition kinds.Vnode = false
 has_partition kinds.Pipe = false
+has_partition other = true
 
 abbrev pub labels_by : Labelling → Kind → Bool
 labels_by Nothing kind = false
@@ -110,9 +96,7 @@ labels_kind m kind = labels_by (facts_of m).labels kind
 
 abbrev pub is_process : Kind → Bool
 is_process kinds.Process = true
-is_process kinds.Socket = false
-is_process kinds.Vnode = false
-is_process kinds.Pipe = false
+is_process other = false
 
 -- whether a request names the module's policy
 abbrev pub is_named : Module → Request → Bool
@@ -131,9 +115,7 @@ takes m kind request = (labels_kind m kind || not (is_named m request)) && (is_p
 
 abbrev pub default_range : Kind → RangeLabel → RangeLabel → RangeLabel
 default_range kinds.Process process other = process
-default_range kinds.Vnode process other = other
-default_range kinds.Pipe process other = other
-default_range kinds.Socket process other = other
+default_range kind process other = other
 
 -- what such labels are at boot, where these are asked
 abbrev pub boot_by : Labelling → Kind → Option RangeLabel → Option ℕ → LabelValue
@@ -155,15 +137,12 @@ effective_alone (Number n) = Number n
 -- A child process has its maker's whole element and range; another entity has the maker's effective element alone.
 abbrev pub inherited_range : Kind → LabelValue → LabelValue
 inherited_range kinds.Process value = value
-inherited_range kinds.Vnode value = effective_alone value
-inherited_range kinds.Pipe value = effective_alone value
-inherited_range kinds.Socket value = effective_alone value
+inherited_range other value = effective_alone value
 
 -- the partition, where an unset one counts as 0
 abbrev pub inherited_partition : LabelValue → LabelValue
-inherited_partition Unset = Number 0
-inherited_partition (Range label) = Number 0
 inherited_partition (Number n) = Number n
+inherited_partition other = Number 0
 
 abbrev pub inherited_by : Labelling → Kind → LabelValue → LabelValue
 inherited_by Nothing kind value = Unset
@@ -175,9 +154,8 @@ abbrev pub inherited : Module → Kind → LabelValue → LabelValue
 inherited m kind value = if labels_kind m kind then inherited_by (facts_of m).labels kind value else Unset
 
 abbrev pub is_valid_value : LabelValue → Bool
-is_valid_value Unset = true
 is_valid_value (Range label) = is_valid label
-is_valid_value (Number n) = true
+is_valid_value other = true
 
 -- whether a script may ask this of the module's policy for an entity of that kind
 abbrev pub may_ask : Module → Kind → Request → Bool

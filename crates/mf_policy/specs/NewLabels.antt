@@ -1,4 +1,5 @@
--- The label of a new entity, at boot and at creation.
+-- The label of a new entity, at boot and at creation, as mac_biba(4) and mac_mls(4) have it; that pipes, sockets and files have the maker's
+-- effective element alone is the manner of FreeBSD's modules.
 use Rattle.std.specs.Prelude.{ℕ, List, [], ◌∷◌, map, slice_index_or, Option, Some, None, find}
 use Rattle.mf_errno.specs.declared.module.Module.{Module}
 use Rattle.mf_elem.specs.declared.label.LabelValue.{LabelValue}

@@ -1,4 +1,5 @@
--- The listed policies, as values, and what a registration and its end make of them.
+-- The listed policies, as values, and what a registration and its end make of them: the static and the dynamic list, and slots that aren't given
+-- again, of sys/security/mac/mac_framework.c.
 use Rattle.std.specs.Prelude.{ℕ, ◌+◌, Bool, false, cond, not, ◌&&◌, nat_eq, List, [], ◌∷◌, Option, Some, None}
 use Rattle.std.specs.List.{list_any}
 use Rattle.mf_errno.specs.Module.{same_module}

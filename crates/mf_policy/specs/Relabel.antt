@@ -1,17 +1,12 @@
 -- The rules for relabels, which Biba and MLS share: the tests in order, of which the first that fits answers. They are in the
 -- manner of FreeBSD's two modules; their order, and the second test of a credential, are this model's own choice.
-use Rattle.std.specs.Prelude.{Bool, true, false, cond, not, ◌&&◌, Option, Some, None, is_some, is_none, List, [], ◌∷◌}
+use Rattle.std.specs.Prelude.{Bool, true, false, not, ◌&&◌, if◌then◌else◌, Option, Some, None, is_some, is_none}
 use Rattle.mf_errno.specs.declared.errno.Errno.{Errno}
 use Rattle.mf_errno.specs.declared.errno.Errno.TheVariants.{Success, Einval, Eperm}
 use Rattle.mf_elem.specs.declared.elem.Elem.{Elem}
 use Rattle.mf_elem.specs.declared.label.RangeLabel.{RangeLabel}
 use Rattle.mf_elem.specs.Elem.{in_range, range_in_range}
 use Rattle.mf_elem.specs.Label.{has_equal, has_equal_effective, is_privileged}
-
--- the error of the first test that fits; success where none does
-abbrev pub first_fitting : List (Bool × Errno) → Errno
-first_fitting [] = Success
-first_fitting (test ∷ tests) = cond test.0 test.1 (first_fitting tests)
 
 -- an element that is there lies outside the range; all lie outside where there is no range
 abbrev pub is_outside : Option Elem → Option (Elem × Elem) → Bool
@@ -28,22 +23,18 @@ reaches_out (Some inner) (Some ends) = not (range_in_range inner.0 inner.1 ends.
 -- the answer to a subject that asks for this label of its own
 abbrev pub credential_relabel : RangeLabel → RangeLabel → Errno
 credential_relabel subject asked =
-    first_fitting (
-    (is_some asked.range && is_outside asked.effective asked.range, Einval)
-    ∷ (is_some asked.range && is_none asked.effective && is_outside subject.effective asked.range, Einval)
-    ∷ (is_outside asked.effective subject.range, Eperm)
-    ∷ (reaches_out asked.range subject.range, Eperm)
-    ∷ (has_equal asked && not (is_privileged subject), Eperm)
-    ∷ []
-    )
+    if is_some asked.range && is_outside asked.effective asked.range then Einval
+    else if is_some asked.range && is_none asked.effective && is_outside subject.effective asked.range then Einval
+    else if is_outside asked.effective subject.range then Eperm
+    else if reaches_out asked.range subject.range then Eperm
+    else if has_equal asked && not (is_privileged subject) then Eperm
+    else Success
 
 -- the answer to a subject that asks for this label of an object, whose element is the old one so far
 abbrev pub object_relabel : RangeLabel → Elem → RangeLabel → Errno
 object_relabel subject old asked =
-    first_fitting (
-    (is_some asked.range, Einval)
-    ∷ (is_outside (Some old) subject.range, Eperm)
-    ∷ (is_outside asked.effective subject.range, Eperm)
-    ∷ (has_equal_effective asked.effective && not (is_privileged subject), Eperm)
-    ∷ []
-    )
+    if is_some asked.range then Einval
+    else if is_outside (Some old) subject.range then Eperm
+    else if is_outside asked.effective subject.range then Eperm
+    else if has_equal_effective asked.effective && not (is_privileged subject) then Eperm
+    else Success

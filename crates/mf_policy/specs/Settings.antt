@@ -1,4 +1,4 @@
--- What a change of a setting does.
+-- What a change of a setting does, as sysctl(8) would; no policy has one yet.
 use Rattle.std.specs.Prelude.{None}
 use Rattle.mf_errno.specs.declared.errno.Errno.TheVariants.{Enoent}
 use Rattle.mf_policy.specs.declared.spec.Spec.{Spec}

@@ -39,32 +39,3 @@ fn new_value(listed: &SpecList, kind: Kind, origin: &Origin, slot: u8) -> LabelV
         (Some(module), Origin::Maker(label)) => inherited(module, kind, &label[slot as usize]),
     }
 }
-
-#[cfg(test)]
-mod tests {
-    use super::*;
-    use crate::{Registration, Spec};
-    use mf_elem::{Elem, RangeLabel};
-    use mf_errno::Module;
-    use std::alloc::AllocError;
-
-    #[test]
-    fn labels_at_boot_and_of_a_child(rt: HostRuntime) -> Result<(), AllocError> {
-        let mut listed = SpecList::new(rt.alloc());
-        let mls = Registration {
-            module: Module::Mls,
-            slot: Some(1),
-            fixed: true,
-        };
-        listed.list(mls, Spec::Mls)?;
-        let boot = Origin::Boot(Request::none());
-        let [_, process, _, _] = new_label(&listed, Kind::Process, &boot);
-        let whole = RangeLabel::ranged(Elem::Low, Elem::Low, Elem::High);
-        assert!(rt; process.same(&LabelValue::Range(whole)));
-        let made = Origin::Maker([process; SLOTS]);
-        let [unset, file, _, _] = new_label(&listed, Kind::Vnode, &made);
-        assert!(rt; unset.same(&LabelValue::Unset));
-        assert!(rt; file.same(&LabelValue::Range(RangeLabel::effective(Elem::Low))));
-        Ok(())
-    }
-}

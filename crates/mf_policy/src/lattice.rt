@@ -39,32 +39,40 @@ pub fn lattice_answer<P: Lattice>(slot: u8, item: &Item) -> Errno
     let subject = slot_label(&item.subject().label[slot as usize]);
     let object = object_label(item.object(), slot);
     let asked = part_of::<P>(item.request());
-    match &subject.effective {
-        Some(element) => {
-            let test = row_of(item.op()).test;
-            subject_answer::<P>(test, &subject, &asked, element, &object.effective)
-        }
-        None => Errno::Success,
-    }
+    let test = row_of(item.op()).test;
+    labels_answer::<P>(
+        test,
+        &subject,
+        &asked,
+        &subject.effective,
+        &object.effective,
+    )
 }
 
-/// The answer to a subject of this label and element: the tests of the subject alone, the relabel of an object, and the
-/// tests of elements.
-fn subject_answer<P: Lattice>(
+/// The answer to a subject of this label that asks for that one, by the elements of subject and object, each of which may be
+/// unset.
+fn labels_answer<P: Lattice>(
     test: Test,
     label: &RangeLabel,
     asked: &RangeLabel,
-    subject: &Elem,
+    subject: &Option<Elem>,
     object: &Option<Elem>,
 ) -> Errno
-    ensures { result ≡ spec.subject_answer P.lattice test label.now asked.now subject.now object.now }
+    ensures { result ≡ spec.labels_answer P.lattice test label.now asked.now subject.now object.now }
 {
-    match test {
-        Test::RelabelCredential => credential_relabel(label, asked),
-        Test::GuardModules => guard_answer::<P>(label),
-        Test::RelabelObject => relabel_answer(label, asked, object),
-        Test::Observe(_) | Test::Modify | Test::ObserveAndModify | Test::SameLevel | Test::Pass =>
-            between::<P>(test, subject, object),
+    let Some(subject) = subject else {
+        return Errno::Success;
+    };
+    match (test, object) {
+        (Test::RelabelCredential, _) => credential_relabel(label, asked),
+        (Test::GuardModules, _) => guard_answer::<P>(label),
+        (_, None) => Errno::Success,
+        (Test::RelabelObject, Some(object)) => object_relabel(label, object, asked),
+        (test, Some(object)) => {
+            let may_observe = P::may_observe(subject, object);
+            let may_modify = P::may_modify(subject, object);
+            element_answer(test, may_observe, may_modify, same_level(subject, object))
+        }
     }
 }
 
@@ -76,26 +84,6 @@ fn guard_answer<P: Lattice>(label: &RangeLabel) -> Errno
     } else {
         Errno::Success
     }
-}
-
-fn relabel_answer(label: &RangeLabel, asked: &RangeLabel, object: &Option<Elem>) -> Errno
-    ensures { result ≡ spec.relabel_answer label.now asked.now object.now }
-{
-    match object {
-        None => Errno::Success,
-        Some(object) => object_relabel(label, object, asked),
-    }
-}
-
-fn between<P: Lattice>(test: Test, subject: &Elem, object: &Option<Elem>) -> Errno
-    ensures { result ≡ spec.between P.lattice test subject.now object.now }
-{
-    let Some(object) = object else {
-        return Errno::Success;
-    };
-    let may_observe = P::may_observe(subject, object);
-    let may_modify = P::may_modify(subject, object);
-    element_answer(test, may_observe, may_modify, same_level(subject, object))
 }
 
 /// The answer by whether the subject may observe the object, may modify it, and is of its level. Tests of other things

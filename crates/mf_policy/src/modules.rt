@@ -37,18 +37,12 @@ pub fn facts_of(module: Module) -> Facts
         Module::Biba => Facts {
             built_in: true,
             flags: LoadFlags::NOTLATE,
-            labels: Labelling::Ranges(
-                RangeLabel::ranged(Elem::High, Elem::Low, Elem::High),
-                RangeLabel::effective(Elem::High),
-            ),
+            labels: ranges_at(Elem::High),
         },
         Module::Mls => Facts {
             built_in: true,
             flags: LoadFlags::NOTLATE,
-            labels: Labelling::Ranges(
-                RangeLabel::ranged(Elem::Low, Elem::Low, Elem::High),
-                RangeLabel::effective(Elem::Low),
-            ),
+            labels: ranges_at(Elem::Low),
         },
         Module::Partition => Facts {
             built_in: true,
@@ -61,6 +55,16 @@ pub fn facts_of(module: Module) -> Facts
             labels: Labelling::Nothing,
         },
     }
+}
+
+/// The labels at boot of a policy with ranges, by its default element.
+fn ranges_at(element: Elem) -> Labelling
+    ensures { result ≡ facts.ranges_at element }
+{
+    Labelling::Ranges(
+        RangeLabel::ranged(element, Elem::Low, Elem::High),
+        RangeLabel::effective(element),
+    )
 }
 
 /// The label with ranges that a request asks of the module.
@@ -222,22 +226,5 @@ fn is_valid_value(value: &LabelValue) -> bool
     match value {
         LabelValue::Range(label) => is_valid(label),
         LabelValue::Unset | LabelValue::Number(_) => true,
-    }
-}
-
-#[cfg(test)]
-mod tests {
-    use super::*;
-
-    #[test]
-    fn files_have_no_partition(rt: HostRuntime) {
-        let mut request = Request::none();
-        request.partition = Some(7);
-        assert!(rt; labels_kind(Module::Biba, Kind::Vnode) && has_spec(Module::Biba));
-        assert!(rt; labels_kind(Module::Partition, Kind::Process));
-        assert!(rt; !labels_kind(Module::Partition, Kind::Vnode));
-        assert!(rt; may_ask(Module::Partition, Kind::Process, &request));
-        assert!(rt; !may_ask(Module::Partition, Kind::Vnode, &request));
-        assert!(rt; wants_slot(Module::Mls) && flags_of(Module::Mls).is_notlate());
     }
 }

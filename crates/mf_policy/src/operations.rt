@@ -133,16 +133,3 @@ pub fn row_of(op: CheckOp) -> Row
         CheckOp::Priv => Row::of(Pass, Ignore, NotAsked, Still),
     }
 }
-
-#[cfg(test)]
-mod tests {
-    use super::*;
-
-    #[test]
-    fn a_debugger_learns_and_changes(rt: HostRuntime) {
-        let row = row_of(CheckOp::ProcDebug);
-        assert_eq!(rt; row.test, ObserveAndModify);
-        assert_eq!(rt; row.movement, BothWays);
-        assert_eq!(rt; row_of(CheckOp::VnodeExec).letters, Asked(18));
-    }
-}

@@ -86,17 +86,3 @@ impl Spec {
         Ok(Changed::no_setting())
     }
 }
-
-#[cfg(test)]
-mod tests {
-    use super::*;
-
-    #[test]
-    fn mls_has_no_setting(rt: HostRuntime) -> Result<(), AllocError> {
-        let mut spec = Spec::fresh(rt.alloc(), Module::Mls)?;
-        let changed = spec.change(rt.alloc(), &Change::FirstMatch(false))?;
-        assert_eq!(rt; changed.errno, Errno::Enoent);
-        assert!(rt; changed.number.is_none() && spec.same(&Spec::Mls));
-        Ok(())
-    }
-}

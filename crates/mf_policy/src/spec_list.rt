@@ -181,33 +181,3 @@ fn holder_in(entries: &[(Registration, Spec)], slot: u8) -> Option<Module>
     let holder = entries.iter().find(|entry| entry.0.slot == Some(slot));
     holder.map(|entry| entry.0.module)
 }
-
-#[cfg(test)]
-mod tests {
-    use super::*;
-
-    #[test]
-    fn entries_come_and_go(rt: HostRuntime) -> Result<(), AllocError> {
-        let mut list = SpecList::new(rt.alloc());
-        let biba = Registration {
-            module: Module::Biba,
-            slot: Some(0),
-            fixed: true,
-        };
-        list.list(biba, Spec::fresh(rt.alloc(), Module::Biba)?)?;
-        list.put(0, list.spec(0).copy(rt.alloc())?);
-        assert!(rt; list.spec(0).same(&Spec::Biba));
-        assert_eq!(rt; list.registration(0), biba);
-        assert_eq!(rt;
-            (list.find(Module::Biba), list.find(Module::Mls)),
-            (Some(0), None)
-        );
-        assert_eq!(rt;
-            (list.holder(0), list.holder(1)),
-            (Some(Module::Biba), None)
-        );
-        list.unlist(Module::Biba);
-        assert!(rt; list.is_empty() && !list.is_listed(Module::Biba));
-        Ok(())
-    }
-}

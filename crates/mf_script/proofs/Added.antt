@@ -1,33 +1,33 @@
 -- Items that the parts of a word add, one after another.
-use Rattle.std.proofs.Common.{◌≡◌, ℕ, ◌==◌, List, [], ◌∷◌, length, Option, Some, None, Result, Ok, Err, refl, ap, sym, ◌∙◌}
+use Rattle.std.proofs.Common.{◌≡◌, ℕ, ◌==◌, List, [], ◌∷◌, length, Option, Some, None, Ok, Err, refl, ap, sym, ◌∙◌}
 use Rattle.std.proofs.Common.{Bor, Bool, true, false, not, cond, suc, ◌+◌, ◌<◌, arith}
 use Rattle.std.proofs.lemmas.Str.Pattern.{IsSplitOnceResult, split_once_first}
 use Rattle.std.proofs.lemmas.List.Splits.{slice_split_first}
 use Rattle.std.specs.Prelude.{MatchOption}
 use Rattle.std.specs.List.{slice_split, onto_first, position_or_len}
-use Rattle.mf_script.specs.declared.error.ScriptError.{ScriptError}
-use Rattle.mf_script.specs.declared.error.ScriptError.TheVariants.{NotYet, Memory}
-use Rattle.mf_script.specs.Readers.{Fails, and_then}
+use Rattle.mf_script.specs.declared.refusal.Refusal.{Refusal}
+use Rattle.mf_script.specs.declared.refusal.Refusal.TheVariants.{Faulty, Memory}
+use Rattle.mf_script.specs.Readers.{Read, Fails, and_then}
 use Rattle.mf_script.specs.Parts.{parted, all_added}
 
 -- what is read from a text on, by what it reads as
-from_part : {A : Type 0} (add : List A → List ℕ → Result (List A) ScriptError) (items : List A) (all : List (List ℕ)) (w : List ℕ) (ws : List (List ℕ)) (found : Result (List A) ScriptError) → all ≡ w ∷ ws → add items w ≡ found
+from_part : {A : Type 0} (add : List A → List ℕ → Read (List A)) (items : List A) (all : List (List ℕ)) (w : List ℕ) (ws : List (List ℕ)) (found : Read (List A)) → all ≡ w ∷ ws → add items w ≡ found
     → all_added add items all ≡ and_then found (λ items. all_added add items ws)
 unfolding all_added
 from_part add items all w ws found is e = ap (all_added add items) is ∙ ap (λ found. and_then found (λ items. all_added add items ws)) e
 
-pub part_fails : {A : Type 0} (add : List A → List ℕ → Result (List A) ScriptError) (items : List A) (all : List (List ℕ)) (w : List ℕ) (ws : List (List ℕ)) (error : ScriptError) (first : Result (List A) ScriptError)
+pub part_fails : {A : Type 0} (add : List A → List ℕ → Read (List A)) (items : List A) (all : List (List ℕ)) (w : List ℕ) (ws : List (List ℕ)) (error : Refusal) (first : Read (List A))
     → all ≡ w ∷ ws → all_added add items all ≡ first → Fails error (add items w) → Fails error first
 unfolding and_then
 part_fails add items all w ws Memory first is so_far h = tt
-part_fails add items all w ws NotYet first is so_far h = sym so_far ∙ from_part add items all w ws (Err NotYet) is h
+part_fails add items all w ws (Faulty fault) first is so_far h = sym so_far ∙ from_part add items all w ws (Err fault) is h
 
-pub part_adds : {A : Type 0} (add : List A → List ℕ → Result (List A) ScriptError) (items : List A) (all : List (List ℕ)) (w : List ℕ) (ws : List (List ℕ)) (more : List A) (first : Result (List A) ScriptError)
+pub part_adds : {A : Type 0} (add : List A → List ℕ → Read (List A)) (items : List A) (all : List (List ℕ)) (w : List ℕ) (ws : List (List ℕ)) (more : List A) (first : Read (List A))
     → all ≡ w ∷ ws → all_added add items all ≡ first → add items w ≡ Ok more → all_added add more ws ≡ first
 unfolding and_then
 part_adds add items all w ws more first is so_far h = sym (from_part add items all w ws (Ok more) is h) ∙ so_far
 
-pub parts_end : {A : Type 0} (add : List A → List ℕ → Result (List A) ScriptError) (items : List A) (all : List (List ℕ)) (w : List ℕ) (more : List A) (first : Result (List A) ScriptError)
+pub parts_end : {A : Type 0} (add : List A → List ℕ → Read (List A)) (items : List A) (all : List (List ℕ)) (w : List ℕ) (more : List A) (first : Read (List A))
     → all ≡ w ∷ [] → all_added add items all ≡ first → add items w ≡ Ok more → first ≡ Ok more
 unfolding all_added
 parts_end add items all w more first is so_far h = sym (part_adds add items all w [] more first is so_far h)

@@ -1,43 +1,41 @@
 -- The calls and lines of tasks that the grammar reads are well formed.
-use Rattle.std.proofs.Common.{ℕ, ◌≤◌, Bool, true, false, List, [], ◌∷◌, Some, Result, Err, if◌then◌else◌}
+use Rattle.std.proofs.Common.{ℕ, ◌≤◌, Bool, true, false, List, [], ◌∷◌, Some, if◌then◌else◌}
 use Rattle.std.specs.Str.{bytes_eq}
-use Rattle.mf_script.specs.declared.error.ScriptError.{ScriptError}
-use Rattle.mf_script.specs.declared.error.ScriptError.TheVariants.{NotYet}
+use Rattle.mf_script.specs.declared.error.ScriptFault.TheVariants.{UnknownWord}
 use Rattle.mf_calls.specs.declared.script.Call.{Call}
 use Rattle.mf_calls.specs.declared.script.Call.TheVariants as call
 use Rattle.mf_calls.specs.declared.limits.TheConstants.{MODE_LIMIT}
-use Rattle.mf_calls.specs.Names.{IsWord}
-use Rattle.mf_script.specs.Readers.{by_option}
+use Rattle.mf_calls.specs.WellFormed.{IsWord, IsName, IsProcessName, IsPath, IsFormedCall, IsFormedLine}
+use Rattle.mf_script.specs.Readers.{Read, fails, by_option}
 use Rattle.mf_words.specs.Words.{Words}
-use Rattle.mf_script.specs.Parts.{name_in, process_of, path_of, mode_of, escaped_bytes}
-use Rattle.mf_script.specs.Calls.{Arguments, bare, one, two, three, calls, look_up, call_named_in, call_line}
-use Rattle.mf_script.specs.Lines.{line_of}
-use Rattle.mf_calls.specs.WellFormed.{IsName, IsProcessName, IsPath, IsFormedCall, IsFormedLine}
+use Rattle.mf_script.specs.Parts.{look_up, name_of, process_of, path_of, mode_of, text_of}
+use Rattle.mf_script.specs.Calls.{Arguments, bare, one, two, three, calls, call_in, call_named, call_words}
+use Rattle.mf_script.specs.Lines.{behind_at, line_words}
 use Rattle.mf_script.proofs.ScriptWords.{AreWords, by_word}
-use Rattle.mf_script.proofs.Yields.{Yields, done, refused, chain, skip}
-use Rattle.mf_script.proofs.FormedParts.{name_formed, process_formed, path_formed, mode_formed, bytes_formed, word_formed, child_formed}
+use Rattle.mf_script.proofs.Yields.{Yields, done, refused, chain, skip, chosen}
+use Rattle.mf_script.proofs.FormedParts.{name_formed, process_formed, path_formed, mode_formed, bytes_formed, word_formed}
 
 -- a reader of well formed calls
 abbrev AreFormed : Arguments → Type 0
 AreFormed arguments = (ws : Words) → AreWords ws → Yields (λ read. IsFormedCall read.0) (arguments ws)
 
 -- a reader of one word that gives such a thing
-abbrev Reads : {A : Type 0} → (A → Type 0) → (List ℕ → Result A ScriptError) → Type 0
+abbrev Reads : {A : Type 0} → (A → Type 0) → (List ℕ → Read A) → Type 0
 Reads P read = (w : List ℕ) → IsWord w → Yields P (read w)
 
 bare_formed : (call : Call) → IsFormedCall call → AreFormed (bare call)
 bare_formed call formed ws are = done formed
 
-one_formed : {A : Type 0} (P : A → Type 0) (first : List ℕ → Result A ScriptError) (call : A → Call)
+one_formed : {A : Type 0} (P : A → Type 0) (first : List ℕ → Read A) (call : A → Call)
     → Reads P first → ((x : A) → P x → IsFormedCall (call x)) → AreFormed (one first call)
 one_formed P first call each so ws are = chain _ _ (by_word first each ws are) (λ x ok. done (so x.0 ok.0))
 
-two_formed : {A B : Type 0} (P : A → Type 0) (Q : B → Type 0) (first : List ℕ → Result A ScriptError) (second : List ℕ → Result B ScriptError) (call : A → B → Call)
+two_formed : {A B : Type 0} (P : A → Type 0) (Q : B → Type 0) (first : List ℕ → Read A) (second : List ℕ → Read B) (call : A → B → Call)
     → Reads P first → Reads Q second → ((x : A) (y : B) → P x → Q y → IsFormedCall (call x y)) → AreFormed (two first second call)
 two_formed P Q first second call each each_second so ws are =
     chain _ _ (by_word first each ws are) (λ x x_ok. chain _ _ (by_word second each_second x.1 x_ok.1) (λ y y_ok. done (so x.0 y.0 x_ok.0 y_ok.0)))
 
-name_read : Reads IsName name_in
+name_read : Reads IsName name_of
 name_read w word = name_formed w
 
 process_read : Reads IsProcessName process_of
@@ -49,11 +47,11 @@ path_read w word = path_formed w
 mode_read : Reads (λ mode. mode ≤ MODE_LIMIT) mode_of
 mode_read w word = mode_formed w
 
-send_formed : AreFormed (three name_in name_in escaped_bytes call.Send)
+send_formed : AreFormed (three name_of name_of text_of call.Send)
 send_formed ws are =
-    chain _ _ (by_word name_in name_read ws are) (λ from from_ok.
-    chain _ _ (by_word name_in name_read from.1 from_ok.1) (λ to to_ok.
-    chain _ _ (by_word escaped_bytes bytes_formed to.1 to_ok.1) (λ text text_ok. done (from_ok.0, to_ok.0, text_ok.0))))
+    chain _ _ (by_word name_of name_read ws are) (λ from from_ok.
+    chain _ _ (by_word name_of name_read from.1 from_ok.1) (λ to to_ok.
+    chain _ _ (by_word text_of bytes_formed to.1 to_ok.1) (λ text text_ok. done (from_ok.0, to_ok.0, text_ok.0))))
 
 -- a table of readers of well formed calls
 EachFormed : List (List ℕ × Arguments) → Type 0
@@ -102,24 +100,30 @@ all_formed =
     & one_formed _ _ call.Kldunload word_formed (λ x ok. ok)
     & none_left
 
-found_formed : (name : List ℕ) (table : List (List ℕ × Arguments)) → EachFormed table → AreFormed (λ ws. by_option (look_up name table) (Err NotYet) (λ arguments. arguments ws))
+found_formed : (name : List ℕ) (table : List (List ℕ × Arguments)) → EachFormed table → AreFormed (λ ws. by_option (look_up name table) (fails UnknownWord) (λ arguments. arguments ws))
 unfolding EachFormed
 found_formed name [] formed ws are = refused
 found_formed name (entry ∷ table) formed ws are = by_test (bytes_eq name entry.0) (found_formed name table formed.1 ws are) where
-  by_test : (same : Bool) → Yields (λ read. IsFormedCall read.0) (by_option (look_up name table) (Err NotYet) (λ arguments. arguments ws))
-      → Yields (λ read. IsFormedCall read.0) (by_option (if same then Some entry.1 else look_up name table) (Err NotYet) (λ arguments. arguments ws))
+  by_test : (same : Bool) → Yields (λ read. IsFormedCall read.0) (by_option (look_up name table) (fails UnknownWord) (λ arguments. arguments ws))
+      → Yields (λ read. IsFormedCall read.0) (by_option (if same then Some entry.1 else look_up name table) (fails UnknownWord) (λ arguments. arguments ws))
   by_test true further = formed.0 ws are
   by_test false further = further
 
-call_named_formed : (name : List ℕ) → AreFormed (call_named_in calls name)
-unfolding call_named_in
-call_named_formed name ws are = found_formed name calls all_formed.each ws are
+call_in_formed : (name : List ℕ) → AreFormed (call_in calls name)
+unfolding call_in
+call_in_formed name ws are = found_formed name calls all_formed.each ws are
 
-call_formed : (ws : Words) → AreWords ws → Yields IsFormedCall (call_line ws)
-unfolding call_line
+call_named_formed : (name : List ℕ) (ws : Words) → AreWords ws → Yields IsFormedCall (call_named name ws)
+unfolding call_named
+call_named_formed name ws are = chain _ _ (call_in_formed name ws are) (λ call formed. skip _ _ (λ u. done formed))
+
+call_formed : (ws : Words) → AreWords ws → Yields IsFormedCall (call_words ws)
+unfolding call_words
 call_formed [] are = refused
-call_formed (name ∷ ws) are = chain _ _ (call_named_formed name ws are.1) (λ call formed. skip _ _ (λ u. done formed))
+call_formed (name ∷ ws) are = call_named_formed name ws are.1
 
-pub line_formed : (row : Words) → AreWords row → Yields IsFormedLine (line_of row)
-unfolding line_of
-line_formed row are = chain _ _ (child_formed row are) (λ child child_ok. chain _ _ (call_formed child.1 child_ok.1) (λ call call_ok. done (record { child = child_ok.0; call = call_ok })))
+pub line_formed : (w : List ℕ) (ws : Words) → AreWords ws → Yields IsFormedLine (line_words w ws)
+unfolding line_words
+line_formed w ws are = chosen (behind_at w) _ _
+    (chain _ _ (call_named_formed w ws are) (λ call call_ok. done (record { child = tt; call = call_ok })))
+    (λ name. chain _ _ (name_formed name) (λ child child_ok. chain _ _ (call_formed ws are) (λ call call_ok. done (record { child = child_ok; call = call_ok }))))

@@ -1,9 +1,9 @@
 -- What the grammar reads of a word is well formed.
-use Rattle.std.proofs.Common.{All, ◌≡◌, ℕ, suc, ◌+◌, arith, length-append, ◌==◌, ◌≤◌, Bool, true, false, ◌&&◌, if◌then◌else◌, List, [], ◌∷◌, length, Result, Ok, Err, refl, lit≤}
+use Rattle.std.proofs.Common.{All, ◌≡◌, ℕ, suc, ◌+◌, arith, length-append, ◌==◌, ◌≤◌, Bool, true, false, if◌then◌else◌, List, [], ◌∷◌, length, Result, Ok, Err, refl, lit≤}
 use Rattle.std.specs.Prelude.{nat_lt, codes}
 use Rattle.std.specs.List.{slice_split}
 use Rattle.std.specs.Str.{bytes_eq}
-use Rattle.std.proofs.lemmas.Bool.{leb-true, ltb-true}
+use Rattle.std.proofs.lemmas.Bool.{ltb-true}
 use Rattle.std.proofs.lemmas.List.Splits.{length-slice_split}
 use Rattle.std.proofs.lemmas.List.Elements.{All-nil, All-push}
 use Rattle.mf_errno.specs.declared.module.Module.{Module}
@@ -19,58 +19,47 @@ use Rattle.mf_labeltext.proofs.Formed.{spelled_is_request}
 use Rattle.mf_names.specs.declared.limits.TheConstants.{PATH_LIMIT}
 use Rattle.mf_cred.specs.declared.cred.TheConstants.{MOST_GROUPS}
 use Rattle.mf_item.specs.declared.view.Kind.{Kind}
-use Rattle.mf_words.specs.Words.{Words}
 use Rattle.mf_calls.specs.declared.limits.TheConstants.{UID_MAX, MODE_LIMIT}
-use Rattle.mf_names.specs.declared.limits.TheConstants.{CONTENT_LIMIT, SCRIPT_LIMIT}
-use Rattle.mf_calls.specs.Names.{is_name, is_process_name, is_component, IsWord}
-use Rattle.mf_calls.specs.Boots.{IsAsked}
-use Rattle.mf_calls.specs.WellFormed.{IsPath, IsText, IsFormedChild}
-use Rattle.mf_script.specs.declared.error.ScriptError.{ScriptError}
-use Rattle.mf_script.specs.Readers.{or_not_yet}
-use Rattle.mf_script.specs.Parts.{slash, comma, parted, all_added, number_of, with_group, groups_of, name_in, process_of, behind_at, child_in, mode_of, with_component, components_of, behind_root, path_of, any_word}
-use Rattle.mf_script.specs.Parts.{request_of, request_for, escaped_bytes, content_of}
+use Rattle.mf_names.specs.declared.limits.TheConstants.{SCRIPT_LIMIT}
+use Rattle.mf_calls.specs.Names.{is_name, is_process_name, is_component}
+use Rattle.mf_calls.specs.WellFormed.{IsWord, IsAsked, IsPath, IsText}
+use Rattle.mf_script.specs.declared.error.ScriptFault.TheVariants.{BadNumber, BadLabel, BadText}
+use Rattle.mf_script.specs.Readers.{Read, or_fault}
+use Rattle.mf_script.specs.Parts.{slash, comma, parted, all_added, number_of, with_group, groups_of, name_of, process_of, mode_of, with_component, components_of, behind_root, path_of, any_word, text_of}
+use Rattle.mf_script.specs.Grammar.{request_of, request_for}
 use Rattle.mf_script.proofs.EscapedBytes.{escaped_short, escaped_fit}
 use Rattle.mf_script.proofs.Numbers.{number_most}
-use Rattle.mf_script.proofs.ScriptWords.{AreWords, word_fits}
-use Rattle.mf_script.proofs.Yields.{Yields, done, refused, chain, checked, chosen, widened}
+use Rattle.mf_script.proofs.ScriptWords.{both, word_fits}
+use Rattle.mf_script.proofs.Yields.{Yields, done, refused, chain, checked, widened}
 
-pub both : (a b : Bool) → (a && b) ≡ true → (a ≡ true) × (b ≡ true)
-both true b e = (refl, e)
-both false b e = cc
-
-pub name_formed : (w : List ℕ) → Yields (λ name. is_name name ≡ true) (name_in w)
-unfolding name_in
-name_formed w = checked _ _ (λ e. done e)
+pub name_formed : (w : List ℕ) → Yields (λ name. is_name name ≡ true) (name_of w)
+unfolding name_of
+name_formed w = checked _ _ _ (λ e. done e)
 
 pub number_formed : (w : List ℕ) → Yields (λ n. n ≤ UID_MAX) (number_of w)
 unfolding number_of
 number_formed w = by_number (number_in 10 0 UID_MAX w) refl where
-  by_number : (read : Result ℕ NumberFault) → number_in 10 0 UID_MAX w ≡ read → Yields (λ n. n ≤ UID_MAX) (or_not_yet read)
+  by_number : (read : Result ℕ NumberFault) → number_in 10 0 UID_MAX w ≡ read → Yields (λ n. n ≤ UID_MAX) (or_fault BadNumber read)
   by_number (Ok n) e = done (number_most 10 0 UID_MAX w n e)
   by_number (Err fault) e = refused
 
 pub mode_formed : (w : List ℕ) → Yields (λ mode. mode ≤ MODE_LIMIT) (mode_of w)
 unfolding mode_of
 mode_formed w = by_number (number_in 8 0 MODE_LIMIT w) refl where
-  by_number : (read : Result ℕ NumberFault) → number_in 8 0 MODE_LIMIT w ≡ read → Yields (λ mode. mode ≤ MODE_LIMIT) (or_not_yet read)
+  by_number : (read : Result ℕ NumberFault) → number_in 8 0 MODE_LIMIT w ≡ read → Yields (λ mode. mode ≤ MODE_LIMIT) (or_fault BadNumber read)
   by_number (Ok mode) e = done (number_most 8 0 MODE_LIMIT w mode e)
   by_number (Err fault) e = refused
 
 pub process_formed : (w : List ℕ) → Yields (λ name. is_process_name name ≡ true) (process_of w)
 unfolding process_of
-process_formed w = checked _ _ (λ e. done e)
+process_formed w = checked _ _ _ (λ e. done e)
 
 pub word_formed : (w : List ℕ) → IsWord w → Yields IsWord (any_word w)
 unfolding any_word
 word_formed w word = done word
 
-pub child_formed : (ws : Words) → AreWords ws → Yields (λ child. IsFormedChild child.0 × AreWords child.1) (child_in ws)
-unfolding child_in
-child_formed [] are = done (tt, tt)
-child_formed (w ∷ ws) are = chosen (behind_at w) _ _ (done (tt, are)) (λ name. chain _ _ (name_formed name) (λ child ok. done (ok, are.1)))
-
 -- what holds of no items yet, and of more whenever of those so far, holds of all
-all_added_formed : {A : Type 0} (P : List A → Type 0) (add : List A → List ℕ → Result (List A) ScriptError) → ((items : List A) (w : List ℕ) → P items → Yields P (add items w))
+all_added_formed : {A : Type 0} (P : List A → Type 0) (add : List A → List ℕ → Read (List A)) → ((items : List A) (w : List ℕ) → P items → Yields P (add items w))
     → (items : List A) (ws : List (List ℕ)) → P items → Yields P (all_added add items ws)
 unfolding all_added
 all_added_formed P add step items [] are = done are
@@ -78,7 +67,7 @@ all_added_formed P add step items (w ∷ ws) are = chain _ _ (step items w are) 
 
 with_component_formed : (path : List (List ℕ)) (w : List ℕ) → IsPath path → Yields IsPath (with_component path w)
 unfolding with_component
-with_component_formed path w formed = checked _ _ (λ e.
+with_component_formed path w formed = checked _ _ _ (λ e.
     let tests = both (nat_lt (length path) PATH_LIMIT) (is_component w) e in
     done (record {
       few = omega (arith, ltb-true _ _ tests.0, length-append path (w ∷ []));
@@ -97,7 +86,7 @@ behind_root_formed (b ∷ w) = components_formed (b ∷ w)
 pub path_formed : (w : List ℕ) → Yields IsPath (path_of w)
 unfolding path_of
 path_formed [] = refused
-path_formed (b ∷ w) = checked _ _ (λ e. behind_root_formed w)
+path_formed (b ∷ w) = checked _ _ _ (λ e. behind_root_formed w)
 
 -- Groups
 
@@ -109,7 +98,7 @@ record AreGroups (count : ℕ) (groups : List ℕ) : Type 0 where
 
 with_group_formed : (count : ℕ) (groups w : List ℕ) → AreGroups count groups → Yields (AreGroups (suc count)) (with_group groups w)
 unfolding with_group
-with_group_formed count groups w are = checked _ _ (λ e. chain _ _ (number_formed w) (λ group fits.
+with_group_formed count groups w are = checked _ _ _ (λ e. chain _ _ (number_formed w) (λ group fits.
     let room = ltb-true _ _ e in
     let longer = length-append groups (group ∷ []) in
     done (record { counted = omega (arith, longer, are.counted); few = omega (arith, room, longer); each = All-push (λ group. group ≤ UID_MAX) groups group are.each fits })))
@@ -137,27 +126,23 @@ groups_formed w =
 asked_formed : (w : List ℕ) → Yields IsRequest (request_of w)
 unfolding request_of
 asked_formed w = by_test (bytes_eq w (codes "-")) where
-  by_read : (read : Result Request LabelFault) → request_in w ≡ read → Yields IsRequest (or_not_yet read)
+  by_read : (read : Result Request LabelFault) → request_in w ≡ read → Yields IsRequest (or_fault BadLabel read)
   by_read (Ok request) e = done (spelled_is_request w request (request_spells w request e))
   by_read (Err fault) e = refused
 
-  by_test : (t : Bool) → Yields IsRequest (if t then Ok no_request else or_not_yet (request_in w))
+  by_test : (t : Bool) → Yields IsRequest (if t then Ok no_request else or_fault BadLabel (request_in w))
   by_test true = done (record { biba = tt; mls = tt; partition = tt })
   by_test false = by_read (request_in w) refl
 
 pub request_formed : (kind : Kind) (boots : List Module) (w : List ℕ) → Yields (IsAsked kind boots) (request_for kind boots w)
 unfolding request_for
-request_formed kind boots w = chain _ _ (asked_formed w) (λ request spelled. checked _ _ (λ e. done (record { spelled = spelled; allowed = e })))
+request_formed kind boots w = chain _ _ (asked_formed w) (λ request spelled. checked _ _ _ (λ e. done (record { spelled = spelled; allowed = e })))
 
 -- Texts
 
-pub bytes_formed : (w : List ℕ) → IsWord w → Yields (IsText SCRIPT_LIMIT) (escaped_bytes w)
-unfolding escaped_bytes
+pub bytes_formed : (w : List ℕ) → IsWord w → Yields (IsText SCRIPT_LIMIT) (text_of w)
+unfolding text_of
 bytes_formed w word = by_read (bytes_of w) refl where
-  by_read : (read : Result (List ℕ) ℕ) → bytes_of w ≡ read → Yields (IsText SCRIPT_LIMIT) (or_not_yet read)
+  by_read : (read : Result (List ℕ) ℕ) → bytes_of w ≡ read → Yields (IsText SCRIPT_LIMIT) (or_fault BadText read)
   by_read (Ok bytes) e = done (record { few = omega (arith, escaped_short w bytes e, word.few); each = escaped_fit w bytes (word_fits w word.each) e })
   by_read (Err place) e = refused
-
-pub content_formed : (w : List ℕ) → IsWord w → Yields (IsText CONTENT_LIMIT) (content_of w)
-unfolding content_of
-content_formed w word = chain _ _ (bytes_formed w word) (λ bytes fit. checked _ _ (λ e. done (record { few = leb-true _ _ e; each = fit.each })))

@@ -1,103 +1,215 @@
--- Which bytes are a script, and which script they are.
-use Rattle.std.specs.Prelude.{ℕ, zero, suc, Bool, not, ◌&&◌, ◌||◌, ◌==◌, nat_lt, List, [], ◌∷◌, ◌++◌, length, Option, Some, None, Result, Ok, Err, codes}
+-- Which bytes are a script, which script they are, and else the first faulty line with its first fault: the grammar, the limits and the order
+-- of faults of docs/MANUAL.md (THE SCRIPT). In a line NotText is looked for first, then the words from left to right, then Extra, and then what
+-- the words ask for is judged.
+use Rattle.std.specs.Prelude.{◌≡◌, ℕ, ◌+◌, Bool, not, ◌&&◌, ◌||◌, nat_lt, nat_le, if◌then◌else◌, List, [], ◌∷◌, ◌++◌, length, Result, Ok, Err, codes}
 use Rattle.std.specs.List.{list_all, list_any}
 use Rattle.std.specs.Str.{bytes_eq}
 use Rattle.std.specs.Char.{is_ascii_graphic}
+use Rattle.mf_errno.specs.declared.errno.Errno.TheVariants.{Enoent, Eexist}
 use Rattle.mf_errno.specs.declared.module.Module.{Module}
-use Rattle.mf_script.specs.declared.error.ScriptError.{ScriptError}
-use Rattle.mf_script.specs.declared.error.ScriptError.TheVariants.{NotYet}
-use Rattle.mf_calls.specs.declared.script.Line.{Line}
+use Rattle.mf_errno.specs.Module.{module_named}
+use Rattle.mf_elem.specs.declared.label.Request.{Request}
+use Rattle.mf_elem.specs.Label.{no_request}
+use Rattle.mf_labeltext.specs.Reading.{request_in}
+use Rattle.mf_item.specs.declared.view.Kind.{Kind}
+use Rattle.mf_item.specs.declared.view.Kind.TheVariants as kinds
+use Rattle.mf_policy.specs.Modules.{has_spec}
+use Rattle.mf_names.specs.declared.limits.TheConstants.{CONTENT_LIMIT}
+use Rattle.mf_words.specs.Words.{Words, lines_in, words_in, is_blank, is_comment}
+use Rattle.mf_calls.specs.declared.limits.TheConstants.{FILE_LIMIT, TASK_LIMIT, LINE_LIMIT, RULE_LIST_LIMIT, STEP_LIMIT}
+use Rattle.mf_calls.specs.declared.script.Call.{Call}
 use Rattle.mf_calls.specs.declared.script.Task.{Task}
 use Rattle.mf_calls.specs.declared.script.FileLine.{FileLine}
 use Rattle.mf_calls.specs.declared.script.Script.{Script}
-use Rattle.mf_script.specs.Readers.{◌>>=◌, only_if, by_option}
-use Rattle.mf_calls.specs.declared.limits.TheConstants.{FILE_LIMIT, TASK_LIMIT, LINE_LIMIT}
-use Rattle.mf_words.specs.Words.{Words, Rows, rows_in, is_blank, newline, behind}
-use Rattle.mf_script.specs.Parts.{fixed, no_more}
 use Rattle.mf_calls.specs.Paths.{is_same_path, is_root, directory_of, has_directory}
-use Rattle.mf_script.specs.Lines.{boot_line, file_line, task_line, line_of}
-use Rattle.mf_calls.specs.Boots.{may_boot}
+use Rattle.mf_calls.specs.Boots.{is_booted, may_ask_for}
+use Rattle.mf_calls.specs.Tasks.{lists_rules}
+use Rattle.mf_script.specs.declared.error.ScriptFault.TheVariants.{NotText, UnknownWord, BadLabel, BadPath, Duplicate, NoEnd, TooMany}
+use Rattle.mf_script.specs.declared.error.ScriptError.{ScriptError}
+use Rattle.mf_script.specs.declared.error.ScriptError.TheVariants as error
+use Rattle.mf_script.specs.declared.refusal.LineFault.{LineFault}
+use Rattle.mf_script.specs.declared.refusal.Refusal.{Refusal}
+use Rattle.mf_script.specs.declared.refusal.Refusal.TheVariants as refusal
+use Rattle.mf_script.specs.declared.lines.FileWords.{FileWords}
+use Rattle.mf_script.specs.declared.lines.TaskWords.{TaskWords}
+use Rattle.mf_script.specs.declared.rows.Place.{Place}
+use Rattle.mf_script.specs.declared.rows.Place.TheVariants as place
+use Rattle.mf_script.specs.Readers.{Read, ◌>>=◌, plain, fails, boot_refused, unless, or_fault, by_option}
+use Rattle.mf_script.specs.Parts.{no_more}
+use Rattle.mf_script.specs.Lines.{boot_words, file_words, task_words, line_words, step_words}
+
+-- What the words of a line ask for is judged in this order: TooMany, BootRefused, Duplicate, BadPath, BadLabel.
+
+-- the module, whose policy must be built in, and which none of these may be
+unfoldable pub judged_module : List Module → Module → Read Module
+judged_module boots m =
+    if not (has_spec m) then boot_refused Enoent
+    else if is_booted boots m then boot_refused Eexist
+    else Ok m
+
+-- the module of that name after these
+unfoldable pub judged_boot : List Module → List ℕ → Read Module
+judged_boot boots name = by_option (module_named name) (boot_refused Enoent) (judged_module boots)
+
+-- what a label text asks for, where `-` asks for nothing
+unfoldable pub request_of : List ℕ → Read Request
+request_of w = if bytes_eq w (codes "-") then Ok no_request else or_fault BadLabel (request_in w)
+
+-- what a script that boots these modules asks for an entity of that kind
+unfoldable pub request_for : Kind → List Module → List ℕ → Read Request
+request_for kind boots w = do
+  request ← request_of w
+  u ← unless BadLabel (may_ask_for kind boots request)
+  Ok request
 
 abbrev pub has_path : List (List ℕ) → FileLine → Bool
 has_path path f = is_same_path f.path path
 
--- there is room for the file after these, its path is new, which the root's never is, and its directory is there
-abbrev pub may_stand : List FileLine → FileLine → Bool
-may_stand files f =
-    nat_lt (length files) FILE_LIMIT
-    && not (is_root f.path || list_any (has_path f.path) files)
-    && has_directory files (directory_of f.path)
-
--- The items of the rows in front, behind those so far, and the rows from the first that is no further item.
-unfoldable pub items_in : {A : Type 0} → (List A → Words → Result (Option A) ScriptError) → List A → Rows → Result (List A × Rows) ScriptError
-items_in item_at items [] = Ok (items, [])
-items_in item_at items (row ∷ rows) = item_at items row >>= λ found. by_option found (Ok (items, row ∷ rows)) (λ item. items_in item_at (items ++ item ∷ []) rows)
-
--- the module that the row boots after these; none where it is no boot line
-unfoldable pub boot_at : List Module → Words → Result (Option Module) ScriptError
-boot_at boots row = by_option (behind (codes "boot") row) (Ok None) (λ ws. do
-  booted ← boot_line ws
-  u ← only_if (may_boot boots booted)
-  Ok (Some booted))
-
--- the file of the row after these; none where it is no file line
-unfoldable pub file_at : List Module → List FileLine → Words → Result (Option FileLine) ScriptError
-file_at boots files row = by_option (behind (codes "file") row) (Ok None) (λ ws. do
-  file ← file_line boots ws
-  u ← only_if (may_stand files file)
-  Ok (Some file))
-
--- the line of the row after these; none where it ends the task
-unfoldable pub line_at : List Line → Words → Result (Option Line) ScriptError
-line_at lines row = by_option (behind (codes "end") row) (do
-  u ← only_if (nat_lt (length lines) LINE_LIMIT)
-  line ← line_of row
-  Ok (Some line)) (λ ws. Ok None)
-
--- the end of a task
-abbrev pub end_in : Rows → Result Rows ScriptError
-end_in [] = Err NotYet
-end_in (row ∷ rows) = do
-  ws ← fixed (codes "end") row
-  u ← no_more ws
-  Ok rows
-
--- the task of this row, and the rows after its end
-unfoldable pub task_in : List Module → Words → Rows → Result (Task × Rows) ScriptError
-task_in boots row rows = do
-  task ← task_line boots row
-  lines ← items_in line_at [] rows
-  rows ← end_in lines.1
-  Ok (record task { lines = lines.0 }, rows)
+-- the file after these; the root directory is always there
+unfoldable pub judged_file : List Module → List FileLine → FileWords → Read FileLine
+judged_file boots files f = do
+  u ← unless TooMany (nat_lt (length files) FILE_LIMIT && nat_le (length f.text) CONTENT_LIMIT)
+  u ← unless Duplicate (not (is_root f.path || list_any (has_path f.path) files))
+  u ← unless BadPath (has_directory files (directory_of f.path))
+  label ← request_for kinds.Vnode boots f.label
+  Ok (record { path = f.path; file = f.file; label = label; text = f.text })
 
 abbrev pub has_name : List ℕ → Task → Bool
 has_name name task = bytes_eq task.name name
 
--- the task of the row, whose name none of these may have, and the rows after its end
-unfoldable pub task_behind : List Module → List Task → Words → Rows → Result (Task × Rows) ScriptError
-task_behind boots tasks row rows = do
-  task ← task_in boots row rows
-  u ← only_if (not (list_any (has_name task.0.name) tasks))
-  Ok task
+-- the task after these, before its lines
+unfoldable pub judged_task : List Module → List Task → TaskWords → Read Task
+judged_task boots tasks t = do
+  u ← unless TooMany (nat_lt (length tasks) TASK_LIMIT)
+  u ← unless Duplicate (not (list_any (has_name t.name) tasks))
+  label ← request_for kinds.Process boots t.label
+  Ok (record { name = t.name; cred = t.cred; label = label; lines = [] })
 
--- the tasks so far, and those of all the rows, while there is room for so many more
-unfoldable pub tasks_in : List Module → List Task → ℕ → Rows → Result (List Task) ScriptError
-tasks_in boots tasks room [] = Ok tasks
-tasks_in boots tasks zero (row ∷ rows) = Err NotYet
-tasks_in boots tasks (suc room) (row ∷ rows) = task_behind boots tasks row rows >>= λ task. tasks_in boots (tasks ++ task.0 ∷ []) room task.1
+-- how many lines list the rules, with this call
+unfoldable pub with_list : Call → ℕ → Read ℕ
+with_list call lists =
+    if lists_rules call then (unless TooMany (nat_lt lists RULE_LIST_LIMIT) >>= λ u. Ok (lists + 1))
+    else Ok lists
 
--- the boot lines, the file lines, the tasks, and no more
-unfoldable pub script_in : Rows → Result Script ScriptError
-script_in rows = do
-  boots ← items_in boot_at [] rows
-  files ← items_in (file_at boots.0) [] boots.1
-  tasks ← tasks_in boots.0 [] TASK_LIMIT files.1
-  Ok (record { boots = boots.0; files = files.0; tasks = tasks })
+-- Each line makes the script longer, or the task that is open, and gives the place of the next line: behind boots, files or tasks, in a task,
+-- in the steps, or behind them. A place among tasks knows how many of their lines list the rules.
 
--- a byte that may stand in a script: a blank, a newline or a printable byte of ASCII
-abbrev pub is_script_byte : ℕ → Bool
-is_script_byte b = is_blank b || b == newline || is_ascii_graphic b
+abbrev pub State : Type 0
+State = Script × Place
 
--- the script that the bytes are
+unfoldable pub boot_in : Script → Words → Read State
+boot_in s ws = do
+  name ← boot_words ws
+  m ← judged_boot s.boots name
+  Ok (record s { boots = s.boots ++ m ∷ [] }, place.Boots)
+
+unfoldable pub file_in : Script → Words → Read State
+file_in s ws = do
+  words ← file_words ws
+  file ← judged_file s.boots s.files words
+  Ok (record s { files = s.files ++ file ∷ [] }, place.Files)
+
+unfoldable pub task_in : Script → ℕ → Words → Read State
+task_in s lists ws = do
+  words ← task_words ws
+  task ← judged_task s.boots s.tasks words
+  Ok (s, place.Task task lists)
+
+unfoldable pub line_in : Script → Task → ℕ → List ℕ → Words → Read State
+line_in s t lists w ws = do
+  line ← line_words w ws
+  u ← unless TooMany (nat_lt (length t.lines) LINE_LIMIT)
+  lists ← with_list line.call lists
+  Ok (s, place.Task (record t { lines = t.lines ++ line ∷ [] }) lists)
+
+unfoldable pub step_in : Script → List ℕ → Words → Read State
+step_in s w ws = do
+  step ← step_words w ws
+  u ← unless TooMany (nat_lt (length s.steps) STEP_LIMIT)
+  Ok (record s { steps = s.steps ++ step ∷ [] }, place.Steps)
+
+-- a line of one word
+unfoldable pub alone : State → Words → Read State
+alone next ws = no_more ws >>= λ u. Ok next
+
+-- script = *boot *file *task [ steps ], by the first word of a line and the words behind it
+
+unfoldable pub behind_tasks : Script → ℕ → List ℕ → Words → Read State
+behind_tasks s lists w ws =
+    if bytes_eq w (codes "task") then task_in s lists ws
+    else if bytes_eq w (codes "steps") then alone (s, place.Steps) ws
+    else fails UnknownWord
+
+unfoldable pub behind_files : Script → List ℕ → Words → Read State
+behind_files s w ws = if bytes_eq w (codes "file") then file_in s ws else behind_tasks s 0 w ws
+
+unfoldable pub behind_boots : Script → List ℕ → Words → Read State
+behind_boots s w ws = if bytes_eq w (codes "boot") then boot_in s ws else behind_files s w ws
+
+-- task = .. *line "end"
+unfoldable pub in_task : Script → Task → ℕ → List ℕ → Words → Read State
+in_task s t lists w ws =
+    if bytes_eq w (codes "end") then alone (record s { tasks = s.tasks ++ t ∷ [] }, place.Tasks lists) ws
+    else line_in s t lists w ws
+
+-- steps = "steps" *step "end"
+unfoldable pub in_steps : Script → List ℕ → Words → Read State
+in_steps s w ws = if bytes_eq w (codes "end") then alone (s, place.End) ws else step_in s w ws
+
+unfoldable pub row_in : Script → Place → List ℕ → Words → Read State
+row_in s place.Boots w ws = behind_boots s w ws
+row_in s place.Files w ws = behind_files s w ws
+row_in s (place.Tasks lists) w ws = behind_tasks s lists w ws
+row_in s (place.Task t lists) w ws = in_task s t lists w ws
+row_in s place.Steps w ws = in_steps s w ws
+row_in s place.End w ws = fails UnknownWord
+
+-- a line without words, or a comment, says nothing
+unfoldable pub words_line : Script → Place → Words → Read State
+words_line s p [] = Ok (s, p)
+words_line s p (w ∷ ws) = if is_comment w then Ok (s, p) else row_in s p w ws
+
+-- a byte that may stand in a line: a blank or a printable byte of ASCII
+abbrev pub is_plain : ℕ → Bool
+is_plain b = is_blank b || is_ascii_graphic b
+
+unfoldable pub line_read : Script → Place → List ℕ → Read State
+line_read s p line = unless NotText (list_all is_plain line) >>= λ u. words_line s p (words_in line)
+
+-- Line by line: the first faulty line counts.
+
+-- the fault in the line of that number, from 1
+abbrev pub at_line : ℕ → LineFault → ScriptError
+at_line n fault = error.Fault n fault.fault fault.errno
+
+-- the error is the fault in the line of that number, or memory ran out
+abbrev pub IsRefusedAt : ℕ → Refusal → ScriptError → Type 0
+IsRefusedAt n (refusal.Faulty fault) found = found ≡ at_line n fault
+IsRefusedAt n refusal.Memory found = found ≡ error.Memory
+
+-- what follows a line that was read
+abbrev pub or_at : {A B : Type 0} → ℕ → Read A → (A → Result B ScriptError) → Result B ScriptError
+or_at n (Ok x) more = more x
+or_at n (Err fault) more = Err (at_line n fault)
+
+-- the script, where it doesn't end inside a task or the steps; n is the number of lines and one more
+abbrev pub ended : Script → Place → ℕ → Result Script ScriptError
+ended s (place.Task t lists) n = Err (at_line n (plain NoEnd))
+ended s place.Steps n = Err (at_line n (plain NoEnd))
+ended s other n = Ok s
+
+unfoldable pub script_from : Script → Place → ℕ → List (List ℕ) → Result Script ScriptError
+script_from s p n [] = ended s p n
+script_from s p n (line ∷ lines) = or_at n (line_read s p line) (λ next. script_from next.0 next.1 (n + 1) lines)
+
+abbrev pub blank : Script
+blank = record { boots = []; files = []; tasks = []; steps = [] }
+
+-- the script that the bytes are, or its first fault
 unfoldable pub script_of : List ℕ → Result Script ScriptError
-script_of bytes = only_if (list_all is_script_byte bytes) >>= λ u. script_in (rows_in bytes)
+script_of bytes = script_from blank place.Boots 1 (lines_in bytes)
+
+-- what the reader returned is the script of the bytes, or their first fault, unless memory ran out
+abbrev pub IsScriptOf : Result Script ScriptError → Result Script ScriptError → Type 0
+IsScriptOf (Err error.Memory) read = Unit {0}
+IsScriptOf result read = read ≡ result

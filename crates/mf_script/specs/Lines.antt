@@ -1,65 +1,88 @@
--- What the lines of a script say, row by row.
-use Rattle.std.specs.Prelude.{ℕ, Bool, true, false, List, [], ◌∷◌, Result, Ok, codes}
-use Rattle.mf_errno.specs.declared.module.Module.{Module}
-use Rattle.mf_script.specs.declared.error.ScriptError.{ScriptError}
-use Rattle.mf_calls.specs.declared.script.Line.{Line}
-use Rattle.mf_calls.specs.declared.script.Task.{Task}
-use Rattle.mf_calls.specs.declared.script.FileLine.{FileLine}
-use Rattle.mf_script.specs.Readers.{◌>>=◌}
-use Rattle.mf_item.specs.declared.view.Kind.TheVariants as kinds
+-- The words of each kind of line, from left to right, and no more, as the grammar in docs/MANUAL.md (THE SCRIPT) has them. What the words ask
+-- for is judged afterwards.
+use Rattle.std.specs.Prelude.{ℕ, Bool, true, false, ◌==◌, if◌then◌else◌, List, [], ◌∷◌, Option, Some, None, Ok, codes}
+use Rattle.std.specs.Str.{bytes_eq}
 use Rattle.mf_words.specs.Words.{Words}
-use Rattle.mf_script.specs.Parts.{word_by, fixed, no_more, module_in, path_of, is_directory_of, number_of, groups_of, mode_of, name_in, child_in, content_of, request_for}
-use Rattle.mf_script.specs.Calls.{call_line}
+use Rattle.mf_calls.specs.declared.script.Line.{Line}
+use Rattle.mf_calls.specs.declared.script.Step.{Step}
+use Rattle.mf_calls.specs.declared.script.StepKind.{StepKind}
+use Rattle.mf_calls.specs.declared.script.StepKind.TheVariants as step
+use Rattle.mf_script.specs.declared.error.ScriptFault.TheVariants.{UnknownWord, Extra}
+use Rattle.mf_script.specs.declared.lines.FileWords.{FileWords}
+use Rattle.mf_script.specs.declared.lines.TaskWords.{TaskWords}
+use Rattle.mf_script.specs.Readers.{Read, ◌>>=◌, fails, by_option}
+use Rattle.mf_script.specs.Parts.{word_by, field, no_more, one_of, any_word, number_of, mode_of, name_of, path_of, groups_of, is_directory_of, text_of}
+use Rattle.mf_script.specs.Calls.{call_named, call_words}
 
 -- behind the word `boot`: MODULE
-unfoldable pub boot_line : Words → Result Module ScriptError
-boot_line ws = do
-  booted ← word_by module_in ws
-  u ← no_more booted.1
-  Ok booted.0
+unfoldable pub boot_words : Words → Read (List ℕ)
+boot_words ws = do
+  name ← word_by any_word ws
+  u ← no_more name.1
+  Ok name.0
 
 -- of a regular file [ "text" TEXT ], of a directory nothing
-unfoldable pub file_text : Bool → Words → Result (List ℕ × Words) ScriptError
-file_text true ws = Ok ([], ws)
-file_text false [] = Ok ([], [])
-file_text false (w ∷ ws) = do
-  ws ← fixed (codes "text") (w ∷ ws)
-  word_by content_of ws
+unfoldable pub file_text : Bool → Words → Read (List ℕ × Words)
+file_text dir [] = Ok ([], [])
+file_text true (w ∷ ws) = fails (if bytes_eq w (codes "text") then UnknownWord else Extra)
+file_text false (w ∷ ws) = field (codes "text") text_of (w ∷ ws)
 
 -- behind the word `file`: PATH KIND "uid" N "gid" N "mode" OCTAL "label" L [ "text" TEXT ]
-unfoldable pub file_line : List Module → Words → Result FileLine ScriptError
-file_line boots ws = do
+unfoldable pub file_words : Words → Read FileWords
+file_words ws = do
   path ← word_by path_of ws
   dir ← word_by is_directory_of path.1
-  ws ← fixed (codes "uid") dir.1
-  uid ← word_by number_of ws
-  ws ← fixed (codes "gid") uid.1
-  gid ← word_by number_of ws
-  ws ← fixed (codes "mode") gid.1
-  mode ← word_by mode_of ws
-  ws ← fixed (codes "label") mode.1
-  label ← word_by (request_for kinds.Vnode boots) ws
+  uid ← field (codes "uid") number_of dir.1
+  gid ← field (codes "gid") number_of uid.1
+  mode ← field (codes "mode") mode_of gid.1
+  label ← field (codes "label") any_word mode.1
   text ← file_text dir.0 label.1
   u ← no_more text.1
   Ok (record { path = path.0; file = record { uid = uid.0; gid = gid.0; mode = mode.0; dir = dir.0 }; label = label.0; text = text.0 })
 
--- "task" NAME "uid" N "gid" GROUPS "label" L, of a task that has no lines yet
-unfoldable pub task_line : List Module → Words → Result Task ScriptError
-task_line boots row = do
-  ws ← fixed (codes "task") row
-  name ← word_by name_in ws
-  ws ← fixed (codes "uid") name.1
-  uid ← word_by number_of ws
-  ws ← fixed (codes "gid") uid.1
-  groups ← word_by groups_of ws
-  ws ← fixed (codes "label") groups.1
-  label ← word_by (request_for kinds.Process boots) ws
+-- behind the word `task`: NAME "uid" N "gid" GROUPS "label" L
+unfoldable pub task_words : Words → Read TaskWords
+task_words ws = do
+  name ← word_by name_of ws
+  uid ← field (codes "uid") number_of name.1
+  groups ← field (codes "gid") groups_of uid.1
+  label ← field (codes "label") any_word groups.1
   u ← no_more label.1
-  Ok (record { name = name.0; cred = record { uid = uid.0; ruid = uid.0; svuid = uid.0; groups = groups.0 }; label = label.0; lines = [] })
+  Ok (record { name = name.0; cred = record { uid = uid.0; ruid = uid.0; svuid = uid.0; groups = groups.0 }; label = label.0 })
 
--- a line of a task: [ "@"C ] call
-unfoldable pub line_of : Words → Result Line ScriptError
-line_of row = do
-  child ← child_in row
-  call ← call_line child.1
-  Ok (record { child = child.0; call = call })
+abbrev pub at_sign : ℕ
+at_sign = 64
+
+-- the text behind `@`
+abbrev pub behind_at : List ℕ → Option (List ℕ)
+behind_at [] = None
+behind_at (b ∷ w) = if b == at_sign then Some w else None
+
+-- a line of a task, by its first word: [ "@"NAME ] call
+unfoldable pub line_words : List ℕ → Words → Read Line
+line_words w ws = by_option (behind_at w) (do
+  call ← call_named w ws
+  Ok (record { child = None; call = call })) (λ name. do
+    child ← name_of name
+    call ← call_words ws
+    Ok (record { child = Some child; call = call }))
+
+abbrev pub step_kinds : List (List ℕ × StepKind)
+step_kinds =
+    (codes "enter", step.Enter)
+    ∷ (codes "plan", step.Plan)
+    ∷ (codes "done", step.Done)
+    ∷ (codes "leave", step.Leave)
+    ∷ (codes "change", step.Change)
+    ∷ []
+
+unfoldable pub kind_of : List ℕ → Read StepKind
+kind_of w = one_of step_kinds w Ok
+
+-- a step, by its first word: KIND NAME
+unfoldable pub step_words : List ℕ → Words → Read Step
+step_words w ws = do
+  kind ← kind_of w
+  task ← word_by name_of ws
+  u ← no_more task.1
+  Ok (record { kind = kind; task = task.0 })

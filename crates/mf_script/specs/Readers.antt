@@ -1,38 +1,55 @@
--- Readers one after another, and how what a function returns goes with what a reader of the grammar reads.
+-- Readers one after another, each of which reads or finds the fault of its line; and how what a function returns goes with that.
 use Rattle.std.specs.Prelude.{◌≡◌, Bool, true, false, Option, Some, None, Result, Ok, Err}
-use Rattle.mf_script.specs.declared.error.ScriptError.{ScriptError}
-use Rattle.mf_script.specs.declared.error.ScriptError.TheVariants.{NotYet, Memory}
+use Rattle.mf_errno.specs.declared.errno.Errno.{Errno}
+use Rattle.mf_script.specs.declared.error.ScriptFault.{ScriptFault}
+use Rattle.mf_script.specs.declared.error.ScriptFault.TheVariants.{BootRefused}
+use Rattle.mf_script.specs.declared.refusal.LineFault.{LineFault}
+use Rattle.mf_script.specs.declared.refusal.Refusal.{Refusal}
+use Rattle.mf_script.specs.declared.refusal.Refusal.TheVariants as refusal
+
+-- what is read, or the fault of the line
+abbrev pub Read : Type 0 → Type 0
+Read A = Result A LineFault
 
 -- what the second reads with what the first read
-unfoldable pub and_then : {A B : Type 0} → Result A ScriptError → (A → Result B ScriptError) → Result B ScriptError
+unfoldable pub and_then : {A B : Type 0} → Read A → (A → Read B) → Read B
 and_then (Ok x) more = more x
 and_then (Err e) more = Err e
 
 infixl 10 ◌>>=◌
-abbrev pub ◌>>=◌ : {A B : Type 0} → Result A ScriptError → (A → Result B ScriptError) → Result B ScriptError
+abbrev pub ◌>>=◌ : {A B : Type 0} → Read A → (A → Read B) → Read B
 read >>= more = and_then read more
 
--- goes on where the test is true, and else reads nothing
-abbrev pub only_if : Bool → Result (Unit {0}) ScriptError
-only_if true = Ok tt
-only_if false = Err NotYet
+abbrev pub plain : ScriptFault → LineFault
+plain fault = record { fault = fault; errno = None }
 
--- what another reader reads, whose faults the grammar doesn't tell apart yet
-abbrev pub or_not_yet : {A E : Type 0} → Result A E → Result A ScriptError
-or_not_yet (Ok x) = Ok x
-or_not_yet (Err e) = Err NotYet
+abbrev pub fails : {A : Type 0} → ScriptFault → Read A
+fails fault = Err (plain fault)
+
+abbrev pub boot_refused : {A : Type 0} → Errno → Read A
+boot_refused errno = Err (record { fault = BootRefused; errno = Some errno })
+
+-- goes on where the test is true, and else has that fault
+abbrev pub unless : ScriptFault → Bool → Read (Unit {0})
+unless fault true = Ok tt
+unless fault false = fails fault
+
+-- what another reader reads, each of whose faults is this one here
+abbrev pub or_fault : {A E : Type 0} → ScriptFault → Result A E → Read A
+or_fault fault (Ok x) = Ok x
+or_fault fault (Err e) = fails fault
 
 -- one of two, by whether there is something
 abbrev pub by_option : {A B : Type 0} → Option A → B → (A → B) → B
 by_option None stop more = stop
 by_option (Some x) stop more = more x
 
--- the error is the grammar's, or memory ran out
-abbrev pub Fails : {Y : Type 0} → ScriptError → Result Y ScriptError → Type 0
-Fails Memory read = Unit {0}
-Fails NotYet read = read ≡ Err NotYet
+-- the fault is the line's, or memory ran out
+abbrev pub Fails : {Y : Type 0} → Refusal → Read Y → Type 0
+Fails refusal.Memory read = Unit {0}
+Fails (refusal.Faulty fault) read = read ≡ Err fault
 
--- What a function returned, seen by `view`, is what the grammar reads, unless memory ran out.
-abbrev pub Gives : {X Y : Type 0} → (X → Y) → Result X ScriptError → Result Y ScriptError → Type 0
+-- What a function returned, seen by `view`, is what is read, unless memory ran out.
+abbrev pub Gives : {X Y : Type 0} → (X → Y) → Result X Refusal → Read Y → Type 0
 Gives view (Ok x) read = read ≡ Ok (view x)
 Gives view (Err e) read = Fails e read

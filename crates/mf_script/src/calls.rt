@@ -4,23 +4,24 @@
 ghost use Rattle.std.specs.Prelude.{◌≡◌, ◌++◌};
 ghost use Rattle.mf_script.specs.Readers.{Gives};
 ghost use Rattle.mf_calls.specs.declared.script.Call.TheVariants as call;
-ghost use Rattle.mf_script.specs.Parts.{name_in, path_of, mode_of, escaped_bytes};
-ghost use Rattle.mf_script.specs.Calls.{call_line, call_named_in, calls, file_calls, channel_calls, module_calls, two, three};
+ghost use Rattle.mf_script.specs.Parts.{name_of, path_of, mode_of, text_of};
+ghost use Rattle.mf_script.specs.Calls.{call_in, call_named, call_words, calls, file_calls, channel_calls, module_calls, two, three};
 
-use crate::error::ScriptError;
+use crate::error::ScriptFault;
+use crate::refusal::{Refusal, faulty};
 use crate::{Words, names, parts};
 use mf_calls::Call;
 use std::alloc::Global;
 
-fn write(alloc: Global, words: &mut Words) -> Result<Call, ScriptError>
-    ensures { Gives (λ c. (c, words.new)) result (two path_of escaped_bytes call.Write words.old) }
+fn write(alloc: Global, words: &mut Words) -> Result<Call, Refusal>
+    ensures { Gives (λ c. (c, words.new)) result (two path_of text_of call.Write words.old) }
 {
     let path = names::path(alloc, words)?;
     let text = parts::text(alloc, words)?;
     Ok(Call::Write(path, text))
 }
 
-fn chmod(alloc: Global, words: &mut Words) -> Result<Call, ScriptError>
+fn chmod(alloc: Global, words: &mut Words) -> Result<Call, Refusal>
     ensures { Gives (λ c. (c, words.new)) result (two path_of mode_of call.Chmod words.old) }
 {
     let path = names::path(alloc, words)?;
@@ -28,16 +29,16 @@ fn chmod(alloc: Global, words: &mut Words) -> Result<Call, ScriptError>
     Ok(Call::Chmod(path, mode))
 }
 
-fn pwrite(alloc: Global, words: &mut Words) -> Result<Call, ScriptError>
-    ensures { Gives (λ c. (c, words.new)) result (two name_in escaped_bytes call.Pwrite words.old) }
+fn pwrite(alloc: Global, words: &mut Words) -> Result<Call, Refusal>
+    ensures { Gives (λ c. (c, words.new)) result (two name_of text_of call.Pwrite words.old) }
 {
     let name = names::name(alloc, words)?;
     let text = parts::text(alloc, words)?;
     Ok(Call::Pwrite(name, text))
 }
 
-fn send(alloc: Global, words: &mut Words) -> Result<Call, ScriptError>
-    ensures { Gives (λ c. (c, words.new)) result (three name_in name_in escaped_bytes call.Send words.old) }
+fn send(alloc: Global, words: &mut Words) -> Result<Call, Refusal>
+    ensures { Gives (λ c. (c, words.new)) result (three name_of name_of text_of call.Send words.old) }
 {
     let from = names::name(alloc, words)?;
     let to = names::name(alloc, words)?;
@@ -46,9 +47,9 @@ fn send(alloc: Global, words: &mut Words) -> Result<Call, ScriptError>
 }
 
 /// The call of that name with the arguments that come next.
-#[tactic(auto, unfolding(crate::specs::Calls::call_named_in, crate::specs::Readers::and_then))]
-fn call(alloc: Global, name: &str, words: &mut Words) -> Result<Call, ScriptError>
-    ensures { Gives (λ c. (c, words.new)) result (call_named_in calls name.now words.old) }
+#[tactic(auto, unfolding(crate::specs::Calls::call_in, crate::specs::Readers::and_then))]
+fn call(alloc: Global, name: &str, words: &mut Words) -> Result<Call, Refusal>
+    ensures { Gives (λ c. (c, words.new)) result (call_in calls name.now words.old) }
 {
     match name {
         "fork" => Ok(Call::Fork(names::name(alloc, words)?)),
@@ -62,9 +63,9 @@ fn call(alloc: Global, name: &str, words: &mut Words) -> Result<Call, ScriptErro
 }
 
 /// The same of a call that isn't about a process.
-#[tactic(auto, unfolding(crate::specs::Calls::call_named_in, crate::specs::Readers::and_then))]
-fn file_call(alloc: Global, name: &str, words: &mut Words) -> Result<Call, ScriptError>
-    ensures { Gives (λ c. (c, words.new)) result (call_named_in (file_calls ++ channel_calls ++ module_calls) name.now words.old) }
+#[tactic(auto, unfolding(crate::specs::Calls::call_in, crate::specs::Readers::and_then))]
+fn file_call(alloc: Global, name: &str, words: &mut Words) -> Result<Call, Refusal>
+    ensures { Gives (λ c. (c, words.new)) result (call_in (file_calls ++ channel_calls ++ module_calls) name.now words.old) }
 {
     match name {
         "exec" => Ok(Call::Exec(names::path(alloc, words)?)),
@@ -81,9 +82,9 @@ fn file_call(alloc: Global, name: &str, words: &mut Words) -> Result<Call, Scrip
 }
 
 /// The same of a call that is about no file either.
-#[tactic(auto, unfolding(crate::specs::Calls::call_named_in, crate::specs::Readers::and_then))]
-fn channel_call(alloc: Global, name: &str, words: &mut Words) -> Result<Call, ScriptError>
-    ensures { Gives (λ c. (c, words.new)) result (call_named_in (channel_calls ++ module_calls) name.now words.old) }
+#[tactic(auto, unfolding(crate::specs::Calls::call_in, crate::specs::Readers::and_then))]
+fn channel_call(alloc: Global, name: &str, words: &mut Words) -> Result<Call, Refusal>
+    ensures { Gives (λ c. (c, words.new)) result (call_in (channel_calls ++ module_calls) name.now words.old) }
 {
     match name {
         "pipe" => Ok(Call::Pipe(names::name(alloc, words)?)),
@@ -99,25 +100,35 @@ fn channel_call(alloc: Global, name: &str, words: &mut Words) -> Result<Call, Sc
 }
 
 /// The same of a call that is about the modules.
-#[tactic(auto, unfolding(crate::specs::Calls::call_named_in, crate::specs::Readers::and_then))]
-fn module_call(alloc: Global, name: &str, words: &mut Words) -> Result<Call, ScriptError>
-    ensures { Gives (λ c. (c, words.new)) result (call_named_in module_calls name.now words.old) }
+#[tactic(auto, unfolding(crate::specs::Calls::call_in, crate::specs::Readers::and_then))]
+fn module_call(alloc: Global, name: &str, words: &mut Words) -> Result<Call, Refusal>
+    ensures { Gives (λ c. (c, words.new)) result (call_in module_calls name.now words.old) }
 {
     match name {
         "kldstat" => Ok(Call::Kldstat),
         "kldload" => Ok(Call::Kldload(parts::word(alloc, words)?)),
         "kldunload" => Ok(Call::Kldunload(parts::word(alloc, words)?)),
-        _ => Err(ScriptError::NotYet),
+        _ => Err(faulty(ScriptFault::UnknownWord)),
     }
 }
 
-/// A call with its arguments, after which the row must end.
-#[tactic(auto, unfolding(crate::specs::Calls::call_line, crate::specs::Readers::and_then))]
-pub fn call_line(alloc: Global, words: &mut Words) -> Result<Call, ScriptError>
-    ensures { Gives (λ c. c) result (call_line words.old) }
+/// The call of that name with its arguments, after which the line must end.
+#[tactic(auto, unfolding(crate::specs::Calls::call_named, crate::specs::Readers::and_then))]
+pub fn call_named(alloc: Global, name: &str, words: &mut Words) -> Result<Call, Refusal>
+    ensures { Gives (λ c. c) result (call_named name.now words.old) }
 {
-    let name = words.next().ok_or(ScriptError::NotYet)?;
     let call = call(alloc, name, words)?;
     parts::no_more(words)?;
     Ok(call)
+}
+
+/// A call with its arguments, after which the line must end.
+#[tactic(auto, unfolding(crate::specs::Calls::call_words))]
+pub fn call_words(alloc: Global, words: &mut Words) -> Result<Call, Refusal>
+    ensures { Gives (λ c. c) result (call_words words.old) }
+{
+    match words.next() {
+        None => Err(faulty(ScriptFault::Missing)),
+        Some(name) => call_named(alloc, name, words),
+    }
 }

@@ -1,50 +1,82 @@
-//! The lines of a script: boots, files, tasks and their lines.
+//! The words of each kind of line. What they ask for is judged afterwards.
 #![tactic(auto, unfolding(crate::specs::Readers::and_then))]
 
-ghost use Rattle.std.specs.Prelude.{◌≡◌, ◌≤◌, [], ◌∷◌, length, Ok};
+ghost use Rattle.std.specs.Prelude.{◌≡◌};
 ghost use Rattle.mf_script.specs.Readers.{Gives};
-ghost use Rattle.mf_script.specs.Lines.{boot_line, file_line, file_text, task_line, line_of};
+ghost use Rattle.mf_script.specs.Lines.{boot_words, file_text, file_words, task_words, line_words, kind_of, step_words};
 
-use crate::error::ScriptError;
+use crate::error::ScriptFault;
+use crate::refusal::{Refusal, faulty};
 use crate::{Words, calls, names, parts};
-use mf_calls::{Bytes, CONTENT_LIMIT, FileLine, Line, Listing, Task};
+use mf_calls::{Bytes, Line, Name, Path, SCRIPT_LIMIT, Step, StepKind, Word};
 use mf_cred::{Cred, FileView};
-use mf_errno::Module;
-use mf_item::Kind;
 use std::alloc::Global;
 
-/// The rest of a boot line, after the word `boot`.
-#[tactic(auto, unfolding(crate::specs::Lines::boot_line, crate::specs::Readers::and_then))]
-pub fn boot_line(words: &mut Words) -> Result<Module, ScriptError>
-    ensures { Gives (λ m. m) result (boot_line words.old) }
-{
-    let booted = parts::module(words)?;
-    parts::no_more(words)?;
-    Ok(booted)
+/// The words of a file line. Its label isn't read yet.
+#[derive(Drop)]
+pub struct FileWords {
+    pub path: Path,
+    pub file: FileView,
+    pub label: Word,
+    pub text: Bytes<SCRIPT_LIMIT>,
 }
 
-/// The rest of a file line, after the word `file`.
-#[tactic(auto, unfolding(crate::specs::Lines::file_line, crate::specs::Readers::and_then))]
-pub fn file_line(
-    alloc: Global,
-    boots: &[Module],
-    words: &mut Words,
-) -> Result<FileLine, ScriptError>
-    ensures { Gives (λ f. f) result (file_line boots.now words.old) }
+/// The words of a task line. Its label isn't read yet.
+#[derive(Drop)]
+pub struct TaskWords {
+    pub name: Name,
+    pub cred: Cred,
+    pub label: Word,
+}
+
+/// The words behind `boot`: the name of a module.
+#[tactic(auto, unfolding(crate::specs::Lines::boot_words, crate::specs::Readers::and_then))]
+pub fn boot_words(alloc: Global, words: &mut Words) -> Result<Word, Refusal>
+    ensures { Gives (λ name. name) result (boot_words words.old) }
+{
+    let name = parts::word(alloc, words)?;
+    parts::no_more(words)?;
+    Ok(name)
+}
+
+/// The text of a file line, where it has one. A directory has none.
+#[tactic(auto, unfolding(crate::specs::Lines::file_text, crate::specs::Parts::field, crate::specs::Readers::and_then))]
+fn file_text(alloc: Global, dir: bool, words: &mut Words) -> Result<Bytes<SCRIPT_LIMIT>, Refusal>
+    ensures { Gives (λ text. (text, words.new)) result (file_text dir words.old) }
+{
+    match words.next() {
+        None => Ok(Bytes::new(alloc)),
+        Some(word) => {
+            if word != "text" {
+                return Err(faulty(if dir {
+                    ScriptFault::Extra
+                } else {
+                    ScriptFault::UnknownWord
+                }));
+            }
+            if dir {
+                return Err(faulty(ScriptFault::UnknownWord));
+            }
+            let text = parts::text(alloc, words)?;
+            Ok(text)
+        }
+    }
+}
+
+/// The words behind `file`.
+#[tactic(auto, unfolding(crate::specs::Lines::file_words, crate::specs::Readers::and_then))]
+pub fn file_words(alloc: Global, words: &mut Words) -> Result<FileWords, Refusal>
+    ensures { Gives (λ f. f) result (file_words words.old) }
 {
     let path = names::path(alloc, words)?;
     let dir = parts::is_directory(words)?;
-    parts::fixed(words, "uid")?;
-    let uid = parts::number(words)?;
-    parts::fixed(words, "gid")?;
-    let gid = parts::number(words)?;
-    parts::fixed(words, "mode")?;
-    let mode = parts::mode(words)?;
-    parts::fixed(words, "label")?;
-    let label = parts::request(Kind::Vnode, boots, words)?;
+    let uid = parts::number_field(words, "uid")?;
+    let gid = parts::number_field(words, "gid")?;
+    let mode = parts::mode_field(words, "mode")?;
+    let label = parts::word_field(alloc, words, "label")?;
     let text = file_text(alloc, dir, words)?;
     parts::no_more(words)?;
-    Ok(FileLine {
+    Ok(FileWords {
         path,
         file: FileView {
             uid,
@@ -57,45 +89,17 @@ pub fn file_line(
     })
 }
 
-/// The text of a file line, where it has one. A directory has none.
-#[tactic(auto, unfolding(crate::specs::Lines::file_text, crate::specs::Readers::and_then))]
-fn file_text(
-    alloc: Global,
-    dir: bool,
-    words: &mut Words,
-) -> Result<Bytes<CONTENT_LIMIT>, ScriptError>
-    ensures { Gives (λ t. (t, words.new)) result (file_text dir words.old) }
+/// The words behind `task`.
+#[tactic(auto, unfolding(crate::specs::Lines::task_words, crate::specs::Readers::and_then))]
+pub fn task_words(alloc: Global, words: &mut Words) -> Result<TaskWords, Refusal>
+    ensures { Gives (λ t. t) result (task_words words.old) }
 {
-    if dir {
-        return Ok(Bytes::new(alloc));
-    }
-    match words.next() {
-        None => Ok(Bytes::new(alloc)),
-        Some(word) => {
-            if word != "text" {
-                return Err(ScriptError::NotYet);
-            }
-            let text = parts::content(alloc, words)?;
-            Ok(text)
-        }
-    }
-}
-
-/// The task of a task line, which has no lines yet.
-#[tactic(auto, unfolding(crate::specs::Lines::task_line, crate::specs::Readers::and_then))]
-pub fn task_line(alloc: Global, boots: &[Module], words: &mut Words) -> Result<Task, ScriptError>
-    ensures { Gives (λ t. t) result (task_line boots.now words.old) }
-{
-    parts::fixed(words, "task")?;
     let name = names::name(alloc, words)?;
-    parts::fixed(words, "uid")?;
-    let uid = parts::number(words)?;
-    parts::fixed(words, "gid")?;
-    let groups = parts::groups(words)?;
-    parts::fixed(words, "label")?;
-    let label = parts::request(Kind::Process, boots, words)?;
+    let uid = parts::number_field(words, "uid")?;
+    let groups = parts::groups_field(words, "gid")?;
+    let label = parts::word_field(alloc, words, "label")?;
     parts::no_more(words)?;
-    Ok(Task {
+    Ok(TaskWords {
         name,
         cred: Cred {
             uid,
@@ -104,16 +108,51 @@ pub fn task_line(alloc: Global, boots: &[Module], words: &mut Words) -> Result<T
             groups,
         },
         label,
-        lines: Listing::new(alloc),
     })
 }
 
-/// A line of a task: a call, and the child that makes it where the line names one.
-#[tactic(auto, unfolding(crate::specs::Lines::line_of, crate::specs::Readers::and_then))]
-pub fn line(alloc: Global, words: &mut Words) -> Result<Line, ScriptError>
-    ensures { Gives (λ l. l) result (line_of words.old) }
+/// A line of a task, by its first word: a call, and the child that makes it where the line names one.
+#[tactic(auto, unfolding(crate::specs::Lines::line_words, crate::specs::Readers::and_then))]
+pub fn line_words(alloc: Global, first: &str, words: &mut Words) -> Result<Line, Refusal>
+    ensures { Gives (λ l. l) result (line_words first.now words.old) }
 {
-    let child = names::child(alloc, words)?;
-    let call = calls::call_line(alloc, words)?;
-    Ok(Line { child, call })
+    match names::behind(first, '@') {
+        None => {
+            let call = calls::call_named(alloc, first, words)?;
+            Ok(Line { child: None, call })
+        }
+        Some(name) => {
+            let child = names::name_of(alloc, name)?;
+            let call = calls::call_words(alloc, words)?;
+            Ok(Line {
+                child: Some(child),
+                call,
+            })
+        }
+    }
+}
+
+#[tactic(auto, unfolding(crate::specs::Lines::kind_of))]
+fn kind_of(word: &str) -> Result<StepKind, Refusal>
+    ensures { Gives (λ kind. kind) result (kind_of word.now) }
+{
+    match word {
+        "enter" => Ok(StepKind::Enter),
+        "plan" => Ok(StepKind::Plan),
+        "done" => Ok(StepKind::Done),
+        "leave" => Ok(StepKind::Leave),
+        "change" => Ok(StepKind::Change),
+        _ => Err(faulty(ScriptFault::UnknownWord)),
+    }
+}
+
+/// A step, by its first word.
+#[tactic(auto, unfolding(crate::specs::Lines::step_words, crate::specs::Readers::and_then))]
+pub fn step_words(alloc: Global, first: &str, words: &mut Words) -> Result<Step, Refusal>
+    ensures { Gives (λ step. step) result (step_words first.now words.old) }
+{
+    let kind = kind_of(first)?;
+    let task = names::name(alloc, words)?;
+    parts::no_more(words)?;
+    Ok(Step { kind, task })
 }

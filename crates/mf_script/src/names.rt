@@ -4,59 +4,42 @@
 ghost use Rattle.std.specs.Prelude.{◌≡◌, ◌≢◌, ◌<◌, ◌≤◌, ◌∷◌, MatchOption, List, ℕ};
 ghost use Rattle.mf_calls.specs.Names.{is_process_name};
 ghost use Rattle.mf_script.specs.Readers.{Gives};
-ghost use Rattle.mf_script.specs.Parts.{word_by, name_in, child_in, process_of, with_component, components_of, behind_root, path_of};
+ghost use Rattle.mf_script.specs.Parts.{word_by, name_of, process_of, with_component, components_of, behind_root, path_of};
 
 use crate::Words;
-use crate::error::ScriptError;
+use crate::error::ScriptFault;
 use crate::parts::split_at;
+use crate::refusal::{Refusal, faulty};
 use mf_calls::{Name, PATH_LIMIT, Path, is_component, is_name};
 use std::alloc::Global;
 
-#[tactic(auto, unfolding(crate::specs::Parts::name_in, crate::specs::Readers::and_then))]
-fn name_in(alloc: Global, word: &str) -> Result<Name, ScriptError>
-    ensures { Gives (λ n. n) result (name_in word.now) }
+/// The name that the word spells.
+#[tactic(auto, unfolding(crate::specs::Parts::name_of, crate::specs::Readers::and_then))]
+pub fn name_of(alloc: Global, word: &str) -> Result<Name, Refusal>
+    ensures { Gives (λ n. n) result (name_of word.now) }
 {
     if !is_name(word) {
-        return Err(ScriptError::NotYet);
+        return Err(faulty(ScriptFault::BadPath));
     }
     let name = Name::from_str(alloc, word)?;
     Ok(name)
 }
 
 /// A name of a task, a child, a pipe or a socket.
-pub fn name(alloc: Global, words: &mut Words) -> Result<Name, ScriptError>
-    ensures { Gives (λ n. (n, words.new)) result (word_by name_in words.old) }
+pub fn name(alloc: Global, words: &mut Words) -> Result<Name, Refusal>
+    ensures { Gives (λ n. (n, words.new)) result (word_by name_of words.old) }
 {
-    let word = words.next().ok_or(ScriptError::NotYet)?;
-    let name = name_in(alloc, word)?;
+    let word = words.next().ok_or(faulty(ScriptFault::Missing))?;
+    let name = name_of(alloc, word)?;
     Ok(name)
 }
 
 /// The text after the first character, where that is `first`.
-fn behind(word: &str, first: char) -> Option<&str>
+pub fn behind(word: &str, first: char) -> Option<&str>
     requires { first < 128 }
     ensures { MatchOption result ((rest : List ℕ) → word.now ≢ first ∷ rest) (λ rest. word.now ≡ first ∷ rest.now) }
 {
     word.strip_prefix(first)
-}
-
-/// The child that the next word names, where it begins with `@`.
-#[tactic(auto, unfolding(crate::specs::Parts::child_in, crate::specs::Readers::and_then))]
-pub fn child(alloc: Global, words: &mut Words) -> Result<Option<Name>, ScriptError>
-    ensures { Gives (λ child. (child, words.new)) result (child_in words.old) }
-{
-    let mut ahead = words.ahead();
-    match ahead.next() {
-        None => Ok(None),
-        Some(word) => match behind(word, '@') {
-            None => Ok(None),
-            Some(name) => {
-                let child = name_in(alloc, name)?;
-                *words = ahead;
-                Ok(Some(child))
-            }
-        },
-    }
 }
 
 fn is_process_name(word: &str) -> bool
@@ -72,31 +55,31 @@ fn is_process_name(word: &str) -> bool
 }
 
 #[tactic(auto, unfolding(crate::specs::Parts::process_of, crate::specs::Readers::and_then))]
-fn process_of(alloc: Global, word: &str) -> Result<Name, ScriptError>
+fn process_of(alloc: Global, word: &str) -> Result<Name, Refusal>
     ensures { Gives (λ n. n) result (process_of word.now) }
 {
     if !is_process_name(word) {
-        return Err(ScriptError::NotYet);
+        return Err(faulty(ScriptFault::BadPath));
     }
     let name = Name::from_str(alloc, word)?;
     Ok(name)
 }
 
 /// The full name of a process.
-pub fn process(alloc: Global, words: &mut Words) -> Result<Name, ScriptError>
+pub fn process(alloc: Global, words: &mut Words) -> Result<Name, Refusal>
     ensures { Gives (λ n. (n, words.new)) result (word_by process_of words.old) }
 {
-    let word = words.next().ok_or(ScriptError::NotYet)?;
+    let word = words.next().ok_or(faulty(ScriptFault::Missing))?;
     let process = process_of(alloc, word)?;
     Ok(process)
 }
 
 #[tactic(auto, unfolding(crate::specs::Parts::with_component, crate::specs::Readers::and_then))]
-fn add_component(alloc: Global, path: &mut Path, word: &str) -> Result<(), ScriptError>
+fn add_component(alloc: Global, path: &mut Path, word: &str) -> Result<(), Refusal>
     ensures { Gives (λ u. path.new) result (with_component path.old word.now) }
 {
     if path.as_slice().len() >= PATH_LIMIT || !is_component(word) {
-        return Err(ScriptError::NotYet);
+        return Err(faulty(ScriptFault::BadPath));
     }
     let component = Name::from_str(alloc, word)?;
     path.push(component)?;
@@ -112,7 +95,7 @@ fn room_for(word: &str) -> usize
 }
 
 #[tactic(auto, unfolding(crate::specs::Parts::components_of))]
-fn components_of(alloc: Global, word: &str) -> Result<Path, ScriptError>
+fn components_of(alloc: Global, word: &str) -> Result<Path, Refusal>
     ensures { Gives (λ path. path) result (components_of word.now) }
 {
     let mut path = Path::with_room(alloc, room_for(word))?;
@@ -131,7 +114,7 @@ fn components_of(alloc: Global, word: &str) -> Result<Path, ScriptError>
 
 /// The path whose text after its first slash this is.
 #[tactic(auto, unfolding(crate::specs::Parts::behind_root))]
-fn behind_root(alloc: Global, word: &str) -> Result<Path, ScriptError>
+fn behind_root(alloc: Global, word: &str) -> Result<Path, Refusal>
     ensures { Gives (λ path. path) result (behind_root word.now) }
 {
     if word.is_empty() {
@@ -142,11 +125,11 @@ fn behind_root(alloc: Global, word: &str) -> Result<Path, ScriptError>
 }
 
 #[tactic(auto, unfolding(crate::specs::Parts::path_of, crate::specs::Readers::and_then))]
-fn path_of(alloc: Global, word: &str) -> Result<Path, ScriptError>
+fn path_of(alloc: Global, word: &str) -> Result<Path, Refusal>
     ensures { Gives (λ p. p) result (path_of word.now) }
 {
     match behind(word, '/') {
-        None => Err(ScriptError::NotYet),
+        None => Err(faulty(ScriptFault::BadPath)),
         Some(word) => {
             let path = behind_root(alloc, word)?;
             Ok(path)
@@ -155,10 +138,10 @@ fn path_of(alloc: Global, word: &str) -> Result<Path, ScriptError>
 }
 
 /// An absolute path.
-pub fn path(alloc: Global, words: &mut Words) -> Result<Path, ScriptError>
+pub fn path(alloc: Global, words: &mut Words) -> Result<Path, Refusal>
     ensures { Gives (λ p. (p, words.new)) result (word_by path_of words.old) }
 {
-    let word = words.next().ok_or(ScriptError::NotYet)?;
+    let word = words.next().ok_or(faulty(ScriptFault::Missing))?;
     let path = path_of(alloc, word)?;
     Ok(path)
 }

@@ -2,7 +2,7 @@
 use Rattle.std.specs.Prelude.{◌≡◌, ℕ, ◌+◌, ◌<◌, Bool, true, false, List, [], length, slice_get, slice_index_or}
 use Rattle.std.specs.List.{sum_by}
 use Rattle.mf_calls.specs.declared.script.Script.{Script}
-use Rattle.mf_calls.specs.WellFormed.{lines_of}
+use Rattle.mf_calls.specs.Tasks.{lines_of}
 use Rattle.mf_core.specs.declared.progress.Commit.{Commit}
 use Rattle.mf_core.specs.declared.progress.Commit.TheVariants as commit
 use Rattle.mf_core.specs.declared.progress.ChangeOutcome.{ChangeOutcome}
@@ -14,7 +14,7 @@ use Rattle.mf_core.specs.CoreView.{CoreView, lines_at, turn_at}
 
 -- the script without lines
 abbrev pub no_script : Script
-no_script = record { boots = []; files = []; tasks = [] }
+no_script = record { boots = []; files = []; tasks = []; steps = [] }
 
 pub record PassView : Type 0 where
   pub task : ℕ

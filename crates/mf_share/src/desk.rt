@@ -1,9 +1,12 @@
 //! The value behind the kernel's lock: the core, with the books of lines done and of open entries.
-ghost use Rattle.std.specs.Prelude.{◌≡◌, ◌<◌, true, false, IfOk, IfErr, IfNone, IfSome, IsTrue, OnErr, Some};
+ghost use Rattle.std.specs.Prelude.{◌≡◌, ◌<◌, true, false, IfOk, IsOk, IfErr, IfNone, IfSome, IsTrue, OnErr, Some};
+ghost use Rattle.mf_plan.specs.declared.reply.Payload.TheVariants as payload;
+ghost use Rattle.mf_plan.specs.declared.reply.Reply.{Reply};
+ghost use Rattle.mf_step.specs.Reply.{is_done, reply_to};
 ghost use Rattle.mf_step.specs.Verdict.{verdict_of};
 ghost use Rattle.mf_core.specs.declared.history.Event.TheVariants as event;
 ghost use Rattle.mf_core.specs.declared.progress.Turn.TheVariants as turn;
-ghost use Rattle.mf_core.specs.LegalHistory.{next_plan, with_event};
+ghost use Rattle.mf_core.specs.LegalHistory.{next_plan, next_reply, with_event};
 ghost use Rattle.mf_core.specs.Policies.{StaysWhileWaiting};
 ghost use Rattle.mf_core.specs.CoreView.{specs_of, run_state, open_of, Changes, Commits};
 ghost use Rattle.mf_share.specs.Passes.{AgreesWithPass, AgreesWithTicket, pass_changed, pass_left, pass_turn, ticket_after, ticket_for};
@@ -93,7 +96,8 @@ impl<'s, J: Job, B: Ledger> Desk<'s, J, B> {
     }
 
     /// Commits the ticket's call, as `Core::done` does. None where the core doesn't agree with the ticket; then, and if
-    /// memory runs out, nothing changes. While the ticket is at hand, an entry is open.
+    /// memory runs out, nothing changes. A call that is denied or refused takes no memory. While the ticket is at hand, an
+    /// entry is open.
     pub fn commit<P: Policy>(
         &mut self,
         alloc: Global,
@@ -110,6 +114,7 @@ impl<'s, J: Job, B: Ledger> Desk<'s, J, B> {
             × (ticket.new ≡ ticket_after commit ticket.old))) }
         ensures none { IfOk result (λ found. IfNone found (¬ AgreesWithTicket self.old ticket.old × (self.new ≡ self.old) × (ticket.new ≡ ticket.old))) }
         ensures err { OnErr result (AgreesWithTicket self.old ticket.old × (self.new ≡ self.old) × (ticket.new ≡ ticket.old)) }
+        ensures memory { is_done (reply_to plan.now verdict.now payload.None) ≡ false → IsOk result }
     {
         self.busy.audit(&mut ticket.busy);
         let task = ticket.task;
@@ -167,7 +172,7 @@ impl<'s, J: Job, B: Ledger> Desk<'s, J, B> {
 
     /// Makes the change of the pass's next line, as `Core::change` does. None where the core doesn't agree with the
     /// pass, or the listed specs aren't the core's; then nothing changes. If memory runs out the pass is stopped, and
-    /// nothing else changes.
+    /// nothing else changes. A change that is denied or refused takes no memory.
     pub fn change<P: Policy>(
         &mut self,
         alloc: Global,
@@ -187,6 +192,7 @@ impl<'s, J: Job, B: Ledger> Desk<'s, J, B> {
         ensures err { OnErr result (AgreesWithPass self.old pass.old
             × (policies.old.list.entries ≡ specs_of self.old)
             × (self.new ≡ self.old) × (policies.new ≡ policies.old) × (pass.new ≡ record pass.old { stopped = true })) }
+        ensures memory { (reply : Reply) → next_reply self.old.script (run_state self.old) pass.old.task ≡ Some reply → is_done reply ≡ false → IsOk result }
     {
         let task = pass.task;
         let lines = pass.lines;

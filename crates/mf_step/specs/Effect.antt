@@ -1,4 +1,4 @@
--- What a call changes where it is done.
+-- What a call changes where it is done, by docs/MANUAL.md (CALLS).
 use Rattle.std.specs.Prelude.{ℕ, Bool, true, false, List, [], drop, Option, Some, None}
 use Rattle.mf_errno.specs.Module.{module_named}
 use Rattle.mf_errno.specs.declared.module.Module.{Module}
@@ -49,16 +49,12 @@ new_file objects maker dir mode is_dir =
 abbrev pub with_file : State → Id → ℕ → Bool → List ℕ → Target → State
 with_file s maker mode is_dir name (Name dir None) =
     with_created s maker kinds.Vnode name (new_vnode dir (new_file s.objects maker dir mode is_dir) [])
-with_file s maker mode is_dir name (Name dir (Some id)) = s
-with_file s maker mode is_dir name Root = s
-with_file s maker mode is_dir name (Nowhere errno) = s
+with_file s maker mode is_dir name other = s
 
 -- without an entry of a directory; no plan that may be done leads elsewhere
 abbrev pub without_entry : State → Target → State
 without_entry s (Name dir (Some id)) = with_objects s (without (has_id id) s.objects)
-without_entry s (Name dir None) = s
-without_entry s Root = s
-without_entry s (Nowhere errno) = s
+without_entry s other = s
 
 -- Modules
 
@@ -82,30 +78,20 @@ with_unloaded s (Some m) = record s { specs = entries_without m s.specs }
 abbrev pub effect_of : State → List ℕ → Id → Call → State
 effect_of s task caller (call.Fork child) = with_created s caller kinds.Process (child_name task child) (Process (cred_at s.objects caller))
 effect_of s task caller call.Exit = with_objects s (without (goes_with caller) s.objects)
-effect_of s task caller (call.See name) = s
-effect_of s task caller (call.Signal name) = s
-effect_of s task caller (call.Debug name) = s
-effect_of s task caller (call.Sched name) = s
-effect_of s task caller (call.Exec path) = s
 effect_of s task caller (call.Create path) = with_file s caller FILE_MODE false (last_name path) (lookup_along s.objects path).target
 effect_of s task caller (call.Mkdir path) = with_file s caller DIRECTORY_MODE true (last_name path) (lookup_along s.objects path).target
-effect_of s task caller (call.Read path) = s
 effect_of s task caller (call.Write path text) = with_changed s (appended text) (file_at_path s.objects path)
-effect_of s task caller (call.Stat path) = s
-effect_of s task caller (call.Readdir path) = s
 effect_of s task caller (call.Chmod path mode) = with_changed s (with_mode mode) (file_at_path s.objects path)
 effect_of s task caller (call.Unlink path) = without_entry s (lookup_along s.objects path).target
 effect_of s task caller (call.Pipe name) = with_created s caller kinds.Pipe name (new_pipe caller)
 effect_of s task caller (call.Socket name) = with_created s caller kinds.Socket name (new_socket caller)
 effect_of s task caller (call.Pread name) = with_changed s cleared (pipe_named s.objects name)
 effect_of s task caller (call.Pwrite name text) = with_changed s (appended text) (pipe_named s.objects name)
-effect_of s task caller (call.Pstat name) = s
 effect_of s task caller (call.Send from to text) = with_changed s (with_messages (with_message text)) (socket_named s.objects to)
 effect_of s task caller (call.Recv name) = with_changed s (with_messages (drop 1)) (socket_named s.objects name)
-effect_of s task caller (call.Seesock name) = s
-effect_of s task caller call.Kldstat = s
 effect_of s task caller (call.Kldload name) = with_loaded s (loadable name)
 effect_of s task caller (call.Kldunload name) = with_unloaded s (module_named name)
+effect_of s task caller other = s
 
 -- the calls whose changes take memory
 abbrev pub change_takes_memory : Call → Bool

@@ -1,4 +1,4 @@
--- The reply to a call.
+-- The reply to a call, by docs/MANUAL.md (CALLS, OUTPUT).
 use Rattle.std.specs.Prelude.{ℕ, ◌-◌, Bool, true, false, List, [], length, map, Option, Some, None, unwrap_or, option_map, slice_get, slice_index_or, if◌then◌else◌}
 use Rattle.mf_errno.specs.declared.module.Module.{Module}
 use Rattle.mf_item.specs.declared.operation.CheckOp.{CheckOp}
@@ -61,32 +61,15 @@ slot given (Some m) = payload.Slot (slot_for (wants_slot m) given)
 
 -- what the call hands back where it is done
 abbrev pub payload_of : State → Call → Payload
-payload_of s (call.Fork child) = payload.None
-payload_of s call.Exit = payload.None
-payload_of s (call.See name) = payload.None
-payload_of s (call.Signal name) = payload.None
-payload_of s (call.Debug name) = payload.None
-payload_of s (call.Sched name) = payload.None
-payload_of s (call.Exec path) = payload.None
-payload_of s (call.Create path) = payload.None
-payload_of s (call.Mkdir path) = payload.None
 payload_of s (call.Read path) = payload_of_found (head s.objects) (file_at_path s.objects path)
-payload_of s (call.Write path text) = payload.None
 payload_of s (call.Stat path) = payload_of_found (stat s.objects) (file_at_path s.objects path)
 payload_of s (call.Readdir path) = payload_of_found (names s.objects) (file_at_path s.objects path)
-payload_of s (call.Chmod path mode) = payload.None
-payload_of s (call.Unlink path) = payload.None
-payload_of s (call.Pipe name) = payload.None
-payload_of s (call.Socket name) = payload.None
 payload_of s (call.Pread name) = payload_of_found (head s.objects) (pipe_named s.objects name)
-payload_of s (call.Pwrite name text) = payload.None
 payload_of s (call.Pstat name) = payload_of_found (size s.objects) (pipe_named s.objects name)
-payload_of s (call.Send from to text) = payload.None
 payload_of s (call.Recv name) = payload_of_found (message s.objects) (socket_named s.objects name)
-payload_of s (call.Seesock name) = payload.None
 payload_of s call.Kldstat = payload.Modules (map loaded s.specs)
 payload_of s (call.Kldload name) = slot s.numbers (loadable name)
-payload_of s (call.Kldunload name) = payload.None
+payload_of s other = payload.None
 
 -- the listing of a directory takes memory
 abbrev pub payload_takes_memory : Call → Bool
@@ -119,5 +102,4 @@ refused_or (Some refusal) p = refusal
 -- neither denied nor refused
 abbrev pub is_done : Reply → Bool
 is_done (reply.Ok payload) = true
-is_done (reply.Denied errno op item by) = false
-is_done (reply.Refused errno) = false
+is_done other = false

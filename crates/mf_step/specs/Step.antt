@@ -1,4 +1,4 @@
--- One call of the sequential framework: its reply, and the state after it.
+-- One call of the sequential framework: its reply, and the state after it. That a refused call changes nothing is this model's own rule.
 use Rattle.std.specs.Prelude.{ℕ, List, Option, Some, None}
 use Rattle.mf_objects.specs.declared.id.Id.{Id}
 use Rattle.mf_calls.specs.declared.script.Call.{Call}
@@ -28,8 +28,7 @@ performed s task child call = performed_by s task call (process_named s.objects 
 -- a call that is denied or refused changes nothing
 abbrev pub after_reply : Reply → State → State → State
 after_reply (reply.Ok payload) s done = done
-after_reply (reply.Denied errno op item by) s done = s
-after_reply (reply.Refused errno) s done = s
+after_reply other s done = s
 
 -- the state after a call
 abbrev pub step_state : State → List ℕ → Option (List ℕ) → Call → State

@@ -1,4 +1,4 @@
--- The policies' verdict on a plan: the walk over its checks.
+-- The policies' verdict on a plan: the walk over its checks, of which the first that is denied ends the call, as in the kernel.
 use Rattle.std.specs.Prelude.{ℕ, ◌+◌, List, [], ◌∷◌, Option, Some, None}
 use Rattle.mf_errno.specs.declared.errno.Errno.{Errno}
 use Rattle.mf_errno.specs.declared.errno.Errno.TheVariants.{Success}

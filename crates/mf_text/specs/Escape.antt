@@ -1,4 +1,4 @@
--- Texts that stand for bytes, with escapes.
+-- Texts that stand for bytes, with escapes. The escapes are this model's own.
 use Rattle.std.specs.Prelude.{◌≡◌, ℕ, ◌+◌, ◌-◌, ◌*◌, ◌/◌, ◌%◌, ◌<◌, List, [], ◌∷◌, length, Result, Ok, Err, Bool, nat_le, ◌==◌, ◌&&◌, not, if◌then◌else◌}
 use Rattle.std.specs.List.{flat_map, AllByRecursion}
 use Rattle.std.specs.Char.{is_digit, digit_value, digit_char}

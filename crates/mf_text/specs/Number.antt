@@ -1,4 +1,4 @@
--- What a text of digits stands for, and the first fault of a text that isn't one.
+-- What a text of digits stands for, and the first fault of a text that isn't one: this model's own numbers, as docs/MANUAL.md has them.
 use Rattle.std.specs.Prelude.{ℕ, List, [], ◌∷◌, Option, Some, None, Result, Ok, Err, nat_le, ◌&&◌, not, if◌then◌else◌}
 use Rattle.std.specs.List.{position}
 use Rattle.std.specs.Char.{is_digit}

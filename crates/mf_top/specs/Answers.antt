@@ -1,7 +1,12 @@
--- What the program may return and write, and why.
+-- What the program may return and write, and why, by docs/MANUAL.md (EXIT STATUS).
 use Rattle.std.specs.Prelude.{◌≡◌, ◌⊎◌, ℕ, ◌≤◌, List, [], ◌++◌, length, Some, Option, None, IfSome, IsSomeAnd, Result, Ok, Err, codes}
+use Rattle.std.specs.Fmt.{decimal}
+use Rattle.mf_errno.specs.declared.errno.Errno.{Errno}
+use Rattle.mf_errno.specs.Errno.{text_of}
 use Rattle.mf_calls.specs.declared.script.Script.{Script}
+use Rattle.mf_script.specs.declared.error.ScriptFault.{ScriptFault}
 use Rattle.mf_script.specs.declared.error.ScriptError.TheVariants as script_error
+use Rattle.mf_script.specs.Faults.{fault_number, fault_name}
 use Rattle.mf_script.specs.Grammar.{script_of}
 use Rattle.mf_core.specs.declared.history.History.{History}
 use Rattle.mf_core.specs.LegalHistory.{IsLegal, IsComplete}
@@ -50,8 +55,8 @@ pub record IsUnread (source : Seen) : Type 0 where
 abbrev pub IsRunOutcome : Seen → Result (List ℕ) Refusal → Type 0
 IsRunOutcome source (Ok text) = HadNoFault source × IfSome source.before (λ bytes. IsRunText bytes text × (source.after ≡ Some []))
 IsRunOutcome source (Err refusal.Usage) = ⊥
-IsRunOutcome source (Err refusal.NotYet) = HadNoFault source
-    × IfSome source.before (λ bytes. (length bytes ≤ SCRIPT_LIMIT) × (script_of bytes ≡ Err script_error.NotYet) × (source.after ≡ Some []))
+IsRunOutcome source (Err (refusal.Script line fault errno)) = HadNoFault source
+    × IfSome source.before (λ bytes. (length bytes ≤ SCRIPT_LIMIT) × (script_of bytes ≡ Err (script_error.Fault line fault errno)) × (source.after ≡ Some []))
 IsRunOutcome source (Err refusal.ReadFault) = FaultsRose source
 IsRunOutcome source (Err refusal.TooLong) = HadNoFault source × IsTooLong source.before source.after
 IsRunOutcome source (Err refusal.Memory) = HadNoFault source
@@ -59,11 +64,8 @@ IsRunOutcome source (Err refusal.Memory) = HadNoFault source
 -- the summary of the load, or want of memory
 abbrev pub IsLoaded : ℕ → ℕ → Result (List ℕ) Refusal → Type 0
 IsLoaded lines tasks (Ok text) = text ≡ load_summary lines tasks
-IsLoaded lines tasks (Err refusal.Usage) = ⊥
-IsLoaded lines tasks (Err refusal.NotYet) = ⊥
-IsLoaded lines tasks (Err refusal.ReadFault) = ⊥
-IsLoaded lines tasks (Err refusal.TooLong) = ⊥
 IsLoaded lines tasks (Err refusal.Memory) = Unit {0}
+IsLoaded lines tasks other = ⊥
 
 abbrev pub IsLoadOutcome : ℕ → ℕ → Seen → Result (List ℕ) Refusal → Type 0
 IsLoadOutcome lines tasks source outcome = IsLoaded lines tasks outcome × IsUnread source
@@ -82,14 +84,24 @@ IsOutcome words source outcome = IsOutcomeOf (command_of words) source outcome
 
 abbrev pub refusal_status : Refusal → ℕ
 refusal_status refusal.Usage = 2
-refusal_status refusal.NotYet = 3
+refusal_status (refusal.Script line fault errno) = 3
 refusal_status refusal.ReadFault = 4
 refusal_status refusal.TooLong = 6
 refusal_status refusal.Memory = 9
 
+-- behind the name of a fault: the errno of a module that can't be booted
+abbrev pub errno_text : Option Errno → List ℕ
+errno_text None = []
+errno_text (Some errno) = codes " " ++ text_of errno
+
+-- the line of a script's fault
+abbrev pub fault_text : ℕ → ScriptFault → Option Errno → List ℕ
+fault_text line fault errno =
+    codes "macsim: script line " ++ decimal line ++ codes " fault " ++ decimal (fault_number fault) ++ codes " " ++ fault_name fault ++ errno_text errno ++ codes "\n"
+
 abbrev pub refusal_text : Refusal → List ℕ
 refusal_text refusal.Usage = codes "macsim: usage: run | gen N T\n"
-refusal_text refusal.NotYet = codes "macsim: script not yet\n"
+refusal_text (refusal.Script line fault errno) = fault_text line fault errno
 refusal_text refusal.ReadFault = codes "macsim: read fault\n"
 refusal_text refusal.TooLong = codes "macsim: too long\n"
 refusal_text refusal.Memory = codes "macsim: no memory\n"

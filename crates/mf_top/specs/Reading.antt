@@ -1,4 +1,4 @@
--- What the reader of a whole source has read.
+-- What the reader of a whole source has read: this model's own.
 use Rattle.std.specs.Prelude.{◌≡◌, ℕ, ◌+◌, ◌<◌, List, [], ◌++◌, length, Option, Some, IfSome, IsSomeAnd}
 use Rattle.mf_names.specs.declared.limits.TheConstants.{SCRIPT_LIMIT}
 

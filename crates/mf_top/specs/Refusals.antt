@@ -1,4 +1,4 @@
--- Which refusal an error becomes, and which is told.
+-- Which refusal an error becomes, and which is told: this model's own.
 use Rattle.std.specs.Prelude.{◌≡◌, ◌⊎◌}
 use Rattle.mf_script.specs.declared.error.ScriptError.{ScriptError}
 use Rattle.mf_script.specs.declared.error.ScriptError.TheVariants as script_error
@@ -6,6 +6,7 @@ use Rattle.mf_top.specs.declared.read.ReadError.{ReadError}
 use Rattle.mf_top.specs.declared.read.ReadError.TheVariants as read_error
 use Rattle.mf_top.specs.declared.refusal.Refusal.{Refusal}
 use Rattle.mf_top.specs.declared.refusal.Refusal.TheVariants as refusal
+use Rattle.mf_top.specs.Answers.{refusal_status}
 
 abbrev pub read_refusal : ReadError → Refusal
 read_refusal read_error.Failed = refusal.ReadFault
@@ -13,9 +14,9 @@ read_refusal read_error.TooLong = refusal.TooLong
 read_refusal read_error.Memory = refusal.Memory
 
 abbrev pub script_refusal : ScriptError → Refusal
-script_refusal script_error.NotYet = refusal.NotYet
+script_refusal (script_error.Fault line fault errno) = refusal.Script line fault errno
 script_refusal script_error.Memory = refusal.Memory
 
 -- the refusal itself is told; or memory ran out as the line was built that tells of the script
 abbrev pub IsTold : Refusal → Refusal → Type 0
-IsTold r told = (told ≡ r) ⊎ ((r ≡ refusal.NotYet) × (told ≡ refusal.Memory))
+IsTold r told = (told ≡ r) ⊎ ((refusal_status r ≡ 3) × (told ≡ refusal.Memory))

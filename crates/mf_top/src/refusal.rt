@@ -1,12 +1,13 @@
 //! Why there is no history, and no summary of a load.
-ghost use Rattle.std.specs.Prelude.{◌≡◌, IfOk, OnErr};
+ghost use Rattle.std.specs.Prelude.{◌≡◌, ◌++◌, IfOk, OnOk, OnErr, string_bytes};
 ghost use Rattle.std.specs.Cow.{cow_str_bytes};
-ghost use Rattle.mf_top.specs.Answers.{refusal_status, refusal_text};
+ghost use Rattle.mf_top.specs.Answers.{errno_text, fault_text, refusal_status, refusal_text};
 ghost use Rattle.mf_top.specs.Refusals.{IsTold};
 ghost use Rattle.mf_top.specs.declared.refusal.Refusal.TheVariants as refusal;
 
 use crate::read::ReadError;
-use mf_script::ScriptError;
+use mf_errno::Errno;
+use mf_script::{ScriptError, ScriptFault};
 use std::alloc::{AllocError, Global};
 use std::borrow::CowStr;
 use std::marker::Model;
@@ -19,8 +20,13 @@ const NO_MEMORY: &str = "macsim: no memory\n";
 pub enum Refusal {
     /// The words are none of the program's.
     Usage,
-    /// The source's bytes are no script.
-    NotYet,
+    /// The source's bytes are no script: the first faulty line, counted from 1, and its first fault, with an errno where a
+    /// module can't be booted.
+    Script {
+        line: u32,
+        fault: ScriptFault,
+        errno: Option<Errno>,
+    },
     /// A read of the source failed.
     ReadFault,
     /// The source holds more than a script may have.
@@ -36,7 +42,7 @@ impl Refusal {
     {
         match self {
             Refusal::Usage => 2,
-            Refusal::NotYet => 3,
+            Refusal::Script { .. } => 3,
             Refusal::ReadFault => 4,
             Refusal::TooLong => 6,
             Refusal::Memory => 9,
@@ -46,17 +52,47 @@ impl Refusal {
     /// The line that is written in their place. Only one that tells of the script takes memory.
     pub fn text(self, alloc: Global) -> Result<CowStr<'static>, AllocError>
         ensures text { IfOk result (λ text. cow_str_bytes text ≡ refusal_text self) }
-        ensures memory { OnErr result (self ≡ refusal.NotYet) }
+        ensures memory { OnErr result (refusal_status self ≡ 3) }
     {
         let text = match self {
             Refusal::Usage => CowStr::Borrowed("macsim: usage: run | gen N T\n"),
-            Refusal::NotYet => CowStr::Owned(format!(in alloc; "macsim: script not yet\n")?),
+            Refusal::Script { line, fault, errno } => {
+                CowStr::Owned(fault_text(alloc, line, fault, errno)?)
+            }
             Refusal::ReadFault => CowStr::Borrowed("macsim: read fault\n"),
             Refusal::TooLong => CowStr::Borrowed("macsim: too long\n"),
             Refusal::Memory => CowStr::Borrowed(NO_MEMORY),
         };
         Ok(text)
     }
+}
+
+/// The line of a script's fault.
+fn fault_text(
+    alloc: Global,
+    line: u32,
+    fault: ScriptFault,
+    errno: Option<Errno>,
+) -> Result<String, AllocError>
+    ensures { IfOk result (λ text. string_bytes text ≡ fault_text line fault errno) }
+{
+    let number = fault.number();
+    let mut text = format!(in alloc; "macsim: script line {line} fault {number} ")?;
+    text.push_str(fault.name())?;
+    push_errno(&mut text, errno)?;
+    text.push_str("\n")?;
+    Ok(text)
+}
+
+/// Appends a blank and the errno's name, where there is one.
+fn push_errno(text: &mut String, errno: Option<Errno>) -> Result<(), AllocError>
+    ensures { OnOk result (string_bytes text.new ≡ string_bytes text.old ++ errno_text errno) }
+{
+    if let Some(errno) = errno {
+        text.push_str(" ")?;
+        text.push_str(errno.name())?;
+    }
+    Ok(())
 }
 
 /// A refusal with its line. Contracts see the refusal.
@@ -139,7 +175,7 @@ impl From<ScriptError> for Refusal {
 
     fn from(error: ScriptError) -> Self {
         match error {
-            ScriptError::NotYet => Refusal::NotYet,
+            ScriptError::Fault { line, fault, errno } => Refusal::Script { line, fault, errno },
             ScriptError::Memory => Refusal::Memory,
         }
     }

@@ -21,11 +21,11 @@ use std::alloc::Global;
 use std::sync::Wait;
 use std::thread::Threads;
 
-/// With the word `run` runs the script that the source holds, and writes its history and the sources at its end to the
-/// sink; with `gen N T` runs the generated load, and writes its summary. Returns the program's exit status: 0, the status
-/// of a `Refusal`, or 5 where a write failed. `words` are those after the program's name. Nothing is written before the
-/// run has ended. `modules` has a policy of each module that is built in, once, in its initial state. The tasks run side
-/// by side, and call `gate`.
+/// With the word `run` runs the script that the source holds, leaving its steps aside, and writes its history and the
+/// sources at its end to the sink; with `gen N T` runs the generated load, and writes its summary. Returns the program's
+/// exit status: 0, the status of a `Refusal`, or 5 where a write failed. `words` are those after the program's name.
+/// Nothing is written before the run has ended. `modules` has a policy of each module that is built in, once, in its
+/// initial state. The tasks run side by side, and call `gate`.
 pub fn macsim<S: Source, K: Sink, G: Gate, P: Policy, R: Threads + Wait + Sync>(
     rt: &R,
     alloc: Global,

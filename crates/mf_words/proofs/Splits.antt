@@ -1,6 +1,6 @@
 -- The first word and the first line.
-use Rattle.std.proofs.Common.{◌≡◌, ◌≢◌, ℕ, suc, ◌+◌, Bool, true, false, not, ◌==◌, List, [], ◌∷◌, take, drop, refl, ap, sym, ◌∙◌, cond, add-one}
-use Rattle.mf_words.specs.Words.{is_blank, words_in, goes_on, onto_first, lines_in, is_row, word_end, line_end}
+use Rattle.std.proofs.Common.{◌≡◌, ◌≢◌, ℕ, suc, ◌+◌, ◌≤◌, if◌then◌else◌, arith, length, Bool, true, false, not, ◌==◌, List, [], ◌∷◌, take, drop, refl, ap, sym, ◌∙◌, cond, add-one}
+use Rattle.mf_words.specs.Words.{is_blank, newline, words_in, goes_on, onto_first, lines_in, word_end, line_end}
 
 goes_on_word : (b : ℕ) (bs : List ℕ) → goes_on (b ∷ bs) ≡ true → is_blank b ≡ false
 goes_on_word b bs g = flip (is_blank b) g where
@@ -61,10 +61,6 @@ pub lines_first : (b : ℕ) (bs : List ℕ) → lines_in (b ∷ bs) ≡ take (li
 unfolding line_cut
 lines_first b bs = lines_cut b bs
 
--- a line of blanks is no row, and another is one where its first byte is no mark of a comment
-pub row_blank : (line : List ℕ) → words_in line ≡ [] → is_row (words_in line) ≡ false
-row_blank line e = ap is_row e
-
 pub split_some : (bytes word rest : List ℕ) (n : ℕ) → (bytes ≢ [] → goes_on bytes ≡ true) → n ≡ word_end bytes → word ≡ take n bytes → rest ≡ drop n bytes
     → word ≢ [] → words_in bytes ≡ word ∷ words_in rest
 split_some [] word rest n g ns ws rs some = absurd (some (ws ∙ ap (λ (k : ℕ). take k []) ns))
@@ -79,3 +75,17 @@ line_some [] line rest n some ns ls rs = absurd (some refl)
 line_some (b ∷ bs) line rest n some ns ls rs =
     lines_first b bs
     ∙ (ap (λ (k : ℕ). take k (b ∷ bs) ∷ lines_in (drop (suc k) (b ∷ bs))) (sym ns) ∙ (ap (λ (l : List ℕ). l ∷ lines_in (drop (suc n) (b ∷ bs))) (sym ls) ∙ ap (λ (r : List ℕ). line ∷ lines_in r) (ap (λ k. drop k (b ∷ bs)) (sym (add-one n)) ∙ sym rs)))
+
+-- there are no more lines than bytes
+
+onto_few : (b : ℕ) (pieces : List (List ℕ)) → length (onto_first b pieces) ≤ suc (length pieces)
+onto_few b [] = omega arith
+onto_few b (piece ∷ pieces) = omega arith
+
+pub few_lines : (bytes : List ℕ) → length (lines_in bytes) ≤ length bytes
+few_lines [] = omega arith
+few_lines (b ∷ bs) = by_test (b == newline) (few_lines bs) (onto_few b (lines_in bs)) where
+  by_test : (t : Bool) → length (lines_in bs) ≤ length bs → length (onto_first b (lines_in bs)) ≤ suc (length (lines_in bs))
+      → length (if t then [] ∷ lines_in bs else onto_first b (lines_in bs)) ≤ suc (length bs)
+  by_test true few onto = omega (arith, few)
+  by_test false few onto = omega (arith, few, onto)

@@ -1,6 +1,5 @@
--- The lines, words and rows of a text.
-use Rattle.std.specs.Prelude.{ℕ, suc, Bool, false, not, ◌||◌, ◌==◌, if◌then◌else◌, List, [], ◌∷◌, Option, Some, None, map, filter}
-use Rattle.std.specs.Str.{bytes_eq}
+-- The lines and words of a text, as docs/MANUAL.md (THE SCRIPT) has them.
+use Rattle.std.specs.Prelude.{ℕ, suc, Bool, false, not, ◌||◌, ◌==◌, if◌then◌else◌, List, [], ◌∷◌}
 
 abbrev pub tab : ℕ
 tab = 9
@@ -49,26 +48,10 @@ abbrev pub word_end : List ℕ → ℕ
 word_end [] = 0
 word_end (b ∷ bs) = if is_blank b then 0 else suc (word_end bs)
 
+-- the word begins a comment
 abbrev pub is_comment : List ℕ → Bool
 is_comment [] = false
 is_comment (b ∷ bs) = b == number_sign
 
--- a line that has words and whose first word begins no comment
-abbrev pub is_row : List (List ℕ) → Bool
-is_row [] = false
-is_row (word ∷ words) = not (is_comment word)
-
 abbrev pub Words : Type 0
 Words = List (List ℕ)
-
--- the words behind the first, where the first is that
-abbrev pub behind : List ℕ → Words → Option Words
-behind text [] = None
-behind text (w ∷ ws) = if bytes_eq w text then Some ws else None
-
-abbrev pub Rows : Type 0
-Rows = List Words
-
--- the rows of a text: the words of its lines, without those that are blank or comments
-abbrev pub rows_in : List ℕ → Rows
-rows_in bytes = filter is_row (map words_in (lines_in bytes))

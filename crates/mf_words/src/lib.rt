@@ -1,6 +1,6 @@
-//! The words of a line, and the rows of a text.
+//! The words of a line, and the lines of a text.
 #![tactic(auto)]
 
 mod words;
 
-pub use words::{Rows, Words};
+pub use words::{Lines, Words, is_comment};

@@ -1,7 +1,7 @@
-//! The words of a line and the rows of a text, one after another.
-ghost use Rattle.std.specs.Prelude.{◌≡◌, ◌≢◌, ◌≤◌, ◌<◌, ◌+◌, [], ◌∷◌, length, take, drop, MatchOption, IfSome, false, true, Some, None};
+//! The words of a line and the lines of a text, one after another.
+ghost use Rattle.std.specs.Prelude.{◌≡◌, ◌≢◌, ◌≤◌, ◌<◌, ◌+◌, [], ◌∷◌, length, drop, MatchOption, IfSome, true};
 ghost use Rattle.std.specs.Str.{IsAscii};
-ghost use Rattle.mf_words.specs.Words.{is_blank, lines_in, words_in, rows_in, is_row, goes_on, word_end, line_end, behind};
+ghost use Rattle.mf_words.specs.Words.{is_blank, is_comment, lines_in, words_in, goes_on, word_end, line_end};
 
 use std::marker::Model;
 
@@ -31,22 +31,6 @@ impl<'a, const MOST: usize> Words<'a, MOST> {
         ensures { result ≡ words_in line.now }
     {
         Words { rest: line }
-    }
-
-    /// A copy, to look ahead with.
-    pub fn ahead(&self) -> Words<'a, MOST>
-        ensures { result ≡ self.now }
-    {
-        Words { rest: self.rest }
-    }
-
-    /// The words after the first, where the first is `text`.
-    pub fn behind(&self, text: &str) -> Option<Words<'a, MOST>>
-        ensures { result ≡ behind text.now self.now }
-    {
-        let mut ahead = self.ahead();
-        let word = ahead.next()?;
-        if word == text { Some(ahead) } else { None }
     }
 
     /// The next word, where there is one.
@@ -139,7 +123,6 @@ fn split_line(bytes: &[u8]) -> (&[u8], &[u8])
     ensures lines { lines_in bytes.now ≡ result.0.now ∷ lines_in result.1.now }
     ensures less { length result.1.now < length bytes.now }
     ensures most { length result.0.now ≤ length bytes.now }
-    ensures ascii { IsAscii bytes.now → IsAscii result.0.now × IsAscii result.1.now }
 {
     let end = line_len(bytes);
     (&bytes[..end], behind_newline(bytes, end))
@@ -158,76 +141,53 @@ fn behind_newline(bytes: &[u8], end: usize) -> &[u8]
     }
 }
 
-/// The remaining rows of a text of at most `MOST` bytes. A row is a line that has a word, and whose first word doesn't begin with `#`.
-/// Contracts see them as lists of words.
+/// The remaining lines of a text of at most `MOST` bytes, each without its newline. Contracts see their list.
 #[derive(Drop)]
-pub struct Rows<'a, const MOST: usize> {
+pub struct Lines<'a, const MOST: usize> {
     rest: &'a [u8],
 }
 
-impl<'a, const MOST: usize> Model for Rows<'a, MOST> {
+impl<'a, const MOST: usize> Model for Lines<'a, MOST> {
     ghost use Rattle.std.specs.Prelude.{List, ℕ, ◌≤◌, length};
-    ghost use Rattle.std.specs.Str.{IsAscii};
-    ghost use Rattle.mf_words.specs.Words.{rows_in};
+    ghost use Rattle.mf_words.specs.Words.{lines_in};
 
-    ghost Value = { List (List (List ℕ)) };
+    ghost Value = { List (List ℕ) };
 
-    ghost view = { λ r. rows_in r.rest.now };
+    ghost view = { λ l. lines_in l.rest.now };
 
-    ghost invariant = { λ r. IsAscii r.rest.now × (length r.rest.now ≤ MOST) };
+    ghost invariant = { λ l. length l.rest.now ≤ MOST };
 }
 
-impl<'a, const MOST: usize> Rows<'a, MOST> {
-    /// The rows of a text.
+impl<'a, const MOST: usize> Lines<'a, MOST> {
+    /// The lines of a text.
     pub fn of(bytes: &'a [u8]) -> Self
-        requires ascii { IsAscii bytes.now }
-        requires most { length bytes.now ≤ MOST }
-        ensures { result ≡ rows_in bytes.now }
+        requires { length bytes.now ≤ MOST }
+        ensures lines { result ≡ lines_in bytes.now }
+        ensures few { length result ≤ MOST }
     {
-        Rows { rest: bytes }
+        Lines { rest: bytes }
     }
 
-    /// A copy, to look ahead with.
-    pub fn ahead(&self) -> Rows<'a, MOST>
-        ensures { result ≡ self.now }
+    /// The next line, where there is one.
+    pub fn next(&mut self) -> Option<&'a [u8]>
+        ensures lines { MatchOption result ((self.old ≡ []) × (self.new ≡ [])) (λ line. self.old ≡ line.now ∷ self.new) }
+        ensures most { IfSome result (λ line. length line.now ≤ MOST) }
     {
-        Rows { rest: self.rest }
-    }
-
-    /// The next row, where there is one.
-    pub fn next(&mut self) -> Option<Words<'a, MOST>>
-        ensures { MatchOption result ((self.old ≡ []) × (self.new ≡ [])) (λ row. self.old ≡ row ∷ self.new) }
-    {
-        let (row, after) = split_row(self.rest);
-        self.rest = after;
-        row
-    }
-}
-
-/// The first row, where there is one, and the bytes after it.
-fn split_row<const MOST: usize>(bytes: &[u8]) -> (Option<Words<'_, MOST>>, &[u8])
-    requires ascii { IsAscii bytes.now }
-    requires most { length bytes.now ≤ MOST }
-    ensures row { MatchOption result.0 ((rows_in bytes.now ≡ []) × (rows_in result.1.now ≡ [])) (λ row. rows_in bytes.now ≡ row ∷ rows_in result.1.now) }
-    ensures ascii { IsAscii result.1.now }
-    ensures most { length result.1.now ≤ length bytes.now }
-{
-    let mut rest = bytes;
-    while !rest.is_empty() {
-        let (line, after) = split_line(rest);
-        rest = after;
-        if is_row(line) {
-            return (Some(Words::of(line)), rest);
+        if self.rest.is_empty() {
+            return None;
         }
+        let (line, after) = split_line(self.rest);
+        self.rest = after;
+        Some(line)
     }
-    (None, rest)
 }
 
-fn is_row(line: &[u8]) -> bool
-    ensures { result ≡ is_row (words_in line.now) }
+/// Whether the word begins a comment.
+pub fn is_comment(word: &str) -> bool
+    ensures { result ≡ is_comment word.now }
 {
-    match skip_blanks(line).first() {
+    match word.as_bytes().first() {
         None => false,
-        Some(byte) => *byte != b'#',
+        Some(byte) => *byte == b'#',
     }
 }

@@ -2,9 +2,10 @@
 ghost use Rattle.std.specs.Prelude.{◌≡◌, ◌+◌, ◌<◌, ◌↔◌, length, false, IfOk, IsOk, IfSome, IsSome, OnErr, Some};
 ghost use Rattle.mf_plan.specs.declared.plan.Tail.TheVariants.{Do};
 ghost use Rattle.mf_plan.specs.declared.reply.Payload.TheVariants as payload;
+ghost use Rattle.mf_plan.specs.declared.reply.Reply.{Reply};
 ghost use Rattle.mf_step.specs.Reply.{is_done, reply_to};
 ghost use Rattle.mf_step.specs.Verdict.{verdict_of};
-ghost use Rattle.mf_core.specs.LegalHistory.{next_found};
+ghost use Rattle.mf_core.specs.LegalHistory.{next_found, next_reply};
 ghost use Rattle.mf_core.specs.declared.progress.Turn.TheVariants as turn;
 ghost use Rattle.mf_core.specs.Policies.{AreOf, StaysWhileWaiting};
 ghost use Rattle.mf_core.specs.CoreView.{run_state, specs_of, progress_of, turn_at, open_of, done_of, lines_changed, Changes, Commits, IsCurrent, AdvancesBy, AdvancesOn};
@@ -67,7 +68,7 @@ impl<'s> Core<'s> {
 
     /// Makes the change of the task's next line. While entries are open nothing changes, and the result is `Waits` with
     /// their number. The list and the catalogue must be those that came with this core. If memory runs out, nothing
-    /// changes.
+    /// changes. A change that is denied or refused takes no memory.
     pub fn change<P: Policy>(
         &mut self,
         alloc: Global,
@@ -85,6 +86,7 @@ impl<'s> Core<'s> {
         ensures lines { IfOk result (λ outcome. done_of self.new ≡ done_of self.old + lines_changed outcome) }
         ensures waits { IfOk result (λ outcome. StaysWhileWaiting outcome list.old list.new catalogue.old catalogue.new) }
         ensures err { OnErr result ((self.new ≡ self.old) × (list.new ≡ list.old) × (catalogue.new ≡ catalogue.old)) }
+        ensures memory { (reply : Reply) → next_reply self.old.script (run_state self.old) task ≡ Some reply → is_done reply ≡ false → IsOk result }
     {
         let waiting = self.open_entries();
         if waiting > 0 {
@@ -95,7 +97,7 @@ impl<'s> Core<'s> {
         let verdict = Core::walk(list, &plan);
         let reply = self.run.reply(alloc, task, &plan, found, &verdict)?;
         let listed = self.run.listed_after(alloc, task, &reply)?;
-        self.run.follow(task, &reply, list, catalogue);
+        self.run.relist(task, &reply, list, catalogue);
         let number = self.run.lines(task) + 1;
         self.run.put(task, number, &reply, listed);
         self.history

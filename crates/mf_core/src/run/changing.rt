@@ -1,18 +1,19 @@
 //! A change of the policies in three acts: the listed specs after it are made beside those of the state, the list and the
 //! catalogue follow, and the specs are put into the state. Only the first takes memory, and it changes nothing.
-ghost use Rattle.std.specs.Prelude.{◌≡◌, ◌<◌, ℕ, List, length, true, IfOk, IfSome, IsSome, MatchOption, OnOk, OnErr, Some};
+ghost use Rattle.std.specs.Prelude.{◌≡◌, ◌<◌, ℕ, List, length, true, false, IfOk, IsOk, IfSome, IsSome, MatchOption, OnOk, OnErr, Some};
 ghost use Rattle.mf_objects.specs.declared.id.Id.{Id};
-ghost use Rattle.mf_calls.specs.WellFormed.{is_change};
+ghost use Rattle.mf_calls.specs.Tasks.{is_change};
 ghost use Rattle.mf_plan.specs.Doing.{CanDo};
 ghost use Rattle.mf_step.specs.Effect.{effect_of};
+ghost use Rattle.mf_step.specs.Reply.{is_done};
 ghost use Rattle.mf_core.specs.declared.history.Event.TheVariants as event;
 ghost use Rattle.mf_core.specs.declared.progress.Turn.TheVariants as turn;
 ghost use Rattle.mf_core.specs.LegalHistory.{after, next_reply, next_state, turn_of, MayCome};
 ghost use Rattle.mf_core.specs.Policies.{AreListedAfter, AreOf};
 
 use super::Run;
-use crate::following::follow;
 use crate::kept_reply::KeptReply;
+use crate::relisting::relist;
 use mf_calls::Call;
 use mf_list::{Catalogue, PolicyList};
 use mf_plan::State;
@@ -47,7 +48,8 @@ impl<'s> Run<'s> {
     ) -> Result<Option<SpecList>, AllocError>
         requires turn { turn_of self.now.script self.now.run.progress task ≡ turn.Change }
         requires reply { next_reply self.now.script self.now.run task ≡ Some reply.now }
-        ensures { IfOk result (AreListedAfter (next_state self.now.script self.now.run task) reply.now) }
+        ensures value { IfOk result (AreListedAfter (next_state self.now.script self.now.run task) reply.now) }
+        ensures memory { is_done reply.now ≡ false → IsOk result }
     {
         if !reply.is_done() {
             return Ok(None);
@@ -58,7 +60,7 @@ impl<'s> Run<'s> {
     }
 
     /// The list and the catalogue follow the change of the task's next line, where it is done with this reply.
-    pub(crate) fn follow<P: Policy>(
+    pub(crate) fn relist<P: Policy>(
         &self,
         task: u32,
         reply: &KeptReply,
@@ -72,7 +74,7 @@ impl<'s> Run<'s> {
     {
         if reply.is_done() {
             let line = self.line(task);
-            follow(list, catalogue, &self.state, &line.call);
+            relist(list, catalogue, &self.state, &line.call);
         }
     }
 

@@ -39,6 +39,12 @@ const RUNS: &[Case] = &[
         ..PLAIN
     },
     Case {
+        name: "steps, which a run leaves aside",
+        script: "boot mac_biba\ntask t uid 0 gid 0 label -\nend\nsteps\nenter u\nend\n",
+        text: "boot mac_biba 0\nsource biba vnode:/ high\nsource biba proc:t high\n",
+        ..PLAIN
+    },
+    Case {
         name: "an empty task and no policy",
         script: "task t uid 0 gid 0 label -\nend\n",
         text: "",
@@ -81,10 +87,38 @@ const REFUSALS: &[Case] = &[
         ..PLAIN
     },
     Case {
-        name: "no script",
-        script: "boot mac_none\n",
+        name: "no module of that name",
+        script: "boot mac_foo\n",
         status: 3,
-        text: "macsim: script not yet\n",
+        text: "macsim: script line 1 fault 12 BootRefused ENOENT\n",
+        ..PLAIN
+    },
+    Case {
+        name: "a module that is booted twice",
+        script: "boot mac_biba\nboot mac_biba\n",
+        status: 3,
+        text: "macsim: script line 2 fault 12 BootRefused EEXIST\n",
+        ..PLAIN
+    },
+    Case {
+        name: "a task without its end",
+        script: "task t uid 0 gid 0 label -\nread /a\n",
+        status: 3,
+        text: "macsim: script line 3 fault 10 NoEnd\n",
+        ..PLAIN
+    },
+    Case {
+        name: "a grade past the greatest",
+        script: "boot mac_biba\ntask t uid 0 gid 0 label biba/65536\nend\n",
+        status: 3,
+        text: "macsim: script line 2 fault 6 BadLabel\n",
+        ..PLAIN
+    },
+    Case {
+        name: "a faulty step",
+        script: "steps\nenter\nend\n",
+        status: 3,
+        text: "macsim: script line 2 fault 3 Missing\n",
         ..PLAIN
     },
 ];

@@ -1,7 +1,7 @@
 use Rattle.std.proofs.Common.{sym, subst, List, arith}
 use Rattle.std.proofs.lemmas.List.{get_or_default}
 use Rattle.mf_errno.specs.declared.module.Module.{Module}
-use Rattle.mf_calls.specs.Boots.{AreBoots}
+use Rattle.mf_calls.specs.WellFormed.{AreBoots}
 use Rattle.mf_core.proofs.Boots.{can_boot, booting_more}
 use Rattle.mf_core.proofs.booting.register_boots.Goals as goal
 

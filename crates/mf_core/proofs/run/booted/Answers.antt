@@ -1,7 +1,7 @@
 use Rattle.std.proofs.Common.{List, arith, sym, subst}
 use Rattle.std.proofs.lemmas.List.{get_or_default}
 use Rattle.mf_errno.specs.declared.module.Module.{Module}
-use Rattle.mf_calls.specs.Boots.{AreBoots}
+use Rattle.mf_calls.specs.WellFormed.{AreBoots}
 use Rattle.mf_calls.proofs.FewBoots.{few_boots}
 use Rattle.mf_core.proofs.Reached.{loaded_more}
 use Rattle.mf_core.proofs.run.booted.Goals as goal

@@ -1,15 +1,17 @@
-use Rattle.std.proofs.Common.{ap, sym, map, List, ℕ, Option, ◌∙◌}
+use Rattle.std.proofs.Common.{◌≡◌, ap, sym, subst, map, List, ℕ, Option, Some, ◌∙◌}
 use Rattle.mf_calls.specs.declared.script.Script.{Script}
 use Rattle.mf_plan.specs.Planned.{Plan}
 use Rattle.mf_plan.specs.declared.reply.Reply.{Reply}
+use Rattle.mf_plan.specs.Found.{found_of}
 use Rattle.mf_plan.specs.Names.{caller_name}
 use Rattle.mf_plan.specs.Outline.{item_of}
 use Rattle.mf_plan.specs.Plan.{plan_of}
 use Rattle.mf_plan.specs.Views.{process_named}
-use Rattle.mf_core.specs.LegalHistory.{after}
+use Rattle.mf_core.specs.declared.history.Event.{Event}
+use Rattle.mf_core.specs.LegalHistory.{after, next_found}
 use Rattle.mf_core.specs.RunView.{RunView}
 use Rattle.mf_flow.specs.Movement.{passed}
-use Rattle.mf_flow.proofs.Followed.{done_flows, done_line, passed_map}
+use Rattle.mf_flow.proofs.Followed.{done_flows, done_found, done_line, passed_map}
 use Rattle.mf_flow.proofs.following.follow.Goals as goal
 
 pub returns-in_ok-create_in_both-in-Done-clause-flows : goal.returns-in_ok-create_in_both-in-Done-clause-flows
@@ -21,9 +23,10 @@ returns-in_ok-create_in_both-in-Done-clause-flows c =
     let task = c.name_of-name.result.now in
     let line = c.line_at-line.result.now in
     done_flows s run e c.in-Done.task c.in-Done.number c.in-Done.reply state c.state.result.now task line c.args.flows.now c.move_in_both.new.flows c.create_in_both.new.flows
-    (map (item_of state.objects) c.passed-checks.result.now) c.next_id-next.result c.caller_of-caller.result
+    (map (item_of state.objects) c.passed-checks.result.now) c.next_id-next.result c.outline_of-outline.result.found.caller
     c.in-Done.is c.state-state.ensures
-    (c.state.ensures ∙ ap (λ (x : RunView). x.run.state) c.in_ok-next-in-Done.ensures.ok ∙ ap (λ (x : Script). (after x run e).state) c.requires.script)
+    (c.state.ensures ∙ ap (λ (x : RunView). x.run.state) c.in_ok-commit-in-Done.ensures.ok ∙ ap (λ (x : Event). (after c.args.run.now.script run x).state) (sym c.in-Done.is)
+    ∙ ap (λ (x : Script). (after x run e).state) c.requires.script)
     c.name_of-name.ensures
     (done_line s run e c.in-Done.task c.in-Done.number c.in-Done.reply line c.in-Done.is c.requires.may c.line_at-line.ensures)
     (ap (map (item_of state.objects)) (c.passed-checks.ensures ∙ ap (λ xs. passed c.get.result.now xs) c.as_slice.ensures.value
@@ -33,5 +36,22 @@ returns-in_ok-create_in_both-in-Done-clause-flows c =
     ∙ ap (λ (child : Option (List ℕ)). passed c.in-Done.reply (plan_of state task child line.call).items) c.child_name.ensures)
     c.in_ok-move_in_both-in-Done.ensures.moved
     c.next_id-next.ensures
-    (c.caller_of-caller.ensures.value ∙ ap (λ (child : Option (List ℕ)). process_named state.objects (caller_name task child)) c.child_name-in-Done.ensures)
+    (c.outline_of-outline.ensures.caller ∙ ap (λ (child : Option (List ℕ)). process_named state.objects (caller_name task child)) c.child_name.ensures)
     c.in_ok-create_in_both-in-Done.ensures
+
+-- what the outline found is what the call is about, where it is done
+pub commit-requires-clause-found : goal.commit-requires-clause-found
+commit-requires-clause-found c =
+    let s = c.args.script.now in
+    let run = c.args.run.now.run in
+    let e = c.args.event.now in
+    let state = c.state-state.result.now in
+    let task = c.name_of-name.result.now in
+    let line = c.line_at-line.result.now in
+    λ done. subst (λ (x : Script). next_found x run c.in-Done.task ≡ Some c.outline_of-outline.result.found) (sym c.requires.script)
+    (done_found s run e c.in-Done.task c.in-Done.number c.in-Done.reply state task line c.outline_of-outline.result.found c.in-Done.is c.requires.may
+    c.state-state.ensures c.name_of-name.ensures
+    (done_line s run e c.in-Done.task c.in-Done.number c.in-Done.reply line c.in-Done.is c.requires.may c.line_at-line.ensures)
+    (λ tail. c.outline_of-outline.ensures.found
+    (ap (λ (p : Plan). p.tail) c.outline_of-outline.ensures.plan ∙ ap (λ (child : Option (List ℕ)). (plan_of state task child line.call).tail) c.child_name.ensures ∙ tail)
+    ∙ ap (λ (child : Option (List ℕ)). found_of state task child line.call) c.child_name.ensures) done)

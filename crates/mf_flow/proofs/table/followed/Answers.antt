@@ -7,10 +7,10 @@ use Rattle.mf_flow.proofs.Listed.{slot_within}
 use Rattle.mf_flow.proofs.table.followed.Goals as goal
 
 pub opening_flow-requires : goal.opening_flow-requires
-opening_flow-requires c = slot_within c.args.script.now c.args.history.now (option_copied c.args.biba) c.requires.legal c.requires.biba
+opening_flow-requires c = slot_within c.args.script.now c.args.history.now (option_copied c.args.biba) c.requires.formed c.requires.legal c.requires.biba
 
 pub opening_flow-requires-2 : goal.opening_flow-requires-2
-opening_flow-requires-2 c = slot_within c.args.script.now c.args.history.now (option_copied c.args.mls) c.requires.legal c.requires.mls
+opening_flow-requires-2 c = slot_within c.args.script.now c.args.history.now (option_copied c.args.mls) c.requires.formed c.requires.legal c.requires.mls
 
 pub loop-event-init : goal.loop-event-init
 loop-event-init c =
@@ -19,10 +19,10 @@ loop-event-init c =
     let es = c.as_slice-event-items.result.now in
     let replay = c.in_ok-run.run' in (
       opening_replayed s h es replay c.as_slice-event-items.ensures c.requires.legal c.in_ok-run.ensures,
-      opening_flows s h (option_copied c.args.biba) es replay c.state.result.now c.in_ok-opening_flow.field-0 c.as_slice-event-items.ensures c.requires.legal c.requires.biba
-          c.in_ok-run.ensures c.state.ensures c.in_ok-opening_flow.ensures,
-      opening_flows s h (option_copied c.args.mls) es replay c.state-2.result.now c.in_ok-opening_flow-2.field-0 c.as_slice-event-items.ensures c.requires.legal c.requires.mls
-          c.in_ok-run.ensures c.state-2.ensures c.in_ok-opening_flow-2.ensures,
+      opening_flows s h (option_copied c.args.biba) es replay c.state.result.now c.in_ok-opening_flow.field-0 c.as_slice-event-items.ensures c.requires.formed
+          c.requires.legal c.requires.biba c.in_ok-run.ensures c.state.ensures c.in_ok-opening_flow.ensures,
+      opening_flows s h (option_copied c.args.mls) es replay c.state-2.result.now c.in_ok-opening_flow-2.field-0 c.as_slice-event-items.ensures c.requires.formed
+          c.requires.legal c.requires.mls c.in_ok-run.ensures c.state-2.ensures c.in_ok-opening_flow-2.ensures,
     )
 
 pub follow-requires-clause-slots : goal.follow-requires-clause-slots

@@ -1,0 +1,191 @@
+#!/usr/bin/env python3
+"""What has to be believed for the program's theorem: the definitions that its clauses reach.
+
+The names in the clauses of mf_top's public calls are followed through the `ghost use` lines of the .rt files and the `use` lines of
+crates/*/specs/*.antt, definition by definition. Types, constants and traits that the sources declare are followed by what contracts see of
+them: a type with a `Model` by its `Value`, any other by the types of its parts, a trait by the types of its ghost members. They are printed,
+and not counted. std's own definitions are neither. Not followed are the contracts of the traits that a public call is generic in, as
+`Source` and `Policy`: they are premises, which each implementation is proved to meet.
+
+The lines of a definition are its own and those of the comments in it or directly above it. Nothing else counts: no import, no blank line,
+no comment at the head of a file, and none that a blank line parts from the definition.
+
+    believed.py              prints what is reached, and fails where the reading list of docs/THEOREM.md doesn't say so
+    believed.py --write      puts files and numbers into the reading list, and keeps what each row says
+    believed.py --unreached  prints the definitions that aren't reached, and the files that have some of either
+"""
+import sys
+
+sys.dont_write_bytecode = True
+
+import definitions
+from definitions import CRATES, ROOT, SOURCES, SPECS
+
+PROGRAM = "mf_top"
+DOCUMENT = ROOT / "docs" / "THEOREM.md"
+SECTION = "## The reading list"
+TOTAL = "Together "
+
+# The specs, of a crate or single ones, that say how something is written or read as a text; all others say what is meant. A file that has
+# some of either counts as meaning.
+SYNTAX = {
+    "mf_text": "numbers and bytes as texts",
+    "mf_labeltext": "labels as texts",
+    "mf_item Operation": "the names of operations in a history's text",
+    "mf_words": "the lines and words of a text",
+    "mf_calls Names": "which texts are names",
+    "mf_script": "scripts as texts",
+    "mf_flow SourcesText": "the sources as a text",
+    "mf_load Summary": "the summary of a load as a text",
+    "mf_hist": "histories as texts",
+    "mf_top Commands": "the program's words",
+}
+
+
+def is_syntax(file):
+    return file.crate in SYNTAX or f"{file.crate} {title(file)}" in SYNTAX
+
+
+def title(file):
+    return file.file.removeprefix("specs/").removesuffix(".antt")
+
+
+# What is reached
+
+
+def reached_nodes():
+    """Every definition, type, constant and trait that the clauses reach, with what each names."""
+    reached, next_nodes = {}, list(map(definitions.settled, definitions.public_nodes(PROGRAM)))
+    while next_nodes:
+        node = next_nodes.pop()
+        if node not in reached:
+            reached[node] = set(definitions.nodes_of(node)) - {node}
+            next_nodes += reached[node]
+    return reached
+
+
+class Reached:
+    def __init__(self):
+        self.nodes = reached_nodes()
+        self.files = {file: [d for d in file.definitions.values() if self.has(file, d)] for file in SPECS.values()}
+        self.files = {file: found for file, found in self.files.items() if found}
+
+    def has(self, file, definition):
+        return definitions.Node(file.crate, file.file, definition.name) in self.nodes
+
+    def lines(self, file):
+        return sum(definition.count for definition in self.files.get(file, []))
+
+    def declared(self):
+        """Each type, constant and trait with its source, by crate, file and line."""
+        items = [(SOURCES[node[:2]], node.name) for node in self.nodes if node[:2] in SOURCES]
+        return sorted(items, key=lambda item: (CRATES.index(item[0].crate), item[0].file, item[0].line(item[1])))
+
+    def reading_order(self):
+        """The files crate by crate, and in a crate each behind those that it names."""
+        order, left = [], list(self.files)
+        while left:
+            here = {file for file in left if file.crate == left[0].crate}
+            order.append(next(file for file in left if not self.named_by(file) & here))
+            left.remove(order[-1])
+        return order
+
+    def named_by(self, file):
+        """The other files that the reached definitions of this one name."""
+        named = [node for d in self.files[file] for node in self.nodes[definitions.Node(file.crate, file.file, d.name)]]
+        return {SPECS[node[:2]] for node in named if node[:2] in SPECS} - {file}
+
+    def counts(self):
+        """How many definitions there are, and the lines of the meaning and of the syntax."""
+        syntax = sum(self.lines(file) for file in self.files if is_syntax(file))
+        return sum(map(len, self.files.values())), sum(map(self.lines, self.files)) - syntax, syntax
+
+    def print(self):
+        for file in self.reading_order():
+            for definition in self.files[file]:
+                print(f"crates/{file.crate}/{file.file}:{definition.line}: {definition.name}, {definition.count} lines")
+        for source, name in self.declared():
+            print(f"crates/{source.crate}/{source.file}:{source.line(name)}: {source.items[name][1]} {name}")
+
+
+# The reading list
+
+
+def entry(reached, file):
+    """How a row names a file: with the lines that are reached, and all, where they aren't the same."""
+    lines, whole = reached.lines(file), file.lines()
+    return title(file) if lines == whole else f"{title(file)} ({lines} of {whole})"
+
+
+def row(reached, crate, words):
+    files = [file for file in reached.reading_order() if file.crate == crate]
+    syntax = sum(reached.lines(file) for file in files if is_syntax(file))
+    meaning = sum(map(reached.lines, files)) - syntax
+    names = ", ".join(entry(reached, file) for file in files)
+    return f"| {crate} {names} | {meaning or ''} | {syntax or ''} | {words} |"
+
+
+def total(reached):
+    count, meaning, syntax = reached.counts()
+    return f"{TOTAL}{count} definitions on {meaning + syntax:,} lines, of them meaning {meaning:,}, syntax {syntax:,}."
+
+
+class ReadingList:
+    """The rows of the list, one for each crate, and the line of the total, as the document has them."""
+
+    def __init__(self):
+        self.lines = DOCUMENT.read_text().splitlines()
+        section = self.lines.index(SECTION)
+        self.places = [at for at, line in enumerate(self.lines) if at > section and line.startswith("| mf_")]
+        self.total_place = next(at for at, line in enumerate(self.lines) if at > section and line.startswith(TOTAL))
+        self.rows = [self.lines[at] for at in self.places]
+        self.words = {row.split()[1]: row.split("|")[-2].strip() for row in self.rows}
+
+    def wanted_rows(self, reached):
+        crates = list(dict.fromkeys(file.crate for file in reached.reading_order()))
+        return [row(reached, crate, self.words.get(crate, "?")) for crate in crates]
+
+    def faults(self, reached):
+        wanted = self.wanted_rows(reached)
+        yield from (f"wanted: {line}" for line in wanted if line not in self.rows)
+        yield from (f"not wanted: {line}" for line in self.rows if line not in wanted)
+        yield from (f"no words: {line}" for line in wanted if line.endswith("| ? |"))
+        if sorted(wanted) == sorted(self.rows) and wanted != self.rows:
+            yield "the rows are not in the order " + ", ".join(line.split()[1] for line in wanted)
+        if self.lines[self.total_place] != total(reached):
+            yield f"wanted: {total(reached)}"
+
+    def write(self, reached):
+        self.lines[self.total_place] = total(reached)
+        self.lines[self.places[0] : self.places[-1] + 1] = self.wanted_rows(reached)
+        DOCUMENT.write_text("\n".join(self.lines) + "\n")
+
+
+def print_unreached(reached):
+    for file in SPECS.values():
+        left = [definition for definition in file.definitions.values() if not reached.has(file, definition)]
+        for definition in left:
+            print(f"crates/{file.crate}/{file.file}:{definition.line}: {definition.name}, {definition.count} lines")
+    for file in SPECS.values():
+        if 0 < reached.lines(file) < file.lines():
+            print(f"crates/{file.crate}/{file.file}: {reached.lines(file)} of {file.lines()} lines are reached")
+
+
+def main(mode=""):
+    reached = Reached()
+    if mode == "--unreached":
+        print_unreached(reached)
+        return 0
+    if mode == "--write":
+        ReadingList().write(reached)
+    reached.print()
+    faults = list(ReadingList().faults(reached))
+    for fault in faults:
+        print(f"docs/THEOREM.md: {fault}")
+    count, meaning, syntax = reached.counts()
+    print(f"believed: {count} definitions, {meaning + syntax} lines, of them meaning {meaning}, syntax {syntax}")
+    return 1 if faults else 0
+
+
+if __name__ == "__main__":
+    sys.exit(main(*sys.argv[1:]))

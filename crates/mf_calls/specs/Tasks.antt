@@ -1,0 +1,24 @@
+-- What a script says of its tasks by their numbers, and which calls are changes, which wait until no entry is open: this model's own.
+use Rattle.std.specs.Prelude.{ℕ, Bool, true, false, List, [], unwrap_or, option_map, slice_get}
+use Rattle.mf_calls.specs.declared.script.Call.{Call}
+use Rattle.mf_calls.specs.declared.script.Call.TheVariants as call
+use Rattle.mf_calls.specs.declared.script.Line.{Line}
+use Rattle.mf_calls.specs.declared.script.Script.{Script}
+
+-- the lines of a task, where there is one of that number
+abbrev pub lines_of : Script → ℕ → List Line
+lines_of s t = unwrap_or (option_map (λ task. task.lines) (slice_get s.tasks t)) []
+
+-- the name of a task, where there is one of that number
+abbrev pub name_of : Script → ℕ → List ℕ
+name_of s t = unwrap_or (option_map (λ task. task.name) (slice_get s.tasks t)) []
+
+-- whether the call changes the list of policies, and so isn't an entry
+abbrev pub is_change : Call → Bool
+is_change (call.Kldload name) = true
+is_change (call.Kldunload name) = true
+is_change other = false
+
+-- whether the call lists the rules, which no call does yet
+abbrev pub lists_rules : Call → Bool
+lists_rules other = false

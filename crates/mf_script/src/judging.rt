@@ -1,0 +1,182 @@
+//! What the words of a line ask for, judged.
+#![tactic(auto, unfolding(crate::specs::Readers::and_then))]
+
+ghost use Rattle.std.specs.Prelude.{◌≡◌};
+ghost use Rattle.std.specs.List.{list_any};
+ghost use Rattle.mf_calls.specs.Paths.{is_directory_at, has_directory};
+ghost use Rattle.mf_script.specs.Readers.{Gives};
+ghost use Rattle.mf_script.specs.Grammar.{judged_module, judged_boot, request_of, request_for, has_path, judged_file, has_name, judged_task, with_list};
+
+use crate::error::ScriptFault;
+use crate::lines::{FileWords, TaskWords};
+use crate::refusal::{Refusal, boot_refused, faulty};
+use mf_calls::{
+    Bytes, CONTENT_LIMIT, Call, FILE_LIMIT, FileLine, Listing, Name, RULE_LIST_LIMIT, TASK_LIMIT,
+    Task, directory_of, is_booted, is_same_path, may_ask_for,
+};
+use mf_elem::Request;
+use mf_errno::{Errno, Module};
+use mf_item::Kind;
+use mf_labeltext::read_request;
+use mf_policy::has_spec;
+use std::alloc::Global;
+
+/// The module, where it may be booted after these.
+#[tactic(auto, unfolding(crate::specs::Grammar::judged_module))]
+fn judged_module(boots: &[Module], named: Module) -> Result<Module, Refusal>
+    ensures { Gives (λ m. m) result (judged_module boots.now named) }
+{
+    if !has_spec(named) {
+        Err(boot_refused(Errno::Enoent))
+    } else if is_booted(boots, named) {
+        Err(boot_refused(Errno::Eexist))
+    } else {
+        Ok(named)
+    }
+}
+
+/// The module of that name, where it may be booted after these.
+#[tactic(auto, unfolding(crate::specs::Grammar::judged_boot))]
+pub fn judged_boot(boots: &[Module], name: &str) -> Result<Module, Refusal>
+    ensures { Gives (λ m. m) result (judged_boot boots.now name.now) }
+{
+    match Module::from_name(name) {
+        None => Err(boot_refused(Errno::Enoent)),
+        Some(named) => judged_module(boots, named),
+    }
+}
+
+#[tactic(auto, unfolding(crate::specs::Grammar::request_of))]
+fn request_of(word: &str) -> Result<Request, Refusal>
+    ensures { Gives (λ r. r) result (request_of word.now) }
+{
+    if word == "-" {
+        return Ok(Request::none());
+    }
+    match read_request(word) {
+        Ok(request) => Ok(request),
+        Err(_) => Err(faulty(ScriptFault::BadLabel)),
+    }
+}
+
+/// What a script that boots these modules asks for an entity of that kind; `-` asks for nothing.
+#[tactic(auto, unfolding(crate::specs::Grammar::request_for, crate::specs::Readers::and_then))]
+fn request_for(kind: Kind, boots: &[Module], word: &str) -> Result<Request, Refusal>
+    ensures { Gives (λ r. r) result (request_for kind boots.now word.now) }
+{
+    let request = request_of(word)?;
+    if may_ask_for(kind, boots, &request) {
+        Ok(request)
+    } else {
+        Err(faulty(ScriptFault::BadLabel))
+    }
+}
+
+fn has_path(files: &[FileLine], path: &[Name]) -> bool
+    ensures { result ≡ list_any (has_path path.now) files.now }
+{
+    files
+        .iter()
+        .any(|file| is_same_path(file.path.as_slice(), path))
+}
+
+fn is_directory_at(file: &FileLine, path: &[Name]) -> bool
+    ensures { result ≡ is_directory_at path.now file.now }
+{
+    file.file.dir && is_same_path(file.path.as_slice(), path)
+}
+
+fn lists_directory(files: &[FileLine], path: &[Name]) -> bool
+    ensures { result ≡ list_any (is_directory_at path.now) files.now }
+{
+    files.iter().any(|file| is_directory_at(file, path))
+}
+
+/// Whether the path is the root, or that of a directory among these files.
+fn has_directory(files: &[FileLine], path: &[Name]) -> bool
+    ensures { result ≡ has_directory files.now path.now }
+{
+    path.is_empty() || lists_directory(files, path)
+}
+
+/// The file that the words ask for, after these.
+#[tactic(auto, unfolding(crate::specs::Grammar::judged_file, crate::specs::Readers::and_then))]
+pub fn judged_file(
+    alloc: Global,
+    boots: &[Module],
+    files: &[FileLine],
+    words: FileWords,
+) -> Result<FileLine, Refusal>
+    ensures { Gives (λ f. f) result (judged_file boots.now files.now words) }
+{
+    let FileWords {
+        path,
+        file,
+        label,
+        text,
+    } = words;
+    let text = text.as_slice();
+    if files.len() >= FILE_LIMIT || text.len() > CONTENT_LIMIT {
+        return Err(faulty(ScriptFault::TooMany));
+    }
+    if path.as_slice().is_empty() || has_path(files, path.as_slice()) {
+        return Err(faulty(ScriptFault::Duplicate));
+    }
+    if !has_directory(files, directory_of(path.as_slice())) {
+        return Err(faulty(ScriptFault::BadPath));
+    }
+    let label = request_for(Kind::Vnode, boots, label.as_str())?;
+    let text = Bytes::copy_of(alloc, text)?;
+    Ok(FileLine {
+        path,
+        file,
+        label,
+        text,
+    })
+}
+
+fn has_name(tasks: &[Task], name: &Name) -> bool
+    ensures { result ≡ list_any (has_name name.now) tasks.now }
+{
+    tasks.iter().any(|task| task.name.as_str() == name.as_str())
+}
+
+/// The task that the words ask for, after these. It has no lines yet.
+#[tactic(auto, unfolding(crate::specs::Grammar::judged_task, crate::specs::Readers::and_then))]
+pub fn judged_task(
+    alloc: Global,
+    boots: &[Module],
+    tasks: &[Task],
+    words: TaskWords,
+) -> Result<Task, Refusal>
+    ensures { Gives (λ t. t) result (judged_task boots.now tasks.now words) }
+{
+    if tasks.len() >= TASK_LIMIT {
+        return Err(faulty(ScriptFault::TooMany));
+    }
+    let TaskWords { name, cred, label } = words;
+    if has_name(tasks, &name) {
+        return Err(faulty(ScriptFault::Duplicate));
+    }
+    let label = request_for(Kind::Process, boots, label.as_str())?;
+    Ok(Task {
+        name,
+        cred,
+        label,
+        lines: Listing::new(alloc),
+    })
+}
+
+/// How many lines list the rules, with this call.
+#[tactic(auto, unfolding(crate::specs::Grammar::with_list, crate::specs::Readers::and_then))]
+pub fn with_list(call: &Call, lists: usize) -> Result<usize, Refusal>
+    ensures { Gives (λ n. n) result (with_list call.now lists) }
+{
+    if !call.lists_rules() {
+        return Ok(lists);
+    }
+    if lists >= RULE_LIST_LIMIT {
+        return Err(faulty(ScriptFault::TooMany));
+    }
+    Ok(lists + 1)
+}
