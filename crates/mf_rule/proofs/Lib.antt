@@ -1,0 +1,9 @@
+pub mod ReadingWords
+pub mod Ranges
+pub mod Pieces
+pub mod Letters
+pub mod FilePieces
+pub mod RoundTrips
+pub mod Spelled
+pub mod WordsBehind
+pub mod ReadAsSpelled

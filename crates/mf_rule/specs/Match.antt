@@ -1,0 +1,91 @@
+-- Which subjects and files a rule matches, and what a list of rules says of the letters that are wanted.
+--
+-- The tests, `!` and `not`, first match and the letters are those of ugidfw(8) and mac_bsdextended(4). That a uid test looks at the
+-- effective, the real and the saved uid, and a gid test at every group, is this model's own choice.
+use Rattle.std.specs.Prelude.{◌≡◌, ℕ, Bool, true, false, not, ◌&&◌, ◌||◌, ◌==◌, nat_le, if◌then◌else◌, Option, Some, None}
+use Rattle.std.specs.List.{list_any}
+use Rattle.std.specs.Int.RustNames.{bit_and}
+use Rattle.mf_cred.specs.declared.cred.Cred.{Cred}
+use Rattle.mf_cred.specs.declared.cred.FileView.{FileView}
+use Rattle.mf_cred.specs.Groups.{in_group}
+use Rattle.mf_rule.specs.declared.rule.TheConstants.{DIRECTORY, REGULAR}
+use Rattle.mf_rule.specs.declared.rule.IdTest.{IdTest}
+use Rattle.mf_rule.specs.declared.rule.Side.{Side}
+use Rattle.mf_rule.specs.declared.rule.ObjectSide.{ObjectSide}
+use Rattle.mf_rule.specs.declared.rule.Rule.{Rule}
+
+-- a test that isn't there holds
+abbrev pub if_asked : {A : Type 0} → Option A → (A → Bool) → Bool
+if_asked None holds = true
+if_asked (Some test) holds = holds test
+
+-- `!` turns one test, and `not` a whole part
+abbrev pub turned : Bool → Bool → Bool
+turned true holds = not holds
+turned false holds = holds
+
+-- what is asked for is so, or has not to be so
+abbrev pub agrees : Bool → Bool → Bool
+agrees true is = is
+agrees false is = not is
+
+-- from the least to the greatest, both included
+abbrev pub has : IdTest → ℕ → Bool
+has test id = nat_le test.least id && nat_le id test.greatest
+
+-- the effective, the real or the saved uid
+abbrev pub has_uid : IdTest → Cred → Bool
+has_uid test cred = has test cred.uid || has test cred.ruid || has test cred.svuid
+
+-- one of the groups
+abbrev pub has_group : IdTest → Cred → Bool
+has_group test cred = list_any (has test) cred.groups
+
+abbrev pub subject_tests : Side → Cred → Bool
+subject_tests side cred =
+    if_asked side.uid (λ test. turned test.not (has_uid test cred))
+    && if_asked side.gid (λ test. turned test.not (has_group test cred))
+
+abbrev pub subject_matches : Side → Cred → Bool
+subject_matches side cred = turned side.not (subject_tests side cred)
+
+-- the mode has the bit 4000, or 2000, in octal
+abbrev pub is_suid : FileView → Bool
+is_suid file = not (bit_and file.mode 2048 == 0)
+
+abbrev pub is_sgid : FileView → Bool
+is_sgid file = not (bit_and file.mode 1024 == 0)
+
+-- the file's owner is the subject, by one of its three uids
+abbrev pub owns : Cred → FileView → Bool
+owns cred file = file.uid == cred.uid || file.uid == cred.ruid || file.uid == cred.svuid
+
+-- a directory where `d` is among the types, any other file where `r` is
+abbrev pub has_type : ℕ → Bool → Bool
+has_type types dir = not (bit_and types (if dir then DIRECTORY else REGULAR) == 0)
+
+abbrev pub object_tests : ObjectSide → Cred → FileView → Bool
+object_tests object cred file =
+    if_asked object.side.uid (λ test. turned test.not (has test file.uid))
+    && if_asked object.side.gid (λ test. turned test.not (has test file.gid))
+    && if_asked object.suid (λ wanted. agrees wanted (is_suid file))
+    && if_asked object.sgid (λ wanted. agrees wanted (is_sgid file))
+    && if_asked object.uid_of_subject (λ wanted. agrees wanted (owns cred file))
+    && if_asked object.gid_of_subject (λ wanted. agrees wanted (in_group cred file.gid))
+    && if_asked object.types (λ test. turned test.not (has_type test.types file.dir))
+
+abbrev pub object_matches : ObjectSide → Cred → FileView → Bool
+object_matches object cred file = turned object.side.not (object_tests object cred file)
+
+-- a rule matches where both its parts do
+abbrev pub matches : Rule → Cred → FileView → Bool
+matches rule cred file = subject_matches rule.subject cred && object_matches rule.object cred file
+
+-- the tests without a value are the same
+abbrev pub SameFlags : ObjectSide → ObjectSide → Type 0
+SameFlags object other =
+    (object.suid ≡ other.suid) × (object.sgid ≡ other.sgid) × (object.uid_of_subject ≡ other.uid_of_subject) × (object.gid_of_subject ≡ other.gid_of_subject)
+
+-- all of the letters that are wanted
+abbrev pub gives : Rule → ℕ → Bool
+gives rule wanted = bit_and rule.mode wanted == wanted

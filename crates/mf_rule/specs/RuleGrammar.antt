@@ -1,0 +1,77 @@
+-- The rules of ugidfw(8), and what each list of words stands for:
+--
+--     subject [not] [tests] object [not] [tests] mode letters
+--
+-- A test is a name, with `!` before it where it is turned, and a value behind it where it has one. It stands at most once in a part; the order
+-- is free. ugidfw(8) has `jailid`, `filesys` and names of users and groups too, which this model lacks.
+use Rattle.std.specs.Prelude.{◌≡◌, ◌⊎◌, ℕ, Bool, false, not, List, [], ◌∷◌, ◌++◌, Some, None, codes, if◌then◌else◌}
+use Rattle.std.specs.List.{flat_map}
+use Rattle.mf_rule.specs.Words.{range_in, mode_in, types_in}
+use Rattle.mf_rule.specs.declared.rule.Side.{Side}
+use Rattle.mf_rule.specs.declared.rule.ObjectSide.{ObjectSide}
+use Rattle.mf_rule.specs.declared.rule.Rule.{Rule}
+
+abbrev pub Words : Type 0
+Words = List (List ℕ)
+
+-- `!` before what is turned
+abbrev pub marked : Bool → Words → Words
+marked turned words = if turned then codes "!" ∷ words else words
+
+-- no tests
+abbrev pub no_tests : Side
+no_tests = record { not = false; uid = None; gid = None }
+
+abbrev pub no_object_tests : ObjectSide
+no_object_tests = record { side = no_tests; suid = None; sgid = None; uid_of_subject = None; gid_of_subject = None; types = None }
+
+-- the words are a test of ids: with it, before becomes after
+abbrev pub SpellsIdTest : Words → Side → Side → Type 0
+SpellsIdTest words before after =
+    (turned : Bool) × (w : List ℕ) × (ends : ℕ × ℕ) × (range_in w ≡ Some ends)
+    × (((words ≡ marked turned (codes "uid" ∷ w ∷ [])) × (before.uid ≡ None) × (after ≡ record before { uid = Some (record { not = turned; least = ends.0; greatest = ends.1 }) }))
+    ⊎ ((words ≡ marked turned (codes "gid" ∷ w ∷ [])) × (before.gid ≡ None) × (after ≡ record before { gid = Some (record { not = turned; least = ends.0; greatest = ends.1 }) })))
+
+-- the words are a test that only an object has
+abbrev pub SpellsFileTest : Words → ObjectSide → ObjectSide → Type 0
+SpellsFileTest words before after =
+    (turned : Bool)
+    × (((words ≡ marked turned (codes "suid" ∷ [])) × (before.suid ≡ None) × (after ≡ record before { suid = Some (not turned) }))
+    ⊎ ((words ≡ marked turned (codes "sgid" ∷ [])) × (before.sgid ≡ None) × (after ≡ record before { sgid = Some (not turned) }))
+    ⊎ ((words ≡ marked turned (codes "uid_of_subject" ∷ [])) × (before.uid_of_subject ≡ None) × (after ≡ record before { uid_of_subject = Some (not turned) }))
+    ⊎ ((words ≡ marked turned (codes "gid_of_subject" ∷ [])) × (before.gid_of_subject ≡ None) × (after ≡ record before { gid_of_subject = Some (not turned) }))
+    ⊎ ((w : List ℕ) × (types : ℕ) × (types_in w ≡ Some types)
+    × (words ≡ marked turned (codes "type" ∷ w ∷ [])) × (before.types ≡ None) × (after ≡ record before { types = Some (record { not = turned; types = types }) })))
+
+abbrev pub SpellsObjectTest : Words → ObjectSide → ObjectSide → Type 0
+SpellsObjectTest words before after =
+    ((side : Side) × SpellsIdTest words before.side side × (after ≡ record before { side = side })) ⊎ SpellsFileTest words before after
+
+-- one test after another
+abbrev pub SpellTests : {A : Type 0} → (Words → A → A → Type 0) → List Words → A → A → Type 0
+SpellTests Spells [] before after = before ≡ after
+SpellTests {A} Spells (test ∷ tests) before after = (next : A) × Spells test before next × SpellTests Spells tests next after
+
+-- a part, with `not` before its tests or without
+abbrev pub with_not : Bool → Words → Words
+with_not turned words = if turned then codes "not" ∷ words else words
+
+pub record SpellsSubject (words : Words) (side : Side) : Type 0 where
+  pub tests : List Words
+  pub parted : words ≡ with_not side.not (flat_map (λ test. test) tests)
+  pub each : SpellTests SpellsIdTest tests (record no_tests { not = side.not }) side
+
+pub record SpellsObject (words : Words) (object : ObjectSide) : Type 0 where
+  pub tests : List Words
+  pub parted : words ≡ with_not object.side.not (flat_map (λ test. test) tests)
+  pub each : SpellTests SpellsObjectTest tests (record no_object_tests { side = record no_tests { not = object.side.not } }) object
+
+-- the words stand for the rule
+pub record Spells (words : Words) (rule : Rule) : Type 0 where
+  pub subject : Words
+  pub object : Words
+  pub letters : List ℕ
+  pub parted : words ≡ codes "subject" ∷ subject ++ (codes "object" ∷ object ++ (codes "mode" ∷ letters ∷ []))
+  pub is_subject : SpellsSubject subject rule.subject
+  pub is_object : SpellsObject object rule.object
+  pub is_mode : mode_in letters ≡ Some rule.mode

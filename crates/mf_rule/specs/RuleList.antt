@@ -1,0 +1,39 @@
+-- Rule lists: for each number from 0 up to MAX_RULES a rule, or none; and their verdict.
+--
+-- That the first match decides, or else every match, is mac_bsdextended(4)'s. That a list has at most 250 rules, where that page says 256, and
+-- that what no rule matches is allowed, is this model's own choice.
+use Rattle.std.specs.Prelude.{ℕ, Bool, true, false, not, ◌||◌, List, Option, Some, None, find}
+use Rattle.std.specs.List.{list_all}
+use Rattle.mf_cred.specs.declared.cred.Cred.{Cred}
+use Rattle.mf_cred.specs.declared.cred.FileView.{FileView}
+use Rattle.mf_rule.specs.Match.{matches, gives}
+use Rattle.mf_rule.specs.declared.rule.Rule.{Rule}
+
+-- the rule of each number, from 0 on
+abbrev pub Slots : Type 0
+Slots = List (Option Rule)
+
+-- no rule has the number
+abbrev pub is_free : Option Rule → Bool
+is_free None = true
+is_free (Some rule) = false
+
+-- a rule has the number, and matches
+abbrev pub is_match : Cred → FileView → Option Rule → Bool
+is_match cred file None = false
+is_match cred file (Some rule) = matches rule cred file
+
+-- the rule of the number gives the letters, where there is one
+abbrev pub grants : ℕ → Option Rule → Bool
+grants wanted None = true
+grants wanted (Some rule) = gives rule wanted
+
+-- what the first match says; where there is none, yes
+abbrev pub by_first : ℕ → Option (Option Rule) → Bool
+by_first wanted None = true
+by_first wanted (Some slot) = grants wanted slot
+
+-- With first match the matching rule of the least number decides; without, every matching rule has to give the letters.
+abbrev pub verdict : Bool → Slots → Cred → FileView → ℕ → Bool
+verdict true slots cred file wanted = by_first wanted (find (is_match cred file) slots)
+verdict false slots cred file wanted = list_all (λ slot. not (is_match cred file slot) || grants wanted slot) slots

@@ -1,0 +1,24 @@
+//! Rules about files of mac_bsdextended(4): their texts as ugidfw(8) has them, lists of rules, and what a list says of an
+//! access.
+#![tactic(auto)]
+
+mod begun;
+mod fault;
+mod law;
+mod printing;
+mod reading;
+mod rule;
+mod rule_list;
+#[cfg(test)]
+mod tests;
+mod values;
+
+pub use fault::RuleFault;
+pub use law::canonical_text_stands_for_its_rule;
+pub use printing::print_rule;
+pub use reading::read_rule;
+pub use rule::{
+    ADMINISTER, ANY_TYPE, BLOCK, CHARACTER, DIRECTORY, EXECUTE, FIFO, IdTest, LAST_ID, LINK,
+    ObjectSide, READ, REGULAR, Rule, SOCKET, STAT, Side, TypeTest, WRITE,
+};
+pub use rule_list::{Full, MAX_RULES, NoRule, RuleList};
