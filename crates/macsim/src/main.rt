@@ -3,6 +3,7 @@
 #![tactic(auto)]
 
 use mf_biba::Biba;
+use mf_bsdextended::Bsdextended;
 use mf_io::{OpenGate, Sink, Source, StdSink, StdSource};
 use mf_mls::Mls;
 use mf_partition::Partition;
@@ -47,6 +48,7 @@ fn run<S: Source, K: Sink, R: Threads + Wait + Sync>(
     modules.push(Box::new(alloc, Biba::new())?)?;
     modules.push(Box::new(alloc, Mls::new())?)?;
     modules.push(Box::new(alloc, Partition::new())?)?;
+    modules.push(Box::new(alloc, Bsdextended::new(alloc)?)?)?;
     Ok(macsim(rt, alloc, words, source, sink, &OpenGate, modules))
 }
 

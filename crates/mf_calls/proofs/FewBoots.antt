@@ -20,7 +20,7 @@ at_most_one false = lit≤ tt
 
 -- each module that is booted counts once
 kinds : List Module → ℕ
-kinds boots = one_if (is_booted boots Biba) + one_if (is_booted boots Mls) + one_if (is_booted boots Partition)
+kinds boots = one_if (is_booted boots Biba) + one_if (is_booted boots Mls) + one_if (is_booted boots Partition) + one_if (is_booted boots Bsdextended)
 
 -- a module that differs from each of these is none of them
 unbooted : (m : Module) (boots : List Module) → ((j : ℕ) → j < length boots → m ≢ get_or boots j m) → is_booted boots m ≡ false
@@ -41,10 +41,10 @@ counted (m ∷ boots) built_in differ =
     one Biba has first rest = let rest' = rw first at rest in omega (arith, rest')
     one Mls has first rest = let rest' = rw first at rest in omega (arith, rest')
     one Partition has first rest = let rest' = rw first at rest in omega (arith, rest')
-    one Bsdextended has first rest = cc
+    one Bsdextended has first rest = let rest' = rw first at rest in omega (arith, rest')
     one Priority has first rest = cc
 
-pub few_boots : (boots : List Module) → AreBoots boots → length boots ≤ 3
+pub few_boots : (boots : List Module) → AreBoots boots → length boots ≤ 4
 unfolding kinds
 few_boots boots are =
-    omega (arith, counted boots (λ i within. are.built_in i Biba within) are.differ, at_most_one (is_booted boots Biba), at_most_one (is_booted boots Mls), at_most_one (is_booted boots Partition))
+    omega (arith, counted boots (λ i within. are.built_in i Biba within) are.differ, at_most_one (is_booted boots Biba), at_most_one (is_booted boots Mls), at_most_one (is_booted boots Partition), at_most_one (is_booted boots Bsdextended))

@@ -1,10 +1,14 @@
 -- The names of a load's tasks, directories and files: they are names and components, and differ by their numbers.
-use Rattle.std.proofs.Common.{◌≡◌, ℕ, zero, suc, ◌<◌, ◌≤◌, ◌+◌, ◌/◌, ◌%◌, nat_lt, nat_le, Bool, true, false, ◌&&◌, List, [], ◌∷◌, ◌++◌, length, refl, ap, ◌∙◌, arith}
-use Rattle.std.specs.List.{list_all}
+use Rattle.std.proofs.Common.{◌≡◌, ℕ, zero, suc, ◌<◌, ◌≤◌, ◌+◌, ◌/◌, ◌%◌, nat_lt, nat_le, Bool, true, false, ◌&&◌, List, [], ◌∷◌, ◌++◌, length, refl, ap, ◌∙◌, ◌^◌, ne_eqb, arith}
+use Rattle.std.specs.List.{list_all, AllByRecursion}
+use Rattle.std.specs.Str.Parse.{AllDigits}
 use Rattle.std.specs.Fmt.{decimal}
 use Rattle.std.proofs.lemmas.Bool.Decides.{nat_tests}
 use Rattle.std.proofs.lemmas.Bool.{or_left}
-use Rattle.std.proofs.lemmas.Fmt.{decimal_digit, decimal_step, decimal_injective, length-decimal-le}
+use Rattle.std.proofs.lemmas.Fmt.{decimal_digit, decimal_step, decimal_injective, decimal_is_IsNumeral, length-decimal-le}
+use Rattle.std.proofs.lemmas.Str.Parse.{digit_from_value}
+use Rattle.std.proofs.lemmas.List.Elements.{All-from_recursion}
+use Rattle.mf_names.specs.Paths.{slash, is_slash, HasNoSlash}
 use Rattle.mf_calls.specs.Names.{is_name_byte, is_name, is_component_byte, is_component}
 use Rattle.mf_calls.specs.Generated.{task_name, directory_name, scratch_name}
 
@@ -61,6 +65,21 @@ pub scratch_component : (j : ℕ) → j < 100 → is_component (scratch_name j) 
 scratch_component j few =
     ap (λ (b : Bool). b && list_all is_component_byte (decimal j) && true && true) (fits_name (length (decimal j)) (short_digits j few))
     ∙ ap (λ (b : Bool). b && true && true) (digits_all is_component_byte digit_component j few)
+
+-- No name of a directory or file has a slash.
+
+no_slash : (ds : List ℕ) → AllDigits 10 ds → AllByRecursion (λ b. is_slash b ≡ false) ds
+no_slash [] each = tt
+no_slash (c ∷ ds) each = (ne_eqb c slash (λ e. omega (arith, e, digit_from_value c each.0)), no_slash ds each.1)
+
+plain_with_number : (letter n : ℕ) → is_slash letter ≡ false → n < 2 ^ 64 → HasNoSlash (letter ∷ decimal n)
+plain_with_number letter n plain small = All-from_recursion (λ b. is_slash b ≡ false) (letter ∷ decimal n) (plain, no_slash (decimal n) (decimal_is_IsNumeral n small).0.1)
+
+pub directory_plain : (k : ℕ) → k < 2 ^ 64 → HasNoSlash (directory_name k)
+directory_plain k small = plain_with_number 100 k refl small
+
+pub scratch_plain : (j : ℕ) → j < 2 ^ 64 → HasNoSlash (scratch_name j)
+scratch_plain j small = plain_with_number 103 j refl small
 
 behind : (c : ℕ) (xs ys : List ℕ) → c ∷ xs ≡ c ∷ ys → xs ≡ ys
 behind c xs ys same = cc

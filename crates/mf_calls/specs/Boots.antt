@@ -5,7 +5,7 @@ use Rattle.mf_errno.specs.declared.module.Module.{Module}
 use Rattle.mf_errno.specs.Module.{all_modules, same_module}
 use Rattle.mf_elem.specs.declared.label.Request.{Request}
 use Rattle.mf_item.specs.declared.view.Kind.{Kind}
-use Rattle.mf_policy.specs.Modules.{has_spec, is_named, may_ask}
+use Rattle.mf_policy.specs.Modules.{is_named, may_ask}
 
 -- one of the modules is this one
 abbrev pub is_booted : List Module → Module → Bool

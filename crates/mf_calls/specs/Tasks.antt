@@ -13,12 +13,17 @@ lines_of s t = unwrap_or (option_map (λ task. task.lines) (slice_get s.tasks t)
 abbrev pub name_of : Script → ℕ → List ℕ
 name_of s t = unwrap_or (option_map (λ task. task.name) (slice_get s.tasks t)) []
 
--- whether the call changes the list of policies, and so isn't an entry
+-- whether the call changes the list of policies or a policy's settings, and so isn't an entry
 abbrev pub is_change : Call → Bool
 is_change (call.Kldload name) = true
 is_change (call.Kldunload name) = true
+is_change (call.Sysctl name value) = true
+is_change (call.UgidfwAdd rule) = true
+is_change (call.UgidfwSet n rule) = true
+is_change (call.UgidfwRemove n) = true
 is_change other = false
 
--- whether the call lists the rules, which no call does yet
+-- whether the call lists the rules about files
 abbrev pub lists_rules : Call → Bool
+lists_rules call.UgidfwList = true
 lists_rules other = false

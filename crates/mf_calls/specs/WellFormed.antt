@@ -8,6 +8,8 @@ use Rattle.mf_elem.specs.Label.{IsRequest}
 use Rattle.mf_item.specs.declared.view.Kind.{Kind}
 use Rattle.mf_item.specs.declared.view.Kind.TheVariants as kinds
 use Rattle.mf_policy.specs.Modules.{has_spec}
+use Rattle.mf_rule.specs.RuleGrammar.{IsRule}
+use Rattle.mf_rule.specs.declared.rule_list.TheConstants.{MAX_RULES}
 use Rattle.mf_cred.specs.declared.cred.Cred.{Cred}
 use Rattle.mf_calls.specs.declared.script.Call.{Call}
 use Rattle.mf_calls.specs.declared.script.Call.TheVariants as call
@@ -41,6 +43,11 @@ line_count task = length task.lines
 -- how many lines of a task list the rules
 abbrev pub rule_list_count : Task → ℕ
 rule_list_count task = count_by (λ line. lists_rules line.call) task.lines
+
+-- printable bytes of ASCII, and no more than a script has; there may be none
+pub record IsPrintable (text : List ℕ) : Type 0 where
+  pub each : All (λ b. is_ascii_graphic b ≡ true) text
+  pub few : length text ≤ SCRIPT_LIMIT
 
 -- a word of a line: some printable bytes of ASCII, and no more than a script has
 pub record IsWord (w : List ℕ) : Type 0 where
@@ -119,6 +126,11 @@ IsFormedCall (call.Seesock name) = IsName name
 IsFormedCall call.Kldstat = Unit {0}
 IsFormedCall (call.Kldload word) = IsWord word
 IsFormedCall (call.Kldunload word) = IsWord word
+IsFormedCall (call.Sysctl name value) = IsPrintable name × IsPrintable value
+IsFormedCall call.UgidfwList = Unit {0}
+IsFormedCall (call.UgidfwAdd rule) = IsRule rule
+IsFormedCall (call.UgidfwSet n rule) = (n < MAX_RULES) × IsRule rule
+IsFormedCall (call.UgidfwRemove n) = n < MAX_RULES
 
 -- no child, or one of such a name
 abbrev pub IsFormedChild : Option (List ℕ) → Type 0

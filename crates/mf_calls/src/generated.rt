@@ -1,9 +1,10 @@
 //! The script of a generated load: tasks that each work in a directory of their own, with lines that are drawn from a
 //! sequence of numbers.
 ghost use Rattle.std.specs.Prelude.{◌≡◌, ◌<◌, ◌≤◌, IfOk, codes};
+ghost use Rattle.mf_names.specs.Paths.{HasNoSlash};
 ghost use Rattle.mf_calls.specs.declared.limits.TheConstants.{LINE_LIMIT, TASK_LIMIT};
 ghost use Rattle.mf_calls.specs.WellFormed.{IsWellFormed};
-ghost use Rattle.mf_calls.specs.Generated.{next_number, drawn, call_of, load_lines, load_directory, load_file, load_files, load_cred, load_task, load_tasks, asked, plain_grade, task_grade, task_name, directory_name, file_name, scratch_name, directory_path, path_in, generated};
+ghost use Rattle.mf_calls.specs.Generated.{next_number, drawn, call_of, load_lines, load_directory, load_file, load_files, load_cred, load_task, load_tasks, asked, plain_grade, task_grade, task_name, file_name, scratch_name, directory_path, path_in, generated};
 
 use crate::script::{Call, FileLine, Line, Script, Task};
 use crate::{DIRECTORY_MODE, FILE_MODE, SCRIPT_LIMIT};
@@ -205,26 +206,20 @@ fn one_letter(alloc: Global) -> Result<Bytes<SCRIPT_LIMIT>, AllocError>
     Bytes::copy_of(alloc, b"x")
 }
 
-fn directory_name(alloc: Global, task: u32) -> Result<Name, AllocError>
-    ensures { IfOk result (λ name. name ≡ directory_name task) }
-{
-    let text = format!(in alloc; "d{task}")?;
-    Ok(Name::from_string(text))
-}
-
 /// The path of a task's directory.
 fn directory_path(alloc: Global, task: u32) -> Result<Path, AllocError>
     ensures { IfOk result (λ path. path ≡ directory_path task) }
 {
-    let name = directory_name(alloc, task)?;
+    let name = format!(in alloc; "d{task}")?;
     let mut path = Path::root(alloc);
-    path.push(name)?;
+    path.push(name.as_str())?;
     Ok(path)
 }
 
 /// The path of a file in a task's directory.
-fn path_in(alloc: Global, task: u32, name: Name) -> Result<Path, AllocError>
-    ensures { IfOk result (λ path. path ≡ path_in task name) }
+fn path_in(alloc: Global, task: u32, name: &str) -> Result<Path, AllocError>
+    requires { HasNoSlash name.now }
+    ensures { IfOk result (λ path. path ≡ path_in task name.now) }
 {
     let mut path = directory_path(alloc, task)?;
     path.push(name)?;
@@ -235,15 +230,13 @@ fn path_in(alloc: Global, task: u32, name: Name) -> Result<Path, AllocError>
 fn file_path(alloc: Global, task: u32) -> Result<Path, AllocError>
     ensures { IfOk result (λ path. path ≡ path_in task file_name) }
 {
-    let name = Name::from_str(alloc, "f")?;
-    path_in(alloc, task, name)
+    path_in(alloc, task, "f")
 }
 
 /// The path of one of the files that a task makes and removes.
 fn scratch_path(alloc: Global, task: u32, number: u64) -> Result<Path, AllocError>
     ensures { IfOk result (λ path. path ≡ path_in task (scratch_name number)) }
 {
-    let text = format!(in alloc; "g{number}")?;
-    let path = path_in(alloc, task, Name::from_string(text))?;
-    Ok(path)
+    let name = format!(in alloc; "g{number}")?;
+    path_in(alloc, task, name.as_str())
 }

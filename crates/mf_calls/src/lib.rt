@@ -16,7 +16,8 @@ pub use limits::{
 };
 pub use mf_cred::{DIRECTORY_MODE, FILE_MODE};
 pub use mf_names::{
-    Bytes, CONTENT_LIMIT, Listing, NAME_LIMIT, Name, NameList, PATH_LIMIT, Path, SCRIPT_LIMIT, Word,
+    Bytes, CONTENT_LIMIT, Components, Listing, NAME_LIMIT, Name, NameList, PATH_LIMIT, Path,
+    SCRIPT_LIMIT, Word,
 };
 pub use names::{is_component, is_name};
 pub use paths::{directory_of, is_same_path};

@@ -2,29 +2,22 @@
 ghost use Rattle.std.specs.Prelude.{◌≡◌};
 ghost use Rattle.mf_calls.specs.Paths.{is_same_path, directory_of};
 
-use mf_names::Name;
+use mf_names::{Components, Path};
 
 /// Whether the two have the same components.
-pub fn is_same_path(path: &[Name], other: &[Name]) -> bool
+pub fn is_same_path(path: &Components<'_>, other: &Components<'_>) -> bool
     ensures { result ≡ is_same_path path.now other.now }
 {
-    match path {
-        [] => other.is_empty(),
-        [name, rest @ ..] => match other {
-            [] => false,
-            [their_name, their_rest @ ..] => {
-                name.as_str() == their_name.as_str() && is_same_path(rest, their_rest)
-            }
-        },
-    }
+    path.is_same(other)
 }
 
 /// The path of the directory that the path stands in. Of the root it is the root.
-pub fn directory_of(path: &[Name]) -> &[Name]
-    ensures { result.now ≡ directory_of path.now }
+pub fn directory_of(path: &Path) -> Components<'_>
+    ensures { result ≡ directory_of path.now }
 {
-    match path.split_last() {
-        None => path,
-        Some((_, directory)) => directory,
+    let components = path.components();
+    match components.split_last() {
+        None => components,
+        Some((directory, _)) => directory,
     }
 }

@@ -7,6 +7,7 @@ use mf_cred::{Cred, FileView};
 use mf_elem::Request;
 use mf_errno::Module;
 use mf_names::{Bytes, Listing, Name, Path, Word};
+use mf_rule::Rule;
 
 /// A call of a process. Processes are named by their full names: a task, or a task, a dot and the name that `fork` gave.
 #[derive(Drop)]
@@ -63,23 +64,41 @@ pub enum Call {
     Kldload(Word),
     /// Unloads the module of that name, as kldunload(8) does.
     Kldunload(Word),
+    /// Gives the setting of that name that value, as sysctl(8) does.
+    Sysctl(Word, Word),
+    /// Lists the rules about files, as ugidfw(8) does.
+    UgidfwList,
+    /// Adds the rule under the lowest free number.
+    UgidfwAdd(Rule),
+    /// Puts the rule under the number, in place of the one that it may have.
+    UgidfwSet(u32, Rule),
+    /// Removes the rule of the number.
+    UgidfwRemove(u32),
 }
 
 impl Call {
     ghost use Rattle.mf_calls.specs.Tasks.{is_change, lists_rules};
 
-    /// Whether the call changes the list of policies, and so isn't an entry.
+    /// Whether the call changes the list of policies or a policy's settings, and so isn't an entry.
     pub fn is_change(&self) -> bool
         ensures { result ≡ is_change self.now }
     {
-        matches!(self, Call::Kldload(_) | Call::Kldunload(_))
+        matches!(
+            self,
+            Call::Kldload(_)
+                | Call::Kldunload(_)
+                | Call::Sysctl(..)
+                | Call::UgidfwAdd(_)
+                | Call::UgidfwSet(..)
+                | Call::UgidfwRemove(_)
+        )
     }
 
-    /// Whether the call lists the rules, as `ugidfw list` will. No call does so yet.
+    /// Whether the call lists the rules about files.
     pub fn lists_rules(&self) -> bool
         ensures { result ≡ lists_rules self.now }
     {
-        false
+        matches!(self, Call::UgidfwList)
     }
 }
 

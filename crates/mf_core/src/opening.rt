@@ -67,7 +67,7 @@ fn add_file(
 {
     match target_of(objects, &file.path) {
         Target::Name(dir, None) => {
-            let name = last_name(file.path.as_slice());
+            let name = last_name(&file.path);
             let label = new_label(listed, Kind::Vnode, &Origin::Boot(file.label));
             let text = file.text.as_slice();
             objects.add_vnode(alloc, dir, name, &file.file, text, &label)?;

@@ -27,7 +27,7 @@ use Rattle.mf_objects.proofs.Finding.{find_before, find_given}
 use Rattle.mf_step.proofs.EntityChange.{EntityChange, ChangesEntities}
 use Rattle.mf_step.proofs.EntityChange.EntityChange.{absent, stays, comes, goes}
 use Rattle.mf_step.proofs.StateChange.{StateChange}
-use Rattle.mf_step.proofs.StateChange.StateChange.{same as still, created, changed, removed, loaded, unloaded}
+use Rattle.mf_step.proofs.StateChange.StateChange.{same as still, created, changed, removed, loaded, unloaded, set_to}
 use Rattle.mf_flow.specs.Order.{union}
 use Rattle.mf_flow.specs.Rows.{AreKept, AreRows, Rows, row, element_of, element_at as row_element, may_come, joined, received as row_received, rows_between, rows_with, rows_moved, new_row, maker_row, rows_created}
 use Rattle.mf_flow.specs.Sources.{Sets, element_in, element_at, held_by, alone, is_id, received, moved, moved_with, moved_by, moved_by_all, set_after, set_of, sets_across}
@@ -141,6 +141,7 @@ change_next by s s' (changed change id is) = omega (arith, ap (λ (x : State). x
 change_next by s s' (removed gone is) = omega (arith, ap (λ (x : State). x.objects.next) is)
 change_next by s s' (loaded m none is) = omega (arith, ap (λ (x : State). x.objects.next) is)
 change_next by s s' (unloaded m ok is) = omega (arith, ap (λ (x : State). x.objects.next) is)
+change_next by s s' (set_to m change is) = omega (arith, ap (λ (x : State). x.objects.next) is)
 
 from_test : (n m : ℕ) → n ≤ m → nat_le n m ≡ true
 from_test n m l = grind (arith, nat_tests)

@@ -13,7 +13,7 @@ use Rattle.mf_policy.specs.declared.registration.Registration.{Registration}
 use Rattle.mf_policy.specs.declared.labels.Origin.TheVariants.{Boot, Maker}
 use Rattle.mf_policy.specs.NewLabels.{new_label, new_value, value_of}
 use Rattle.mf_policy.specs.Modules.{facts_of, boot_value, inherited, labels_kind, may_ask}
-use Rattle.mf_policy.specs.Registration.{Entry, holds_slot}
+use Rattle.mf_policy.specs.Registration.{Entry, holds_slot, is_slot}
 use Rattle.mf_objects.specs.declared.id.Id.{Id}
 use Rattle.mf_objects.specs.Live.{LiveEntity, Entities, kind_of, live_at}
 use Rattle.mf_objects.specs.Population.{IsRising}
@@ -22,12 +22,13 @@ use Rattle.mf_lifetimes.specs.Marks.{value_in, is_set}
 use Rattle.mf_lifetimes.specs.Marks.Mark.{Made}
 use Rattle.mf_lifetimes.specs.Laws.{AreMarksOf, holds_valid}
 use Rattle.mf_step.proofs.StateChange.{StateChange}
-use Rattle.mf_step.proofs.StateChange.StateChange.{same, created, changed, removed, loaded, unloaded}
+use Rattle.mf_step.proofs.StateChange.StateChange.{same, created, changed, removed, loaded, unloaded, set_to}
 use Rattle.mf_step.proofs.EntityChange.{EntityChange, ChangesEntities, changes_entities}
 use Rattle.mf_step.proofs.EntityChange.EntityChange.{absent, stays, comes, goes}
 use Rattle.mf_lifetimes.proofs.Valid.{IsValidOf, valid_set, boot_valid, inherited_valid}
 use Rattle.mf_lifetimes.proofs.Asked.{AllLetAsk}
 use Rattle.mf_lifetimes.proofs.Listing.{all_found, IsLasting, no_late, IsPinned, IsPassing, NoneLasting, newest, all_newest, all_without, pinned_newest, pinned_without, passing_found, IsBelow, AllBelow, below_newest, AtMostOne, single_newest, one_without, by_holder}
+use Rattle.mf_lifetimes.proofs.Settings.{all_changed, one_changed, pinned_changed}
 
 -- Labels as they are made
 
@@ -154,6 +155,8 @@ keeps_pinned slot r s s' (loaded m none is) pinned =
     subst (λ (x : State). IsPinned slot r x.specs x.numbers) (sym is) (pinned_newest slot r s.specs s.numbers m s.booted pinned)
 keeps_pinned slot r s s' (unloaded m ok is) pinned =
     subst (λ (x : State). IsPinned slot r x.specs x.numbers) (sym is) (pinned_without slot r s.specs s.numbers m ok pinned)
+keeps_pinned slot r s s' (set_to m change is) pinned =
+    subst (λ (x : State). IsPinned slot r x.specs x.numbers) (sym is) (pinned_changed slot r s.specs s.numbers m change pinned)
 
 keeps_passing : {by : Option Id} (slot : ℕ) (s s' : State) → StateChange by s s' → s.booted ≡ true → NoneLasting slot s.specs → NoneLasting slot s'.specs
 keeps_passing slot s s' (same is) booted none = subst (λ (x : State). NoneLasting slot x.specs) (sym is) none
@@ -165,6 +168,9 @@ keeps_passing slot s s' (loaded m fault is) booted none =
     (all_newest (IsPassing slot) (newest m s.booted s.numbers) s.specs (λ _ lasting. no_late s m booted fault lasting) none)
 keeps_passing slot s s' (unloaded m ok is) booted none =
     subst (λ (x : State). NoneLasting slot x.specs) (sym is) (all_without (IsPassing slot) m s.specs none)
+keeps_passing slot s s' (set_to m change is) booted none =
+    subst (λ (x : State). NoneLasting slot x.specs) (sym is)
+    (all_changed (λ r. is_slot slot r.slot ≡ true → IsLasting r.module → ⊥) m change s.specs none)
 
 keeps_booted : {by : Option Id} (s s' : State) → StateChange by s s' → s.booted ≡ true → s'.booted ≡ true
 keeps_booted s s' (same is) booted = ap (λ (x : State). x.booted) is ∙ booted
@@ -173,6 +179,7 @@ keeps_booted s s' (changed change id is) booted = ap (λ (x : State). x.booted) 
 keeps_booted s s' (removed gone is) booted = ap (λ (x : State). x.booted) is ∙ booted
 keeps_booted s s' (loaded m none is) booted = ap (λ (x : State). x.booted) is ∙ booted
 keeps_booted s s' (unloaded m ok is) booted = ap (λ (x : State). x.booted) is ∙ booted
+keeps_booted s s' (set_to m change is) booted = ap (λ (x : State). x.booted) is ∙ booted
 
 -- a policy that stays holds the slot, and that of each live entity holds a valid label; or none that holds it stays
 abbrev pub Holding : ℕ → State → Type 0
@@ -199,6 +206,12 @@ keeps_slots slot s s' (unloaded m ok is) slots =
     (record {
       below = all_without (λ entry. IsBelow s.numbers entry.0.slot) m s.specs slots.below;
       single = one_without slot m s.specs slots.single;
+    })
+keeps_slots slot s s' (set_to m change is) slots =
+    subst (AreSlots slot) (sym is)
+    (record {
+      below = all_changed (λ r. IsBelow s.numbers r.slot) m change s.specs slots.below;
+      single = one_changed slot m change s.specs slots.single;
     })
 
 pub record IsKept (slot : ℕ) (s : State) : Type 0 where

@@ -1,4 +1,5 @@
 pub mod Listing
+mod Settings
 pub mod Valid
 pub mod Asked
 pub mod Boots

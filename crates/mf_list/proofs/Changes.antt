@@ -1,8 +1,8 @@
 -- What a change of a policy's setting does to the list.
 use Rattle.std.proofs.Common.{◌≡◌, ℕ, List, Option, Some, Result, Ok, Err, IfOk, find, get_or, set, ap, sym, ◌∙◌}
 use Rattle.mf_errno.specs.declared.module.Module.{Module}
-use Rattle.mf_policy.specs.declared.spec.Change.{Change}
-use Rattle.mf_policy.specs.declared.spec.Changed.{Changed}
+use Rattle.mf_policy.specs.declared.settings.Change.{Change}
+use Rattle.mf_policy.specs.declared.settings.Changed.{Changed}
 use Rattle.mf_policy.specs.Registration.{Entry, is_of}
 use Rattle.mf_policy.specs.declared.spec.Spec.{Spec}
 use Rattle.mf_policy.specs.Settings.{change_of}

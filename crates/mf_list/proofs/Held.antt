@@ -3,8 +3,8 @@ use Rattle.std.proofs.Common.{◌≡◌, ℕ, List, Option, Some, None, Result, 
 use Rattle.mf_errno.specs.Module.{same_module}
 use Rattle.mf_errno.specs.declared.module.Module.{Module}
 use Rattle.mf_policy.specs.declared.registration.Registration.{Registration}
-use Rattle.mf_policy.specs.declared.spec.Change.{Change}
-use Rattle.mf_policy.specs.declared.spec.Changed.{Changed}
+use Rattle.mf_policy.specs.declared.settings.Change.{Change}
+use Rattle.mf_policy.specs.declared.settings.Changed.{Changed}
 use Rattle.mf_policy.specs.Modules.{fresh_of}
 use Rattle.mf_policy.specs.Registration.{Entry, is_of}
 use Rattle.mf_policy.specs.Settings.{change_of}

@@ -5,3 +5,4 @@ mod Grants
 pub mod Held
 mod Maps
 pub mod Places
+pub mod Settings

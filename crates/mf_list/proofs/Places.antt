@@ -7,7 +7,7 @@ use Rattle.mf_errno.specs.Module.{same_module}
 use Rattle.mf_errno.specs.declared.module.Module.{Module}
 use Rattle.mf_errno.proofs.Modules.{same_module-is}
 use Rattle.mf_policy.specs.Registration.{Entry, is_listed, is_of}
-use Rattle.mf_policy.specs.declared.registration.Registration.{Registration}
+use Rattle.mf_policy.proofs.Entries.{entry_at, no_entry, written_at}
 use Rattle.mf_policy.proofs.Places.{any_by_place, found, not_found, remove_at_place}
 use Rattle.mf_list.specs.Lists.{in_catalogue}
 use Rattle.mf_list.specs.Places.{IsAbsent, IsEntryPlace, IsModulePlace}
@@ -22,43 +22,6 @@ module_by_position m modules i h =
       here = λ d. sym (same_module-is m (get_or modules i d) (position-Some (same_module m) modules i d h).1);
       rest = subst (λ (k : ℕ). remove modules k ≡ without_first (same_module m) modules) f.0 (remove_at_place (same_module m) modules);
     }
-
-entry_later : (x : Entry) (xs : List Entry) (i : ℕ) (d : Entry) → Some (get_or xs i d) ≡ Some (get_or (x ∷ xs) (1 + i) d)
-entry_later x xs i d = rw (one-add i) refl
-
-set_later : (x : Entry) (xs : List Entry) (i : ℕ) (e : Entry) → set (x ∷ xs) (1 + i) e ≡ x ∷ set xs i e
-set_later x xs i e = rw (one-add i) refl
-
-get_later : (x : Entry) (xs : List Entry) (i : ℕ) (d : Entry) → (get_or (x ∷ xs) (1 + i) d).0 ≡ (get_or xs i d).0
-get_later x xs i d = rw (one-add i) refl
-
--- the entry at the first place
-entry_at : (m : Module) (entries : List Entry) (d : Entry) → position_or_len (is_of m) entries < length entries → find (is_of m) entries ≡ Some (get_or entries (position_or_len (is_of m) entries) d)
-entry_at m [] d h = absurd (omega arith)
-entry_at m (x ∷ xs) d h =
-    let P : ℕ = position_or_len (is_of m) xs in
-    elim (is_of m x) as (λ b. (cond (not b) (1 + P) 0) < suc (length xs) → cond b (Some x) (find (is_of m) xs) ≡ Some (get_or (x ∷ xs) (cond (not b) (1 + P) 0) d)) [
-      | true ↦ λ _. refl
-      | false ↦ λ l. entry_at m xs d (omega arith) ∙ entry_later x xs P d
-    ] h
-
--- a new spec at the first place
-written_at : (m : Module) (entries : List Entry) (e : Entry) → position_or_len (is_of m) entries < length entries → e.0 ≡ (get_or entries (position_or_len (is_of m) entries) e).0 → set entries (position_or_len (is_of m) entries) e ≡ with_spec m e.1 entries
-written_at m [] e h same = absurd (omega arith)
-written_at m (x ∷ xs) e h same =
-    let P : ℕ = position_or_len (is_of m) xs in
-    elim (is_of m x) as (λ b. (cond (not b) (1 + P) 0) < suc (length xs) → e.0 ≡ (get_or (x ∷ xs) (cond (not b) (1 + P) 0) e).0 → set (x ∷ xs) (cond (not b) (1 + P) 0) e ≡ cond b ((x.0, e.1) ∷ xs) (x ∷ with_spec m e.1 xs)) [
-      | true ↦ λ _ s. ap (λ (r : Registration). (r, e.1) ∷ xs) s
-      | false ↦ λ l s. set_later x xs P e ∙ ap (λ (ys : List Entry). x ∷ ys) (written_at m xs e (omega arith) (s ∙ get_later x xs P e))
-    ] h same
-
-no_entry : (m : Module) (entries : List Entry) → is_listed m entries ≡ false → find (is_of m) entries ≡ None
-no_entry m [] h = refl
-no_entry m (x ∷ xs) h =
-    elim (is_of m x) as (λ b. (b || list_any (is_of m) xs) ≡ false → cond b (Some x) (find (is_of m) xs) ≡ None) [
-      | true ↦ λ l. cc
-      | false ↦ λ l. no_entry m xs l
-    ] h
 
 entry_by_position : (m : Module) (entries : List Entry) (i : ℕ) → position (is_of m) entries ≡ Some i → IsEntryPlace m entries i
 entry_by_position m entries i h =

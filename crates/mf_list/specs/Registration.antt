@@ -7,13 +7,10 @@ use Rattle.mf_policy.specs.declared.loading.LoadFault.TheVariants as loading
 use Rattle.mf_policy.specs.declared.loading.UnloadFault.{UnloadFault}
 use Rattle.mf_policy.specs.declared.loading.UnloadFault.TheVariants as unloading
 use Rattle.mf_policy.specs.declared.registration.Registration.{Registration}
-use Rattle.mf_policy.specs.declared.spec.Spec.{Spec}
-use Rattle.mf_policy.specs.declared.spec.Change.{Change}
-use Rattle.mf_policy.specs.declared.spec.Changed.{Changed}
 use Rattle.mf_policy.specs.Loading.{load_fault, unload_fault}
 use Rattle.mf_policy.specs.Registration.{Entry, is_listed, is_of}
 pub use Rattle.mf_policy.specs.Registration.{entries_without, given_after, registration_of, slot_for, with_newest, with_registered, without_first}
-use Rattle.mf_policy.specs.Settings.{change_of, no_setting}
+pub use Rattle.mf_policy.specs.Settings.{change_at, change_in, with_spec}
 use Rattle.mf_list.specs.declared.faults.RegisterFault.{RegisterFault}
 use Rattle.mf_list.specs.declared.faults.RegisterFault.TheVariants.{Unknown, NotLate, Exists, NoSlot}
 use Rattle.mf_list.specs.declared.faults.UnregisterFault.{UnregisterFault}
@@ -85,18 +82,3 @@ pub record Unregisters (m : Module) (list list' : ListView) (catalogue catalogue
   pub was_listed : is_listed m list.entries ≡ true
   pub entries : list'.entries ≡ entries_without m list.entries
   pub modules : catalogue'.modules ≡ catalogue.modules ++ m ∷ []
-
--- the list where the module's policy has that spec
-abbrev pub with_spec : Module → Spec → List Entry → List Entry
-with_spec m spec [] = []
-with_spec m spec (x ∷ xs) = cond (is_of m x) ((x.0, spec) ∷ xs) (x ∷ with_spec m spec xs)
-
--- the answer to a change of the entry, and the list after it
-abbrev pub change_at : Module → Change → List Entry → Option Entry → Changed × List Entry
-change_at m change entries None = (no_setting, entries)
-change_at m change entries (Some entry) =
-    ((change_of entry.1 change).0, with_spec m (change_of entry.1 change).1 entries)
-
--- the answer to a change of the module's policy, and the list after it; a module that isn't listed has no setting
-abbrev pub change_in : Module → Change → List Entry → Changed × List Entry
-change_in m change entries = change_at m change entries (find (is_of m) entries)

@@ -2,7 +2,7 @@
 ghost use Rattle.std.specs.Prelude.{◌≡◌, IsTrue, ◌↔◌, IfOk, OnErr};
 ghost use Rattle.mf_policy.specs.Modules as facts;
 ghost use Rattle.mf_policy.specs.Registration.{is_dynamic, is_of};
-ghost use Rattle.mf_policy.specs.Settings.{change_of};
+ghost use Rattle.mf_policy.specs.Settings.{IsChange, change_of};
 ghost use Rattle.mf_list.specs.Asked.{answer_of, grant_of};
 ghost use Rattle.mf_list.specs.Lists.{IsEntry};
 
@@ -105,6 +105,7 @@ impl<P: Policy> ListedPolicy<P> {
 
     /// Changes a setting of the policy.
     pub fn change(&mut self, alloc: Global, change: &Change) -> Result<Changed, AllocError>
+        requires { IsChange change.now }
         ensures registration { self.new.0 ≡ self.old.0 }
         ensures ok { IfOk result (λ changed. (changed, self.new.1) ≡ change_of self.old.1 change.now) }
         ensures err { OnErr result (self.new ≡ self.old) }

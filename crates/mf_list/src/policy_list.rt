@@ -1,10 +1,10 @@
 //! The listed policies in walk order.
 ghost use Rattle.std.specs.Prelude.{◌≡◌, ◌+◌, ◌<◌, ◌≤◌, [], IsTrue, ◌↔◌, length, map, OnOk, OnErr, IfOk, false, true, MatchOption, position, slice_index_or};
 ghost use Rattle.std.specs.List.{insert, position_or_len, remove};
+ghost use Rattle.mf_policy.specs.Settings.{IsChange, change_in};
 ghost use Rattle.mf_policy.specs.Registration.{Entry, is_dynamic, is_listed, is_of, with_newest};
 ghost use Rattle.mf_list.specs.Lists.{IsReady};
 ghost use Rattle.mf_list.specs.Places.{IsAbsent, IsEntryPlace};
-ghost use Rattle.mf_list.specs.Registration.{change_in};
 
 use crate::catalogue::Catalogue;
 use crate::listed::ListedPolicy;
@@ -75,6 +75,7 @@ impl<P: Policy> PolicyList<P> {
         module: Module,
         change: &Change,
     ) -> Result<Changed, AllocError>
+        requires { IsChange change.now }
         ensures ok { IfOk result (λ changed. (changed, self.new.entries) ≡ change_in «module» change.now self.old.entries) }
         ensures err { OnErr result (self.new ≡ self.old) }
         ensures spare { self.new.spare ≡ self.old.spare }

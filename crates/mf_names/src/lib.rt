@@ -11,4 +11,4 @@ pub use bytes::Bytes;
 pub use limits::{CONTENT_LIMIT, NAME_LIMIT, PATH_LIMIT, SCRIPT_LIMIT};
 pub use listing::Listing;
 pub use name::{Name, NameList, Word};
-pub use path::Path;
+pub use path::{Components, Path};

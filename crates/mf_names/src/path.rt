@@ -1,7 +1,9 @@
 //! Paths.
-ghost use Rattle.std.specs.Prelude.{◌≡◌, ◌≤◌, ◌<◌, [], ◌∷◌, ◌++◌, length, IfOk, OnOk, OnErr};
+ghost use Rattle.std.specs.Prelude.{◌≡◌, ◌≢◌, ◌≤◌, ◌<◌, [], ◌∷◌, ◌++◌, length, IfOk, OnOk, OnErr, MatchOption, ◌==◌};
+ghost use Rattle.std.specs.Bool.{Decides};
+ghost use Rattle.mf_names.specs.Paths.{HasNoSlash};
 
-use crate::{Listing, Name, PATH_LIMIT};
+use crate::PATH_LIMIT;
 use std::alloc::{AllocError, Global};
 use std::marker::Model;
 
@@ -9,18 +11,19 @@ use std::marker::Model;
 /// their list.
 #[derive(Drop)]
 pub struct Path {
-    components: Listing<Name>,
+    /// Each component behind a slash.
+    text: String,
 }
 
 impl Model for Path {
-    ghost use Rattle.std.specs.Prelude.{List, ℕ, ◌≤◌, length};
-    ghost use Rattle.mf_names.specs.declared.limits.TheConstants.{PATH_LIMIT};
+    ghost use Rattle.std.specs.Prelude.{List, ℕ, string_bytes};
+    ghost use Rattle.mf_names.specs.Paths.{components_in, IsPathText};
 
     ghost Value = { List (List ℕ) };
 
-    ghost view = { λ a. a.components };
+    ghost view = { λ p. components_in (string_bytes p.text) };
 
-    ghost invariant = { λ a. length a.components ≤ PATH_LIMIT };
+    ghost invariant = { λ p. IsPathText (string_bytes p.text) };
 }
 
 impl Path {
@@ -29,34 +32,117 @@ impl Path {
         ensures { result ≡ [] }
     {
         Path {
-            components: Listing::new(alloc),
+            text: String::new(alloc),
         }
     }
 
-    /// The path of the root directory, with room for that many components.
-    pub fn with_room(alloc: Global, components: usize) -> Result<Path, AllocError>
-        requires { components ≤ PATH_LIMIT }
+    /// The path of the root directory, with room for a text of that many bytes.
+    pub fn with_room(alloc: Global, bytes: usize) -> Result<Path, AllocError>
         ensures { IfOk result (λ path. path ≡ []) }
     {
-        let components = Listing::with_room(alloc, components)?;
-        Ok(Path { components })
+        let text = String::with_capacity(alloc, bytes)?;
+        Ok(Path { text })
     }
 
     /// Goes on to this component. If memory runs out, the path is unchanged.
-    pub fn push(&mut self, component: Name) -> Result<(), AllocError>
-        requires { length self.old < PATH_LIMIT }
-        ensures ok { OnOk result (self.new ≡ self.old ++ component ∷ []) }
+    pub fn push(&mut self, component: &str) -> Result<(), AllocError>
+        requires few { length self.old < PATH_LIMIT }
+        requires one { HasNoSlash component.now }
+        ensures ok { OnOk result (self.new ≡ self.old ++ component.now ∷ []) }
         ensures err { OnErr result (self.new ≡ self.old) }
     {
-        self.components.push(component)
+        self.text.reserve(component.len() + 1)?;
+        self.text.push('/')?;
+        self.text.push_str(component)?;
+        Ok(())
     }
 
     /// The components in order.
-    pub fn as_slice(&self) -> &[Name]
-        ensures value { result.now ≡ self.now }
+    pub fn components(&self) -> Components<'_>
+        ensures value { result ≡ self.now }
         ensures most { length self.now ≤ PATH_LIMIT }
     {
-        self.components.as_slice()
+        Components {
+            rest: self.text.as_str().strip_prefix('/'),
+        }
+    }
+
+    /// The number of components.
+    pub fn depth(&self) -> usize
+        ensures { result ≡ length self.now }
+    {
+        let mut rest = self.components();
+        let mut count = 0;
+        while rest.next().is_some() {
+            count += 1;
+        }
+        count
+    }
+}
+
+/// The components of a path that are left. Contracts see their list.
+#[derive(Drop)]
+pub struct Components<'a> {
+    /// What stands between slashes. None where no component is left.
+    rest: Option<&'a str>,
+}
+
+impl<'a> Model for Components<'a> {
+    ghost use Rattle.std.specs.Prelude.{List, ℕ};
+    ghost use Rattle.mf_names.specs.Paths.{components_behind};
+
+    ghost Value = { List (List ℕ) };
+
+    ghost view = { λ c. components_behind c.rest };
+}
+
+impl<'a> Components<'a> {
+    /// The next component, where there is one.
+    pub fn next(&mut self) -> Option<&'a str>
+        ensures { MatchOption result ((self.old ≡ []) × (self.new ≡ [])) (λ component. self.old ≡ component.now ∷ self.new) }
+    {
+        let rest = self.rest?;
+        match rest.split_once('/') {
+            None => {
+                self.rest = None;
+                Some(rest)
+            }
+            Some((component, after)) => {
+                self.rest = Some(after);
+                Some(component)
+            }
+        }
+    }
+
+    /// Those before the last, and the last, where there is one.
+    pub fn split_last(&self) -> Option<(Components<'a>, &'a str)>
+        ensures { MatchOption result (self.now ≡ []) (λ halves. self.now ≡ halves.0 ++ halves.1.now ∷ []) }
+    {
+        let rest = self.rest?;
+        match rest.rsplit_once('/') {
+            None => Some((Components { rest: None }, rest)),
+            Some((before, last)) => Some((Components { rest: Some(before) }, last)),
+        }
+    }
+
+    /// Whether none is left.
+    pub fn is_empty(&self) -> bool
+        ensures { result ≡ (length self.now == 0) }
+    {
+        self.rest.is_none()
+    }
+
+    /// Whether the same are left.
+    pub fn is_same(&self, other: &Components<'_>) -> bool
+        ensures { Decides result (self.now ≡ other.now) }
+    {
+        match self.rest {
+            None => other.is_empty(),
+            Some(text) => match other.rest {
+                None => false,
+                Some(other_text) => text == other_text,
+            },
+        }
     }
 }
 
@@ -66,14 +152,34 @@ mod tests {
 
     #[test]
     fn a_path_grows(rt: HostRuntime) -> Result<(), AllocError> {
-        let root = Path::root(rt.alloc());
-        assert!(rt; root.as_slice().is_empty());
-        let mut path = Path::with_room(rt.alloc(), 1)?;
-        path.push(Name::from_str(rt.alloc(), "etc")?)?;
-        for component in path.as_slice() {
-            assert!(rt; component.as_str() == "etc");
+        let mut path = Path::root(rt.alloc());
+        assert!(rt; path.components().is_empty());
+        path.push("etc")?;
+        path.push("motd")?;
+        assert_eq!(rt; path.depth(), 2);
+        let mut components = path.components();
+        assert!(rt; components.next() == Some("etc"));
+        assert!(rt; components.next() == Some("motd"));
+        assert!(rt; components.next().is_none());
+        Ok(())
+    }
+
+    #[test]
+    fn a_path_ends_in_its_directory(rt: HostRuntime) -> Result<(), AllocError> {
+        let mut directory = Path::with_room(rt.alloc(), 4)?;
+        assert!(rt; directory.components().split_last().is_none());
+        directory.push("etc")?;
+        let mut path = Path::root(rt.alloc());
+        path.push("etc")?;
+        path.push("motd")?;
+        assert!(rt; !path.components().is_same(&directory.components()));
+        match path.components().split_last() {
+            None => assert!(rt; false),
+            Some((before, last)) => {
+                assert!(rt; before.is_same(&directory.components()));
+                assert!(rt; last == "motd");
+            }
         }
-        assert_eq!(rt; path.as_slice().len(), 1);
         Ok(())
     }
 }

@@ -204,6 +204,11 @@ can_do_for s task me (call.Seesock name) done = tt
 can_do_for s task me call.Kldstat done = tt
 can_do_for s task me (call.Kldload name) done = loads s me name (loadable name) refl done
 can_do_for s task me (call.Kldunload name) done = unloads s name (module_named name) refl (no_fault (unload_refusal s (module_named name)) proceed done)
+can_do_for s task me (call.Sysctl name value) done = tt
+can_do_for s task me call.UgidfwList done = tt
+can_do_for s task me (call.UgidfwAdd rule) done = tt
+can_do_for s task me (call.UgidfwSet n rule) done = tt
+can_do_for s task me (call.UgidfwRemove n) done = tt
 
 by_caller : (s : State) (task : List ℕ) (c : Call) (caller : Option Id) → (plan_by s task c caller).tail ≡ Do → IsSome caller × CanDo s task c
 by_caller s task c None done = cc

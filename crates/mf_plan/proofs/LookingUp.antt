@@ -1,7 +1,6 @@
 -- The look-up of a path, from the front: the directories so far, where they lead, and what is left.
-use Rattle.std.proofs.Common.{◌≡◌, ◌≢◌, ℕ, ◌+◌, ◌<◌, Bool, true, false, List, [], ◌∷◌, ◌++◌, Option, Some, None, Result, Ok, Err, length, get_or, drop, All, refl, ap, sym, ◌∙◌, subst, append_assoc, length-append, arith, if◌then◌else◌}
+use Rattle.std.proofs.Common.{◌≡◌, ◌≢◌, ℕ, ◌+◌, Bool, true, false, List, [], ◌∷◌, ◌++◌, Option, Some, None, Result, Ok, Err, length, All, refl, ap, sym, ◌∙◌, subst, append_assoc, length-append, arith, if◌then◌else◌}
 use Rattle.std.specs.Prelude.{find, IfSome}
-use Rattle.std.proofs.lemmas.List.{drop_more}
 use Rattle.std.proofs.lemmas.List.Elements.{All-push}
 use Rattle.mf_errno.specs.declared.errno.Errno.{Errno}
 use Rattle.mf_errno.specs.declared.errno.Errno.TheVariants.{Enotdir}
@@ -26,20 +25,20 @@ abbrev pub onward : Entities → Target → List (List ℕ) → Lookup
 onward objects target [] = record { lookups = []; target = target }
 onward objects target (name ∷ rest) = going_from objects (name ∷ rest) (next_dir objects target)
 
--- so many components of a path are done
-pub record IsLookingUp (objects : Entities) (path : List (List ℕ)) (done : ℕ) (lookups : List Id) (target : Target) : Type 0 where
-  pub whole : lookup_along objects path ≡ past lookups (onward objects target (drop done path))
+-- these components of a path are left
+pub record IsLookingUp (objects : Entities) (path left : List (List ℕ)) (lookups : List Id) (target : Target) : Type 0 where
+  pub whole : lookup_along objects path ≡ past lookups (onward objects target left)
   pub dirs : All (λ dir. IsLive is_directory objects dir) lookups
   pub live : IsTarget objects target
-  pub few : length lookups ≡ done
+  pub few : length lookups + length left ≡ length path
 
 from_root : (objects : Entities) (path : List (List ℕ)) → lookup_along objects path ≡ past [] (onward objects Root path)
 unfolding lookup_from
 from_root objects [] = refl
 from_root objects (name ∷ rest) = refl
 
-pub begin : (objects : Entities) (path : List (List ℕ)) → IsLive is_directory objects root → IsLookingUp objects path 0 [] Root
-begin objects path live = record { whole = from_root objects path; dirs = λ k d below. absurd (omega arith); live = live; few = refl }
+pub begin : (objects : Entities) (path : List (List ℕ)) → IsLive is_directory objects root → IsLookingUp objects path path [] Root
+begin objects path live = record { whole = from_root objects path; dirs = λ k d below. absurd (omega arith); live = live; few = omega arith }
 
 one_more : (objects : Entities) (name : List ℕ) (rest : List (List ℕ)) (dir : Id)
     → lookup_from objects (name ∷ rest) dir ≡ looking_into dir (onward objects (Name dir (entry_of objects dir name)) rest)
@@ -60,26 +59,23 @@ one_more objects name (below ∷ rest) dir = ap (looking_into dir) (by_entry (en
 past_more : (lookups : List Id) (dir : Id) (rest : Lookup) → past lookups (looking_into dir rest) ≡ past (lookups ++ dir ∷ []) rest
 past_more lookups dir rest = ap (λ (dirs : List Id). let w : Lookup = record rest { lookups = dirs } in w) (sym (append_assoc lookups (dir ∷ []) rest.lookups))
 
-pub step : (objects : Entities) (path : List (List ℕ)) (done : ℕ) (lookups : List Id) (target : Target) (dir : Id) (entry : Option Id) (name : List ℕ)
-    → done < length path → name ≡ get_or path done name → next_dir objects target ≡ Ok dir → entry ≡ entry_of objects dir name → IsTarget objects (Name dir entry)
-    → IsLookingUp objects path done lookups target → IsLookingUp objects path (done + 1) (lookups ++ dir ∷ []) (Name dir entry)
-step objects path done lookups target dir entry name within is next found live walking =
+pub step : (objects : Entities) (path left more : List (List ℕ)) (lookups : List Id) (target : Target) (dir : Id) (entry : Option Id) (name : List ℕ)
+    → left ≡ name ∷ more → next_dir objects target ≡ Ok dir → entry ≡ entry_of objects dir name → IsTarget objects (Name dir entry)
+    → IsLookingUp objects path left lookups target → IsLookingUp objects path more (lookups ++ dir ∷ []) (Name dir entry)
+step objects path left more lookups target dir entry name is next found live walking =
     record {
-      whole = walking.whole ∙ ap (λ (w : Lookup). past lookups w) further ∙ past_more lookups dir (onward objects (Name dir entry) (drop (done + 1) path));
+      whole = walking.whole ∙ ap (λ (w : Lookup). past lookups w) further ∙ past_more lookups dir (onward objects (Name dir entry) more);
       dirs = All-push (λ (d : Id). IsLive is_directory objects d) lookups dir walking.dirs live.0;
       live = live;
-      few = omega (arith, length-append lookups (dir ∷ []), walking.few);
+      few = omega (arith, length-append lookups (dir ∷ []), ap length is, walking.few);
     }
   where
-    rest : drop done path ≡ name ∷ drop (done + 1) path
-    rest = drop_more path done name within ∙ ap (λ (n : List ℕ). n ∷ drop (done + 1) path) (sym is)
-
-    further : onward objects target (drop done path) ≡ looking_into dir (onward objects (Name dir entry) (drop (done + 1) path))
+    further : onward objects target left ≡ looking_into dir (onward objects (Name dir entry) more)
     further =
-        ap (onward objects target) rest
-        ∙ ap (going_from objects (name ∷ drop (done + 1) path)) next
-        ∙ one_more objects name (drop (done + 1) path) dir
-        ∙ ap (λ (e : Option Id). looking_into dir (onward objects (Name dir e) (drop (done + 1) path))) (sym found)
+        ap (onward objects target) is
+        ∙ ap (going_from objects (name ∷ more)) next
+        ∙ one_more objects name more dir
+        ∙ ap (λ (e : Option Id). looking_into dir (onward objects (Name dir e) more)) (sym found)
 
 -- an entry that is found is a live vnode, and not the root
 pub live_entry : (objects : Entities) (entry : Option Id) → IfSome entry (λ id. IsLive is_vnode objects id) → IfSome entry (λ id. id.0 ≢ 0)

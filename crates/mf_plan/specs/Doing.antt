@@ -93,11 +93,6 @@ pub record CanUnload (s : State) (name : List ℕ) : Type 0 where
 -- The table: what the change of a call of the task needs.
 abbrev pub CanDo : State → List ℕ → Call → Type 0
 CanDo s task (call.Fork child) = CanMake s.objects (live_named is_process s.objects (child_name task child))
-CanDo s task call.Exit = Unit {0}
-CanDo s task (call.See name) = Unit {0}
-CanDo s task (call.Signal name) = Unit {0}
-CanDo s task (call.Debug name) = Unit {0}
-CanDo s task (call.Sched name) = Unit {0}
 CanDo s task (call.Exec path) = CanFind s.objects path
 CanDo s task (call.Create path) = CanCreate s.objects path
 CanDo s task (call.Mkdir path) = CanCreate s.objects path
@@ -114,7 +109,6 @@ CanDo s task (call.Pwrite name text) = CanFill s.objects name text
 CanDo s task (call.Pstat name) = CanRead s.objects name
 CanDo s task (call.Send from to text) = CanDeliver s.objects to
 CanDo s task (call.Recv name) = CanReceive s.objects name
-CanDo s task (call.Seesock name) = Unit {0}
-CanDo s task call.Kldstat = Unit {0}
 CanDo s task (call.Kldload name) = CanLoad s name
 CanDo s task (call.Kldunload name) = CanUnload s name
+CanDo s task other = Unit {0}

@@ -4,6 +4,7 @@ pub mod Names
 pub mod Loading
 pub mod Planned
 pub mod Plan
+pub mod Settings
 pub mod Found
 pub mod Outline
 pub mod Viewing

@@ -3,11 +3,12 @@
 --
 -- A row is read from the left: `ask` is a check, `refuse_if` a test of the framework that ends the plan with an errno, and
 -- `proceed` the end of a call that may be done.
-use Rattle.std.specs.Prelude.{ℕ, Bool, not, List, [], ◌∷◌, ◌++◌, map, Option, Some, None, is_some, Result, Ok, Err, if◌then◌else◌}
+use Rattle.std.specs.Prelude.{ℕ, Bool, not, nat_eq, List, [], ◌∷◌, ◌++◌, map, Option, Some, None, is_some, Result, Ok, Err, if◌then◌else◌}
 use Rattle.mf_errno.specs.declared.errno.Errno.{Errno}
 use Rattle.mf_errno.specs.declared.errno.Errno.TheVariants as errno
 use Rattle.mf_errno.specs.Module.{module_named}
 use Rattle.mf_errno.specs.declared.module.Module.{Module}
+use Rattle.mf_errno.specs.declared.module.Module.TheVariants as modules
 use Rattle.mf_errno.specs.declared.privilege.Priv.{Priv}
 use Rattle.mf_errno.specs.declared.privilege.Priv.TheVariants as privilege
 use Rattle.mf_item.specs.declared.operation.CheckOp.{CheckOp}
@@ -24,6 +25,8 @@ use Rattle.mf_plan.specs.declared.plan.Tail.TheVariants.{Do, Refuse}
 use Rattle.mf_plan.specs.declared.state.State.{State}
 use Rattle.mf_plan.specs.declared.target.Target.{Target}
 use Rattle.mf_plan.specs.Loading.{loadable, load_refusal, unload_refusal}
+use Rattle.mf_policy.specs.Registration.{is_listed}
+use Rattle.mf_plan.specs.Settings.{setting_refusal}
 use Rattle.mf_plan.specs.Names.{caller_name, child_name}
 use Rattle.mf_plan.specs.Path.{lookup_along, found_at, free_at, entry_at}
 use Rattle.mf_plan.specs.declared.lookup.Lookup.{Lookup}
@@ -139,6 +142,13 @@ abbrev pub load_row : State → SubjectView → Option Module → Plan
 load_row s me None = refuse errno.Enoent
 load_row s me (Some m) = ask (about_modules me op.KldLoad) (refuse_by (load_refusal s m) proceed)
 
+-- root alone changes a setting
+abbrev pub setting_row : State → SubjectView → Call → Plan
+setting_row s me c = refuse_if (not (nat_eq me.cred.uid 0)) errno.Eperm (refuse_by (setting_refusal s.specs c) proceed)
+
+abbrev pub rules_row : State → Plan
+rules_row s = refuse_if (not (is_listed modules.Bsdextended s.specs)) errno.Enoent proceed
+
 -- The table: the plan of a call of a live process of the task.
 abbrev pub plan_for : State → List ℕ → SubjectView → Call → Plan
 plan_for s task me (call.Fork child) = make_row s.objects (process_named s.objects (child_name task child))
@@ -168,6 +178,11 @@ plan_for s task me call.Kldstat = proceed
 plan_for s task me (call.Kldload name) = ask (privileged me privilege.KldLoad) (load_row s me (loadable name))
 plan_for s task me (call.Kldunload name) =
     ask (privileged me privilege.KldUnload) (ask (about_modules me op.KldUnload) (refuse_by (unload_refusal s (module_named name)) proceed))
+plan_for s task me (call.Sysctl name value) = setting_row s me (call.Sysctl name value)
+plan_for s task me call.UgidfwList = rules_row s
+plan_for s task me (call.UgidfwAdd rule) = setting_row s me (call.UgidfwAdd rule)
+plan_for s task me (call.UgidfwSet n rule) = setting_row s me (call.UgidfwSet n rule)
+plan_for s task me (call.UgidfwRemove n) = setting_row s me (call.UgidfwRemove n)
 
 -- a caller that doesn't live makes no call
 abbrev pub plan_by : State → List ℕ → Call → Option Id → Plan

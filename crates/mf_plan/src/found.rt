@@ -60,7 +60,12 @@ fn target_in(objects: &Objects, call: &Call) -> Option<Id>
         | Call::Seesock(_)
         | Call::Kldstat
         | Call::Kldload(_)
-        | Call::Kldunload(_) => None,
+        | Call::Kldunload(_)
+        | Call::Sysctl(..)
+        | Call::UgidfwList
+        | Call::UgidfwAdd(_)
+        | Call::UgidfwSet(..)
+        | Call::UgidfwRemove(_) => None,
     }
 }
 

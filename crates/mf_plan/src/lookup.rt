@@ -1,12 +1,12 @@
 //! The look-up of a path, as namei(9) makes it: each component is looked up once, in the directory that the one before names.
-ghost use Rattle.std.specs.Prelude.{◌≡◌, ◌≤◌, length, All, IfOk};
+ghost use Rattle.std.specs.Prelude.{◌≡◌, All, IfOk};
 ghost use Rattle.mf_objects.specs.Live.{IsLive, is_directory};
 ghost use Rattle.mf_plan.specs.Path as spec;
 
 use crate::target::Target;
 use mf_cred::ArrayVec;
 use mf_errno::Errno;
-use mf_names::{Name, PATH_LIMIT, Path};
+use mf_names::{PATH_LIMIT, Path};
 use mf_objects::{Id, Objects};
 
 /// The directories that are looked into along a path, and where the path leads.
@@ -22,24 +22,16 @@ pub fn lookup_along(objects: &Objects, path: &Path) -> Lookup
     ensures dirs { All (λ dir. IsLive is_directory objects.now dir) result.lookups }
     ensures target { spec.IsTarget objects.now result.target }
 {
-    lookup_components(objects, path.as_slice())
-}
-
-fn lookup_components(objects: &Objects, path: &[Name]) -> Lookup
-    requires { length path.now ≤ PATH_LIMIT }
-    ensures value { result ≡ spec.lookup_along objects.now path.now }
-    ensures dirs { All (λ dir. IsLive is_directory objects.now dir) result.lookups }
-    ensures target { spec.IsTarget objects.now result.target }
-{
     // Asking for the root shows the proof that it is a live directory.
     let _root = objects.root();
     let mut lookups = ArrayVec::new();
     let mut target = Target::Root;
-    for name in path {
+    let mut components = path.components();
+    while let Some(name) = components.next() {
         match next_dir(objects, target) {
             Ok(dir) => {
                 lookups.push(dir);
-                target = Target::Name(dir, objects.child(dir, name.as_str()));
+                target = Target::Name(dir, objects.child(dir, name));
             }
             Err(errno) => {
                 return Lookup {

@@ -16,6 +16,7 @@ use crate::named::{fork, make, on_process, pread, pstat, pwrite, recv, seesock, 
 use crate::names::caller_of;
 use crate::outline::{Checks, Outline};
 use crate::plan::{Plan, Tail};
+use crate::settings::{change_setting, list_rules};
 use crate::state::State;
 use mf_calls::Call;
 use mf_cred::ArrayVec;
@@ -161,5 +162,9 @@ fn ask_for(
         Call::Seesock(name) => seesock(objects, caller, name.as_str(), checks),
         Call::Kldload(name) => kldload(state, caller, name.as_str(), checks),
         Call::Kldunload(name) => kldunload(state, caller, name.as_str(), checks),
+        Call::Sysctl(..) | Call::UgidfwAdd(_) | Call::UgidfwSet(..) | Call::UgidfwRemove(_) => {
+            change_setting(state, caller, call)
+        }
+        Call::UgidfwList => list_rules(state),
     }
 }

@@ -5,6 +5,7 @@ use mf_item::CheckOp;
 use mf_names::NameList;
 use mf_objects::Head;
 use mf_policy::MOST_LISTED;
+use mf_rule::RuleList;
 
 /// A loaded module, and the number of its label slot where it has one.
 #[derive(Clone, Copy, Debug, Default, PartialEq, Eq)]
@@ -28,6 +29,10 @@ pub enum Payload {
     Names { count: u32, first: NameList },
     /// The loaded modules in walk order.
     Modules(ArrayVec<Loaded, MOST_LISTED>),
+    /// The rules about files.
+    Rules(RuleList),
+    /// The number that the rule got.
+    Rule(u32),
     /// The label slot that the module got, where it wants one.
     Slot(Option<u8>),
 }

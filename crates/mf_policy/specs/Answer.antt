@@ -1,10 +1,11 @@
--- What a policy answers to an item, by its spec and the table of operations: mac_biba(4), mac_mls(4) and mac_partition(4), with the errnos of
--- docs/MANUAL.md (POLICIES).
+-- What a policy answers to an item, by its spec and the table of operations: mac_biba(4), mac_mls(4), mac_partition(4), mac_bsdextended(4)
+-- and mac_priority(4), with the errnos of docs/MANUAL.md (POLICIES).
 use Rattle.std.specs.Prelude.{ℕ, Bool, true, false, cond, ◌||◌, nat_eq, Option, Some, None, unwrap_or, slice_index_or}
 use Rattle.mf_errno.specs.declared.errno.Errno.{Errno}
 use Rattle.mf_errno.specs.declared.errno.Errno.TheVariants.{Success, Esrch, Eacces, Eperm}
 use Rattle.mf_errno.specs.declared.module.Module.TheVariants as modules
 use Rattle.mf_errno.specs.declared.privilege.Priv.{Priv}
+use Rattle.mf_errno.specs.declared.privilege.Priv.TheVariants as privilege
 use Rattle.mf_elem.specs.declared.elem.Elem.{Elem}
 use Rattle.mf_elem.specs.declared.label.RangeLabel.{RangeLabel}
 use Rattle.mf_elem.specs.declared.label.LabelValue.{LabelValue}
@@ -13,8 +14,11 @@ use Rattle.mf_elem.specs.declared.label.Request.{Request}
 use Rattle.mf_elem.specs.Elem.{dominates, same_level}
 use Rattle.mf_elem.specs.Label.{is_privileged}
 use Rattle.mf_cred.specs.declared.cred.Cred.{Cred}
+use Rattle.mf_cred.specs.declared.cred.FileView.{FileView}
+use Rattle.mf_cred.specs.Groups.{in_group}
 use Rattle.mf_item.specs.Item.{Item}
 use Rattle.mf_item.specs.declared.view.ObjectView.{ObjectView}
+use Rattle.mf_rule.specs.RuleList.{Slots, verdict}
 use Rattle.mf_policy.specs.declared.spec.Spec.{Spec}
 use Rattle.mf_policy.specs.declared.spec.Spec.TheVariants as means
 use Rattle.mf_policy.specs.declared.operations.Test.{Test}
@@ -22,7 +26,9 @@ use Rattle.mf_policy.specs.declared.operations.Test.TheVariants.{Observe, Modify
 use Rattle.mf_policy.specs.declared.operations.PartitionTest.{PartitionTest}
 use Rattle.mf_policy.specs.declared.operations.PartitionTest.TheVariants.{Agree, Join, Ignore}
 use Rattle.mf_policy.specs.Modules.{range_asked, number_asked}
-use Rattle.mf_policy.specs.Operations.{test_of, partition_test_of}
+use Rattle.mf_policy.specs.declared.operations.Letters.{Letters}
+use Rattle.mf_policy.specs.declared.operations.Letters.TheVariants.{Asked, NotAsked}
+use Rattle.mf_policy.specs.Operations.{letters_of, test_of, partition_test_of}
 use Rattle.mf_policy.specs.Relabel.{credential_relabel, object_relabel}
 
 -- A policy whose labels have ranges: whether a subject of one element may observe and may modify an object of another, which part of a request
@@ -138,12 +144,40 @@ partition_answer slot item =
     let object = partition_of (object_slot item.object slot) in
     partition_verdict (partition_test_of item.op) item.subject.cred subject object (partition_asked item.request)
 
+-- the attributes of the object; all zero where there is none
+abbrev pub file_of : Option ObjectView → FileView
+file_of None = record { uid = 0; gid = 0; mode = 0; dir = false }
+file_of (Some object) = object.file
+
+-- the answer of rules about files to a subject that asks for these letters
+abbrev pub letters_answer : Slots → Bool → Letters → Cred → FileView → Errno
+letters_answer rules first NotAsked cred file = Success
+letters_answer rules first (Asked letters) cred file = errno_unless (verdict first rules cred file letters) Eacces
+
+-- what the policy of rules about files answers to an item
+abbrev pub rules_answer : Slots → Bool → Item → Errno
+rules_answer rules first item = letters_answer rules first (letters_of item.op) item.subject.cred (file_of item.object)
+
 -- what a policy of this spec, which holds this slot, answers to an item
 abbrev pub answer : Spec → ℕ → Item → Errno
 answer means.Biba slot item = lattice_answer biba slot item
 answer means.Mls slot item = lattice_answer mls slot item
 answer means.Partition slot item = partition_answer slot item
+answer (means.Bsdextended rules first) slot item = rules_answer rules first item
+answer means.Priority slot item = Success
+
+-- one of the groups, where one is named
+abbrev pub in_some_group : Cred → Option ℕ → Bool
+in_some_group cred None = false
+in_some_group cred (Some group) = in_group cred group
+
+-- the group whose members mac_priority grants the privilege
+abbrev pub granted_group : Priv → Option ℕ
+granted_group privilege.SchedRtprio = Some 47
+granted_group privilege.SchedIdprio = Some 48
+granted_group other = None
 
 -- whether a policy of this spec grants the privilege to a process of that credential
 abbrev pub grants : Spec → Cred → Priv → Bool
+grants means.Priority cred privilege = in_some_group cred (granted_group privilege)
 grants other cred privilege = false

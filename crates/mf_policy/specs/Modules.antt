@@ -1,6 +1,6 @@
 -- What is true of each module whatever its settings, and its spec in its initial state. When a module may be loaded is mac(4)'s table, and the
--- labels at boot are those of mac_biba(4) and mac_mls(4).
-use Rattle.std.specs.Prelude.{ℕ, Bool, true, false, not, ◌&&◌, ◌||◌, if◌then◌else◌, Option, Some, None, is_none, is_some, unwrap_or}
+-- labels at boot are those of mac_biba(4) and mac_mls(4). That mac_bsdextended begins with first match is mac_bsdextended(4)'s.
+use Rattle.std.specs.Prelude.{ℕ, Bool, true, false, not, ◌&&◌, ◌||◌, if◌then◌else◌, Option, Some, None, is_none, is_some, replicate, unwrap_or}
 use Rattle.mf_errno.specs.declared.module.Module.{Module}
 use Rattle.mf_errno.specs.declared.module.Module.TheVariants as modules
 use Rattle.mf_elem.specs.declared.elem.Elem.{Elem}
@@ -12,6 +12,7 @@ use Rattle.mf_elem.specs.declared.label.Request.{Request}
 use Rattle.mf_elem.specs.Label.{is_valid, replaced}
 use Rattle.mf_item.specs.declared.view.Kind.{Kind}
 use Rattle.mf_item.specs.declared.view.Kind.TheVariants as kinds
+use Rattle.mf_rule.specs.declared.rule_list.TheConstants.{MAX_RULES}
 use Rattle.mf_policy.specs.declared.modules.Facts.{Facts}
 use Rattle.mf_policy.specs.declared.modules.Labelling.{Labelling}
 use Rattle.mf_policy.specs.declared.modules.Labelling.TheVariants.{Nothing, Ranges, Partitions}
@@ -33,7 +34,7 @@ abbrev pub facts_of : Module → Facts
 facts_of modules.Biba = record { built_in = true; flags = notlate; labels = ranges_at High }
 facts_of modules.Mls = record { built_in = true; flags = notlate; labels = ranges_at Low }
 facts_of modules.Partition = record { built_in = true; flags = unloadok; labels = Partitions }
-facts_of modules.Bsdextended = record { built_in = false; flags = unloadok; labels = Nothing }
+facts_of modules.Bsdextended = record { built_in = true; flags = unloadok; labels = Nothing }
 facts_of modules.Priority = record { built_in = false; flags = unloadok; labels = Nothing }
 
 -- the label with ranges that a request asks of a module
@@ -52,15 +53,16 @@ abbrev pub module_of : Spec → Module
 module_of means.Biba = modules.Biba
 module_of means.Mls = modules.Mls
 module_of means.Partition = modules.Partition
+module_of (means.Bsdextended rules first) = modules.Bsdextended
+module_of means.Priority = modules.Priority
 
--- The spec of a module in its initial state. A module whose policy isn't built in has none: Biba's stands there, and no
--- clause speaks of it.
+-- the spec of a module in its initial state; mac_bsdextended begins with no rules and with first match
 abbrev pub fresh_of : Module → Spec
 fresh_of modules.Biba = means.Biba
 fresh_of modules.Mls = means.Mls
 fresh_of modules.Partition = means.Partition
-fresh_of modules.Bsdextended = means.Biba
-fresh_of modules.Priority = means.Biba
+fresh_of modules.Bsdextended = means.Bsdextended (replicate MAX_RULES None) true
+fresh_of modules.Priority = means.Priority
 
 -- What follows from it
 

@@ -8,7 +8,7 @@ use Rattle.std.specs.Prelude.{◌+◌}
 use Rattle.mf_errno.specs.declared.errno.Errno.TheVariants.{Enoent, Esrch, Eacces}
 use Rattle.mf_item.specs.declared.operation.CheckOp.{CheckOp}
 use Rattle.mf_item.specs.declared.operation.CheckOp.TheVariants as op
-use Rattle.mf_policy.specs.declared.operations.TheConstants.{ADMINISTER, READ, STAT, WRITE, EXECUTE}
+use Rattle.mf_rule.specs.declared.rule.TheConstants.{ADMINISTER, READ, STAT, WRITE, EXECUTE}
 use Rattle.mf_policy.specs.declared.operations.Test.{Test}
 use Rattle.mf_policy.specs.declared.operations.Test.TheVariants.{Observe, Modify, ObserveAndModify, SameLevel, RelabelObject, RelabelCredential, GuardModules, Pass}
 use Rattle.mf_policy.specs.declared.operations.PartitionTest.{PartitionTest}
@@ -63,6 +63,10 @@ test_of operation = (row_of operation).test
 -- what the partition policy tests for an operation
 abbrev pub partition_test_of : CheckOp → PartitionTest
 partition_test_of operation = (row_of operation).partition
+
+-- what rules about files are asked for an operation
+abbrev pub letters_of : CheckOp → Letters
+letters_of operation = (row_of operation).letters
 
 -- which way an operation moves information where its check passes
 abbrev pub movement_of : CheckOp → Movement

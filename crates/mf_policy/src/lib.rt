@@ -11,6 +11,7 @@ mod operations;
 mod policy;
 mod registration;
 mod relabel;
+mod settings;
 mod spec;
 mod spec_list;
 
@@ -22,11 +23,10 @@ pub use modules::{
     Facts, Labelling, boot_value, facts_of, flags_of, has_spec, inherited, is_named, labels_kind,
     may_ask, number_asked, range_asked, takes, wants_slot,
 };
-pub use operations::{
-    ADMINISTER, EXECUTE, Letters, Movement, PartitionTest, READ, Row, STAT, Test, WRITE, row_of,
-};
+pub use operations::{Letters, Movement, PartitionTest, Row, Test, row_of};
 pub use policy::Policy;
 pub use registration::{MOST_LISTED, Registration};
 pub use relabel::{credential_relabel, object_relabel};
-pub use spec::{Change, Changed, Spec};
+pub use settings::{Change, Changed, change_rules};
+pub use spec::Spec;
 pub use spec_list::SpecList;

@@ -49,7 +49,12 @@ pub fn facts_of(module: Module) -> Facts
             flags: LoadFlags::UNLOADOK,
             labels: Labelling::Partitions,
         },
-        Module::Bsdextended | Module::Priority => Facts {
+        Module::Bsdextended => Facts {
+            built_in: true,
+            flags: LoadFlags::UNLOADOK,
+            labels: Labelling::Nothing,
+        },
+        Module::Priority => Facts {
             built_in: false,
             flags: LoadFlags::UNLOADOK,
             labels: Labelling::Nothing,

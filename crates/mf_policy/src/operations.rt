@@ -11,6 +11,7 @@ use Test::{
 };
 use mf_errno::Errno::{self, Eacces, Enoent, Esrch};
 use mf_item::CheckOp;
+use mf_rule::{ADMINISTER, EXECUTE, READ, STAT, WRITE};
 
 /// What Biba and MLS test.
 #[derive(Clone, Copy, Debug, PartialEq, Eq)]
@@ -44,21 +45,10 @@ pub enum PartitionTest {
     Ignore,
 }
 
-/// The letter `a` of ugidfw(8), as a bit: to administer.
-pub const ADMINISTER: u8 = 1;
-/// The letter `r`.
-pub const READ: u8 = 2;
-/// The letter `s`.
-pub const STAT: u8 = 4;
-/// The letter `w`.
-pub const WRITE: u8 = 8;
-/// The letter `x`.
-pub const EXECUTE: u8 = 16;
-
 /// What rules about files are asked.
 #[derive(Clone, Copy, Debug, PartialEq, Eq)]
 pub enum Letters {
-    /// Whether they give all of these letters, of which there may be none.
+    /// Whether they give all of these letters of ugidfw(8), of which there may be none.
     Asked(u8),
     /// Nothing.
     NotAsked,

@@ -2,7 +2,7 @@
 ghost use Rattle.std.specs.Prelude.{◌≡◌, ◌<◌, ◌↔◌, IsTrue, IfOk, OnErr};
 ghost use Rattle.mf_policy.specs.Answer.{answer, grants};
 ghost use Rattle.mf_policy.specs.Modules as facts;
-ghost use Rattle.mf_policy.specs.Settings.{change_of};
+ghost use Rattle.mf_policy.specs.Settings.{IsChange, change_of};
 
 use crate::{Change, Changed, LoadFlags, Spec};
 use mf_cred::Cred;
@@ -44,6 +44,7 @@ pub trait Policy: Send + Sync + Drop {
 
     /// Changes a setting. A policy without that setting returns ENOENT. If memory runs out, the policy is unchanged.
     fn change(&mut self, alloc: Global, change: &Change) -> Result<Changed, AllocError>
+        requires { IsChange change.now }
         ensures ok { IfOk result (λ changed. (changed, spec self.new) ≡ change_of (spec self.old) change.now) }
         ensures err { OnErr result (spec self.new ≡ spec self.old) };
 

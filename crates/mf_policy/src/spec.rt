@@ -1,68 +1,55 @@
-//! The specs of policies, and the settings that change them.
+//! The specs of policies.
 ghost use Rattle.std.specs.Prelude.{◌≡◌, ◌↔◌, IsTrue, IfOk, OnErr};
 ghost use Rattle.mf_policy.specs.Modules as facts;
-ghost use Rattle.mf_policy.specs.Settings.{change_of, no_setting};
+ghost use Rattle.mf_policy.specs.Settings.{IsChange, change_of, rules_of};
+ghost use Rattle.std.specs.Option.{option_copied};
 
-use mf_errno::{Errno, Module};
+use crate::settings::{Change, Changed, answer_of_rules, change_rules};
+use mf_errno::Module;
+use mf_rule::RuleList;
 use std::alloc::{AllocError, Global};
 
 /// What determines a policy's answers: its module, with the values of its settings.
-#[derive(Debug, Drop)]
+#[derive(Drop)]
 pub enum Spec {
     Biba,
     Mls,
     Partition,
-}
-
-/// A change of a setting.
-#[derive(Debug, Drop)]
-pub enum Change {
-    /// Whether the file system firewall stops at the first rule that matches, as the sysctl
-    /// `security.mac.bsdextended.firstmatch_enabled` of mac_bsdextended(4) sets it.
-    FirstMatch(bool),
-}
-
-/// The answer to a change: its errno, and for a rule that was added its number.
-#[derive(Clone, Copy, Debug, PartialEq, Eq)]
-pub struct Changed {
-    pub errno: Errno,
-    pub number: Option<u32>,
-}
-
-impl Changed {
-    /// The answer of a policy that has no such setting.
-    pub fn no_setting() -> Changed
-        ensures { result ≡ no_setting }
-    {
-        Changed {
-            errno: Errno::Enoent,
-            number: None,
-        }
-    }
+    /// Its rules about files, and whether the first of them that matches decides.
+    Bsdextended { rules: RuleList, first_match: bool },
+    Priority,
 }
 
 impl Spec {
-    /// The spec of the module in its initial state. A policy of the module must be built in.
-    pub fn fresh(_alloc: Global, module: Module) -> Result<Spec, AllocError>
-        requires { IsTrue (facts.has_spec «module») }
+    /// The spec of the module in its initial state.
+    pub fn fresh(alloc: Global, module: Module) -> Result<Spec, AllocError>
         ensures { IfOk result (λ spec. spec ≡ facts.fresh_of «module») }
     {
         match module {
             Module::Biba => Ok(Spec::Biba),
             Module::Mls => Ok(Spec::Mls),
             Module::Partition => Ok(Spec::Partition),
-            _ => unreachable!(),
+            Module::Bsdextended => Ok(Spec::Bsdextended {
+                rules: RuleList::new(alloc)?,
+                first_match: true,
+            }),
+            Module::Priority => Ok(Spec::Priority),
         }
     }
 
     /// A copy.
-    pub fn copy(&self, _alloc: Global) -> Result<Spec, AllocError>
+    pub fn copy(&self, alloc: Global) -> Result<Spec, AllocError>
         ensures { IfOk result (λ spec. spec ≡ self.now) }
     {
         match self {
             Spec::Biba => Ok(Spec::Biba),
             Spec::Mls => Ok(Spec::Mls),
             Spec::Partition => Ok(Spec::Partition),
+            Spec::Bsdextended { rules, first_match } => Ok(Spec::Bsdextended {
+                rules: rules.copy(alloc)?,
+                first_match: *first_match,
+            }),
+            Spec::Priority => Ok(Spec::Priority),
         }
     }
 
@@ -73,16 +60,52 @@ impl Spec {
         match (self, other) {
             (Spec::Biba, Spec::Biba)
             | (Spec::Mls, Spec::Mls)
-            | (Spec::Partition, Spec::Partition) => true,
+            | (Spec::Partition, Spec::Partition)
+            | (Spec::Priority, Spec::Priority) => true,
+            (
+                Spec::Bsdextended { rules, first_match },
+                Spec::Bsdextended {
+                    rules: other_rules,
+                    first_match: other_first,
+                },
+            ) => *first_match == *other_first && rules.same(other_rules),
             _ => false,
         }
     }
 
+    /// What `change` would answer. It takes no memory.
+    pub fn answer_to(&self, change: &Change) -> Changed
+        ensures { result ≡ (change_of self.now change.now).0 }
+    {
+        match self {
+            Spec::Bsdextended { rules, .. } => answer_of_rules(rules, change),
+            Spec::Biba | Spec::Mls | Spec::Partition | Spec::Priority => Changed::no_setting(),
+        }
+    }
+
     /// Changes a setting, as `Policy::change` does.
-    pub fn change(&mut self, _alloc: Global, _change: &Change) -> Result<Changed, AllocError>
-        ensures ok { IfOk result (λ changed. (changed, self.new) ≡ change_of self.old _change.now) }
+    pub fn change(&mut self, _alloc: Global, change: &Change) -> Result<Changed, AllocError>
+        requires { IsChange change.now }
+        ensures ok { IfOk result (λ changed. (changed, self.new) ≡ change_of self.old change.now) }
         ensures err { OnErr result (self.new ≡ self.old) }
     {
-        Ok(Changed::no_setting())
+        match self {
+            Spec::Bsdextended { rules, first_match } => Ok(change_rules(
+                rules,
+                first_match,
+                change,
+            )),
+            Spec::Biba | Spec::Mls | Spec::Partition | Spec::Priority => Ok(Changed::no_setting()),
+        }
+    }
+
+    /// The rules about files, where the policy has some.
+    pub fn rules(&self) -> Option<&RuleList>
+        ensures { option_copied result ≡ rules_of self.now }
+    {
+        match self {
+            Spec::Bsdextended { rules, .. } => Some(rules),
+            Spec::Biba | Spec::Mls | Spec::Partition | Spec::Priority => None,
+        }
     }
 }

@@ -2,9 +2,12 @@
 ghost use Rattle.std.specs.Prelude.{◌≡◌, ◌<◌, ◌≤◌, [], nat_eq, find, length, option_map, position, slice_index_or, slice_set, IfOk, OnOk, OnErr};
 ghost use Rattle.std.specs.List.{insert, position_or_len};
 ghost use Rattle.mf_policy.specs.Registration.{Entry, entries_without, holds_slot, is_dynamic, is_listed, is_of, with_newest};
+ghost use Rattle.mf_policy.specs.Settings.{IsChange, change_in, listed_rules};
+ghost use Rattle.std.specs.Option.{option_copied};
 
-use crate::{Registration, Spec};
+use crate::{Change, Changed, Registration, Spec};
 use mf_errno::Module;
+use mf_rule::RuleList;
 use std::alloc::{AllocError, Global};
 use std::marker::Model;
 
@@ -93,6 +96,44 @@ impl SpecList {
         self.entries[place].1 = spec;
     }
 
+    /// What a change of a setting of the module's policy would be answered. The errno is ENOENT where the module isn't listed.
+    pub fn answer_to(&self, module: Module, change: &Change) -> Changed
+        ensures { result ≡ (change_in «module» change.now self.now).0 }
+    {
+        match entry_of(&self.entries, module) {
+            Some(entry) => entry.1.answer_to(change),
+            None => Changed::no_setting(),
+        }
+    }
+
+    /// Changes a setting of the module's policy. The errno is ENOENT where the module isn't listed. If memory runs out, the
+    /// list is unchanged.
+    pub fn change(
+        &mut self,
+        alloc: Global,
+        module: Module,
+        change: &Change,
+    ) -> Result<Changed, AllocError>
+        requires { IsChange change.now }
+        ensures ok { IfOk result (λ changed. (changed, self.new) ≡ change_in «module» change.now self.old) }
+        ensures err { OnErr result (self.new ≡ self.old) }
+    {
+        match self.find(module) {
+            Some(place) => self.entries[place].1.change(alloc, change),
+            None => Ok(Changed::no_setting()),
+        }
+    }
+
+    /// The rules about files, where mac_bsdextended is listed.
+    pub fn rules(&self) -> Option<&RuleList>
+        ensures { option_copied result ≡ listed_rules self.now }
+    {
+        match entry_of(&self.entries, Module::Bsdextended) {
+            Some(entry) => entry.1.rules(),
+            None => None,
+        }
+    }
+
     /// Inserts an entry before a place, or at the end. If memory runs out, the list is unchanged.
     pub fn insert(
         &mut self,
@@ -122,7 +163,7 @@ impl SpecList {
         ensures { self.new ≡ entries_without «module» self.old }
     {
         if let Some(place) = self.find(module) {
-            self.entries.remove(place);
+            let _left = self.entries.remove(place);
         }
     }
 
@@ -142,6 +183,13 @@ fn lists(entries: &[(Registration, Spec)], module: Module) -> bool
     ensures { result ≡ is_listed «module» entries.now }
 {
     entries.iter().any(|entry| module.is(entry.0.module))
+}
+
+/// The module's entry.
+fn entry_of(entries: &[(Registration, Spec)], module: Module) -> Option<&(Registration, Spec)>
+    ensures { option_copied result ≡ find (is_of «module») entries.now }
+{
+    entries.iter().find(|entry| module.is(entry.0.module))
 }
 
 fn place_in(entries: &[(Registration, Spec)], module: Module) -> Option<usize>

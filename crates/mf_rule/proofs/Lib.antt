@@ -7,3 +7,4 @@ pub mod RoundTrips
 pub mod Spelled
 pub mod WordsBehind
 pub mod ReadAsSpelled
+pub mod Formed

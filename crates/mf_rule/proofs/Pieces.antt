@@ -13,7 +13,7 @@ use Rattle.mf_rule.specs.declared.begun.Begun.{Begun}
 use Rattle.mf_rule.specs.declared.fault.RuleFault.TheVariants.{BadRange}
 use Rattle.mf_rule.specs.Words.{range_in}
 use Rattle.mf_rule.specs.Canonical.{mark_text, range_text, id_text}
-use Rattle.mf_rule.specs.RoundTrip.{IsRange}
+use Rattle.mf_rule.specs.RuleGrammar.{IsRange}
 use Rattle.mf_rule.specs.Reading.{goes_on, once, by_value, side_of, with_side, id_test, and_then, fitted, tested, named, read_from}
 use Rattle.mf_rule.proofs.Ranges.{range_back}
 

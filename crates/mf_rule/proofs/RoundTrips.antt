@@ -9,9 +9,9 @@ use Rattle.mf_rule.specs.declared.rule.TypeTest.{TypeTest}
 use Rattle.mf_rule.specs.declared.rule.Rule.{Rule}
 use Rattle.mf_rule.specs.declared.begun.Part.TheVariants.{Subject, Object}
 use Rattle.mf_rule.specs.declared.begun.Next.TheVariants as next
-use Rattle.mf_rule.specs.RuleGrammar.{no_object_tests}
+use Rattle.mf_rule.specs.RuleGrammar.{no_object_tests, AreRanges, IsRule}
 use Rattle.mf_rule.specs.Canonical.{not_text, id_text, side_text, flag_text, flags_text, types_text, object_text, mode_text, rule_text, range_text, types_letters}
-use Rattle.mf_rule.specs.RoundTrip.{AreRanges, IsRule, CanonicalTextStandsForItsRule}
+use Rattle.mf_rule.specs.RoundTrip.{CanonicalTextStandsForItsRule}
 use Rattle.mf_rule.specs.Reading.{no_rule, nothing_read, rule_in, read_from, fitted}
 use Rattle.mf_rule.proofs.Pieces.{tail, Led, word_then, free_by, begun, open_at, On, on_trans, on_words, uid_piece, gid_piece, put_uid, put_gid}
 use Rattle.mf_rule.proofs.Letters.{mode_back}

@@ -4,9 +4,11 @@
 --
 -- A test is a name, with `!` before it where it is turned, and a value behind it where it has one. It stands at most once in a part; the order
 -- is free. ugidfw(8) has `jailid`, `filesys` and names of users and groups too, which this model lacks.
-use Rattle.std.specs.Prelude.{◌≡◌, ◌⊎◌, ℕ, Bool, false, not, List, [], ◌∷◌, ◌++◌, Some, None, codes, if◌then◌else◌}
+use Rattle.std.specs.Prelude.{◌≡◌, ◌≤◌, ◌<◌, ◌⊎◌, ℕ, Bool, false, not, List, [], ◌∷◌, ◌++◌, Some, None, IfSome, codes, if◌then◌else◌}
 use Rattle.std.specs.List.{flat_map}
 use Rattle.mf_rule.specs.Words.{range_in, mode_in, types_in}
+use Rattle.mf_rule.specs.declared.rule.TheConstants.{LAST_ID, ANY_TYPE}
+use Rattle.mf_rule.specs.declared.rule.IdTest.{IdTest}
 use Rattle.mf_rule.specs.declared.rule.Side.{Side}
 use Rattle.mf_rule.specs.declared.rule.ObjectSide.{ObjectSide}
 use Rattle.mf_rule.specs.declared.rule.Rule.{Rule}
@@ -75,3 +77,23 @@ pub record Spells (words : Words) (rule : Rule) : Type 0 where
   pub is_subject : SpellsSubject subject rule.subject
   pub is_object : SpellsObject object rule.object
   pub is_mode : mode_in letters ≡ Some rule.mode
+
+-- a range of ids that there are
+pub record IsRange (test : IdTest) : Type 0 where
+  pub ordered : test.least ≤ test.greatest
+  pub below : test.greatest ≤ LAST_ID
+
+pub record AreRanges (side : Side) : Type 0 where
+  pub uid : IfSome side.uid IsRange
+  pub gid : IfSome side.gid IsRange
+
+-- one type or more
+abbrev pub AreTypes : ℕ → Type 0
+AreTypes types = (1 ≤ types) × (types ≤ ANY_TYPE)
+
+-- a rule that words can stand for: ranges, one type or more, and letters of a mode
+pub record IsRule (rule : Rule) : Type 0 where
+  pub subject : AreRanges rule.subject
+  pub object : AreRanges rule.object.side
+  pub types : IfSome rule.object.types (λ test. AreTypes test.types)
+  pub mode : rule.mode < 32

@@ -14,7 +14,7 @@ mod tests;
 mod values;
 
 pub use fault::RuleFault;
-pub use law::canonical_text_stands_for_its_rule;
+pub use law::{canonical_text_stands_for_its_rule, what_is_read_is_a_rule};
 pub use printing::print_rule;
 pub use reading::read_rule;
 pub use rule::{

@@ -1,7 +1,7 @@
 //! Reading the words of a rule.
-ghost use Rattle.std.specs.Prelude.{◌≡◌, ◌↔◌, Ok, ◌<◌, ◌^◌, ◌+◌, length, map};
+ghost use Rattle.std.specs.Prelude.{◌≡◌, ◌↔◌, Ok, IfOk, ◌<◌, ◌^◌, ◌+◌, length, map};
 ghost use Rattle.mf_rule.specs.Reading as spec;
-ghost use Rattle.mf_rule.specs.RuleGrammar.{Spells};
+ghost use Rattle.mf_rule.specs.RuleGrammar.{Spells, IsRule};
 ghost use Rattle.mf_rule.specs.declared.rule.Rule.{Rule};
 ghost use Rattle.mf_rule.specs.declared.begun.Next.TheVariants as next;
 
@@ -20,6 +20,7 @@ fn goes_on(next: Next, rule: Rule) -> Result<Begun, RuleFault>
 pub fn read_rule(words: &[&str]) -> Result<Rule, RuleFault>
     ensures value { result ≡ spec.rule_in (map (λ word. word.now) words.now) }
     ensures spells { (rule : Rule) → (result ≡ Ok rule) ↔ Spells (map (λ word. word.now) words.now) rule }
+    ensures formed { IfOk result IsRule }
 {
     read_words(words)
 }

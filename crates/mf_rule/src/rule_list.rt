@@ -55,13 +55,19 @@ impl RuleList {
     pub fn add(&mut self, rule: Rule) -> Result<u32, Full>
         ensures { MatchResult result (λ n. (position spec.is_free self.old ≡ Some n) × (self.new ≡ slice_set self.old n (Some rule))) (λ e. (position spec.is_free self.old ≡ None) × (self.new ≡ self.old)) }
     {
-        match first_free(&self.slots) {
-            None => Err(Full),
-            Some(number) => {
-                self.slots[number] = Some(rule);
-                Ok(number as u32)
-            }
-        }
+        let Some(number) = self.free() else {
+            return Err(Full);
+        };
+        self.slots[number as usize] = Some(rule);
+        Ok(number)
+    }
+
+    /// The lowest number that is free.
+    pub fn free(&self) -> Option<u32>
+        ensures { result ≡ position spec.is_free self.now }
+    {
+        let number = first_free(&self.slots)?;
+        Some(number as u32)
     }
 
     /// Puts a rule under a number, in place of the one that it has.
@@ -92,6 +98,14 @@ impl RuleList {
         } else {
             None
         }
+    }
+
+    /// The rule of each number, or None, from number 0 on.
+    pub fn as_slice(&self) -> &[Option<Rule>]
+        ensures value { result.now ≡ self.now }
+        ensures len { length self.now ≡ MAX_RULES }
+    {
+        self.slots.as_slice()
     }
 
     /// Takes all rules away.

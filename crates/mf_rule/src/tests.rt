@@ -7,6 +7,18 @@ use mf_cred::{ArrayVec, Cred, FileView};
 use std::alloc::{AllocError, Global};
 use std::process::Abort;
 
+/// The synopsis of ugidfw(8), with `not` and each `!`, and its letters of types and of modes.
+const SYNOPSIS: [(&str, &str); 2] = [
+    (
+        "subject not ! uid 1001:1002 ! gid 1001:1002 object not ! uid 1001:1002 ! gid 1001:1002 ! suid ! sgid ! uid_of_subject ! gid_of_subject ! type ardbclsp mode arswxn",
+        "subject not ! uid 1001:1002 ! gid 1001:1002 object not ! uid 1001:1002 ! gid 1001:1002 ! suid ! sgid ! uid_of_subject ! gid_of_subject ! type a mode arswx",
+    ),
+    (
+        "subject uid 1001 gid 1001 object uid 1002 gid 1002 type p mode n",
+        "subject uid 1001 gid 1001 object uid 1002 gid 1002 type p mode n",
+    ),
+];
+
 /// Words of rules, and the canonical text of each. The second has every test.
 const CANONICAL: [(&str, &str); 8] = [
     (
@@ -107,6 +119,11 @@ fn are_canonical(rt: &impl Abort, alloc: Global, rows: &[(&str, &str)]) -> Resul
         assert!(rt; read(alloc, canonical)? == Ok(rule), "{canonical}");
     }
     Ok(())
+}
+
+#[test]
+fn synopsis_of_ugidfw_8(rt: HostRuntime) -> Result<(), AllocError> {
+    are_canonical(&rt, rt.alloc(), &SYNOPSIS)
 }
 
 #[test]
@@ -216,14 +233,49 @@ fn first_match_and_all_match(rt: HostRuntime) -> Result<(), AllocError> {
     assert!(rt; !rules.verdict(false, &root, &file, READ));
     assert!(rt; rules.verdict(false, &root, &file, 0));
     assert!(rt; rules.verdict(false, &subject(), &file, STAT));
-    rules.set(0, none);
-    assert!(rt; rules.get(0) == Some(none) && rules.get(1) == Some(none));
-    assert!(rt; !rules.verdict(true, &root, &file, READ));
+    Ok(())
+}
+
+/// mac_bsdextended(4): if rule A allows access and rule B blocks access, rule B will never be applied.
+#[test]
+fn rule_a_and_rule_b_of_mac_bsdextended_4(rt: HostRuntime) -> Result<(), AllocError> {
+    let mut rules = RuleList::new(rt.alloc())?;
+    rules.set(
+        3,
+        rule(&rt, rt.alloc(), "subject uid 2 object uid 3 mode r")?,
+    );
+    rules.set(
+        4,
+        rule(&rt, rt.alloc(), "subject uid 2 object uid 3 mode n")?,
+    );
+    assert!(rt; rules.verdict(true, &subject(), &FILE, READ));
+    assert!(rt; !rules.verdict(false, &subject(), &FILE, READ));
+    Ok(())
+}
+
+/// The calls of libugidfw(3): `bsde_set_rule`, `bsde_get_rule`, `bsde_delete_rule` and `bsde_add_rule`.
+#[test]
+fn calls_of_libugidfw_3(rt: HostRuntime) -> Result<(), AllocError> {
+    let mut rules = RuleList::new(rt.alloc())?;
+    let rule = rule(&rt, rt.alloc(), "subject uid 5 object mode n")?;
+    rules.set(1, rule);
+    rules.set(1, rule);
+    assert!(rt; rules.get(1) == Some(rule) && rules.free() == Some(0));
+    assert!(rt; rules.add(rule) == Ok(0) && rules.add(rule) == Ok(2));
+    assert!(rt; rules.remove(1) == Ok(()) && rules.get(1).is_none());
+    assert!(rt; rules.remove(1) == Err(NoRule));
+    Ok(())
+}
+
+#[test]
+fn copies_and_cleared_lists(rt: HostRuntime) -> Result<(), AllocError> {
+    let mut rules = RuleList::new(rt.alloc())?;
+    let rule = rule(&rt, rt.alloc(), "subject uid 5 object mode n")?;
+    rules.set(7, rule);
     let copy = rules.copy(rt.alloc())?;
     assert!(rt; copy.same(&rules));
     rules.clear();
-    assert!(rt; !copy.same(&rules) && rules.get(1).is_none());
-    assert!(rt; rules.verdict(true, &root, &file, READ));
+    assert!(rt; !copy.same(&rules) && rules.get(7).is_none());
     Ok(())
 }
 

@@ -7,6 +7,7 @@ mod kernel;
 mod load;
 mod modules;
 mod rows;
+mod rules;
 mod sources;
 mod steps;
 mod streams;
@@ -14,6 +15,7 @@ mod tasks;
 mod transcript;
 
 use mf_biba::Biba;
+use mf_bsdextended::Bsdextended;
 use mf_io::{Gate, MemSink, MemSource, Sink, Source};
 use mf_mls::Mls;
 use mf_partition::Partition;
@@ -51,6 +53,7 @@ fn run_with<S: Source, K: Sink, G: Gate, R: Threads + Wait + Sync>(
     modules.push(Box::new(alloc, Biba::new())?)?;
     modules.push(Box::new(alloc, Mls::new())?)?;
     modules.push(Box::new(alloc, Partition::new())?)?;
+    modules.push(Box::new(alloc, Bsdextended::new(alloc)?)?)?;
     Ok(macsim(rt, alloc, &words, source, sink, gate, modules))
 }
 

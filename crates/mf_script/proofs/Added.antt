@@ -1,10 +1,9 @@
 -- Items that the parts of a word add, one after another.
-use Rattle.std.proofs.Common.{◌≡◌, ℕ, ◌==◌, List, [], ◌∷◌, length, Option, Some, None, Ok, Err, refl, ap, sym, ◌∙◌}
-use Rattle.std.proofs.Common.{Bor, Bool, true, false, not, cond, suc, ◌+◌, ◌<◌, arith}
-use Rattle.std.proofs.lemmas.Str.Pattern.{IsSplitOnceResult, split_once_first}
-use Rattle.std.proofs.lemmas.List.Splits.{slice_split_first}
+use Rattle.std.proofs.Common.{◌≡◌, ℕ, List, [], ◌∷◌, Option, Ok, Err, ap, sym, ◌∙◌}
+use Rattle.std.proofs.Common.{Bor, ◌<◌}
+use Rattle.std.proofs.lemmas.Str.Pattern.{IsSplitOnceResult}
 use Rattle.std.specs.Prelude.{MatchOption}
-use Rattle.std.specs.List.{slice_split, onto_first, position_or_len}
+use Rattle.mf_names.proofs.Splits.{first_part}
 use Rattle.mf_script.specs.declared.refusal.Refusal.{Refusal}
 use Rattle.mf_script.specs.declared.refusal.Refusal.TheVariants.{Faulty, Memory}
 use Rattle.mf_script.specs.Readers.{Read, Fails, and_then}
@@ -34,18 +33,7 @@ parts_end add items all w more first is so_far h = sym (part_adds add items all 
 
 -- Splitting at a separator
 
-unsplit : (p : ℕ → Bool) (xs : List ℕ) → position_or_len p xs ≡ length xs → slice_split p xs ≡ xs ∷ []
-unsplit p [] e = refl
-unsplit p (x ∷ xs) e = by_test (p x) (λ e. unsplit p xs e) e where
-  by_test : (t : Bool) → (position_or_len p xs ≡ length xs → slice_split p xs ≡ xs ∷ []) → cond (not t) (1 + position_or_len p xs) 0 ≡ suc (length xs)
-      → cond t ([] ∷ slice_split p xs) (onto_first x (slice_split p xs)) ≡ (x ∷ xs) ∷ []
-  by_test true rest e = cc
-  by_test false rest e = ap (onto_first x) (rest (omega (arith, e)))
-
 pub split_once_parts : (separator : ℕ) (text : List ℕ) (halves : Option (Bor (List ℕ) × Bor (List ℕ))) → separator < 128 → IsSplitOnceResult separator text halves
     → MatchOption halves (parted separator text ≡ text ∷ []) (λ halves. parted separator text ≡ halves.0.now ∷ parted separator halves.1.now)
 unfolding parted
-split_once_parts separator text None small h = unsplit (λ b. b == separator) text (split_once_first separator text None h small)
-split_once_parts separator text (Some halves) small h =
-    let found = split_once_first separator text (Some halves) h small in
-    rw (found.1, found.2) (slice_split_first (λ b. b == separator) text 0 found.0)
+split_once_parts separator text halves small h = first_part separator text halves small h

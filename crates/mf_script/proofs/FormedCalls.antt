@@ -1,19 +1,20 @@
 -- The calls and lines of tasks that the grammar reads are well formed.
-use Rattle.std.proofs.Common.{ℕ, ◌≤◌, Bool, true, false, List, [], ◌∷◌, Some, if◌then◌else◌}
+use Rattle.std.proofs.Common.{ℕ, ◌<◌, ◌≤◌, Bool, true, false, List, [], ◌∷◌, Some, if◌then◌else◌}
 use Rattle.std.specs.Str.{bytes_eq}
 use Rattle.mf_script.specs.declared.error.ScriptFault.TheVariants.{UnknownWord}
 use Rattle.mf_calls.specs.declared.script.Call.{Call}
 use Rattle.mf_calls.specs.declared.script.Call.TheVariants as call
 use Rattle.mf_calls.specs.declared.limits.TheConstants.{MODE_LIMIT}
+use Rattle.mf_rule.specs.declared.rule_list.TheConstants.{MAX_RULES}
 use Rattle.mf_calls.specs.WellFormed.{IsWord, IsName, IsProcessName, IsPath, IsFormedCall, IsFormedLine}
 use Rattle.mf_script.specs.Readers.{Read, fails, by_option}
 use Rattle.mf_words.specs.Words.{Words}
-use Rattle.mf_script.specs.Parts.{look_up, name_of, process_of, path_of, mode_of, text_of}
-use Rattle.mf_script.specs.Calls.{Arguments, bare, one, two, three, calls, call_in, call_named, call_words}
+use Rattle.mf_script.specs.Parts.{look_up, name_of, process_of, path_of, mode_of, text_of, rule_number_of}
+use Rattle.mf_script.specs.Calls.{Arguments, bare, one, two, three, add_rule, set_rule, ugidfw_calls, ugidfw, calls, call_in, call_named, call_words}
 use Rattle.mf_script.specs.Lines.{behind_at, line_words}
 use Rattle.mf_script.proofs.ScriptWords.{AreWords, by_word}
 use Rattle.mf_script.proofs.Yields.{Yields, done, refused, chain, skip, chosen}
-use Rattle.mf_script.proofs.FormedParts.{name_formed, process_formed, path_formed, mode_formed, bytes_formed, word_formed}
+use Rattle.mf_script.proofs.FormedParts.{name_formed, process_formed, path_formed, mode_formed, bytes_formed, word_formed, sides_formed, rule_number_formed, rule_formed}
 
 -- a reader of well formed calls
 abbrev AreFormed : Arguments → Type 0
@@ -70,6 +71,40 @@ infixr 5 ◌&◌
 unfolding EachFormed
 formed & rest = record { each = (formed, rest.each) }
 
+found_formed : (name : List ℕ) (table : List (List ℕ × Arguments)) → EachFormed table → AreFormed (λ ws. by_option (look_up name table) (fails UnknownWord) (λ arguments. arguments ws))
+unfolding EachFormed
+found_formed name [] formed ws are = refused
+found_formed name (entry ∷ table) formed ws are = by_test (bytes_eq name entry.0) (found_formed name table formed.1 ws are) where
+  by_test : (same : Bool) → Yields (λ read. IsFormedCall read.0) (by_option (look_up name table) (fails UnknownWord) (λ arguments. arguments ws))
+      → Yields (λ read. IsFormedCall read.0) (by_option (if same then Some entry.1 else look_up name table) (fails UnknownWord) (λ arguments. arguments ws))
+  by_test true further = formed.0 ws are
+  by_test false further = further
+
+number_read : Reads (λ n. n < MAX_RULES) rule_number_of
+number_read w word = rule_number_formed w
+
+add_formed : AreFormed add_rule
+unfolding add_rule
+add_formed ws are = chain _ _ (rule_formed ws) (λ rule ok. done ok)
+
+set_formed : AreFormed set_rule
+unfolding set_rule
+set_formed ws are =
+    chain _ _ (by_word rule_number_of number_read ws are) (λ number number_ok. chain _ _ (rule_formed number.1) (λ rule rule_ok. done (number_ok.0, rule_ok)))
+
+ugidfw_calls_formed : AllFormed ugidfw_calls
+ugidfw_calls_formed =
+    bare_formed call.UgidfwList tt
+    & add_formed
+    & set_formed
+    & one_formed _ _ call.UgidfwRemove number_read (λ n ok. ok)
+    & none_left
+
+ugidfw_formed : AreFormed ugidfw
+unfolding ugidfw call_in
+ugidfw_formed [] are = refused
+ugidfw_formed (name ∷ ws) are = found_formed name ugidfw_calls ugidfw_calls_formed.each ws are.1
+
 all_formed : AllFormed calls
 all_formed =
     one_formed _ _ call.Fork name_read (λ x ok. ok)
@@ -98,16 +133,9 @@ all_formed =
     & bare_formed call.Kldstat tt
     & one_formed _ _ call.Kldload word_formed (λ x ok. ok)
     & one_formed _ _ call.Kldunload word_formed (λ x ok. ok)
+    & one_formed _ _ (λ sides. call.Sysctl sides.0 sides.1) sides_formed (λ sides ok. ok)
+    & ugidfw_formed
     & none_left
-
-found_formed : (name : List ℕ) (table : List (List ℕ × Arguments)) → EachFormed table → AreFormed (λ ws. by_option (look_up name table) (fails UnknownWord) (λ arguments. arguments ws))
-unfolding EachFormed
-found_formed name [] formed ws are = refused
-found_formed name (entry ∷ table) formed ws are = by_test (bytes_eq name entry.0) (found_formed name table formed.1 ws are) where
-  by_test : (same : Bool) → Yields (λ read. IsFormedCall read.0) (by_option (look_up name table) (fails UnknownWord) (λ arguments. arguments ws))
-      → Yields (λ read. IsFormedCall read.0) (by_option (if same then Some entry.1 else look_up name table) (fails UnknownWord) (λ arguments. arguments ws))
-  by_test true further = formed.0 ws are
-  by_test false further = further
 
 call_in_formed : (name : List ℕ) → AreFormed (call_in calls name)
 unfolding call_in

@@ -1,11 +1,12 @@
 -- What the grammar reads of a word is well formed.
-use Rattle.std.proofs.Common.{All, ◌≡◌, ℕ, suc, ◌+◌, arith, length-append, ◌==◌, ◌≤◌, Bool, true, false, if◌then◌else◌, List, [], ◌∷◌, length, Result, Ok, Err, refl, lit≤}
+use Rattle.std.proofs.Common.{All, ◌≡◌, ℕ, suc, ◌+◌, ◌<◌, arith, length-append, ◌==◌, ◌≤◌, Bool, true, false, if◌then◌else◌, List, [], ◌∷◌, ◌++◌, length, Option, Some, None, Result, Ok, Err, refl, subst, ap, ◌∙◌, lit≤}
 use Rattle.std.specs.Prelude.{nat_lt, codes}
 use Rattle.std.specs.List.{slice_split}
 use Rattle.std.specs.Str.{bytes_eq}
+use Rattle.std.specs.Char.{is_ascii_graphic}
 use Rattle.std.proofs.lemmas.Bool.{ltb-true}
 use Rattle.std.proofs.lemmas.List.Splits.{length-slice_split}
-use Rattle.std.proofs.lemmas.List.Elements.{All-nil, All-push}
+use Rattle.std.proofs.lemmas.List.Elements.{All-nil, All-cons, All-head, All-tail, All-push}
 use Rattle.mf_errno.specs.declared.module.Module.{Module}
 use Rattle.mf_elem.specs.Label.{no_request, IsRequest}
 use Rattle.mf_elem.specs.declared.label.Request.{Request}
@@ -13,19 +14,27 @@ use Rattle.mf_text.specs.Number.{number_in}
 use Rattle.mf_text.specs.declared.number.NumberFault.{NumberFault}
 use Rattle.mf_text.specs.Escape.{bytes_of}
 use Rattle.mf_labeltext.specs.declared.fault.LabelFault.{LabelFault}
-use Rattle.mf_labeltext.specs.Reading.{request_in}
+use Rattle.mf_labeltext.specs.Reading.{request_in, cut}
+use Rattle.mf_labeltext.proofs.Cutting.{IsCut, cut_is}
 use Rattle.mf_labeltext.proofs.Requests.{request_spells}
 use Rattle.mf_labeltext.proofs.Formed.{spelled_is_request}
 use Rattle.mf_names.specs.declared.limits.TheConstants.{PATH_LIMIT}
 use Rattle.mf_cred.specs.declared.cred.TheConstants.{MOST_GROUPS}
 use Rattle.mf_item.specs.declared.view.Kind.{Kind}
+use Rattle.mf_rule.specs.declared.fault.RuleFault.{RuleFault}
+use Rattle.mf_rule.specs.declared.rule.Rule.{Rule}
+use Rattle.mf_rule.specs.declared.rule_list.TheConstants.{MAX_RULES}
+use Rattle.mf_rule.specs.Reading.{rule_in}
+use Rattle.mf_rule.specs.RuleGrammar.{IsRule}
+use Rattle.mf_rule.proofs.Formed.{read_is_rule}
+use Rattle.mf_words.specs.Words.{Words}
 use Rattle.mf_calls.specs.declared.limits.TheConstants.{UID_MAX, MODE_LIMIT}
 use Rattle.mf_names.specs.declared.limits.TheConstants.{SCRIPT_LIMIT}
 use Rattle.mf_calls.specs.Names.{is_name, is_process_name, is_component}
-use Rattle.mf_calls.specs.WellFormed.{IsWord, IsAsked, IsPath, IsText}
-use Rattle.mf_script.specs.declared.error.ScriptFault.TheVariants.{BadNumber, BadLabel, BadText}
-use Rattle.mf_script.specs.Readers.{Read, or_fault}
-use Rattle.mf_script.specs.Parts.{slash, comma, parted, all_added, number_of, with_group, groups_of, name_of, process_of, mode_of, with_component, components_of, behind_root, path_of, any_word, text_of}
+use Rattle.mf_calls.specs.WellFormed.{IsWord, IsPrintable, IsAsked, IsPath, IsText}
+use Rattle.mf_script.specs.declared.error.ScriptFault.TheVariants.{Missing, BadNumber, BadLabel, BadRule, BadText}
+use Rattle.mf_script.specs.Readers.{Read, fails, or_fault, by_option}
+use Rattle.mf_script.specs.Parts.{slash, comma, parted, all_added, number_of, with_group, groups_of, name_of, process_of, mode_of, with_component, components_of, behind_root, path_of, any_word, text_of, equals_sign, sides_of, rule_number_of, rule_of}
 use Rattle.mf_script.specs.Grammar.{request_of, request_for}
 use Rattle.mf_script.proofs.EscapedBytes.{escaped_short, escaped_fit}
 use Rattle.mf_script.proofs.Numbers.{number_most}
@@ -48,6 +57,13 @@ unfolding mode_of
 mode_formed w = by_number (number_in 8 0 MODE_LIMIT w) refl where
   by_number : (read : Result ℕ NumberFault) → number_in 8 0 MODE_LIMIT w ≡ read → Yields (λ mode. mode ≤ MODE_LIMIT) (or_fault BadNumber read)
   by_number (Ok mode) e = done (number_most 8 0 MODE_LIMIT w mode e)
+  by_number (Err fault) e = refused
+
+pub rule_number_formed : (w : List ℕ) → Yields (λ n. n < MAX_RULES) (rule_number_of w)
+unfolding rule_number_of
+rule_number_formed w = by_number (number_in 10 0 249 w) refl where
+  by_number : (read : Result ℕ NumberFault) → number_in 10 0 249 w ≡ read → Yields (λ n. n < 250) (or_fault BadNumber read)
+  by_number (Ok n) e = let most = number_most 10 0 249 w n e in done (omega (arith, most))
   by_number (Err fault) e = refused
 
 pub process_formed : (w : List ℕ) → Yields (λ name. is_process_name name ≡ true) (process_of w)
@@ -146,3 +162,43 @@ bytes_formed w word = by_read (bytes_of w) refl where
   by_read : (read : Result (List ℕ) ℕ) → bytes_of w ≡ read → Yields (IsText SCRIPT_LIMIT) (or_fault BadText read)
   by_read (Ok bytes) e = done (record { few = omega (arith, escaped_short w bytes e, word.few); each = escaped_fit w bytes (word_fits w word.each) e })
   by_read (Err place) e = refused
+
+-- Settings
+
+-- what holds of all bytes of a text holds of those in front of one of them, and of those behind it
+in_front : (P : ℕ → Type 0) (front : List ℕ) (byte : ℕ) (back : List ℕ) → All P (front ++ byte ∷ back) → All P front
+in_front P [] byte back each = All-nil P
+in_front P (b ∷ front) byte back each = All-cons P b front (All-head P b (front ++ byte ∷ back) each) (in_front P front byte back (All-tail P b (front ++ byte ∷ back) each))
+
+behind : (P : ℕ → Type 0) (front : List ℕ) (byte : ℕ) (back : List ℕ) → All P (front ++ byte ∷ back) → All P back
+behind P [] byte back each = All-tail P byte back each
+behind P (b ∷ front) byte back each = behind P front byte back (All-tail P b (front ++ byte ∷ back) each)
+
+abbrev IsGraphic : ℕ → Type 0
+IsGraphic b = is_ascii_graphic b ≡ true
+
+both_printable : (byte : ℕ) (w front back : List ℕ) → IsWord w → IsCut byte w front back → IsPrintable front × IsPrintable back
+both_printable byte w front back word is =
+    let each : All IsGraphic (front ++ byte ∷ back) = subst (λ (w : List ℕ). All IsGraphic w) is.whole word.each in
+    let long : length w ≡ length front + length (byte ∷ back) = ap (λ (w : List ℕ). length w) is.whole ∙ length-append front (byte ∷ back) in (
+      record { each = in_front IsGraphic front byte back each; few = omega (arith, long, word.few) },
+      record { each = behind IsGraphic front byte back each; few = omega (arith, long, word.few) },
+    )
+
+pub sides_formed : (w : List ℕ) → IsWord w → Yields (λ sides. IsPrintable sides.0 × IsPrintable sides.1) (sides_of w)
+unfolding sides_of
+sides_formed w word = by_cut (cut equals_sign w) refl where
+  by_cut : (found : Option (List ℕ × List ℕ)) → cut equals_sign w ≡ found
+      → Yields (λ (sides : List ℕ × List ℕ). IsPrintable sides.0 × IsPrintable sides.1) (by_option found (fails Missing) Ok)
+  by_cut None e = refused
+  by_cut (Some sides) e = done (both_printable equals_sign w sides.0 sides.1 word (cut_is equals_sign w sides.0 sides.1 e))
+
+-- Rules
+
+pub rule_formed : (ws : Words) → Yields (λ rule. IsRule rule.0) (rule_of ws)
+unfolding rule_of
+rule_formed [] = refused
+rule_formed (w ∷ ws) = chain _ _ (by_read (rule_in (w ∷ ws)) refl) (λ rule ok. done ok) where
+  by_read : (read : Result Rule RuleFault) → rule_in (w ∷ ws) ≡ read → Yields IsRule (or_fault BadRule read)
+  by_read (Ok rule) e = done (read_is_rule (w ∷ ws) rule e)
+  by_read (Err fault) e = refused

@@ -5,7 +5,7 @@ use Rattle.mf_calls.specs.declared.script.Call.{Call}
 use Rattle.mf_calls.specs.declared.script.Call.TheVariants as call
 use Rattle.mf_script.specs.declared.error.ScriptFault.TheVariants.{Missing}
 use Rattle.mf_script.specs.Readers.{Read, ◌>>=◌, fails}
-use Rattle.mf_script.specs.Parts.{word_by, no_more, one_of, any_word, mode_of, name_of, process_of, path_of, text_of}
+use Rattle.mf_script.specs.Parts.{word_by, no_more, one_of, any_word, mode_of, rule_number_of, name_of, process_of, path_of, text_of, sides_of, rule_of}
 
 -- a reader of the arguments behind a call's name, which returns the words after them too
 abbrev pub Arguments : Type 0
@@ -36,10 +36,39 @@ three first second third call ws = do
   z ← word_by third y.1
   Ok (call x.0 y.0 z.0, z.1)
 
--- Every call: its name and its arguments.
-
 abbrev pub Table : Type 0
 Table = List (List ℕ × Arguments)
+
+-- the call of that name in a table, with the arguments that come next, and the words after them
+unfoldable pub call_in : Table → List ℕ → Arguments
+call_in table name ws = one_of table name (λ arguments. arguments ws)
+
+-- What ugidfw(8) does is said by the word behind it.
+
+unfoldable pub add_rule : Arguments
+add_rule ws = do
+  rule ← rule_of ws
+  Ok (call.UgidfwAdd rule.0, rule.1)
+
+unfoldable pub set_rule : Arguments
+set_rule ws = do
+  number ← word_by rule_number_of ws
+  rule ← rule_of number.1
+  Ok (call.UgidfwSet number.0 rule.0, rule.1)
+
+abbrev pub ugidfw_calls : Table
+ugidfw_calls =
+    (codes "list", bare call.UgidfwList)
+    ∷ (codes "add", add_rule)
+    ∷ (codes "set", set_rule)
+    ∷ (codes "remove", one rule_number_of call.UgidfwRemove)
+    ∷ []
+
+unfoldable pub ugidfw : Arguments
+ugidfw [] = fails Missing
+ugidfw (name ∷ ws) = call_in ugidfw_calls name ws
+
+-- Every call: its name and its arguments.
 
 abbrev pub process_calls : Table
 process_calls =
@@ -83,12 +112,14 @@ module_calls =
     ∷ (codes "kldunload", one any_word call.Kldunload)
     ∷ []
 
-abbrev pub calls : Table
-calls = process_calls ++ file_calls ++ channel_calls ++ module_calls
+abbrev pub setting_calls : Table
+setting_calls =
+    (codes "sysctl", one sides_of (λ sides. call.Sysctl sides.0 sides.1))
+    ∷ (codes "ugidfw", ugidfw)
+    ∷ []
 
--- the call of that name in a table, with the arguments that come next, and the words after them
-unfoldable pub call_in : Table → List ℕ → Arguments
-call_in table name ws = one_of table name (λ arguments. arguments ws)
+abbrev pub calls : Table
+calls = process_calls ++ file_calls ++ channel_calls ++ module_calls ++ setting_calls
 
 -- a call by its name: its arguments, and no more
 unfoldable pub call_named : List ℕ → Words → Read Call

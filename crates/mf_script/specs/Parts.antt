@@ -1,16 +1,20 @@
 -- The words of a line one by one, each with its fault, as the table of words in docs/MANUAL.md (THE SCRIPT) has them. A reader takes words
 -- from the front, and returns what it read and the words after it.
-use Rattle.std.specs.Prelude.{ℕ, Bool, true, false, ◌&&◌, ◌==◌, nat_lt, if◌then◌else◌, List, [], ◌∷◌, ◌++◌, length, Option, Some, None, Ok, codes}
+use Rattle.std.specs.Prelude.{ℕ, ◌-◌, Bool, true, false, ◌&&◌, ◌==◌, nat_lt, if◌then◌else◌, List, [], ◌∷◌, ◌++◌, length, Option, Some, None, Ok, codes}
 use Rattle.std.specs.List.{slice_split}
 use Rattle.std.specs.Str.{bytes_eq}
 use Rattle.mf_text.specs.Number.{number_in}
 use Rattle.mf_text.specs.Escape.{bytes_of}
+use Rattle.mf_labeltext.specs.Reading.{cut}
 use Rattle.mf_names.specs.declared.limits.TheConstants.{PATH_LIMIT}
 use Rattle.mf_cred.specs.declared.cred.TheConstants.{MOST_GROUPS}
+use Rattle.mf_rule.specs.declared.rule.Rule.{Rule}
+use Rattle.mf_rule.specs.declared.rule_list.TheConstants.{MAX_RULES}
+use Rattle.mf_rule.specs.Reading.{rule_in}
 use Rattle.mf_words.specs.Words.{Words}
 use Rattle.mf_calls.specs.declared.limits.TheConstants.{UID_MAX, MODE_LIMIT}
 use Rattle.mf_calls.specs.Names.{is_name, is_process_name, is_component}
-use Rattle.mf_script.specs.declared.error.ScriptFault.TheVariants.{UnknownWord, Missing, Extra, BadNumber, BadPath, BadText}
+use Rattle.mf_script.specs.declared.error.ScriptFault.TheVariants.{UnknownWord, Missing, Extra, BadNumber, BadRule, BadPath, BadText}
 use Rattle.mf_script.specs.Readers.{Read, ◌>>=◌, fails, unless, or_fault, by_option}
 
 -- the next word, read by a function of it
@@ -51,6 +55,10 @@ any_word w = Ok w
 unfoldable pub number_of : List ℕ → Read ℕ
 number_of w = or_fault BadNumber (number_in 10 0 UID_MAX w)
 
+-- the number of a rule of mac_bsdextended(4)
+unfoldable pub rule_number_of : List ℕ → Read ℕ
+rule_number_of w = or_fault BadNumber (number_in 10 0 (MAX_RULES - 1) w)
+
 -- a file mode: an octal number up to 7777
 unfoldable pub mode_of : List ℕ → Read ℕ
 mode_of w = or_fault BadNumber (number_in 8 0 MODE_LIMIT w)
@@ -70,6 +78,20 @@ is_directory_of w = one_of ((codes "reg", false) ∷ (codes "dir", true) ∷ [])
 -- the bytes that a text with escapes stands for
 unfoldable pub text_of : List ℕ → Read (List ℕ)
 text_of w = or_fault BadText (bytes_of w)
+
+abbrev pub equals_sign : ℕ
+equals_sign = 61
+
+-- a word of sysctl(8): what stands before its first `=`, and what stands behind it; either may be empty
+unfoldable pub sides_of : List ℕ → Read (List ℕ × List ℕ)
+sides_of w = by_option (cut equals_sign w) (fails Missing) Ok
+
+-- The rest of the line
+
+-- a rule of ugidfw(8): one word or more, and no word is left behind it
+unfoldable pub rule_of : Words → Read (Rule × Words)
+rule_of [] = fails Missing
+rule_of (w ∷ ws) = or_fault BadRule (rule_in (w ∷ ws)) >>= λ rule. Ok (rule, [])
 
 -- Lists in one word
 

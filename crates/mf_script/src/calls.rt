@@ -4,8 +4,8 @@
 ghost use Rattle.std.specs.Prelude.{◌≡◌, ◌++◌};
 ghost use Rattle.mf_script.specs.Readers.{Gives};
 ghost use Rattle.mf_calls.specs.declared.script.Call.TheVariants as call;
-ghost use Rattle.mf_script.specs.Parts.{name_of, path_of, mode_of, text_of};
-ghost use Rattle.mf_script.specs.Calls.{call_in, call_named, call_words, calls, file_calls, channel_calls, module_calls, two, three};
+ghost use Rattle.mf_script.specs.Parts.{name_of, path_of, mode_of, text_of, sides_of};
+ghost use Rattle.mf_script.specs.Calls.{call_in, call_named, call_words, calls, file_calls, channel_calls, module_calls, setting_calls, add_rule, set_rule, ugidfw_calls, ugidfw, one, two, three};
 
 use crate::error::ScriptFault;
 use crate::refusal::{Refusal, faulty};
@@ -46,6 +46,54 @@ fn send(alloc: Global, words: &mut Words) -> Result<Call, Refusal>
     Ok(Call::Send(from, to, text))
 }
 
+fn sysctl(alloc: Global, words: &mut Words) -> Result<Call, Refusal>
+    ensures { Gives (λ c. (c, words.new)) result (one sides_of (λ sides. call.Sysctl sides.0 sides.1) words.old) }
+{
+    let (name, value) = parts::sides(alloc, words)?;
+    Ok(Call::Sysctl(name, value))
+}
+
+#[tactic(auto, unfolding(crate::specs::Calls::add_rule, crate::specs::Readers::and_then))]
+fn add_rule(alloc: Global, words: &mut Words) -> Result<Call, Refusal>
+    ensures { Gives (λ c. (c, words.new)) result (add_rule words.old) }
+{
+    let rule = parts::rule(alloc, words)?;
+    Ok(Call::UgidfwAdd(rule))
+}
+
+#[tactic(auto, unfolding(crate::specs::Calls::set_rule, crate::specs::Readers::and_then))]
+fn set_rule(alloc: Global, words: &mut Words) -> Result<Call, Refusal>
+    ensures { Gives (λ c. (c, words.new)) result (set_rule words.old) }
+{
+    let number = parts::rule_number(words)?;
+    let rule = parts::rule(alloc, words)?;
+    Ok(Call::UgidfwSet(number, rule))
+}
+
+/// What ugidfw(8) is to do, by the word behind it.
+#[tactic(auto, unfolding(crate::specs::Calls::call_in, crate::specs::Readers::and_then))]
+fn ugidfw_call(alloc: Global, name: &str, words: &mut Words) -> Result<Call, Refusal>
+    ensures { Gives (λ c. (c, words.new)) result (call_in ugidfw_calls name.now words.old) }
+{
+    match name {
+        "list" => Ok(Call::UgidfwList),
+        "add" => add_rule(alloc, words),
+        "set" => set_rule(alloc, words),
+        "remove" => Ok(Call::UgidfwRemove(parts::rule_number(words)?)),
+        _ => Err(faulty(ScriptFault::UnknownWord)),
+    }
+}
+
+#[tactic(auto, unfolding(crate::specs::Calls::ugidfw))]
+fn ugidfw(alloc: Global, words: &mut Words) -> Result<Call, Refusal>
+    ensures { Gives (λ c. (c, words.new)) result (ugidfw words.old) }
+{
+    match words.next() {
+        None => Err(faulty(ScriptFault::Missing)),
+        Some(name) => ugidfw_call(alloc, name, words),
+    }
+}
+
 /// The call of that name with the arguments that come next.
 #[tactic(auto, unfolding(crate::specs::Calls::call_in, crate::specs::Readers::and_then))]
 fn call(alloc: Global, name: &str, words: &mut Words) -> Result<Call, Refusal>
@@ -65,7 +113,7 @@ fn call(alloc: Global, name: &str, words: &mut Words) -> Result<Call, Refusal>
 /// The same of a call that isn't about a process.
 #[tactic(auto, unfolding(crate::specs::Calls::call_in, crate::specs::Readers::and_then))]
 fn file_call(alloc: Global, name: &str, words: &mut Words) -> Result<Call, Refusal>
-    ensures { Gives (λ c. (c, words.new)) result (call_in (file_calls ++ channel_calls ++ module_calls) name.now words.old) }
+    ensures { Gives (λ c. (c, words.new)) result (call_in (file_calls ++ channel_calls ++ module_calls ++ setting_calls) name.now words.old) }
 {
     match name {
         "exec" => Ok(Call::Exec(names::path(alloc, words)?)),
@@ -84,7 +132,7 @@ fn file_call(alloc: Global, name: &str, words: &mut Words) -> Result<Call, Refus
 /// The same of a call that is about no file either.
 #[tactic(auto, unfolding(crate::specs::Calls::call_in, crate::specs::Readers::and_then))]
 fn channel_call(alloc: Global, name: &str, words: &mut Words) -> Result<Call, Refusal>
-    ensures { Gives (λ c. (c, words.new)) result (call_in (channel_calls ++ module_calls) name.now words.old) }
+    ensures { Gives (λ c. (c, words.new)) result (call_in (channel_calls ++ module_calls ++ setting_calls) name.now words.old) }
 {
     match name {
         "pipe" => Ok(Call::Pipe(names::name(alloc, words)?)),
@@ -102,12 +150,24 @@ fn channel_call(alloc: Global, name: &str, words: &mut Words) -> Result<Call, Re
 /// The same of a call that is about the modules.
 #[tactic(auto, unfolding(crate::specs::Calls::call_in, crate::specs::Readers::and_then))]
 fn module_call(alloc: Global, name: &str, words: &mut Words) -> Result<Call, Refusal>
-    ensures { Gives (λ c. (c, words.new)) result (call_in module_calls name.now words.old) }
+    ensures { Gives (λ c. (c, words.new)) result (call_in (module_calls ++ setting_calls) name.now words.old) }
 {
     match name {
         "kldstat" => Ok(Call::Kldstat),
         "kldload" => Ok(Call::Kldload(parts::word(alloc, words)?)),
         "kldunload" => Ok(Call::Kldunload(parts::word(alloc, words)?)),
+        _ => setting_call(alloc, name, words),
+    }
+}
+
+/// The same of a call that is about the settings of a policy.
+#[tactic(auto, unfolding(crate::specs::Calls::call_in, crate::specs::Readers::and_then))]
+fn setting_call(alloc: Global, name: &str, words: &mut Words) -> Result<Call, Refusal>
+    ensures { Gives (λ c. (c, words.new)) result (call_in setting_calls name.now words.old) }
+{
+    match name {
+        "sysctl" => sysctl(alloc, words),
+        "ugidfw" => ugidfw(alloc, words),
         _ => Err(faulty(ScriptFault::UnknownWord)),
     }
 }

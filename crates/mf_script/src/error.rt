@@ -22,7 +22,7 @@ pub enum ScriptFault {
     BadNumber,
     /// No label text, or one that may not be asked for there.
     BadLabel,
-    /// No rule. No line has one yet.
+    /// No rule of ugidfw(8).
     BadRule,
     /// No path or no name, or a file whose directory isn't there.
     BadPath,

@@ -11,8 +11,8 @@ use crate::error::ScriptFault;
 use crate::lines::{FileWords, TaskWords};
 use crate::refusal::{Refusal, boot_refused, faulty};
 use mf_calls::{
-    Bytes, CONTENT_LIMIT, Call, FILE_LIMIT, FileLine, Listing, Name, RULE_LIST_LIMIT, TASK_LIMIT,
-    Task, directory_of, is_booted, is_same_path, may_ask_for,
+    Bytes, CONTENT_LIMIT, Call, Components, FILE_LIMIT, FileLine, Listing, Name, RULE_LIST_LIMIT,
+    TASK_LIMIT, Task, directory_of, is_booted, is_same_path, may_ask_for,
 };
 use mf_elem::Request;
 use mf_errno::{Errno, Module};
@@ -72,28 +72,28 @@ fn request_for(kind: Kind, boots: &[Module], word: &str) -> Result<Request, Refu
     }
 }
 
-fn has_path(files: &[FileLine], path: &[Name]) -> bool
+fn has_path(files: &[FileLine], path: &Components<'_>) -> bool
     ensures { result ≡ list_any (has_path path.now) files.now }
 {
     files
         .iter()
-        .any(|file| is_same_path(file.path.as_slice(), path))
+        .any(|file| is_same_path(&file.path.components(), path))
 }
 
-fn is_directory_at(file: &FileLine, path: &[Name]) -> bool
+fn is_directory_at(file: &FileLine, path: &Components<'_>) -> bool
     ensures { result ≡ is_directory_at path.now file.now }
 {
-    file.file.dir && is_same_path(file.path.as_slice(), path)
+    file.file.dir && is_same_path(&file.path.components(), path)
 }
 
-fn lists_directory(files: &[FileLine], path: &[Name]) -> bool
+fn lists_directory(files: &[FileLine], path: &Components<'_>) -> bool
     ensures { result ≡ list_any (is_directory_at path.now) files.now }
 {
     files.iter().any(|file| is_directory_at(file, path))
 }
 
 /// Whether the path is the root, or that of a directory among these files.
-fn has_directory(files: &[FileLine], path: &[Name]) -> bool
+fn has_directory(files: &[FileLine], path: &Components<'_>) -> bool
     ensures { result ≡ has_directory files.now path.now }
 {
     path.is_empty() || lists_directory(files, path)
@@ -119,10 +119,11 @@ pub fn judged_file(
     if files.len() >= FILE_LIMIT || text.len() > CONTENT_LIMIT {
         return Err(faulty(ScriptFault::TooMany));
     }
-    if path.as_slice().is_empty() || has_path(files, path.as_slice()) {
+    let components = path.components();
+    if components.is_empty() || has_path(files, &components) {
         return Err(faulty(ScriptFault::Duplicate));
     }
-    if !has_directory(files, directory_of(path.as_slice())) {
+    if !has_directory(files, &directory_of(&path)) {
         return Err(faulty(ScriptFault::BadPath));
     }
     let label = request_for(Kind::Vnode, boots, label.as_str())?;

@@ -75,38 +75,30 @@ pub fn process(alloc: Global, words: &mut Words) -> Result<Name, Refusal>
 }
 
 #[tactic(auto, unfolding(crate::specs::Parts::with_component, crate::specs::Readers::and_then))]
-fn add_component(alloc: Global, path: &mut Path, word: &str) -> Result<(), Refusal>
+fn add_component(path: &mut Path, word: &str) -> Result<(), Refusal>
     ensures { Gives (λ u. path.new) result (with_component path.old word.now) }
 {
-    if path.as_slice().len() >= PATH_LIMIT || !is_component(word) {
+    if path.depth() >= PATH_LIMIT || !is_component(word) {
         return Err(faulty(ScriptFault::BadPath));
     }
-    let component = Name::from_str(alloc, word)?;
-    path.push(component)?;
+    path.push(word)?;
     Ok(())
-}
-
-/// How many components a path is given room for: what is read is kept to the end of a run, and most paths are short.
-fn room_for(word: &str) -> usize
-    ensures { result ≤ PATH_LIMIT }
-{
-    let slashes = word.as_bytes().iter().filter(|byte| **byte == b'/').count();
-    PATH_LIMIT.min(slashes.saturating_add(1))
 }
 
 #[tactic(auto, unfolding(crate::specs::Parts::components_of))]
 fn components_of(alloc: Global, word: &str) -> Result<Path, Refusal>
     ensures { Gives (λ path. path) result (components_of word.now) }
 {
-    let mut path = Path::with_room(alloc, room_for(word))?;
+    // Room for just these: what is read is kept to the end of a run.
+    let mut path = Path::with_room(alloc, word.len() + 1)?;
     let mut rest = word;
     while let Some((component, after)) = split_at(rest, '/') {
-        match add_component(alloc, &mut path, component) {
+        match add_component(&mut path, component) {
             Err(error) => return Err(error),
             Ok(()) => rest = after,
         }
     }
-    match add_component(alloc, &mut path, rest) {
+    match add_component(&mut path, rest) {
         Err(error) => Err(error),
         Ok(()) => Ok(path),
     }

@@ -14,7 +14,7 @@ use Rattle.mf_plan.specs.declared.state.State.{State}
 use Rattle.mf_step.specs.Effect.{with_objects, with_created}
 use Rattle.mf_objects.proofs.Finding.{find_push_miss, find_push_hit, find_beyond, find_given, find_changed, find_filter, rising_filter}
 use Rattle.mf_step.proofs.StateChange.{StateChange}
-use Rattle.mf_step.proofs.StateChange.StateChange.{same, created, changed, removed, loaded, unloaded}
+use Rattle.mf_step.proofs.StateChange.StateChange.{same, created, changed, removed, loaded, unloaded, set_to}
 
 -- the entity of an id before and after a step from the state, made by the process of that id
 pub data EntityChange (by : Option Id) (s : State) (id : Id) : Option LiveEntity → Option LiveEntity → Type 0 where
@@ -110,3 +110,4 @@ changes_entities by s s' (changed change id is) rising = subst (ChangesEntities 
 changes_entities by s s' (removed gone is) rising = subst (ChangesEntities by s) (sym is) (by_removed by s gone rising)
 changes_entities by s s' (loaded m none is) rising = by_same by s s' (ap (λ (x : State). x.objects) is) rising
 changes_entities by s s' (unloaded m ok is) rising = by_same by s s' (ap (λ (x : State). x.objects) is) rising
+changes_entities by s s' (set_to m change is) rising = by_same by s s' (ap (λ (x : State). x.objects) is) rising

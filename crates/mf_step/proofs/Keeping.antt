@@ -10,7 +10,7 @@ use Rattle.mf_plan.specs.Views.{process_named}
 use Rattle.mf_step.specs.Effect.{effect_of}
 use Rattle.mf_step.specs.Step.{performed, performed_by}
 use Rattle.mf_step.proofs.StateChange.{StateChange, performed_change}
-use Rattle.mf_step.proofs.StateChange.StateChange.{same, created, changed, removed, loaded, unloaded}
+use Rattle.mf_step.proofs.StateChange.StateChange.{same, created, changed, removed, loaded, unloaded, set_to}
 
 -- boot has ended or not as before, and at most one id was given
 pub record Keeps (s s' : State) : Type 0 where
@@ -28,6 +28,7 @@ change_keeps by s s' (changed change id is) = subst (Keeps s) (sym is) (record {
 change_keeps by s s' (removed gone is) = subst (Keeps s) (sym is) (record { next = omega arith; rises = omega arith; kept = refl })
 change_keeps by s s' (loaded m none is) = subst (Keeps s) (sym is) (record { next = omega arith; rises = omega arith; kept = refl })
 change_keeps by s s' (unloaded m ok is) = subst (Keeps s) (sym is) (record { next = omega arith; rises = omega arith; kept = refl })
+change_keeps by s s' (set_to m change is) = subst (Keeps s) (sym is) (record { next = omega arith; rises = omega arith; kept = refl })
 
 -- a call of this caller is done
 pub call_done : {T E : Type 0} (r : Result T E) (s s' : State) (task : List ℕ) (child : Option (List ℕ)) (c : Call) (caller : Id)

@@ -1,10 +1,11 @@
--- The last component of a path, by its place.
-use Rattle.std.proofs.Common.{◌≡◌, ℕ, zero, suc, ◌+◌, List, [], ◌∷◌, length, get_or, refl, arith}
+-- The last component of a path, behind those before it.
+use Rattle.std.proofs.Common.{◌≡◌, ℕ, List, [], ◌∷◌, ◌++◌, refl, ap, ◌∙◌}
 use Rattle.mf_plan.specs.Path.{last_name}
 
-pub last_at : (n : ℕ) (path : List (List ℕ)) (other : List ℕ) → length path ≡ n + 1 → last_name path ≡ get_or path n other
-last_at n [] other h = absurd (omega arith)
-last_at zero (name ∷ []) other h = refl
-last_at (suc n) (name ∷ []) other h = absurd (omega arith)
-last_at zero (name ∷ below ∷ rest) other h = absurd (omega arith)
-last_at (suc n) (name ∷ below ∷ rest) other h = last_at n (below ∷ rest) other (omega arith)
+last_is : (before : List (List ℕ)) (last : List ℕ) → last_name (before ++ last ∷ []) ≡ last
+last_is [] last = refl
+last_is (name ∷ []) last = refl
+last_is (name ∷ below ∷ rest) last = last_is (below ∷ rest) last
+
+pub last_of : (path before : List (List ℕ)) (last : List ℕ) → path ≡ before ++ last ∷ [] → last_name path ≡ last
+last_of path before last is = ap last_name is ∙ last_is before last

@@ -1,4 +1,5 @@
--- How a call changes the state: not at all; one entity is made, one changed, some removed; a module is loaded, or unloaded.
+-- How a call changes the state: not at all; one entity is made, one changed, some removed; a module is loaded, or unloaded; a setting is
+-- changed.
 use Rattle.std.proofs.Common.{◌≡◌, ℕ, Bool, true, false, cond, not, List, [], Option, Some, None, option_map, drop, refl}
 use Rattle.mf_errno.specs.Module.{module_named}
 use Rattle.mf_errno.specs.declared.errno.Errno.{Errno}
@@ -8,6 +9,7 @@ use Rattle.mf_policy.specs.declared.loading.UnloadFault.TheVariants.{NotLoaded, 
 use Rattle.mf_policy.specs.LoadFlags.{is_unloadok}
 use Rattle.mf_policy.specs.Loading.{load_fault, load_errno, unload_fault, unload_errno}
 use Rattle.mf_policy.specs.Modules.{flags_of}
+use Rattle.mf_policy.specs.declared.settings.Change.{Change}
 use Rattle.mf_objects.specs.declared.id.Id.{Id}
 use Rattle.mf_objects.specs.declared.entity.EntityData.{EntityData}
 use Rattle.mf_objects.specs.declared.entity.EntityData.TheVariants.{Process}
@@ -26,12 +28,13 @@ use Rattle.mf_plan.specs.Loading.{loadable, load_refusal, unload_refusal}
 use Rattle.mf_policy.specs.Registration.{is_listed}
 use Rattle.mf_plan.specs.Names.{caller_name, child_name}
 use Rattle.mf_plan.specs.Path.{file_at_path, last_name, lookup_along}
+use Rattle.mf_plan.specs.Settings.{setting}
 use Rattle.mf_plan.specs.Plan.{proceed, refuse_by, load_row, plan_for, plan_by, plan_of}
 use Rattle.mf_plan.specs.Views.{subject_of, process_named, pipe_named, socket_named}
 use Rattle.mf_step.specs.declared.verdict.Denial.{Denial}
 use Rattle.mf_step.specs.Verdict.{verdict_of}
 use Rattle.mf_step.specs.Reply.{tail_reply, denied_reply, payload_of}
-use Rattle.mf_step.specs.Effect.{with_objects, with_created, with_changed, new_file, with_file, without_entry, with_loaded, with_unloaded, effect_of}
+use Rattle.mf_step.specs.Effect.{with_objects, with_created, with_changed, new_file, with_file, without_entry, with_loaded, with_unloaded, with_setting, effect_of}
 use Rattle.mf_step.specs.Step.{performed_by, performed, after_reply, step_state}
 use Rattle.mf_objects.proofs.Finding.{found_live}
 
@@ -50,6 +53,8 @@ pub data StateChange (by : Option Id) (s s' : State) : Type 0 where
   loaded : (m : Module) → load_fault s.booted s.specs s.numbers m ≡ None → s' ≡ with_loaded s (Some m) → StateChange by s s'
   -- a policy goes that may be unloaded
   unloaded : (m : Module) → is_unloadok (flags_of m) ≡ true → s' ≡ with_unloaded s (Some m) → StateChange by s s'
+  -- a listed policy has another setting
+  set_to : (m : Module) (change : Change) → s' ≡ with_setting s (Some (m, change)) → StateChange by s s'
 
 by_changed : (by : Option Id) (s : State) (change : EntityData → EntityData) (found : Option Id) → StateChange by s (with_changed s change found)
 by_changed by s change None = same refl
@@ -91,6 +96,10 @@ by_unloaded by s None none = same refl
 by_unloaded by s (Some m) none =
     unloaded m (may_unload (is_listed m s.specs) (is_unloadok (flags_of m)) (no_errno unload_errno (unload_fault s.specs m) none)) refl
 
+by_setting : (by : Option Id) (s : State) (asked : Option (Module × Change)) → StateChange by s (with_setting s asked)
+by_setting by s None = same refl
+by_setting by s (Some (m, change)) = set_to m change refl
+
 -- the effect of a call that is done
 effect_change : (s : State) (task : List ℕ) (caller : Id) (e : LiveEntity) (c : Call) → live_at s.objects caller ≡ Some e
     → (plan_for s task (subject_of s.objects caller) c).tail ≡ Do → StateChange (Some caller) s (effect_of s task caller c)
@@ -120,6 +129,11 @@ effect_change s task caller e (call.Seesock name) live done = same refl
 effect_change s task caller e call.Kldstat live done = same refl
 effect_change s task caller e (call.Kldload name) live done = by_loaded (Some caller) s (subject_of s.objects caller) (loadable name) done
 effect_change s task caller e (call.Kldunload name) live done = by_unloaded (Some caller) s (module_named name) (no_fault (unload_refusal s (module_named name)) done)
+effect_change s task caller e (call.Sysctl name value) live done = by_setting (Some caller) s (setting s.specs (call.Sysctl name value))
+effect_change s task caller e call.UgidfwList live done = same refl
+effect_change s task caller e (call.UgidfwAdd rule) live done = by_setting (Some caller) s (setting s.specs (call.UgidfwAdd rule))
+effect_change s task caller e (call.UgidfwSet n rule) live done = by_setting (Some caller) s (setting s.specs (call.UgidfwSet n rule))
+effect_change s task caller e (call.UgidfwRemove n) live done = by_setting (Some caller) s (setting s.specs (call.UgidfwRemove n))
 
 -- a call that is refused or denied changes nothing
 

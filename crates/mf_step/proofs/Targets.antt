@@ -168,6 +168,11 @@ target_lives o (call.Seesock name) population = tt
 target_lives o call.Kldstat population = tt
 target_lives o (call.Kldload name) population = tt
 target_lives o (call.Kldunload name) population = tt
+target_lives o (call.Sysctl name value) population = tt
+target_lives o call.UgidfwList population = tt
+target_lives o (call.UgidfwAdd rule) population = tt
+target_lives o (call.UgidfwSet n rule) population = tt
+target_lives o (call.UgidfwRemove n) population = tt
 
 -- What a call is about suits it, where the call may be done
 
@@ -238,6 +243,11 @@ suits s task (call.Seesock name) population can = tt
 suits s task call.Kldstat population can = tt
 suits s task (call.Kldload name) population can = tt
 suits s task (call.Kldunload name) population can = tt
+suits s task (call.Sysctl name value) population can = tt
+suits s task call.UgidfwList population can = tt
+suits s task (call.UgidfwAdd rule) population can = tt
+suits s task (call.UgidfwSet n rule) population can = tt
+suits s task (call.UgidfwRemove n) population can = tt
 
 -- so does what was found, by its id
 

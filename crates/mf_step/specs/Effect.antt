@@ -20,6 +20,9 @@ use Rattle.mf_plan.specs.Loading.{loadable}
 use Rattle.mf_plan.specs.Names.{child_name}
 use Rattle.mf_plan.specs.Path.{file_at_path, last_name, lookup_along}
 use Rattle.mf_plan.specs.Views.{pipe_named, socket_named}
+use Rattle.mf_plan.specs.Settings.{setting}
+use Rattle.mf_policy.specs.Settings.{change_in}
+use Rattle.mf_policy.specs.declared.settings.Change.{Change}
 use Rattle.mf_policy.specs.declared.labels.Origin.TheVariants.{Maker}
 use Rattle.mf_policy.specs.NewLabels.{new_label}
 use Rattle.mf_policy.specs.Registration.{entries_without, given_after, registration_of, with_registered}
@@ -73,6 +76,13 @@ abbrev pub with_unloaded : State → Option Module → State
 with_unloaded s None = s
 with_unloaded s (Some m) = record s { specs = entries_without m s.specs }
 
+-- Settings
+
+-- a listed policy after a change of its setting, where one is asked for
+abbrev pub with_setting : State → Option (Module × Change) → State
+with_setting s None = s
+with_setting s (Some asked) = record s { specs = (change_in asked.0 asked.1 s.specs).1 }
+
 -- The table: the state after the call of this process of the task, where it is done. Modes are 644 for a file, and 755 for a
 -- directory.
 abbrev pub effect_of : State → List ℕ → Id → Call → State
@@ -91,6 +101,10 @@ effect_of s task caller (call.Send from to text) = with_changed s (with_messages
 effect_of s task caller (call.Recv name) = with_changed s (with_messages (drop 1)) (socket_named s.objects name)
 effect_of s task caller (call.Kldload name) = with_loaded s (loadable name)
 effect_of s task caller (call.Kldunload name) = with_unloaded s (module_named name)
+effect_of s task caller (call.Sysctl name value) = with_setting s (setting s.specs (call.Sysctl name value))
+effect_of s task caller (call.UgidfwAdd rule) = with_setting s (setting s.specs (call.UgidfwAdd rule))
+effect_of s task caller (call.UgidfwSet n rule) = with_setting s (setting s.specs (call.UgidfwSet n rule))
+effect_of s task caller (call.UgidfwRemove n) = with_setting s (setting s.specs (call.UgidfwRemove n))
 effect_of s task caller other = s
 
 -- the calls whose changes take memory
@@ -104,4 +118,8 @@ change_takes_memory (call.Socket name) = true
 change_takes_memory (call.Pwrite name text) = true
 change_takes_memory (call.Send from to text) = true
 change_takes_memory (call.Kldload name) = true
+change_takes_memory (call.Sysctl name value) = true
+change_takes_memory (call.UgidfwAdd rule) = true
+change_takes_memory (call.UgidfwSet n rule) = true
+change_takes_memory (call.UgidfwRemove n) = true
 change_takes_memory other = false

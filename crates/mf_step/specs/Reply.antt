@@ -6,6 +6,9 @@ use Rattle.mf_item.specs.declared.operation.CheckOp.TheVariants.{VnodeLookup}
 use Rattle.mf_item.specs.Item.{Item}
 use Rattle.mf_policy.specs.Modules.{wants_slot}
 use Rattle.mf_policy.specs.Registration.{Entry, slot_for}
+use Rattle.mf_policy.specs.Settings.{change_in, listed_rules}
+use Rattle.mf_policy.specs.declared.settings.Change.{Change}
+use Rattle.mf_rule.specs.RuleList.{Slots}
 use Rattle.mf_objects.specs.declared.id.Id.{Id}
 use Rattle.mf_objects.specs.Head.{head_of}
 use Rattle.mf_objects.specs.Live.{Entities, file_at, content_at, count_at, messages_at}
@@ -22,6 +25,7 @@ use Rattle.mf_plan.specs.declared.reply.Reply.{Reply}
 use Rattle.mf_plan.specs.declared.reply.Reply.TheVariants as reply
 use Rattle.mf_plan.specs.declared.state.State.{State}
 use Rattle.mf_plan.specs.Loading.{loadable}
+use Rattle.mf_plan.specs.Settings.{setting}
 use Rattle.mf_plan.specs.Path.{file_at_path}
 use Rattle.mf_plan.specs.Views.{is_dir, pipe_named, socket_named}
 use Rattle.mf_step.specs.declared.verdict.Denial.{Denial}
@@ -59,6 +63,19 @@ abbrev pub slot : ℕ → Option Module → Payload
 slot given None = payload.None
 slot given (Some m) = payload.Slot (slot_for (wants_slot m) given)
 
+abbrev pub rules : Option Slots → Payload
+rules None = payload.None
+rules (Some listed) = payload.Rules listed
+
+abbrev pub rule_number : Option ℕ → Payload
+rule_number None = payload.None
+rule_number (Some n) = payload.Rule n
+
+-- the number of a rule that is added
+abbrev pub added : List Entry → Option (Module × Change) → Payload
+added listed None = payload.None
+added listed (Some asked) = rule_number (change_in asked.0 asked.1 listed).0.number
+
 -- what the call hands back where it is done
 abbrev pub payload_of : State → Call → Payload
 payload_of s (call.Read path) = payload_of_found (head s.objects) (file_at_path s.objects path)
@@ -69,11 +86,14 @@ payload_of s (call.Pstat name) = payload_of_found (size s.objects) (pipe_named s
 payload_of s (call.Recv name) = payload_of_found (message s.objects) (socket_named s.objects name)
 payload_of s call.Kldstat = payload.Modules (map loaded s.specs)
 payload_of s (call.Kldload name) = slot s.numbers (loadable name)
+payload_of s call.UgidfwList = rules (listed_rules s.specs)
+payload_of s (call.UgidfwAdd rule) = added s.specs (setting s.specs (call.UgidfwAdd rule))
 payload_of s other = payload.None
 
--- the listing of a directory takes memory
+-- the listing of a directory, or of the rules, takes memory
 abbrev pub payload_takes_memory : Call → Bool
 payload_takes_memory (call.Readdir path) = true
+payload_takes_memory call.UgidfwList = true
 payload_takes_memory other = false
 
 -- Replies

@@ -39,7 +39,7 @@ pub(crate) fn make_file(
 {
     match dir {
         Some(dir) => {
-            let name = last_name(path.as_slice());
+            let name = last_name(path);
             add_file(alloc, state, caller, dir, name, mode, is_dir)
         }
         None => Ok(()),

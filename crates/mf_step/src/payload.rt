@@ -3,17 +3,20 @@ ghost use Rattle.std.specs.Prelude.{◌≡◌, ◌≤◌, IfOk, IsOk, IfSome, Is
 ghost use Rattle.mf_objects.specs.Live.{live_at};
 ghost use Rattle.mf_plan.specs.Found.{target_of};
 ghost use Rattle.mf_plan.specs.Loading as loading;
+ghost use Rattle.mf_plan.specs.Settings as settings;
+ghost use Rattle.mf_policy.specs.Settings.{listed_rules};
 ghost use Rattle.mf_calls.specs.WellFormed.{IsFormedCall};
 ghost use Rattle.mf_step.specs.Reply as spec;
 
 use mf_calls::Call;
 use mf_cred::ArrayVec;
 use mf_objects::{Id, Objects};
-use mf_plan::{Loaded, Payload, State, loadable};
+use mf_plan::{Loaded, Payload, State, loadable, setting};
 use mf_policy::{MOST_LISTED, SpecList, registration_of};
 use std::alloc::{AllocError, Global};
 
-/// What the call, which is about the target, hands back where it is done. Only the names of a directory take memory.
+/// What the call, which is about the target, hands back where it is done. Only the names of a directory and a list of rules
+/// take memory.
 pub fn payload_of(
     alloc: Global,
     state: &State,
@@ -37,6 +40,8 @@ pub fn payload_of(
         Call::Recv(_) => Ok(message(objects, target)),
         Call::Kldstat => Ok(Payload::Modules(loaded(&state.specs))),
         Call::Kldload(name) => Ok(slot(state, name.as_str())),
+        Call::UgidfwList => rules(alloc, &state.specs),
+        Call::UgidfwAdd(_) => Ok(added(state, call)),
         Call::Fork(_)
         | Call::Exit
         | Call::See(_)
@@ -54,7 +59,10 @@ pub fn payload_of(
         | Call::Pwrite(_, _)
         | Call::Send(_, _, _)
         | Call::Seesock(_)
-        | Call::Kldunload(_) => Ok(Payload::None),
+        | Call::Kldunload(_)
+        | Call::Sysctl(..)
+        | Call::UgidfwSet(..)
+        | Call::UgidfwRemove(_) => Ok(Payload::None),
     }
 }
 
@@ -141,5 +149,28 @@ fn slot(state: &State, name: &str) -> Payload
             let registration = registration_of(module, state.booted, state.numbers.given());
             Payload::Slot(registration.slot)
         }
+    }
+}
+
+/// The rules about files.
+fn rules(alloc: Global, specs: &SpecList) -> Result<Payload, AllocError>
+    ensures { IfOk result (λ payload. payload ≡ spec.rules (listed_rules specs.now)) }
+{
+    match specs.rules() {
+        Some(rules) => Ok(Payload::Rules(rules.copy(alloc)?)),
+        None => Ok(Payload::None),
+    }
+}
+
+/// The number that a rule gets.
+fn added(state: &State, call: &Call) -> Payload
+    ensures { result ≡ spec.added state.now.specs (settings.setting state.now.specs call.now) }
+{
+    let Some((module, change)) = setting(state, call) else {
+        return Payload::None;
+    };
+    match state.specs.answer_to(module, &change).number {
+        Some(number) => Payload::Rule(number),
+        None => Payload::None,
     }
 }

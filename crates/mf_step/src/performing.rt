@@ -15,6 +15,7 @@ use crate::channels::{append, deliver, pipe, pread, recv, socket};
 use crate::files::{chmod, make_file, unlink};
 use crate::modules::{kldload, kldunload};
 use crate::processes::{exit, fork};
+use crate::settings::change_setting;
 use mf_calls::{Call, DIRECTORY_MODE, FILE_MODE, Line};
 use mf_objects::Id;
 use mf_plan::{Found, State};
@@ -85,6 +86,9 @@ fn perform_by(
         Call::Recv(_) => recv(state, target),
         Call::Kldload(name) => kldload(alloc, state, name.as_str())?,
         Call::Kldunload(name) => kldunload(state, name.as_str()),
+        Call::Sysctl(..) | Call::UgidfwAdd(_) | Call::UgidfwSet(..) | Call::UgidfwRemove(_) => {
+            change_setting(alloc, state, call)?
+        }
         Call::See(_)
         | Call::Signal(_)
         | Call::Debug(_)
@@ -95,7 +99,8 @@ fn perform_by(
         | Call::Readdir(_)
         | Call::Pstat(_)
         | Call::Seesock(_)
-        | Call::Kldstat => {}
+        | Call::Kldstat
+        | Call::UgidfwList => {}
     }
     Ok(())
 }

@@ -97,7 +97,7 @@ impl<'s> Core<'s> {
         let verdict = Core::walk(list, &plan);
         let reply = self.run.reply(alloc, task, &plan, found, &verdict)?;
         let listed = self.run.listed_after(alloc, task, &reply)?;
-        self.run.relist(task, &reply, list, catalogue);
+        self.run.relist(alloc, task, &reply, list, catalogue)?;
         let number = self.run.lines(task) + 1;
         self.run.put(task, number, &reply, listed);
         self.history

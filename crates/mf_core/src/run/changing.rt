@@ -1,5 +1,5 @@
 //! A change of the policies in three acts: the listed specs after it are made beside those of the state, the list and the
-//! catalogue follow, and the specs are put into the state. Only the first takes memory, and it changes nothing.
+//! catalogue follow, and the specs are put into the state. The first two may run out of memory, and then nothing has changed.
 ghost use Rattle.std.specs.Prelude.{◌≡◌, ◌<◌, ℕ, List, length, true, false, IfOk, IsOk, IfSome, IsSome, MatchOption, OnOk, OnErr, Some};
 ghost use Rattle.mf_objects.specs.declared.id.Id.{Id};
 ghost use Rattle.mf_calls.specs.Tasks.{is_change};
@@ -59,23 +59,28 @@ impl<'s> Run<'s> {
         Ok(Some(specs))
     }
 
-    /// The list and the catalogue follow the change of the task's next line, where it is done with this reply.
+    /// The list and the catalogue follow the change of the task's next line, where it is done with this reply. If memory runs
+    /// out, they are unchanged.
     pub(crate) fn relist<P: Policy>(
         &self,
+        alloc: Global,
         task: u32,
         reply: &KeptReply,
         list: &mut PolicyList<P>,
         catalogue: &mut Catalogue<P>,
-    )
+    ) -> Result<(), AllocError>
         requires turn { turn_of self.now.script self.now.run.progress task ≡ turn.Change }
         requires reply { next_reply self.now.script self.now.run task ≡ Some reply.now }
         requires policies { AreOf self.now.run.state.specs list.old catalogue.old }
-        ensures { AreOf (next_state self.now.script self.now.run task).specs list.new catalogue.new }
+        ensures ok { OnOk result (AreOf (next_state self.now.script self.now.run task).specs list.new catalogue.new) }
+        ensures err { OnErr result ((list.new ≡ list.old) × (catalogue.new ≡ catalogue.old)) }
+        ensures memory { is_done reply.now ≡ false → IsOk result }
     {
         if reply.is_done() {
             let line = self.line(task);
-            relist(list, catalogue, &self.state, &line.call);
+            relist(alloc, list, catalogue, &self.state, &line.call)?;
         }
+        Ok(())
     }
 
     /// Puts the listed specs after the change of the task's line of that number into the state. It takes no memory.

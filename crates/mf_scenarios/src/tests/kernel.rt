@@ -8,6 +8,7 @@ ghost use Rattle.mf_core.specs.Policies.{AreAllModules};
 ghost use Rattle.mf_top.specs.Passes.{IsSameTicket};
 
 use mf_biba::Biba;
+use mf_bsdextended::Bsdextended;
 use mf_calls::Script;
 use mf_core::{Commit, Turn};
 use mf_hist::print_history;
@@ -136,6 +137,7 @@ fn a_plan_goes_stale(rt: HostRuntime) -> Result<(), Fail> {
     modules.push(Box::new(alloc, Biba::new())?)?;
     modules.push(Box::new(alloc, Mls::new())?)?;
     modules.push(Box::new(alloc, Partition::new())?)?;
+    modules.push(Box::new(alloc, Bsdextended::new(alloc)?)?)?;
     let text = changed_during_a_read::<Box<dyn Policy + Send + Sync>, Brand, Brand, HostRuntime>(
         &rt,
         alloc,

@@ -7,6 +7,7 @@ ghost use Rattle.mf_core.specs.Policies.{AreAllModules, AreOf};
 ghost use Rattle.mf_core.specs.CoreView.{specs_of};
 
 use mf_biba::Biba;
+use mf_bsdextended::Bsdextended;
 use mf_calls::Script;
 use mf_core::{ChangeOutcome, Commit, Core, Turn};
 use mf_list::{Catalogue, PolicyList};
@@ -112,6 +113,7 @@ fn a_change_waits_while_an_entry_is_open(rt: HostRuntime) -> Result<(), Fail> {
     modules.push(Box::new(alloc, Biba::new())?)?;
     modules.push(Box::new(alloc, Mls::new())?)?;
     modules.push(Box::new(alloc, Partition::new())?)?;
+    modules.push(Box::new(alloc, Bsdextended::new(alloc)?)?)?;
     change_during_entry(&rt, alloc, &script, modules)?;
     Ok(())
 }

@@ -2,6 +2,7 @@
 
 use crate::tests::{DENIAL, DENIED, run_with, words_of};
 use mf_biba::Biba;
+use mf_bsdextended::Bsdextended;
 use mf_io::{OpenGate, StdSink, StdSource, SureSink, SureSource};
 use mf_mls::Mls;
 use mf_partition::Partition;
@@ -23,6 +24,7 @@ fn run_over_sure<R: Threads + Wait + Sync>(
     modules.push(Box::new(alloc, Biba::new())?)?;
     modules.push(Box::new(alloc, Mls::new())?)?;
     modules.push(Box::new(alloc, Partition::new())?)?;
+    modules.push(Box::new(alloc, Bsdextended::new(alloc)?)?)?;
     Ok(macsim_over_sure(rt, alloc, &words, source, sink, &OpenGate, modules))
 }
 

@@ -60,7 +60,7 @@ impl Transcript {
         self.lines = self.lines.saturating_add(1);
         let number = self.lines;
         write!(self.script, "{line}\n")?;
-        if line.starts_with("kldload") || line.starts_with("kldunload") {
+        if is_change(line) {
             write!(self.text, "changed t {number} {reply}\n")
         } else {
             write!(self.text, "enter t\ndone t {number} {reply}\nleave t\n")
@@ -84,6 +84,14 @@ impl Transcript {
         assert_eq!(rt; sink.taken(), self.text.as_bytes(), "{name}");
         Ok(())
     }
+}
+
+/// Whether the line changes the list of policies or a setting.
+fn is_change(line: &str) -> bool {
+    line.starts_with("kldload")
+        || line.starts_with("kldunload")
+        || line.starts_with("sysctl")
+        || (line.starts_with("ugidfw") && line != "ugidfw list")
 }
 
 /// Runs the task, and compares its history and its sources.

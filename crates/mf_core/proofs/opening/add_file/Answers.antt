@@ -11,4 +11,4 @@ add_vnode-requires-clause-name c =
     let leads : (lookup_along objects path).target ≡ Name c.in-Name-default-None.dir None =
     sym c.target_of.ensures.value ∙ c.in-Name-default-None.is
     ∙ ap (Name c.in-Name-default-None.dir) c.in-Name-default-None.field-1-is in
-    rw (c.last_name-name.ensures, c.as_slice.ensures.value) (free_name objects path c.in-Name-default-None.dir leads)
+    rw (c.last_name-name.ensures) (free_name objects path c.in-Name-default-None.dir leads)

@@ -38,8 +38,8 @@ attach-requires-clause-slot g c κs within =
     c.registration_of-registration.ensures ∙ ap (registration_of c.in-Some.wanted c.args.state.now.booted) c.given.ensures.value in
     subst (λ (r : Registration). HasSlot (wants_slot r.module) r.slot) (sym is) (has_slot c.in-Some.wanted c.args.state.now.specs c.args.state.now.numbers c.args.state.now.booted can)
 
-pub returns-in-Some : goal.returns-in-Some
-returns-in-Some g c = λ task caller.
+pub returns-in-Some-clause-ok : goal.returns-in-Some-clause-ok
+returns-in-Some-clause-ok g c = λ task caller.
     let named : loadable c.in-Kldload.name ≡ Some c.in-Some.wanted = sym (c.loadable.ensures ∙ ap loadable c.as_str.ensures) ∙ c.in-Some.is in
     let can = is_loadable c.args.state.now c.in-Kldload.name c.in-Some.wanted (subst (λ (x : Call). CanDo c.args.state.now [] x) c.in-Kldload.is (c.requires.can [])) named in
     let is : c.registration_of-registration.result ≡ registration_of c.in-Some.wanted c.args.state.now.booted c.args.state.now.numbers =
@@ -57,8 +57,8 @@ detach-requires-clause-listed g c κs within =
     ap (is_listed c.in-Some-from_name.wanted) c.requires.policies.listed
     ∙ unloaded_listed c.args.state.now c.in-Kldunload.name c.in-Some-from_name.wanted (subst (λ (x : Call). CanDo c.args.state.now [] x) c.in-Kldunload.is (c.requires.can [])) named
 
-pub returns-in-Some-from_name : goal.returns-in-Some-from_name
-returns-in-Some-from_name g c = λ task caller.
+pub returns-in-Some-from_name-clause-ok : goal.returns-in-Some-from_name-clause-ok
+returns-in-Some-from_name-clause-ok g c = λ task caller.
     let named : module_named c.in-Kldunload.name ≡ Some c.in-Some-from_name.wanted =
     sym (c.from_name.ensures ∙ ap module_named c.as_str-in-Kldunload.ensures) ∙ c.in-Some-from_name.is in
     subst (λ (x : Call). AreOf (effect_of c.args.state.now task caller x).specs c.detach.new.self c.detach.new.catalogue) (sym c.in-Kldunload.is)

@@ -6,11 +6,11 @@ use Rattle.mf_calls.proofs.FewBoots.{few_boots}
 use Rattle.mf_core.proofs.Reached.{loaded_more}
 use Rattle.mf_core.proofs.run.booted.Goals as goal
 
-pub load-requires-clause-slots : goal.load-requires-clause-slots
-load-requires-clause-slots c =
+pub load-requires : goal.load-requires
+load-requires c =
     let modules = c.as_slice-wanted-items.result.now in
     let P : List Module → Type 0 = λ ms. AreBoots ms in
-    λ wants. omega (arith, c.loop-wanted.invariant.few, few_boots modules (subst P (sym c.as_slice-wanted-items.ensures) c.requires.boots))
+    record { slots = λ wants. omega (arith, c.loop-wanted.invariant.few, few_boots modules (subst P (sym c.as_slice-wanted-items.ensures) c.requires.boots)) }
 
 pub loop-wanted-preserved : goal.loop-wanted-preserved
 loop-wanted-preserved c =

@@ -15,9 +15,9 @@ relist-requires-clause-can g c κs within =
     c.args.task c.line-line.result.now c.args.reply.now c.requires.turn c.line-line.ensures.value c.requires.reply
     (sym c.is_done.ensures ∙ c.if-is_done.true)
 
-pub returns-then-is_done : goal.returns-then-is_done
-returns-then-is_done g c =
+pub returns-in_ok-relist-clause-ok : goal.returns-in_ok-relist-clause-ok
+returns-in_ok-relist-clause-ok g c =
     subst (λ (x : State). AreOf x.specs c.relist.new.list c.relist.new.catalogue)
     (sym (change_effect c.args.self.now c.self.inside.script.now (record { state = c.self.inside.state; progress = c.self.inside.progress }) c.self.view_is c.self.invariant
     c.args.task c.line-line.result.now c.args.reply.now c.requires.turn c.line-line.ensures.value c.requires.reply
-    (sym c.is_done.ensures ∙ c.if-is_done.true) [] (record { 0 = 0 }))) (c.relist.ensures [] (record { 0 = 0 }))
+    (sym c.is_done.ensures ∙ c.if-is_done.true) [] (record { 0 = 0 }))) (c.in_ok-relist.ensures.ok [] (record { 0 = 0 }))

@@ -1,0 +1,6 @@
+//! The policy of rules about files, that of mac_bsdextended(4).
+#![tactic(auto)]
+
+mod bsdextended;
+
+pub use bsdextended::Bsdextended;

@@ -1,0 +1,272 @@
+//! Calls of t and its child c where mac_biba is listed: what they make, and what the policy refuses. There is nothing but the
+//! root, which is high, the process t and the process u.
+ghost use Rattle.mf_calls.specs.WellFormed.{IsFormedLine, IsName};
+
+use crate::scripts::{only_line, script_of};
+use mf_biba::Biba;
+use mf_calls::Line;
+use mf_cred::Cred;
+use mf_elem::{Elem, LabelValue, RangeLabel};
+use mf_errno::Module;
+use mf_item::Kind;
+use mf_list::{Catalogue, PolicyList};
+use mf_objects::Objects;
+use mf_plan::{Plan, Reply, State};
+use mf_policy::{Origin, Registration, Spec, SpecList, new_label};
+use mf_slots::SlotNumbers;
+use mf_step::{step, verdict_of};
+use std::alloc::{AllocError, Global};
+use std::process::Abort;
+
+/// The state, and the list of the policies that are asked.
+#[derive(Drop)]
+struct Machine {
+    state: State,
+    list: PolicyList<Biba>,
+}
+
+fn labelled(element: Elem, range: Option<(Elem, Elem)>) -> [LabelValue; 4] {
+    let unset = LabelValue::Unset;
+    let value = LabelValue::Range(RangeLabel {
+        effective: Some(element),
+        range,
+    });
+    [value, unset, unset, unset]
+}
+
+fn add_process(
+    rt: &impl Abort,
+    alloc: Global,
+    objects: &mut Objects,
+    name: &str,
+    element: Elem,
+) -> Result<(), AllocError> {
+    assert!(rt; objects.live() < 1024 && objects.next_id() < u32::MAX);
+    if objects.process(name).is_none() {
+        let label = labelled(element, Some((Elem::Low, Elem::High)));
+        let _id = objects.add_process(alloc, name, &Cred::default(), &label)?;
+    }
+    Ok(())
+}
+
+/// The list with Biba.
+fn list_of_biba(alloc: Global) -> Result<PolicyList<Biba>, AllocError> {
+    let mut catalogue = Catalogue::new(vec![in alloc; Biba::new()]?);
+    let mut list = PolicyList::new(alloc);
+    list.ready(&mut catalogue)?;
+    let _registered = list.register(&mut catalogue, &mut SlotNumbers::new(), "mac_biba", false);
+    Ok(list)
+}
+
+/// The specs where Biba is listed.
+fn with_biba(alloc: Global) -> Result<SpecList, AllocError> {
+    let mut specs = SpecList::new(alloc);
+    let registration = Registration {
+        module: Module::Biba,
+        slot: Some(0),
+        fixed: true,
+    };
+    specs.list(registration, Spec::Biba)?;
+    Ok(specs)
+}
+
+/// The processes t and u, with these elements.
+fn population(rt: &impl Abort, alloc: Global, t: Elem, u: Elem) -> Result<Objects, AllocError> {
+    let mut objects = Objects::new(alloc, &labelled(Elem::High, None))?;
+    add_process(rt, alloc, &mut objects, "t", t)?;
+    add_process(rt, alloc, &mut objects, "u", u)?;
+    Ok(objects)
+}
+
+/// The machine where t and u have these elements.
+fn booted(rt: &impl Abort, alloc: Global, t: Elem, u: Elem) -> Result<Machine, AllocError> {
+    let mut numbers = SlotNumbers::new();
+    let _number = numbers.take();
+    let state = State {
+        objects: population(rt, alloc, t, u)?,
+        specs: with_biba(alloc)?,
+        numbers,
+        booted: true,
+    };
+    Ok(Machine {
+        state,
+        list: list_of_biba(alloc)?,
+    })
+}
+
+/// Does the call of the line, where the policies are those of the state.
+fn reply_of(
+    rt: &impl Abort,
+    alloc: Global,
+    machine: &mut Machine,
+    task: &str,
+    line: &Line,
+) -> Result<Reply, AllocError>
+    requires task { IsName task.now }
+    requires line { IsFormedLine line.now }
+{
+    let list = &machine.list;
+    assert!(rt; list.same_specs(&machine.state.specs));
+    assert!(rt; machine.state.specs.len() <= 8 && machine.state.objects.next_id() < u32::MAX);
+    let mut plan = Plan::new();
+    let found = plan.make(&machine.state, task, line.child_name(), &line.call);
+    let verdict = verdict_of(list, &plan);
+    step(
+        alloc,
+        &mut machine.state,
+        task,
+        line,
+        found,
+        &plan,
+        &verdict,
+    )
+}
+
+fn reply_text(alloc: Global, reply: &Reply) -> Result<String, AllocError> {
+    match reply {
+        Reply::Ok(_) => String::from_str(alloc, "ok"),
+        Reply::Refused(errno) => String::from_str(alloc, errno.name()),
+        Reply::Denied {
+            errno,
+            op,
+            item,
+            ..
+        } => format!(in alloc; "{} {} {item}", errno.name(), op.name()),
+    }
+}
+
+/// The reply to a call that is written as a script's line.
+fn said(
+    rt: &impl Abort,
+    alloc: Global,
+    machine: &mut Machine,
+    text: &str,
+) -> Result<String, AllocError> {
+    let script = script_of(rt, alloc, text)?;
+    let (task, line) = only_line(rt, &script);
+    let reply = reply_of(rt, alloc, machine, task, line)?;
+    reply_text(alloc, &reply)
+}
+
+/// Does the calls, each with its reply.
+fn run(
+    rt: &impl Abort,
+    alloc: Global,
+    machine: &mut Machine,
+    rows: &[(&str, &str)],
+) -> Result<(), AllocError> {
+    for (line, wanted) in rows {
+        let reply = said(rt, alloc, machine, line)?;
+        assert_eq!(rt; reply.as_str(), *wanted, "{line}");
+    }
+    Ok(())
+}
+
+/// The child and its pipe have these labels.
+fn are_labelled(
+    rt: &impl Abort,
+    objects: &Objects,
+    of_child: &[LabelValue; 4],
+    of_pipe: &[LabelValue; 4],
+) {
+    match objects.process("t.c") {
+        Some(child) => assert!(rt; objects.label(child) == *of_child),
+        None => panic!(rt; "the child lives"),
+    }
+    match objects.pipe("p") {
+        Some(pipe) => assert!(rt; objects.label(pipe) == *of_pipe),
+        None => panic!(rt; "the pipe lives"),
+    }
+}
+
+#[test]
+fn labels_of_a_child_and_of_its_pipe(rt: HostRuntime) -> Result<(), AllocError> {
+    let mut machine = booted(&rt, rt.alloc(), Elem::Low, Elem::High)?;
+    let rows: &[(&str, &str)] = &[("fork c", "ok"), ("@c pipe p", "ok")];
+    run(&rt, rt.alloc(), &mut machine, rows)?;
+    let low = labelled(Elem::Low, None);
+    let wide = labelled(Elem::Low, Some((Elem::Low, Elem::High)));
+    are_labelled(&rt, &machine.state.objects, &wide, &low);
+    Ok(())
+}
+
+#[test]
+fn a_child_of_a_process_older_than_mac_partition(rt: HostRuntime) -> Result<(), AllocError> {
+    let mut specs = with_biba(rt.alloc())?;
+    let registration = Registration {
+        module: Module::Partition,
+        slot: Some(1),
+        fixed: false,
+    };
+    specs.insert(0, registration, Spec::Partition)?;
+    let maker = labelled(Elem::Low, None);
+    let child = new_label(&specs, Kind::Process, &Origin::Maker(maker));
+    let unset = LabelValue::Unset;
+    assert!(rt; child == [maker[0], LabelValue::Number(0), unset, unset]);
+    Ok(())
+}
+
+/// The call that fills the pipe p.
+fn full_write(alloc: Global) -> Result<String, AllocError> {
+    let mut call = String::from_str(alloc, "pwrite p ")?;
+    for _ in 0..16_384 {
+        call.push_str("a")?;
+    }
+    Ok(call)
+}
+
+/// A full pipe takes no more until it is read.
+fn fill_pipe(rt: &impl Abort, alloc: Global, machine: &mut Machine) -> Result<(), AllocError> {
+    let full = full_write(alloc)?;
+    let rows: &[(&str, &str)] = &[
+        ("pipe p", "ok"),
+        (full.as_str(), "ok"),
+        ("pread p", "ok"),
+        ("pread p", "EAGAIN"),
+        (full.as_str(), "ok"),
+    ];
+    run(rt, alloc, machine, rows)
+}
+
+/// A full socket takes no more until a message is received.
+fn fill_socket(rt: &impl Abort, alloc: Global, machine: &mut Machine) -> Result<(), AllocError> {
+    run(rt, alloc, machine, &[("socket s", "ok")])?;
+    for _ in 0..16 {
+        run(rt, alloc, machine, &[("send s s x", "ok")])?;
+    }
+    let rows: &[(&str, &str)] = &[
+        ("send s s x", "ENOBUFS"),
+        ("recv s", "ok"),
+        ("send s s x", "ok"),
+    ];
+    run(rt, alloc, machine, rows)
+}
+
+#[test]
+fn what_is_taken_makes_room(rt: HostRuntime) -> Result<(), AllocError> {
+    let mut machine = booted(&rt, rt.alloc(), Elem::Low, Elem::High)?;
+    fill_pipe(&rt, rt.alloc(), &mut machine)?;
+    fill_socket(&rt, rt.alloc(), &mut machine)
+}
+
+/// Calls of a process that is low, beside one that is high.
+const BELOW: &[(&str, &str)] = &[
+    ("see u", "ok"),
+    ("debug u", "EACCES proc_debug 1"),
+    ("create /f", "EACCES vnode_create 2"),
+];
+
+/// Calls of a process that is high, beside one that is low.
+const ABOVE: &[(&str, &str)] = &[
+    ("see u", "ESRCH proc_visible 1"),
+    ("debug u", "ESRCH proc_debug 1"),
+    ("debug t", "ok"),
+];
+
+#[test]
+fn who_may_see_and_debug(rt: HostRuntime) -> Result<(), AllocError> {
+    let mut below = booted(&rt, rt.alloc(), Elem::Low, Elem::High)?;
+    run(&rt, rt.alloc(), &mut below, BELOW)?;
+    let mut above = booted(&rt, rt.alloc(), Elem::High, Elem::Low)?;
+    run(&rt, rt.alloc(), &mut above, ABOVE)
+}

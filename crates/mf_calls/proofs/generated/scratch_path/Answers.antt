@@ -1,0 +1,7 @@
+use Rattle.std.proofs.Common.{sym, ◌∙◌, subst, arith}
+use Rattle.mf_names.specs.Paths.{HasNoSlash}
+use Rattle.mf_calls.proofs.LoadNames.{scratch_plain}
+use Rattle.mf_calls.proofs.generated.scratch_path.Goals as goal
+
+pub path_in-requires : goal.path_in-requires
+path_in-requires c = subst HasNoSlash (sym (c.as_str.ensures.value ∙ c.in_ok-name.ensures.ok)) (scratch_plain c.args.number (omega (arith, c.ranges.number)))

@@ -1,0 +1,7 @@
+use Rattle.std.specs.Bool.{one_answer}
+use Rattle.mf_calls.specs.Paths.{is_same_path}
+use Rattle.mf_calls.proofs.Directories.{same_path_decides}
+use Rattle.mf_calls.proofs.paths.is_same_path.Goals as goal
+
+pub returns : goal.returns
+returns c = one_answer c.is_same.result (is_same_path c.args.path.now c.args.other.now) c.is_same.ensures (same_path_decides c.args.path.now c.args.other.now)

@@ -1,0 +1,5 @@
+//! Texts of replies and lines of histories, as tables, over the reader: tests, and nothing else.
+#![tactic(auto)]
+
+#[cfg(test)]
+mod histories;

@@ -1,0 +1,68 @@
+-- Which change of a policy's setting a call asks for, as sysctl(8) and ugidfw(8) do, and with which errno it is refused, by docs/MANUAL.md
+-- (CALLS). The name of the sysctl is that of mac_bsdextended(4).
+use Rattle.std.specs.Prelude.{ℕ, Bool, true, false, not, if◌then◌else◌, List, Option, Some, None, option_and_then, option_map, codes}
+use Rattle.std.specs.Str.{bytes_eq}
+use Rattle.mf_errno.specs.declared.errno.Errno.{Errno}
+use Rattle.mf_errno.specs.declared.errno.Errno.TheVariants.{Success, Enoent, Einval}
+use Rattle.mf_errno.specs.declared.module.Module.{Module}
+use Rattle.mf_errno.specs.declared.module.Module.TheVariants as modules
+use Rattle.mf_policy.specs.declared.settings.Change.{Change}
+use Rattle.mf_policy.specs.declared.settings.Change.TheVariants.{FirstMatch, RuleAdd, RuleSet, RuleRemove}
+use Rattle.mf_policy.specs.Registration.{Entry, is_listed}
+use Rattle.mf_policy.specs.Settings.{change_in}
+use Rattle.mf_calls.specs.declared.script.Call.{Call}
+use Rattle.mf_calls.specs.declared.script.Call.TheVariants as call
+
+-- the module of a sysctl; mac_bsdextended has the only one
+unfoldable pub sysctl_module : List ℕ → Option Module
+sysctl_module name =
+    if bytes_eq name (codes "security.mac.bsdextended.firstmatch_enabled") then Some modules.Bsdextended else None
+
+-- off or on
+unfoldable pub switch : List ℕ → Option Bool
+switch value = if bytes_eq (codes "0") value then Some false else if bytes_eq (codes "1") value then Some true else None
+
+-- the module whose setting a call changes
+abbrev pub setting_module : Call → Option Module
+setting_module (call.Sysctl name value) = sysctl_module name
+setting_module (call.UgidfwAdd rule) = Some modules.Bsdextended
+setting_module (call.UgidfwSet n rule) = Some modules.Bsdextended
+setting_module (call.UgidfwRemove n) = Some modules.Bsdextended
+setting_module other = None
+
+-- the change that a call asks for; none where the setting has no such value
+abbrev pub change_asked : Call → Option Change
+change_asked (call.Sysctl name value) = option_map FirstMatch (switch value)
+change_asked (call.UgidfwAdd rule) = Some (RuleAdd rule)
+change_asked (call.UgidfwSet n rule) = Some (RuleSet n rule)
+change_asked (call.UgidfwRemove n) = Some (RuleRemove n)
+change_asked other = None
+
+-- the module, where it is listed
+abbrev pub if_listed : List Entry → Module → Option Module
+if_listed listed m = if is_listed m listed then Some m else None
+
+-- the listed module whose setting a call changes
+abbrev pub listed_module : List Entry → Call → Option Module
+listed_module listed c = option_and_then (if_listed listed) (setting_module c)
+
+abbrev pub both : Option Module → Option Change → Option (Module × Change)
+both (Some m) (Some change) = Some (m, change)
+both m change = None
+
+-- the change that a call asks of a listed module's policy
+abbrev pub setting : List Entry → Call → Option (Module × Change)
+setting listed c = both (listed_module listed c) (change_asked c)
+
+abbrev pub unless_success : Errno → Option Errno
+unless_success Success = None
+unless_success other = Some other
+
+-- why a change isn't made: no listed module has the setting, the setting has no such value, or the policy refuses it
+abbrev pub refusal_by : List Entry → Option Module → Option Change → Option Errno
+refusal_by listed None change = Some Enoent
+refusal_by listed (Some m) None = Some Einval
+refusal_by listed (Some m) (Some change) = unless_success (change_in m change listed).0.errno
+
+abbrev pub setting_refusal : List Entry → Call → Option Errno
+setting_refusal listed c = refusal_by listed (listed_module listed c) (change_asked c)

@@ -1,0 +1,130 @@
+//! Calls that change a policy's setting.
+ghost use Rattle.std.specs.Prelude.{◌≡◌, [], IfOk, IfSome, IsSome, None};
+ghost use Rattle.mf_calls.specs.WellFormed.{IsFormedCall};
+ghost use Rattle.mf_policy.specs.Settings.{IsChange};
+ghost use Rattle.mf_objects.specs.Live.{live_at};
+ghost use Rattle.mf_plan.specs.Plan as plan;
+ghost use Rattle.mf_plan.specs.Settings as spec;
+ghost use Rattle.mf_plan.specs.Views as view;
+
+use crate::state::State;
+use mf_calls::Call;
+use mf_errno::{Errno, Module};
+use mf_objects::Id;
+use mf_policy::{Change, SpecList};
+
+/// The change that the call asks of a listed module's policy. None where its module isn't listed, where no module has a
+/// setting of that name, where the setting has no such value, and for a call that changes none. Whether the change is
+/// refused is the plan's matter.
+pub fn setting(state: &State, call: &Call) -> Option<(Module, Change)>
+    ensures value { result ≡ spec.setting state.now.specs call.now }
+    ensures change { IsFormedCall call.now → IfSome result (λ asked. IsChange asked.1) }
+{
+    let module = listed_module(&state.specs, call)?;
+    let change = change_asked(call)?;
+    Some((module, change))
+}
+
+/// The module of a sysctl.
+#[tactic(auto, unfolding(crate::specs::Settings::sysctl_module))]
+fn sysctl_module(name: &str) -> Option<Module>
+    ensures { result ≡ spec.sysctl_module name.now }
+{
+    if name == "security.mac.bsdextended.firstmatch_enabled" {
+        Some(Module::Bsdextended)
+    } else {
+        None
+    }
+}
+
+/// Off or on.
+#[tactic(auto, unfolding(crate::specs::Settings::switch))]
+fn switch(value: &str) -> Option<bool>
+    ensures { result ≡ spec.switch value.now }
+{
+    match value {
+        "0" => Some(false),
+        "1" => Some(true),
+        _ => None,
+    }
+}
+
+fn setting_module(call: &Call) -> Option<Module>
+    ensures { result ≡ spec.setting_module call.now }
+{
+    match call {
+        Call::Sysctl(name, _) => sysctl_module(name.as_str()),
+        Call::UgidfwAdd(_) | Call::UgidfwSet(..) | Call::UgidfwRemove(_) => Some(
+            Module::Bsdextended,
+        ),
+        _ => None,
+    }
+}
+
+fn change_asked(call: &Call) -> Option<Change>
+    ensures value { result ≡ spec.change_asked call.now }
+    ensures change { IsFormedCall call.now → IfSome result IsChange }
+{
+    match call {
+        Call::Sysctl(_, value) => switch(value.as_str()).map(Change::FirstMatch),
+        Call::UgidfwAdd(rule) => Some(Change::RuleAdd(*rule)),
+        Call::UgidfwSet(number, rule) => Some(Change::RuleSet(*number, *rule)),
+        Call::UgidfwRemove(number) => Some(Change::RuleRemove(*number)),
+        _ => None,
+    }
+}
+
+fn listed_module(specs: &SpecList, call: &Call) -> Option<Module>
+    ensures { result ≡ spec.listed_module specs.now call.now }
+{
+    let module = setting_module(call)?;
+    if specs.is_listed(module) {
+        Some(module)
+    } else {
+        None
+    }
+}
+
+/// Why the change isn't made.
+fn setting_refusal(specs: &SpecList, call: &Call) -> Option<Errno>
+    ensures { result ≡ spec.setting_refusal specs.now call.now }
+{
+    let Some(module) = listed_module(specs, call) else {
+        return Some(Errno::Enoent);
+    };
+    let Some(change) = change_asked(call) else {
+        return Some(Errno::Einval);
+    };
+    match specs.answer_to(module, &change).errno {
+        Errno::Success => None,
+        errno => Some(errno),
+    }
+}
+
+/// The tests of a call that changes a setting.
+#[tactic(auto, unfolding(crate::specs::Views::subject_of))]
+pub(crate) fn change_setting(state: &State, caller: Id, call: &Call) -> Result<Option<Id>, Errno>
+    requires lives { IsSome (live_at state.now.objects caller) }
+    ensures plan { plan.ended [] result ≡ plan.setting_row state.now (view.subject_of state.now.objects caller) call.now }
+    ensures target { IfOk result (λ target. target ≡ None) }
+{
+    if !state.objects.cred(caller).is_root() {
+        return Err(Errno::Eperm);
+    }
+    match setting_refusal(&state.specs, call) {
+        None => Ok(None),
+        Some(errno) => Err(errno),
+    }
+}
+
+/// The test of the call that lists the rules about files.
+pub(crate) fn list_rules(state: &State) -> Result<Option<Id>, Errno>
+    ensures plan { plan.ended [] result ≡ plan.rules_row state.now }
+    ensures target { IfOk result (λ target. target ≡ None) }
+{
+    if state.specs.is_listed(Module::Bsdextended) {
+        Ok(None)
+    } else {
+        Err(Errno::Enoent)
+    }
+}

@@ -1,0 +1,92 @@
+//! The settings of policies, and changes of them. mac_bsdextended(4) alone has settings: its rules, and first match.
+ghost use Rattle.std.specs.Prelude.{◌≡◌};
+ghost use Rattle.mf_policy.specs.Settings as spec;
+ghost use Rattle.mf_policy.specs.declared.spec.Spec.TheVariants as means;
+
+use mf_errno::Errno;
+use mf_rule::{Rule, RuleList};
+
+/// A change of a setting.
+#[derive(Clone, Copy, Debug)]
+pub enum Change {
+    /// Whether the file system firewall stops at the first rule that matches, as the sysctl
+    /// `security.mac.bsdextended.firstmatch_enabled` of mac_bsdextended(4) sets it.
+    FirstMatch(bool),
+    /// One rule more, under the lowest free number, as by `ugidfw add`.
+    RuleAdd(Rule),
+    /// The rule of a number, in place of the one that it may have, as by `ugidfw set`.
+    RuleSet(u32, Rule),
+    /// No rule of that number any more, as by `ugidfw remove`.
+    RuleRemove(u32),
+}
+
+/// The answer to a change: its errno, and for a rule that was added its number.
+#[derive(Clone, Copy, Debug, PartialEq, Eq)]
+pub struct Changed {
+    pub errno: Errno,
+    pub number: Option<u32>,
+}
+
+impl Changed {
+    /// The change was made.
+    pub fn done() -> Changed
+        ensures { result ≡ spec.done }
+    {
+        Changed::with(Errno::Success, None)
+    }
+
+    /// The answer of a policy that has no such setting.
+    pub fn no_setting() -> Changed
+        ensures { result ≡ spec.no_setting }
+    {
+        Changed::with(Errno::Enoent, None)
+    }
+
+    fn with(errno: Errno, number: Option<u32>) -> Changed
+        ensures { result ≡ record { errno = errno; number = number } }
+    {
+        Changed { errno, number }
+    }
+}
+
+/// What mac_bsdextended's policy with these rules would answer to a change.
+pub(crate) fn answer_of_rules(rules: &RuleList, change: &Change) -> Changed
+    ensures { (first : _) → result ≡ (spec.change_of (means.Bsdextended rules.now first) change.now).0 }
+{
+    match change {
+        Change::FirstMatch(_) | Change::RuleSet(..) => Changed::done(),
+        Change::RuleAdd(_) => match rules.free() {
+            Some(number) => Changed::with(Errno::Success, Some(number)),
+            None => Changed::with(Errno::Enobufs, None),
+        },
+        Change::RuleRemove(number) => match rules.get(*number) {
+            Some(_) => Changed::done(),
+            None => Changed::with(Errno::Enoent, None),
+        },
+    }
+}
+
+/// Changes a setting of mac_bsdextended's policy, which has these rules and this first match.
+pub fn change_rules(rules: &mut RuleList, first_match: &mut bool, change: &Change) -> Changed
+    requires { spec.IsChange change.now }
+    ensures { (result, means.Bsdextended rules.new first_match.new) ≡ spec.change_of (means.Bsdextended rules.old first_match.old) change.now }
+{
+    match change {
+        Change::FirstMatch(enabled) => {
+            *first_match = *enabled;
+            Changed::done()
+        }
+        Change::RuleAdd(rule) => match rules.add(*rule) {
+            Ok(number) => Changed::with(Errno::Success, Some(number)),
+            Err(_) => Changed::with(Errno::Enobufs, None),
+        },
+        Change::RuleSet(number, rule) => {
+            rules.set(*number, *rule);
+            Changed::done()
+        }
+        Change::RuleRemove(number) => match rules.remove(*number) {
+            Ok(()) => Changed::done(),
+            Err(_) => Changed::with(Errno::Enoent, None),
+        },
+    }
+}

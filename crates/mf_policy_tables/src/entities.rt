@@ -1,0 +1,274 @@
+//! Files, processes, pipes and sockets through their lives.
+
+use mf_cred::{Cred, FileView};
+use mf_elem::LabelValue;
+use mf_item::Kind;
+use mf_objects::{ID_LIMIT, Id, MOST_ENTITIES, Objects};
+use std::alloc::{AllocError, Global};
+use std::process::Abort;
+
+fn labelled(number: u32) -> [LabelValue; 4] {
+    let unset = LabelValue::Unset;
+    [LabelValue::Number(number), unset, unset, unset]
+}
+
+/// A file of the root with that name and the bytes `text`.
+fn add_file(
+    rt: &impl Abort,
+    alloc: Global,
+    objects: &mut Objects,
+    name: &str,
+) -> Result<Id, AllocError> {
+    let file = FileView {
+        uid: 0,
+        gid: 0,
+        mode: 0o644,
+        dir: false,
+    };
+    let root = objects.root();
+    assert!(rt; objects.live() < MOST_ENTITIES && objects.next_id() < ID_LIMIT);
+    match objects.child(root, name) {
+        Some(id) => Ok(id),
+        None => objects.add_vnode(alloc, root, name, &file, b"text", &labelled(1)),
+    }
+}
+
+/// The process t.
+fn add_process(rt: &impl Abort, alloc: Global, objects: &mut Objects) -> Result<(), AllocError> {
+    assert!(rt; objects.live() < MOST_ENTITIES && objects.next_id() < ID_LIMIT);
+    if objects.process("t").is_none() {
+        let t = objects.add_process(alloc, "t", &Cred::default(), &labelled(3))?;
+        assert!(rt; objects.kind(t) == Kind::Process && objects.cred(t).uid == 0);
+        assert!(rt; objects.has_cred(t, &Cred::default()));
+    }
+    Ok(())
+}
+
+/// The names of the root's entries, one behind the other.
+fn listing_of(alloc: Global, objects: &Objects) -> Result<String, AllocError> {
+    let names = objects.names(alloc, objects.root())?;
+    let mut listing = String::new(alloc);
+    for name in names.as_slice() {
+        listing.push_str(name.as_str())?;
+    }
+    Ok(listing)
+}
+
+/// Adds these files, which the root lists so.
+fn are_listed(
+    rt: &impl Abort,
+    alloc: Global,
+    objects: &mut Objects,
+    names: &[&str],
+    listing: &str,
+) -> Result<(), AllocError> {
+    for name in names {
+        let _id = add_file(rt, alloc, objects, name)?;
+    }
+    let root = objects.root();
+    assert!(rt; objects.count(root) as usize == names.len());
+    assert!(rt; listing_of(alloc, objects)?.as_str() == listing);
+    Ok(())
+}
+
+#[test]
+fn names_in_byte_order(rt: HostRuntime) -> Result<(), AllocError> {
+    let mut objects = Objects::new(rt.alloc(), &labelled(7))?;
+    are_listed(&rt, rt.alloc(), &mut objects, &["b", "a", "c", "B"], "Babc")
+}
+
+/// The empty pipe p of t.
+fn add_pipe(rt: &impl Abort, alloc: Global, objects: &mut Objects) -> Result<(), AllocError> {
+    assert!(rt; objects.live() < MOST_ENTITIES && objects.next_id() < ID_LIMIT);
+    if let Some(t) = objects.process("t") {
+        if objects.pipe("p").is_none() {
+            let _p = objects.add_pipe(alloc, "p", t, &labelled(3))?;
+        }
+    }
+    Ok(())
+}
+
+/// The pipe p has its label and its title.
+fn is_labelled(rt: &impl Abort, alloc: Global, objects: &Objects) -> Result<(), AllocError> {
+    if let Some(p) = objects.pipe("p") {
+        assert!(rt; objects.label(p)[0] == LabelValue::Number(3));
+        let mut title = String::new(alloc);
+        objects.title(p, &mut title)?;
+        assert!(rt; title.as_str() == "pipe:p");
+    }
+    Ok(())
+}
+
+/// Fills the pipe p.
+#[tactic(auto, using(mf_objects::proofs::Laws::fits_pipe))]
+fn fill(rt: &impl Abort, objects: &mut Objects) -> Result<(), AllocError> {
+    if let Some(p) = objects.pipe("p") {
+        assert!(rt; objects.size(p) < 10);
+        objects.append(p, b"text")?;
+    }
+    Ok(())
+}
+
+/// Empties the pipe p.
+fn empty(rt: &impl Abort, objects: &mut Objects) {
+    if let Some(p) = objects.pipe("p") {
+        assert!(rt; objects.size(p) == 4);
+        objects.clear(p);
+    }
+}
+
+/// The process t ends. Before it there is its empty pipe.
+fn exit(rt: &impl Abort, objects: &mut Objects) {
+    if let Some(p) = objects.least_from(2) {
+        assert!(rt; objects.size(p) == 0);
+    }
+    if let Some(t) = objects.process("t") {
+        objects.remove_process(t);
+    }
+}
+
+/// The process t makes the pipe p, uses it, and ends.
+fn use_and_exit(rt: &impl Abort, alloc: Global, objects: &mut Objects) -> Result<(), AllocError> {
+    add_process(rt, alloc, objects)?;
+    add_pipe(rt, alloc, objects)?;
+    is_labelled(rt, alloc, objects)?;
+    assert!(rt; objects.live() == 3);
+    fill(rt, objects)?;
+    empty(rt, objects);
+    exit(rt, objects);
+    assert!(rt; objects.live() == 1);
+    Ok(())
+}
+
+#[test]
+fn an_exit_takes_its_pipes(rt: HostRuntime) -> Result<(), AllocError> {
+    let mut objects = Objects::new(rt.alloc(), &labelled(7))?;
+    use_and_exit(&rt, rt.alloc(), &mut objects)
+}
+
+/// The socket s of t, without a message.
+fn add_socket(rt: &impl Abort, alloc: Global, objects: &mut Objects) -> Result<(), AllocError> {
+    assert!(rt; objects.live() < MOST_ENTITIES && objects.next_id() < ID_LIMIT);
+    if let Some(t) = objects.process("t") {
+        if objects.socket("s").is_none() {
+            let _s = objects.add_socket(alloc, "s", t, &labelled(3))?;
+        }
+    }
+    Ok(())
+}
+
+/// Puts a short message into the socket s.
+#[tactic(auto, using(mf_objects::proofs::Laws::fits_message))]
+fn push_message(
+    rt: &impl Abort,
+    alloc: Global,
+    objects: &mut Objects,
+    text: &[u8],
+) -> Result<(), AllocError> {
+    if let Some(s) = objects.socket("s") {
+        assert!(rt; objects.count(s) < 16 && text.len() < 9);
+        objects.push_message(alloc, s, text)?;
+    }
+    Ok(())
+}
+
+/// Takes the oldest message out of the socket s, and returns its length.
+#[tactic(auto, using(mf_objects::proofs::Laws::has_message))]
+fn pop_message(rt: &impl Abort, objects: &mut Objects) -> Option<u32> {
+    let s = objects.socket("s")?;
+    assert!(rt; objects.count(s) > 0);
+    Some(objects.pop_message(s).len)
+}
+
+/// The socket s of t gets two messages, and gives back the first.
+fn send_and_receive(
+    rt: &impl Abort,
+    alloc: Global,
+    objects: &mut Objects,
+) -> Result<(), AllocError> {
+    add_process(rt, alloc, objects)?;
+    add_socket(rt, alloc, objects)?;
+    push_message(rt, alloc, objects, b"one")?;
+    push_message(rt, alloc, objects, b"three")?;
+    assert!(rt; pop_message(rt, objects) == Some(3));
+    Ok(())
+}
+
+#[test]
+fn the_oldest_message_first(rt: HostRuntime) -> Result<(), AllocError> {
+    let mut objects = Objects::new(rt.alloc(), &labelled(7))?;
+    send_and_receive(&rt, rt.alloc(), &mut objects)
+}
+
+#[test]
+fn a_whole_label_at_once(rt: HostRuntime) -> Result<(), AllocError> {
+    let unset = LabelValue::Unset;
+    let values = [unset, LabelValue::Number(2), LabelValue::Number(3), unset];
+    let mut objects = Objects::new(rt.alloc(), &labelled(7))?;
+    let root = objects.root();
+    objects.relabel(root, &values)?;
+    let root = objects.root();
+    assert!(rt; objects.label(root) == values && objects.has_label(root, &values));
+    Ok(())
+}
+
+/// Appends a byte to the file f of the root.
+#[tactic(auto, using(mf_objects::proofs::Laws::fits_file))]
+fn append(rt: &impl Abort, objects: &mut Objects) -> Result<(), AllocError> {
+    let root = objects.root();
+    if let Some(f) = objects.child(root, "f") {
+        assert!(rt; !objects.file(f).dir && objects.size(f) < 10);
+        objects.append(f, b"s")?;
+    }
+    Ok(())
+}
+
+/// Changes the mode of the file f, whose content has five bytes.
+fn set_mode(rt: &impl Abort, objects: &mut Objects) {
+    let root = objects.root();
+    if let Some(f) = objects.child(root, "f") {
+        assert!(rt; objects.head(f).len == 5);
+        objects.set_mode(f, 0o1777);
+    }
+}
+
+/// Gives the file f a second label value.
+fn set_label(rt: &impl Abort, objects: &mut Objects) -> Result<(), AllocError> {
+    let root = objects.root();
+    if let Some(f) = objects.child(root, "f") {
+        assert!(rt; objects.file(f).mode == 0o1777);
+        objects.set_label(f, 1, LabelValue::Number(9))?;
+    }
+    Ok(())
+}
+
+/// Removes the file f.
+fn unlink(rt: &impl Abort, objects: &mut Objects) {
+    let root = objects.root();
+    if let Some(f) = objects.child(root, "f") {
+        assert!(rt; objects.value(f, 1) == LabelValue::Number(9));
+        assert!(rt; f.number() != 0 && !objects.file(f).dir && objects.count(f) == 0);
+        objects.remove_vnode(f);
+    }
+}
+
+/// The file f from its beginning to its end.
+fn make_and_unlink(
+    rt: &impl Abort,
+    alloc: Global,
+    objects: &mut Objects,
+) -> Result<(), AllocError> {
+    let _id = add_file(rt, alloc, objects, "f")?;
+    append(rt, objects)?;
+    set_mode(rt, objects);
+    set_label(rt, objects)?;
+    unlink(rt, objects);
+    assert!(rt; objects.live() == 1);
+    Ok(())
+}
+
+#[test]
+fn a_file_from_write_to_unlink(rt: HostRuntime) -> Result<(), AllocError> {
+    let mut objects = Objects::new(rt.alloc(), &labelled(7))?;
+    make_and_unlink(&rt, rt.alloc(), &mut objects)
+}

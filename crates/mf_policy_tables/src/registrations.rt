@@ -1,0 +1,414 @@
+//! The list of policies over Biba, MLS and mac_partition: registration, and what the three answer together.
+ghost use Rattle.std.specs.Prelude.{IfOk};
+ghost use Rattle.mf_list.specs.Lists.{IsReady};
+
+use mf_biba::Biba;
+use mf_cred::Cred;
+use mf_elem::{Elem, LabelValue, RangeLabel};
+use mf_errno::{Errno, Module, Priv};
+use mf_item::{CheckOp, Item, Kind, ObjectView, SubjectView};
+use mf_list::{Answer, Catalogue, PolicyList, RegisterFault, UnregisterFault};
+use mf_mls::Mls;
+use mf_partition::Partition;
+use mf_policy::{Change, Changed, LoadFlags, Policy, Registration, Spec, SpecList};
+use mf_slots::SlotNumbers;
+use std::alloc::{AllocError, Global};
+use std::process::Abort;
+use std::sync::atomic::{AtomicU64, Ordering};
+
+/// One of the policies, without a box.
+#[derive(Drop)]
+enum OneOf {
+    Biba(Biba),
+    Mls(Mls),
+    Partition(Partition),
+}
+
+impl Policy for OneOf {
+    ghost use Rattle.mf_policy.specs.declared.spec.Spec.TheVariants as means;
+    ghost use Rattle.mf_policy_tables.specs.declared.registrations.OneOf.TheVariants as one;
+
+    ghost spec = { λ policy. elim policy [ one.Biba b ↦ means.Biba | one.Mls m ↦ means.Mls | one.Partition p ↦ means.Partition ] };
+
+    fn module(&self) -> Module {
+        match self {
+            OneOf::Biba(policy) => policy.module(),
+            OneOf::Mls(policy) => policy.module(),
+            OneOf::Partition(policy) => policy.module(),
+        }
+    }
+
+    fn flags(&self) -> LoadFlags {
+        match self {
+            OneOf::Biba(policy) => policy.flags(),
+            OneOf::Mls(policy) => policy.flags(),
+            OneOf::Partition(policy) => policy.flags(),
+        }
+    }
+
+    fn wants_slot(&self) -> bool {
+        match self {
+            OneOf::Biba(policy) => policy.wants_slot(),
+            OneOf::Mls(policy) => policy.wants_slot(),
+            OneOf::Partition(policy) => policy.wants_slot(),
+        }
+    }
+
+    fn same(&self, other: &Spec) -> bool {
+        match self {
+            OneOf::Biba(policy) => policy.same(other),
+            OneOf::Mls(policy) => policy.same(other),
+            OneOf::Partition(policy) => policy.same(other),
+        }
+    }
+
+    fn check(&self, slot: u8, item: &Item) -> Errno {
+        match self {
+            OneOf::Biba(policy) => policy.check(slot, item),
+            OneOf::Mls(policy) => policy.check(slot, item),
+            OneOf::Partition(policy) => policy.check(slot, item),
+        }
+    }
+
+    fn grant(&self, cred: &Cred, privilege: Priv) -> bool {
+        match self {
+            OneOf::Biba(policy) => policy.grant(cred, privilege),
+            OneOf::Mls(policy) => policy.grant(cred, privilege),
+            OneOf::Partition(policy) => policy.grant(cred, privilege),
+        }
+    }
+
+    fn change(&mut self, alloc: Global, change: &Change) -> Result<Changed, AllocError> {
+        match self {
+            OneOf::Biba(policy) => policy.change(alloc, change),
+            OneOf::Mls(policy) => policy.change(alloc, change),
+            OneOf::Partition(policy) => policy.change(alloc, change),
+        }
+    }
+
+    fn reset(&mut self) {
+        match self {
+            OneOf::Biba(policy) => policy.reset(),
+            OneOf::Mls(policy) => policy.reset(),
+            OneOf::Partition(policy) => policy.reset(),
+        }
+    }
+}
+
+/// The list, the catalogue, and the slot numbers that are left.
+#[derive(Drop)]
+struct Policies<P: Policy> {
+    list: PolicyList<P>,
+    catalogue: Catalogue<P>,
+    numbers: SlotNumbers,
+}
+
+impl<P: Policy> Policies<P> {
+    /// No policy is listed yet.
+    fn new(alloc: Global, mut catalogue: Catalogue<P>) -> Result<Policies<P>, AllocError>
+        ensures { IfOk result (λ policies. IsReady policies.list policies.catalogue) }
+    {
+        let mut list = PolicyList::new(alloc);
+        list.ready(&mut catalogue)?;
+        Ok(Policies {
+            list,
+            catalogue,
+            numbers: SlotNumbers::new(),
+        })
+    }
+
+    fn register(&mut self, name: &str, booted: bool) -> Result<Registration, RegisterFault>
+        requires { IsReady self.old.list self.old.catalogue }
+        ensures { IsReady self.new.list self.new.catalogue }
+    {
+        self.list
+            .register(&mut self.catalogue, &mut self.numbers, name, booted)
+    }
+
+    fn unregister(&mut self, name: &str) -> Result<Registration, UnregisterFault>
+        requires { IsReady self.old.list self.old.catalogue }
+        ensures { IsReady self.new.list self.new.catalogue }
+    {
+        self.list.unregister(&mut self.catalogue, name)
+    }
+}
+
+fn all_three(alloc: Global) -> Result<Policies<OneOf>, AllocError>
+    ensures { IfOk result (λ policies. IsReady policies.list policies.catalogue) }
+{
+    let biba = OneOf::Biba(Biba::new());
+    let mls = OneOf::Mls(Mls::new());
+    let partition = OneOf::Partition(Partition::new());
+    let modules = vec![in alloc; biba, mls, partition]?;
+    Policies::new(alloc, Catalogue::new(modules))
+}
+
+/// Registers all three at boot, and looks at their places in walk order.
+fn register_three(rt: &impl Abort, policies: &mut Policies<OneOf>)
+    requires { IsReady policies.old.list policies.old.catalogue }
+{
+    let partition = policies.register("mac_partition", false);
+    let biba = policies.register("mac_biba", false);
+    let mls = policies.register("mac_mls", false);
+    let listed = policies.list.listed();
+    let registrations = listed.as_slice();
+    assert!(rt; registrations.len() == 3);
+    assert!(rt; Some(registrations[0]) == mls.ok());
+    assert!(rt; Some(registrations[1]) == biba.ok());
+    assert!(rt; Some(registrations[2]) == partition.ok());
+}
+
+#[test]
+fn registrations_in_walk_order(rt: HostRuntime) -> Result<(), AllocError> {
+    let mut policies = all_three(rt.alloc())?;
+    register_three(&rt, &mut policies);
+    assert!(rt; policies.catalogue.knows(&policies.list, "mac_mls"));
+    assert!(rt; !policies.catalogue.knows(&policies.list, "mac_lomac"));
+    let change = Change::FirstMatch(true);
+    let changed = policies.list.change(rt.alloc(), Module::Mls, &change)?;
+    assert!(rt; changed.errno == Errno::Enoent);
+    assert!(rt; !policies.list.same_specs(&SpecList::new(rt.alloc())));
+    Ok(())
+}
+
+fn of_partition(slot: u8) -> Registration {
+    Registration {
+        module: Module::Partition,
+        slot: Some(slot),
+        fixed: false,
+    }
+}
+
+#[test]
+fn a_partition_goes_and_comes_back(rt: HostRuntime) -> Result<(), AllocError> {
+    let mut policies = all_three(rt.alloc())?;
+    let booted = policies.register("mac_partition", false);
+    assert!(rt; booted == Ok(of_partition(0)));
+    let left = policies.unregister("mac_partition");
+    assert!(rt; left == Ok(of_partition(0)));
+    let late = policies.register("mac_partition", true);
+    assert!(rt; late == Ok(of_partition(1)));
+    Ok(())
+}
+
+#[test]
+fn registration_is_refused(rt: HostRuntime) -> Result<(), AllocError> {
+    let mut policies = all_three(rt.alloc())?;
+    let unknown = policies.register("mac_lomac", true);
+    assert!(rt; unknown == Err(RegisterFault::Unknown));
+    let late = policies.register("mac_biba", true);
+    assert!(rt; late == Err(RegisterFault::NotLate));
+    let first = policies.register("mac_biba", false);
+    assert!(rt; first.is_ok());
+    let again = policies.register("mac_biba", false);
+    assert!(rt; again == Err(RegisterFault::Exists));
+    assert!(rt; again.map_err(RegisterFault::errno) == Err(Errno::Eexist));
+    let pinned = policies.unregister("mac_biba");
+    assert!(rt; pinned == Err(UnregisterFault::Pinned));
+    let absent = policies.unregister("mac_mls");
+    assert!(rt; absent == Err(UnregisterFault::NotLoaded));
+    Ok(())
+}
+
+fn take_three(numbers: &mut SlotNumbers) {
+    for _ in 0..3 {
+        let _ = numbers.take();
+    }
+}
+
+#[test]
+fn slots_run_out(rt: HostRuntime) -> Result<(), AllocError> {
+    let mut policies = all_three(rt.alloc())?;
+    take_three(&mut policies.numbers);
+    let last = policies.register("mac_mls", false);
+    assert!(rt; last.is_ok());
+    let none = policies.register("mac_biba", false);
+    assert!(rt; none == Err(RegisterFault::NoSlot));
+    assert!(rt; policies.numbers.given() == 4);
+    Ok(())
+}
+
+fn labelled(element: Elem) -> [LabelValue; 4] {
+    let value = LabelValue::Range(RangeLabel {
+        effective: Some(element),
+        range: None,
+    });
+    [value, value, LabelValue::Unset, LabelValue::Unset]
+}
+
+fn subject(label: [LabelValue; 4]) -> SubjectView {
+    SubjectView {
+        id: 1,
+        cred: Cred::default(),
+        label,
+    }
+}
+
+fn process(label: [LabelValue; 4]) -> ObjectView {
+    ObjectView {
+        id: 2,
+        kind: Kind::Process,
+        file: Default::default(),
+        label,
+    }
+}
+
+/// All three, of which Biba is registered first and then another.
+fn biba_and(rt: &impl Abort, alloc: Global, name: &str) -> Result<Policies<OneOf>, AllocError> {
+    let mut policies = all_three(alloc)?;
+    let biba = policies.register("mac_biba", false);
+    let other = policies.register(name, false);
+    assert!(rt; biba.is_ok() && other.is_ok());
+    Ok(policies)
+}
+
+/// The answer to a process with this label that does so to a process with that one.
+fn answer_of(
+    list: &PolicyList<OneOf>,
+    op: CheckOp,
+    of_subject: [LabelValue; 4],
+    of_object: [LabelValue; 4],
+) -> Answer {
+    let (subject, object) = (subject(of_subject), process(of_object));
+    let item = Item::new(op, &subject, Some(&object), None, None);
+    list.ask(&item)
+}
+
+#[test]
+fn precedence_against_walk_order(rt: HostRuntime) -> Result<(), AllocError> {
+    let policies = biba_and(&rt, rt.alloc(), "mac_mls")?;
+    let (low, high) = (labelled(Elem::Low), labelled(Elem::High));
+    let answer = answer_of(&policies.list, CheckOp::ProcSignal, high, low);
+    let by = Some(Module::Biba);
+    assert!(rt;
+        answer
+            == Answer {
+                errno: Errno::Esrch,
+                by
+            }
+    );
+    let answer = answer_of(&policies.list, CheckOp::ProcVisible, low, low);
+    assert!(rt;
+        answer
+            == Answer {
+                errno: Errno::Success,
+                by: None
+            }
+    );
+    Ok(())
+}
+
+#[test]
+fn partition_against_biba(rt: HostRuntime) -> Result<(), AllocError> {
+    let policies = biba_and(&rt, rt.alloc(), "mac_partition")?;
+    let mut low = labelled(Elem::Low);
+    low[1] = LabelValue::Number(1);
+    let mut high = labelled(Elem::High);
+    high[1] = LabelValue::Number(2);
+    let answer = answer_of(&policies.list, CheckOp::ProcSignal, low, high);
+    let by = Some(Module::Partition);
+    assert!(rt;
+        answer
+            == Answer {
+                errno: Errno::Esrch,
+                by
+            }
+    );
+    Ok(())
+}
+
+/// The answer to a subject with this uid that asks for a privilege.
+fn answer_to(list: &PolicyList<OneOf>, uid: u32) -> Answer {
+    let mut subject = SubjectView::default();
+    subject.cred.uid = uid;
+    let item = Item::new(CheckOp::Priv, &subject, None, None, Some(Priv::SchedRtprio));
+    list.ask(&item)
+}
+
+#[test]
+fn root_has_every_privilege(rt: HostRuntime) -> Result<(), AllocError> {
+    let mut policies = all_three(rt.alloc())?;
+    let biba = policies.register("mac_biba", false);
+    assert!(rt; biba.is_ok());
+    let root = answer_to(&policies.list, 0);
+    assert!(rt;
+        root == Answer {
+            errno: Errno::Success,
+            by: None
+        }
+    );
+    let other = answer_to(&policies.list, 1001);
+    assert!(rt;
+        other
+            == Answer {
+                errno: Errno::Eperm,
+                by: None
+            }
+    );
+    Ok(())
+}
+
+/// mac_partition, which counts how often it is reset.
+#[derive(Drop)]
+struct Counted<'a> {
+    policy: Partition,
+    resets: &'a AtomicU64,
+}
+
+impl<'a> Policy for Counted<'a> {
+    ghost use Rattle.mf_policy.specs.declared.spec.Spec.TheVariants as means;
+
+    ghost spec = { λ _. means.Partition };
+
+    fn module(&self) -> Module {
+        self.policy.module()
+    }
+
+    fn flags(&self) -> LoadFlags {
+        self.policy.flags()
+    }
+
+    fn wants_slot(&self) -> bool {
+        self.policy.wants_slot()
+    }
+
+    fn same(&self, other: &Spec) -> bool {
+        self.policy.same(other)
+    }
+
+    fn check(&self, slot: u8, item: &Item) -> Errno {
+        self.policy.check(slot, item)
+    }
+
+    fn grant(&self, cred: &Cred, privilege: Priv) -> bool {
+        self.policy.grant(cred, privilege)
+    }
+
+    fn change(&mut self, alloc: Global, change: &Change) -> Result<Changed, AllocError> {
+        self.policy.change(alloc, change)
+    }
+
+    fn reset(&mut self) {
+        self.resets.fetch_add(1, Ordering::SeqCst);
+        self.policy.reset();
+    }
+}
+
+/// No module has a setting yet, so no contract tells a policy that is reset from one that isn't.
+#[test]
+fn a_policy_that_goes_back_is_reset(rt: HostRuntime) -> Result<(), AllocError> {
+    let resets = AtomicU64::new(0);
+    let policy = Counted {
+        policy: Partition::new(),
+        resets: &resets,
+    };
+    let modules = vec![in rt.alloc(); policy]?;
+    let mut policies = Policies::new(rt.alloc(), Catalogue::new(modules))?;
+    let loaded = policies.register("mac_partition", true);
+    assert!(rt; loaded == Ok(of_partition(0)));
+    assert!(rt; resets.load(Ordering::SeqCst) == 0);
+    let left = policies.unregister("mac_partition");
+    assert!(rt; left == Ok(of_partition(0)));
+    assert!(rt; resets.load(Ordering::SeqCst) == 1);
+    Ok(())
+}

@@ -1,0 +1,156 @@
+-- What is read is a rule: its ranges are of ids, and its letters are those of types and of modes.
+use Rattle.std.proofs.Common.{◌≡◌, ℕ, ◌<◌, ◌≤◌, ◌^◌, Bool, true, false, cond, eqb, leb, List, [], ◌∷◌, Option, Some, None, Ok, Err, IfSome, IfOk, refl, sym, subst, arith, lit<, lit≤, inl, inr}
+use Rattle.std.specs.Int.RustNames.{bit_or}
+use Rattle.std.proofs.lemmas.Nat.{or_lt, le_or_l, le_or_r}
+use Rattle.std.proofs.lemmas.Bool.{leb-true}
+use Rattle.mf_labeltext.specs.Reading.{◌>>=◌, cut}
+use Rattle.mf_labeltext.proofs.Numbers.{number_spells, bind_some, some_is}
+use Rattle.mf_rule.specs.declared.rule.Side.{Side}
+use Rattle.mf_rule.specs.declared.rule.ObjectSide.{ObjectSide}
+use Rattle.mf_rule.specs.declared.rule.Rule.{Rule}
+use Rattle.mf_rule.specs.Words.{id, ordered, range_from_halves, range_in, mode_letter, type_letter, with_letters, mode_in, types_in}
+use Rattle.mf_rule.specs.RuleGrammar.{Words, no_tests, no_object_tests, SpellsIdTest, SpellsFileTest, SpellsObjectTest, SpellTests, Spells, AreRanges, AreTypes, IsRule}
+use Rattle.mf_rule.specs.Reading.{Read, rule_in}
+use Rattle.mf_rule.specs.RoundTrip.{WhatIsReadIsARule}
+use Rattle.mf_rule.proofs.ReadAsSpelled.{read_is_spelled}
+
+-- ---- letters
+-- what holds of a letter's bit holds of what is found, if it holds of the letters behind
+letter_is : (P : ℕ → Type 0) (hit : Bool) (bit : ℕ) (others : Option ℕ) (found : ℕ) → P bit → (others ≡ Some found → P found) → cond hit (Some bit) others ≡ Some found → P found
+letter_is P true bit others found holds rest is = subst P (some_is bit found is) holds
+letter_is P false bit others found holds rest is = rest is
+
+mode_letter_fits : (c bit : ℕ) → mode_letter c ≡ Some bit → bit < 2 ^ 5
+mode_letter_fits c bit is =
+    let P : ℕ → Type 0 = λ n. n < 2 ^ 5 in
+    letter_is P (eqb c 97) 1 _ bit (lit< tt)
+    (letter_is P (eqb c 114) 2 _ bit (lit< tt)
+    (letter_is P (eqb c 115) 4 _ bit (lit< tt)
+    (letter_is P (eqb c 119) 8 _ bit (lit< tt)
+    (letter_is P (eqb c 120) 16 _ bit (lit< tt)
+    (letter_is P (eqb c 110) 0 _ bit (lit< tt) (λ none. cc)))))) is
+
+abbrev IsType : ℕ → Type 0
+IsType n = (1 ≤ n) × (n < 2 ^ 7)
+
+type_letter_fits : (c bit : ℕ) → type_letter c ≡ Some bit → IsType bit
+type_letter_fits c bit is =
+    letter_is IsType (eqb c 97) 127 _ bit (lit≤ tt, lit< tt)
+    (letter_is IsType (eqb c 114) 1 _ bit (lit≤ tt, lit< tt)
+    (letter_is IsType (eqb c 100) 2 _ bit (lit≤ tt, lit< tt)
+    (letter_is IsType (eqb c 98) 4 _ bit (lit≤ tt, lit< tt)
+    (letter_is IsType (eqb c 99) 8 _ bit (lit≤ tt, lit< tt)
+    (letter_is IsType (eqb c 108) 16 _ bit (lit≤ tt, lit< tt)
+    (letter_is IsType (eqb c 115) 32 _ bit (lit≤ tt, lit< tt)
+    (letter_is IsType (eqb c 112) 64 _ bit (lit≤ tt, lit< tt) (λ none. absurd cc)))))))) is
+
+-- letters of so many bits have so many bits together
+letters_fit : (letter : ℕ → Option ℕ) (k : ℕ) → ((c bit : ℕ) → letter c ≡ Some bit → bit < 2 ^ k) → (bits : ℕ) (cs : List ℕ) (n : ℕ) → bits < 2 ^ k → with_letters letter bits cs ≡ Some n → n < 2 ^ k
+unfolding with_letters
+letters_fit letter k each bits [] n fits is = let P : ℕ → Type 0 = λ n. n < 2 ^ k in subst P (some_is bits n is) fits
+letters_fit letter k each bits (c ∷ cs) n fits is =
+    let found = bind_some (letter c) (λ bit. with_letters letter (bit_or bits bit) cs) n is in
+    letters_fit letter k each (bit_or bits found.0) cs n (or_lt k bits found.0 fits (each c found.0 found.1)) found.2
+
+-- no letter takes a bit away
+letters_keep : (letter : ℕ → Option ℕ) (bits : ℕ) (cs : List ℕ) (n : ℕ) → with_letters letter bits cs ≡ Some n → bits ≤ n
+unfolding with_letters
+letters_keep letter bits [] n is = let same = some_is bits n is in omega arith
+letters_keep letter bits (c ∷ cs) n is =
+    let found = bind_some (letter c) (λ bit. with_letters letter (bit_or bits bit) cs) n is in
+    let more = letters_keep letter (bit_or bits found.0) cs n found.2 in
+    let kept = le_or_l bits found.0 in
+    omega arith
+
+mode_fits : (w : List ℕ) (mode : ℕ) → mode_in w ≡ Some mode → mode < 32
+unfolding mode_in
+mode_fits [] mode is = absurd cc
+mode_fits (c ∷ cs) mode is = letters_fit mode_letter 5 mode_letter_fits 0 (c ∷ cs) mode (lit< tt) is
+
+types_fit : (w : List ℕ) (types : ℕ) → types_in w ≡ Some types → AreTypes types
+unfolding types_in with_letters
+types_fit [] types is = absurd cc
+types_fit (c ∷ cs) types is =
+    let first = bind_some (type_letter c) (λ bit. with_letters type_letter (bit_or 0 bit) cs) types is in
+    let one = type_letter_fits c first.0 first.1 in
+    let fits = letters_fit type_letter 7 (λ c bit is. (type_letter_fits c bit is).1) 0 (c ∷ cs) types (lit< tt) is in
+    let kept = letters_keep type_letter (bit_or 0 first.0) cs types first.2 in
+    let put = le_or_r 0 first.0 in
+    (omega arith, omega arith)
+
+-- ---- ranges
+id_fits : (w : List ℕ) (n : ℕ) → id w ≡ Some n → n ≤ 4294967295
+id_fits w n is = let spells = number_spells 0 4294967295 w n is in spells.below
+
+abbrev AreEnds : ℕ × ℕ → Type 0
+AreEnds ends = (ends.0 ≤ ends.1) × (ends.1 ≤ 4294967295)
+
+ends_are : (x y : ℕ × ℕ) → Some x ≡ Some y → AreEnds x → AreEnds y
+ends_are x y is ok = let same : x ≡ y = cc in subst AreEnds same ok
+
+ordered_are : (least greatest : ℕ) (ends : ℕ × ℕ) → greatest ≤ 4294967295 → ordered least greatest ≡ Some ends → AreEnds ends
+ordered_are least greatest ends fits =
+    elim (leb least greatest) as (λ b. leb least greatest ≡ b → cond b (Some (least, greatest)) None ≡ Some ends → AreEnds ends) [
+      | true ↦ λ below is. ends_are (least, greatest) ends is (leb-true least greatest below, fits)
+      | false ↦ λ above is. absurd cc
+    ] refl
+
+halves_are : (w : List ℕ) (halves : Option (List ℕ × List ℕ)) (ends : ℕ × ℕ) → range_from_halves w halves ≡ Some ends → AreEnds ends
+halves_are w None ends is =
+    let one = bind_some (id w) (λ n. Some (n, n)) ends is in
+    ends_are (one.0, one.0) ends one.2 (omega arith, id_fits w one.0 one.1)
+halves_are w (Some halves) ends is =
+    let least = bind_some (id halves.0) (λ least. id halves.1 >>= λ greatest. ordered least greatest) ends is in
+    let greatest = bind_some (id halves.1) (λ greatest. ordered least.0 greatest) ends least.2 in
+    ordered_are least.0 greatest.0 ends (id_fits halves.1 greatest.0 greatest.1) greatest.2
+
+range_fits : (w : List ℕ) (ends : ℕ × ℕ) → range_in w ≡ Some ends → AreEnds ends
+unfolding range_in
+range_fits w ends is = halves_are w (cut 58 w) ends is
+
+-- ---- tests, one after another
+tests_keep : {A : Type 0} (IsTest : Words → A → A → Type 0) (P : A → Type 0) → ((words : Words) (before after : A) → P before → IsTest words before after → P after)
+    → (tests : List Words) (before after : A) → P before → SpellTests IsTest tests before after → P after
+tests_keep IsTest P each [] before after holds same = subst P same holds
+tests_keep IsTest P each (test ∷ tests) before after holds (next, first, others) = tests_keep IsTest P each tests next after (each test before next holds first) others
+
+ids_formed : (words : Words) (before after : Side) → AreRanges before → SpellsIdTest words before after → AreRanges after
+ids_formed words before after ok (turned, w, ends, range, inl uid) =
+    let fits = range_fits w ends range in
+    subst AreRanges (sym uid.2) (record { uid = record { ordered = fits.0; below = fits.1 }; gid = ok.gid })
+ids_formed words before after ok (turned, w, ends, range, inr gid) =
+    let fits = range_fits w ends range in
+    subst AreRanges (sym gid.2) (record { uid = ok.uid; gid = record { ordered = fits.0; below = fits.1 } })
+
+record IsObject (object : ObjectSide) : Type 0 where
+  ids : AreRanges object.side
+  types : IfSome object.types (λ test. AreTypes test.types)
+
+file_formed : (words : Words) (before after : ObjectSide) → IsObject before → SpellsFileTest words before after → IsObject after
+file_formed words before after ok (turned, inl is) = subst IsObject (sym is.2) (record { ids = ok.ids; types = ok.types })
+file_formed words before after ok (turned, inr (inl is)) = subst IsObject (sym is.2) (record { ids = ok.ids; types = ok.types })
+file_formed words before after ok (turned, inr (inr (inl is))) = subst IsObject (sym is.2) (record { ids = ok.ids; types = ok.types })
+file_formed words before after ok (turned, inr (inr (inr (inl is)))) = subst IsObject (sym is.2) (record { ids = ok.ids; types = ok.types })
+file_formed words before after ok (turned, inr (inr (inr (inr (w, types, letters, same, none, is))))) = subst IsObject (sym is) (record { ids = ok.ids; types = types_fit w types letters })
+
+object_formed : (words : Words) (before after : ObjectSide) → IsObject before → SpellsObjectTest words before after → IsObject after
+object_formed words before after ok (inl (side, spells, is)) = subst IsObject (sym is) (record { ids = ids_formed words before.side side ok.ids spells; types = ok.types })
+object_formed words before after ok (inr spells) = file_formed words before after ok spells
+
+-- ---- whole rules
+pub spelled_is_rule : (words : Words) (rule : Rule) → Spells words rule → IsRule rule
+spelled_is_rule words rule spells =
+    let subject = spells.is_subject in
+    let object = spells.is_object in
+    let ids : AreRanges rule.subject = tests_keep SpellsIdTest AreRanges ids_formed subject.tests (record no_tests { not = rule.subject.not }) rule.subject (record { uid = tt; gid = tt }) subject.each in
+    let files : IsObject rule.object =
+    tests_keep SpellsObjectTest IsObject object_formed object.tests (record no_object_tests { side = record no_tests { not = rule.object.side.not } }) rule.object
+    (record { ids = record { uid = tt; gid = tt }; types = tt }) object.each in
+    record { subject = ids; object = files.ids; types = files.types; mode = mode_fits spells.letters rule.mode spells.is_mode }
+
+pub read_is_rule : WhatIsReadIsARule
+read_is_rule words rule is = spelled_is_rule words rule (read_is_spelled words rule is)
+
+pub if_read : (words : Words) (read : Read Rule) → read ≡ rule_in words → IfOk read IsRule
+if_read words (Ok rule) is = read_is_rule words rule (sym is)
+if_read words (Err fault) is = tt
