@@ -29,6 +29,8 @@ TOTAL = "Together "
 # The specs, of a crate or single ones, that say how something is written or read as a text; all others say what is meant. A file that has
 # some of either counts as meaning.
 SYNTAX = {
+    "mf_errno Names": "the names of errors and modules",
+    "mf_errno Privilege": "the names of privileges",
     "mf_text": "numbers and bytes as texts",
     "mf_labeltext": "labels as texts",
     "mf_item Operation": "the names of operations in a history's text",

@@ -8,6 +8,7 @@ use mf_io::{OpenGate, Sink, Source, StdSink, StdSource};
 use mf_mls::Mls;
 use mf_partition::Partition;
 use mf_policy::Policy;
+use mf_priority::Priority;
 use mf_top::macsim;
 use std::alloc::{AllocError, Global};
 use std::process::ExitCode;
@@ -49,6 +50,7 @@ fn run<S: Source, K: Sink, R: Threads + Wait + Sync>(
     modules.push(Box::new(alloc, Mls::new())?)?;
     modules.push(Box::new(alloc, Partition::new())?)?;
     modules.push(Box::new(alloc, Bsdextended::new(alloc)?)?)?;
+    modules.push(Box::new(alloc, Priority::new())?)?;
     Ok(macsim(rt, alloc, words, source, sink, &OpenGate, modules))
 }
 

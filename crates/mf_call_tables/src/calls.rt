@@ -253,6 +253,7 @@ fn what_is_taken_makes_room(rt: HostRuntime) -> Result<(), AllocError> {
 const BELOW: &[(&str, &str)] = &[
     ("see u", "ok"),
     ("debug u", "EACCES proc_debug 1"),
+    ("getpmac", "ok"),
     ("create /f", "EACCES vnode_create 2"),
 ];
 
@@ -261,6 +262,7 @@ const ABOVE: &[(&str, &str)] = &[
     ("see u", "ESRCH proc_visible 1"),
     ("debug u", "ESRCH proc_debug 1"),
     ("debug t", "ok"),
+    ("getfmac /", "ok"),
 ];
 
 #[test]

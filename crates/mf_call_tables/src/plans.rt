@@ -1,6 +1,7 @@
 //! Plans of calls by t and its child c. There is /d with a regular file f, and a regular file /e; t has the empty socket a and the
 //! empty pipe p; the process u has nothing.
-ghost use Rattle.mf_objects.specs.Live.{IsLive, is_directory, is_process};
+ghost use Rattle.mf_objects.specs.Live.{is_process};
+ghost use Rattle.mf_objects.specs.Lives.{IsLive, is_directory};
 ghost use Rattle.mf_calls.specs.WellFormed.{IsFormedLine, IsName};
 
 use crate::scripts::{only_line, script_of};
@@ -24,6 +25,8 @@ const ROWS: &[(&str, &str)] = &[
     ("see u", "proc_visible ok"),
     ("see t.d", "ESRCH"),
     ("signal t.c", "proc_signal ok"),
+    ("priv SCHED_RTPRIO", "priv ok"),
+    ("@c getpmac", "ok"),
     ("exec /e", "vnode_lookup vnode_exec ok"),
     ("exec /d", "vnode_lookup EACCES"),
     ("create /d/g", "vnode_lookup vnode_lookup vnode_create ok"),
@@ -40,6 +43,8 @@ const ROWS: &[(&str, &str)] = &[
     ("read /", "EISDIR"),
     ("write /e x", "vnode_lookup vnode_open_write vnode_write ok"),
     ("stat /", "vnode_stat ok"),
+    ("getfmac /e", "vnode_lookup vnode_stat ok"),
+    ("getfmac /d/x", "vnode_lookup vnode_lookup ENOENT"),
     ("readdir /d", "vnode_lookup vnode_readdir ok"),
     ("readdir /e", "vnode_lookup ENOTDIR"),
     ("chmod /e 700", "vnode_lookup vnode_setmode ok"),

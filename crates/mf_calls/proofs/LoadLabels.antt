@@ -4,8 +4,8 @@ use Rattle.std.specs.FinSet as set
 use Rattle.std.specs.FinSet.{FinSet}
 use Rattle.std.specs.Ordering.{nat_cmp}
 use Rattle.mf_errno.specs.declared.module.Module.TheVariants.{Biba}
-use Rattle.mf_elem.specs.Comps.{AreWords, words_of, comps_of}
-use Rattle.mf_elem.specs.Label.{IsElement}
+use Rattle.mf_elem.specs.Comps.{words_of, comps_of}
+use Rattle.mf_elem.specs.Bounds.{AreWords, IsElement}
 use Rattle.mf_elem.specs.declared.elem.Elem.{Elem}
 use Rattle.mf_elem.specs.declared.elem.Elem.TheVariants.{Equal}
 use Rattle.mf_elem.proofs.CompsLaws.{bits_with}

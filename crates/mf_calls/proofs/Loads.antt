@@ -15,7 +15,6 @@ use Rattle.mf_calls.specs.declared.script.FileLine.{FileLine}
 use Rattle.mf_calls.specs.Names.{is_component}
 use Rattle.mf_calls.specs.Paths.{directory_of, has_directory, is_directory_at, is_same_path}
 use Rattle.mf_item.specs.declared.view.Kind.TheVariants as kinds
-use Rattle.mf_policy.specs.Modules.{has_spec}
 use Rattle.mf_calls.specs.WellFormed.{AreBoots, rule_list_count, IsPath, IsText, IsFormedFile, AreInDirectories, IsFormedCall, IsFormedLine, IsFormedTask, IsWellFormed}
 use Rattle.mf_calls.specs.Tasks.{lines_of, lists_rules, name_of}
 use Rattle.mf_calls.specs.Generated.{LoadCall, load_call, drawn, drawn_at, number_at, call_of, load_line, load_lines, load_directory, load_file, load_files, load_task, load_tasks, task_grade, is_even, task_name, directory_name, file_name, scratch_name, directory_path, path_in, generated}
@@ -361,8 +360,7 @@ files_loaded (suc k) few =
 -- The script
 
 boots_formed : AreBoots (Biba ∷ [])
-boots_formed =
-    record { built_in = All-cons (λ m. has_spec m ≡ true) Biba [] refl (All-nil _); differ = λ i j d before within. absurd (omega arith) }
+boots_formed = λ i j d before within. absurd (omega arith)
 
 pub generated_formed : (n t : ℕ) → n ≤ 4096 → t ≤ 16 → IsWellFormed (generated n t)
 unfolding generated

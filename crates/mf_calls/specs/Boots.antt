@@ -2,7 +2,8 @@
 use Rattle.std.specs.Prelude.{Bool, not, ◌&&◌, ◌||◌, List}
 use Rattle.std.specs.List.{list_all, list_any}
 use Rattle.mf_errno.specs.declared.module.Module.{Module}
-use Rattle.mf_errno.specs.Module.{all_modules, same_module}
+use Rattle.mf_errno.specs.Same.{same_module}
+use Rattle.mf_errno.specs.Names.{all_modules}
 use Rattle.mf_elem.specs.declared.label.Request.{Request}
 use Rattle.mf_item.specs.declared.view.Kind.{Kind}
 use Rattle.mf_policy.specs.Modules.{is_named, may_ask}

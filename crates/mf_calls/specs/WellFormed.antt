@@ -4,10 +4,9 @@ use Rattle.std.specs.List.{sum_by, count_by}
 use Rattle.std.specs.Char.{is_ascii_graphic}
 use Rattle.mf_errno.specs.declared.module.Module.{Module}
 use Rattle.mf_elem.specs.declared.label.Request.{Request}
-use Rattle.mf_elem.specs.Label.{IsRequest}
+use Rattle.mf_elem.specs.Bounds.{IsRequest}
 use Rattle.mf_item.specs.declared.view.Kind.{Kind}
 use Rattle.mf_item.specs.declared.view.Kind.TheVariants as kinds
-use Rattle.mf_policy.specs.Modules.{has_spec}
 use Rattle.mf_rule.specs.RuleGrammar.{IsRule}
 use Rattle.mf_rule.specs.declared.rule_list.TheConstants.{MAX_RULES}
 use Rattle.mf_cred.specs.declared.cred.Cred.{Cred}
@@ -26,10 +25,9 @@ use Rattle.mf_calls.specs.declared.limits.TheConstants.{FILE_LIMIT, TASK_LIMIT, 
 use Rattle.mf_names.specs.declared.limits.TheConstants.{CONTENT_LIMIT, PATH_LIMIT, SCRIPT_LIMIT}
 use Rattle.mf_cred.specs.declared.cred.TheConstants.{MOST_GROUPS}
 
--- some, all or none of the modules whose policies are built in, each at most once, in any order
-pub record AreBoots (boots : List Module) : Type 0 where
-  pub built_in : All (λ m. has_spec m ≡ true) boots
-  pub differ : AllPairs (λ m n. m ≢ n) boots
+-- some, all or none of the modules, each at most once, in any order
+abbrev pub AreBoots : List Module → Type 0
+AreBoots boots = AllPairs (λ m n. m ≢ n) boots
 
 -- what a line asks for an entity of that kind: a request that a label text can spell, and that the script may make
 pub record IsAsked (kind : Kind) (boots : List Module) (request : Request) : Type 0 where
@@ -106,12 +104,15 @@ IsFormedCall (call.See process) = IsProcessName process
 IsFormedCall (call.Signal process) = IsProcessName process
 IsFormedCall (call.Debug process) = IsProcessName process
 IsFormedCall (call.Sched process) = IsProcessName process
+IsFormedCall (call.Priv privilege) = Unit {0}
+IsFormedCall call.Getpmac = Unit {0}
 IsFormedCall (call.Exec path) = IsPath path
 IsFormedCall (call.Create path) = IsPath path
 IsFormedCall (call.Mkdir path) = IsPath path
 IsFormedCall (call.Read path) = IsPath path
 IsFormedCall (call.Write path text) = IsPath path × IsText SCRIPT_LIMIT text
 IsFormedCall (call.Stat path) = IsPath path
+IsFormedCall (call.Getfmac path) = IsPath path
 IsFormedCall (call.Readdir path) = IsPath path
 IsFormedCall (call.Chmod path mode) = IsPath path × (mode ≤ MODE_LIMIT)
 IsFormedCall (call.Unlink path) = IsPath path

@@ -5,7 +5,7 @@ ghost use Rattle.std.specs.Option.{option_copied};
 use crate::{CONTENT_LIMIT, SCRIPT_LIMIT};
 use mf_cred::{Cred, FileView};
 use mf_elem::Request;
-use mf_errno::Module;
+use mf_errno::{Module, Priv};
 use mf_names::{Bytes, Listing, Name, Path, Word};
 use mf_rule::Rule;
 
@@ -24,6 +24,10 @@ pub enum Call {
     Debug(Name),
     /// Asks whether the scheduling of the process may be changed, as the kernel's `p_cansched` does.
     Sched(Name),
+    /// Asks whether the process has the privilege, as priv_check(9) does.
+    Priv(Priv),
+    /// Shows the label of the process itself, as getpmac(8) does.
+    Getpmac,
     /// Asks whether the file may be executed. Nothing is run.
     Exec(Path),
     /// Makes an empty regular file.
@@ -36,6 +40,8 @@ pub enum Call {
     Write(Path, Bytes<SCRIPT_LIMIT>),
     /// Reads the attributes of the file or directory.
     Stat(Path),
+    /// Shows the label of the file or directory, as getfmac(8) does.
+    Getfmac(Path),
     /// Lists the directory.
     Readdir(Path),
     /// Gives the file or directory these mode bits.

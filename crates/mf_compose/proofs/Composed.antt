@@ -2,20 +2,21 @@
 use Rattle.std.proofs.Common.{◌<◌, length, take, get_or, ◌≡◌, ℕ, ◌+◌, Bool, true, false, cond, not, ◌&&◌, ◌||◌, List, [], ◌∷◌, ◌++◌, None, refl, ap, sym, ◌∙◌, arith, inl, inr, ◌⊎◌}
 use Rattle.std.specs.List.{list_all, position}
 use Rattle.std.proofs.lemmas.Grind.{common_steps}
-use Rattle.std.proofs.lemmas.Bool.{eqb-true}
 use Rattle.std.proofs.lemmas.List.{take_more}
 use Rattle.mf_errno.specs.declared.errno.Errno.{Errno}
 use Rattle.mf_errno.specs.declared.errno.Errno.TheVariants.{Success}
-use Rattle.mf_errno.specs.Errno.{is_same, number_of}
-use Rattle.mf_errno.specs.Selection.{precedence, stands_in, first_standing, select}
+use Rattle.mf_errno.specs.Same.{is_same}
+use Rattle.mf_errno.specs.Selection.{precedence, stands_in, first_standing}
+use Rattle.mf_errno.specs.OfTwo.{select}
+use Rattle.mf_errno.proofs.Errors.{is_same-is, is_same-refl}
 use Rattle.mf_compose.specs.Composition.{last_failure, composition, decider}
 
 -- sameness of errors is an equality
 same_itself : (e : Errno) → is_same e e ≡ true
-same_itself e = grind (arith, common_steps)
+same_itself e = is_same-refl e
 
 same_as_both : (e f g : Errno) → is_same e f ≡ true → is_same e g ≡ is_same f g
-same_as_both e f g same = rw (eqb-true (number_of e) (number_of f) same) refl
+same_as_both e f g same = rw (is_same-is e f same) refl
 
 -- whether an error stands in a list with one more answer
 stands_with_one_more : (e : Errno) (xs : List Errno) (x : Errno) → stands_in e (xs ++ x ∷ []) ≡ (stands_in e xs || is_same e x)

@@ -3,7 +3,7 @@
 use Rattle.std.specs.Prelude.{ℕ, cond, List, [], ◌∷◌, Option, None, position}
 use Rattle.mf_errno.specs.declared.errno.Errno.{Errno}
 use Rattle.mf_errno.specs.declared.errno.Errno.TheVariants.{Success}
-use Rattle.mf_errno.specs.Errno.{is_same}
+use Rattle.mf_errno.specs.Same.{is_same}
 use Rattle.mf_errno.specs.Selection.{precedence, first_standing}
 
 -- the last answer that is no success; success where all are

@@ -1,6 +1,6 @@
 //! The composition of the policies' answers, and the policy that decides it.
 ghost use Rattle.std.specs.Prelude.{◌≡◌, position};
-ghost use Rattle.mf_errno.specs.Errno as errors;
+ghost use Rattle.mf_errno.specs.Same as errors;
 ghost use Rattle.mf_compose.specs.Composition as spec;
 
 use mf_errno::{Errno, select};

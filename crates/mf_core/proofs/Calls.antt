@@ -17,12 +17,14 @@ use Rattle.mf_plan.specs.Plan.{plan_of}
 use Rattle.mf_step.specs.declared.verdict.Denial.{Denial}
 use Rattle.mf_step.specs.declared.verdict.Verdict.{Verdict}
 use Rattle.mf_step.specs.Effect.{effect_of}
-use Rattle.mf_step.specs.Reply.{denied_reply, is_done, payload_of, reply_to, tail_reply}
-use Rattle.mf_step.specs.Step.{performed, step_reply, step_state}
+use Rattle.mf_step.specs.Reply.{denied_reply, reply_to, tail_reply}
+use Rattle.mf_step.specs.Refused.{is_done}
+use Rattle.mf_step.specs.Step.{performed, step_payload, step_reply, step_state}
 use Rattle.mf_step.specs.Verdict.{verdict_of}
 use Rattle.mf_core.specs.declared.history.History.{History}
 use Rattle.mf_core.specs.declared.progress.Turn.TheVariants as turns
-use Rattle.mf_core.specs.LegalHistory.{RunState, found_at, next_found, next_line, next_plan, next_reply, next_state, plan_at, reply_at, state_at, turn_of}
+use Rattle.mf_core.specs.LegalHistory.{RunState, next_line, next_reply, next_state, reply_at, state_at, turn_of}
+use Rattle.mf_core.specs.Next.{found_at, next_found, next_plan, plan_at}
 use Rattle.mf_core.specs.Consistency.{IsConsistent}
 use Rattle.mf_core.proofs.Consistency.{change_line, entered_line}
 use Rattle.mf_core.proofs.SameLists.{Keeps, change_can, change_effect, change_keeps, done_do, entry_keeps, refused_only}
@@ -62,24 +64,24 @@ module _ (s : Script) (r : RunState) (t : ℕ) (line : Line) (next : next_line s
     plan_is = same_plan (next_plan s r t) (plan_of r.state (name_of s t) line.child line.call) plan (ap (plan_at s r t) next) planned
 
     -- the reply by the plan and the policies' verdict on it
-    pub reply_by : (verdict : Verdict) → verdict ≡ verdict_of r.state.specs plan → next_reply s r t ≡ Some (reply_to plan verdict (payload_of r.state line.call))
+    pub reply_by : (verdict : Verdict) → verdict ≡ verdict_of r.state.specs plan → next_reply s r t ≡ Some (reply_to plan verdict (step_payload r.state (name_of s t) line.child line.call))
     reply_by verdict judged =
         ap (reply_at s r t) next
-        ∙ ap (λ (p : Plan). Some (reply_to p (verdict_of r.state.specs p) (payload_of r.state line.call))) plan_is
-        ∙ ap (λ (v : Verdict). Some (reply_to plan v (payload_of r.state line.call))) (sym judged)
+        ∙ ap (λ (p : Plan). Some (reply_to p (verdict_of r.state.specs p) (step_payload r.state (name_of s t) line.child line.call))) plan_is
+        ∙ ap (λ (v : Verdict). Some (reply_to plan v (step_payload r.state (name_of s t) line.child line.call))) (sym judged)
 
     -- a call that is denied or refused is so whatever it would hand back
     pub refused_by : (verdict : Verdict) → verdict ≡ verdict_of r.state.specs plan → (reply : Reply) → next_reply s r t ≡ Some reply → is_done reply ≡ false
         → (p : Payload) → is_done (reply_to plan verdict p) ≡ false
     refused_by verdict judged reply replies refused p =
-        refused_anyhow plan verdict.denied (payload_of r.state line.call) p
-        (ap is_done (same_reply (next_reply s r t) (reply_to plan verdict (payload_of r.state line.call)) reply (reply_by verdict judged) replies) ∙ refused)
+        refused_anyhow plan verdict.denied (step_payload r.state (name_of s t) line.child line.call) p
+        (ap is_done (same_reply (next_reply s r t) (reply_to plan verdict (step_payload r.state (name_of s t) line.child line.call)) reply (reply_by verdict judged) replies) ∙ refused)
 
     -- the plan of a call that is done ends with no refusal
     pub plan_do : (reply : Reply) → next_reply s r t ≡ Some reply → is_done reply ≡ true → plan.tail ≡ Do
     plan_do reply replies done =
-        done_do plan (verdict_of r.state.specs plan) (payload_of r.state line.call) reply
-        (same_reply (next_reply s r t) (reply_to plan (verdict_of r.state.specs plan) (payload_of r.state line.call)) reply (reply_by (verdict_of r.state.specs plan) refl) replies) done
+        done_do plan (verdict_of r.state.specs plan) (step_payload r.state (name_of s t) line.child line.call) reply
+        (same_reply (next_reply s r t) (reply_to plan (verdict_of r.state.specs plan) (step_payload r.state (name_of s t) line.child line.call)) reply (reply_by (verdict_of r.state.specs plan) refl) replies) done
 
 -- the call of an entry leaves the list of policies as it is
 pub entry_specs : (s : Script) (h : History) (r : RunState) (t : ℕ) → IsConsistent s h r → turn_of s r.progress t ≡ turns.Entered → (next_state s r t).specs ≡ r.state.specs

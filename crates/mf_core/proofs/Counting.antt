@@ -1,12 +1,16 @@
 -- How often modules are listed and held.
 use Rattle.std.proofs.Common.{◌≡◌, ◌≢◌, ℕ, zero, suc, ◌+◌, ◌<◌, ◌≤◌, Bool, true, false, cond, ◌||◌, List, [], ◌∷◌, length, get_or, take, refl, ap, arith}
 use Rattle.std.specs.List.{list_any}
-use Rattle.mf_errno.specs.Module.{same_module}
+use Rattle.mf_errno.specs.Same.{same_module}
 use Rattle.mf_errno.specs.declared.module.Module.{Module}
 use Rattle.mf_errno.specs.declared.module.Module.TheVariants.{Biba, Mls, Partition, Bsdextended, Priority}
-use Rattle.mf_list.specs.Held.{how_many, are_distinct}
+use Rattle.mf_list.specs.Held.{how_many}
+use Rattle.mf_list.specs.Once.{are_distinct}
 use Rattle.mf_errno.proofs.Modules.{same_module-is}
-use Rattle.mf_core.specs.Policies.{AreAllModules, times_wanted}
+use Rattle.mf_core.specs.AllModules.{AreAllModules}
+use Rattle.mf_core.specs.Policies.{AreOf}
+use Rattle.mf_list.specs.Lists.{ListView, CatalogueView, IsReady}
+use Rattle.mf_policy.specs.Registration.{is_of}
 
 pub same_module-self : (m : Module) → same_module m m ≡ true
 same_module-self Biba = refl
@@ -58,14 +62,7 @@ none_before p (x ∷ xs) (suc n) within none =
 
 -- Modules
 
--- where each module that there is stands once, none stands twice
-
-pub wanted_once : (m : Module) → times_wanted m ≤ 1
-wanted_once Biba = omega arith
-wanted_once Mls = omega arith
-wanted_once Partition = omega arith
-wanted_once Bsdextended = omega arith
-wanted_once Priority = omega arith
+-- where each module stands once, none stands twice
 
 distinct_if_once : (ms : List Module) → ((m : Module) → how_many (same_module m) ms ≤ 1) → are_distinct ms ≡ true
 distinct_if_once [] once = refl
@@ -74,4 +71,14 @@ distinct_if_once (m ∷ ms) once =
     rw (none_passes (same_module m) ms here) (distinct_if_once ms (λ k. omega (arith, once k)))
 
 pub distinct_modules : (ms : List Module) → AreAllModules ms → are_distinct ms ≡ true
-distinct_modules ms all = distinct_if_once ms (λ m. omega (arith, all m, wanted_once m))
+distinct_modules ms all = distinct_if_once ms (λ m. omega (arith, all m))
+
+-- an empty list, and a catalogue of all modules
+pub all_unlisted : (list : ListView) (catalogue : CatalogueView) (modules : List Module) → list.entries ≡ [] → catalogue.modules ≡ modules → AreAllModules modules
+    → IsReady list catalogue → AreOf [] list catalogue
+all_unlisted list catalogue modules none all_in all ready =
+    record {
+      listed = none;
+      held = λ m. omega (arith, ap (how_many (is_of m)) none, ap (how_many (same_module m)) all_in, all m);
+      ready = ready;
+    }

@@ -8,8 +8,10 @@ use Rattle.mf_core.specs.declared.progress.Turn.TheVariants as turns
 use Rattle.mf_core.specs.declared.history.Event.{Event}
 use Rattle.mf_core.specs.declared.history.History.{History}
 use Rattle.mf_core.specs.Log.{Log}
-use Rattle.mf_core.specs.Progress.{progress_at, first_progress, Advances}
-use Rattle.mf_core.specs.LegalHistory.{RunState, MayCome, after, with_event, next_found, next_line, next_plan, opening, turn_of}
+use Rattle.mf_core.specs.Progress.{progress_at, first_progress}
+use Rattle.mf_core.specs.Advances.{Advances}
+use Rattle.mf_core.specs.LegalHistory.{RunState, MayCome, after, next_line, opening, turn_of}
+use Rattle.mf_core.specs.Next.{with_event, next_found, next_plan}
 use Rattle.mf_core.specs.Consistency.{IsConsistent}
 use Rattle.mf_core.specs.RunView.{RunView}
 use Rattle.mf_core.specs.CoreView.{CoreView, progress_of, run_state, specs_of, turn_at}

@@ -1,14 +1,11 @@
 -- Which histories are legal for a script, and the state that a history determines: this model's own.
-use Rattle.std.specs.Prelude.{◌≡◌, ◌⊎◌, ℕ, ◌+◌, ◌<◌, if◌then◌else◌, List, [], ◌∷◌, ◌++◌, length, map, Option, Some, None, slice_get}
+use Rattle.std.specs.Option.{option_map_or}
+use Rattle.std.specs.Prelude.{◌≡◌, ◌⊎◌, ℕ, ◌+◌, ◌<◌, if◌then◌else◌, List, [], ◌∷◌, length, map, Option, Some, None, slice_get, option_map}
 use Rattle.mf_calls.specs.declared.script.Line.{Line}
 use Rattle.mf_calls.specs.declared.script.Script.{Script}
 use Rattle.mf_calls.specs.Tasks.{is_change, lines_of, name_of}
 use Rattle.mf_plan.specs.declared.state.State.{State}
-use Rattle.mf_plan.specs.declared.found.Found.{Found}
-use Rattle.mf_plan.specs.Planned.{Plan}
 use Rattle.mf_plan.specs.declared.reply.Reply.{Reply}
-use Rattle.mf_plan.specs.Found.{found_of}
-use Rattle.mf_plan.specs.Plan.{plan_of}
 use Rattle.mf_core.specs.declared.progress.Phase.{Phase}
 use Rattle.mf_core.specs.declared.progress.Phase.TheVariants as phase
 use Rattle.mf_core.specs.declared.progress.Progress.{Progress}
@@ -51,30 +48,14 @@ turn_of s list t = turn_in (progress_at list t).phase (next_line s list t)
 
 -- The plan of the call of a task's next line, what the call is about, the reply to it, and the state after it
 
-abbrev pub plan_at : Script → RunState → ℕ → Option Line → Option Plan
-plan_at s r t None = None
-plan_at s r t (Some line) = Some (plan_of r.state (name_of s t) line.child line.call)
-
-abbrev pub next_plan : Script → RunState → ℕ → Option Plan
-next_plan s r t = plan_at s r t (next_line s r.progress t)
-
-abbrev pub found_at : Script → RunState → ℕ → Option Line → Option Found
-found_at s r t None = None
-found_at s r t (Some line) = Some (found_of r.state (name_of s t) line.child line.call)
-
-abbrev pub next_found : Script → RunState → ℕ → Option Found
-next_found s r t = found_at s r t (next_line s r.progress t)
-
 abbrev pub reply_at : Script → RunState → ℕ → Option Line → Option Reply
-reply_at s r t None = None
-reply_at s r t (Some line) = Some (step_reply r.state (name_of s t) line.child line.call)
+reply_at s r t line = option_map (λ line. step_reply r.state (name_of s t) line.child line.call) line
 
 abbrev pub next_reply : Script → RunState → ℕ → Option Reply
 next_reply s r t = reply_at s r t (next_line s r.progress t)
 
 abbrev pub state_at : Script → RunState → ℕ → Option Line → State
-state_at s r t None = r.state
-state_at s r t (Some line) = step_state r.state (name_of s t) line.child line.call
+state_at s r t line = option_map_or (λ line. step_state r.state (name_of s t) line.child line.call) line r.state
 
 abbrev pub next_state : Script → RunState → ℕ → State
 next_state s r t = state_at s r t (next_line s r.progress t)
@@ -121,7 +102,3 @@ pub record IsLegal (s : Script) (h : History) : Type 0 where
 -- every task is idle and has no next line
 abbrev pub IsComplete : Script → History → Type 0
 IsComplete s h = (t : ℕ) → t < length s.tasks → turn_of s (run_state_of s h.events.list).progress t ≡ turn.Finished
-
--- the history with one more event
-abbrev pub with_event : History → Event → History
-with_event h e = record h { events = record h.events { list = h.events.list ++ e ∷ [] } }

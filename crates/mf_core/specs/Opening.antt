@@ -1,5 +1,6 @@
 -- The registrations at boot, and the opening state of a script, by docs/MANUAL.md (THE SCRIPT).
-use Rattle.std.specs.Prelude.{ℕ, ◌≤◌, false, true, List, [], ◌∷◌, length, map, fold, Option, Some, None}
+use Rattle.std.specs.Option.{option_map_or}
+use Rattle.std.specs.Prelude.{ℕ, false, true, List, [], ◌∷◌, fold, Option, None}
 use Rattle.mf_errno.specs.declared.module.Module.{Module}
 use Rattle.mf_elem.specs.Label.{no_request}
 use Rattle.mf_item.specs.declared.view.Kind.TheVariants as kinds
@@ -16,7 +17,7 @@ use Rattle.mf_calls.specs.declared.script.FileLine.{FileLine}
 use Rattle.mf_calls.specs.declared.script.Script.{Script}
 use Rattle.mf_plan.specs.declared.state.State.{State}
 use Rattle.mf_plan.specs.declared.target.Target.{Target}
-use Rattle.mf_plan.specs.declared.target.Target.TheVariants.{Root, Name, Nowhere}
+use Rattle.mf_plan.specs.declared.target.Target.TheVariants.{Name}
 use Rattle.mf_plan.specs.Path.{last_name, lookup_along}
 use Rattle.mf_plan.specs.Views.{process_named}
 
@@ -43,10 +44,6 @@ listed_by boots = fold with_registered [] boots
 abbrev pub booted_specs : Script → List Entry
 booted_specs s = listed_by (boots_of s)
 
--- the registrations of listed policies
-abbrev pub registrations_in : List Entry → List Registration
-registrations_in specs = map (λ entry. entry.0) specs
-
 -- Entities
 
 -- the root directory alone, with the label of a file for which nothing is asked: biba/high, mls/low
@@ -64,8 +61,7 @@ with_file listed o f = with_file_at listed o f (lookup_along o f.path).target
 
 -- The process of a task is made under its name, which in a well-formed script is free.
 abbrev pub with_task_at : List Entry → Entities → Task → Option Id → Entities
-with_task_at listed o t None = objects.with_entity o t.name (new_label listed kinds.Process (Boot t.label)) (Process t.cred)
-with_task_at listed o t (Some id) = o
+with_task_at listed o t found = option_map_or (λ id. o) found (objects.with_entity o t.name (new_label listed kinds.Process (Boot t.label)) (Process t.cred))
 
 abbrev pub with_task : List Entry → Entities → Task → Entities
 with_task listed o t = with_task_at listed o t (process_named o t.name)
@@ -83,8 +79,3 @@ opening_state s =
       numbers = given_by s.boots;
       booted = true;
     }
-
--- at most so many entities live, and at most so many ids were given
-pub record HasAtMost (o : Entities) (n : ℕ) : Type 0 where
-  pub live : length o.live ≤ n
-  pub ids : o.next ≤ n

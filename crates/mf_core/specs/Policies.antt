@@ -1,31 +1,22 @@
 -- What a core has to do with the list of policies and the catalogue that came with it: this model's own.
-use Rattle.std.specs.Prelude.{◌≡◌, ℕ, ◌<◌, true, false, cond, List, Option, Some, None}
-use Rattle.mf_errno.specs.Module.{same_module}
+use Rattle.std.specs.Prelude.{◌≡◌, ℕ, ◌<◌, true, false, List, Option, Some, None}
 use Rattle.mf_errno.specs.declared.module.Module.{Module}
 use Rattle.mf_elem.specs.declared.label.TheConstants.{SLOTS}
-use Rattle.mf_policy.specs.Modules.{has_spec, wants_slot}
+use Rattle.mf_policy.specs.Modules.{wants_slot}
 use Rattle.mf_policy.specs.Registration.{Entry, is_listed}
 use Rattle.mf_list.specs.Lists.{ListView, CatalogueView, IsReady, in_catalogue}
-use Rattle.mf_list.specs.Held.{how_many, times_held}
+use Rattle.mf_list.specs.Once.{times_held}
 use Rattle.mf_plan.specs.declared.reply.Reply.{Reply}
 use Rattle.mf_plan.specs.declared.state.State.{State}
-use Rattle.mf_step.specs.Reply.{is_done}
+use Rattle.mf_step.specs.Refused.{is_done}
 use Rattle.mf_core.specs.declared.progress.ChangeOutcome.{ChangeOutcome}
 use Rattle.mf_core.specs.declared.progress.ChangeOutcome.TheVariants as outcome
 
--- how often a module is handed in: once where its policy is built in
-abbrev pub times_wanted : Module → ℕ
-times_wanted m = cond (has_spec m) 1 0
-
--- each module whose policy is built in, once
-abbrev pub AreAllModules : List Module → Type 0
-AreAllModules modules = (m : Module) → how_many (same_module m) modules ≡ times_wanted m
-
--- The list is the one whose policies these are. Each module whose policy is built in stands once, in the list or in the catalogue, and
--- no other does; and each of the two has room for what the other holds.
+-- The list is the one whose policies these are. Each module stands once, in the list or in the catalogue; and each of the two has room for
+-- what the other holds.
 pub record AreOf (specs : List Entry) (list : ListView) (catalogue : CatalogueView) : Type 0 where
   pub listed : list.entries ≡ specs
-  pub held : (m : Module) → times_held m list catalogue ≡ times_wanted m
+  pub held : (m : Module) → times_held m list catalogue ≡ 1
   pub ready : IsReady list catalogue
 
 -- while a change waits, list and catalogue stay as they are

@@ -1,7 +1,7 @@
 -- What contracts see of a run of a script, and what a run keeps true.
 use Rattle.std.specs.Prelude.{◌≡◌, ◌+◌, ◌≤◌, true, length}
 use Rattle.mf_calls.specs.declared.script.Script.{Script}
-use Rattle.mf_list.specs.Held.{IsListedOnce}
+use Rattle.mf_list.specs.Once.{IsListedOnce}
 use Rattle.mf_core.specs.declared.history.History.{History}
 use Rattle.mf_core.specs.declared.limits.TheConstants.{MOST_AT_OPENING, MOST_EVENTS}
 use Rattle.mf_core.specs.LegalHistory.{RunState}

@@ -1,11 +1,13 @@
 //! Registration at boot.
 ghost use Rattle.std.specs.Prelude.{◌≡◌, [], false, All, IfOk, map};
 ghost use Rattle.mf_policy.specs.Modules.{module_of};
-ghost use Rattle.mf_list.specs.Lists.{IsFresh, IsReady};
+ghost use Rattle.mf_list.specs.Lists.{IsReady};
+ghost use Rattle.mf_list.specs.Fresh.{IsFresh};
 ghost use Rattle.mf_list.specs.Registration.{Registers, registration_of};
 ghost use Rattle.mf_calls.specs.WellFormed.{AreBoots};
 ghost use Rattle.mf_core.specs.Opening as spec;
-ghost use Rattle.mf_core.specs.Policies.{AreAllModules, AreOf, CanBoot};
+ghost use Rattle.mf_core.specs.Policies.{AreOf, CanBoot};
+ghost use Rattle.mf_core.specs.AllModules.{AreAllModules};
 
 use crate::history::BootList;
 use mf_errno::Module;

@@ -1,7 +1,7 @@
 //! The core: a history that is legal for its script, with the state that it determines.
 ghost use Rattle.std.specs.Prelude.{◌≡◌, ◌+◌, ◌<◌, ◌≤◌, ◌⊎◌, ℕ, [], All, IfOk, length, map, Some};
 ghost use Rattle.mf_policy.specs.Modules.{module_of};
-ghost use Rattle.mf_list.specs.Lists.{IsFresh};
+ghost use Rattle.mf_list.specs.Fresh.{IsFresh};
 ghost use Rattle.mf_calls.specs.declared.limits.TheConstants.{LINE_LIMIT};
 ghost use Rattle.mf_calls.specs.Tasks.{lines_of};
 ghost use Rattle.mf_calls.specs.WellFormed.{IsWellFormed};
@@ -9,10 +9,13 @@ ghost use Rattle.mf_step.specs.Verdict as step;
 ghost use Rattle.mf_core.specs.declared.history.Event.TheVariants as event;
 ghost use Rattle.mf_core.specs.declared.progress.Turn.TheVariants as turn;
 ghost use Rattle.mf_core.specs.declared.progress.Phase.TheVariants as phase;
-ghost use Rattle.mf_core.specs.LegalHistory.{with_event, next_plan, IsComplete, IsLegal};
+ghost use Rattle.mf_core.specs.LegalHistory.{IsComplete, IsLegal};
+ghost use Rattle.mf_core.specs.Next.{with_event, next_plan};
 ghost use Rattle.mf_core.specs.Opening.{boots_of};
-ghost use Rattle.mf_core.specs.Policies.{AreAllModules, AreOf};
-ghost use Rattle.mf_core.specs.Progress.{progress_at, first_progress, open_entries, left, Advances};
+ghost use Rattle.mf_core.specs.Policies.{AreOf};
+ghost use Rattle.mf_core.specs.AllModules.{AreAllModules};
+ghost use Rattle.mf_core.specs.Progress.{progress_at, first_progress, open_entries, left};
+ghost use Rattle.mf_core.specs.Advances.{Advances};
 ghost use Rattle.mf_core.specs.CoreView.{run_state, specs_of, progress_of, turn_at, open_of, lines_at, done_of, all_lines, lines_left};
 
 mod changing;
@@ -48,8 +51,8 @@ impl<'s> Model for Core<'s> {
 }
 
 impl<'s> Core<'s> {
-    /// The core before the first event of the script. `modules` has a policy of each module that is built in, once, in
-    /// its initial state. Those that the script boots are registered in its order; the others stay in the catalogue.
+    /// The core before the first event of the script. `modules` has a policy of each module, once, in its initial state. Those
+    /// that the script boots are registered in its order; the others stay in the catalogue.
     pub fn new<P: Policy>(
         alloc: Global,
         script: &'s Script,

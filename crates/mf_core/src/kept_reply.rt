@@ -1,6 +1,6 @@
 //! Replies as a history keeps them.
 ghost use Rattle.std.specs.Prelude.{◌≡◌, IfOk, IsOk, false};
-ghost use Rattle.mf_step.specs.Reply.{is_done};
+ghost use Rattle.mf_step.specs.Refused.{is_done};
 
 use mf_errno::{Errno, Module};
 use mf_item::CheckOp;

@@ -6,7 +6,7 @@ ghost use Rattle.mf_calls.specs.declared.limits.TheConstants.{FILE_LIMIT};
 ghost use Rattle.mf_calls.specs.WellFormed.{IsWellFormed};
 ghost use Rattle.mf_core.specs.declared.limits.TheConstants.{MOST_AT_OPENING};
 ghost use Rattle.mf_core.specs.Opening as spec;
-ghost use Rattle.mf_core.specs.Opening.{HasAtMost};
+ghost use Rattle.mf_core.specs.Registering.{HasAtMost};
 
 use mf_calls::{FileLine, Script, Task};
 use mf_elem::Request;

@@ -11,7 +11,7 @@ ghost use Rattle.mf_core.specs.Policies.{AreOf};
 use mf_calls::Call;
 use mf_errno::Module;
 use mf_list::{Catalogue, PolicyList};
-use mf_plan::{State, loadable, setting};
+use mf_plan::{State, setting};
 use mf_policy::{Policy, registration_of};
 use std::alloc::{AllocError, Global};
 
@@ -34,7 +34,7 @@ pub fn relist<P: Policy>(
 {
     match call {
         Call::Kldload(name) => {
-            if let Some(wanted) = loadable(name.as_str()) {
+            if let Some(wanted) = Module::from_name(name.as_str()) {
                 let registration = registration_of(wanted, state.booted, state.numbers.given());
                 list.attach(catalogue, registration);
             }

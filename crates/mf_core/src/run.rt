@@ -1,19 +1,21 @@
 //! A run of a script: the state of the framework, and how far each task is.
 ghost use Rattle.std.specs.Prelude.{◌≡◌, ◌<◌, ◌≤◌, ◌+◌, ◌⊎◌, ◌↔◌, length, true, false, IfOk, IsOk, IfSome, IsSome, OnOk, OnErr, Some};
 ghost use Rattle.mf_objects.specs.declared.limits.TheConstants.{ID_LIMIT};
-ghost use Rattle.mf_list.specs.Held.{IsListedOnce};
+ghost use Rattle.mf_list.specs.Once.{IsListedOnce};
 ghost use Rattle.mf_calls.specs.declared.limits.TheConstants.{LINE_LIMIT};
 ghost use Rattle.mf_calls.specs.Tasks.{lines_of};
 ghost use Rattle.mf_calls.specs.WellFormed.{IsFormedLine, IsName, IsWellFormed};
 ghost use Rattle.mf_plan.specs.declared.plan.Tail.TheVariants.{Do};
 ghost use Rattle.mf_plan.specs.Found.{found_of};
 ghost use Rattle.mf_plan.specs.declared.reply.Payload.TheVariants as payload;
-ghost use Rattle.mf_step.specs.Reply.{is_done, reply_to};
+ghost use Rattle.mf_step.specs.Reply.{reply_to};
+ghost use Rattle.mf_step.specs.Refused.{is_done};
 ghost use Rattle.mf_step.specs.Step.{step_reply, step_state};
 ghost use Rattle.mf_step.specs.Verdict.{verdict_of};
 ghost use Rattle.mf_core.specs.declared.history.Event.TheVariants as event;
 ghost use Rattle.mf_core.specs.declared.progress.Turn.TheVariants as turn;
-ghost use Rattle.mf_core.specs.LegalHistory.{after, next_found, next_line, next_plan, next_reply, opening, turn_of, MayCome};
+ghost use Rattle.mf_core.specs.LegalHistory.{after, next_line, next_reply, opening, turn_of, MayCome};
+ghost use Rattle.mf_core.specs.Next.{next_found, next_plan};
 ghost use Rattle.mf_core.specs.Opening.{booted_specs, given_by};
 ghost use Rattle.mf_core.specs.Progress.{open_entries, progress_at};
 
@@ -152,7 +154,7 @@ impl<'s> Run<'s> {
             return KeptReply::new(alloc, refusal);
         }
         let line = self.line(task);
-        let payload = payload_of(alloc, &self.state, found.target, &line.call)?;
+        let payload = payload_of(alloc, &self.state, found, &line.call)?;
         KeptReply::new(alloc, Reply::Ok(payload))
     }
 

@@ -10,7 +10,8 @@ use Rattle.std.specs.FinSet.{FinSet, members, contains-empty, contains-is_subset
 use Rattle.std.specs.Cmp.{nat_cmp_total}
 use Rattle.std.proofs.lemmas.Nat.Bits.{same_from_bits_below, bit_at-lt, bit_at_cat_low, bit_at_cat_high, bit_at-zero, bit_at_set_same, bit_at_set_other, bit_at_and}
 use Rattle.std.proofs.lemmas.List.{get_or-set_same, get_or-set_other}
-use Rattle.mf_elem.specs.Comps.{is_bit, numbers_below, numbers_of, number_with, word_of, words_of, AreWords, comps_of}
+use Rattle.mf_elem.specs.Comps.{is_bit, numbers_below, numbers_of, number_with, word_of, words_of, comps_of}
+use Rattle.mf_elem.specs.Bounds.{AreWords}
 
 with_new : (f : ℕ → Bool) (i j : ℕ) (s : FinSet nat_cmp) → set.contains s (suc j) ≡ (ltb j i && f j) → f i ≡ true
     → set.contains (set.insert s (suc i)) (suc j) ≡ (ltb j (suc i) && f j)

@@ -6,9 +6,9 @@ use Rattle.std.specs.FinSet as set
 use Rattle.std.specs.FinSet.{FinSet, is_subset-contains, same_set, nat_cmp-IsAntisymmetric}
 use Rattle.std.specs.Cmp.{nat_cmp_total}
 use Rattle.std.specs.Ordering.{nat_cmp}
-use Rattle.mf_elem.specs.Comps.{numbers_of, words_of, AreWords}
+use Rattle.mf_elem.specs.Comps.{numbers_of, words_of}
+use Rattle.mf_elem.specs.Bounds.{AreWords, IsElement}
 use Rattle.mf_elem.specs.Elem.{is_same_element}
-use Rattle.mf_elem.specs.Label.{IsElement}
 use Rattle.mf_elem.specs.declared.elem.Elem.{Elem}
 use Rattle.mf_elem.specs.declared.elem.Elem.TheVariants.{Low, High, Equal, Grade}
 use Rattle.mf_elem.proofs.CompsLaws.{words_again}

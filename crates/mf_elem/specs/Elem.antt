@@ -6,30 +6,14 @@ use Rattle.mf_elem.specs.Comps.{compartments_of}
 use Rattle.mf_elem.specs.declared.elem.Elem.{Elem}
 use Rattle.mf_elem.specs.declared.elem.Elem.TheVariants.{Low, High, Equal, Grade}
 
--- Whether the first element dominates the second:
---
---             low   grade                                            high   equal
---     low     yes   no                                               no     yes
---     grade   yes   grade at least, and compartments a superset      no     yes
---     high    yes   yes                                              yes    yes
---     equal   yes   yes                                              yes    yes
+-- Whether the first element dominates the second. A grade dominates those that are no greater, with no compartment more.
 abbrev pub dominates : Elem → Elem → Bool
-dominates Low Low = true
-dominates Low (Grade other others) = false
-dominates Low High = false
-dominates Low Equal = true
-dominates (Grade grade comps) Low = true
+dominates Equal other = true
+dominates element Equal = true
+dominates High other = true
+dominates element Low = true
 dominates (Grade grade comps) (Grade other others) = nat_le other grade && set.is_subset (compartments_of others) (compartments_of comps)
-dominates (Grade grade comps) High = false
-dominates (Grade grade comps) Equal = true
-dominates High Low = true
-dominates High (Grade other others) = true
-dominates High High = true
-dominates High Equal = true
-dominates Equal Low = true
-dominates Equal (Grade other others) = true
-dominates Equal High = true
-dominates Equal Equal = true
+dominates element other = false
 
 abbrev pub is_equal : Elem → Bool
 is_equal Equal = true

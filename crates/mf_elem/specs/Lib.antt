@@ -1,3 +1,4 @@
+pub mod Bounds
 pub mod Comps
 pub mod Elem
 pub mod Label

@@ -1,9 +1,11 @@
 -- Numbers and names tell the errors apart, and each error is found by its name.
-use Rattle.std.proofs.Common.{◌≡◌, ◌≢◌, ℕ, true, false, List, [], ◌∷◌, Option, Some, None, refl, sym, ap, ◌∙◌, arith}
-use Rattle.std.proofs.lemmas.Bool.Decides.{nat_tests}
+use Rattle.std.proofs.Common.{◌≡◌, ◌≢◌, ℕ, true, false, List, [], ◌∷◌, Option, Some, None, refl, sym, ap, ◌∙◌}
 use Rattle.std.specs.Prelude.{find, nat_eq}
 use Rattle.std.specs.Str.{bytes_eq}
-use Rattle.mf_errno.specs.Errno.{number_of, text_of, all_errors, errno_named, is_same}
+use Rattle.std.proofs.lemmas.Slice.Eq.{bytes_eq-Decides}
+use Rattle.mf_errno.specs.Errno.{number_of, errno_named}
+use Rattle.mf_errno.specs.Same.{is_same}
+use Rattle.mf_errno.specs.Names.{text_of, all_errors}
 use Rattle.mf_errno.specs.declared.errno.Errno.{Errno}
 use Rattle.mf_errno.specs.declared.errno.Errno.TheVariants.{Success, Eperm, Enoent, Esrch, Edeadlk, Enomem, Eacces, Ebusy, Eexist, Enotdir, Eisdir, Einval, Enfile, Efbig, Eagain, Enobufs, Enotempty}
 use Rattle.mf_errno.proofs.Modules.{differs}
@@ -64,10 +66,7 @@ pub names_differ : (e f : Errno) → text_of e ≡ text_of f → e ≡ f
 names_differ e f same = found_once e f (sym (own_name e) ∙ ap errno_named same ∙ own_name f)
 
 pub is_same-is : (e f : Errno) → is_same e f ≡ true → e ≡ f
-is_same-is e f h = numbers_differ e f (by_number (number_of e) (number_of f) h)
-  where
-    by_number : (m n : ℕ) → nat_eq m n ≡ true → m ≡ n
-    by_number m n h = grind (arith, nat_tests)
+is_same-is e f h = names_differ e f ((bytes_eq-Decides (text_of e) (text_of f)).0 h)
 
 pub is_same-refl : (e : Errno) → is_same e e ≡ true
 is_same-refl Success = refl

@@ -1,2 +1,3 @@
 pub mod Errors
 pub mod Modules
+pub mod Privileges

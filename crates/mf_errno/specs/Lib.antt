@@ -1,4 +1,6 @@
 pub mod Errno
-pub mod Module
+pub mod Names
+pub mod OfTwo
 pub mod Privilege
+pub mod Same
 pub mod Selection

@@ -1,5 +1,6 @@
 -- The names of the privileges, as priv(9) has them, without their prefix.
-use Rattle.std.specs.Prelude.{◌≡◌, ◌≢◌, ℕ, List, Option, codes, MatchOption}
+use Rattle.std.specs.Prelude.{ℕ, List, [], ◌∷◌, Option, find, codes}
+use Rattle.std.specs.Str.{bytes_eq}
 use Rattle.mf_errno.specs.declared.privilege.Priv.{Priv}
 use Rattle.mf_errno.specs.declared.privilege.Priv.TheVariants.{KldLoad, KldUnload, MacPartition, SchedRtprio, SchedIdprio}
 
@@ -10,6 +11,10 @@ privilege_text MacPartition = codes "MAC_PARTITION"
 privilege_text SchedRtprio = codes "SCHED_RTPRIO"
 privilege_text SchedIdprio = codes "SCHED_IDPRIO"
 
--- the text is the name of that privilege, or of none
-abbrev pub IsPrivilegeNamed : List ℕ → Option Priv → Type 0
-IsPrivilegeNamed text named = MatchOption named ((p : Priv) → privilege_text p ≢ text) (λ p. privilege_text p ≡ text)
+-- all of them
+abbrev pub all_privileges : List Priv
+all_privileges = KldLoad ∷ KldUnload ∷ MacPartition ∷ SchedRtprio ∷ SchedIdprio ∷ []
+
+-- the privilege of that name
+unfoldable pub privilege_named : List ℕ → Option Priv
+privilege_named name = find (λ p. bytes_eq (privilege_text p) name) all_privileges

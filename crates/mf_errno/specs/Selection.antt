@@ -2,8 +2,8 @@
 use Rattle.std.specs.Prelude.{Bool, cond, List, [], ◌∷◌}
 use Rattle.std.specs.List.{list_any}
 use Rattle.mf_errno.specs.declared.errno.Errno.{Errno}
-use Rattle.mf_errno.specs.declared.errno.Errno.TheVariants.{Success, Eperm, Enoent, Esrch, Edeadlk, Eacces, Einval}
-use Rattle.mf_errno.specs.Errno.{is_same}
+use Rattle.mf_errno.specs.declared.errno.Errno.TheVariants.{Eperm, Enoent, Esrch, Edeadlk, Eacces, Einval}
+use Rattle.mf_errno.specs.Same.{is_same}
 
 -- the errors that come before all others, in this order
 abbrev pub precedence : List Errno
@@ -16,7 +16,3 @@ stands_in e answers = list_any (is_same e) answers
 abbrev pub first_standing : List Errno → List Errno → Errno → Errno
 first_standing [] answers otherwise = otherwise
 first_standing (e ∷ es) answers otherwise = cond (stands_in e answers) e (first_standing es answers otherwise)
-
--- the one of two answers that counts: by the precedence, else the newer unless that is success
-unfoldable pub select : Errno → Errno → Errno
-select newer older = first_standing precedence (newer ∷ older ∷ []) (cond (is_same Success newer) older newer)

@@ -1,6 +1,7 @@
 //! The error numbers of errno(2) that policies answer and calls return.
 ghost use Rattle.std.specs.Prelude.{◌≡◌};
-ghost use Rattle.mf_errno.specs.Errno.{errno_named, number_of, text_of};
+ghost use Rattle.mf_errno.specs.Errno.{number_of, errno_named};
+ghost use Rattle.mf_errno.specs.Names.{text_of};
 
 use std::fmt;
 

@@ -1,6 +1,7 @@
 //! The policy modules that the model knows, a part of those of mac(4).
 ghost use Rattle.std.specs.Prelude.{◌≡◌};
-ghost use Rattle.mf_errno.specs.Module.{all_modules, module_named, module_text, same_module};
+ghost use Rattle.mf_errno.specs.Same.{same_module};
+ghost use Rattle.mf_errno.specs.Names.{all_modules, module_named, module_text};
 
 use std::fmt;
 
@@ -42,7 +43,7 @@ impl Module {
     }
 
     /// The module of that name. None for every other text.
-    #[tactic(auto, unfolding(crate::specs::Module::module_named))]
+    #[tactic(auto, unfolding(crate::specs::Names::module_named))]
     pub fn from_name(name: &str) -> Option<Module>
         ensures { result ≡ module_named name.now }
     {

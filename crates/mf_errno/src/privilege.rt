@@ -1,6 +1,6 @@
 //! The privileges of sys/priv.h that policies are asked to grant.
 ghost use Rattle.std.specs.Prelude.{◌≡◌};
-ghost use Rattle.mf_errno.specs.Privilege.{IsPrivilegeNamed, privilege_text};
+ghost use Rattle.mf_errno.specs.Privilege.{privilege_named, privilege_text};
 
 use std::fmt;
 
@@ -29,8 +29,9 @@ impl Priv {
     }
 
     /// The privilege of that name. None for every other text.
+    #[tactic(auto, unfolding(crate::specs::Privilege::privilege_named))]
     pub fn from_name(name: &str) -> Option<Priv>
-        ensures { IsPrivilegeNamed name.now result }
+        ensures { result ≡ privilege_named name.now }
     {
         match name {
             "KLD_LOAD" => Some(Priv::KldLoad),

@@ -1,14 +1,14 @@
 //! Which of two answers counts, as the kernel's `mac_error_select` decides it.
 ghost use Rattle.std.specs.Prelude.{◌≡◌};
-ghost use Rattle.mf_errno.specs.Selection as spec;
+ghost use Rattle.mf_errno.specs.OfTwo.{select};
 
 use crate::Errno;
 
 /// The more significant of two answers: EDEADLK, EINVAL, ESRCH, ENOENT, EACCES and EPERM win in this order; of any
 /// other two the newer wins, unless it is success.
-#[tactic(auto, unfolding(crate::specs::Selection::select))]
+#[tactic(auto, unfolding(crate::specs::OfTwo::select))]
 pub fn select(newer: Errno, older: Errno) -> Errno
-    ensures { result ≡ spec.select newer older }
+    ensures { result ≡ select newer older }
 {
     match (newer, older) {
         (Errno::Edeadlk, _) | (_, Errno::Edeadlk) => Errno::Edeadlk,

@@ -14,7 +14,7 @@ use Rattle.mf_elem.specs.Label.{is_equal}
 use Rattle.mf_item.specs.declared.operation.CheckOp.{CheckOp}
 use Rattle.mf_item.specs.declared.operation.CheckOp.TheVariants as op
 use Rattle.mf_policy.specs.declared.operations.Movement.{Movement}
-use Rattle.mf_policy.specs.Operations.{movement_of, test_of}
+use Rattle.mf_policy.specs.Operations.{row_of}
 use Rattle.mf_policy.specs.declared.operations.Movement.TheVariants.{Still, ToSubject, ToObject, BothWays}
 use Rattle.mf_policy.specs.declared.operations.Test.TheVariants.{Observe, Modify, ObserveAndModify, SameLevel}
 use Rattle.mf_policy.specs.Answer.{LatticePolicy, errno_unless, labels_answer}
@@ -137,8 +137,8 @@ module _ (p : LatticePolicy) (flows : IsFlowPolicy p) (label asked : RangeLabel)
       (both.0, flows.back subject object both.1)
 
   -- an operation that the policy passes moves information only as it may
-  pub allows : (operation : CheckOp) (subject object : Option Elem) → labels_answer p (test_of operation) label asked subject object ≡ Success
-      → AllowedBy p (movement_of operation) subject object
+  pub allows : (operation : CheckOp) (subject object : Option Elem) → labels_answer p (row_of operation).test label asked subject object ≡ Success
+      → AllowedBy p (row_of operation).movement subject object
   allows op.VnodeLookup subject object success = observes Eacces subject object (λ same. cc) success
   allows op.VnodeOpenRead subject object success = observes Eacces subject object (λ same. cc) success
   allows op.VnodeOpenWrite subject object success = modifies subject object success

@@ -12,7 +12,7 @@ use Rattle.std.proofs.lemmas.Bool.Decides.{nat_tests}
 use Rattle.mf_elem.specs.Comps.{compartments_of}
 use Rattle.mf_elem.specs.declared.comps.Comps.{Comps}
 use Rattle.mf_labeltext.specs.Canonical.{numbers_to, rising}
-use Rattle.mf_flow.specs.Order.{with_number}
+use Rattle.mf_flow.specs.Numbers.{with_number}
 
 -- so many numbers from the one behind this on
 abbrev pub numbers_behind : ℕ → ℕ → List ℕ

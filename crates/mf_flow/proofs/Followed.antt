@@ -28,14 +28,15 @@ use Rattle.mf_plan.specs.declared.found.Found.{Found}
 use Rattle.mf_plan.specs.declared.plan.Tail.TheVariants.{Do}
 use Rattle.mf_plan.specs.Found.{found_of}
 use Rattle.mf_plan.specs.Plan.{plan_of}
-use Rattle.mf_step.specs.Reply.{is_done, payload_of}
-use Rattle.mf_step.specs.Step.{step_reply}
+use Rattle.mf_step.specs.Refused.{is_done}
+use Rattle.mf_step.specs.Step.{step_payload, step_reply}
 use Rattle.mf_core.specs.declared.history.Event.{Event}
 use Rattle.mf_core.specs.declared.history.Event.TheVariants as event
 use Rattle.mf_core.specs.declared.history.History.{History}
 use Rattle.mf_core.specs.Opening.{opening_state}
 use Rattle.mf_core.specs.Progress.{progress_at}
-use Rattle.mf_core.specs.LegalHistory.{RunState, found_at, opening, next_found, next_line, reply_at, state_at, MayCome, after, AllMayCome, run_state_after, run_state_of, IsLegal}
+use Rattle.mf_core.specs.LegalHistory.{RunState, opening, next_line, reply_at, state_at, MayCome, after, AllMayCome, run_state_after, run_state_of, IsLegal}
+use Rattle.mf_core.specs.Next.{found_at, next_found}
 use Rattle.mf_core.specs.RunView.{RunView}
 use Rattle.mf_core.proofs.SameLists.{done_tail}
 use Rattle.mf_step.proofs.StateChange.{StateChange}
@@ -46,7 +47,7 @@ use Rattle.mf_flow.specs.declared.following.Flow.{Flow}
 use Rattle.mf_flow.specs.declared.following.Flows.{Flows}
 use Rattle.mf_flow.specs.Rows.{Alike, AreKept, AreOwnRows, AreRows, IsBooted, IsFlowOf, IsKept, IsOpening, Rows, rows_moved, rows_after_line, rows_after_event, flows_moved, flows_created, flows_after_line, flows_after_event}
 use Rattle.mf_flow.specs.Sources.{Sets, alone, element_in, moved_by_all, relabels, caller_of, sets_after_line, sets_after_event, opening_sets, sets_after, sources_of}
-use Rattle.mf_flow.specs.Table.{HasSources}
+use Rattle.mf_flow.specs.HasSources.{HasSources}
 use Rattle.mf_flow.proofs.Granted.{IsGranted, passed_granted, all_passed}
 use Rattle.mf_flow.proofs.Copies.{IsCopied, plan_copied}
 use Rattle.mf_flow.proofs.Flowing.{IsFlowing, IsOf, all_labelled, own_answer, line_objects, event_flowing, opening_flowing}
@@ -67,7 +68,7 @@ call_rows p r s s' task line said sets rows of is shape flowing are =
     let step : ChangesEntities by s s' = changes_entities by s s' shape flowing.held.kept.rising in
     let granted : AllByRecursion (IsGranted s.specs) items =
     subst (λ (x : Reply). AllByRecursion (IsGranted s.specs) (passed x (plan_of s task line.child line.call).items)) is
-    (passed_granted s.specs (plan_of s task line.child line.call) (payload_of s line.call)) in
+    (passed_granted s.specs (plan_of s task line.child line.call) (step_payload s task line.child line.call)) in
     let copied : AllByRecursion (IsCopied s.objects) items =
     all_passed (IsCopied s.objects) said (plan_of s task line.child line.call).items (plan_copied s task line.call by) in
     let success : AllByRecursion (λ (item : Item). lattice_answer p (slot_of r) item ≡ Success) items = own_answer p r s.specs s.numbers items of flowing.held.pinned granted in

@@ -2,7 +2,7 @@
 use Rattle.std.proofs.Common.{◌≡◌, ℕ, ◌<◌, ◌≤◌, ◌+◌, zero, suc, Bool, true, false, cond, nat_le, List, [], ◌∷◌, ◌++◌, append_assoc, length, map, take, get_or, slice_get, Option, Some, None, IfSome, IsSome, refl, ap, sym, ◌∙◌, subst, arith, length-append, ◌⊎◌, inl, inr}
 use Rattle.std.specs.Prelude.{find, Contains}
 use Rattle.std.proofs.lemmas.Bool.Decides.{nat_tests}
-use Rattle.mf_errno.specs.Module.{same_module}
+use Rattle.mf_errno.specs.Same.{same_module}
 use Rattle.mf_errno.specs.declared.module.Module.{Module}
 use Rattle.mf_errno.specs.declared.module.Module.TheVariants.{Biba, Mls, Partition, Bsdextended, Priority}
 use Rattle.mf_errno.proofs.Modules.{same_module-is}
@@ -12,7 +12,8 @@ use Rattle.mf_elem.specs.Label.{is_equal}
 use Rattle.mf_policy.specs.declared.registration.Registration.{Registration}
 use Rattle.mf_list.specs.Asked.{slot_of}
 use Rattle.mf_objects.specs.declared.id.Id.{Id}
-use Rattle.mf_objects.specs.Live.{LiveEntity, Entities, has_id, is_from, id_of, live_at}
+use Rattle.mf_objects.specs.Live.{LiveEntity, Entities, has_id, id_of, live_at}
+use Rattle.mf_objects.specs.Lives.{is_from}
 use Rattle.mf_objects.specs.Population.{IsRising}
 use Rattle.mf_objects.specs.Titles.{title_at}
 use Rattle.mf_objects.proofs.Rising.{id_differs}
@@ -25,7 +26,8 @@ use Rattle.mf_flow.specs.declared.table.Row.{Row}
 use Rattle.mf_flow.specs.Order.{union}
 use Rattle.mf_flow.specs.Rows.{AreOwnRows, AreRows, IsBooted, Rows, row, element_of, new_row}
 use Rattle.mf_flow.specs.Sources.{Sets, alone, held_by}
-use Rattle.mf_flow.specs.Table.{HasSources, booted_as, row_of, rows_in}
+use Rattle.mf_flow.specs.Table.{booted_as, row_of, rows_in}
+use Rattle.mf_flow.specs.HasSources.{HasSources}
 use Rattle.mf_flow.proofs.RowsKept.{first_from, former_row, last_row}
 use Rattle.mf_flow.proofs.Dominating.{biba_booted, mls_booted}
 

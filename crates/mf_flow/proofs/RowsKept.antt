@@ -13,12 +13,13 @@ use Rattle.mf_item.specs.declared.view.SubjectView.{SubjectView}
 use Rattle.mf_item.specs.declared.view.ObjectView.{ObjectView}
 use Rattle.mf_policy.specs.declared.registration.Registration.{Registration}
 use Rattle.mf_policy.specs.Answer.{LatticePolicy, range_label, object_slot, part_of, lattice_answer}
-use Rattle.mf_policy.specs.Operations.{movement_of}
+use Rattle.mf_policy.specs.Operations.{row_of}
 use Rattle.mf_policy.specs.declared.operations.Movement.{Movement}
 use Rattle.mf_policy.specs.declared.operations.Movement.TheVariants.{Still, ToSubject, ToObject, BothWays}
 use Rattle.mf_list.specs.Asked.{slot_of}
 use Rattle.mf_objects.specs.declared.id.Id.{Id}
-use Rattle.mf_objects.specs.Live.{LiveEntity, Entities, has_id, id_of, is_from, live_at}
+use Rattle.mf_objects.specs.Live.{LiveEntity, Entities, has_id, id_of, live_at}
+use Rattle.mf_objects.specs.Lives.{is_from}
 use Rattle.mf_objects.specs.Live.{label_of as values_of}
 use Rattle.mf_objects.specs.Population.{IsRising}
 use Rattle.mf_objects.proofs.Rising.{id_is}
@@ -119,7 +120,7 @@ module _ (p : LatticePolicy) (flows : IsFlowPolicy p) (r : Registration) (o : En
   item_rows : (sets : Sets) (rows : Rows) (item : Item) → lattice_answer p (slot_of r) item ≡ Success → IsCopied o item → AllFit p r o sets → AreRows o sets rows
       → AreRows o (moved_by r o sets item) (rows_moved (slot_of r) o rows item)
   item_rows sets rows item success copied fit are =
-      with_rows sets rows (movement_of item.op) item.subject item.object copied.0 copied.1
+      with_rows sets rows (row_of item.op).movement item.subject item.object copied.0 copied.1
       (allows p flows (range_label (slice_index_or item.subject.label (slot_of r) Unset)) (part_of p item.request) item.op (element_in r item.subject.label)
       (range_label (object_slot item.object (slot_of r))).effective success)
       fit are

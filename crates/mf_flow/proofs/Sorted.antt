@@ -11,7 +11,7 @@ use Rattle.mf_elem.specs.Label.{is_equal}
 use Rattle.mf_item.specs.Item.{Item}
 use Rattle.mf_item.specs.declared.view.ObjectView.{ObjectView}
 use Rattle.mf_policy.specs.declared.registration.Registration.{Registration}
-use Rattle.mf_policy.specs.Operations.{movement_of}
+use Rattle.mf_policy.specs.Operations.{row_of}
 use Rattle.mf_policy.specs.declared.operations.Movement.{Movement}
 use Rattle.mf_policy.specs.declared.operations.Movement.TheVariants.{Still, ToSubject, ToObject, BothWays}
 use Rattle.mf_objects.specs.declared.id.Id.{Id}
@@ -29,7 +29,7 @@ use Rattle.mf_core.specs.LegalHistory.{RunState, opening, next_line, after}
 use Rattle.mf_flow.specs.Order.{place_of, elem_cmp, union}
 use Rattle.mf_flow.specs.Movement.{passed}
 use Rattle.mf_flow.specs.Sources.{Sets, element_in, element_at, held_by, alone, is_id, received, moved, moved_with, moved_by, moved_by_all, relabels, set_after, set_of, caller_of, sets_after_line, sets_after_event, opening_sets, sets_after, sources_of}
-use Rattle.mf_flow.specs.Laws.{SourcesAreSorted}
+use Rattle.mf_flow.specs.Dominated.{SourcesAreSorted}
 use Rattle.mf_flow.proofs.Bounds.{all_union}
 
 -- each element comes before those behind it
@@ -109,7 +109,7 @@ with_ordered r o subject (Some object) sets movement all = moved_ordered r o sub
 items_ordered : (r : Registration) (o : Entities) (sets : Sets) (items : List Item) → AllOrdered sets → AllOrdered (moved_by_all r o sets items)
 items_ordered r o sets [] all = all
 items_ordered r o sets (item ∷ items) all =
-    items_ordered r o (moved_by r o sets item) items (with_ordered r o (record { 0 = item.subject.id }) item.object sets (movement_of item.op) all)
+    items_ordered r o (moved_by r o sets item) items (with_ordered r o (record { 0 = item.subject.id }) item.object sets (row_of item.op).movement all)
 
 after_ordered : (r : Registration) (found found' : Option LiveEntity) (relabelled : Bool) (set maker : List Elem) → Ordered set → Ordered maker
     → Ordered (set_after r found found' relabelled set maker)

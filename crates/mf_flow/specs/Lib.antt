@@ -1,7 +1,10 @@
-pub mod Order
-pub mod Movement
-pub mod Sources
-pub mod Table
-pub mod Rows
-pub mod SourcesText
+pub mod Dominated
+pub mod HasSources
 pub mod Laws
+pub mod Movement
+pub mod Numbers
+pub mod Order
+pub mod Rows
+pub mod Sources
+pub mod SourcesText
+pub mod Table

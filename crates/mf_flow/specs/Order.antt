@@ -1,8 +1,7 @@
 -- The order of elements in which the sources of a party are listed, and sets of elements in that order: this model's own.
-use Rattle.std.specs.Prelude.{ℕ, Bool, true, false, List, [], ◌∷◌, if◌then◌else◌}
+use Rattle.std.specs.Prelude.{ℕ, true, List, [], ◌∷◌}
 use Rattle.std.specs.Ordering.{nat_cmp}
 use Rattle.std.specs.declared.cmp.Ordering.{Ordering}
-use Rattle.std.specs.declared.cmp.Ordering.TheVariants.{Less, Greater}
 use Rattle.std.specs.Cmp.Lexicographic.{slice_cmp}
 use Rattle.std.specs.Set.{sorted_merge}
 use Rattle.mf_elem.specs.declared.elem.Elem.{Elem}
@@ -23,11 +22,3 @@ elem_cmp a b = slice_cmp nat_cmp (place_of a) (place_of b)
 -- the elements of either set, each once, in order
 abbrev pub union : List Elem → List Elem → List Elem
 union set other = sorted_merge elem_cmp true set other
-
--- How two rising lists of numbers compare with one more number in front, which each may have, by how they compared and by whether they
--- had any: where one alone has it, that one comes first, unless the other is at its end.
-abbrev pub with_number : Ordering → Bool → Bool → Bool → Bool → Ordering
-with_number order true true some others_some = order
-with_number order false false some others_some = order
-with_number order true false some others_some = if others_some then Less else Greater
-with_number order false true some others_some = if some then Greater else Less

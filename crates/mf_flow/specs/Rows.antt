@@ -8,13 +8,14 @@ use Rattle.mf_elem.specs.Label.{is_equal}
 use Rattle.mf_item.specs.Item.{Item}
 use Rattle.mf_item.specs.declared.view.ObjectView.{ObjectView}
 use Rattle.mf_policy.specs.Answer.{range_label}
-use Rattle.mf_policy.specs.Operations.{movement_of}
+use Rattle.mf_policy.specs.Operations.{row_of}
 use Rattle.mf_policy.specs.declared.operations.Movement.{Movement}
 use Rattle.mf_policy.specs.declared.operations.Movement.TheVariants.{Still, ToSubject, ToObject, BothWays}
 use Rattle.mf_policy.specs.declared.registration.Registration.{Registration}
 use Rattle.mf_list.specs.Asked.{slot_of}
 use Rattle.mf_objects.specs.declared.id.Id.{Id}
-use Rattle.mf_objects.specs.Live.{LiveEntity, Entities, is_from, label_at, live_at}
+use Rattle.mf_objects.specs.Live.{LiveEntity, Entities, label_at, live_at}
+use Rattle.mf_objects.specs.Lives.{is_from}
 use Rattle.mf_calls.specs.declared.script.Line.{Line}
 use Rattle.mf_calls.specs.declared.script.Script.{Script}
 use Rattle.mf_calls.specs.Tasks.{name_of}
@@ -30,7 +31,7 @@ use Rattle.mf_core.specs.LegalHistory.{RunState, next_line, after, run_state_of}
 use Rattle.mf_flow.specs.Order.{union}
 use Rattle.mf_flow.specs.Movement.{passed}
 use Rattle.mf_flow.specs.Sources.{Sets, alone, held_by, caller_of, sources_of}
-use Rattle.mf_flow.specs.Table.{HasSources}
+use Rattle.mf_flow.specs.HasSources.{HasSources}
 use Rattle.mf_flow.specs.declared.following.Flow.{Flow}
 use Rattle.mf_flow.specs.declared.following.Flows.{Flows}
 
@@ -79,7 +80,7 @@ rows_with slot objects rows movement subject (Some object) = rows_between slot o
 
 -- the rows after a check that passed
 abbrev pub rows_moved : ℕ → Entities → Rows → Item → Rows
-rows_moved slot objects rows item = rows_with slot objects rows (movement_of item.op) item.subject.id item.object
+rows_moved slot objects rows item = rows_with slot objects rows (row_of item.op).movement item.subject.id item.object
 
 -- the same, by the outline of the check
 abbrev pub rows_by : ℕ → Entities → Rows → Check → Rows

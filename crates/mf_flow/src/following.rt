@@ -2,7 +2,7 @@
 ghost use Rattle.std.specs.Prelude.{◌≡◌, ◌<◌, IfOk, IfSome, OnOk, find, map};
 ghost use Rattle.mf_elem.specs.declared.label.TheConstants.{SLOTS};
 ghost use Rattle.mf_plan.specs.Outline.{item_of};
-ghost use Rattle.mf_objects.specs.Live.{is_from};
+ghost use Rattle.mf_objects.specs.Lives.{is_from};
 ghost use Rattle.mf_calls.specs.WellFormed.{IsWellFormed};
 ghost use Rattle.mf_core.specs.LegalHistory.{after, MayCome};
 ghost use Rattle.mf_flow.specs.Order.{union};

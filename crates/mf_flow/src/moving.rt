@@ -2,7 +2,7 @@
 ghost use Rattle.std.specs.Prelude.{◌≡◌, ◌<◌, fold, map, unwrap_or, IfOk, OnOk};
 ghost use Rattle.mf_elem.specs.declared.label.TheConstants.{SLOTS};
 ghost use Rattle.mf_plan.specs.Outline.{item_of};
-ghost use Rattle.mf_policy.specs.Operations.{movement_of};
+ghost use Rattle.mf_policy.specs.Operations.{row_of};
 ghost use Rattle.mf_flow.specs.Movement as spec;
 ghost use Rattle.mf_flow.specs.Rows as rows;
 
@@ -113,7 +113,7 @@ fn move_between(
     object: u32,
 ) -> Result<(), AllocError>
     requires { slot < SLOTS }
-    ensures { OnOk result (sets.new ≡ rows.rows_between slot objects.now sets.old (movement_of op) subject object) }
+    ensures { OnOk result (sets.new ≡ rows.rows_between slot objects.now sets.old (row_of op).movement subject object) }
 {
     match row_of(op).movement {
         Movement::Still => Ok(()),

@@ -4,6 +4,7 @@ ghost use Rattle.std.specs.Ordering.{nat_cmp};
 ghost use Rattle.std.specs.Cmp.Lexicographic.{slice_cmp};
 ghost use Rattle.mf_labeltext.specs.Canonical.{rising};
 ghost use Rattle.mf_flow.specs.Order as spec;
+ghost use Rattle.mf_flow.specs.Numbers.{with_number};
 
 use mf_elem::{Comps, Elem, LAST_COMPARTMENT};
 use std::cmp::Ordering;
@@ -58,7 +59,7 @@ fn with_number(
     some: bool,
     others_some: bool,
 ) -> Ordering
-    ensures { result ≡ spec.with_number order has others_have some others_some }
+    ensures { result ≡ with_number order has others_have some others_some }
 {
     match (has, others_have) {
         (true, false) if others_some => Ordering::Less,

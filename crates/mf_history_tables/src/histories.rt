@@ -3,6 +3,7 @@
 use mf_calls::Script;
 use mf_core::{Event, EventList, History, KeptReply};
 use mf_cred::{ArrayVec, FileView};
+use mf_elem::{Elem, LabelValue, RangeLabel};
 use mf_errno::{Errno, Module};
 use mf_hist::{
     HistError, legal_histories_are_readable, print_event, print_history, print_reply, read_history,
@@ -11,7 +12,7 @@ use mf_hist::{
 use mf_item::CheckOp;
 use mf_names::{Listing, NameList, SCRIPT_LIMIT};
 use mf_objects::Head;
-use mf_plan::{Loaded, Payload, Reply};
+use mf_plan::{LabelPart, Loaded, Payload, Reply};
 use mf_policy::Registration;
 use mf_rule::{RuleList, read_rule};
 use mf_script::read_script;
@@ -113,6 +114,28 @@ fn loaded(rt: &impl Abort, alloc: Global) -> Result<(), AllocError> {
     are_printed(rt, alloc, &rows)
 }
 
+/// What calls of labels hand back.
+fn shown(rt: &impl Abort, alloc: Global) -> Result<(), AllocError> {
+    let parts = [
+        LabelPart {
+            module: Module::Mls,
+            value: LabelValue::Range(RangeLabel::ranged(Elem::Low, Elem::Low, Elem::High)),
+        },
+        LabelPart {
+            module: Module::Partition,
+            value: LabelValue::Number(0),
+        },
+    ];
+    let rows = [
+        (
+            Reply::Ok(Payload::label(alloc, &parts)?),
+            "ok label mls/low(low-high),partition/none",
+        ),
+        (Reply::Ok(Payload::label(alloc, &[])?), "ok label -"),
+    ];
+    are_printed(rt, alloc, &rows)
+}
+
 /// What calls of rules hand back.
 fn listed_and_added(rt: &impl Abort, alloc: Global) -> Result<(), AllocError> {
     let (two, none) = (two_rules(alloc)?, RuleList::new(alloc)?);
@@ -152,6 +175,7 @@ fn denied(rt: &impl Abort, alloc: Global) -> Result<(), AllocError> {
 #[test]
 fn replies_and_their_texts(rt: HostRuntime) -> Result<(), AllocError> {
     read_and_listed(&rt, rt.alloc())?;
+    shown(&rt, rt.alloc())?;
     loaded(&rt, rt.alloc())?;
     listed_and_added(&rt, rt.alloc())?;
     denied(&rt, rt.alloc())
@@ -218,6 +242,10 @@ const LINES: &[&str] = &[
     "done t 1 ok names 2 b,a",
     "done t 1 ok names 2 a,a",
     "done t 1 ok names 1 -",
+    "done t 1 ok label -",
+    "done t 1 ok label biba/10:2+3+6(5:2+3-20:2+3+4+5+6),mls/low,partition/none",
+    "done t 1 ok label biba/65535,mls/equal,partition/2147483647",
+    "done t 1 ok label mls/(low-high)",
     "done t 1 ok modules -",
     "done t 1 ok modules mac_biba:0,mac_partition:1",
     "done t 1 ok modules mac_bsdextended:-",
@@ -262,6 +290,16 @@ const NO_LINES: &[&str] = &[
     "done t 1 ok stat reg uid 0 gid 0 mode 00 size 0",
     "done t 1 ok stat reg uid 0 gid 0 mode 200000 size 0",
     "done t 1 ok slot 256",
+    "done t 1 ok label",
+    "done t 1 ok label biba/05",
+    "done t 1 ok label biba/5,biba/5",
+    "done t 1 ok label biba/5:3+2",
+    "done t 1 ok label biba/",
+    "done t 1 ok label mls/5,biba/5",
+    "done t 1 ok label mls/5 ",
+    "done t 1 ok label partition/0",
+    "done t 1 ok label partition/2147483648",
+    "done t 1 ok label foo/1",
     "done t 1 ok modules mac_foo:0",
     "done t 1 ok modules mac_biba:0,mac_biba:0,mac_biba:0,mac_biba:0,mac_biba:0,mac_biba:0,mac_biba:0,mac_biba:0,mac_biba:0",
     "done t 1 ok rules",

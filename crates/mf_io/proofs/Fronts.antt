@@ -2,7 +2,7 @@
 use Rattle.std.proofs.Common.{◌≡◌, ℕ, ◌+◌, ◌-◌, ◌≤◌, List, [], ◌∷◌, ◌++◌, length, take, drop, min, Some, refl, sym, ◌∙◌, ap, subst, arith, length-take, length-drop}
 use Rattle.std.proofs.lemmas.List.{take-append-drop, drop-drop}
 use Rattle.std.proofs.Math.Seq.{take-append_seam, take-length}
-use Rattle.mf_io.specs.Outside.{Gave}
+use Rattle.mf_io.specs.Causes.{Gave}
 
 none_long : (left : List ℕ) → length left ≡ 0 → left ≡ []
 none_long [] e = refl

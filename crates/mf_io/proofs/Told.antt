@@ -1,8 +1,8 @@
 -- What a sink tells after a piece.
 use Rattle.std.proofs.Common.{◌≡◌, ℕ, ◌+◌, ◌≤◌, ◌<◌, Bool, true, false, List, ◌++◌, length, Option, Some, None, if◌then◌else◌, sym, ◌∙◌, ap, arith, length-append}
 use Rattle.std.proofs.lemmas.Bool.Decides.{nat_tests}
-use Rattle.mf_io.specs.Held.{SureStore}
-use Rattle.mf_io.specs.Sure.{told_within, told_after, stored}
+use Rattle.mf_io.specs.Sure.{SureStore}
+use Rattle.mf_io.specs.SureCalls.{told_within, told_after, stored}
 
 abbrev pub told : Bool → List ℕ → Option (List ℕ)
 told tells bytes = if tells then Some bytes else None

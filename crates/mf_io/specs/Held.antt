@@ -1,5 +1,5 @@
 -- What a source and a sink over memory hold: this model's own.
-use Rattle.std.specs.Prelude.{ℕ, List, Option}
+use Rattle.std.specs.Prelude.{ℕ, List}
 use Rattle.mf_io.specs.declared.calls.Calls.{Calls}
 
 -- what a source has left
@@ -12,8 +12,3 @@ pub record Store : Type 0 where
   pub taken : List ℕ
   pub room : ℕ
   pub calls : Calls
-
--- what a sink that never fails has taken, as long as that is known, and how many bytes are known at most
-pub record SureStore : Type 0 where
-  pub taken : Option (List ℕ)
-  pub room : ℕ

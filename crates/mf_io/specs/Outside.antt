@@ -1,6 +1,5 @@
 -- What a source has left, what a sink has taken, and how often each has failed: this model's own view of read(2) and write(2).
-use Rattle.std.specs.Prelude.{◌≡◌, ◌⊎◌, ℕ, ◌<◌, ◌≤◌, List, [], ◌++◌, take, Option, Some, None, IfSome, IsSomeAnd, ◌↔◌, Result, OnOk, OnErr}
-use Rattle.mf_io.specs.declared.source.Failed.{Failed}
+use Rattle.std.specs.Prelude.{◌≡◌, ◌⊎◌, ℕ, ◌<◌, List, ◌++◌, take, Option, Some, None}
 
 -- the greatest value of a count of 64 bits
 abbrev pub last_count : ℕ
@@ -26,18 +25,6 @@ FaultsRose s = HasRisen s.faults_before s.faults_after
 -- the count of faults stands where it stood: no call failed, unless the count is at its greatest value
 abbrev pub HadNoFault : Seen → Type 0
 HadNoFault s = s.faults_after ≡ s.faults_before
-
--- A count of faults that doesn't fall, stays where the call didn't fail, and has risen where it failed.
-pub record HasCause {T : Type 0} (before now : ℕ) (result : Result T Failed) : Type 0 where
-  pub later : before ≤ now
-  pub stays : OnOk result (now ≡ before)
-  pub failed : OnErr result (HasRisen before now)
-
--- Where the source's bytes are known: n of them went to the front of the buffer, and none only at the end.
-pub record Gave (before : Option (List ℕ)) (now : Option (List ℕ)) (room n : ℕ) (buffer : List ℕ) : Type 0 where
-  pub fits : n ≤ room
-  pub bytes : IfSome before (λ all. IsSomeAnd now (λ rest. all ≡ take n buffer ++ rest))
-  pub last : IfSome before (λ all. 0 < room → (n ≡ 0) ↔ (all ≡ []))
 
 -- Where the sink's bytes are known before and now: the piece came behind them. Bytes that aren't known stay unknown.
 abbrev pub Took : Option (List ℕ) → Option (List ℕ) → List ℕ → Type 0

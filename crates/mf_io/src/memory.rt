@@ -56,7 +56,7 @@ impl MemSource {
 
 impl Source for MemSource {
     ghost use Rattle.std.specs.Prelude.{Some};
-    ghost use Rattle.mf_io.specs.Outside.{Gave, HasCause};
+    ghost use Rattle.mf_io.specs.Causes.{Gave, HasCause};
 
     ghost left = { λ s. Some s.left };
 
@@ -123,7 +123,8 @@ impl MemSink {
 
 impl Sink for MemSink {
     ghost use Rattle.std.specs.Prelude.{Some};
-    ghost use Rattle.mf_io.specs.Outside.{HasCause, Took};
+    ghost use Rattle.mf_io.specs.Causes.{HasCause};
+    ghost use Rattle.mf_io.specs.Outside.{Took};
 
     ghost taken = { λ s. Some s.taken };
 

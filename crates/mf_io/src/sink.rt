@@ -1,6 +1,7 @@
 //! Where bytes go.
 ghost use Rattle.std.specs.Prelude.{◌≡◌, ◌<◌, ◌≤◌, List, [], ℕ, Option, length, take, IfOk, OnErr};
-ghost use Rattle.mf_io.specs.Outside.{HasCause, Took};
+ghost use Rattle.mf_io.specs.Outside.{Took};
+ghost use Rattle.mf_io.specs.Causes.{HasCause};
 
 use crate::source::Failed;
 

@@ -1,6 +1,6 @@
 //! Where bytes come from.
 ghost use Rattle.std.specs.Prelude.{◌≡◌, ◌≤◌, List, ℕ, Option, length, IfOk};
-ghost use Rattle.mf_io.specs.Outside.{HasCause, Gave};
+ghost use Rattle.mf_io.specs.Causes.{HasCause, Gave};
 
 /// A call of a source or a sink that failed.
 #[derive(Clone, Copy, Debug, PartialEq, Eq)]

@@ -1,6 +1,7 @@
 //! The trusted edge: a source over a reader and a sink over a writer. Proofs know nothing of their bytes.
 ghost use Rattle.std.specs.Prelude.{◌≡◌, ◌<◌, ◌≤◌, [], ℕ, None, length, take, IfOk, OnErr};
-ghost use Rattle.mf_io.specs.Outside.{Gave, HasCause, Took};
+ghost use Rattle.mf_io.specs.Outside.{Took};
+ghost use Rattle.mf_io.specs.Causes.{Gave, HasCause};
 ghost use Rattle.mf_io.specs.Calls.{counted};
 
 use crate::sink::Sink;

@@ -1,6 +1,6 @@
 //! A source and a sink over memory that never fail.
 ghost use Rattle.std.specs.Prelude.{◌≡◌, ◌≤◌, ◌++◌, ◌+◌, [], length, take, drop, min, Some, Ok, IfOk};
-ghost use Rattle.mf_io.specs.Sure.{SureSupplies, stored};
+ghost use Rattle.mf_io.specs.SureCalls.{SureSupplies, stored};
 
 use crate::memory::copy_front;
 use crate::sink::Sink;
@@ -36,7 +36,7 @@ impl SureSource {
 
 impl Source for SureSource {
     ghost use Rattle.std.specs.Prelude.{Some};
-    ghost use Rattle.mf_io.specs.Outside.{Gave, HasCause};
+    ghost use Rattle.mf_io.specs.Causes.{Gave, HasCause};
 
     ghost left = { λ s. Some s };
 
@@ -65,7 +65,7 @@ pub struct SureSink {
 
 impl Model for SureSink {
     ghost use Rattle.std.specs.Prelude.{◌≤◌, Some, None, vec_len, vec_capacity, if◌then◌else◌};
-    ghost use Rattle.mf_io.specs.Held.{SureStore};
+    ghost use Rattle.mf_io.specs.Sure.{SureStore};
 
     ghost Value = { SureStore };
 
@@ -89,7 +89,8 @@ impl SureSink {
 }
 
 impl Sink for SureSink {
-    ghost use Rattle.mf_io.specs.Outside.{HasCause, Took};
+    ghost use Rattle.mf_io.specs.Causes.{HasCause};
+    ghost use Rattle.mf_io.specs.Outside.{Took};
 
     ghost taken = { λ s. s.taken };
 

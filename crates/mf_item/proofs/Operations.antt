@@ -3,7 +3,8 @@ use Rattle.std.proofs.Common.{◌≡◌, ◌≢◌, ℕ, false, List, [], ◌∷
 use Rattle.std.specs.Prelude.{find}
 use Rattle.std.specs.Str.{bytes_eq}
 use Rattle.mf_errno.proofs.Modules.{differs}
-use Rattle.mf_item.specs.Operation.{operation_text, operation_named, all_operations}
+use Rattle.mf_item.specs.Operation.{operation_text}
+use Rattle.mf_item.specs.Named.{operation_named, all_operations}
 use Rattle.mf_item.specs.declared.operation.CheckOp.{CheckOp}
 use Rattle.mf_item.specs.declared.operation.CheckOp.TheVariants as op
 

@@ -1,6 +1,5 @@
 -- The names of the operations, after the policies' entry points in sys/security/mac/mac_policy.h.
-use Rattle.std.specs.Prelude.{ℕ, List, [], ◌∷◌, Option, find, codes}
-use Rattle.std.specs.Str.{bytes_eq}
+use Rattle.std.specs.Prelude.{ℕ, List, codes}
 use Rattle.mf_item.specs.declared.operation.CheckOp.{CheckOp}
 use Rattle.mf_item.specs.declared.operation.CheckOp.TheVariants as op
 
@@ -36,12 +35,3 @@ operation_text op.ProcSched = codes "proc_sched"
 operation_text op.KldLoad = codes "kld_load"
 operation_text op.KldUnload = codes "kld_unload"
 operation_text op.Priv = codes "priv"
-
--- all of them
-abbrev pub all_operations : List CheckOp
-all_operations =
-    op.VnodeLookup ∷ op.VnodeOpenRead ∷ op.VnodeOpenWrite ∷ op.VnodeRead ∷ op.VnodeWrite ∷ op.VnodeExec ∷ op.VnodeStat ∷ op.VnodeReaddir ∷ op.VnodeCreate ∷ op.VnodeUnlinkDir ∷ op.VnodeUnlink ∷ op.VnodeSetmode ∷ op.VnodeRelabel ∷ op.PipeRead ∷ op.PipeWrite ∷ op.PipeStat ∷ op.PipeRelabel ∷ op.SocketSend ∷ op.SocketDeliver ∷ op.SocketReceive ∷ op.SocketVisible ∷ op.SocketRelabel ∷ op.CredRelabel ∷ op.ProcVisible ∷ op.ProcSignal ∷ op.ProcDebug ∷ op.ProcSched ∷ op.KldLoad ∷ op.KldUnload ∷ op.Priv ∷ []
-
--- the operation of that name
-unfoldable pub operation_named : List ℕ → Option CheckOp
-operation_named name = find (λ o. bytes_eq (operation_text o) name) all_operations

@@ -1,6 +1,7 @@
 //! The operations that policies are asked about.
 ghost use Rattle.std.specs.Prelude.{◌≡◌};
-ghost use Rattle.mf_item.specs.Operation.{operation_named, operation_text};
+ghost use Rattle.mf_item.specs.Operation.{operation_text};
+ghost use Rattle.mf_item.specs.Named.{operation_named};
 
 use std::fmt;
 
@@ -81,7 +82,7 @@ impl CheckOp {
     }
 
     /// The operation of that name, as `name` writes it. None for every other text.
-    #[tactic(auto, unfolding(crate::specs::Operation::operation_named))]
+    #[tactic(auto, unfolding(crate::specs::Named::operation_named))]
     pub fn from_name(name: &str) -> Option<CheckOp>
         ensures { result ≡ operation_named name.now }
     {

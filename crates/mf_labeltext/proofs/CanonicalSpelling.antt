@@ -8,7 +8,7 @@ use Rattle.std.specs.FinSet as set
 use Rattle.mf_errno.specs.declared.module.Module.{Module}
 use Rattle.mf_errno.specs.declared.module.Module.TheVariants.{Biba, Mls, Partition, Bsdextended, Priority}
 use Rattle.mf_elem.specs.Comps.{comps_of}
-use Rattle.mf_elem.specs.Label.{IsElement, IsAskedLabel}
+use Rattle.mf_elem.specs.Bounds.{IsElement, IsAskedLabel}
 use Rattle.mf_elem.specs.declared.comps.Comps.{Comps}
 use Rattle.mf_elem.specs.declared.elem.Elem.{Elem}
 use Rattle.mf_elem.specs.declared.elem.Elem.TheVariants.{Low, High, Equal, Grade}

@@ -3,8 +3,9 @@ use Rattle.std.proofs.Common.{◌≡◌, ℕ, ◌+◌, ◌*◌, ◌^◌, ◌<◌
 use Rattle.std.specs.FinSet as set
 use Rattle.std.specs.FinSet.{FinSet}
 use Rattle.std.specs.Ordering.{nat_cmp}
-use Rattle.mf_elem.specs.Comps.{AreWords, words_of, comps_of}
-use Rattle.mf_elem.specs.Label.{no_request, IsElement, IsAskedLabel, IsRequest}
+use Rattle.mf_elem.specs.Comps.{words_of, comps_of}
+use Rattle.mf_elem.specs.Bounds.{AreWords, IsElement, IsAskedLabel, IsRequest}
+use Rattle.mf_elem.specs.Label.{no_request}
 use Rattle.mf_elem.specs.declared.comps.Comps.{Comps}
 use Rattle.mf_elem.specs.declared.elem.Elem.{Elem}
 use Rattle.mf_elem.specs.declared.elem.Elem.TheVariants.{Low, High, Equal, Grade}

@@ -5,7 +5,8 @@ use Rattle.std.proofs.lemmas.Bool.{ne_eqb}
 use Rattle.std.proofs.lemmas.List.Elements.{filter-append}
 use Rattle.std.specs.List.{join_with_byte}
 use Rattle.std.specs.Fmt.{decimal}
-use Rattle.mf_labeltext.specs.Canonical.{numbers_to, rising, comps_text, comma_behind}
+use Rattle.mf_labeltext.specs.Canonical.{numbers_to, rising, comps_text}
+use Rattle.mf_labeltext.specs.Commas.{comma_behind}
 use Rattle.std.specs.FinSet as set
 use Rattle.mf_elem.specs.Comps.{compartments_of}
 use Rattle.mf_elem.specs.declared.comps.Comps.{Comps}

@@ -6,7 +6,8 @@ use Rattle.std.specs.List.{list_any, AllByRecursion}
 use Rattle.std.specs.Ordering.{nat_cmp}
 use Rattle.std.specs.FinSet as set
 use Rattle.std.specs.FinSet.{FinSet, contains-from_list_nat}
-use Rattle.mf_elem.specs.Comps.{number_with, word_of, words_of, compartments_of, comps_of, AreWords}
+use Rattle.mf_elem.specs.Comps.{number_with, word_of, words_of, compartments_of, comps_of}
+use Rattle.mf_elem.specs.Bounds.{AreWords}
 use Rattle.mf_elem.specs.declared.comps.Comps.{Comps}
 use Rattle.mf_elem.proofs.CompsLaws.{comps_again}
 use Rattle.mf_labeltext.specs.Canonical.{numbers_to, rising}

@@ -3,7 +3,7 @@ use Rattle.std.specs.Prelude.{ℕ, List, [], ◌∷◌, ◌++◌, Option, Some, 
 use Rattle.std.specs.List.{join_with_byte}
 use Rattle.std.specs.Fmt.{decimal}
 use Rattle.std.specs.FinSet as set
-use Rattle.mf_errno.specs.Module.{same_module}
+use Rattle.mf_errno.specs.Same.{same_module}
 use Rattle.mf_errno.specs.declared.module.Module.{Module}
 use Rattle.mf_errno.specs.declared.module.Module.TheVariants.{Biba, Mls, Partition, Bsdextended, Priority}
 use Rattle.mf_elem.specs.Comps.{compartments_of}
@@ -79,10 +79,6 @@ in_order parts = parts_of Biba parts ++ parts_of Mls parts ++ parts_of Partition
 abbrev pub elements_text : List (List ℕ) → List ℕ
 elements_text [] = codes "-"
 elements_text (element ∷ elements) = join_with_byte comma (element ∷ elements)
-
--- what stands in front of an element behind so many others
-abbrev pub comma_behind : ℕ → List ℕ
-comma_behind elements = if elements == 0 then [] else comma ∷ []
 
 -- the canonical text of the parts of a label
 unfoldable pub canonical_label : List (Module × LabelValue) → List ℕ

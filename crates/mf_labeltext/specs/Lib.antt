@@ -1,5 +1,6 @@
 pub mod Bytes
 pub mod Canonical
+pub mod Commas
 pub mod FirstFault
 pub mod LabelGrammar
 pub mod Reading

@@ -1,5 +1,5 @@
 -- Reading a label text of maclabel(7) from left to right: what it asks for, or its first fault. The faults and their order are this model's own.
-use Rattle.std.specs.Prelude.{ℕ, ◌+◌, List, [], ◌∷◌, length, Option, Some, None, Result, Ok, Err, Bool, true, false, nat_le, ◌==◌, ◌&&◌, ◌||◌, if◌then◌else◌, codes}
+use Rattle.std.specs.Prelude.{ℕ, ◌+◌, List, [], ◌∷◌, length, Option, Some, None, Result, Ok, Err, Bool, true, false, nat_le, ◌==◌, ◌&&◌, ◌||◌, if◌then◌else◌, codes, option_map, option_and_then}
 use Rattle.std.specs.List.{slice_split, list_all}
 use Rattle.std.specs.Option.{ok_or}
 use Rattle.std.specs.Result.{result_ok}
@@ -29,8 +29,7 @@ None >>= f = None
 
 -- the halves of a text with one byte more in front
 abbrev pub with_first : ℕ → Option (List ℕ × List ℕ) → Option (List ℕ × List ℕ)
-with_first c None = None
-with_first c (Some halves) = Some (c ∷ halves.0, halves.1)
+with_first c halves = option_map (λ halves. (c ∷ halves.0, halves.1)) halves
 
 -- the text in front of the first such byte, and the text behind it
 unfoldable pub cut : ℕ → List ℕ → Option (List ℕ × List ℕ)
@@ -75,8 +74,7 @@ elem_in text =
 
 -- the text in front of a last ")", which is the only one
 abbrev pub without_close : Option (List ℕ × List ℕ) → Option (List ℕ)
-without_close None = None
-without_close (Some halves) = if length halves.1 == 0 then Some halves.0 else None
+without_close halves = option_and_then (λ halves. if length halves.1 == 0 then Some halves.0 else None) halves
 
 -- a range behind its "("
 unfoldable pub range_in : List ℕ → Option (Elem × Elem)

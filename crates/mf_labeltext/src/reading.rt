@@ -1,7 +1,7 @@
 //! Reading what a label text asks for.
 ghost use Rattle.std.specs.Prelude.{◌≡◌, ◌↔◌, ◌+◌, ◌^◌, ◌<◌, length, Ok, Err, IfOk};
 ghost use Rattle.std.specs.List.{list_all};
-ghost use Rattle.mf_elem.specs.Label.{IsRequest};
+ghost use Rattle.mf_elem.specs.Bounds.{IsRequest};
 ghost use Rattle.mf_elem.specs.declared.label.Request.{Request};
 ghost use Rattle.mf_labeltext.specs.LabelGrammar.{Spells};
 ghost use Rattle.mf_labeltext.specs.Reading.{is_name_byte, is_name, with_part, element_in, request_in};

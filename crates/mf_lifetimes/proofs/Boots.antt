@@ -1,10 +1,11 @@
 -- Which policy holds a label slot at the end of boot.
-use Rattle.std.proofs.Common.{◌≡◌, ℕ, ◌<◌, zero, suc, Bool, true, false, List, [], ◌∷◌, Some, length, get_or, refl, ap, sym, ◌∙◌, subst, arith, ◌⊎◌, inl, inr}
+use Rattle.std.specs.Option.{option_eq}
+use Rattle.std.proofs.Common.{◌≡◌, ℕ, ◌<◌, zero, suc, Bool, true, false, List, [], ◌∷◌, Some, length, get_or, refl, ap, sym, ◌∙◌, subst, arith, ◌⊎◌, inl, inr, nat_eq}
 use Rattle.std.specs.Prelude.{Contains, fold}
 use Rattle.mf_errno.specs.declared.module.Module.{Module}
 use Rattle.mf_policy.specs.declared.registration.Registration.{Registration}
 use Rattle.mf_policy.specs.Modules.{wants_slot}
-use Rattle.mf_policy.specs.Registration.{Entry, is_slot, given_after, slot_for, registration_of, with_newest, with_registered}
+use Rattle.mf_policy.specs.Registration.{Entry, given_after, slot_for, registration_of, with_newest, with_registered}
 use Rattle.mf_calls.specs.declared.script.Script.{Script}
 use Rattle.mf_core.specs.Opening.{registrations_from, boots_of, given_by, booted_specs}
 use Rattle.mf_lifetimes.proofs.Listing.{IsLasting, lasting_or_not, fixed_lasting, IsPinned, IsPassing, NoneLasting, AllBelow, newest, all_newest, pinned_newest, pinned_own, own_slot, lasting_wants, below_newest, AtMostOne, single_newest}
@@ -22,12 +23,12 @@ pinned_after slot r (m ∷ ms) specs given pinned =
 standing_newest : (slot : ℕ) (specs : List Entry) (given : ℕ) (m : Module) → AllBelow given specs → Standing slot specs given
     → Standing slot (with_newest (newest m false given) specs) (given_after given m)
 standing_newest slot specs given m below (inl pinned) = inl (pinned.0, pinned_newest slot pinned.0 specs given m false pinned.1)
-standing_newest slot specs given m below (inr passing) = one (lasting_or_not m) (is_slot slot (slot_for (wants_slot m) given)) refl
+standing_newest slot specs given m below (inr passing) = one (lasting_or_not m) (option_eq nat_eq (slot_for (wants_slot m) given) (Some slot)) refl
   where
     specs' : List Entry
     specs' = with_newest (newest m false given) specs
 
-    one : IsLasting m ⊎ (IsLasting m → ⊥) → (own : Bool) → is_slot slot (slot_for (wants_slot m) given) ≡ own → Standing slot specs' (given_after given m)
+    one : IsLasting m ⊎ (IsLasting m → ⊥) → (own : Bool) → option_eq nat_eq (slot_for (wants_slot m) given) (Some slot) ≡ own → Standing slot specs' (given_after given m)
     one (inl lasting) true own =
         inl (registration_of m false given, subst (λ (n : ℕ). IsPinned n (registration_of m false given) specs' (given_after given m)) (own_slot slot given m lasting own) (pinned_own given specs m false lasting below))
     one (inl lasting) false other = inr (all_newest (IsPassing slot) (newest m false given) specs (λ holds. cc) passing)

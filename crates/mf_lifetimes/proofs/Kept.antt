@@ -1,5 +1,6 @@
 -- What every step keeps: who holds a label slot, and that the slot of each live entity holds a valid label where its policy stays.
-use Rattle.std.proofs.Common.{◌≡◌, ℕ, ◌<◌, zero, suc, true, if◌then◌else◌, List, [], ◌∷◌, map, Option, Some, None, refl, ap, sym, ◌∙◌, subst, arith, ◌⊎◌, inl, inr, slice_index_or}
+use Rattle.std.specs.Option.{option_eq}
+use Rattle.std.proofs.Common.{◌≡◌, ℕ, ◌<◌, zero, suc, true, if◌then◌else◌, List, [], ◌∷◌, map, Option, Some, None, refl, ap, sym, ◌∙◌, subst, arith, ◌⊎◌, inl, inr, slice_index_or, nat_eq}
 use Rattle.std.specs.Prelude.{find}
 use Rattle.mf_errno.specs.declared.module.Module.{Module}
 use Rattle.mf_errno.specs.declared.module.Module.TheVariants.{Biba, Mls, Partition, Bsdextended, Priority}
@@ -13,7 +14,7 @@ use Rattle.mf_policy.specs.declared.registration.Registration.{Registration}
 use Rattle.mf_policy.specs.declared.labels.Origin.TheVariants.{Boot, Maker}
 use Rattle.mf_policy.specs.NewLabels.{new_label, new_value, value_of}
 use Rattle.mf_policy.specs.Modules.{facts_of, boot_value, inherited, labels_kind, may_ask}
-use Rattle.mf_policy.specs.Registration.{Entry, holds_slot, is_slot}
+use Rattle.mf_policy.specs.Registration.{Entry, holds_slot}
 use Rattle.mf_objects.specs.declared.id.Id.{Id}
 use Rattle.mf_objects.specs.Live.{LiveEntity, Entities, kind_of, live_at}
 use Rattle.mf_objects.specs.Population.{IsRising}
@@ -170,7 +171,7 @@ keeps_passing slot s s' (unloaded m ok is) booted none =
     subst (λ (x : State). NoneLasting slot x.specs) (sym is) (all_without (IsPassing slot) m s.specs none)
 keeps_passing slot s s' (set_to m change is) booted none =
     subst (λ (x : State). NoneLasting slot x.specs) (sym is)
-    (all_changed (λ r. is_slot slot r.slot ≡ true → IsLasting r.module → ⊥) m change s.specs none)
+    (all_changed (λ r. option_eq nat_eq r.slot (Some slot) ≡ true → IsLasting r.module → ⊥) m change s.specs none)
 
 keeps_booted : {by : Option Id} (s s' : State) → StateChange by s s' → s.booted ≡ true → s'.booted ≡ true
 keeps_booted s s' (same is) booted = ap (λ (x : State). x.booted) is ∙ booted

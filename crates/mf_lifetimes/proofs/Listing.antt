@@ -1,9 +1,10 @@
 -- Which listed policy holds a label slot, as policies come and go.
+use Rattle.std.specs.Option.{option_eq}
 use Rattle.std.proofs.Common.{◌≡◌, ℕ, ◌<◌, ◌≤◌, ◌+◌, Bool, true, false, not, cond, ◌&&◌, nat_eq, List, [], ◌∷◌, map, Option, Some, None, refl, ap, sym, ◌∙◌, subst, arith, ◌⊎◌, inl, inr, eq-eqb}
 use Rattle.std.specs.Prelude.{find, filter, if◌then◌else◌}
 use Rattle.std.specs.List.{AllByRecursion}
 use Rattle.std.proofs.lemmas.Bool.Decides.{nat_tests}
-use Rattle.mf_errno.specs.Module.{same_module}
+use Rattle.mf_errno.specs.Same.{same_module}
 use Rattle.mf_errno.specs.declared.module.Module.{Module}
 use Rattle.mf_errno.specs.declared.module.Module.TheVariants.{Biba, Mls, Partition, Bsdextended, Priority}
 use Rattle.mf_item.specs.declared.view.Kind.{Kind}
@@ -11,10 +12,9 @@ use Rattle.mf_policy.specs.declared.registration.Registration.{Registration}
 use Rattle.mf_policy.specs.declared.spec.Spec.{Spec}
 use Rattle.mf_policy.specs.declared.loading.LoadFault.{LoadFault}
 use Rattle.mf_policy.specs.declared.loading.LoadFault.TheVariants.{NotLate}
-use Rattle.mf_policy.specs.LoadFlags.{is_notlate, is_unloadok}
 use Rattle.mf_policy.specs.Loading.{load_fault}
-use Rattle.mf_policy.specs.Modules.{flags_of, fresh_of, wants_slot, labels_kind}
-use Rattle.mf_policy.specs.Registration.{Entry, is_of, is_slot, holds_slot, given_after, slot_for, registration_of, with_newest, entries_without}
+use Rattle.mf_policy.specs.Modules.{facts_of, fresh_of, wants_slot, labels_kind}
+use Rattle.mf_policy.specs.Registration.{Entry, is_of, holds_slot, given_after, slot_for, registration_of, with_newest, entries_without}
 use Rattle.mf_errno.proofs.Modules.{same_module-is}
 use Rattle.mf_plan.specs.declared.state.State.{State}
 use Rattle.mf_lifetimes.specs.Marks.{labels, labellers}
@@ -116,14 +116,14 @@ lasting_labels Partition kind lasting = absurd lasting
 lasting_labels Bsdextended kind lasting = absurd lasting
 lasting_labels Priority kind lasting = absurd lasting
 
-lasting_pinned : (m : Module) → IsLasting m → is_unloadok (flags_of m) ≡ false
+lasting_pinned : (m : Module) → IsLasting m → (facts_of m).unload_ok ≡ false
 lasting_pinned Biba lasting = refl
 lasting_pinned Mls lasting = refl
 lasting_pinned Partition lasting = absurd lasting
 lasting_pinned Bsdextended lasting = absurd lasting
 lasting_pinned Priority lasting = absurd lasting
 
-lasting_early : (m : Module) → IsLasting m → is_notlate (flags_of m) ≡ true
+lasting_early : (m : Module) → IsLasting m → (facts_of m).not_late ≡ true
 lasting_early Biba lasting = refl
 lasting_early Mls lasting = refl
 lasting_early Partition lasting = absurd lasting
@@ -131,7 +131,7 @@ lasting_early Bsdextended lasting = absurd lasting
 lasting_early Priority lasting = absurd lasting
 
 -- a registration before the end of boot that is fixed is of such a module
-pub fixed_lasting : (m : Module) → (not false && not (is_unloadok (flags_of m))) ≡ true → IsLasting m
+pub fixed_lasting : (m : Module) → (not false && not ((facts_of m).unload_ok)) ≡ true → IsLasting m
 fixed_lasting Biba fixed = tt
 fixed_lasting Mls fixed = tt
 fixed_lasting Partition fixed = cc
@@ -139,13 +139,13 @@ fixed_lasting Bsdextended fixed = cc
 fixed_lasting Priority fixed = cc
 
 -- what may be unloaded is another module than one that stays
-other_module : (m n : Module) → is_unloadok (flags_of m) ≡ true → IsLasting n → same_module m n ≡ false
+other_module : (m n : Module) → (facts_of m).unload_ok ≡ true → IsLasting n → same_module m n ≡ false
 other_module m n ok lasting = one (same_module m n) refl
   where
     one : (b : Bool) → same_module m n ≡ b → b ≡ false
     one true same =
         let is : m ≡ n = same_module-is m n same in
-        let pinned : is_unloadok (flags_of m) ≡ false = ap (λ (k : Module). is_unloadok (flags_of k)) is ∙ lasting_pinned n lasting in
+        let pinned : (facts_of m).unload_ok ≡ false = ap (λ (k : Module). (facts_of k).unload_ok) is ∙ lasting_pinned n lasting in
         cc
     one false same = refl
 
@@ -157,7 +157,7 @@ late false notlate rest ended early none = cc
 -- such a module isn't loaded after boot
 pub no_late : (s : State) (m : Module) → s.booted ≡ true → load_fault s.booted s.specs s.numbers m ≡ None → IsLasting m → ⊥
 no_late s m booted none lasting =
-    late s.booted (is_notlate (flags_of m)) _ booted (lasting_early m lasting) none
+    late s.booted ((facts_of m).not_late) _ booted (lasting_early m lasting) none
 
 -- The slot of such a policy
 
@@ -194,7 +194,7 @@ equal_numbers a b same = grind (arith, nat_tests)
 differ : (a b : ℕ) → b < a → nat_eq a b ≡ false
 differ a b l = grind (arith, nat_tests)
 
-new_slot : (slot given : ℕ) (wanted : Bool) → slot < given → is_slot slot (slot_for wanted given) ≡ false
+new_slot : (slot given : ℕ) (wanted : Bool) → slot < given → option_eq nat_eq (slot_for wanted given) (Some slot) ≡ false
 new_slot slot given true l = differ given slot l
 new_slot slot given false l = refl
 
@@ -213,7 +213,7 @@ pinned_newest slot r specs given m booted pinned =
       below = more_given slot given (wants_slot m) pinned.below;
     }
 
-pub pinned_without : (slot : ℕ) (r : Registration) (specs : List Entry) (given : ℕ) (m : Module) → is_unloadok (flags_of m) ≡ true → IsPinned slot r specs given
+pub pinned_without : (slot : ℕ) (r : Registration) (specs : List Entry) (given : ℕ) (m : Module) → (facts_of m).unload_ok ≡ true → IsPinned slot r specs given
     → IsPinned slot r (entries_without m specs) given
 pinned_without slot r specs given m ok pinned =
     record {
@@ -256,7 +256,7 @@ none_holds : (given : ℕ) (specs : List Entry) → AllBelow given specs → fin
 none_holds given [] all = refl
 none_holds given (e ∷ es) all = rw (one e.0.slot all.0) (none_holds given es all.1)
   where
-    one : (slot : Option ℕ) → IsBelow given slot → is_slot given slot ≡ false
+    one : (slot : Option ℕ) → IsBelow given slot → option_eq nat_eq slot (Some given) ≡ false
     one None below = refl
     one (Some slot) below = grind (arith, nat_tests)
 
@@ -308,7 +308,7 @@ one_without slot m (e ∷ es) single = one (is_of m e) (one_without slot m es si
     one false rest = (λ here. none_without slot m es (single.0 here), rest)
 
 -- the next number is that of no policy
-none_next : (slot given : ℕ) (wanted : Bool) (specs : List Entry) → AllBelow given specs → is_slot slot (slot_for wanted given) ≡ true → find (holds_slot slot) specs ≡ None
+none_next : (slot given : ℕ) (wanted : Bool) (specs : List Entry) → AllBelow given specs → option_eq nat_eq (slot_for wanted given) (Some slot) ≡ true → find (holds_slot slot) specs ≡ None
 none_next slot given true specs below own = subst (λ (n : ℕ). find (holds_slot n) specs ≡ None) (equal_numbers given slot own) (none_holds given specs below)
 none_next slot given false specs below own = cc
 
@@ -346,7 +346,7 @@ pub pinned_own : (given : ℕ) (specs : List Entry) (m : Module) (booted : Bool)
     → IsPinned given (registration_of m booted given) (with_newest (newest m booted given) specs) (given_after given m)
 pinned_own given specs m booted lasting all =
     let wants : wants_slot m ≡ true = lasting_wants m lasting in
-    let own : is_slot given (slot_for (wants_slot m) given) ≡ true = ap (λ (b : Bool). is_slot given (slot_for b given)) wants ∙ eq-eqb given given refl in
+    let own : option_eq nat_eq (slot_for (wants_slot m) given) (Some given) ≡ true = ap (λ (b : Bool). option_eq nat_eq (slot_for b given) (Some given)) wants ∙ eq-eqb given given refl in
     let more : given_after given m ≡ given + 1 = ap (λ (b : Bool). cond b (given + 1) given) wants in
     record {
       meaning = fresh_of m;
@@ -356,6 +356,6 @@ pinned_own given specs m booted lasting all =
       below = omega arith;
     }
 
-pub own_slot : (slot given : ℕ) (m : Module) → IsLasting m → is_slot slot (slot_for (wants_slot m) given) ≡ true → given ≡ slot
+pub own_slot : (slot given : ℕ) (m : Module) → IsLasting m → option_eq nat_eq (slot_for (wants_slot m) given) (Some slot) ≡ true → given ≡ slot
 own_slot slot given m lasting own =
-    equal_numbers given slot (sym (ap (λ (b : Bool). is_slot slot (slot_for b given)) (lasting_wants m lasting)) ∙ own)
+    equal_numbers given slot (sym (ap (λ (b : Bool). option_eq nat_eq (slot_for b given) (Some slot)) (lasting_wants m lasting)) ∙ own)

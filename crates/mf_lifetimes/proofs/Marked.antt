@@ -24,8 +24,9 @@ use Rattle.mf_core.specs.Opening.{opening_state, booted_specs, given_by}
 use Rattle.mf_core.specs.LegalHistory.{RunState, opening, next_line, state_at, after, run_state_after}
 use Rattle.mf_lifetimes.specs.Marks.{Mark, made_marks, ends, is_registered, value_in, is_first, added, marks_across, marks_at_opening, marks_after, marks_of}
 use Rattle.mf_lifetimes.specs.Marks.Mark.{Made, Ended, Left}
-use Rattle.mf_lifetimes.specs.Laws.{AreOnce, state_of, SlotsAreMadeOnce, AreMarksOf, SetSlotsAreMarked, GoneSlotsHaveEnded, holds_valid, LabelsAll, BootedPoliciesLast}
-use Rattle.mf_lifetimes.specs.Laws.AreOnce.{never, made as made_once, ended as ended_once, left as left_once}
+use Rattle.mf_lifetimes.specs.Laws.{state_of, SlotsAreMadeOnce, AreMarksOf, SetSlotsAreMarked, GoneSlotsHaveEnded, holds_valid, LabelsAll, BootedPoliciesLast}
+use Rattle.mf_lifetimes.specs.Once.{AreOnce}
+use Rattle.mf_lifetimes.specs.Once.AreOnce.{never, made as made_once, ended as ended_once, left as left_once}
 use Rattle.mf_step.proofs.StateChange.{StateChange, step_change}
 use Rattle.mf_step.proofs.StateChange.StateChange.{same}
 use Rattle.mf_step.proofs.EntityChange.{EntityChange, ChangesEntities, changes_entities}

@@ -19,22 +19,12 @@ use Rattle.mf_core.specs.declared.history.History.{History}
 use Rattle.mf_core.specs.Opening.{opening_state}
 use Rattle.mf_core.specs.LegalHistory.{run_state_of, IsLegal}
 use Rattle.mf_lifetimes.specs.Marks.{Mark, labellers, value_in, marks_of}
-use Rattle.mf_lifetimes.specs.Marks.Mark.{Made, Ended, Left}
-
--- The slot was never made; or it was made, and may have ended once, under one and the same registration.
-pub data AreOnce : List Mark → Type 0 where
-  never : AreOnce []
-  made : (r : Registration) → AreOnce (Made r ∷ [])
-  ended : (r : Registration) → AreOnce (Made r ∷ Ended r ∷ [])
-  left : (r : Registration) → AreOnce (Made r ∷ Left r ∷ [])
+use Rattle.mf_lifetimes.specs.Marks.Mark.{Made}
+use Rattle.mf_lifetimes.specs.Once.{AreMadeOnce}
 
 -- the state at the end of a history
 abbrev pub state_of : Script → History → State
 state_of s h = (run_state_of s h.events.list).state
-
--- In this history each label slot of each entity is made at most once and ended at most once.
-abbrev pub AreMadeOnce : Script → History → Type 0
-AreMadeOnce s h = (id : Id) (slot : ℕ) → slot < SLOTS → AreOnce (marks_of s h.events.list id slot)
 
 -- It is so in every legal history of a well-formed script.
 abbrev pub SlotsAreMadeOnce : Type 0

@@ -1,12 +1,13 @@
 -- How often a module is held, through registrations and changes.
 use Rattle.std.proofs.Common.{◌≡◌, ℕ, ◌+◌, ◌≤◌, Bool, true, false, cond, not, ◌&&◌, ◌||◌, List, [], ◌∷◌, ◌++◌, length, refl, ap, sym, subst, arith, suc, zero}
 use Rattle.std.specs.List.{list_any, remove}
-use Rattle.mf_errno.specs.Module.{same_module}
+use Rattle.mf_errno.specs.Same.{same_module}
 use Rattle.mf_errno.specs.declared.module.Module.{Module}
 use Rattle.mf_errno.specs.declared.module.Module.TheVariants.{Biba, Mls, Partition, Bsdextended, Priority}
 use Rattle.mf_policy.specs.declared.spec.Spec.{Spec}
 use Rattle.mf_policy.specs.Registration.{Entry, is_listed, is_of}
-use Rattle.mf_list.specs.Held.{how_many, are_distinct, IsListedOnce}
+use Rattle.mf_list.specs.Held.{how_many}
+use Rattle.mf_list.specs.Once.{are_distinct, IsListedOnce}
 use Rattle.mf_list.specs.Lists.{in_catalogue}
 use Rattle.mf_list.specs.Registration.{entries_without, modules_without, with_spec, with_newest}
 use Rattle.mf_errno.proofs.Modules.{same_module-is}

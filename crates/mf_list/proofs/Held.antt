@@ -1,6 +1,6 @@
 -- That list and catalogue together hold the same modules as before.
 use Rattle.std.proofs.Common.{◌≡◌, ℕ, List, Option, Some, None, Result, Ok, Err, IfOk, OnErr, find, refl, ap, ◌∙◌, arith}
-use Rattle.mf_errno.specs.Module.{same_module}
+use Rattle.mf_errno.specs.Same.{same_module}
 use Rattle.mf_errno.specs.declared.module.Module.{Module}
 use Rattle.mf_policy.specs.declared.registration.Registration.{Registration}
 use Rattle.mf_policy.specs.declared.settings.Change.{Change}
@@ -11,7 +11,8 @@ use Rattle.mf_policy.specs.Settings.{change_of}
 use Rattle.std.specs.declared.alloc.AllocError.{AllocError}
 use Rattle.mf_list.specs.declared.faults.RegisterFault.{RegisterFault}
 use Rattle.mf_list.specs.declared.faults.UnregisterFault.{UnregisterFault}
-use Rattle.mf_list.specs.Held.{how_many, times_held}
+use Rattle.mf_list.specs.Held.{how_many}
+use Rattle.mf_list.specs.Once.{times_held}
 use Rattle.mf_list.specs.Lists.{ListView, CatalogueView}
 use Rattle.mf_list.specs.Registration.{Enters, Registers, Unregisters, change_at, change_in}
 use Rattle.mf_list.proofs.Counts.{how_many-spec, how_many-newest, how_many-push, how_many-without_entry, how_many-without_module}

@@ -1,12 +1,12 @@
 -- The place of a module among others, and the list without it.
-use Rattle.std.proofs.Common.{MatchOption, ◌≡◌, ℕ, ◌+◌, ◌<◌, true, false, cond, not, ◌||◌, Option, Some, None, subst, get_or, set, List, [], ◌∷◌, find, length, refl, ap, sym, ◌∙◌, one-add, arith, suc}
-use Rattle.std.specs.List.{list_any, position, position_or_len, remove}
+use Rattle.std.proofs.Common.{MatchOption, ◌≡◌, ℕ, ◌<◌, false, Option, Some, None, subst, get_or, set, List, find, length, sym, ◌∙◌}
+use Rattle.std.specs.List.{position, position_or_len, remove}
 use Rattle.std.proofs.lemmas.List.Quantifiers.{position-Some}
 use Rattle.std.proofs.lemmas.Bool.{ltb-true}
-use Rattle.mf_errno.specs.Module.{same_module}
+use Rattle.mf_errno.specs.Same.{same_module}
 use Rattle.mf_errno.specs.declared.module.Module.{Module}
 use Rattle.mf_errno.proofs.Modules.{same_module-is}
-use Rattle.mf_policy.specs.Registration.{Entry, is_listed, is_of}
+use Rattle.mf_policy.specs.Registration.{Entry, is_of}
 use Rattle.mf_policy.proofs.Entries.{entry_at, no_entry, written_at}
 use Rattle.mf_policy.proofs.Places.{any_by_place, found, not_found, remove_at_place}
 use Rattle.mf_list.specs.Lists.{in_catalogue}

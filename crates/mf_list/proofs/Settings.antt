@@ -1,5 +1,5 @@
 -- A change of a setting lists the same modules in the same places, and changes no spec but of the policy that has the setting.
-use Rattle.std.proofs.Common.{◌≡◌, ◌≢◌, ℕ, ◌+◌, Bool, true, false, cond, List, [], ◌∷◌, Option, Some, None, option_map, length, map, find, refl, ap, sym, ◌∙◌, suc}
+use Rattle.std.proofs.Common.{◌≡◌, true, false, cond, List, [], ◌∷◌, Option, Some, None, length, map, find, refl, ap, suc}
 use Rattle.mf_errno.specs.declared.module.Module.{Module}
 use Rattle.mf_policy.specs.declared.registration.Registration.{Registration}
 use Rattle.mf_policy.specs.declared.settings.Change.{Change}

@@ -5,7 +5,7 @@ use Rattle.std.specs.List.{list_any}
 use Rattle.mf_errno.specs.declared.errno.Errno.{Errno}
 use Rattle.mf_errno.specs.declared.errno.Errno.TheVariants.{Success, Eperm}
 use Rattle.mf_errno.specs.declared.privilege.Priv.{Priv}
-use Rattle.mf_errno.specs.Errno.{is_same}
+use Rattle.mf_errno.specs.Same.{is_same}
 use Rattle.mf_errno.specs.declared.module.Module.{Module}
 use Rattle.mf_cred.specs.declared.cred.Cred.{Cred}
 use Rattle.mf_item.specs.Item.{Item}

@@ -2,10 +2,9 @@
 use Rattle.std.specs.Prelude.{◌≡◌, ℕ, ◌<◌, ◌≤◌, Bool, true, false, List, Option, Some, None, length}
 use Rattle.std.specs.List.{list_any}
 use Rattle.mf_elem.specs.declared.label.TheConstants.{SLOTS}
-use Rattle.mf_errno.specs.Module.{same_module}
+use Rattle.mf_errno.specs.Same.{same_module}
 use Rattle.mf_errno.specs.declared.module.Module.{Module}
-use Rattle.mf_policy.specs.declared.spec.Spec.{Spec}
-use Rattle.mf_policy.specs.Modules.{fresh_of, module_of, wants_slot}
+use Rattle.mf_policy.specs.Modules.{module_of, wants_slot}
 use Rattle.mf_policy.specs.Registration.{Entry}
 
 -- the listed policies in walk order, and for how many more room is reserved
@@ -22,10 +21,6 @@ pub record CatalogueView : Type 0 where
 pub record IsReady (list : ListView) (catalogue : CatalogueView) : Type 0 where
   pub for_catalogue : length catalogue.modules ≤ list.spare
   pub for_list : length list.entries ≤ catalogue.spare
-
--- a spec in its initial state
-abbrev pub IsFresh : Spec → Type 0
-IsFresh spec = spec ≡ fresh_of (module_of spec)
 
 -- there is a number of a label slot exactly where one is wanted
 abbrev pub HasSlot : Bool → Option ℕ → Type 0

@@ -1,6 +1,6 @@
 -- Registration: which calls are refused, and what becomes of list, catalogue and slot numbers, as in sys/security/mac/mac_framework.c.
 use Rattle.std.specs.Prelude.{◌≡◌, ℕ, ◌+◌, Bool, true, false, cond, not, ◌||◌, List, [], ◌∷◌, ◌++◌, Option, Some, None, find, is_some, Result, Ok, Err}
-use Rattle.mf_errno.specs.Module.{same_module}
+use Rattle.mf_errno.specs.Same.{same_module}
 use Rattle.mf_errno.specs.declared.module.Module.{Module}
 use Rattle.mf_policy.specs.declared.loading.LoadFault.{LoadFault}
 use Rattle.mf_policy.specs.declared.loading.LoadFault.TheVariants as loading

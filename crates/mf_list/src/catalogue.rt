@@ -1,9 +1,11 @@
 //! The policies that are not listed.
 ghost use Rattle.std.specs.Prelude.{◌≡◌, ◌+◌, ◌<◌, ◌≤◌, ◌++◌, ◌∷◌, [], All, map, IsTrue, length, position, OnOk, OnErr, OnSome, IfSome, IfNone, is_some, Some, None, MatchOption, false};
-ghost use Rattle.mf_errno.specs.Module.{module_named, same_module};
+ghost use Rattle.mf_errno.specs.Same.{same_module};
+ghost use Rattle.mf_errno.specs.Names.{module_named};
 ghost use Rattle.mf_policy.specs.Modules as facts;
-ghost use Rattle.mf_list.specs.Held.{are_distinct};
-ghost use Rattle.mf_list.specs.Lists.{IsFresh, in_catalogue};
+ghost use Rattle.mf_list.specs.Once.{are_distinct};
+ghost use Rattle.mf_list.specs.Lists.{in_catalogue};
+ghost use Rattle.mf_list.specs.Fresh.{IsFresh};
 ghost use Rattle.mf_list.specs.Places.{IsModulePlace};
 ghost use Rattle.mf_list.specs.Registration.{is_known, modules_without};
 
@@ -23,7 +25,8 @@ pub struct Catalogue<P: Policy> {
 impl<P: Policy> Model for Catalogue<P> {
     ghost use Rattle.std.specs.Prelude.{◌-◌, map, All, vec_len, vec_capacity};
     ghost use Rattle.mf_policy.specs.Modules.{module_of};
-    ghost use Rattle.mf_list.specs.Lists.{CatalogueView, IsFresh};
+    ghost use Rattle.mf_list.specs.Lists.{CatalogueView};
+    ghost use Rattle.mf_list.specs.Fresh.{IsFresh};
 
     ghost Value = { CatalogueView };
 

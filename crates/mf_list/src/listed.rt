@@ -1,8 +1,11 @@
 //! A policy in the list.
 ghost use Rattle.std.specs.Prelude.{◌≡◌, IsTrue, ◌↔◌, IfOk, OnErr};
+ghost use Rattle.mf_policy.specs.LoadFlags.{flags_of};
 ghost use Rattle.mf_policy.specs.Modules as facts;
-ghost use Rattle.mf_policy.specs.Registration.{is_dynamic, is_of};
-ghost use Rattle.mf_policy.specs.Settings.{IsChange, change_of};
+ghost use Rattle.mf_policy.specs.Registration.{is_of};
+ghost use Rattle.mf_policy.specs.Dynamic.{is_dynamic};
+ghost use Rattle.mf_policy.specs.Settings.{change_of};
+ghost use Rattle.mf_policy.specs.IsChange.{IsChange};
 ghost use Rattle.mf_list.specs.Asked.{answer_of, grant_of};
 ghost use Rattle.mf_list.specs.Lists.{IsEntry};
 
@@ -66,7 +69,7 @@ impl<P: Policy> ListedPolicy<P> {
 
     /// The flags of its module.
     pub fn flags(&self) -> LoadFlags
-        ensures { result ≡ facts.flags_of self.now.0.«module» }
+        ensures { result ≡ flags_of self.now.0.«module» }
     {
         self.policy.flags()
     }

@@ -1,8 +1,10 @@
 //! The listed policies in walk order.
 ghost use Rattle.std.specs.Prelude.{◌≡◌, ◌+◌, ◌<◌, ◌≤◌, [], IsTrue, ◌↔◌, length, map, OnOk, OnErr, IfOk, false, true, MatchOption, position, slice_index_or};
 ghost use Rattle.std.specs.List.{insert, position_or_len, remove};
-ghost use Rattle.mf_policy.specs.Settings.{IsChange, change_in};
-ghost use Rattle.mf_policy.specs.Registration.{Entry, is_dynamic, is_listed, is_of, with_newest};
+ghost use Rattle.mf_policy.specs.Settings.{change_in};
+ghost use Rattle.mf_policy.specs.IsChange.{IsChange};
+ghost use Rattle.mf_policy.specs.Registration.{Entry, is_listed, is_of, with_newest};
+ghost use Rattle.mf_policy.specs.Dynamic.{is_dynamic};
 ghost use Rattle.mf_list.specs.Lists.{IsReady};
 ghost use Rattle.mf_list.specs.Places.{IsAbsent, IsEntryPlace};
 
@@ -23,7 +25,7 @@ pub struct PolicyList<P: Policy> {
 
 impl<P: Policy> Model for PolicyList<P> {
     ghost use Rattle.std.specs.Prelude.{◌-◌, vec_len, vec_capacity};
-    ghost use Rattle.mf_list.specs.Held.{IsListedOnce};
+    ghost use Rattle.mf_list.specs.Once.{IsListedOnce};
     ghost use Rattle.mf_list.specs.Lists.{ListView};
 
     ghost Value = { ListView };

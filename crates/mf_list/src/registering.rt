@@ -1,6 +1,7 @@
 //! Registration: policies come from the catalogue into the list, and go back.
 ghost use Rattle.std.specs.Prelude.{◌≡◌, ◌+◌, ◌<◌, OnOk, OnErr, IfOk, true, false, ◌||◌, if◌then◌else◌, IfSome, is_some};
-ghost use Rattle.mf_errno.specs.Module.{module_named};
+ghost use Rattle.mf_errno.specs.Names.{module_named};
+ghost use Rattle.mf_policy.specs.LoadFlags.{flags_of};
 ghost use Rattle.mf_policy.specs.Modules as facts;
 ghost use Rattle.mf_policy.specs.Loading.{load_fault};
 ghost use Rattle.mf_policy.specs.Registration.{is_listed};
@@ -93,7 +94,7 @@ impl<P: Policy> PolicyList<P> {
         given: u8,
         wanted: Module,
     ) -> Option<LoadFault>
-        requires flags { known.now.flags ≡ facts.flags_of wanted }
+        requires flags { known.now.flags ≡ flags_of wanted }
         requires wants_slot { known.now.wants_slot ≡ facts.wants_slot wanted }
         ensures { result ≡ load_fault booted self.now.entries given wanted }
     {
@@ -112,7 +113,7 @@ impl<P: Policy> PolicyList<P> {
     /// The module's facts, where it is listed or in the catalogue.
     fn facts_of(&self, catalogue: &Catalogue<P>, wanted: Module) -> Option<LoadFacts>
         ensures variant { is_some result ≡ (is_listed wanted self.now.entries || in_catalogue wanted catalogue.now.modules) }
-        ensures value { IfSome result (λ found. (found.flags ≡ facts.flags_of wanted) × (found.wants_slot ≡ facts.wants_slot wanted)) }
+        ensures value { IfSome result (λ found. (found.flags ≡ flags_of wanted) × (found.wants_slot ≡ facts.wants_slot wanted)) }
     {
         match self.place_of(wanted) {
             Some(place) => {

@@ -1,6 +1,6 @@
-pub mod Counts
 pub mod Alone
+pub mod Counts
 pub mod InTurn
 pub mod Laws
-pub mod Summary
 pub mod Replied
+pub mod Summary

@@ -2,7 +2,7 @@
 use Rattle.std.specs.Prelude.{ℕ, List, [], ◌∷◌, count_by}
 use Rattle.std.specs.List.{flat_map}
 use Rattle.mf_errno.specs.declared.errno.Errno.{Errno}
-use Rattle.mf_errno.specs.Errno.{is_same}
+use Rattle.mf_errno.specs.Same.{is_same}
 use Rattle.mf_core.specs.declared.history.Event.{Event}
 use Rattle.mf_core.specs.declared.history.Event.TheVariants as event
 use Rattle.mf_load.specs.Counts.{errno_of}

@@ -1,7 +1,8 @@
 //! The summary of a run of a generated load: how often each errno was replied.
 ghost use Rattle.std.specs.Prelude.{◌≡◌, ◌++◌, IfOk, OnOk, string_bytes, count_by};
 ghost use Rattle.std.specs.List.{flat_map};
-ghost use Rattle.mf_errno.specs.Errno.{all_errors, is_same};
+ghost use Rattle.mf_errno.specs.Same.{is_same};
+ghost use Rattle.mf_errno.specs.Names.{all_errors};
 ghost use Rattle.mf_load.specs.Counts.{errno_of};
 ghost use Rattle.mf_load.specs.Replied.{counted_text, errno_in, errnos_in};
 ghost use Rattle.mf_load.specs.Summary.{errno_text, summary_text};
@@ -29,7 +30,6 @@ pub fn summary_text(
 
 /// Appends the line of each errno that is replied in these events. The errnos are taken out of the events once, and then
 /// counted by themselves, since events are large.
-#[tactic(auto, using(crate::proofs::Replied::counted_texts))]
 fn push_replies(alloc: Global, events: &[Event], out: &mut String) -> Result<(), AllocError>
     ensures { OnOk result (string_bytes out.new ≡ string_bytes out.old ++ flat_map (errno_text events.now) all_errors) }
 {

@@ -9,8 +9,10 @@ use Rattle.std.proofs.lemmas.List.Sums.{get_or-le-sum_by, length-filter}
 use Rattle.mf_objects.specs.declared.id.Id.{Id}
 use Rattle.mf_objects.specs.declared.entity.EntityData.{EntityData}
 use Rattle.mf_objects.specs.declared.entity.EntityData.TheVariants.{Process, Vnode, Pipe, Socket}
-use Rattle.mf_objects.specs.Live.{LiveEntity, Entities, has_id, live_at, passes, is_process, is_directory, is_pipe, is_socket, is_entry, is_held_by, is_made_by, IsLive}
-use Rattle.mf_objects.specs.Changes.{MayJoin, IsBare, changed_at, FitsBytes, appended, cleared, with_mode, with_messages}
+use Rattle.mf_objects.specs.Live.{LiveEntity, Entities, has_id, live_at, is_process, is_pipe, is_socket, is_entry, is_held_by, is_made_by}
+use Rattle.mf_objects.specs.Lives.{passes, is_directory, IsLive}
+use Rattle.mf_objects.specs.Changes.{changed_at, appended, cleared, with_mode, with_messages}
+use Rattle.mf_objects.specs.Fits.{MayJoin, IsBare, FitsBytes}
 use Rattle.mf_objects.specs.Population.{HasOlder, shares_names, NoBytesIfDirectory, Belongs, AllBelong, IsPopulation, IsRising}
 use Rattle.mf_objects.proofs.Rising.{id_is, id_differs, below_next, at_least}
 

@@ -18,7 +18,8 @@ use Rattle.std.proofs.lemmas.List.MinMax.{ranks_by}
 use Rattle.std.proofs.lemmas.Map.Text.{is_eq-slice_cmp}
 use Rattle.std.proofs.lemmas.Slice.Eq.{bytes_eq-Decides}
 use Rattle.mf_objects.specs.declared.limits.TheConstants.{MOST_NAMES}
-use Rattle.mf_objects.specs.Titles.{comes_first, with_name, in_byte_order, first_names, IsFirstNames}
+use Rattle.mf_objects.specs.Titles.{comes_first, with_name, in_byte_order, first_names}
+use Rattle.mf_objects.specs.Names.{IsFirstNames}
 
 flipped : (o : Ordering) → is_le o ≡ true → is_lt (ordering_reverse o) ≡ false
 flipped Less le = refl

@@ -9,7 +9,8 @@ use Rattle.mf_objects.specs.declared.id.Id.{Id}
 use Rattle.mf_objects.specs.declared.entity.Entity.{Entity}
 use Rattle.mf_objects.specs.declared.entity.EntityData.{EntityData}
 use Rattle.mf_objects.specs.declared.entity.EntityData.TheVariants.{Process, Vnode, Pipe, Socket}
-use Rattle.mf_objects.specs.Live.{LiveEntity, Entities, has_id, is_from, live_at, id_of, IsLeast, is_directory, label_of, IsFound, IsLiveWhere, messages_at, messages_of, reading, label_at, IsLive, is_named, is_child, is_entry, is_vnode}
+use Rattle.mf_objects.specs.Live.{LiveEntity, Entities, has_id, live_at, id_of, label_of, messages_at, messages_of, reading, label_at, is_named, is_child, is_entry}
+use Rattle.mf_objects.specs.Lives.{is_from, IsLeast, is_directory, IsFound, IsLiveWhere, IsLive, is_vnode}
 use Rattle.std.specs.Str.{bytes_eq}
 use Rattle.mf_objects.specs.Population.{Belongs, IsPopulation, IsRising, HasRoot}
 use Rattle.mf_objects.specs.Sound.{seen, shown, live_of, IsSound, IsPlace, label_values}

@@ -15,8 +15,11 @@ use Rattle.mf_slots.proofs.Relabelling.{set_relabels}
 use Rattle.mf_objects.specs.declared.id.Id.{Id}
 use Rattle.mf_objects.specs.declared.entity.Entity.{Entity}
 use Rattle.mf_objects.specs.declared.entity.EntityData.{EntityData}
-use Rattle.mf_objects.specs.Live.{LiveEntity, Entities, has_id, live_at, passes, is_directory, label_of, label_at, HasSlotsFor, value_at as live_value}
-use Rattle.mf_objects.specs.Changes.{IsBare, changed_at, with_change, with_value, with_label, with_what}
+use Rattle.mf_objects.specs.Live.{LiveEntity, Entities, has_id, live_at, label_of, label_at}
+use Rattle.mf_objects.specs.Lives.{passes, is_directory, HasSlotsFor, value_at as live_value}
+use Rattle.mf_objects.specs.Changes.{changed_at, with_change, with_what}
+use Rattle.mf_objects.specs.Labels.{with_value, with_label}
+use Rattle.mf_objects.specs.Fits.{IsBare}
 use Rattle.mf_objects.specs.Population.{NoBytesIfDirectory, Belongs, IsPopulation, is_namesake}
 use Rattle.mf_objects.specs.Sound.{label_values, seen, labels_of, IsExact, live_of, IsSound, IsPlace}
 use Rattle.mf_objects.proofs.Zoned.{exact_push, live_push, exact_drop, live_drop, is_held, SetsSlot, relabels_set, relabels_make, exact_relabel, live_relabel, split_place, live_split, exact_none}

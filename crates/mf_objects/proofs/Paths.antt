@@ -7,7 +7,8 @@ use Rattle.std.proofs.lemmas.List.Elements.{All-nil, All-cons, All-head, All-tai
 use Rattle.mf_objects.specs.declared.id.Id.{Id}
 use Rattle.mf_objects.specs.declared.entity.EntityData.{EntityData}
 use Rattle.mf_objects.specs.declared.entity.EntityData.TheVariants.{Process, Vnode, Pipe, Socket}
-use Rattle.mf_objects.specs.Live.{LiveEntity, Entities, has_id, live_at, is_directory}
+use Rattle.mf_objects.specs.Live.{LiveEntity, Entities, has_id, live_at}
+use Rattle.mf_objects.specs.Lives.{is_directory}
 use Rattle.mf_objects.specs.Population.{Belongs, HasOlder, HasRoot, IsPopulation, IsRising}
 use Rattle.mf_objects.specs.Titles.{Link, link, parent_of, path_in, path_at, below}
 use Rattle.mf_objects.proofs.Belonging.{belongs_at}

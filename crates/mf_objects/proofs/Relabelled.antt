@@ -7,7 +7,7 @@ use Rattle.mf_slots.proofs.ZonesLaws.{has_handle}
 use Rattle.mf_slots.proofs.Relabelling.{Moves, moves_at, has_value}
 use Rattle.mf_objects.specs.declared.entity.Entity.{Entity}
 use Rattle.mf_objects.specs.Live.{LiveEntity}
-use Rattle.mf_objects.specs.Changes.{with_label}
+use Rattle.mf_objects.specs.Labels.{with_label}
 use Rattle.mf_objects.specs.Sound.{seen, labels_of, owner_count, held_count, IsExact, live_of}
 use Rattle.mf_objects.proofs.Zoned.{owned_yes, owned_no, held_none, held_some, held_most, some_is, count_split, live_kept, values_made}
 

@@ -6,8 +6,10 @@ use Rattle.std.proofs.lemmas.Bool.{cases_eq, false≢true}
 use Rattle.mf_objects.specs.declared.id.Id.{Id}
 use Rattle.mf_objects.specs.declared.entity.EntityData.{EntityData}
 use Rattle.mf_objects.specs.declared.entity.EntityData.TheVariants.{Process, Vnode, Pipe, Socket}
-use Rattle.mf_objects.specs.Live.{LiveEntity, Entities, has_id, live_at, passes, is_process, is_vnode, is_directory, is_entry, is_made_by, IsLive, entry_count}
-use Rattle.mf_objects.specs.Changes.{IsBare, goes_with, without}
+use Rattle.mf_objects.specs.Live.{LiveEntity, Entities, has_id, live_at, is_process, is_entry, is_made_by, entry_count}
+use Rattle.mf_objects.specs.Lives.{passes, is_vnode, is_directory, IsLive}
+use Rattle.mf_objects.specs.Changes.{goes_with, without}
+use Rattle.mf_objects.specs.Fits.{IsBare}
 use Rattle.mf_objects.specs.Population.{HasRoot}
 use Rattle.mf_objects.specs.Sound.{IsPlace}
 use Rattle.mf_objects.proofs.Rising.{root_remove, id_is}

@@ -4,7 +4,8 @@ use Rattle.std.specs.Prelude.{filter, find, All}
 use Rattle.std.proofs.lemmas.List.Elements.{All-head}
 use Rattle.std.proofs.lemmas.Bool.Decides.{nat_tests}
 use Rattle.mf_objects.specs.declared.id.Id.{Id}
-use Rattle.mf_objects.specs.Live.{LiveEntity, has_id, is_directory}
+use Rattle.mf_objects.specs.Live.{LiveEntity, has_id}
+use Rattle.mf_objects.specs.Lives.{is_directory}
 use Rattle.mf_objects.specs.Changes.{changed_at}
 use Rattle.mf_objects.specs.Population.{IsRising, HasRoot}
 

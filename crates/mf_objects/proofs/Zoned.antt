@@ -9,7 +9,7 @@ use Rattle.mf_slots.specs.Zones.{Contents, Handles, handle, under, value_of, val
 use Rattle.mf_slots.proofs.ZonesLaws.{value_of-same, has_handle}
 use Rattle.mf_objects.specs.declared.entity.Entity.{Entity}
 use Rattle.mf_objects.specs.Live.{LiveEntity}
-use Rattle.mf_objects.specs.Changes.{with_value}
+use Rattle.mf_objects.specs.Labels.{with_value}
 use Rattle.mf_objects.specs.Sound.{label_values, seen, labels_of, owned, owner_count, held_count, IsExact, live_of}
 
 -- Owners of a handle

@@ -1,13 +1,12 @@
 -- What the calls change. Entities, ids and limits are this model's own.
-use Rattle.std.specs.Prelude.{◌≡◌, ℕ, ◌+◌, ◌<◌, ◌≤◌, length, Bool, true, false, not, ◌||◌, List, [], ◌∷◌, ◌++◌, map, filter, slice_set, if◌then◌else◌, Some, None, IsTrue, MatchOption, count_by}
+use Rattle.std.specs.Prelude.{ℕ, ◌+◌, Bool, true, not, ◌||◌, List, [], ◌∷◌, ◌++◌, map, filter, if◌then◌else◌, Some, None}
 use Rattle.mf_elem.specs.declared.label.LabelValue.{LabelValue}
 use Rattle.mf_cred.specs.declared.cred.FileView.{FileView}
-use Rattle.mf_names.specs.declared.limits.TheConstants.{CONTENT_LIMIT}
-use Rattle.mf_objects.specs.declared.limits.TheConstants.{PIPE_LIMIT, MOST_MESSAGES, ROOT_MODE}
+use Rattle.mf_objects.specs.declared.limits.TheConstants.{ROOT_MODE}
 use Rattle.mf_objects.specs.declared.id.Id.{Id}
 use Rattle.mf_objects.specs.declared.entity.EntityData.{EntityData}
 use Rattle.mf_objects.specs.declared.entity.EntityData.TheVariants.{Process, Vnode, Pipe, Socket}
-use Rattle.mf_objects.specs.Live.{LiveEntity, Entities, has_id, is_directory, is_process, is_entry, is_made_by, IsLive}
+use Rattle.mf_objects.specs.Live.{LiveEntity, Entities, has_id, is_made_by}
 
 -- the entity that a call makes: it gets the next id
 abbrev pub made : Entities → List ℕ → List LabelValue → EntityData → LiveEntity
@@ -35,41 +34,6 @@ with_change change objects id = record objects { live = map (changed_at change i
 
 abbrev pub with_what : (EntityData → EntityData) → LiveEntity → LiveEntity
 with_what change e = record e { what = change e.what }
-
-abbrev pub with_value : ℕ → LabelValue → LiveEntity → LiveEntity
-with_value slot value e = record e { label = slice_set e.label slot value }
-
-abbrev pub with_label : List LabelValue → LiveEntity → LiveEntity
-with_label values e = record e { label = values }
-
--- so many bytes more fit a regular file or a pipe
-abbrev pub FitsBytes : ℕ → EntityData → Type 0
-FitsBytes more (Vnode vnode) = (vnode.file.dir ≡ false) × (length vnode.content + more ≤ CONTENT_LIMIT)
-FitsBytes more (Pipe pipe) = length pipe.bytes + more ≤ PIPE_LIMIT
-FitsBytes more other = ⊥
-
--- one message more fits a socket
-abbrev pub FitsMessage : EntityData → Type 0
-FitsMessage (Socket socket) = length socket.messages < MOST_MESSAGES
-FitsMessage other = ⊥
-
--- a socket with a message
-abbrev pub HasMessage : EntityData → Type 0
-HasMessage (Socket socket) = 0 < length socket.messages
-HasMessage other = ⊥
-
--- what a new entity is to belong to is live: its directory, or the process that makes it; and a new directory is empty
-abbrev pub MayJoin : Entities → EntityData → Type 0
-MayJoin objects (Process cred) = Unit {0}
-MayJoin objects (Vnode vnode) = MatchOption vnode.parent ⊥ (λ dir. IsLive is_directory objects dir) × (IsTrue vnode.file.dir → vnode.content ≡ [])
-MayJoin objects (Pipe pipe) = IsLive is_process objects pipe.maker
-MayJoin objects (Socket socket) = IsLive is_process objects socket.maker
-
--- nothing that lives belongs to the entity of this id
-abbrev pub IsBare : List LiveEntity → Id → EntityData → Type 0
-IsBare live id (Process cred) = count_by (λ e. is_made_by id e.what) live ≡ 0
-IsBare live id (Vnode vnode) = count_by (λ e. is_entry id e.what) live ≡ 0
-IsBare live id other = Unit {0}
 
 -- bytes are appended to a file or a pipe
 abbrev pub appended : List ℕ → EntityData → EntityData

@@ -1,7 +1,11 @@
-pub mod Head
-pub mod Live
-pub mod Population
 pub mod Changes
-pub mod Titles
+pub mod Fits
+pub mod Head
 pub mod Index
+pub mod Labels
+pub mod Live
+pub mod Lives
+pub mod Names
+pub mod Population
 pub mod Sound
+pub mod Titles

@@ -1,9 +1,8 @@
 -- The live entities, as contracts see them: the listing of a finite map by rising id. Ids that are never used again are this model's own.
-use Rattle.std.specs.Prelude.{◌≡◌, ◌≢◌, ◌<◌, ◌≤◌, ℕ, All, Bool, true, false, IsTrue, nat_eq, nat_le, ◌&&◌, List, [], ◌∷◌, length, Option, Some, None, find, count_by, slice_index_or, option_map, IfSome, IfNone}
+use Rattle.std.specs.Option.{option_map_or}
+use Rattle.std.specs.Prelude.{ℕ, Bool, true, false, nat_eq, ◌&&◌, List, [], ◌∷◌, length, Option, find, count_by, option_map}
 use Rattle.std.specs.Str.{bytes_eq}
 use Rattle.mf_elem.specs.declared.label.LabelValue.{LabelValue}
-use Rattle.mf_elem.specs.declared.label.TheConstants.{SLOTS}
-use Rattle.mf_elem.specs.declared.label.LabelValue.TheVariants as values
 use Rattle.mf_cred.specs.declared.cred.Cred.{Cred}
 use Rattle.mf_cred.specs.declared.cred.FileView.{FileView}
 use Rattle.mf_item.specs.declared.view.Kind.{Kind}
@@ -37,10 +36,6 @@ abbrev pub is_process : EntityData → Bool
 is_process (Process cred) = true
 is_process other = false
 
-abbrev pub is_vnode : EntityData → Bool
-is_vnode (Vnode vnode) = true
-is_vnode other = false
-
 abbrev pub is_pipe : EntityData → Bool
 is_pipe (Pipe pipe) = true
 is_pipe other = false
@@ -49,27 +44,9 @@ abbrev pub is_socket : EntityData → Bool
 is_socket (Socket socket) = true
 is_socket other = false
 
-abbrev pub is_directory : EntityData → Bool
-is_directory (Vnode vnode) = vnode.file.dir
-is_directory other = false
-
-abbrev pub passes : (EntityData → Bool) → Option LiveEntity → Bool
-passes test None = false
-passes test (Some e) = test e.what
-
--- a live process, vnode, pipe, socket or directory has this id
-abbrev pub IsLive : (EntityData → Bool) → Entities → Id → Type 0
-IsLive test objects id = IsTrue (passes test (live_at objects id))
-
--- an entity was found, and the fact holds of what it is
-abbrev pub IsLiveWhere : (EntityData → Type 0) → Option LiveEntity → Type 0
-IsLiveWhere P None = ⊥
-IsLiveWhere P (Some e) = P e.what
-
 -- the id is held by this directory
 abbrev pub is_held_by : Id → Option Id → Bool
-is_held_by dir None = false
-is_held_by dir (Some parent) = nat_eq parent.0 dir.0
+is_held_by dir parent = option_map_or (λ parent. nat_eq parent.0 dir.0) parent false
 
 -- it is an entry of this directory
 abbrev pub is_entry : Id → EntityData → Bool
@@ -94,23 +71,8 @@ live_named test objects name = find (is_named test name) objects.live
 abbrev pub is_child : Id → List ℕ → LiveEntity → Bool
 is_child dir name e = is_entry dir e.what && bytes_eq e.name name
 
--- its id is at least this number
-abbrev pub is_from : ℕ → LiveEntity → Bool
-is_from n e = nat_le n e.id.0
-
--- the least live id of at least n
-pub record IsLeast (n : ℕ) (live : List LiveEntity) (id : Id) : Type 0 where
-  pub from : n ≤ id.0
-  pub least : All (λ e. n ≤ e.id.0 → id.0 ≤ e.id.0) live
-
 abbrev pub id_of : Option LiveEntity → Option Id
 id_of found = option_map (λ e. e.id) found
-
--- the id is that of the first live entity that passes the test, and none where no live entity passes it
-pub record IsFound (test : LiveEntity → Bool) (objects : Entities) (found : Option Id) : Type 0 where
-  pub id : found ≡ id_of (find test objects.live)
-  pub live : IfSome found (λ id. live_at objects id ≡ find test objects.live)
-  pub absent : IfNone found (find test objects.live ≡ None)
 
 -- What an entity holds. What doesn't live, or is of another kind, holds nothing: no bytes, no messages, numbers that are 0.
 
@@ -145,8 +107,7 @@ messages_of (Socket socket) = socket.messages
 messages_of other = []
 
 abbrev pub reading : {A : Type 0} → (EntityData → A) → A → Option LiveEntity → A
-reading read none None = none
-reading read none (Some e) = read e.what
+reading read none found = option_map_or (λ e. read e.what) found none
 
 abbrev pub kind_at : Entities → Id → Kind
 kind_at objects id = reading kind_of kinds.Process (live_at objects id)
@@ -176,18 +137,8 @@ abbrev pub count_at : Entities → Id → ℕ
 count_at objects id = reading (count_of (entry_count objects id)) 0 (live_at objects id)
 
 abbrev pub label_of : Option LiveEntity → List LabelValue
-label_of None = []
-label_of (Some e) = e.label
+label_of found = option_map_or (λ e. e.label) found []
 
 -- the values of the four label slots
 abbrev pub label_at : Entities → Id → List LabelValue
 label_at objects id = label_of (live_at objects id)
-
--- the value of a label slot
-abbrev pub value_at : Entities → Id → ℕ → LabelValue
-value_at objects id slot = slice_index_or (label_at objects id) slot values.Unset
-
--- where the given values aren't Unset, those of the label aren't either
-abbrev pub HasSlotsFor : List LabelValue → List LabelValue → Type 0
-HasSlotsFor label given =
-    (slot : ℕ) → slot < SLOTS → slice_index_or given slot values.Unset ≢ values.Unset → slice_index_or label slot values.Unset ≢ values.Unset

@@ -4,7 +4,8 @@ use Rattle.std.specs.Str.{bytes_eq}
 use Rattle.mf_objects.specs.declared.id.Id.{Id}
 use Rattle.mf_objects.specs.declared.entity.EntityData.{EntityData}
 use Rattle.mf_objects.specs.declared.entity.EntityData.TheVariants.{Process, Vnode, Pipe, Socket}
-use Rattle.mf_objects.specs.Live.{LiveEntity, Entities, has_id, passes, is_directory, is_process, is_pipe, is_socket, is_entry, content_of}
+use Rattle.mf_objects.specs.Live.{LiveEntity, Entities, has_id, is_process, is_pipe, is_socket, is_entry, content_of}
+use Rattle.mf_objects.specs.Lives.{passes, is_directory}
 
 -- the ids rise, are at least the first number and stay below the second
 abbrev pub IsRising : ℕ → ℕ → List LiveEntity → Type 0

@@ -1,7 +1,6 @@
 -- The entries of directories in byte order, the paths of vnodes, and the titles of entities. All of it is this model's own.
-use Rattle.std.specs.Prelude.{◌≡◌, ℕ, min, length, Bool, List, [], ◌∷◌, ◌++◌, Option, Some, None, take, insert, filter, map, reverse, codes, if◌then◌else◌, nat_eq}
+use Rattle.std.specs.Prelude.{ℕ, Bool, List, [], ◌∷◌, ◌++◌, Option, Some, None, take, insert, filter, map, reverse, codes, if◌then◌else◌, nat_eq}
 use Rattle.std.specs.List.{position_or_len}
-use Rattle.std.specs.List.Sorted.{IsSorted, IsPermutation}
 use Rattle.std.specs.Ordering.{nat_cmp, is_le}
 use Rattle.std.specs.Cmp.Lexicographic.{slice_cmp}
 use Rattle.mf_objects.specs.declared.limits.TheConstants.{MOST_NAMES}
@@ -33,13 +32,6 @@ first_names most names = take most (in_byte_order names)
 -- the first names in byte order of the entries of a directory
 unfoldable pub names_at : Entities → Id → List (List ℕ)
 names_at objects dir = first_names MOST_NAMES (entry_names dir objects.live)
-
--- some names are the first of all in byte order: with a rest behind them they are all, in order
-pub record IsFirstNames (names all : List (List ℕ)) : Type 0 where
-  pub rest : List (List ℕ)
-  pub ordered : IsSorted (slice_cmp nat_cmp) (names ++ rest)
-  pub same : IsPermutation all (names ++ rest)
-  pub most : length names ≡ min MOST_NAMES (length all)
 
 -- what the path of an entity is made of: its id, the directory that holds it, and its name
 pub record Link : Type 0 where
@@ -83,11 +75,6 @@ prefix_of (Socket socket) = codes "socket:"
 abbrev pub own_name : List ℕ → List ℕ → EntityData → List ℕ
 own_name path name (Vnode vnode) = rooted_path path
 own_name path name other = name
-
--- some text was appended
-pub record IsAppended (old new : List ℕ) : Type 0 where
-  pub text : List ℕ
-  pub is : new ≡ old ++ text
 
 abbrev pub title_of : List ℕ → List ℕ → EntityData → List ℕ
 title_of path name w = prefix_of w ++ own_name path name w

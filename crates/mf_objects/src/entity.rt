@@ -5,6 +5,7 @@ ghost use Rattle.mf_names.specs.declared.limits.TheConstants.{CONTENT_LIMIT, SCR
 ghost use Rattle.mf_objects.specs.Index as index;
 ghost use Rattle.mf_objects.specs.Live as live;
 ghost use Rattle.mf_objects.specs.Changes as change;
+ghost use Rattle.mf_objects.specs.Fits.{FitsBytes, FitsMessage, HasMessage};
 ghost use Rattle.mf_objects.specs.Titles as title;
 
 use crate::id::Id;
@@ -189,7 +190,7 @@ impl EntityData {
 
     /// Appends to a regular file or a pipe. If memory runs out, it is unchanged.
     pub fn append(&mut self, text: &[u8]) -> Result<(), AllocError>
-        requires { change.FitsBytes (length text.now) self.old }
+        requires { FitsBytes (length text.now) self.old }
         ensures ok { OnOk result (self.new ≡ change.appended text.now self.old) }
         ensures err { OnErr result (self.new ≡ self.old) }
         ensures group { index.group_of self.new ≡ index.group_of self.old }
@@ -214,7 +215,7 @@ impl EntityData {
 
     /// Appends a message to those of a socket. If memory runs out, they are unchanged.
     pub fn push_message(&mut self, message: Bytes<SCRIPT_LIMIT>) -> Result<(), AllocError>
-        requires { change.FitsMessage self.old }
+        requires { FitsMessage self.old }
         ensures ok { OnOk result (self.new ≡ change.with_messages (change.with_message message) self.old) }
         ensures err { OnErr result (self.new ≡ self.old) }
         ensures group { index.group_of self.new ≡ index.group_of self.old }
@@ -227,7 +228,7 @@ impl EntityData {
 
     /// Removes the oldest message of a socket and returns it.
     pub fn pop_message(&mut self) -> Bytes<SCRIPT_LIMIT>
-        requires { change.HasMessage self.old }
+        requires { HasMessage self.old }
         ensures rest { self.new ≡ change.with_messages (drop 1) self.old }
         ensures oldest { live.messages_of self.old ≡ result ∷ live.messages_of self.new }
         ensures group { index.group_of self.new ≡ index.group_of self.old }

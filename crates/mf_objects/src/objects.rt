@@ -3,7 +3,9 @@ ghost use Rattle.std.specs.Prelude.{◌≡◌, ◌<◌, ◌≤◌, [], length, I
 ghost use Rattle.mf_names.specs.declared.limits.TheConstants.{CONTENT_LIMIT};
 ghost use Rattle.mf_objects.specs.declared.limits.TheConstants.{ID_LIMIT, MOST_ENTITIES};
 ghost use Rattle.mf_objects.specs.Live as live;
+ghost use Rattle.mf_objects.specs.Lives.{is_directory, IsLive};
 ghost use Rattle.mf_objects.specs.Changes as change;
+ghost use Rattle.mf_objects.specs.Fits.{MayJoin};
 ghost use Rattle.mf_objects.specs.Population.{is_namesake};
 ghost use Rattle.mf_objects.specs.Sound.{IsPlace, IsById};
 ghost use Rattle.mf_objects.specs.Index.{bucket_of, with_id};
@@ -114,7 +116,7 @@ impl Objects {
     ) -> Result<Id, AllocError>
         requires few { length self.old.live < MOST_ENTITIES }
         requires next { self.old.next < ID_LIMIT }
-        requires dir { live.IsLive live.is_directory self.old dir }
+        requires dir { IsLive is_directory self.old dir }
         requires name { find (live.is_child dir name.now) self.old.live ≡ None }
         requires fits { length text.now ≤ CONTENT_LIMIT }
         requires bare { IsTrue file.now.dir → text.now ≡ [] }
@@ -143,7 +145,7 @@ impl Objects {
     ) -> Result<Id, AllocError>
         requires few { length self.old.live < MOST_ENTITIES }
         requires next { self.old.next < ID_LIMIT }
-        requires maker { live.IsLive live.is_process self.old maker }
+        requires maker { IsLive live.is_process self.old maker }
         requires name { live.live_named live.is_pipe self.old name.now ≡ None }
         ensures ok { OnOk result (self.new ≡ change.with_entity self.old name.now values.now (change.new_pipe maker)) }
         ensures found { IfOk result (λ id. live.live_at self.new id ≡ Some (change.made self.old name.now values.now (change.new_pipe maker))) }
@@ -164,7 +166,7 @@ impl Objects {
     ) -> Result<Id, AllocError>
         requires few { length self.old.live < MOST_ENTITIES }
         requires next { self.old.next < ID_LIMIT }
-        requires maker { live.IsLive live.is_process self.old maker }
+        requires maker { IsLive live.is_process self.old maker }
         requires name { live.live_named live.is_socket self.old name.now ≡ None }
         ensures ok { OnOk result (self.new ≡ change.with_entity self.old name.now values.now (change.new_socket maker)) }
         ensures found { IfOk result (λ id. live.live_at self.new id ≡ Some (change.made self.old name.now values.now (change.new_socket maker))) }
@@ -191,7 +193,7 @@ impl Objects {
     ) -> Result<Id, AllocError>
         requires few { length self.old.live < MOST_ENTITIES }
         requires next { self.old.next < ID_LIMIT }
-        requires joins { change.MayJoin self.old what }
+        requires joins { MayJoin self.old what }
         requires name { find (is_namesake name.now what) self.old.live ≡ None }
         ensures ok { OnOk result (self.new ≡ change.with_entity self.old name.now values.now what) }
         ensures found { IfOk result (λ id. live.live_at self.new id ≡ Some (change.made self.old name.now values.now what)) }

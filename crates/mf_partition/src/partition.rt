@@ -1,7 +1,7 @@
 //! Partitions: a subject in a partition sees what is in it, and a subject in none sees everything.
 ghost use Rattle.std.specs.Prelude.{◌≡◌, ◌<◌, option_copied};
 ghost use Rattle.mf_policy.specs.Answer as spec;
-ghost use Rattle.mf_policy.specs.Operations.{partition_test_of};
+ghost use Rattle.mf_policy.specs.Operations.{row_of};
 ghost use Rattle.mf_policy.specs.declared.spec.Spec.TheVariants as means;
 
 use mf_cred::Cred;
@@ -67,7 +67,7 @@ impl Policy for Partition {
 }
 
 fn verdict(op: CheckOp, cred: &Cred, subject: u32, object: u32, wanted: u32) -> Errno
-    ensures { result ≡ spec.partition_verdict (partition_test_of op) cred.now subject object wanted }
+    ensures { result ≡ spec.partition_verdict (row_of op).partition cred.now subject object wanted }
 {
     match row_of(op).partition {
         PartitionTest::Agree(errno) => errno_unless(agree(subject, object), errno),

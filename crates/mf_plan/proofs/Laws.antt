@@ -1,7 +1,7 @@
 -- What a plan says that ends with `Do`: the caller lives, and the state is one in which the call can be done.
-use Rattle.std.proofs.Common.{◌≡◌, ℕ, Bool, true, false, List, length, Option, Some, None, IsSome, Result, Ok, Err, is_some, refl, ap, ◌∙◌, arith, if◌then◌else◌, not, option_map}
+use Rattle.std.proofs.Common.{◌≡◌, ℕ, Bool, true, false, List, length, Option, Some, None, IsSome, Result, Ok, Err, is_some, refl, arith, if◌then◌else◌, not, option_map}
 use Rattle.std.proofs.lemmas.Bool.{eqb-false, leb-false, ltb-false}
-use Rattle.mf_errno.specs.Module.{module_named}
+use Rattle.mf_errno.specs.Names.{module_named}
 use Rattle.mf_errno.specs.declared.errno.Errno.{Errno}
 use Rattle.mf_errno.specs.declared.errno.Errno.TheVariants as errno
 use Rattle.mf_errno.specs.declared.module.Module.{Module}
@@ -12,8 +12,9 @@ use Rattle.mf_objects.specs.Live.{LiveEntity, Entities, id_of, live_named, is_pi
 use Rattle.mf_objects.proofs.Laws.{fits_file, fits_message, fits_pipe, has_message, vnode_count}
 use Rattle.mf_calls.specs.declared.script.Call.{Call}
 use Rattle.mf_calls.specs.declared.script.Call.TheVariants as call
-use Rattle.mf_policy.specs.LoadFlags.{is_unloadok}
-use Rattle.mf_policy.specs.Modules.{flags_of}
+use Rattle.mf_policy.specs.Modules.{facts_of}
+use Rattle.mf_names.specs.declared.limits.TheConstants.{CONTENT_LIMIT}
+use Rattle.mf_objects.specs.declared.limits.TheConstants.{PIPE_LIMIT}
 use Rattle.mf_plan.specs.Planned.{Plan}
 use Rattle.mf_plan.specs.declared.plan.Tail.TheVariants.{Do}
 use Rattle.mf_plan.specs.declared.state.State.{State}
@@ -24,12 +25,12 @@ use Rattle.mf_policy.specs.declared.loading.LoadFault.{LoadFault}
 use Rattle.mf_policy.specs.declared.loading.UnloadFault.{UnloadFault}
 use Rattle.mf_policy.specs.declared.loading.UnloadFault.TheVariants.{NotLoaded, Pinned}
 use Rattle.mf_policy.specs.Loading.{load_fault, unload_fault, load_errno, unload_errno}
-use Rattle.mf_plan.specs.Loading.{loadable, load_refusal, unload_refusal}
+use Rattle.mf_plan.specs.Loading.{load_refusal, unload_refusal}
 use Rattle.mf_policy.specs.Registration.{is_listed}
 use Rattle.mf_plan.specs.Names.{caller_name, child_name}
 use Rattle.mf_plan.specs.Path.{lookup_along, found_at, free_at, entry_at}
 use Rattle.mf_plan.specs.Plan.{ask, on, found, or_refuse, refuse_if, refuse_by, proceed, make_row, create_row, write_row, unlink_row, deliver_row, send_row, load_row, exec_row, read_row, readdir_row, check_row, pread_row, pwrite_row, recv_row, plan_for, plan_by, plan_of}
-use Rattle.mf_plan.specs.Views.{subject_of, process_named, pipe_named, socket_named, is_full, is_dir, has_entries, overfills_file, overfills_pipe, is_full_socket, is_empty_socket}
+use Rattle.mf_plan.specs.Views.{subject_of, process_named, pipe_named, socket_named, is_full, is_dir, has_entries, overfills, is_full_socket, is_empty_socket}
 use Rattle.mf_plan.proofs.LookingUp.{free_name}
 
 -- What each part of a row says
@@ -105,10 +106,10 @@ writes : (o : Entities) (me : SubjectView) (path : List (List ℕ)) (text : List
 writes o me path text done =
     let place = reaches (write_row o me text) (found_at (lookup_along o path).target) done in
     let id = place.at in
-    let size = refuse_if (overfills_file o text id) errno.Efbig proceed in
+    let size = refuse_if (overfills CONTENT_LIMIT o text id) errno.Efbig proceed in
     let checks = ask (on o me op.VnodeOpenWrite id) (ask (on o me op.VnodeWrite id) size) in
     let regular = passes (is_dir o id) errno.Eisdir checks place.rest in
-    let room = passes (overfills_file o text id) errno.Efbig proceed regular.rest in
+    let room = passes (overfills CONTENT_LIMIT o text id) errno.Efbig proceed regular.rest in
     record {
       id = id;
       target = place.is;
@@ -118,9 +119,9 @@ writes o me path text done =
     }
 
 unlinks : (o : Entities) (me : SubjectView) (path : List (List ℕ))
-    → (or_refuse (λ (place : Id × Id). unlink_row o me place.0 place.1) (entry_at (lookup_along o path).target)).tail ≡ Do → CanUnlink o path
+    → (or_refuse (unlink_row o me) (entry_at (lookup_along o path).target)).tail ≡ Do → CanUnlink o path
 unlinks o me path done =
-    let place = reaches (λ (p : Id × Id). unlink_row o me p.0 p.1) (entry_at (lookup_along o path).target) done in
+    let place = reaches (unlink_row o me) (entry_at (lookup_along o path).target) done in
     let empty = passes (has_entries o place.at.1) errno.Enotempty proceed place.rest in
     record {
       dir = place.at.0;
@@ -133,7 +134,7 @@ unlinks o me path done =
 fills : (o : Entities) (me : SubjectView) (name text : List ℕ) → (found errno.Enoent (pwrite_row o me text) (pipe_named o name)).tail ≡ Do → CanFill o name text
 fills o me name text done =
     let pipe = finds errno.Enoent (pwrite_row o me text) (pipe_named o name) done in
-    let room = passes (overfills_pipe o text pipe.id) errno.Eagain proceed pipe.rest in
+    let room = passes (overfills PIPE_LIMIT o text pipe.id) errno.Eagain proceed pipe.rest in
     record { id = pipe.id; named = pipe.is; room = room.passed; fits = λ live. fits_pipe (length text) o pipe.id live (ltb-false 16384 _ room.passed) }
 
 delivers : (o : Entities) (me : SubjectView) (from to : List ℕ) → (found errno.Enoent (send_row o me to) (socket_named o from)).tail ≡ Do → CanDeliver o to
@@ -156,7 +157,7 @@ loadable_module : (fault : Option LoadFault) → option_map load_errno fault ≡
 loadable_module None none = refl
 loadable_module (Some fault) none = cc
 
-loads : (s : State) (me : SubjectView) (name : List ℕ) (wanted : Option Module) → loadable name ≡ wanted → (load_row s me wanted).tail ≡ Do → CanLoad s name
+loads : (s : State) (me : SubjectView) (name : List ℕ) (wanted : Option Module) → module_named name ≡ wanted → (load_row s me wanted).tail ≡ Do → CanLoad s name
 loads s me name None is done = cc
 loads s me name (Some m) is done =
     record { wanted = m; named = is; fault = loadable_module (load_fault s.booted s.specs s.numbers m) (no_fault (load_refusal s m) proceed done) }
@@ -171,7 +172,7 @@ unloads s name (Some m) is none =
     let fault = unloadable_module (unload_fault s.specs m) none in
     record { wanted = m; named = is; listed = by_test (is_listed m s.specs) fault; fault = fault }
   where
-    by_test : (b : Bool) → (if not b then Some NotLoaded else if is_unloadok (flags_of m) then None else Some Pinned) ≡ None → b ≡ true
+    by_test : (b : Bool) → (if not b then Some NotLoaded else if (facts_of m).unload_ok then None else Some Pinned) ≡ None → b ≡ true
     by_test true none = refl
     by_test false none = cc
 
@@ -184,12 +185,15 @@ can_do_for s task me (call.See name) done = tt
 can_do_for s task me (call.Signal name) done = tt
 can_do_for s task me (call.Debug name) done = tt
 can_do_for s task me (call.Sched name) done = tt
+can_do_for s task me (call.Priv p) done = tt
+can_do_for s task me call.Getpmac done = tt
 can_do_for s task me (call.Exec path) done = reads s.objects path (exec_row s.objects me) done
 can_do_for s task me (call.Create path) done = creates s.objects me path done
 can_do_for s task me (call.Mkdir path) done = creates s.objects me path done
 can_do_for s task me (call.Read path) done = reads s.objects path (read_row s.objects me) done
 can_do_for s task me (call.Write path text) done = writes s.objects me path text done
 can_do_for s task me (call.Stat path) done = reads s.objects path (check_row s.objects me op.VnodeStat) done
+can_do_for s task me (call.Getfmac path) done = reads s.objects path (check_row s.objects me op.VnodeStat) done
 can_do_for s task me (call.Readdir path) done = reads s.objects path (readdir_row s.objects me) done
 can_do_for s task me (call.Chmod path mode) done = reads s.objects path (check_row s.objects me op.VnodeSetmode) done
 can_do_for s task me (call.Unlink path) done = unlinks s.objects me path done
@@ -202,7 +206,7 @@ can_do_for s task me (call.Send from to text) done = delivers s.objects me from 
 can_do_for s task me (call.Recv name) done = receives s.objects me name done
 can_do_for s task me (call.Seesock name) done = tt
 can_do_for s task me call.Kldstat done = tt
-can_do_for s task me (call.Kldload name) done = loads s me name (loadable name) refl done
+can_do_for s task me (call.Kldload name) done = loads s me name (module_named name) refl done
 can_do_for s task me (call.Kldunload name) done = unloads s name (module_named name) refl (no_fault (unload_refusal s (module_named name)) proceed done)
 can_do_for s task me (call.Sysctl name value) done = tt
 can_do_for s task me call.UgidfwList done = tt

@@ -5,11 +5,13 @@ use Rattle.std.proofs.lemmas.List.Elements.{All-push}
 use Rattle.mf_errno.specs.declared.errno.Errno.{Errno}
 use Rattle.mf_errno.specs.declared.errno.Errno.TheVariants.{Enotdir}
 use Rattle.mf_objects.specs.declared.id.Id.{Id}
-use Rattle.mf_objects.specs.Live.{LiveEntity, Entities, IsLive, id_of, is_child, is_directory, is_vnode}
+use Rattle.mf_objects.specs.Live.{LiveEntity, Entities, id_of, is_child}
+use Rattle.mf_objects.specs.Lives.{IsLive, is_directory, is_vnode}
 use Rattle.mf_plan.specs.declared.target.Target.{Target}
 use Rattle.mf_plan.specs.declared.target.Target.TheVariants.{Root, Name}
 use Rattle.mf_plan.specs.declared.lookup.Lookup.{Lookup}
-use Rattle.mf_plan.specs.Path.{root, entry_of, nowhere, looking_into, going_on, lookup_from, lookup_along, next_dir, last_name, IsTarget}
+use Rattle.mf_plan.specs.Path.{root, entry_of, nowhere, looking_into, going_on, lookup_from, lookup_along, last_name}
+use Rattle.mf_plan.specs.Places.{next_dir, IsTarget}
 use Rattle.mf_plan.specs.Views.{is_dir}
 
 -- these directories are looked into first

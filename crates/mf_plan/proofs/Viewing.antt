@@ -9,7 +9,7 @@ use Rattle.mf_objects.specs.Live.{Entities}
 use Rattle.mf_plan.specs.declared.outline.Check.{Check}
 use Rattle.mf_plan.specs.declared.views.CheckView.{CheckView}
 use Rattle.mf_plan.specs.Outline.{item_of, subject_in}
-use Rattle.mf_plan.specs.Planned.{HaveSubjects, item_with, items_with, nobody}
+use Rattle.mf_plan.specs.Items.{HaveSubjects, item_with, items_with, nobody}
 use Rattle.mf_plan.specs.Viewing.{EndsWith, GrowsTo, IsAsked}
 
 -- so many checks are filled in

@@ -1,22 +1,24 @@
 -- What holds in a state where the call's plan ends without a refusal, as far as the call's change needs it. That the
 -- caller lives is asked besides.
 use Rattle.std.specs.Prelude.{◌≡◌, ℕ, ◌<◌, true, false, List, length, Option, Some, None, Ok, find}
-use Rattle.mf_errno.specs.Module.{module_named}
+use Rattle.mf_errno.specs.Names.{module_named}
 use Rattle.mf_errno.specs.declared.module.Module.{Module}
 use Rattle.mf_objects.specs.declared.id.Id.{Id}
 use Rattle.mf_objects.specs.declared.limits.TheConstants.{MOST_ENTITIES}
-use Rattle.mf_objects.specs.Changes.{FitsBytes, FitsMessage, HasMessage}
-use Rattle.mf_objects.specs.Live.{LiveEntity, Entities, IsLive, IsLiveWhere, live_at, live_named, entry_count, is_child, is_pipe, is_process, is_socket, is_vnode}
+use Rattle.mf_objects.specs.Fits.{FitsBytes, FitsMessage, HasMessage}
+use Rattle.mf_objects.specs.Live.{LiveEntity, Entities, live_at, live_named, entry_count, is_child, is_pipe, is_process, is_socket}
+use Rattle.mf_objects.specs.Lives.{IsLive, IsLiveWhere, is_vnode}
 use Rattle.mf_calls.specs.declared.script.Call.{Call}
 use Rattle.mf_calls.specs.declared.script.Call.TheVariants as call
+use Rattle.mf_names.specs.declared.limits.TheConstants.{CONTENT_LIMIT}
+use Rattle.mf_objects.specs.declared.limits.TheConstants.{PIPE_LIMIT}
 use Rattle.mf_plan.specs.declared.state.State.{State}
 use Rattle.mf_plan.specs.declared.target.Target.TheVariants.{Name}
-use Rattle.mf_plan.specs.Loading.{loadable}
 use Rattle.mf_policy.specs.Loading.{load_fault, unload_fault}
 use Rattle.mf_policy.specs.Registration.{is_listed}
 use Rattle.mf_plan.specs.Names.{child_name}
 use Rattle.mf_plan.specs.Path.{lookup_along, found_at, last_name}
-use Rattle.mf_plan.specs.Views.{pipe_named, socket_named, is_dir, has_entries, overfills_file, overfills_pipe, is_full_socket, is_empty_socket}
+use Rattle.mf_plan.specs.Views.{pipe_named, socket_named, is_dir, has_entries, overfills, is_full_socket, is_empty_socket}
 
 -- a process, pipe or socket of that name can be made
 pub record CanMake (o : Entities) (holder : Option LiveEntity) : Type 0 where
@@ -35,7 +37,7 @@ pub record CanWrite (o : Entities) (path : List (List ℕ)) (text : List ℕ) : 
   pub id : Id
   pub target : found_at (lookup_along o path).target ≡ Ok id
   pub regular : is_dir o id ≡ false
-  pub room : overfills_file o text id ≡ false
+  pub room : overfills CONTENT_LIMIT o text id ≡ false
   pub fits : IsLive is_vnode o id → IsLiveWhere (FitsBytes (length text)) (live_at o id)
 
 -- there is a file or directory at the end of the path
@@ -60,7 +62,7 @@ pub record CanRead (o : Entities) (name : List ℕ) : Type 0 where
 pub record CanFill (o : Entities) (name text : List ℕ) : Type 0 where
   pub id : Id
   pub named : pipe_named o name ≡ Some id
-  pub room : overfills_pipe o text id ≡ false
+  pub room : overfills PIPE_LIMIT o text id ≡ false
   pub fits : IsLive is_pipe o id → IsLiveWhere (FitsBytes (length text)) (live_at o id)
 
 -- a message fits the socket of that name
@@ -80,7 +82,7 @@ pub record CanReceive (o : Entities) (name : List ℕ) : Type 0 where
 -- the module of that name can be loaded
 pub record CanLoad (s : State) (name : List ℕ) : Type 0 where
   pub wanted : Module
-  pub named : loadable name ≡ Some wanted
+  pub named : module_named name ≡ Some wanted
   pub fault : load_fault s.booted s.specs s.numbers wanted ≡ None
 
 -- the module of that name can be unloaded
@@ -99,6 +101,7 @@ CanDo s task (call.Mkdir path) = CanCreate s.objects path
 CanDo s task (call.Read path) = CanFind s.objects path
 CanDo s task (call.Write path text) = CanWrite s.objects path text
 CanDo s task (call.Stat path) = CanFind s.objects path
+CanDo s task (call.Getfmac path) = CanFind s.objects path
 CanDo s task (call.Readdir path) = CanFind s.objects path
 CanDo s task (call.Chmod path mode) = CanFind s.objects path
 CanDo s task (call.Unlink path) = CanUnlink s.objects path

@@ -3,10 +3,11 @@
 --
 -- A row is read from the left: `ask` is a check, `refuse_if` a test of the framework that ends the plan with an errno, and
 -- `proceed` the end of a call that may be done.
+use Rattle.std.specs.Option.{option_map_or}
 use Rattle.std.specs.Prelude.{ℕ, Bool, not, nat_eq, List, [], ◌∷◌, ◌++◌, map, Option, Some, None, is_some, Result, Ok, Err, if◌then◌else◌}
 use Rattle.mf_errno.specs.declared.errno.Errno.{Errno}
 use Rattle.mf_errno.specs.declared.errno.Errno.TheVariants as errno
-use Rattle.mf_errno.specs.Module.{module_named}
+use Rattle.mf_errno.specs.Names.{module_named}
 use Rattle.mf_errno.specs.declared.module.Module.{Module}
 use Rattle.mf_errno.specs.declared.module.Module.TheVariants as modules
 use Rattle.mf_errno.specs.declared.privilege.Priv.{Priv}
@@ -19,18 +20,19 @@ use Rattle.mf_objects.specs.declared.id.Id.{Id}
 use Rattle.mf_objects.specs.Live.{Entities}
 use Rattle.mf_calls.specs.declared.script.Call.{Call}
 use Rattle.mf_calls.specs.declared.script.Call.TheVariants as call
+use Rattle.mf_names.specs.declared.limits.TheConstants.{CONTENT_LIMIT}
+use Rattle.mf_objects.specs.declared.limits.TheConstants.{PIPE_LIMIT}
 use Rattle.mf_plan.specs.Planned.{Plan}
-use Rattle.mf_plan.specs.declared.plan.Tail.{Tail}
 use Rattle.mf_plan.specs.declared.plan.Tail.TheVariants.{Do, Refuse}
 use Rattle.mf_plan.specs.declared.state.State.{State}
 use Rattle.mf_plan.specs.declared.target.Target.{Target}
-use Rattle.mf_plan.specs.Loading.{loadable, load_refusal, unload_refusal}
+use Rattle.mf_plan.specs.Loading.{load_refusal, unload_refusal}
 use Rattle.mf_policy.specs.Registration.{is_listed}
 use Rattle.mf_plan.specs.Settings.{setting_refusal}
 use Rattle.mf_plan.specs.Names.{caller_name, child_name}
 use Rattle.mf_plan.specs.Path.{lookup_along, found_at, free_at, entry_at}
 use Rattle.mf_plan.specs.declared.lookup.Lookup.{Lookup}
-use Rattle.mf_plan.specs.Views.{subject_of, object_of, sender_of, process_named, pipe_named, socket_named, is_full, is_dir, has_entries, overfills_file, overfills_pipe, is_empty_pipe, is_full_socket, is_empty_socket}
+use Rattle.mf_plan.specs.Views.{subject_of, object_of, sender_of, process_named, pipe_named, socket_named, is_full, is_dir, has_entries, overfills, is_empty_pipe, is_full_socket, is_empty_socket}
 
 -- Parts of a row
 
@@ -44,8 +46,7 @@ abbrev pub refuse_if : Bool → Errno → Plan → Plan
 refuse_if test e rest = if test then refuse e else rest
 
 abbrev pub refuse_by : Option Errno → Plan → Plan
-refuse_by None rest = rest
-refuse_by (Some e) rest = refuse e
+refuse_by errno rest = option_map_or refuse errno rest
 
 abbrev pub ask : Item → Plan → Plan
 ask item rest = record rest { items = item ∷ rest.items }
@@ -64,9 +65,8 @@ about_modules subject op = record { op = op; subject = subject; object = None; r
 
 -- goes on with what is found, or else refuses
 
-abbrev pub found : Errno → (Id → Plan) → Option Id → Plan
-found e row None = refuse e
-found e row (Some id) = row id
+abbrev pub found : {A : Type 0} → Errno → (A → Plan) → Option A → Plan
+found e row what = option_map_or row what (refuse e)
 
 abbrev pub or_refuse : {A : Type 0} → (A → Plan) → Result A Errno → Plan
 or_refuse row (Ok place) = row place
@@ -78,20 +78,9 @@ or_refuse row (Err e) = refuse e
 abbrev pub asking_first : List Item → Plan → Plan
 asking_first checks rest = record rest { items = checks ++ rest.items }
 
-abbrev pub along : Entities → SubjectView → (Target → Plan) → Lookup → Plan
-along objects subject row walk = asking_first (map (on objects subject op.VnodeLookup) walk.lookups) (row walk.target)
-
--- the file or directory must be there
-abbrev pub at_found : (Id → Plan) → Target → Plan
-at_found row target = or_refuse row (found_at target)
-
--- the name must be free in its directory
-abbrev pub at_free : (Id → Plan) → Target → Plan
-at_free row target = or_refuse row (free_at target)
-
--- there must be an entry of its directory
-abbrev pub at_entry : (Id → Id → Plan) → Target → Plan
-at_entry row target = or_refuse (λ place. row place.0 place.1) (entry_at target)
+-- the row of the place that is wanted at the path's end: what is there, a free name, or an entry of its directory
+abbrev pub along : {A : Type 0} → Entities → SubjectView → (Target → Result A Errno) → (A → Plan) → Lookup → Plan
+along objects subject place row walk = asking_first (map (on objects subject op.VnodeLookup) walk.lookups) (or_refuse row (place walk.target))
 
 -- Rows
 
@@ -111,14 +100,14 @@ read_row o me id = refuse_if (is_dir o id) errno.Eisdir (ask (on o me op.VnodeOp
 abbrev pub write_row : Entities → SubjectView → List ℕ → Id → Plan
 write_row o me text id =
     refuse_if (is_dir o id) errno.Eisdir
-    (ask (on o me op.VnodeOpenWrite id) (ask (on o me op.VnodeWrite id) (refuse_if (overfills_file o text id) errno.Efbig proceed)))
+    (ask (on o me op.VnodeOpenWrite id) (ask (on o me op.VnodeWrite id) (refuse_if (overfills CONTENT_LIMIT o text id) errno.Efbig proceed)))
 
 abbrev pub readdir_row : Entities → SubjectView → Id → Plan
 readdir_row o me id = refuse_if (not (is_dir o id)) errno.Enotdir (ask (on o me op.VnodeReaddir id) proceed)
 
-abbrev pub unlink_row : Entities → SubjectView → Id → Id → Plan
-unlink_row o me dir id =
-    ask (on o me op.VnodeUnlinkDir dir) (ask (on o me op.VnodeUnlink id) (refuse_if (has_entries o id) errno.Enotempty proceed))
+abbrev pub unlink_row : Entities → SubjectView → Id × Id → Plan
+unlink_row o me place =
+    ask (on o me op.VnodeUnlinkDir place.0) (ask (on o me op.VnodeUnlink place.1) (refuse_if (has_entries o place.1) errno.Enotempty proceed))
 
 abbrev pub make_row : Entities → Option Id → Plan
 make_row o holder = refuse_if (is_some holder) errno.Eexist (refuse_if (is_full o) errno.Enfile proceed)
@@ -127,7 +116,7 @@ abbrev pub pread_row : Entities → SubjectView → Id → Plan
 pread_row o me id = ask (on o me op.PipeRead id) (refuse_if (is_empty_pipe o id) errno.Eagain proceed)
 
 abbrev pub pwrite_row : Entities → SubjectView → List ℕ → Id → Plan
-pwrite_row o me text id = ask (on o me op.PipeWrite id) (refuse_if (overfills_pipe o text id) errno.Eagain proceed)
+pwrite_row o me text id = ask (on o me op.PipeWrite id) (refuse_if (overfills PIPE_LIMIT o text id) errno.Eagain proceed)
 
 abbrev pub deliver_row : Entities → SubjectView → Id → Id → Plan
 deliver_row o me from to = ask (on o (sender_of o me from) op.SocketDeliver to) (refuse_if (is_full_socket o to) errno.Enobufs proceed)
@@ -139,8 +128,7 @@ abbrev pub recv_row : Entities → SubjectView → Id → Plan
 recv_row o me id = ask (on o me op.SocketReceive id) (refuse_if (is_empty_socket o id) errno.Eagain proceed)
 
 abbrev pub load_row : State → SubjectView → Option Module → Plan
-load_row s me None = refuse errno.Enoent
-load_row s me (Some m) = ask (about_modules me op.KldLoad) (refuse_by (load_refusal s m) proceed)
+load_row s me wanted = found errno.Enoent (λ m. ask (about_modules me op.KldLoad) (refuse_by (load_refusal s m) proceed)) wanted
 
 -- root alone changes a setting
 abbrev pub setting_row : State → SubjectView → Call → Plan
@@ -157,15 +145,18 @@ plan_for s task me (call.See name) = found errno.Esrch (check_row s.objects me o
 plan_for s task me (call.Signal name) = found errno.Esrch (check_row s.objects me op.ProcSignal) (process_named s.objects name)
 plan_for s task me (call.Debug name) = found errno.Esrch (check_row s.objects me op.ProcDebug) (process_named s.objects name)
 plan_for s task me (call.Sched name) = found errno.Esrch (check_row s.objects me op.ProcSched) (process_named s.objects name)
-plan_for s task me (call.Exec path) = along s.objects me (at_found (exec_row s.objects me)) (lookup_along s.objects path)
-plan_for s task me (call.Create path) = along s.objects me (at_free (create_row s.objects me)) (lookup_along s.objects path)
-plan_for s task me (call.Mkdir path) = along s.objects me (at_free (create_row s.objects me)) (lookup_along s.objects path)
-plan_for s task me (call.Read path) = along s.objects me (at_found (read_row s.objects me)) (lookup_along s.objects path)
-plan_for s task me (call.Write path text) = along s.objects me (at_found (write_row s.objects me text)) (lookup_along s.objects path)
-plan_for s task me (call.Stat path) = along s.objects me (at_found (check_row s.objects me op.VnodeStat)) (lookup_along s.objects path)
-plan_for s task me (call.Readdir path) = along s.objects me (at_found (readdir_row s.objects me)) (lookup_along s.objects path)
-plan_for s task me (call.Chmod path mode) = along s.objects me (at_found (check_row s.objects me op.VnodeSetmode)) (lookup_along s.objects path)
-plan_for s task me (call.Unlink path) = along s.objects me (at_entry (unlink_row s.objects me)) (lookup_along s.objects path)
+plan_for s task me (call.Priv p) = ask (privileged me p) proceed
+plan_for s task me call.Getpmac = proceed
+plan_for s task me (call.Exec path) = along s.objects me found_at (exec_row s.objects me) (lookup_along s.objects path)
+plan_for s task me (call.Create path) = along s.objects me free_at (create_row s.objects me) (lookup_along s.objects path)
+plan_for s task me (call.Mkdir path) = along s.objects me free_at (create_row s.objects me) (lookup_along s.objects path)
+plan_for s task me (call.Read path) = along s.objects me found_at (read_row s.objects me) (lookup_along s.objects path)
+plan_for s task me (call.Write path text) = along s.objects me found_at (write_row s.objects me text) (lookup_along s.objects path)
+plan_for s task me (call.Stat path) = along s.objects me found_at (check_row s.objects me op.VnodeStat) (lookup_along s.objects path)
+plan_for s task me (call.Getfmac path) = along s.objects me found_at (check_row s.objects me op.VnodeStat) (lookup_along s.objects path)
+plan_for s task me (call.Readdir path) = along s.objects me found_at (readdir_row s.objects me) (lookup_along s.objects path)
+plan_for s task me (call.Chmod path mode) = along s.objects me found_at (check_row s.objects me op.VnodeSetmode) (lookup_along s.objects path)
+plan_for s task me (call.Unlink path) = along s.objects me entry_at (unlink_row s.objects me) (lookup_along s.objects path)
 plan_for s task me (call.Pipe name) = make_row s.objects (pipe_named s.objects name)
 plan_for s task me (call.Socket name) = make_row s.objects (socket_named s.objects name)
 plan_for s task me (call.Pread name) = found errno.Enoent (pread_row s.objects me) (pipe_named s.objects name)
@@ -175,7 +166,7 @@ plan_for s task me (call.Send from to text) = found errno.Enoent (send_row s.obj
 plan_for s task me (call.Recv name) = found errno.Enoent (recv_row s.objects me) (socket_named s.objects name)
 plan_for s task me (call.Seesock name) = found errno.Enoent (check_row s.objects me op.SocketVisible) (socket_named s.objects name)
 plan_for s task me call.Kldstat = proceed
-plan_for s task me (call.Kldload name) = ask (privileged me privilege.KldLoad) (load_row s me (loadable name))
+plan_for s task me (call.Kldload name) = ask (privileged me privilege.KldLoad) (load_row s me (module_named name))
 plan_for s task me (call.Kldunload name) =
     ask (privileged me privilege.KldUnload) (ask (about_modules me op.KldUnload) (refuse_by (unload_refusal s (module_named name)) proceed))
 plan_for s task me (call.Sysctl name value) = setting_row s me (call.Sysctl name value)
@@ -186,19 +177,8 @@ plan_for s task me (call.UgidfwRemove n) = setting_row s me (call.UgidfwRemove n
 
 -- a caller that doesn't live makes no call
 abbrev pub plan_by : State → List ℕ → Call → Option Id → Plan
-plan_by s task call None = refuse errno.Esrch
-plan_by s task call (Some caller) = plan_for s task (subject_of s.objects caller) call
+plan_by s task call caller = found errno.Esrch (λ id. plan_for s task (subject_of s.objects id) call) caller
 
 -- the plan of a call of the task's own process, or of its child of that name
 abbrev pub plan_of : State → List ℕ → Option (List ℕ) → Call → Plan
 plan_of s task child call = plan_by s task call (process_named s.objects (caller_name task child))
-
--- How a plan is put together
-
-abbrev pub tail_of : {A : Type 0} → Result A Errno → Tail
-tail_of (Ok place) = Do
-tail_of (Err e) = Refuse e
-
--- the plan with these checks and this end
-abbrev pub ended : {A : Type 0} → List Item → Result A Errno → Plan
-ended checks end = record { items = checks; tail = tail_of end }

@@ -1,28 +1,9 @@
 -- A plan, as contracts see it: this model's own.
-use Rattle.std.specs.Prelude.{ℕ, ◌<◌, List, [], length, map, All, slice_index_or, None}
+use Rattle.std.specs.Prelude.{List}
 use Rattle.mf_item.specs.Item.{Item}
-use Rattle.mf_item.specs.declared.view.SubjectView.{SubjectView}
-use Rattle.mf_objects.specs.Live.{no_cred}
 use Rattle.mf_plan.specs.declared.plan.Tail.{Tail}
-use Rattle.mf_plan.specs.declared.views.CheckView.{CheckView}
 
 -- the checks of a call as policies see them, in the order in which they are asked, and its end
 pub record Plan : Type 0 where
   pub items : List Item
   pub tail : Tail
-
--- what stands for a subject that isn't there; no check has it
-abbrev pub nobody : SubjectView
-nobody = record { id = 0; cred = no_cred; label = [] }
-
--- a check of these subjects, as policies see it
-abbrev pub item_with : List SubjectView → CheckView → Item
-item_with subjects check =
-    record { op = check.op; subject = slice_index_or subjects check.subject nobody; object = check.object; request = None; privilege = check.privilege }
-
-abbrev pub items_with : List SubjectView → List CheckView → List Item
-items_with subjects checks = map (item_with subjects) checks
-
--- each check's subject is among these
-abbrev pub HaveSubjects : List SubjectView → List CheckView → Type 0
-HaveSubjects subjects checks = All (λ check. check.subject < length subjects) checks

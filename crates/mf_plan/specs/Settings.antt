@@ -1,6 +1,6 @@
 -- Which change of a policy's setting a call asks for, as sysctl(8) and ugidfw(8) do, and with which errno it is refused, by docs/MANUAL.md
 -- (CALLS). The name of the sysctl is that of mac_bsdextended(4).
-use Rattle.std.specs.Prelude.{ℕ, Bool, true, false, not, if◌then◌else◌, List, Option, Some, None, option_and_then, option_map, codes}
+use Rattle.std.specs.Prelude.{ℕ, Bool, true, false, if◌then◌else◌, List, Option, Some, None, option_and_then, option_map, codes}
 use Rattle.std.specs.Str.{bytes_eq}
 use Rattle.mf_errno.specs.declared.errno.Errno.{Errno}
 use Rattle.mf_errno.specs.declared.errno.Errno.TheVariants.{Success, Enoent, Einval}

@@ -5,7 +5,7 @@ use Rattle.mf_objects.specs.Live.{Entities}
 use Rattle.mf_plan.specs.declared.outline.Check.{Check}
 use Rattle.mf_plan.specs.declared.views.CheckView.{CheckView}
 use Rattle.mf_plan.specs.Outline.{subject_in}
-use Rattle.mf_plan.specs.Planned.{nobody}
+use Rattle.mf_plan.specs.Items.{nobody}
 use Rattle.mf_plan.specs.Views.{object_of}
 
 -- the view is that of the check, but for its subject

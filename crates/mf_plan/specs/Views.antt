@@ -2,9 +2,8 @@
 use Rattle.std.specs.Prelude.{ℕ, ◌+◌, Bool, nat_eq, nat_le, nat_lt, List, length, Option}
 use Rattle.mf_item.specs.declared.view.SubjectView.{SubjectView}
 use Rattle.mf_item.specs.declared.view.ObjectView.{ObjectView}
-use Rattle.mf_names.specs.declared.limits.TheConstants.{CONTENT_LIMIT}
 use Rattle.mf_objects.specs.declared.id.Id.{Id}
-use Rattle.mf_objects.specs.declared.limits.TheConstants.{MOST_ENTITIES, PIPE_LIMIT, MOST_MESSAGES}
+use Rattle.mf_objects.specs.declared.limits.TheConstants.{MOST_ENTITIES, MOST_MESSAGES}
 use Rattle.mf_objects.specs.Live.{Entities, id_of, live_named, is_process, is_pipe, is_socket, kind_at, file_at, cred_at, label_at, content_at, count_at}
 
 -- the entity of an id as a subject, and as an object
@@ -43,13 +42,9 @@ is_dir objects id = (file_at objects id).dir
 abbrev pub has_entries : Entities → Id → Bool
 has_entries objects id = nat_lt 0 (count_at objects id)
 
--- the file would hold more bytes than a file may
-abbrev pub overfills_file : Entities → List ℕ → Id → Bool
-overfills_file objects text id = nat_lt CONTENT_LIMIT (length (content_at objects id) + length text)
-
--- the pipe would hold more bytes than a pipe may
-abbrev pub overfills_pipe : Entities → List ℕ → Id → Bool
-overfills_pipe objects text id = nat_lt PIPE_LIMIT (length (content_at objects id) + length text)
+-- the file or pipe would hold more bytes than this
+abbrev pub overfills : ℕ → Entities → List ℕ → Id → Bool
+overfills most objects text id = nat_lt most (length (content_at objects id) + length text)
 
 -- a pipe without bytes
 abbrev pub is_empty_pipe : Entities → Id → Bool

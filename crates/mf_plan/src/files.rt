@@ -1,11 +1,13 @@
 //! The checks of calls on files and directories.
 ghost use Rattle.std.specs.Prelude.{◌≡◌, ◌≤◌, [], map, length, All, IfOk};
 ghost use Rattle.mf_item.specs.declared.operation.CheckOp.TheVariants as op;
-ghost use Rattle.mf_objects.specs.Live.{IsLive, is_directory};
+ghost use Rattle.mf_objects.specs.Lives.{IsLive, is_directory};
 ghost use Rattle.mf_plan.specs.Outline as outline;
 ghost use Rattle.mf_plan.specs.Path as paths;
-ghost use Rattle.mf_plan.specs.Path.{IsTarget, lookup_along};
+ghost use Rattle.mf_plan.specs.Places.{free_dir_at, entry_at_path, IsTarget};
+ghost use Rattle.mf_plan.specs.Path.{lookup_along};
 ghost use Rattle.mf_plan.specs.Plan as spec;
+ghost use Rattle.mf_plan.specs.Ended.{ended};
 ghost use Rattle.mf_plan.specs.Views as view;
 
 use crate::lookup::lookup_along;
@@ -58,9 +60,9 @@ pub(crate) fn on_file(
 ) -> Result<Option<Id>, Errno>
     requires empty { checks.old ≡ [] }
     requires asking { outline.IsAsking objects.now caller checks.old }
-    ensures plan { spec.ended (map (outline.item_of objects.now) checks.new) result
-        ≡ spec.along objects.now (view.subject_of objects.now caller)
-        (spec.at_found (spec.check_row objects.now (view.subject_of objects.now caller) op)) (lookup_along objects.now path.now) }
+    ensures plan { ended (map (outline.item_of objects.now) checks.new) result
+        ≡ spec.along objects.now (view.subject_of objects.now caller) paths.found_at
+        (spec.check_row objects.now (view.subject_of objects.now caller) op) (lookup_along objects.now path.now) }
     ensures target { IfOk result (λ target. target ≡ paths.file_at_path objects.now path.now) }
     ensures asking { outline.IsAsking objects.now caller checks.new }
 {
@@ -77,9 +79,9 @@ pub(crate) fn exec(
 ) -> Result<Option<Id>, Errno>
     requires empty { checks.old ≡ [] }
     requires asking { outline.IsAsking objects.now caller checks.old }
-    ensures plan { spec.ended (map (outline.item_of objects.now) checks.new) result
-        ≡ spec.along objects.now (view.subject_of objects.now caller)
-        (spec.at_found (spec.exec_row objects.now (view.subject_of objects.now caller))) (lookup_along objects.now path.now) }
+    ensures plan { ended (map (outline.item_of objects.now) checks.new) result
+        ≡ spec.along objects.now (view.subject_of objects.now caller) paths.found_at
+        (spec.exec_row objects.now (view.subject_of objects.now caller)) (lookup_along objects.now path.now) }
     ensures target { IfOk result (λ target. target ≡ paths.file_at_path objects.now path.now) }
     ensures asking { outline.IsAsking objects.now caller checks.new }
 {
@@ -100,10 +102,10 @@ pub(crate) fn create(
 ) -> Result<Option<Id>, Errno>
     requires empty { checks.old ≡ [] }
     requires asking { outline.IsAsking objects.now caller checks.old }
-    ensures plan { spec.ended (map (outline.item_of objects.now) checks.new) result
-        ≡ spec.along objects.now (view.subject_of objects.now caller)
-        (spec.at_free (spec.create_row objects.now (view.subject_of objects.now caller))) (lookup_along objects.now path.now) }
-    ensures target { IfOk result (λ target. target ≡ paths.free_dir_at objects.now path.now) }
+    ensures plan { ended (map (outline.item_of objects.now) checks.new) result
+        ≡ spec.along objects.now (view.subject_of objects.now caller) paths.free_at
+        (spec.create_row objects.now (view.subject_of objects.now caller)) (lookup_along objects.now path.now) }
+    ensures target { IfOk result (λ target. target ≡ free_dir_at objects.now path.now) }
     ensures asking { outline.IsAsking objects.now caller checks.new }
 {
     let dir = look_up(objects, caller, path, checks).free()?;
@@ -122,9 +124,9 @@ pub(crate) fn read(
 ) -> Result<Option<Id>, Errno>
     requires empty { checks.old ≡ [] }
     requires asking { outline.IsAsking objects.now caller checks.old }
-    ensures plan { spec.ended (map (outline.item_of objects.now) checks.new) result
-        ≡ spec.along objects.now (view.subject_of objects.now caller)
-        (spec.at_found (spec.read_row objects.now (view.subject_of objects.now caller))) (lookup_along objects.now path.now) }
+    ensures plan { ended (map (outline.item_of objects.now) checks.new) result
+        ≡ spec.along objects.now (view.subject_of objects.now caller) paths.found_at
+        (spec.read_row objects.now (view.subject_of objects.now caller)) (lookup_along objects.now path.now) }
     ensures target { IfOk result (λ target. target ≡ paths.file_at_path objects.now path.now) }
     ensures asking { outline.IsAsking objects.now caller checks.new }
 {
@@ -147,9 +149,9 @@ pub(crate) fn write(
     requires text { length text.now ≤ SCRIPT_LIMIT }
     requires empty { checks.old ≡ [] }
     requires asking { outline.IsAsking objects.now caller checks.old }
-    ensures plan { spec.ended (map (outline.item_of objects.now) checks.new) result
-        ≡ spec.along objects.now (view.subject_of objects.now caller)
-        (spec.at_found (spec.write_row objects.now (view.subject_of objects.now caller) text.now)) (lookup_along objects.now path.now) }
+    ensures plan { ended (map (outline.item_of objects.now) checks.new) result
+        ≡ spec.along objects.now (view.subject_of objects.now caller) paths.found_at
+        (spec.write_row objects.now (view.subject_of objects.now caller) text.now) (lookup_along objects.now path.now) }
     ensures target { IfOk result (λ target. target ≡ paths.file_at_path objects.now path.now) }
     ensures asking { outline.IsAsking objects.now caller checks.new }
 {
@@ -173,9 +175,9 @@ pub(crate) fn readdir(
 ) -> Result<Option<Id>, Errno>
     requires empty { checks.old ≡ [] }
     requires asking { outline.IsAsking objects.now caller checks.old }
-    ensures plan { spec.ended (map (outline.item_of objects.now) checks.new) result
-        ≡ spec.along objects.now (view.subject_of objects.now caller)
-        (spec.at_found (spec.readdir_row objects.now (view.subject_of objects.now caller))) (lookup_along objects.now path.now) }
+    ensures plan { ended (map (outline.item_of objects.now) checks.new) result
+        ≡ spec.along objects.now (view.subject_of objects.now caller) paths.found_at
+        (spec.readdir_row objects.now (view.subject_of objects.now caller)) (lookup_along objects.now path.now) }
     ensures target { IfOk result (λ target. target ≡ paths.file_at_path objects.now path.now) }
     ensures asking { outline.IsAsking objects.now caller checks.new }
 {
@@ -195,10 +197,10 @@ pub(crate) fn unlink(
 ) -> Result<Option<Id>, Errno>
     requires empty { checks.old ≡ [] }
     requires asking { outline.IsAsking objects.now caller checks.old }
-    ensures plan { spec.ended (map (outline.item_of objects.now) checks.new) result
-        ≡ spec.along objects.now (view.subject_of objects.now caller)
-        (spec.at_entry (spec.unlink_row objects.now (view.subject_of objects.now caller))) (lookup_along objects.now path.now) }
-    ensures target { IfOk result (λ target. target ≡ paths.entry_at_path objects.now path.now) }
+    ensures plan { ended (map (outline.item_of objects.now) checks.new) result
+        ≡ spec.along objects.now (view.subject_of objects.now caller) paths.entry_at
+        (spec.unlink_row objects.now (view.subject_of objects.now caller)) (lookup_along objects.now path.now) }
+    ensures target { IfOk result (λ target. target ≡ entry_at_path objects.now path.now) }
     ensures asking { outline.IsAsking objects.now caller checks.new }
 {
     let (dir, id) = look_up(objects, caller, path, checks).entry()?;

@@ -4,6 +4,7 @@ ghost use Rattle.std.specs.Option.{option_copied};
 ghost use Rattle.mf_calls.specs.WellFormed.{IsFormedChild, IsName};
 ghost use Rattle.mf_plan.specs.Found as spec;
 ghost use Rattle.mf_plan.specs.Path as paths;
+ghost use Rattle.mf_plan.specs.Places.{entry_at_path};
 
 use crate::lookup::target_of;
 use crate::names::caller_of;
@@ -12,8 +13,9 @@ use mf_calls::Call;
 use mf_names::Path;
 use mf_objects::{Id, Objects};
 
-/// The process that makes a call, and what the call is about: the file, pipe or socket that it reads or changes, or the
-/// directory in which it makes a file. A plan is made by looking these up, and hands them on to payload and effect.
+/// The process that makes a call, and what the call is about: the file, pipe or socket that it reads or changes, the
+/// directory in which it makes a file, or the process whose label it shows. A plan is made by looking these up, and hands
+/// them on to payload and effect.
 #[derive(Clone, Copy, Debug, PartialEq, Eq)]
 pub struct Found {
     pub caller: Option<Id>,
@@ -26,21 +28,24 @@ pub fn found_of(state: &State, task: &str, child: Option<&str>, call: &Call) -> 
     requires child { IsFormedChild (option_copied child) }
     ensures { result ≡ spec.found_of state.now task.now (option_copied child.entry) call.now }
 {
+    let caller = caller_of(&state.objects, task, child);
     Found {
-        caller: caller_of(&state.objects, task, child),
-        target: target_in(&state.objects, call),
+        caller,
+        target: target_in(&state.objects, caller, call),
     }
 }
 
-/// The file, pipe or socket that a call reads or changes, or the directory in which it makes a file.
-fn target_in(objects: &Objects, call: &Call) -> Option<Id>
-    ensures { result ≡ spec.target_of objects.now call.now }
+/// The file, pipe or socket that a call reads or changes, or the directory in which it makes a file; the caller of `getpmac`.
+fn target_in(objects: &Objects, caller: Option<Id>, call: &Call) -> Option<Id>
+    ensures { result ≡ spec.target_of objects.now caller call.now }
 {
     match call {
+        Call::Getpmac => caller,
         Call::Exec(path)
         | Call::Read(path)
         | Call::Write(path, _)
         | Call::Stat(path)
+        | Call::Getfmac(path)
         | Call::Readdir(path)
         | Call::Chmod(path, _) => file_at(objects, path),
         Call::Create(path) | Call::Mkdir(path) => target_of(objects, path).free().ok(),
@@ -55,6 +60,7 @@ fn target_in(objects: &Objects, call: &Call) -> Option<Id>
         | Call::Signal(_)
         | Call::Debug(_)
         | Call::Sched(_)
+        | Call::Priv(_)
         | Call::Pipe(_)
         | Call::Socket(_)
         | Call::Seesock(_)
@@ -78,7 +84,7 @@ fn file_at(objects: &Objects, path: &Path) -> Option<Id>
 
 /// The entry of a directory at a path.
 fn entry_at(objects: &Objects, path: &Path) -> Option<Id>
-    ensures { result ≡ paths.entry_at_path objects.now path.now }
+    ensures { result ≡ entry_at_path objects.now path.now }
 {
     match target_of(objects, path).entry() {
         Ok((_, id)) => Some(id),

@@ -17,13 +17,12 @@ mod target;
 mod views;
 
 pub use found::{Found, found_of};
-pub use loading::loadable;
 pub use lookup::{Lookup, lookup_along, target_of};
 pub use names::{ChildName, caller_of, child_name};
 pub use outline::{Check, Outline};
 pub use plan::{MOST_CHECKS, Plan, Tail};
 pub use planning::{outline_of, plan_of};
-pub use reply::{Loaded, Payload, Reply};
+pub use reply::{LabelPart, Loaded, Payload, Reply};
 pub use settings::setting;
 pub use state::State;
 pub use target::Target;

@@ -1,11 +1,12 @@
 //! Which modules can be loaded and unloaded, and the checks of the calls that do it.
 ghost use Rattle.std.specs.Prelude.{◌≡◌, [], map, IfOk, None};
-ghost use Rattle.mf_errno.specs.Module.{module_named};
+ghost use Rattle.mf_errno.specs.Names.{module_named};
 ghost use Rattle.mf_errno.specs.declared.privilege.Priv.TheVariants as privilege;
 ghost use Rattle.mf_item.specs.declared.operation.CheckOp.TheVariants as op;
 ghost use Rattle.mf_plan.specs.Loading as spec;
 ghost use Rattle.mf_plan.specs.Outline as outline;
 ghost use Rattle.mf_plan.specs.Plan as plan;
+ghost use Rattle.mf_plan.specs.Ended.{ended};
 ghost use Rattle.mf_plan.specs.Views as view;
 
 use crate::outline::{Checks, ask_modules, ask_privilege};
@@ -13,19 +14,11 @@ use crate::state::State;
 use mf_errno::{Errno, Module, Priv};
 use mf_item::CheckOp;
 use mf_objects::Id;
-use mf_policy::{has_spec, load_fault, unload_fault};
-
-/// The module of that name, where its policy is built in.
-pub fn loadable(name: &str) -> Option<Module>
-    ensures { result ≡ spec.loadable name.now }
-{
-    let wanted = Module::from_name(name)?;
-    if has_spec(wanted) { Some(wanted) } else { None }
-}
+use mf_policy::{load_fault, unload_fault};
 
 /// How a load of the module ends.
 fn end_of_load(state: &State, wanted: Module) -> Result<Option<Id>, Errno>
-    ensures plan { plan.ended [] result ≡ plan.refuse_by (spec.load_refusal state.now wanted) plan.proceed }
+    ensures plan { ended [] result ≡ plan.refuse_by (spec.load_refusal state.now wanted) plan.proceed }
     ensures target { IfOk result (λ target. target ≡ None) }
 {
     match load_fault(state.booted, &state.specs, state.numbers.given(), wanted) {
@@ -36,7 +29,7 @@ fn end_of_load(state: &State, wanted: Module) -> Result<Option<Id>, Errno>
 
 /// How an unload of the module of that name ends.
 fn end_of_unload(state: &State, name: &str) -> Result<Option<Id>, Errno>
-    ensures plan { plan.ended [] result ≡ plan.refuse_by (spec.unload_refusal state.now (module_named name.now)) plan.proceed }
+    ensures plan { ended [] result ≡ plan.refuse_by (spec.unload_refusal state.now (module_named name.now)) plan.proceed }
     ensures target { IfOk result (λ target. target ≡ None) }
 {
     let wanted = Module::from_name(name).ok_or(Errno::Enoent)?;
@@ -55,14 +48,14 @@ pub(crate) fn kldload(
 ) -> Result<Option<Id>, Errno>
     requires empty { checks.old ≡ [] }
     requires asking { outline.IsAsking state.now.objects caller checks.old }
-    ensures plan { plan.ended (map (outline.item_of state.now.objects) checks.new) result
+    ensures plan { ended (map (outline.item_of state.now.objects) checks.new) result
         ≡ plan.ask (plan.privileged (view.subject_of state.now.objects caller) privilege.KldLoad)
-        (plan.load_row state.now (view.subject_of state.now.objects caller) (spec.loadable name.now)) }
+        (plan.load_row state.now (view.subject_of state.now.objects caller) (module_named name.now)) }
     ensures target { IfOk result (λ target. target ≡ None) }
     ensures asking { outline.IsAsking state.now.objects caller checks.new }
 {
     ask_privilege(&state.objects, caller, Priv::KldLoad, checks);
-    let wanted = loadable(name).ok_or(Errno::Enoent)?;
+    let wanted = Module::from_name(name).ok_or(Errno::Enoent)?;
     ask_modules(&state.objects, caller, CheckOp::KldLoad, checks);
     end_of_load(state, wanted)
 }
@@ -76,7 +69,7 @@ pub(crate) fn kldunload(
 ) -> Result<Option<Id>, Errno>
     requires empty { checks.old ≡ [] }
     requires asking { outline.IsAsking state.now.objects caller checks.old }
-    ensures plan { plan.ended (map (outline.item_of state.now.objects) checks.new) result
+    ensures plan { ended (map (outline.item_of state.now.objects) checks.new) result
         ≡ plan.ask (plan.privileged (view.subject_of state.now.objects caller) privilege.KldUnload)
         (plan.ask (plan.about_modules (view.subject_of state.now.objects caller) op.KldUnload) (plan.refuse_by (spec.unload_refusal state.now (module_named name.now)) plan.proceed)) }
     ensures target { IfOk result (λ target. target ≡ None) }

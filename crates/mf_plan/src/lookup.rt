@@ -1,7 +1,8 @@
 //! The look-up of a path, as namei(9) makes it: each component is looked up once, in the directory that the one before names.
 ghost use Rattle.std.specs.Prelude.{◌≡◌, All, IfOk};
-ghost use Rattle.mf_objects.specs.Live.{IsLive, is_directory};
+ghost use Rattle.mf_objects.specs.Lives.{IsLive, is_directory};
 ghost use Rattle.mf_plan.specs.Path as spec;
+ghost use Rattle.mf_plan.specs.Places.{IsTarget, next_dir};
 
 use crate::target::Target;
 use mf_cred::ArrayVec;
@@ -20,7 +21,7 @@ pub struct Lookup {
 pub fn lookup_along(objects: &Objects, path: &Path) -> Lookup
     ensures value { result ≡ spec.lookup_along objects.now path.now }
     ensures dirs { All (λ dir. IsLive is_directory objects.now dir) result.lookups }
-    ensures target { spec.IsTarget objects.now result.target }
+    ensures target { IsTarget objects.now result.target }
 {
     // Asking for the root shows the proof that it is a live directory.
     let _root = objects.root();
@@ -46,8 +47,8 @@ pub fn lookup_along(objects: &Objects, path: &Path) -> Lookup
 
 /// The directory in which the next component is looked up.
 fn next_dir(objects: &Objects, target: Target) -> Result<Id, Errno>
-    requires { spec.IsTarget objects.now target }
-    ensures value { result ≡ spec.next_dir objects.now target }
+    requires { IsTarget objects.now target }
+    ensures value { result ≡ next_dir objects.now target }
     ensures live { IfOk result (λ dir. IsLive is_directory objects.now dir) }
 {
     match target {
@@ -67,7 +68,7 @@ fn next_dir(objects: &Objects, target: Target) -> Result<Id, Errno>
 /// Where a path leads.
 pub fn target_of(objects: &Objects, path: &Path) -> Target
     ensures value { result ≡ (spec.lookup_along objects.now path.now).target }
-    ensures target { spec.IsTarget objects.now result }
+    ensures target { IsTarget objects.now result }
 {
     lookup_along(objects, path).target
 }

@@ -6,6 +6,7 @@ ghost use Rattle.mf_calls.specs.WellFormed.{IsName};
 ghost use Rattle.mf_plan.specs.Names.{child_name};
 ghost use Rattle.mf_plan.specs.Outline as outline;
 ghost use Rattle.mf_plan.specs.Plan as spec;
+ghost use Rattle.mf_plan.specs.Ended.{ended};
 ghost use Rattle.mf_plan.specs.Views as view;
 
 use crate::names::child_name;
@@ -19,7 +20,7 @@ use mf_objects::{Id, MOST_MESSAGES, Objects};
 /// The tests of a call that makes an entity: EEXIST where `holder` has its name already, ENFILE where no further entity
 /// can be made.
 pub(crate) fn make(objects: &Objects, holder: Option<Id>) -> Result<Option<Id>, Errno>
-    ensures plan { spec.ended [] result ≡ spec.make_row objects.now holder }
+    ensures plan { ended [] result ≡ spec.make_row objects.now holder }
     ensures target { IfOk result (λ target. target ≡ None) }
 {
     if holder.is_some() {
@@ -35,7 +36,7 @@ pub(crate) fn make(objects: &Objects, holder: Option<Id>) -> Result<Option<Id>, 
 pub(crate) fn fork(objects: &Objects, task: &str, child: &str) -> Result<Option<Id>, Errno>
     requires task { IsName task.now }
     requires child { IsName child.now }
-    ensures plan { spec.ended [] result
+    ensures plan { ended [] result
         ≡ spec.make_row objects.now (view.process_named objects.now (child_name task.now child.now)) }
     ensures target { IfOk result (λ target. target ≡ None) }
 {
@@ -53,7 +54,7 @@ pub(crate) fn on_process(
 ) -> Result<Option<Id>, Errno>
     requires empty { checks.old ≡ [] }
     requires asking { outline.IsAsking objects.now caller checks.old }
-    ensures plan { spec.ended (map (outline.item_of objects.now) checks.new) result
+    ensures plan { ended (map (outline.item_of objects.now) checks.new) result
         ≡ spec.found errno.Esrch (spec.check_row objects.now (view.subject_of objects.now caller) op) (view.process_named objects.now name.now) }
     ensures target { IfOk result (λ target. target ≡ None) }
     ensures asking { outline.IsAsking objects.now caller checks.new }
@@ -72,7 +73,7 @@ pub(crate) fn pstat(
 ) -> Result<Option<Id>, Errno>
     requires empty { checks.old ≡ [] }
     requires asking { outline.IsAsking objects.now caller checks.old }
-    ensures plan { spec.ended (map (outline.item_of objects.now) checks.new) result
+    ensures plan { ended (map (outline.item_of objects.now) checks.new) result
         ≡ spec.found errno.Enoent (spec.check_row objects.now (view.subject_of objects.now caller) op.PipeStat) (view.pipe_named objects.now name.now) }
     ensures target { IfOk result (λ target. target ≡ view.pipe_named objects.now name.now) }
     ensures asking { outline.IsAsking objects.now caller checks.new }
@@ -90,7 +91,7 @@ pub(crate) fn pread(
 ) -> Result<Option<Id>, Errno>
     requires empty { checks.old ≡ [] }
     requires asking { outline.IsAsking objects.now caller checks.old }
-    ensures plan { spec.ended (map (outline.item_of objects.now) checks.new) result
+    ensures plan { ended (map (outline.item_of objects.now) checks.new) result
         ≡ spec.found errno.Enoent (spec.pread_row objects.now (view.subject_of objects.now caller)) (view.pipe_named objects.now name.now) }
     ensures target { IfOk result (λ target. target ≡ view.pipe_named objects.now name.now) }
     ensures asking { outline.IsAsking objects.now caller checks.new }
@@ -113,7 +114,7 @@ pub(crate) fn pwrite(
     requires empty { checks.old ≡ [] }
     requires text { length text.now ≤ SCRIPT_LIMIT }
     requires asking { outline.IsAsking objects.now caller checks.old }
-    ensures plan { spec.ended (map (outline.item_of objects.now) checks.new) result
+    ensures plan { ended (map (outline.item_of objects.now) checks.new) result
         ≡ spec.found errno.Enoent (spec.pwrite_row objects.now (view.subject_of objects.now caller) text.now) (view.pipe_named objects.now name.now) }
     ensures target { IfOk result (λ target. target ≡ view.pipe_named objects.now name.now) }
     ensures asking { outline.IsAsking objects.now caller checks.new }
@@ -137,7 +138,7 @@ pub(crate) fn send(
 ) -> Result<Option<Id>, Errno>
     requires empty { checks.old ≡ [] }
     requires asking { outline.IsAsking objects.now caller checks.old }
-    ensures plan { spec.ended (map (outline.item_of objects.now) checks.new) result
+    ensures plan { ended (map (outline.item_of objects.now) checks.new) result
         ≡ spec.found errno.Enoent (spec.send_row objects.now (view.subject_of objects.now caller) to.now) (view.socket_named objects.now from.now) }
     ensures target { IfOk result (λ target. target ≡ view.socket_named objects.now to.now) }
     ensures asking { outline.IsAsking objects.now caller checks.new }
@@ -160,7 +161,7 @@ pub(crate) fn recv(
 ) -> Result<Option<Id>, Errno>
     requires empty { checks.old ≡ [] }
     requires asking { outline.IsAsking objects.now caller checks.old }
-    ensures plan { spec.ended (map (outline.item_of objects.now) checks.new) result
+    ensures plan { ended (map (outline.item_of objects.now) checks.new) result
         ≡ spec.found errno.Enoent (spec.recv_row objects.now (view.subject_of objects.now caller)) (view.socket_named objects.now name.now) }
     ensures target { IfOk result (λ target. target ≡ view.socket_named objects.now name.now) }
     ensures asking { outline.IsAsking objects.now caller checks.new }
@@ -182,7 +183,7 @@ pub(crate) fn seesock(
 ) -> Result<Option<Id>, Errno>
     requires empty { checks.old ≡ [] }
     requires asking { outline.IsAsking objects.now caller checks.old }
-    ensures plan { spec.ended (map (outline.item_of objects.now) checks.new) result
+    ensures plan { ended (map (outline.item_of objects.now) checks.new) result
         ≡ spec.found errno.Enoent (spec.check_row objects.now (view.subject_of objects.now caller) op.SocketVisible) (view.socket_named objects.now name.now) }
     ensures target { IfOk result (λ target. target ≡ None) }
     ensures asking { outline.IsAsking objects.now caller checks.new }

@@ -1,7 +1,8 @@
 //! Full names of processes, and the process that makes a call.
 ghost use Rattle.std.specs.Prelude.{◌≡◌, IfSome};
 ghost use Rattle.std.specs.Option.{option_copied};
-ghost use Rattle.mf_objects.specs.Live.{IsLive, is_process};
+ghost use Rattle.mf_objects.specs.Live.{is_process};
+ghost use Rattle.mf_objects.specs.Lives.{IsLive};
 ghost use Rattle.mf_calls.specs.WellFormed.{IsName, IsFormedChild};
 ghost use Rattle.mf_plan.specs.Names as spec;
 ghost use Rattle.mf_plan.specs.Views.{process_named};

@@ -41,7 +41,8 @@ pub struct Plan {
 impl Model for Plan {
     ghost use Rattle.std.specs.Prelude.{◌≡◌, ◌≤◌, length, take};
     ghost use Rattle.mf_plan.specs.declared.plan.TheConstants.{MOST_CHECKS};
-    ghost use Rattle.mf_plan.specs.Planned.{Plan, HaveSubjects, items_with};
+    ghost use Rattle.mf_plan.specs.Planned.{Plan};
+    ghost use Rattle.mf_plan.specs.Items.{HaveSubjects, items_with};
 
     ghost Value = { Plan };
 

@@ -1,11 +1,12 @@
 //! The plan of a call.
-ghost use Rattle.std.specs.Prelude.{◌≡◌, ◌↔◌, [], map, IfOk, IfSome, IsSome};
+ghost use Rattle.std.specs.Prelude.{◌≡◌, ◌↔◌, [], map, Some, None, IfOk, IfSome, IsSome};
 ghost use Rattle.std.specs.Option.{option_copied};
 ghost use Rattle.mf_calls.specs.WellFormed.{IsFormedCall, IsFormedChild, IsName};
 ghost use Rattle.mf_plan.specs.declared.plan.Tail.TheVariants.{Do};
 ghost use Rattle.mf_plan.specs.Found.{found_of, target_of};
 ghost use Rattle.mf_plan.specs.Outline as outlines;
 ghost use Rattle.mf_plan.specs.Plan as spec;
+ghost use Rattle.mf_plan.specs.Ended.{tail_of, ended};
 ghost use Rattle.mf_plan.specs.Names.{caller_name};
 ghost use Rattle.mf_plan.specs.Views.{process_named, subject_of};
 
@@ -14,13 +15,13 @@ use crate::found::Found;
 use crate::loading::{kldload, kldunload};
 use crate::named::{fork, make, on_process, pread, pstat, pwrite, recv, seesock, send};
 use crate::names::caller_of;
-use crate::outline::{Checks, Outline};
+use crate::outline::{Checks, Outline, ask_privilege};
 use crate::plan::{Plan, Tail};
 use crate::settings::{change_setting, list_rules};
 use crate::state::State;
 use mf_calls::Call;
 use mf_cred::ArrayVec;
-use mf_errno::Errno;
+use mf_errno::{Errno, Priv};
 use mf_item::CheckOp;
 use mf_objects::{Id, Objects};
 
@@ -105,12 +106,30 @@ pub fn outline_of(state: &State, task: &str, child: Option<&str>, call: &Call) -
 }
 
 fn tail_of(end: Result<Option<Id>, Errno>) -> Tail
-    ensures { result ≡ spec.tail_of end }
+    ensures { result ≡ tail_of end }
 {
     match end {
         Ok(_) => Tail::Do,
         Err(errno) => Tail::Refuse(errno),
     }
+}
+
+/// The check of a privilege of the caller.
+fn has_privilege(
+    objects: &Objects,
+    caller: Id,
+    privilege: Priv,
+    checks: &mut Checks,
+) -> Result<Option<Id>, Errno>
+    requires empty { checks.old ≡ [] }
+    requires asking { outlines.IsAsking objects.now caller checks.old }
+    ensures plan { ended (map (outlines.item_of objects.now) checks.new) result
+        ≡ spec.ask (spec.privileged (subject_of objects.now caller) privilege) spec.proceed }
+    ensures target { IfOk result (λ target. target ≡ None) }
+    ensures asking { outlines.IsAsking objects.now caller checks.new }
+{
+    ask_privilege(objects, caller, privilege, checks);
+    Ok(None)
 }
 
 /// Collects the checks of a call of a live process, in order.
@@ -125,15 +144,16 @@ fn ask_for(
     requires formed { IsFormedCall call.now }
     requires empty { checks.old ≡ [] }
     requires asking { outlines.IsAsking state.now.objects caller checks.old }
-    ensures plan { spec.ended (map (outlines.item_of state.now.objects) checks.new) result
+    ensures plan { ended (map (outlines.item_of state.now.objects) checks.new) result
         ≡ spec.plan_for state.now task.now (subject_of state.now.objects caller) call.now }
-    ensures target { IfOk result (λ target. target ≡ target_of state.now.objects call.now) }
+    ensures target { IfOk result (λ target. target ≡ target_of state.now.objects (Some caller) call.now) }
     ensures asking { outlines.IsAsking state.now.objects caller checks.new }
 {
     let objects = &state.objects;
     match call {
         Call::Fork(child) => fork(objects, task, child.as_str()),
         Call::Exit | Call::Kldstat => Ok(None),
+        Call::Getpmac => Ok(Some(caller)),
         Call::See(name) => on_process(objects, caller, CheckOp::ProcVisible, name.as_str(), checks),
         Call::Signal(name) => on_process(
             objects,
@@ -144,11 +164,14 @@ fn ask_for(
         ),
         Call::Debug(name) => on_process(objects, caller, CheckOp::ProcDebug, name.as_str(), checks),
         Call::Sched(name) => on_process(objects, caller, CheckOp::ProcSched, name.as_str(), checks),
+        Call::Priv(privilege) => has_privilege(objects, caller, *privilege, checks),
         Call::Exec(path) => exec(objects, caller, path, checks),
         Call::Create(path) | Call::Mkdir(path) => create(objects, caller, path, checks),
         Call::Read(path) => read(objects, caller, path, checks),
         Call::Write(path, text) => write(objects, caller, path, text.as_slice(), checks),
-        Call::Stat(path) => on_file(objects, caller, CheckOp::VnodeStat, path, checks),
+        Call::Stat(path) | Call::Getfmac(path) => {
+            on_file(objects, caller, CheckOp::VnodeStat, path, checks)
+        }
         Call::Readdir(path) => readdir(objects, caller, path, checks),
         Call::Chmod(path, _) => on_file(objects, caller, CheckOp::VnodeSetmode, path, checks),
         Call::Unlink(path) => unlink(objects, caller, path, checks),

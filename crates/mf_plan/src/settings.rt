@@ -1,9 +1,10 @@
 //! Calls that change a policy's setting.
 ghost use Rattle.std.specs.Prelude.{◌≡◌, [], IfOk, IfSome, IsSome, None};
 ghost use Rattle.mf_calls.specs.WellFormed.{IsFormedCall};
-ghost use Rattle.mf_policy.specs.Settings.{IsChange};
+ghost use Rattle.mf_policy.specs.IsChange.{IsChange};
 ghost use Rattle.mf_objects.specs.Live.{live_at};
 ghost use Rattle.mf_plan.specs.Plan as plan;
+ghost use Rattle.mf_plan.specs.Ended.{ended};
 ghost use Rattle.mf_plan.specs.Settings as spec;
 ghost use Rattle.mf_plan.specs.Views as view;
 
@@ -105,7 +106,7 @@ fn setting_refusal(specs: &SpecList, call: &Call) -> Option<Errno>
 #[tactic(auto, unfolding(crate::specs::Views::subject_of))]
 pub(crate) fn change_setting(state: &State, caller: Id, call: &Call) -> Result<Option<Id>, Errno>
     requires lives { IsSome (live_at state.now.objects caller) }
-    ensures plan { plan.ended [] result ≡ plan.setting_row state.now (view.subject_of state.now.objects caller) call.now }
+    ensures plan { ended [] result ≡ plan.setting_row state.now (view.subject_of state.now.objects caller) call.now }
     ensures target { IfOk result (λ target. target ≡ None) }
 {
     if !state.objects.cred(caller).is_root() {
@@ -119,7 +120,7 @@ pub(crate) fn change_setting(state: &State, caller: Id, call: &Call) -> Result<O
 
 /// The test of the call that lists the rules about files.
 pub(crate) fn list_rules(state: &State) -> Result<Option<Id>, Errno>
-    ensures plan { plan.ended [] result ≡ plan.rules_row state.now }
+    ensures plan { ended [] result ≡ plan.rules_row state.now }
     ensures target { IfOk result (λ target. target ≡ None) }
 {
     if state.specs.is_listed(Module::Bsdextended) {

@@ -1,7 +1,8 @@
 //! Where a path leads.
 ghost use Rattle.std.specs.Prelude.{◌≡◌, IfOk};
-ghost use Rattle.mf_objects.specs.Live.{IsLive, is_vnode};
+ghost use Rattle.mf_objects.specs.Lives.{IsLive, is_vnode};
 ghost use Rattle.mf_plan.specs.Path as spec;
+ghost use Rattle.mf_plan.specs.Places.{IsTarget};
 
 use mf_errno::Errno;
 use mf_objects::{Id, Objects};
@@ -20,7 +21,7 @@ pub enum Target {
 impl Target {
     /// The file or directory there.
     pub fn found(self, objects: &Objects) -> Result<Id, Errno>
-        requires { spec.IsTarget objects.now self }
+        requires { IsTarget objects.now self }
         ensures value { result ≡ spec.found_at self }
         ensures live { IfOk result (λ id. IsLive is_vnode objects.now id) }
     {

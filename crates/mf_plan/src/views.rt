@@ -2,7 +2,7 @@
 ghost use Rattle.std.specs.Prelude.{◌≡◌, ◌↔◌, ◌≤◌, ◌<◌, ◌+◌, [], length, map, option_map, take, IfSome, IsSome, IsTrue, Some, None, slice_index_or};
 ghost use Rattle.mf_objects.specs.Live.{live_at};
 ghost use Rattle.mf_plan.specs.Outline as outline;
-ghost use Rattle.mf_plan.specs.Planned.{HaveSubjects, item_with, items_with, nobody};
+ghost use Rattle.mf_plan.specs.Items.{HaveSubjects, item_with, items_with, nobody};
 ghost use Rattle.mf_plan.specs.Viewing as viewing;
 ghost use Rattle.mf_plan.specs.Views as view;
 
@@ -291,7 +291,7 @@ pub(crate) fn is_full(objects: &Objects) -> bool
 pub(crate) fn overfills_file(objects: &Objects, text: &[u8], id: Id) -> bool
     requires live { IsSome (live_at objects.now id) }
     requires text { length text.now ≤ SCRIPT_LIMIT }
-    ensures { result ≡ view.overfills_file objects.now text.now id }
+    ensures { result ≡ view.overfills CONTENT_LIMIT objects.now text.now id }
 {
     objects.size(id) as usize + text.len() > CONTENT_LIMIT
 }
@@ -300,7 +300,7 @@ pub(crate) fn overfills_file(objects: &Objects, text: &[u8], id: Id) -> bool
 pub(crate) fn overfills_pipe(objects: &Objects, text: &[u8], id: Id) -> bool
     requires live { IsSome (live_at objects.now id) }
     requires text { length text.now ≤ SCRIPT_LIMIT }
-    ensures { result ≡ view.overfills_pipe objects.now text.now id }
+    ensures { result ≡ view.overfills PIPE_LIMIT objects.now text.now id }
 {
     objects.size(id) as usize + text.len() > PIPE_LIMIT
 }

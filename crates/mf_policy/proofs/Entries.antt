@@ -1,5 +1,5 @@
 -- The entry of a module in the list, and a change of it.
-use Rattle.std.proofs.Common.{◌≡◌, ℕ, ◌+◌, ◌<◌, true, false, cond, not, ◌||◌, Option, Some, None, Result, Ok, Err, IfOk, subst, get_or, set, List, [], ◌∷◌, find, length, refl, ap, sym, ◌∙◌, one-add, arith, suc}
+use Rattle.std.proofs.Common.{◌≡◌, ℕ, ◌+◌, ◌<◌, true, false, cond, not, ◌||◌, Some, None, Result, Ok, Err, IfOk, subst, get_or, set, List, [], ◌∷◌, find, length, refl, ap, sym, ◌∙◌, one-add, arith, suc}
 use Rattle.std.specs.List.{list_any, position, position_or_len}
 use Rattle.std.specs.declared.alloc.AllocError.{AllocError}
 use Rattle.std.proofs.lemmas.Bool.{ltb-true}

@@ -4,7 +4,8 @@ use Rattle.std.specs.List.{list_any, position, position_or_len, prefix_len, remo
 use Rattle.std.proofs.lemmas.List.Sums.{prefix_len-le-length}
 use Rattle.std.proofs.lemmas.Bool.{ltb-false}
 use Rattle.std.proofs.lemmas.Grind.{common_steps}
-use Rattle.mf_policy.specs.Registration.{Entry, is_dynamic, with_newest, without_first}
+use Rattle.mf_policy.specs.Registration.{Entry, with_newest, without_first}
+use Rattle.mf_policy.specs.Dynamic.{is_dynamic}
 
 -- some element passes exactly where the first place is within
 pub any_by_place : {X : Type 0} (p : X → Bool) (xs : List X) → list_any p xs ≡ ltb (position_or_len p xs) (length xs)

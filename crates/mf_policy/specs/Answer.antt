@@ -1,6 +1,7 @@
 -- What a policy answers to an item, by its spec and the table of operations: mac_biba(4), mac_mls(4), mac_partition(4), mac_bsdextended(4)
 -- and mac_priority(4), with the errnos of docs/MANUAL.md (POLICIES).
-use Rattle.std.specs.Prelude.{ℕ, Bool, true, false, cond, ◌||◌, nat_eq, Option, Some, None, unwrap_or, slice_index_or}
+use Rattle.std.specs.Option.{option_map_or}
+use Rattle.std.specs.Prelude.{ℕ, Bool, true, false, cond, ◌||◌, nat_eq, Option, Some, None, unwrap_or, slice_index_or, option_and_then}
 use Rattle.mf_errno.specs.declared.errno.Errno.{Errno}
 use Rattle.mf_errno.specs.declared.errno.Errno.TheVariants.{Success, Esrch, Eacces, Eperm}
 use Rattle.mf_errno.specs.declared.module.Module.TheVariants as modules
@@ -28,7 +29,7 @@ use Rattle.mf_policy.specs.declared.operations.PartitionTest.TheVariants.{Agree,
 use Rattle.mf_policy.specs.Modules.{range_asked, number_asked}
 use Rattle.mf_policy.specs.declared.operations.Letters.{Letters}
 use Rattle.mf_policy.specs.declared.operations.Letters.TheVariants.{Asked, NotAsked}
-use Rattle.mf_policy.specs.Operations.{letters_of, test_of, partition_test_of}
+use Rattle.mf_policy.specs.Operations.{row_of}
 use Rattle.mf_policy.specs.Relabel.{credential_relabel, object_relabel}
 
 -- A policy whose labels have ranges: whether a subject of one element may observe and may modify an object of another, which part of a request
@@ -70,13 +71,11 @@ range_label other = nothing
 
 -- a slot of the object; unset where there is no object
 abbrev pub object_slot : Option ObjectView → ℕ → LabelValue
-object_slot None slot = Unset
-object_slot (Some object) slot = slice_index_or object.label slot Unset
+object_slot object slot = option_map_or (λ object. slice_index_or object.label slot Unset) object Unset
 
 -- the policy's part of a request; nothing where there is no request, or no part
 abbrev pub part_of : LatticePolicy → Option Request → RangeLabel
-part_of policy None = nothing
-part_of policy (Some request) = unwrap_or (policy.part request) nothing
+part_of policy request = unwrap_or (option_and_then policy.part request) nothing
 
 -- success where the test holds, else the error
 abbrev pub errno_unless : Bool → Errno → Errno
@@ -111,7 +110,7 @@ abbrev pub lattice_answer : LatticePolicy → ℕ → Item → Errno
 lattice_answer policy slot item =
     let subject = range_label (slice_index_or item.subject.label slot Unset) in
     let object = range_label (object_slot item.object slot) in
-    labels_answer policy (test_of item.op) subject (part_of policy item.request) subject.effective object.effective
+    labels_answer policy (row_of item.op).test subject (part_of policy item.request) subject.effective object.effective
 
 -- the number of the partition that a slot is read as; 0, which is no partition, where it holds none
 abbrev pub partition_of : LabelValue → ℕ
@@ -124,8 +123,7 @@ agree subject object = nat_eq subject 0 || nat_eq subject object
 
 -- the partition that a request asks for; 0 where there is no request, or no part
 abbrev pub partition_asked : Option Request → ℕ
-partition_asked None = 0
-partition_asked (Some request) = unwrap_or (number_asked modules.Partition request) 0
+partition_asked request = unwrap_or (option_and_then (number_asked modules.Partition) request) 0
 
 -- only root takes on a partition; anybody may ask for none
 abbrev pub may_join : Cred → ℕ → Bool
@@ -142,7 +140,7 @@ abbrev pub partition_answer : ℕ → Item → Errno
 partition_answer slot item =
     let subject = partition_of (slice_index_or item.subject.label slot Unset) in
     let object = partition_of (object_slot item.object slot) in
-    partition_verdict (partition_test_of item.op) item.subject.cred subject object (partition_asked item.request)
+    partition_verdict (row_of item.op).partition item.subject.cred subject object (partition_asked item.request)
 
 -- the attributes of the object; all zero where there is none
 abbrev pub file_of : Option ObjectView → FileView
@@ -156,7 +154,7 @@ letters_answer rules first (Asked letters) cred file = errno_unless (verdict fir
 
 -- what the policy of rules about files answers to an item
 abbrev pub rules_answer : Slots → Bool → Item → Errno
-rules_answer rules first item = letters_answer rules first (letters_of item.op) item.subject.cred (file_of item.object)
+rules_answer rules first item = letters_answer rules first (row_of item.op).letters item.subject.cred (file_of item.object)
 
 -- what a policy of this spec, which holds this slot, answers to an item
 abbrev pub answer : Spec → ℕ → Item → Errno
@@ -168,8 +166,7 @@ answer means.Priority slot item = Success
 
 -- one of the groups, where one is named
 abbrev pub in_some_group : Cred → Option ℕ → Bool
-in_some_group cred None = false
-in_some_group cred (Some group) = in_group cred group
+in_some_group cred group = option_map_or (in_group cred) group false
 
 -- the group whose members mac_priority grants the privilege
 abbrev pub granted_group : Priv → Option ℕ

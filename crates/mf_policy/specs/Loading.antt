@@ -9,24 +9,23 @@ use Rattle.mf_policy.specs.declared.loading.LoadFault.{LoadFault}
 use Rattle.mf_policy.specs.declared.loading.LoadFault.TheVariants.{NotLate, Exists, NoSlot}
 use Rattle.mf_policy.specs.declared.loading.UnloadFault.{UnloadFault}
 use Rattle.mf_policy.specs.declared.loading.UnloadFault.TheVariants.{NotLoaded, Pinned}
-use Rattle.mf_policy.specs.LoadFlags.{is_notlate, is_unloadok}
-use Rattle.mf_policy.specs.Modules.{flags_of, wants_slot}
+use Rattle.mf_policy.specs.Modules.{facts_of, wants_slot}
 use Rattle.mf_policy.specs.Registration.{Entry, is_listed}
 
--- Why a module can't be loaded where so many slot numbers were given, by the first test that fits: boot has ended and it has the
--- flag NOTLATE; it is listed; it wants a label slot and all were given.
+-- Why a module can't be loaded where so many slot numbers were given, by the first test that fits: boot has ended and it can't be
+-- loaded late; it is listed; it wants a label slot and all were given.
 abbrev pub load_fault : Bool → List Entry → ℕ → Module → Option LoadFault
 load_fault booted listed given m =
-    if booted && is_notlate (flags_of m) then Some NotLate
+    if booted && (facts_of m).not_late then Some NotLate
     else if is_listed m listed then Some Exists
     else if wants_slot m && nat_le SLOTS given then Some NoSlot
     else None
 
--- why a module can't be unloaded: it isn't listed; it lacks the flag UNLOADOK
+-- why a module can't be unloaded: it isn't listed; it may not be unloaded
 abbrev pub unload_fault : List Entry → Module → Option UnloadFault
 unload_fault listed m =
     if not (is_listed m listed) then Some NotLoaded
-    else if is_unloadok (flags_of m) then None
+    else if (facts_of m).unload_ok then None
     else Some Pinned
 
 -- the errno with which a load is refused

@@ -1,5 +1,6 @@
 -- What is true of each module whatever its settings, and its spec in its initial state. When a module may be loaded is mac(4)'s table, and the
 -- labels at boot are those of mac_biba(4) and mac_mls(4). That mac_bsdextended begins with first match is mac_bsdextended(4)'s.
+use Rattle.std.specs.Option.{option_map_or}
 use Rattle.std.specs.Prelude.{ℕ, Bool, true, false, not, ◌&&◌, ◌||◌, if◌then◌else◌, Option, Some, None, is_none, is_some, replicate, unwrap_or}
 use Rattle.mf_errno.specs.declared.module.Module.{Module}
 use Rattle.mf_errno.specs.declared.module.Module.TheVariants as modules
@@ -18,8 +19,6 @@ use Rattle.mf_policy.specs.declared.modules.Labelling.{Labelling}
 use Rattle.mf_policy.specs.declared.modules.Labelling.TheVariants.{Nothing, Ranges, Partitions}
 use Rattle.mf_policy.specs.declared.spec.Spec.{Spec}
 use Rattle.mf_policy.specs.declared.spec.Spec.TheVariants as means
-use Rattle.mf_policy.specs.declared.load_flags.LoadFlags.{LoadFlags}
-use Rattle.mf_policy.specs.LoadFlags.{notlate, unloadok}
 
 -- The table
 
@@ -28,14 +27,14 @@ abbrev pub ranges_at : Elem → Labelling
 ranges_at element =
     Ranges (record { effective = Some element; range = Some (Low, High) }) (record { effective = Some element; range = None })
 
--- Of each module: whether a policy of it is built in, when it may be loaded and unloaded, and what its labels are, with those at
--- boot: biba/high(low-high) of a process and biba/high of another entity, mls/low(low-high) and mls/low.
+-- Of each module: when it may be loaded and unloaded, and what its labels are, with those at boot: biba/high(low-high) of a process and
+-- biba/high of another entity, mls/low(low-high) and mls/low.
 abbrev pub facts_of : Module → Facts
-facts_of modules.Biba = record { built_in = true; flags = notlate; labels = ranges_at High }
-facts_of modules.Mls = record { built_in = true; flags = notlate; labels = ranges_at Low }
-facts_of modules.Partition = record { built_in = true; flags = unloadok; labels = Partitions }
-facts_of modules.Bsdextended = record { built_in = true; flags = unloadok; labels = Nothing }
-facts_of modules.Priority = record { built_in = false; flags = unloadok; labels = Nothing }
+facts_of modules.Biba = record { not_late = true; unload_ok = false; labels = ranges_at High }
+facts_of modules.Mls = record { not_late = true; unload_ok = false; labels = ranges_at Low }
+facts_of modules.Partition = record { not_late = false; unload_ok = true; labels = Partitions }
+facts_of modules.Bsdextended = record { not_late = false; unload_ok = true; labels = Nothing }
+facts_of modules.Priority = record { not_late = false; unload_ok = true; labels = Nothing }
 
 -- the label with ranges that a request asks of a module
 abbrev pub range_asked : Module → Request → Option RangeLabel
@@ -65,14 +64,6 @@ fresh_of modules.Bsdextended = means.Bsdextended (replicate MAX_RULES None) true
 fresh_of modules.Priority = means.Priority
 
 -- What follows from it
-
--- whether a policy of the module is built in
-abbrev pub has_spec : Module → Bool
-has_spec m = (facts_of m).built_in
-
--- when a module may be loaded and unloaded
-abbrev pub flags_of : Module → LoadFlags
-flags_of m = (facts_of m).flags
 
 abbrev pub is_labelling : Labelling → Bool
 is_labelling Nothing = false
@@ -105,8 +96,7 @@ abbrev pub is_named : Module → Request → Bool
 is_named m request = is_some (range_asked m request) || is_some (number_asked m request)
 
 abbrev pub has_no_range : Option RangeLabel → Bool
-has_no_range None = true
-has_no_range (Some label) = is_none label.range
+has_no_range label = option_map_or (λ label. is_none label.range) label true
 
 -- whether the module's policy takes what a request asks of it for an entity of that kind: it labels the kind, and a range is a
 -- process's alone

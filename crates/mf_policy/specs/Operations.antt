@@ -55,19 +55,3 @@ row_of op.ProcSched = row ObserveAndModify (Agree Esrch) NotAsked ToObject
 row_of op.KldLoad = row GuardModules Ignore NotAsked Still
 row_of op.KldUnload = row GuardModules Ignore NotAsked Still
 row_of op.Priv = row Pass Ignore NotAsked Still
-
--- what Biba and MLS test for an operation
-abbrev pub test_of : CheckOp → Test
-test_of operation = (row_of operation).test
-
--- what the partition policy tests for an operation
-abbrev pub partition_test_of : CheckOp → PartitionTest
-partition_test_of operation = (row_of operation).partition
-
--- what rules about files are asked for an operation
-abbrev pub letters_of : CheckOp → Letters
-letters_of operation = (row_of operation).letters
-
--- which way an operation moves information where its check passes
-abbrev pub movement_of : CheckOp → Movement
-movement_of operation = (row_of operation).movement

@@ -1,13 +1,13 @@
 -- The listed policies, as values, and what a registration and its end make of them: the static and the dynamic list, and slots that aren't given
 -- again, of sys/security/mac/mac_framework.c.
-use Rattle.std.specs.Prelude.{ℕ, ◌+◌, Bool, false, cond, not, ◌&&◌, nat_eq, List, [], ◌∷◌, Option, Some, None}
+use Rattle.std.specs.Prelude.{ℕ, ◌+◌, Bool, cond, not, ◌&&◌, nat_eq, List, [], ◌∷◌, Option, Some, None}
 use Rattle.std.specs.List.{list_any}
-use Rattle.mf_errno.specs.Module.{same_module}
+use Rattle.std.specs.Option.{option_eq}
+use Rattle.mf_errno.specs.Same.{same_module}
 use Rattle.mf_errno.specs.declared.module.Module.{Module}
 use Rattle.mf_policy.specs.declared.registration.Registration.{Registration}
 use Rattle.mf_policy.specs.declared.spec.Spec.{Spec}
-use Rattle.mf_policy.specs.LoadFlags.{is_unloadok}
-use Rattle.mf_policy.specs.Modules.{flags_of, fresh_of, wants_slot}
+use Rattle.mf_policy.specs.Modules.{facts_of, fresh_of, wants_slot}
 
 -- a registration, and the policy's spec
 abbrev pub Entry : Type 0
@@ -21,17 +21,9 @@ is_of m entry = same_module m entry.0.module
 abbrev pub is_listed : Module → List Entry → Bool
 is_listed m entries = list_any (is_of m) entries
 
-abbrev pub is_slot : ℕ → Option ℕ → Bool
-is_slot slot None = false
-is_slot slot (Some own) = nat_eq own slot
-
 -- whether the entry's policy holds the slot
 abbrev pub holds_slot : ℕ → Entry → Bool
-holds_slot slot entry = is_slot slot entry.0.slot
-
--- whether the entry is in the dynamic list
-abbrev pub is_dynamic : Entry → Bool
-is_dynamic entry = not entry.0.fixed
+holds_slot slot entry = option_eq nat_eq entry.0.slot (Some slot)
 
 -- the slot of a module where so many numbers were given: the next one where it wants one
 abbrev pub slot_for : Bool → ℕ → Option ℕ
@@ -43,7 +35,7 @@ registration_of m booted given =
     record {
       «module» = m;
       slot = slot_for (wants_slot m) given;
-      fixed = not booted && not (is_unloadok (flags_of m));
+      fixed = not booted && not ((facts_of m).unload_ok);
     }
 
 -- how many slot numbers were given, after a registration of the module

@@ -1,13 +1,11 @@
 -- What a change of a setting does. mac_bsdextended's policy alone has settings: its rules, which ugidfw(8) changes, and first match, a sysctl of
 -- mac_bsdextended(4). That a new rule gets the lowest free number, and the errnos, are this model's own choice.
-use Rattle.std.specs.Prelude.{◌≡◌, ℕ, ◌<◌, Bool, cond, if◌then◌else◌, List, [], ◌∷◌, Option, Some, None, find, option_and_then, position, slice_index_or, slice_set}
-use Rattle.mf_errno.specs.declared.errno.Errno.{Errno}
+use Rattle.std.specs.Prelude.{ℕ, Bool, cond, if◌then◌else◌, List, [], ◌∷◌, Option, Some, None, find, option_and_then, position, slice_index_or, slice_set}
 use Rattle.mf_errno.specs.declared.errno.Errno.TheVariants.{Success, Enoent, Enobufs}
 use Rattle.mf_errno.specs.declared.module.Module.{Module}
 use Rattle.mf_errno.specs.declared.module.Module.TheVariants as modules
 use Rattle.mf_rule.specs.RuleList.{Slots, is_free}
 use Rattle.mf_rule.specs.declared.rule.Rule.{Rule}
-use Rattle.mf_rule.specs.declared.rule_list.TheConstants.{MAX_RULES}
 use Rattle.mf_policy.specs.declared.settings.Change.{Change}
 use Rattle.mf_policy.specs.declared.settings.Change.TheVariants.{FirstMatch, RuleAdd, RuleSet, RuleRemove}
 use Rattle.mf_policy.specs.declared.settings.Changed.{Changed}
@@ -42,11 +40,6 @@ change_of (means.Bsdextended rules first) (RuleAdd rule) = with_rule rules first
 change_of (means.Bsdextended rules first) (RuleSet n rule) = (done, means.Bsdextended (slice_set rules n (Some rule)) first)
 change_of (means.Bsdextended rules first) (RuleRemove n) = without_rule rules first n
 change_of spec change = (no_setting, spec)
-
--- a rule that is set has one of the numbers
-abbrev pub IsChange : Change → Type 0
-IsChange (RuleSet n rule) = n < MAX_RULES
-IsChange other = Unit {0}
 
 -- Of the listed policies
 

@@ -1,10 +1,13 @@
-//! The label of a new entity, at boot and at creation.
+//! The label of an entity: at boot, at creation, and after a relabel.
 ghost use Rattle.std.specs.Prelude.{◌≡◌, ◌<◌};
 ghost use Rattle.mf_policy.specs.NewLabels as spec;
+ghost use Rattle.mf_policy.specs.Relabelled as after;
 
-use crate::modules::{boot_value, inherited};
+use crate::lattice::slot_label;
+use crate::modules::{Labelling, boot_value, facts_of, inherited, number_asked, range_asked};
 use crate::spec_list::SpecList;
-use mf_elem::{LabelValue, Request, SLOTS};
+use mf_elem::{LabelValue, RangeLabel, Request, SLOTS};
+use mf_errno::Module;
 use mf_item::Kind;
 
 /// Where a new entity comes from.
@@ -37,5 +40,69 @@ fn new_value(listed: &SpecList, kind: Kind, origin: &Origin, slot: u8) -> LabelV
         (None, _) => LabelValue::Unset,
         (Some(module), Origin::Boot(request)) => boot_value(module, kind, request),
         (Some(module), Origin::Maker(label)) => inherited(module, kind, &label[slot as usize]),
+    }
+}
+
+/// The label of an entity after a relabel, while these policies are listed: each takes the parts that the request gives it, and
+/// all else stays.
+pub fn relabelled(
+    listed: &SpecList,
+    request: &Request,
+    label: &[LabelValue; SLOTS],
+) -> [LabelValue; SLOTS]
+    ensures { result ≡ after.relabelled listed.now request.now label.now }
+{
+    [
+        relabelled_value(listed, request, label, 0),
+        relabelled_value(listed, request, label, 1),
+        relabelled_value(listed, request, label, 2),
+        relabelled_value(listed, request, label, 3),
+    ]
+}
+
+/// The value in a slot after a relabel.
+fn relabelled_value(
+    listed: &SpecList,
+    request: &Request,
+    label: &[LabelValue; SLOTS],
+    slot: u8,
+) -> LabelValue
+    requires { slot < SLOTS }
+    ensures { result ≡ after.relabelled_value listed.now request.now label.now slot }
+{
+    let value = &label[slot as usize];
+    match listed.holder(slot) {
+        None => *value,
+        Some(module) => value_after(module, request, value),
+    }
+}
+
+/// What the module makes of the value in its slot.
+fn value_after(module: Module, request: &Request, value: &LabelValue) -> LabelValue
+    ensures { result ≡ after.value_after «module» request.now value.now }
+{
+    match facts_of(module).labels {
+        Labelling::Nothing => *value,
+        Labelling::Ranges(..) => range_after(range_asked(module, request), value),
+        Labelling::Partitions => number_after(number_asked(module, request), value),
+    }
+}
+
+/// The parts that are asked in place; of a value that is no such label they are all that there is.
+fn range_after(asked: &Option<RangeLabel>, value: &LabelValue) -> LabelValue
+    ensures { result ≡ after.range_after asked.now value.now }
+{
+    match asked {
+        None => *value,
+        Some(_) => LabelValue::Range(slot_label(value).replaced_by(asked)),
+    }
+}
+
+fn number_after(asked: Option<u32>, value: &LabelValue) -> LabelValue
+    ensures { result ≡ after.number_after asked value.now }
+{
+    match asked {
+        None | Some(0) => *value,
+        Some(number) => LabelValue::Number(number),
     }
 }

@@ -2,8 +2,10 @@
 //! share.
 #![tactic(auto)]
 
+mod claims;
 mod labels;
 mod lattice;
+mod laws;
 mod load_flags;
 mod loading;
 mod modules;
@@ -15,13 +17,14 @@ mod settings;
 mod spec;
 mod spec_list;
 
-pub use labels::{Origin, new_label};
+pub use labels::{Origin, new_label, relabelled};
 pub use lattice::{Lattice, errno_unless, lattice_answer, slot_label};
-pub use load_flags::LoadFlags;
+pub use laws::{objects_get_no_range, subjects_stay_valid};
+pub use load_flags::{LoadFlags, flags_of};
 pub use loading::{LoadFault, UnloadFault, load_fault, registration_of, unload_fault};
 pub use modules::{
-    Facts, Labelling, boot_value, facts_of, flags_of, has_spec, inherited, is_named, labels_kind,
-    may_ask, number_asked, range_asked, takes, wants_slot,
+    Facts, Labelling, boot_value, facts_of, inherited, is_named, labels_kind, may_ask,
+    number_asked, range_asked, takes, wants_slot,
 };
 pub use operations::{Letters, Movement, PartitionTest, Row, Test, row_of};
 pub use policy::Policy;

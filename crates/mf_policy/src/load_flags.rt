@@ -1,8 +1,10 @@
 //! When a module may be loaded and unloaded.
 ghost use Rattle.std.specs.Prelude.{⊤, ◌≡◌, [], ◌∷◌, codes};
-ghost use Rattle.mf_policy.specs.LoadFlags.{is_notlate, is_unloadok};
+ghost use Rattle.mf_policy.specs.LoadFlags.{flags_of, is_notlate, is_unloadok};
 
+use crate::modules::facts_of;
 use bitflags::{Flag, Flags, bitflag_items};
+use mf_errno::Module;
 
 /// The flags that a module is registered with, as the kernel's `MAC_POLICY_SET` takes them: NOTLATE, that it can't be loaded
 /// once boot has ended, and UNLOADOK, that it may be unloaded.
@@ -51,5 +53,18 @@ impl LoadFlags {
         ensures { result ≡ is_unloadok self }
     {
         self.contains(LoadFlags::UNLOADOK)
+    }
+}
+
+/// The flags that the module is registered with.
+pub fn flags_of(module: Module) -> LoadFlags
+    ensures { result ≡ flags_of «module» }
+{
+    let facts = facts_of(module);
+    match (facts.not_late, facts.unload_ok) {
+        (true, true) => LoadFlags::all(),
+        (true, false) => LoadFlags::NOTLATE,
+        (false, true) => LoadFlags::UNLOADOK,
+        (false, false) => LoadFlags::empty(),
     }
 }

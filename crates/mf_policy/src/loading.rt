@@ -4,7 +4,7 @@ ghost use Rattle.mf_policy.specs.Loading as spec;
 ghost use Rattle.mf_policy.specs.Modules as facts;
 ghost use Rattle.mf_policy.specs.Registration as listing;
 
-use crate::modules::{flags_of, wants_slot};
+use crate::modules::{facts_of, wants_slot};
 use crate::{Registration, SpecList};
 use mf_elem::SLOTS;
 use mf_errno::{Errno, Module};
@@ -58,7 +58,7 @@ impl UnloadFault {
 pub fn load_fault(booted: bool, listed: &SpecList, given: u8, module: Module) -> Option<LoadFault>
     ensures { result ≡ spec.load_fault booted listed.now given «module» }
 {
-    if booted && flags_of(module).is_notlate() {
+    if booted && facts_of(module).not_late {
         return Some(LoadFault::NotLate);
     }
     if listed.is_listed(module) {
@@ -77,7 +77,7 @@ pub fn unload_fault(listed: &SpecList, module: Module) -> Option<UnloadFault>
     if !listed.is_listed(module) {
         return Some(UnloadFault::NotLoaded);
     }
-    if !flags_of(module).is_unloadok() {
+    if !facts_of(module).unload_ok {
         return Some(UnloadFault::Pinned);
     }
     None
@@ -90,7 +90,7 @@ pub fn registration_of(module: Module, booted: bool, given: u8) -> Registration
     Registration {
         module,
         slot: slot_for(module, given),
-        fixed: !booted && !flags_of(module).is_unloadok(),
+        fixed: !booted && !facts_of(module).unload_ok,
     }
 }
 

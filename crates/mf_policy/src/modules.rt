@@ -2,7 +2,6 @@
 ghost use Rattle.std.specs.Prelude.{◌≡◌};
 ghost use Rattle.mf_policy.specs.Modules as facts;
 
-use crate::LoadFlags;
 use mf_elem::{Elem, LabelValue, RangeLabel, Request, is_valid};
 use mf_errno::Module;
 use mf_item::Kind;
@@ -10,10 +9,10 @@ use mf_item::Kind;
 /// What is true of a module.
 #[derive(Clone, Copy, Debug)]
 pub struct Facts {
-    /// Whether a policy of the module is built in.
-    pub built_in: bool,
-    /// When the module may be loaded and unloaded.
-    pub flags: LoadFlags,
+    /// Whether the module can't be loaded once boot has ended.
+    pub not_late: bool,
+    /// Whether the module may be unloaded.
+    pub unload_ok: bool,
     /// What its labels are.
     pub labels: Labelling,
 }
@@ -35,28 +34,28 @@ pub fn facts_of(module: Module) -> Facts
 {
     match module {
         Module::Biba => Facts {
-            built_in: true,
-            flags: LoadFlags::NOTLATE,
+            not_late: true,
+            unload_ok: false,
             labels: ranges_at(Elem::High),
         },
         Module::Mls => Facts {
-            built_in: true,
-            flags: LoadFlags::NOTLATE,
+            not_late: true,
+            unload_ok: false,
             labels: ranges_at(Elem::Low),
         },
         Module::Partition => Facts {
-            built_in: true,
-            flags: LoadFlags::UNLOADOK,
+            not_late: false,
+            unload_ok: true,
             labels: Labelling::Partitions,
         },
         Module::Bsdextended => Facts {
-            built_in: true,
-            flags: LoadFlags::UNLOADOK,
+            not_late: false,
+            unload_ok: true,
             labels: Labelling::Nothing,
         },
         Module::Priority => Facts {
-            built_in: false,
-            flags: LoadFlags::UNLOADOK,
+            not_late: false,
+            unload_ok: true,
             labels: Labelling::Nothing,
         },
     }
@@ -91,20 +90,6 @@ pub fn number_asked(module: Module, request: &Request) -> Option<u32>
         Module::Partition => request.partition,
         Module::Biba | Module::Mls | Module::Bsdextended | Module::Priority => None,
     }
-}
-
-/// Whether a policy of the module is built in.
-pub fn has_spec(module: Module) -> bool
-    ensures { result ≡ facts.has_spec «module» }
-{
-    facts_of(module).built_in
-}
-
-/// When the module may be loaded and unloaded.
-pub fn flags_of(module: Module) -> LoadFlags
-    ensures { result ≡ facts.flags_of «module» }
-{
-    facts_of(module).flags
 }
 
 /// Whether the module labels entities, and so has a label slot.

@@ -1,8 +1,10 @@
 //! The interface of a policy module, modelled on the MAC Framework's entry points (mac(9)).
 ghost use Rattle.std.specs.Prelude.{◌≡◌, ◌<◌, ◌↔◌, IsTrue, IfOk, OnErr};
 ghost use Rattle.mf_policy.specs.Answer.{answer, grants};
+ghost use Rattle.mf_policy.specs.LoadFlags.{flags_of};
 ghost use Rattle.mf_policy.specs.Modules as facts;
-ghost use Rattle.mf_policy.specs.Settings.{IsChange, change_of};
+ghost use Rattle.mf_policy.specs.Settings.{change_of};
+ghost use Rattle.mf_policy.specs.IsChange.{IsChange};
 
 use crate::{Change, Changed, LoadFlags, Spec};
 use mf_cred::Cred;
@@ -23,7 +25,7 @@ pub trait Policy: Send + Sync + Drop {
 
     /// When the module may be loaded and unloaded.
     fn flags(&self) -> LoadFlags
-        ensures { result ≡ facts.flags_of (facts.module_of (spec self.now)) };
+        ensures { result ≡ flags_of (facts.module_of (spec self.now)) };
 
     /// Whether the module labels entities, and so has a label slot.
     fn wants_slot(&self) -> bool

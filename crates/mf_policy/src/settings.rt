@@ -1,6 +1,7 @@
 //! The settings of policies, and changes of them. mac_bsdextended(4) alone has settings: its rules, and first match.
 ghost use Rattle.std.specs.Prelude.{◌≡◌};
 ghost use Rattle.mf_policy.specs.Settings as spec;
+ghost use Rattle.mf_policy.specs.IsChange.{IsChange};
 ghost use Rattle.mf_policy.specs.declared.spec.Spec.TheVariants as means;
 
 use mf_errno::Errno;
@@ -68,7 +69,7 @@ pub(crate) fn answer_of_rules(rules: &RuleList, change: &Change) -> Changed
 
 /// Changes a setting of mac_bsdextended's policy, which has these rules and this first match.
 pub fn change_rules(rules: &mut RuleList, first_match: &mut bool, change: &Change) -> Changed
-    requires { spec.IsChange change.now }
+    requires { IsChange change.now }
     ensures { (result, means.Bsdextended rules.new first_match.new) ≡ spec.change_of (means.Bsdextended rules.old first_match.old) change.now }
 {
     match change {

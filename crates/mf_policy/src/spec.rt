@@ -1,7 +1,8 @@
 //! The specs of policies.
 ghost use Rattle.std.specs.Prelude.{◌≡◌, ◌↔◌, IsTrue, IfOk, OnErr};
 ghost use Rattle.mf_policy.specs.Modules as facts;
-ghost use Rattle.mf_policy.specs.Settings.{IsChange, change_of, rules_of};
+ghost use Rattle.mf_policy.specs.Settings.{change_of, rules_of};
+ghost use Rattle.mf_policy.specs.IsChange.{IsChange};
 ghost use Rattle.std.specs.Option.{option_copied};
 
 use crate::settings::{Change, Changed, answer_of_rules, change_rules};

@@ -1,8 +1,10 @@
 //! The listed registrations with the specs of their policies.
 ghost use Rattle.std.specs.Prelude.{◌≡◌, ◌<◌, ◌≤◌, [], nat_eq, find, length, option_map, position, slice_index_or, slice_set, IfOk, OnOk, OnErr};
 ghost use Rattle.std.specs.List.{insert, position_or_len};
-ghost use Rattle.mf_policy.specs.Registration.{Entry, entries_without, holds_slot, is_dynamic, is_listed, is_of, with_newest};
-ghost use Rattle.mf_policy.specs.Settings.{IsChange, change_in, listed_rules};
+ghost use Rattle.mf_policy.specs.Registration.{Entry, entries_without, holds_slot, is_listed, is_of, with_newest};
+ghost use Rattle.mf_policy.specs.Dynamic.{is_dynamic};
+ghost use Rattle.mf_policy.specs.Settings.{change_in, listed_rules};
+ghost use Rattle.mf_policy.specs.IsChange.{IsChange};
 ghost use Rattle.std.specs.Option.{option_copied};
 
 use crate::{Change, Changed, Registration, Spec};

@@ -6,6 +6,10 @@ mod entities;
 #[cfg(test)]
 mod labels;
 #[cfg(test)]
+mod one_of;
+#[cfg(test)]
 mod policies;
 #[cfg(test)]
 mod registrations;
+#[cfg(test)]
+mod relabels;

@@ -5,7 +5,7 @@ use mf_errno::{Errno, Module};
 use mf_item::{CheckOp, Kind};
 use mf_policy::{
     Change, Letters, Movement, Origin, Registration, Spec, SpecList, Test, credential_relabel,
-    flags_of, has_spec, labels_kind, may_ask, new_label, object_relabel, row_of, wants_slot,
+    flags_of, labels_kind, may_ask, new_label, object_relabel, row_of, wants_slot,
 };
 use std::alloc::{AllocError, Global};
 use std::process::Abort;
@@ -22,7 +22,7 @@ fn a_debugger_learns_and_changes(rt: HostRuntime) {
 fn files_have_no_partition(rt: HostRuntime) {
     let mut request = Request::none();
     request.partition = Some(7);
-    assert!(rt; labels_kind(Module::Biba, Kind::Vnode) && has_spec(Module::Biba));
+    assert!(rt; labels_kind(Module::Biba, Kind::Vnode));
     assert!(rt; labels_kind(Module::Partition, Kind::Process));
     assert!(rt; !labels_kind(Module::Partition, Kind::Vnode));
     assert!(rt; may_ask(Module::Partition, Kind::Process, &request));

@@ -2,6 +2,7 @@
 ghost use Rattle.std.specs.Prelude.{IfOk};
 ghost use Rattle.mf_list.specs.Lists.{IsReady};
 
+use crate::one_of::OneOf;
 use mf_biba::Biba;
 use mf_cred::Cred;
 use mf_elem::{Elem, LabelValue, RangeLabel};
@@ -15,85 +16,6 @@ use mf_slots::SlotNumbers;
 use std::alloc::{AllocError, Global};
 use std::process::Abort;
 use std::sync::atomic::{AtomicU64, Ordering};
-
-/// One of the policies, without a box.
-#[derive(Drop)]
-enum OneOf {
-    Biba(Biba),
-    Mls(Mls),
-    Partition(Partition),
-}
-
-impl Policy for OneOf {
-    ghost use Rattle.mf_policy.specs.declared.spec.Spec.TheVariants as means;
-    ghost use Rattle.mf_policy_tables.specs.declared.registrations.OneOf.TheVariants as one;
-
-    ghost spec = { λ policy. elim policy [ one.Biba b ↦ means.Biba | one.Mls m ↦ means.Mls | one.Partition p ↦ means.Partition ] };
-
-    fn module(&self) -> Module {
-        match self {
-            OneOf::Biba(policy) => policy.module(),
-            OneOf::Mls(policy) => policy.module(),
-            OneOf::Partition(policy) => policy.module(),
-        }
-    }
-
-    fn flags(&self) -> LoadFlags {
-        match self {
-            OneOf::Biba(policy) => policy.flags(),
-            OneOf::Mls(policy) => policy.flags(),
-            OneOf::Partition(policy) => policy.flags(),
-        }
-    }
-
-    fn wants_slot(&self) -> bool {
-        match self {
-            OneOf::Biba(policy) => policy.wants_slot(),
-            OneOf::Mls(policy) => policy.wants_slot(),
-            OneOf::Partition(policy) => policy.wants_slot(),
-        }
-    }
-
-    fn same(&self, other: &Spec) -> bool {
-        match self {
-            OneOf::Biba(policy) => policy.same(other),
-            OneOf::Mls(policy) => policy.same(other),
-            OneOf::Partition(policy) => policy.same(other),
-        }
-    }
-
-    fn check(&self, slot: u8, item: &Item) -> Errno {
-        match self {
-            OneOf::Biba(policy) => policy.check(slot, item),
-            OneOf::Mls(policy) => policy.check(slot, item),
-            OneOf::Partition(policy) => policy.check(slot, item),
-        }
-    }
-
-    fn grant(&self, cred: &Cred, privilege: Priv) -> bool {
-        match self {
-            OneOf::Biba(policy) => policy.grant(cred, privilege),
-            OneOf::Mls(policy) => policy.grant(cred, privilege),
-            OneOf::Partition(policy) => policy.grant(cred, privilege),
-        }
-    }
-
-    fn change(&mut self, alloc: Global, change: &Change) -> Result<Changed, AllocError> {
-        match self {
-            OneOf::Biba(policy) => policy.change(alloc, change),
-            OneOf::Mls(policy) => policy.change(alloc, change),
-            OneOf::Partition(policy) => policy.change(alloc, change),
-        }
-    }
-
-    fn reset(&mut self) {
-        match self {
-            OneOf::Biba(policy) => policy.reset(),
-            OneOf::Mls(policy) => policy.reset(),
-            OneOf::Partition(policy) => policy.reset(),
-        }
-    }
-}
 
 /// The list, the catalogue, and the slot numbers that are left.
 #[derive(Drop)]

@@ -9,7 +9,8 @@ use Rattle.mf_rule.specs.declared.rule.Side.{Side}
 use Rattle.mf_rule.specs.declared.rule.ObjectSide.{ObjectSide}
 use Rattle.mf_rule.specs.declared.rule.Rule.{Rule}
 use Rattle.mf_rule.specs.Words.{id, ordered, range_from_halves, range_in, mode_letter, type_letter, with_letters, mode_in, types_in}
-use Rattle.mf_rule.specs.RuleGrammar.{Words, no_tests, no_object_tests, SpellsIdTest, SpellsFileTest, SpellsObjectTest, SpellTests, Spells, AreRanges, AreTypes, IsRule}
+use Rattle.mf_rule.specs.RuleGrammar.{SpellsIdTest, SpellsFileTest, SpellsObjectTest, SpellTests, Spells, AreRanges, AreTypes, IsRule}
+use Rattle.mf_rule.specs.Parts.{Words, no_tests, no_object_tests}
 use Rattle.mf_rule.specs.Reading.{Read, rule_in}
 use Rattle.mf_rule.specs.RoundTrip.{WhatIsReadIsARule}
 use Rattle.mf_rule.proofs.ReadAsSpelled.{read_is_spelled}

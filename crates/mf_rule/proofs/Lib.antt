@@ -8,3 +8,4 @@ pub mod Spelled
 pub mod WordsBehind
 pub mod ReadAsSpelled
 pub mod Formed
+pub mod FreeSlots

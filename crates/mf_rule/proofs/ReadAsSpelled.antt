@@ -11,7 +11,8 @@ use Rattle.mf_rule.specs.declared.begun.Next.TheVariants as next
 use Rattle.mf_rule.specs.declared.begun.Begun.{Begun}
 use Rattle.mf_rule.specs.declared.fault.RuleFault.TheVariants.{UnknownWord, BadRange, BadType, BadMode}
 use Rattle.mf_rule.specs.Words.{range_in, types_in, mode_in}
-use Rattle.mf_rule.specs.RuleGrammar.{Words, marked, no_tests, no_object_tests, SpellsIdTest, SpellsObjectTest, SpellTests, Spells}
+use Rattle.mf_rule.specs.RuleGrammar.{marked, SpellsIdTest, SpellsObjectTest, SpellTests, Spells}
+use Rattle.mf_rule.specs.Parts.{Words, no_tests, no_object_tests}
 use Rattle.mf_rule.specs.Reading.{goes_on, once, side_of, with_not, id_test, no_rule, rule_in, read_from, fitted, tested, named, other_test, file_test, flagged, end_of, behind}
 use Rattle.mf_rule.proofs.Pieces.{begun, put_uid, put_gid}
 use Rattle.mf_rule.proofs.FilePieces.{put_suid, put_sgid, put_uid_of_subject, put_gid_of_subject, put_types, type_test}

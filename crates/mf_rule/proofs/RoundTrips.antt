@@ -9,7 +9,8 @@ use Rattle.mf_rule.specs.declared.rule.TypeTest.{TypeTest}
 use Rattle.mf_rule.specs.declared.rule.Rule.{Rule}
 use Rattle.mf_rule.specs.declared.begun.Part.TheVariants.{Subject, Object}
 use Rattle.mf_rule.specs.declared.begun.Next.TheVariants as next
-use Rattle.mf_rule.specs.RuleGrammar.{no_object_tests, AreRanges, IsRule}
+use Rattle.mf_rule.specs.RuleGrammar.{AreRanges, IsRule}
+use Rattle.mf_rule.specs.Parts.{no_object_tests}
 use Rattle.mf_rule.specs.Canonical.{not_text, id_text, side_text, flag_text, flags_text, types_text, object_text, mode_text, rule_text, range_text, types_letters}
 use Rattle.mf_rule.specs.RoundTrip.{CanonicalTextStandsForItsRule}
 use Rattle.mf_rule.specs.Reading.{no_rule, nothing_read, rule_in, read_from, fitted}

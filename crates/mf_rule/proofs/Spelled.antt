@@ -8,7 +8,8 @@ use Rattle.mf_rule.specs.declared.begun.Part.{Part}
 use Rattle.mf_rule.specs.declared.begun.Part.TheVariants.{Subject, Object}
 use Rattle.mf_rule.specs.declared.begun.Next.TheVariants as next
 use Rattle.mf_rule.specs.Words.{range_in, types_in}
-use Rattle.mf_rule.specs.RuleGrammar.{Words, marked, no_object_tests, SpellsIdTest, SpellsFileTest, SpellsObjectTest, SpellTests, with_not, SpellsSubject, SpellsObject, Spells}
+use Rattle.mf_rule.specs.RuleGrammar.{marked, SpellsIdTest, SpellsFileTest, SpellsObjectTest, SpellTests, with_not, SpellsSubject, SpellsObject, Spells}
+use Rattle.mf_rule.specs.Parts.{Words, no_object_tests}
 use Rattle.mf_rule.specs.Reading.{side_of, with_side, id_test, no_rule, nothing_read, rule_in, read_from}
 use Rattle.mf_rule.proofs.Pieces.{begun, open_at, On, on_trans, on_words, mark_step, uid_name, uid_marked, uid_value, put_uid, gid_name, gid_marked, gid_value, put_gid}
 use Rattle.mf_rule.proofs.FilePieces.{put_not, not_same, not_step, object_step, mode_step, letters_step, put_suid, suid_name, suid_marked, put_sgid, sgid_name, sgid_marked, put_uid_of_subject, uid_of_subject_name, uid_of_subject_marked, put_gid_of_subject, gid_of_subject_name, gid_of_subject_marked, put_types, type_name, type_marked, type_value, type_test}

@@ -1,5 +1,7 @@
 pub mod Canonical
+pub mod Flags
 pub mod Match
+pub mod Parts
 pub mod Reading
 pub mod RoundTrip
 pub mod RuleGrammar

@@ -2,7 +2,7 @@
 --
 -- The tests, `!` and `not`, first match and the letters are those of ugidfw(8) and mac_bsdextended(4). That a uid test looks at the
 -- effective, the real and the saved uid, and a gid test at every group, is this model's own choice.
-use Rattle.std.specs.Prelude.{◌≡◌, ℕ, Bool, true, false, not, ◌&&◌, ◌||◌, ◌==◌, nat_le, if◌then◌else◌, Option, Some, None}
+use Rattle.std.specs.Prelude.{ℕ, Bool, true, false, not, ◌&&◌, ◌||◌, ◌==◌, nat_le, if◌then◌else◌, Option, Some, None}
 use Rattle.std.specs.List.{list_any}
 use Rattle.std.specs.Int.RustNames.{bit_and}
 use Rattle.mf_cred.specs.declared.cred.Cred.{Cred}
@@ -80,11 +80,6 @@ object_matches object cred file = turned object.side.not (object_tests object cr
 -- a rule matches where both its parts do
 abbrev pub matches : Rule → Cred → FileView → Bool
 matches rule cred file = subject_matches rule.subject cred && object_matches rule.object cred file
-
--- the tests without a value are the same
-abbrev pub SameFlags : ObjectSide → ObjectSide → Type 0
-SameFlags object other =
-    (object.suid ≡ other.suid) × (object.sgid ≡ other.sgid) × (object.uid_of_subject ≡ other.uid_of_subject) × (object.gid_of_subject ≡ other.gid_of_subject)
 
 -- all of the letters that are wanted
 abbrev pub gives : Rule → ℕ → Bool

@@ -5,7 +5,7 @@
 use Rattle.std.specs.Prelude.{ℕ, ◌+◌, Bool, true, false, not, List, [], ◌∷◌, Option, Some, None, is_some, Result, Ok, Err, codes, if◌then◌else◌}
 use Rattle.std.specs.Str.{bytes_eq}
 use Rattle.mf_rule.specs.Words.{range_in, mode_in, types_in}
-use Rattle.mf_rule.specs.RuleGrammar.{Words, no_tests, no_object_tests}
+use Rattle.mf_rule.specs.Parts.{Words, no_tests, no_object_tests}
 use Rattle.mf_rule.specs.declared.rule.IdTest.{IdTest}
 use Rattle.mf_rule.specs.declared.rule.Side.{Side}
 use Rattle.mf_rule.specs.declared.rule.Rule.{Rule}

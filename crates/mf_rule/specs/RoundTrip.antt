@@ -3,7 +3,8 @@ use Rattle.std.specs.Prelude.{◌≡◌, ℕ, Ok}
 use Rattle.mf_labeltext.specs.Reading.{parts}
 use Rattle.mf_rule.specs.declared.rule.Rule.{Rule}
 use Rattle.mf_rule.specs.Canonical.{rule_text}
-use Rattle.mf_rule.specs.RuleGrammar.{Words, IsRule}
+use Rattle.mf_rule.specs.RuleGrammar.{IsRule}
+use Rattle.mf_rule.specs.Parts.{Words}
 use Rattle.mf_rule.specs.Reading.{rule_in}
 
 abbrev pub blank : ℕ

@@ -4,7 +4,7 @@
 --
 -- A test is a name, with `!` before it where it is turned, and a value behind it where it has one. It stands at most once in a part; the order
 -- is free. ugidfw(8) has `jailid`, `filesys` and names of users and groups too, which this model lacks.
-use Rattle.std.specs.Prelude.{◌≡◌, ◌≤◌, ◌<◌, ◌⊎◌, ℕ, Bool, false, not, List, [], ◌∷◌, ◌++◌, Some, None, IfSome, codes, if◌then◌else◌}
+use Rattle.std.specs.Prelude.{◌≡◌, ◌≤◌, ◌<◌, ◌⊎◌, ℕ, Bool, not, List, [], ◌∷◌, ◌++◌, Some, None, IfSome, codes, if◌then◌else◌}
 use Rattle.std.specs.List.{flat_map}
 use Rattle.mf_rule.specs.Words.{range_in, mode_in, types_in}
 use Rattle.mf_rule.specs.declared.rule.TheConstants.{LAST_ID, ANY_TYPE}
@@ -12,20 +12,11 @@ use Rattle.mf_rule.specs.declared.rule.IdTest.{IdTest}
 use Rattle.mf_rule.specs.declared.rule.Side.{Side}
 use Rattle.mf_rule.specs.declared.rule.ObjectSide.{ObjectSide}
 use Rattle.mf_rule.specs.declared.rule.Rule.{Rule}
-
-abbrev pub Words : Type 0
-Words = List (List ℕ)
+use Rattle.mf_rule.specs.Parts.{Words, no_object_tests, no_tests}
 
 -- `!` before what is turned
 abbrev pub marked : Bool → Words → Words
 marked turned words = if turned then codes "!" ∷ words else words
-
--- no tests
-abbrev pub no_tests : Side
-no_tests = record { not = false; uid = None; gid = None }
-
-abbrev pub no_object_tests : ObjectSide
-no_object_tests = record { side = no_tests; suid = None; sgid = None; uid_of_subject = None; gid_of_subject = None; types = None }
 
 -- the words are a test of ids: with it, before becomes after
 abbrev pub SpellsIdTest : Words → Side → Side → Type 0

@@ -1,4 +1,4 @@
--- Rule lists: for each number from 0 up to MAX_RULES a rule, or none; and their verdict.
+-- Rule lists: for each number from 0 on that is below MAX_RULES a rule, or none; and their verdict.
 --
 -- That the first match decides, or else every match, is mac_bsdextended(4)'s. That a list has at most 250 rules, where that page says 256, and
 -- that what no rule matches is allowed, is this model's own choice.

@@ -1,7 +1,7 @@
 //! A rule of which some words are read.
 ghost use Rattle.std.specs.Prelude.{◌≡◌};
 ghost use Rattle.mf_rule.specs.Reading as spec;
-ghost use Rattle.mf_rule.specs.RuleGrammar.{no_object_tests, no_tests};
+ghost use Rattle.mf_rule.specs.Parts.{no_object_tests, no_tests};
 
 use crate::rule::{ObjectSide, Rule, Side};
 

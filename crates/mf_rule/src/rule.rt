@@ -2,6 +2,7 @@
 ghost use Rattle.std.specs.Prelude.{◌≡◌, ◌↔◌, IsTrue};
 ghost use Rattle.std.specs.List.{list_any};
 ghost use Rattle.mf_rule.specs.Match as spec;
+ghost use Rattle.mf_rule.specs.Flags.{SameFlags};
 
 use mf_cred::{Cred, FileView};
 
@@ -207,7 +208,7 @@ impl ObjectSide {
     }
 
     fn same_flags(&self, other: &ObjectSide) -> bool
-        ensures { IsTrue result ↔ spec.SameFlags self.now other.now }
+        ensures { IsTrue result ↔ SameFlags self.now other.now }
     {
         self.suid == other.suid
             && self.sgid == other.sgid

@@ -1,5 +1,5 @@
 //! Rule lists, and their verdict.
-ghost use Rattle.std.specs.Prelude.{◌≡◌, ◌↔◌, ◌<◌, [], IsTrue, true, false, Some, None, find, option_copied, length, not, ◌||◌, position, replicate, slice_index_or, slice_set, IfOk, MatchResult};
+ghost use Rattle.std.specs.Prelude.{◌≡◌, ◌↔◌, ◌<◌, ◌≤◌, ℕ, [], IsTrue, true, false, Some, None, find, option_copied, length, not, ◌||◌, position, replicate, slice_index_or, slice_set, IfOk, MatchResult};
 ghost use Rattle.std.specs.List.{list_all};
 ghost use Rattle.mf_rule.specs.RuleList as spec;
 ghost use Rattle.mf_rule.specs.declared.rule.Rule.{Rule};
@@ -25,10 +25,12 @@ pub struct NoRule;
 #[derive(Drop)]
 pub struct RuleList {
     slots: Vec<Option<Rule>>,
+    /// Every slot from this one on is free, so that a verdict and a comparison look at those before it alone.
+    used: usize,
 }
 
 impl Model for RuleList {
-    ghost use Rattle.std.specs.Prelude.{◌≡◌, length};
+    ghost use Rattle.std.specs.Prelude.{◌≡◌, ◌≤◌, ℕ, None, length, slice_index_or};
     ghost use Rattle.mf_rule.specs.RuleList.{Slots};
     ghost use Rattle.mf_rule.specs.declared.rule_list.TheConstants.{MAX_RULES};
 
@@ -36,7 +38,7 @@ impl Model for RuleList {
 
     ghost view = { λ list. list.slots.items };
 
-    ghost invariant = { λ list. length list.slots.items ≡ MAX_RULES };
+    ghost invariant = { λ list. (length list.slots.items ≡ MAX_RULES) × (list.used ≤ MAX_RULES) × ((number : ℕ) → list.used ≤ number → slice_index_or list.slots.items number None ≡ None) };
 }
 
 impl RuleList {
@@ -45,20 +47,19 @@ impl RuleList {
         ensures { IfOk result (λ list. list ≡ replicate MAX_RULES None) }
     {
         let mut slots = Vec::with_capacity(alloc, MAX_RULES as usize)?;
-        for _number in 0..MAX_RULES {
-            slots.push(None)?;
-        }
-        Ok(RuleList { slots })
+        slots.resize(MAX_RULES as usize, None)?;
+        Ok(RuleList { slots, used: 0 })
     }
 
     /// Adds a rule under the lowest number that is free, and answers with it.
     pub fn add(&mut self, rule: Rule) -> Result<u32, Full>
         ensures { MatchResult result (λ n. (position spec.is_free self.old ≡ Some n) × (self.new ≡ slice_set self.old n (Some rule))) (λ e. (position spec.is_free self.old ≡ None) × (self.new ≡ self.old)) }
     {
-        let Some(number) = self.free() else {
+        let Some(number) = first_free(&self.slots) else {
             return Err(Full);
         };
-        self.slots[number as usize] = Some(rule);
+        let number = number as u32;
+        self.set(number, rule);
         Ok(number)
     }
 
@@ -75,7 +76,9 @@ impl RuleList {
         requires { number < MAX_RULES }
         ensures { self.new ≡ slice_set self.old number (Some rule) }
     {
-        self.slots[number as usize] = Some(rule);
+        let number = number as usize;
+        self.slots[number] = Some(rule);
+        self.used = self.used.max(number + 1);
     }
 
     /// Takes the rule of a number away.
@@ -86,6 +89,7 @@ impl RuleList {
             return Err(NoRule);
         }
         self.slots[number as usize] = None;
+        self.used = end_of_rules(&self.slots[..self.used]);
         Ok(())
     }
 
@@ -112,22 +116,30 @@ impl RuleList {
     pub fn clear(&mut self)
         ensures { self.new ≡ replicate MAX_RULES None }
     {
-        self.slots.fill(None);
+        while self.used > 0 {
+            self.used -= 1;
+            self.slots[self.used] = None;
+        }
     }
 
     /// Whether the two have the same rules.
     pub fn same(&self, other: &RuleList) -> bool
         ensures { IsTrue result ↔ (self.now ≡ other.now) }
     {
-        same_slots(&self.slots, &other.slots)
+        let used = self.used.max(other.used);
+        same_slots(&self.slots[..used], &other.slots[..used])
     }
 
     /// A copy.
     pub fn copy(&self, alloc: Global) -> Result<RuleList, AllocError>
         ensures { IfOk result (λ copy. copy ≡ self.now) }
     {
+        let mut slots = Vec::with_capacity(alloc, MAX_RULES as usize)?;
+        slots.extend_from_slice(&self.slots[..self.used])?;
+        slots.resize(MAX_RULES as usize, None)?;
         Ok(RuleList {
-            slots: Vec::from_slice(alloc, &self.slots)?,
+            slots,
+            used: self.used,
         })
     }
 
@@ -135,10 +147,11 @@ impl RuleList {
     pub fn verdict(&self, first_match: bool, cred: &Cred, file: &FileView, wanted: u8) -> bool
         ensures { result ≡ spec.verdict first_match self.now cred.now file.now wanted }
     {
+        let slots = &self.slots[..self.used];
         if first_match {
-            by_first(&self.slots, cred, file, wanted)
+            by_first(slots, cred, file, wanted)
         } else {
-            by_all(&self.slots, cred, file, wanted)
+            by_all(slots, cred, file, wanted)
         }
     }
 }
@@ -147,6 +160,18 @@ fn first_free(slots: &[Option<Rule>]) -> Option<usize>
     ensures { result ≡ position spec.is_free slots.now }
 {
     slots.iter().position(|slot| slot.is_none())
+}
+
+/// The number behind the last rule, or 0 where there is none.
+fn end_of_rules(slots: &[Option<Rule>]) -> usize
+    ensures bound { result ≤ length slots.now }
+    ensures rest { (number : ℕ) → result ≤ number → slice_index_or slots.now number None ≡ None }
+{
+    let mut end = slots.len();
+    while end > 0 && slots[end - 1].is_none() {
+        end -= 1;
+    }
+    end
 }
 
 fn is_match(slot: &Option<Rule>, cred: &Cred, file: &FileView) -> bool

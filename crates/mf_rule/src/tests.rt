@@ -280,6 +280,22 @@ fn copies_and_cleared_lists(rt: HostRuntime) -> Result<(), AllocError> {
 }
 
 #[test]
+fn lists_that_were_emptied(rt: HostRuntime) -> Result<(), AllocError> {
+    let empty = RuleList::new(rt.alloc())?;
+    let mut rules = RuleList::new(rt.alloc())?;
+    let rule = rule(&rt, rt.alloc(), "subject object mode n")?;
+    rules.set(MAX_RULES - 1, rule);
+    rules.set(3, rule);
+    assert!(rt; !rules.same(&empty) && !empty.same(&rules));
+    assert!(rt; rules.remove(MAX_RULES - 1) == Ok(()));
+    assert!(rt; !rules.verdict(true, &subject(), &FILE, READ));
+    assert!(rt; rules.remove(3) == Ok(()));
+    assert!(rt; rules.same(&empty) && empty.same(&rules));
+    assert!(rt; rules.verdict(true, &subject(), &FILE, READ));
+    Ok(())
+}
+
+#[test]
 fn a_full_list(rt: HostRuntime) -> Result<(), AllocError> {
     let mut rules = RuleList::new(rt.alloc())?;
     let rule = rule(&rt, rt.alloc(), "subject uid 5 object mode n")?;

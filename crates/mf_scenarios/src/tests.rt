@@ -3,7 +3,9 @@
 mod cases;
 mod failures;
 mod gates;
+mod grants;
 mod kernel;
+mod labels;
 mod load;
 mod modules;
 mod rows;
@@ -20,6 +22,7 @@ use mf_io::{Gate, MemSink, MemSource, Sink, Source};
 use mf_mls::Mls;
 use mf_partition::Partition;
 use mf_policy::Policy;
+use mf_priority::Priority;
 use mf_top::macsim;
 use std::alloc::{AllocError, Global};
 use std::sync::Wait;
@@ -54,6 +57,7 @@ fn run_with<S: Source, K: Sink, G: Gate, R: Threads + Wait + Sync>(
     modules.push(Box::new(alloc, Mls::new())?)?;
     modules.push(Box::new(alloc, Partition::new())?)?;
     modules.push(Box::new(alloc, Bsdextended::new(alloc)?)?)?;
+    modules.push(Box::new(alloc, Priority::new())?)?;
     Ok(macsim(rt, alloc, &words, source, sink, gate, modules))
 }
 

@@ -1,4 +1,5 @@
 -- Items that the parts of a word add, one after another.
+use Rattle.mf_labeltext.specs.Reading.{parts}
 use Rattle.std.proofs.Common.{◌≡◌, ℕ, List, [], ◌∷◌, Option, Ok, Err, ap, sym, ◌∙◌}
 use Rattle.std.proofs.Common.{Bor, ◌<◌}
 use Rattle.std.proofs.lemmas.Str.Pattern.{IsSplitOnceResult}
@@ -6,8 +7,9 @@ use Rattle.std.specs.Prelude.{MatchOption}
 use Rattle.mf_names.proofs.Splits.{first_part}
 use Rattle.mf_script.specs.declared.refusal.Refusal.{Refusal}
 use Rattle.mf_script.specs.declared.refusal.Refusal.TheVariants.{Faulty, Memory}
-use Rattle.mf_script.specs.Readers.{Read, Fails, and_then}
-use Rattle.mf_script.specs.Parts.{parted, all_added}
+use Rattle.mf_script.specs.Readers.{Read, and_then}
+use Rattle.mf_script.specs.Gives.{Fails}
+use Rattle.mf_script.specs.Parts.{all_added}
 
 -- what is read from a text on, by what it reads as
 from_part : {A : Type 0} (add : List A → List ℕ → Read (List A)) (items : List A) (all : List (List ℕ)) (w : List ℕ) (ws : List (List ℕ)) (found : Read (List A)) → all ≡ w ∷ ws → add items w ≡ found
@@ -34,6 +36,6 @@ parts_end add items all w more first is so_far h = sym (part_adds add items all 
 -- Splitting at a separator
 
 pub split_once_parts : (separator : ℕ) (text : List ℕ) (halves : Option (Bor (List ℕ) × Bor (List ℕ))) → separator < 128 → IsSplitOnceResult separator text halves
-    → MatchOption halves (parted separator text ≡ text ∷ []) (λ halves. parted separator text ≡ halves.0.now ∷ parted separator halves.1.now)
-unfolding parted
+    → MatchOption halves (parts separator text ≡ text ∷ []) (λ halves. parts separator text ≡ halves.0.now ∷ parts separator halves.1.now)
+unfolding parts
 split_once_parts separator text halves small h = first_part separator text halves small h

@@ -12,8 +12,10 @@ use Rattle.mf_script.specs.declared.refusal.Refusal.{Refusal}
 use Rattle.mf_script.specs.declared.refusal.Refusal.TheVariants as refusal
 use Rattle.mf_script.specs.declared.rows.Place.{Place}
 use Rattle.mf_script.specs.declared.rows.Place.TheVariants as place
-use Rattle.mf_script.specs.Readers.{Read, Fails}
-use Rattle.mf_script.specs.Grammar.{State, at_line, or_at, ended, line_read, blank, script_from, script_of, IsRefusedAt, IsScriptOf}
+use Rattle.mf_script.specs.Readers.{Read}
+use Rattle.mf_script.specs.Gives.{Fails}
+use Rattle.mf_script.specs.Grammar.{State, at_line, or_at, ended, line_read, blank, script_from, script_of}
+use Rattle.mf_script.specs.Outcome.{IsRefusedAt, IsScriptOf}
 
 pub blank_is : (boots : List Module) (files : List FileLine) (tasks : List Task) (steps : List Step) → boots ≡ [] → files ≡ [] → tasks ≡ [] → steps ≡ []
     → record { boots = boots; files = files; tasks = tasks; steps = steps } ≡ blank

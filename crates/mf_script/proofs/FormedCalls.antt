@@ -1,6 +1,7 @@
 -- The calls and lines of tasks that the grammar reads are well formed.
 use Rattle.std.proofs.Common.{ℕ, ◌<◌, ◌≤◌, Bool, true, false, List, [], ◌∷◌, Some, if◌then◌else◌}
 use Rattle.std.specs.Str.{bytes_eq}
+use Rattle.mf_errno.specs.Privilege.{privilege_named}
 use Rattle.mf_script.specs.declared.error.ScriptFault.TheVariants.{UnknownWord}
 use Rattle.mf_calls.specs.declared.script.Call.{Call}
 use Rattle.mf_calls.specs.declared.script.Call.TheVariants as call
@@ -9,7 +10,7 @@ use Rattle.mf_rule.specs.declared.rule_list.TheConstants.{MAX_RULES}
 use Rattle.mf_calls.specs.WellFormed.{IsWord, IsName, IsProcessName, IsPath, IsFormedCall, IsFormedLine}
 use Rattle.mf_script.specs.Readers.{Read, fails, by_option}
 use Rattle.mf_words.specs.Words.{Words}
-use Rattle.mf_script.specs.Parts.{look_up, name_of, process_of, path_of, mode_of, text_of, rule_number_of}
+use Rattle.mf_script.specs.Parts.{look_up, name_of, process_of, path_of, mode_of, text_of, privilege_of, rule_number_of}
 use Rattle.mf_script.specs.Calls.{Arguments, bare, one, two, three, add_rule, set_rule, ugidfw_calls, ugidfw, calls, call_in, call_named, call_words}
 use Rattle.mf_script.specs.Lines.{behind_at, line_words}
 use Rattle.mf_script.proofs.ScriptWords.{AreWords, by_word}
@@ -47,6 +48,10 @@ path_read w word = path_formed w
 
 mode_read : Reads (λ mode. mode ≤ MODE_LIMIT) mode_of
 mode_read w word = mode_formed w
+
+privilege_read : Reads (λ privilege. Unit {0}) privilege_of
+unfolding privilege_of
+privilege_read w word = chosen (privilege_named w) _ _ refused (λ privilege. done tt)
 
 send_formed : AreFormed (three name_of name_of text_of call.Send)
 send_formed ws are =
@@ -113,12 +118,15 @@ all_formed =
     & one_formed _ _ call.Signal process_read (λ x ok. ok)
     & one_formed _ _ call.Debug process_read (λ x ok. ok)
     & one_formed _ _ call.Sched process_read (λ x ok. ok)
+    & one_formed _ _ call.Priv privilege_read (λ x ok. ok)
+    & bare_formed call.Getpmac tt
     & one_formed _ _ call.Exec path_read (λ x ok. ok)
     & one_formed _ _ call.Create path_read (λ x ok. ok)
     & one_formed _ _ call.Mkdir path_read (λ x ok. ok)
     & one_formed _ _ call.Read path_read (λ x ok. ok)
     & two_formed _ _ _ _ call.Write path_read bytes_formed (λ path text path_ok text_ok. (path_ok, text_ok))
     & one_formed _ _ call.Stat path_read (λ x ok. ok)
+    & one_formed _ _ call.Getfmac path_read (λ x ok. ok)
     & one_formed _ _ call.Readdir path_read (λ x ok. ok)
     & two_formed _ _ _ _ call.Chmod path_read mode_read (λ path mode path_ok mode_ok. (path_ok, mode_ok))
     & one_formed _ _ call.Unlink path_read (λ x ok. ok)

@@ -1,4 +1,5 @@
 -- What the grammar reads of a word is well formed.
+use Rattle.mf_labeltext.specs.Bytes.{comma, slash}
 use Rattle.std.proofs.Common.{All, ◌≡◌, ℕ, suc, ◌+◌, ◌<◌, arith, length-append, ◌==◌, ◌≤◌, Bool, true, false, if◌then◌else◌, List, [], ◌∷◌, ◌++◌, length, Option, Some, None, Result, Ok, Err, refl, subst, ap, ◌∙◌, lit≤}
 use Rattle.std.specs.Prelude.{nat_lt, codes}
 use Rattle.std.specs.List.{slice_split}
@@ -8,13 +9,14 @@ use Rattle.std.proofs.lemmas.Bool.{ltb-true}
 use Rattle.std.proofs.lemmas.List.Splits.{length-slice_split}
 use Rattle.std.proofs.lemmas.List.Elements.{All-nil, All-cons, All-head, All-tail, All-push}
 use Rattle.mf_errno.specs.declared.module.Module.{Module}
-use Rattle.mf_elem.specs.Label.{no_request, IsRequest}
+use Rattle.mf_elem.specs.Label.{no_request}
+use Rattle.mf_elem.specs.Bounds.{IsRequest}
 use Rattle.mf_elem.specs.declared.label.Request.{Request}
 use Rattle.mf_text.specs.Number.{number_in}
 use Rattle.mf_text.specs.declared.number.NumberFault.{NumberFault}
 use Rattle.mf_text.specs.Escape.{bytes_of}
 use Rattle.mf_labeltext.specs.declared.fault.LabelFault.{LabelFault}
-use Rattle.mf_labeltext.specs.Reading.{request_in, cut}
+use Rattle.mf_labeltext.specs.Reading.{request_in, cut, parts}
 use Rattle.mf_labeltext.proofs.Cutting.{IsCut, cut_is}
 use Rattle.mf_labeltext.proofs.Requests.{request_spells}
 use Rattle.mf_labeltext.proofs.Formed.{spelled_is_request}
@@ -34,7 +36,7 @@ use Rattle.mf_calls.specs.Names.{is_name, is_process_name, is_component}
 use Rattle.mf_calls.specs.WellFormed.{IsWord, IsPrintable, IsAsked, IsPath, IsText}
 use Rattle.mf_script.specs.declared.error.ScriptFault.TheVariants.{Missing, BadNumber, BadLabel, BadRule, BadText}
 use Rattle.mf_script.specs.Readers.{Read, fails, or_fault, by_option}
-use Rattle.mf_script.specs.Parts.{slash, comma, parted, all_added, number_of, with_group, groups_of, name_of, process_of, mode_of, with_component, components_of, behind_root, path_of, any_word, text_of, equals_sign, sides_of, rule_number_of, rule_of}
+use Rattle.mf_script.specs.Parts.{all_added, number_of, with_group, groups_of, name_of, process_of, mode_of, with_component, components_of, behind_root, path_of, any_word, text_of, equals_sign, sides_of, rule_number_of, rule_of}
 use Rattle.mf_script.specs.Grammar.{request_of, request_for}
 use Rattle.mf_script.proofs.EscapedBytes.{escaped_short, escaped_fit}
 use Rattle.mf_script.proofs.Numbers.{number_most}
@@ -92,7 +94,7 @@ with_component_formed path w formed = checked _ _ _ (λ e.
 
 components_formed : (w : List ℕ) → Yields IsPath (components_of w)
 unfolding components_of
-components_formed w = all_added_formed IsPath with_component with_component_formed [] (parted slash w) (record { few = lit≤ tt; each = All-nil _ })
+components_formed w = all_added_formed IsPath with_component with_component_formed [] (parts slash w) (record { few = lit≤ tt; each = All-nil _ })
 
 behind_root_formed : (w : List ℕ) → Yields IsPath (behind_root w)
 unfolding behind_root
@@ -132,7 +134,7 @@ pub record AreFormedGroups (groups : List ℕ) : Type 0 where
   pub each : All (λ group. group ≤ UID_MAX) groups
 
 pub groups_formed : (w : List ℕ) → Yields AreFormedGroups (groups_of w)
-unfolding groups_of parted
+unfolding groups_of parts
 groups_formed w =
     widened (all_groups_formed (slice_split (λ b. b == comma) w) 0 [] (record { counted = refl; few = lit≤ tt; each = All-nil _ }))
     (λ groups got. record { some = omega (arith, got.counted, length-slice_split (λ b. b == comma) w); few = got.few; each = got.each })

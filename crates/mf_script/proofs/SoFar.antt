@@ -20,7 +20,8 @@ use Rattle.mf_script.specs.declared.error.ScriptError.{ScriptError}
 use Rattle.mf_script.specs.declared.error.ScriptError.TheVariants as error
 use Rattle.mf_script.specs.declared.rows.Place.{Place}
 use Rattle.mf_script.specs.declared.rows.Place.TheVariants as place
-use Rattle.mf_script.specs.Grammar.{State, boot_in, file_in, task_in, line_in, step_in, alone, behind_tasks, behind_files, behind_boots, in_task, in_steps, row_in, words_line, line_read, blank, ended, IsScriptOf}
+use Rattle.mf_script.specs.Grammar.{State, boot_in, file_in, task_in, line_in, step_in, alone, behind_tasks, behind_files, behind_boots, in_task, in_steps, row_in, words_line, line_read, blank, ended}
+use Rattle.mf_script.specs.Outcome.{IsScriptOf}
 use Rattle.mf_script.proofs.ScriptWords.{AreWords, script_words}
 use Rattle.mf_script.proofs.FormedLines.{file_formed, task_formed, step_formed}
 use Rattle.mf_script.proofs.FormedCalls.{line_formed}
@@ -51,7 +52,7 @@ Keeps state = IsSoFar state.0 state.1
 none_formed : IsWellFormed blank
 none_formed =
     record {
-      boots = record { built_in = All-nil _; differ = no_pairs (λ (m n : Module). m ≢ n) };
+      boots = no_pairs (λ (m n : Module). m ≢ n);
       files = lit≤ tt;
       paths = no_pairs (λ (f g : FileLine). f.path ≢ g.path);
       each_file = All-nil _;

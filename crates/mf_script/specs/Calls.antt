@@ -5,30 +5,28 @@ use Rattle.mf_calls.specs.declared.script.Call.{Call}
 use Rattle.mf_calls.specs.declared.script.Call.TheVariants as call
 use Rattle.mf_script.specs.declared.error.ScriptFault.TheVariants.{Missing}
 use Rattle.mf_script.specs.Readers.{Read, ◌>>=◌, fails}
-use Rattle.mf_script.specs.Parts.{word_by, no_more, one_of, any_word, mode_of, rule_number_of, name_of, process_of, path_of, text_of, sides_of, rule_of}
+use Rattle.mf_script.specs.Parts.{word_by, no_more, one_of, any_word, mode_of, rule_number_of, name_of, process_of, path_of, text_of, privilege_of, sides_of, rule_of}
 
 -- a reader of the arguments behind a call's name, which returns the words after them too
 abbrev pub Arguments : Type 0
 Arguments = Words → Read (Call × Words)
 
--- no argument
+-- Calls with no argument, with one, two and three, each of one word
+
 abbrev pub bare : Call → Arguments
 bare call ws = Ok (call, ws)
 
--- one argument, which is one word
 abbrev pub one : {A : Type 0} → (List ℕ → Read A) → (A → Call) → Arguments
 one first call ws = do
   x ← word_by first ws
   Ok (call x.0, x.1)
 
--- two arguments
 abbrev pub two : {A B : Type 0} → (List ℕ → Read A) → (List ℕ → Read B) → (A → B → Call) → Arguments
 two first second call ws = do
   x ← word_by first ws
   y ← word_by second x.1
   Ok (call x.0 y.0, y.1)
 
--- three arguments
 abbrev pub three : {A B C : Type 0} → (List ℕ → Read A) → (List ℕ → Read B) → (List ℕ → Read C) → (A → B → C → Call) → Arguments
 three first second third call ws = do
   x ← word_by first ws
@@ -78,6 +76,8 @@ process_calls =
     ∷ (codes "signal", one process_of call.Signal)
     ∷ (codes "debug", one process_of call.Debug)
     ∷ (codes "sched", one process_of call.Sched)
+    ∷ (codes "priv", one privilege_of call.Priv)
+    ∷ (codes "getpmac", bare call.Getpmac)
     ∷ []
 
 abbrev pub file_calls : Table
@@ -88,6 +88,7 @@ file_calls =
     ∷ (codes "read", one path_of call.Read)
     ∷ (codes "write", two path_of text_of call.Write)
     ∷ (codes "stat", one path_of call.Stat)
+    ∷ (codes "getfmac", one path_of call.Getfmac)
     ∷ (codes "readdir", one path_of call.Readdir)
     ∷ (codes "chmod", two path_of mode_of call.Chmod)
     ∷ (codes "unlink", one path_of call.Unlink)

@@ -1,19 +1,18 @@
 -- Which bytes are a script, which script they are, and else the first faulty line with its first fault: the grammar, the limits and the order
 -- of faults of docs/MANUAL.md (THE SCRIPT). In a line NotText is looked for first, then the words from left to right, then Extra, and then what
 -- the words ask for is judged.
-use Rattle.std.specs.Prelude.{◌≡◌, ℕ, ◌+◌, Bool, not, ◌&&◌, ◌||◌, nat_lt, nat_le, if◌then◌else◌, List, [], ◌∷◌, ◌++◌, length, Result, Ok, Err, codes}
+use Rattle.std.specs.Prelude.{ℕ, ◌+◌, Bool, not, ◌&&◌, ◌||◌, nat_lt, nat_le, if◌then◌else◌, List, [], ◌∷◌, ◌++◌, length, Result, Ok, Err, codes}
 use Rattle.std.specs.List.{list_all, list_any}
 use Rattle.std.specs.Str.{bytes_eq}
 use Rattle.std.specs.Char.{is_ascii_graphic}
 use Rattle.mf_errno.specs.declared.errno.Errno.TheVariants.{Enoent, Eexist}
 use Rattle.mf_errno.specs.declared.module.Module.{Module}
-use Rattle.mf_errno.specs.Module.{module_named}
+use Rattle.mf_errno.specs.Names.{module_named}
 use Rattle.mf_elem.specs.declared.label.Request.{Request}
 use Rattle.mf_elem.specs.Label.{no_request}
 use Rattle.mf_labeltext.specs.Reading.{request_in}
 use Rattle.mf_item.specs.declared.view.Kind.{Kind}
 use Rattle.mf_item.specs.declared.view.Kind.TheVariants as kinds
-use Rattle.mf_policy.specs.Modules.{has_spec}
 use Rattle.mf_names.specs.declared.limits.TheConstants.{CONTENT_LIMIT}
 use Rattle.mf_words.specs.Words.{Words, lines_in, words_in, is_blank, is_comment}
 use Rattle.mf_calls.specs.declared.limits.TheConstants.{FILE_LIMIT, TASK_LIMIT, LINE_LIMIT, RULE_LIST_LIMIT, STEP_LIMIT}
@@ -28,8 +27,6 @@ use Rattle.mf_script.specs.declared.error.ScriptFault.TheVariants.{NotText, Unkn
 use Rattle.mf_script.specs.declared.error.ScriptError.{ScriptError}
 use Rattle.mf_script.specs.declared.error.ScriptError.TheVariants as error
 use Rattle.mf_script.specs.declared.refusal.LineFault.{LineFault}
-use Rattle.mf_script.specs.declared.refusal.Refusal.{Refusal}
-use Rattle.mf_script.specs.declared.refusal.Refusal.TheVariants as refusal
 use Rattle.mf_script.specs.declared.lines.FileWords.{FileWords}
 use Rattle.mf_script.specs.declared.lines.TaskWords.{TaskWords}
 use Rattle.mf_script.specs.declared.rows.Place.{Place}
@@ -40,12 +37,9 @@ use Rattle.mf_script.specs.Lines.{boot_words, file_words, task_words, line_words
 
 -- What the words of a line ask for is judged in this order: TooMany, BootRefused, Duplicate, BadPath, BadLabel.
 
--- the module, whose policy must be built in, and which none of these may be
+-- the module, which none of these may be
 unfoldable pub judged_module : List Module → Module → Read Module
-judged_module boots m =
-    if not (has_spec m) then boot_refused Enoent
-    else if is_booted boots m then boot_refused Eexist
-    else Ok m
+judged_module boots m = if is_booted boots m then boot_refused Eexist else Ok m
 
 -- the module of that name after these
 unfoldable pub judged_boot : List Module → List ℕ → Read Module
@@ -182,11 +176,6 @@ line_read s p line = unless NotText (list_all is_plain line) >>= λ u. words_lin
 abbrev pub at_line : ℕ → LineFault → ScriptError
 at_line n fault = error.Fault n fault.fault fault.errno
 
--- the error is the fault in the line of that number, or memory ran out
-abbrev pub IsRefusedAt : ℕ → Refusal → ScriptError → Type 0
-IsRefusedAt n (refusal.Faulty fault) found = found ≡ at_line n fault
-IsRefusedAt n refusal.Memory found = found ≡ error.Memory
-
 -- what follows a line that was read
 abbrev pub or_at : {A B : Type 0} → ℕ → Read A → (A → Result B ScriptError) → Result B ScriptError
 or_at n (Ok x) more = more x
@@ -208,8 +197,3 @@ blank = record { boots = []; files = []; tasks = []; steps = [] }
 -- the script that the bytes are, or its first fault
 unfoldable pub script_of : List ℕ → Result Script ScriptError
 script_of bytes = script_from blank place.Boots 1 (lines_in bytes)
-
--- what the reader returned is the script of the bytes, or their first fault, unless memory ran out
-abbrev pub IsScriptOf : Result Script ScriptError → Result Script ScriptError → Type 0
-IsScriptOf (Err error.Memory) read = Unit {0}
-IsScriptOf result read = read ≡ result

@@ -1,11 +1,13 @@
 -- The words of a line one by one, each with its fault, as the table of words in docs/MANUAL.md (THE SCRIPT) has them. A reader takes words
 -- from the front, and returns what it read and the words after it.
+use Rattle.mf_labeltext.specs.Bytes.{comma, slash}
 use Rattle.std.specs.Prelude.{ℕ, ◌-◌, Bool, true, false, ◌&&◌, ◌==◌, nat_lt, if◌then◌else◌, List, [], ◌∷◌, ◌++◌, length, Option, Some, None, Ok, codes}
-use Rattle.std.specs.List.{slice_split}
 use Rattle.std.specs.Str.{bytes_eq}
+use Rattle.mf_errno.specs.Privilege.{privilege_named}
+use Rattle.mf_errno.specs.declared.privilege.Priv.{Priv}
 use Rattle.mf_text.specs.Number.{number_in}
 use Rattle.mf_text.specs.Escape.{bytes_of}
-use Rattle.mf_labeltext.specs.Reading.{cut}
+use Rattle.mf_labeltext.specs.Reading.{cut, parts}
 use Rattle.mf_names.specs.declared.limits.TheConstants.{PATH_LIMIT}
 use Rattle.mf_cred.specs.declared.cred.TheConstants.{MOST_GROUPS}
 use Rattle.mf_rule.specs.declared.rule.Rule.{Rule}
@@ -71,6 +73,10 @@ name_of w = unless BadPath (is_name w) >>= λ u. Ok w
 unfoldable pub process_of : List ℕ → Read (List ℕ)
 process_of w = unless BadPath (is_process_name w) >>= λ u. Ok w
 
+-- the name of a privilege
+unfoldable pub privilege_of : List ℕ → Read Priv
+privilege_of w = by_option (privilege_named w) (fails UnknownWord) Ok
+
 -- the kind of a file: whether it is a directory
 unfoldable pub is_directory_of : List ℕ → Read Bool
 is_directory_of w = one_of ((codes "reg", false) ∷ (codes "dir", true) ∷ []) w Ok
@@ -95,16 +101,6 @@ rule_of (w ∷ ws) = or_fault BadRule (rule_in (w ∷ ws)) >>= λ rule. Ok (rule
 
 -- Lists in one word
 
-abbrev pub comma : ℕ
-comma = 44
-
-abbrev pub slash : ℕ
-slash = 47
-
--- the texts between separators
-unfoldable pub parted : ℕ → List ℕ → List (List ℕ)
-parted separator w = slice_split (λ b. b == separator) w
-
 -- the items so far, and those that the texts add to them
 unfoldable pub all_added : {A : Type 0} → (List A → List ℕ → Read (List A)) → List A → List (List ℕ) → Read (List A)
 all_added add items [] = Ok items
@@ -119,7 +115,7 @@ with_group groups w = do
 
 -- numbers with a comma between each two
 unfoldable pub groups_of : List ℕ → Read (List ℕ)
-groups_of w = all_added with_group [] (parted comma w)
+groups_of w = all_added with_group [] (parts comma w)
 
 -- one component more, where there is room for it
 unfoldable pub with_component : List (List ℕ) → List ℕ → Read (List (List ℕ))
@@ -127,7 +123,7 @@ with_component path w = unless BadPath (nat_lt (length path) PATH_LIMIT && is_co
 
 -- components with a slash between each two
 unfoldable pub components_of : List ℕ → Read (List (List ℕ))
-components_of w = all_added with_component [] (parted slash w)
+components_of w = all_added with_component [] (parts slash w)
 
 -- what stands behind the first slash of a path: nothing in that of the root directory
 unfoldable pub behind_root : List ℕ → Read (List (List ℕ))

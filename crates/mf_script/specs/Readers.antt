@@ -1,11 +1,10 @@
 -- Readers one after another, each of which reads or finds the fault of its line; and how what a function returns goes with that.
-use Rattle.std.specs.Prelude.{◌≡◌, Bool, true, false, Option, Some, None, Result, Ok, Err}
+use Rattle.std.specs.Option.{option_map_or}
+use Rattle.std.specs.Prelude.{Bool, true, false, Option, Some, None, Result, Ok, Err}
 use Rattle.mf_errno.specs.declared.errno.Errno.{Errno}
 use Rattle.mf_script.specs.declared.error.ScriptFault.{ScriptFault}
 use Rattle.mf_script.specs.declared.error.ScriptFault.TheVariants.{BootRefused}
 use Rattle.mf_script.specs.declared.refusal.LineFault.{LineFault}
-use Rattle.mf_script.specs.declared.refusal.Refusal.{Refusal}
-use Rattle.mf_script.specs.declared.refusal.Refusal.TheVariants as refusal
 
 -- what is read, or the fault of the line
 abbrev pub Read : Type 0 → Type 0
@@ -41,15 +40,4 @@ or_fault fault (Err e) = fails fault
 
 -- one of two, by whether there is something
 abbrev pub by_option : {A B : Type 0} → Option A → B → (A → B) → B
-by_option None stop more = stop
-by_option (Some x) stop more = more x
-
--- the fault is the line's, or memory ran out
-abbrev pub Fails : {Y : Type 0} → Refusal → Read Y → Type 0
-Fails refusal.Memory read = Unit {0}
-Fails (refusal.Faulty fault) read = read ≡ Err fault
-
--- What a function returned, seen by `view`, is what is read, unless memory ran out.
-abbrev pub Gives : {X Y : Type 0} → (X → Y) → Result X Refusal → Read Y → Type 0
-Gives view (Ok x) read = read ≡ Ok (view x)
-Gives view (Err e) read = Fails e read
+by_option found stop more = option_map_or more found stop

@@ -2,7 +2,7 @@
 #![tactic(auto, unfolding(crate::specs::Readers::and_then))]
 
 ghost use Rattle.std.specs.Prelude.{◌≡◌, ◌++◌};
-ghost use Rattle.mf_script.specs.Readers.{Gives};
+ghost use Rattle.mf_script.specs.Gives.{Gives};
 ghost use Rattle.mf_calls.specs.declared.script.Call.TheVariants as call;
 ghost use Rattle.mf_script.specs.Parts.{name_of, path_of, mode_of, text_of, sides_of};
 ghost use Rattle.mf_script.specs.Calls.{call_in, call_named, call_words, calls, file_calls, channel_calls, module_calls, setting_calls, add_rule, set_rule, ugidfw_calls, ugidfw, one, two, three};
@@ -106,6 +106,8 @@ fn call(alloc: Global, name: &str, words: &mut Words) -> Result<Call, Refusal>
         "signal" => Ok(Call::Signal(names::process(alloc, words)?)),
         "debug" => Ok(Call::Debug(names::process(alloc, words)?)),
         "sched" => Ok(Call::Sched(names::process(alloc, words)?)),
+        "priv" => Ok(Call::Priv(parts::privilege(words)?)),
+        "getpmac" => Ok(Call::Getpmac),
         _ => file_call(alloc, name, words),
     }
 }
@@ -122,6 +124,7 @@ fn file_call(alloc: Global, name: &str, words: &mut Words) -> Result<Call, Refus
         "read" => Ok(Call::Read(names::path(alloc, words)?)),
         "write" => write(alloc, words),
         "stat" => Ok(Call::Stat(names::path(alloc, words)?)),
+        "getfmac" => Ok(Call::Getfmac(names::path(alloc, words)?)),
         "readdir" => Ok(Call::Readdir(names::path(alloc, words)?)),
         "chmod" => chmod(alloc, words),
         "unlink" => Ok(Call::Unlink(names::path(alloc, words)?)),

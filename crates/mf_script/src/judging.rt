@@ -4,7 +4,7 @@
 ghost use Rattle.std.specs.Prelude.{◌≡◌};
 ghost use Rattle.std.specs.List.{list_any};
 ghost use Rattle.mf_calls.specs.Paths.{is_directory_at, has_directory};
-ghost use Rattle.mf_script.specs.Readers.{Gives};
+ghost use Rattle.mf_script.specs.Gives.{Gives};
 ghost use Rattle.mf_script.specs.Grammar.{judged_module, judged_boot, request_of, request_for, has_path, judged_file, has_name, judged_task, with_list};
 
 use crate::error::ScriptFault;
@@ -18,7 +18,6 @@ use mf_elem::Request;
 use mf_errno::{Errno, Module};
 use mf_item::Kind;
 use mf_labeltext::read_request;
-use mf_policy::has_spec;
 use std::alloc::Global;
 
 /// The module, where it may be booted after these.
@@ -26,9 +25,7 @@ use std::alloc::Global;
 fn judged_module(boots: &[Module], named: Module) -> Result<Module, Refusal>
     ensures { Gives (λ m. m) result (judged_module boots.now named) }
 {
-    if !has_spec(named) {
-        Err(boot_refused(Errno::Enoent))
-    } else if is_booted(boots, named) {
+    if is_booted(boots, named) {
         Err(boot_refused(Errno::Eexist))
     } else {
         Ok(named)

@@ -2,7 +2,7 @@
 #![tactic(auto, unfolding(crate::specs::Readers::and_then))]
 
 ghost use Rattle.std.specs.Prelude.{◌≡◌};
-ghost use Rattle.mf_script.specs.Readers.{Gives};
+ghost use Rattle.mf_script.specs.Gives.{Gives};
 ghost use Rattle.mf_script.specs.Lines.{boot_words, file_text, file_words, task_words, line_words, kind_of, step_words};
 
 use crate::error::ScriptFault;

@@ -3,7 +3,7 @@
 
 ghost use Rattle.std.specs.Prelude.{◌≡◌, ◌≢◌, ◌<◌, ◌≤◌, ◌∷◌, MatchOption, List, ℕ};
 ghost use Rattle.mf_calls.specs.Names.{is_process_name};
-ghost use Rattle.mf_script.specs.Readers.{Gives};
+ghost use Rattle.mf_script.specs.Gives.{Gives};
 ghost use Rattle.mf_script.specs.Parts.{word_by, name_of, process_of, with_component, components_of, behind_root, path_of};
 
 use crate::Words;

@@ -2,7 +2,7 @@
 #![tactic(auto, unfolding(crate::specs::Readers::and_then))]
 
 ghost use Rattle.std.specs.Prelude.{◌≡◌, ◌++◌, ◌∷◌, []};
-ghost use Rattle.mf_script.specs.Readers.{Gives};
+ghost use Rattle.mf_script.specs.Gives.{Gives};
 ghost use Rattle.mf_script.specs.declared.rows.Place.TheVariants as place;
 ghost use Rattle.mf_script.specs.Grammar.{boot_in, file_in, task_in, line_in, step_in, alone, behind_tasks, behind_files, behind_boots, in_task, in_steps, row_in, words_line};
 

@@ -2,11 +2,13 @@
 ghost use Rattle.std.specs.Prelude.{◌≡◌, ◌<◌, true, false, IfOk, IsOk, IfErr, IfNone, IfSome, IsTrue, OnErr, Some};
 ghost use Rattle.mf_plan.specs.declared.reply.Payload.TheVariants as payload;
 ghost use Rattle.mf_plan.specs.declared.reply.Reply.{Reply};
-ghost use Rattle.mf_step.specs.Reply.{is_done, reply_to};
+ghost use Rattle.mf_step.specs.Reply.{reply_to};
+ghost use Rattle.mf_step.specs.Refused.{is_done};
 ghost use Rattle.mf_step.specs.Verdict.{verdict_of};
 ghost use Rattle.mf_core.specs.declared.history.Event.TheVariants as event;
 ghost use Rattle.mf_core.specs.declared.progress.Turn.TheVariants as turn;
-ghost use Rattle.mf_core.specs.LegalHistory.{next_plan, next_reply, with_event};
+ghost use Rattle.mf_core.specs.LegalHistory.{next_reply};
+ghost use Rattle.mf_core.specs.Next.{next_plan, with_event};
 ghost use Rattle.mf_core.specs.Policies.{StaysWhileWaiting};
 ghost use Rattle.mf_core.specs.CoreView.{specs_of, run_state, open_of, Changes, Commits};
 ghost use Rattle.mf_share.specs.Passes.{AgreesWithPass, AgreesWithTicket, pass_changed, pass_left, pass_turn, ticket_after, ticket_for};

@@ -1,11 +1,11 @@
 //! The kernel: the desk and the policies, each behind a lock of its own.
 ghost use Rattle.std.specs.Prelude.{◌≡◌, ◌+◌, [], true, false, All, length, map, IfOk, OnErr, OnOk};
 ghost use Rattle.mf_policy.specs.Modules.{module_of};
-ghost use Rattle.mf_list.specs.Lists.{IsFresh};
+ghost use Rattle.mf_list.specs.Fresh.{IsFresh};
 ghost use Rattle.mf_calls.specs.WellFormed.{IsWellFormed};
 ghost use Rattle.mf_step.specs.Verdict as step;
 ghost use Rattle.mf_core.specs.declared.progress.Turn.TheVariants as turn;
-ghost use Rattle.mf_core.specs.Policies.{AreAllModules};
+ghost use Rattle.mf_core.specs.AllModules.{AreAllModules};
 ghost use Rattle.mf_core.specs.CoreView.{done_of, open_of};
 ghost use Rattle.mf_share.specs.Passes.{AreBack, AreFirst, AreOneEach, lines_sum, pass_left, pass_turn, ticket_after, ticket_for};
 
@@ -71,8 +71,8 @@ pub struct Kernel<'s, P: Policy, J: Job, B: Ledger> {
 
 impl<'s, P: Policy, J: Job, B: Ledger> Kernel<'s, P, J, B> {
     /// A kernel before the first event of the script, and a pass for each task in order. `modules` has a policy of each
-    /// module that is built in, once, in its initial state. `J` names the script; each of the ledgers is cut into one
-    /// part more than the script has tasks.
+    /// module, once, in its initial state. `J` names the script; each of the ledgers is cut into one part more than the
+    /// script has tasks.
     pub fn open(
         alloc: Global,
         script: &'s Script,

@@ -5,8 +5,8 @@ use mf_list::{Catalogue, PolicyList};
 use mf_policy::Policy;
 use std::marker::Model;
 
-/// The listed policies and the catalogue of the others. Each module that is built in is held once, those in the
-/// catalogue in their initial state, and each of the two has room for what the other holds.
+/// The listed policies and the catalogue of the others. Each module is held once, those in the catalogue in their initial
+/// state, and each of the two has room for what the other holds.
 #[derive(Drop)]
 pub struct Policies<P: Policy> {
     pub(crate) list: PolicyList<P>,

@@ -8,4 +8,5 @@ mod Entries
 mod Keeping
 mod Denials
 mod LastName
+mod LabelParts
 mod Loads

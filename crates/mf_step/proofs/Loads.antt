@@ -4,12 +4,11 @@ use Rattle.std.proofs.lemmas.Bool.{leb-false}
 use Rattle.std.specs.Prelude.{IsTrue, nat_le}
 use Rattle.mf_errno.specs.declared.module.Module.{Module}
 use Rattle.mf_policy.specs.declared.loading.LoadFault.TheVariants.{NotLate, Exists, NoSlot}
-use Rattle.mf_policy.specs.LoadFlags.{is_notlate}
-use Rattle.mf_policy.specs.Modules.{flags_of, wants_slot}
+use Rattle.mf_policy.specs.Modules.{facts_of, wants_slot}
 use Rattle.mf_policy.specs.Registration.{is_listed}
 use Rattle.mf_plan.specs.declared.state.State.{State}
 use Rattle.mf_plan.specs.Doing.{CanLoad}
-use Rattle.mf_plan.specs.Loading.{loadable}
+use Rattle.mf_errno.specs.Names.{module_named}
 
 not_full : (late listed wants full : Bool) → (if late then Some NotLate else if listed then Some Exists else if wants && full then Some NoSlot else None) ≡ None
     → wants ≡ true → full ≡ false
@@ -22,10 +21,10 @@ not_full false false false full none is = cc
 same_module : (a b : Module) → Some a ≡ Some b → a ≡ b
 same_module a b is = cc
 
-pub has_slot : (s : State) (name given : List ℕ) (wanted : Module) → CanLoad s name → given ≡ name → Some wanted ≡ loadable given
+pub has_slot : (s : State) (name given : List ℕ) (wanted : Module) → CanLoad s name → given ≡ name → Some wanted ≡ module_named given
     → IsTrue (wants_slot wanted) → s.numbers < 4
 has_slot s name given wanted can is found wants =
-    let same : wanted ≡ can.wanted = same_module wanted can.wanted (found ∙ ap loadable is ∙ can.named) in
+    let same : wanted ≡ can.wanted = same_module wanted can.wanted (found ∙ ap module_named is ∙ can.named) in
     let m : Module = can.wanted in
     leb-false 4 s.numbers
-    (not_full (s.booted && is_notlate (flags_of m)) (is_listed m s.specs) (wants_slot m) (nat_le 4 s.numbers) can.fault (ap wants_slot (sym same) ∙ wants))
+    (not_full (s.booted && (facts_of m).not_late) (is_listed m s.specs) (wants_slot m) (nat_le 4 s.numbers) can.fault (ap wants_slot (sym same) ∙ wants))

@@ -12,8 +12,9 @@ use Rattle.mf_plan.specs.declared.state.State.{State}
 use Rattle.mf_plan.specs.Plan.{plan_of}
 use Rattle.mf_step.specs.declared.verdict.Denial.{Denial}
 use Rattle.mf_step.specs.declared.verdict.Verdict.{Verdict}
-use Rattle.mf_step.specs.Reply.{denied_reply, is_done, payload_of, refused_or, reply_to, tail_reply}
-use Rattle.mf_step.specs.Step.{after_reply, step_reply}
+use Rattle.mf_step.specs.Reply.{denied_reply, reply_to, tail_reply}
+use Rattle.mf_step.specs.Refused.{is_done, refused_or}
+use Rattle.mf_step.specs.Step.{after_reply, step_payload, step_reply}
 use Rattle.mf_step.specs.Verdict.{verdict_of}
 
 -- a call that nothing refuses may be done
@@ -27,11 +28,11 @@ may_proceed plan (Some denial) done = cc (done payload.None)
 
 pub step_reply_is : (s : State) (task : List ℕ) (child : Option (List ℕ)) (c : Call) (plan : Plan) (verdict : Verdict) (refusal : Option Reply)
     → plan ≡ plan_of s task child c → verdict ≡ verdict_of s.specs plan → ((p : Payload) → reply_to plan verdict p ≡ refused_or refusal p)
-    → step_reply s task child c ≡ refused_or refusal (payload_of s c)
+    → step_reply s task child c ≡ refused_or refusal (step_payload s task child c)
 step_reply_is s task child c plan verdict refusal planned judged all =
-    ap (λ (x : Plan). reply_to x (verdict_of s.specs x) (payload_of s c)) (sym planned)
-    ∙ ap (λ (v : Verdict). reply_to plan v (payload_of s c)) (sym judged)
-    ∙ all (payload_of s c)
+    ap (λ (x : Plan). reply_to x (verdict_of s.specs x) (step_payload s task child c)) (sym planned)
+    ∙ ap (λ (v : Verdict). reply_to plan v (step_payload s task child c)) (sym judged)
+    ∙ all (step_payload s task child c)
 
 -- a call that isn't done leaves the state
 pub not_done : (r : Reply) (s done : State) → is_done r ≡ false → after_reply r s done ≡ s

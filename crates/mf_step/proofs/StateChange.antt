@@ -1,14 +1,13 @@
 -- How a call changes the state: not at all; one entity is made, one changed, some removed; a module is loaded, or unloaded; a setting is
 -- changed.
 use Rattle.std.proofs.Common.{◌≡◌, ℕ, Bool, true, false, cond, not, List, [], Option, Some, None, option_map, drop, refl}
-use Rattle.mf_errno.specs.Module.{module_named}
+use Rattle.mf_errno.specs.Names.{module_named}
 use Rattle.mf_errno.specs.declared.errno.Errno.{Errno}
 use Rattle.mf_errno.specs.declared.module.Module.{Module}
 use Rattle.mf_item.specs.declared.view.SubjectView.{SubjectView}
 use Rattle.mf_policy.specs.declared.loading.UnloadFault.TheVariants.{NotLoaded, Pinned}
-use Rattle.mf_policy.specs.LoadFlags.{is_unloadok}
 use Rattle.mf_policy.specs.Loading.{load_fault, load_errno, unload_fault, unload_errno}
-use Rattle.mf_policy.specs.Modules.{flags_of}
+use Rattle.mf_policy.specs.Modules.{facts_of}
 use Rattle.mf_policy.specs.declared.settings.Change.{Change}
 use Rattle.mf_objects.specs.declared.id.Id.{Id}
 use Rattle.mf_objects.specs.declared.entity.EntityData.{EntityData}
@@ -24,7 +23,7 @@ use Rattle.mf_plan.specs.declared.reply.Payload.{Payload}
 use Rattle.mf_plan.specs.declared.state.State.{State}
 use Rattle.mf_plan.specs.declared.target.Target.{Target}
 use Rattle.mf_plan.specs.declared.target.Target.TheVariants.{Root, Name, Nowhere}
-use Rattle.mf_plan.specs.Loading.{loadable, load_refusal, unload_refusal}
+use Rattle.mf_plan.specs.Loading.{load_refusal, unload_refusal}
 use Rattle.mf_policy.specs.Registration.{is_listed}
 use Rattle.mf_plan.specs.Names.{caller_name, child_name}
 use Rattle.mf_plan.specs.Path.{file_at_path, last_name, lookup_along}
@@ -33,9 +32,9 @@ use Rattle.mf_plan.specs.Plan.{proceed, refuse_by, load_row, plan_for, plan_by, 
 use Rattle.mf_plan.specs.Views.{subject_of, process_named, pipe_named, socket_named}
 use Rattle.mf_step.specs.declared.verdict.Denial.{Denial}
 use Rattle.mf_step.specs.Verdict.{verdict_of}
-use Rattle.mf_step.specs.Reply.{tail_reply, denied_reply, payload_of}
+use Rattle.mf_step.specs.Reply.{tail_reply, denied_reply}
 use Rattle.mf_step.specs.Effect.{with_objects, with_created, with_changed, new_file, with_file, without_entry, with_loaded, with_unloaded, with_setting, effect_of}
-use Rattle.mf_step.specs.Step.{performed_by, performed, after_reply, step_state}
+use Rattle.mf_step.specs.Step.{performed_by, performed, after_reply, step_payload, step_state}
 use Rattle.mf_objects.proofs.Finding.{found_live}
 
 -- what a step of the process of this id, where it lives, makes of a state
@@ -52,7 +51,7 @@ pub data StateChange (by : Option Id) (s s' : State) : Type 0 where
   -- a policy comes, for which there is no fault
   loaded : (m : Module) → load_fault s.booted s.specs s.numbers m ≡ None → s' ≡ with_loaded s (Some m) → StateChange by s s'
   -- a policy goes that may be unloaded
-  unloaded : (m : Module) → is_unloadok (flags_of m) ≡ true → s' ≡ with_unloaded s (Some m) → StateChange by s s'
+  unloaded : (m : Module) → (facts_of m).unload_ok ≡ true → s' ≡ with_unloaded s (Some m) → StateChange by s s'
   -- a listed policy has another setting
   set_to : (m : Module) (change : Change) → s' ≡ with_setting s (Some (m, change)) → StateChange by s s'
 
@@ -94,7 +93,7 @@ may_unload false unloadok some = cc
 by_unloaded : (by : Option Id) (s : State) (found : Option Module) → unload_refusal s found ≡ None → StateChange by s (with_unloaded s found)
 by_unloaded by s None none = same refl
 by_unloaded by s (Some m) none =
-    unloaded m (may_unload (is_listed m s.specs) (is_unloadok (flags_of m)) (no_errno unload_errno (unload_fault s.specs m) none)) refl
+    unloaded m (may_unload (is_listed m s.specs) ((facts_of m).unload_ok) (no_errno unload_errno (unload_fault s.specs m) none)) refl
 
 by_setting : (by : Option Id) (s : State) (asked : Option (Module × Change)) → StateChange by s (with_setting s asked)
 by_setting by s None = same refl
@@ -109,12 +108,15 @@ effect_change s task caller e (call.See name) live done = same refl
 effect_change s task caller e (call.Signal name) live done = same refl
 effect_change s task caller e (call.Debug name) live done = same refl
 effect_change s task caller e (call.Sched name) live done = same refl
+effect_change s task caller e (call.Priv p) live done = same refl
+effect_change s task caller e call.Getpmac live done = same refl
 effect_change s task caller e (call.Exec path) live done = same refl
 effect_change s task caller e (call.Create path) live done = by_file s caller e 420 false (last_name path) (lookup_along s.objects path).target live
 effect_change s task caller e (call.Mkdir path) live done = by_file s caller e 493 true (last_name path) (lookup_along s.objects path).target live
 effect_change s task caller e (call.Read path) live done = same refl
 effect_change s task caller e (call.Write path text) live done = by_changed (Some caller) s (appended text) (file_at_path s.objects path)
 effect_change s task caller e (call.Stat path) live done = same refl
+effect_change s task caller e (call.Getfmac path) live done = same refl
 effect_change s task caller e (call.Readdir path) live done = same refl
 effect_change s task caller e (call.Chmod path mode) live done = by_changed (Some caller) s (with_mode mode) (file_at_path s.objects path)
 effect_change s task caller e (call.Unlink path) live done = by_entry (Some caller) s (lookup_along s.objects path).target
@@ -127,7 +129,7 @@ effect_change s task caller e (call.Send from to text) live done = by_changed (S
 effect_change s task caller e (call.Recv name) live done = by_changed (Some caller) s (with_messages (drop 1)) (socket_named s.objects name)
 effect_change s task caller e (call.Seesock name) live done = same refl
 effect_change s task caller e call.Kldstat live done = same refl
-effect_change s task caller e (call.Kldload name) live done = by_loaded (Some caller) s (subject_of s.objects caller) (loadable name) done
+effect_change s task caller e (call.Kldload name) live done = by_loaded (Some caller) s (subject_of s.objects caller) (module_named name) done
 effect_change s task caller e (call.Kldunload name) live done = by_unloaded (Some caller) s (module_named name) (no_fault (unload_refusal s (module_named name)) done)
 effect_change s task caller e (call.Sysctl name value) live done = by_setting (Some caller) s (setting s.specs (call.Sysctl name value))
 effect_change s task caller e call.UgidfwList live done = same refl
@@ -161,5 +163,5 @@ performed_change s task child c done = by_caller s task (caller_name task child)
 pub step_change : (s : State) (task : List ℕ) (child : Option (List ℕ)) (c : Call) → StateChange (process_named s.objects (caller_name task child)) s (step_state s task child c)
 step_change s task child c =
     let plan : Plan = plan_of s task child c in
-    reply_change (process_named s.objects (caller_name task child)) s (performed s task child c) plan (verdict_of s.specs plan).denied (payload_of s c)
+    reply_change (process_named s.objects (caller_name task child)) s (performed s task child c) plan (verdict_of s.specs plan).denied (step_payload s task child c)
     (performed_change s task child c)

@@ -7,20 +7,23 @@ use Rattle.std.proofs.lemmas.Option.{IfSome_then}
 use Rattle.mf_errno.specs.declared.errno.Errno.TheVariants.{Enotdir}
 use Rattle.mf_objects.specs.declared.id.Id.{Id}
 use Rattle.mf_objects.specs.declared.entity.EntityData.{EntityData}
-use Rattle.mf_objects.specs.Changes.{FitsBytes, FitsMessage, HasMessage}
-use Rattle.mf_objects.specs.Live.{LiveEntity, Entities, IsFound, IsLive, IsLiveWhere, has_id, id_of, is_child, is_directory, is_named, is_pipe, is_process, is_socket, is_vnode, live_at, live_named, passes}
+use Rattle.mf_objects.specs.Fits.{FitsBytes, FitsMessage, HasMessage}
+use Rattle.mf_objects.specs.Live.{LiveEntity, Entities, has_id, id_of, is_child, is_named, is_pipe, is_process, is_socket, live_at, live_named}
+use Rattle.mf_objects.specs.Lives.{IsFound, IsLive, IsLiveWhere, is_directory, is_vnode, passes}
 use Rattle.mf_objects.specs.Population.{HasRoot, IsPopulation, IsRising}
 use Rattle.mf_objects.proofs.Found.{child_kind, child_not_root, kind_found, named_kind}
 use Rattle.mf_objects.proofs.Laws.{directory_vnode, live_directory}
 use Rattle.mf_objects.proofs.Rising.{id_differs}
 use Rattle.mf_calls.specs.declared.script.Call.{Call}
 use Rattle.mf_calls.specs.declared.script.Call.TheVariants as call
+use Rattle.mf_plan.specs.declared.found.Found.{Found}
 use Rattle.mf_plan.specs.declared.state.State.{State}
 use Rattle.mf_plan.specs.declared.target.Target.{Target}
 use Rattle.mf_plan.specs.declared.target.Target.TheVariants.{Root, Name, Nowhere}
 use Rattle.mf_plan.specs.Doing.{CanCreate, CanDo, CanFill, CanDeliver, CanReceive, CanUnlink, CanWrite}
 use Rattle.mf_plan.specs.Found.{target_of}
-use Rattle.mf_plan.specs.Path.{IsTarget, entry_at, entry_of, entry_at_path, file_at_path, found_at, free_at, free_dir_at, going_on, nowhere, root, lookup_along, lookup_from}
+use Rattle.mf_plan.specs.Path.{entry_at, entry_of, file_at_path, found_at, free_at, going_on, nowhere, root, lookup_along, lookup_from}
+use Rattle.mf_plan.specs.Places.{IsTarget, entry_at_path, free_dir_at}
 use Rattle.mf_plan.specs.Views.{is_dir, pipe_named, process_named, socket_named}
 use Rattle.mf_step.specs.Suits.{HasFree, IsRemovable, Suits}
 
@@ -141,38 +144,41 @@ some_live kind o id live = one (live_at o id) live
     one None live = absurd (false≢true live)
     one (Some e) live = refl
 
-target_lives : (o : Entities) (c : Call) → IsPopulation o → IfSome (target_of o c) (λ id. IsSome (live_at o id))
-target_lives o (call.Exec path) population = IfSome_then (file_at_path o path) (file_lives o population path) (some_live is_vnode o)
-target_lives o (call.Create path) population = IfSome_then (free_dir_at o path) (dir_lives o population path) (some_live is_directory o)
-target_lives o (call.Mkdir path) population = IfSome_then (free_dir_at o path) (dir_lives o population path) (some_live is_directory o)
-target_lives o (call.Read path) population = IfSome_then (file_at_path o path) (file_lives o population path) (some_live is_vnode o)
-target_lives o (call.Write path text) population = IfSome_then (file_at_path o path) (file_lives o population path) (some_live is_vnode o)
-target_lives o (call.Stat path) population = IfSome_then (file_at_path o path) (file_lives o population path) (some_live is_vnode o)
-target_lives o (call.Readdir path) population = IfSome_then (file_at_path o path) (file_lives o population path) (some_live is_vnode o)
-target_lives o (call.Chmod path mode) population = IfSome_then (file_at_path o path) (file_lives o population path) (some_live is_vnode o)
-target_lives o (call.Unlink path) population = IfSome_then (entry_at_path o path) (removable_lives o population path) (λ id live. some_live is_vnode o id live.0)
-target_lives o (call.Pread name) population = IfSome_then (pipe_named o name) (named_lives is_pipe o name population) (some_live is_pipe o)
-target_lives o (call.Pwrite name text) population = IfSome_then (pipe_named o name) (named_lives is_pipe o name population) (some_live is_pipe o)
-target_lives o (call.Pstat name) population = IfSome_then (pipe_named o name) (named_lives is_pipe o name population) (some_live is_pipe o)
-target_lives o (call.Send from to text) population = IfSome_then (socket_named o to) (named_lives is_socket o to population) (some_live is_socket o)
-target_lives o (call.Recv name) population = IfSome_then (socket_named o name) (named_lives is_socket o name population) (some_live is_socket o)
-target_lives o (call.Fork child) population = tt
-target_lives o call.Exit population = tt
-target_lives o (call.See name) population = tt
-target_lives o (call.Signal name) population = tt
-target_lives o (call.Debug name) population = tt
-target_lives o (call.Sched name) population = tt
-target_lives o (call.Pipe name) population = tt
-target_lives o (call.Socket name) population = tt
-target_lives o (call.Seesock name) population = tt
-target_lives o call.Kldstat population = tt
-target_lives o (call.Kldload name) population = tt
-target_lives o (call.Kldunload name) population = tt
-target_lives o (call.Sysctl name value) population = tt
-target_lives o call.UgidfwList population = tt
-target_lives o (call.UgidfwAdd rule) population = tt
-target_lives o (call.UgidfwSet n rule) population = tt
-target_lives o (call.UgidfwRemove n) population = tt
+target_lives : (o : Entities) (caller : Option Id) (c : Call) → IsPopulation o → IfSome caller (λ id. IsSome (live_at o id)) → IfSome (target_of o caller c) (λ id. IsSome (live_at o id))
+target_lives o caller (call.Exec path) population lives = IfSome_then (file_at_path o path) (file_lives o population path) (some_live is_vnode o)
+target_lives o caller (call.Create path) population lives = IfSome_then (free_dir_at o path) (dir_lives o population path) (some_live is_directory o)
+target_lives o caller (call.Mkdir path) population lives = IfSome_then (free_dir_at o path) (dir_lives o population path) (some_live is_directory o)
+target_lives o caller (call.Read path) population lives = IfSome_then (file_at_path o path) (file_lives o population path) (some_live is_vnode o)
+target_lives o caller (call.Write path text) population lives = IfSome_then (file_at_path o path) (file_lives o population path) (some_live is_vnode o)
+target_lives o caller (call.Stat path) population lives = IfSome_then (file_at_path o path) (file_lives o population path) (some_live is_vnode o)
+target_lives o caller (call.Getfmac path) population lives = IfSome_then (file_at_path o path) (file_lives o population path) (some_live is_vnode o)
+target_lives o caller (call.Readdir path) population lives = IfSome_then (file_at_path o path) (file_lives o population path) (some_live is_vnode o)
+target_lives o caller (call.Chmod path mode) population lives = IfSome_then (file_at_path o path) (file_lives o population path) (some_live is_vnode o)
+target_lives o caller (call.Unlink path) population lives = IfSome_then (entry_at_path o path) (removable_lives o population path) (λ id live. some_live is_vnode o id live.0)
+target_lives o caller (call.Pread name) population lives = IfSome_then (pipe_named o name) (named_lives is_pipe o name population) (some_live is_pipe o)
+target_lives o caller (call.Pwrite name text) population lives = IfSome_then (pipe_named o name) (named_lives is_pipe o name population) (some_live is_pipe o)
+target_lives o caller (call.Pstat name) population lives = IfSome_then (pipe_named o name) (named_lives is_pipe o name population) (some_live is_pipe o)
+target_lives o caller (call.Send from to text) population lives = IfSome_then (socket_named o to) (named_lives is_socket o to population) (some_live is_socket o)
+target_lives o caller (call.Recv name) population lives = IfSome_then (socket_named o name) (named_lives is_socket o name population) (some_live is_socket o)
+target_lives o caller (call.Fork child) population lives = tt
+target_lives o caller call.Exit population lives = tt
+target_lives o caller (call.See name) population lives = tt
+target_lives o caller (call.Signal name) population lives = tt
+target_lives o caller (call.Debug name) population lives = tt
+target_lives o caller (call.Sched name) population lives = tt
+target_lives o caller (call.Priv p) population lives = tt
+target_lives o caller call.Getpmac population lives = lives
+target_lives o caller (call.Pipe name) population lives = tt
+target_lives o caller (call.Socket name) population lives = tt
+target_lives o caller (call.Seesock name) population lives = tt
+target_lives o caller call.Kldstat population lives = tt
+target_lives o caller (call.Kldload name) population lives = tt
+target_lives o caller (call.Kldunload name) population lives = tt
+target_lives o caller (call.Sysctl name value) population lives = tt
+target_lives o caller call.UgidfwList population lives = tt
+target_lives o caller (call.UgidfwAdd rule) population lives = tt
+target_lives o caller (call.UgidfwSet n rule) population lives = tt
+target_lives o caller (call.UgidfwRemove n) population lives = tt
 
 -- What a call is about suits it, where the call may be done
 
@@ -216,38 +222,41 @@ module _ (o : Entities) (population : IsPopulation o) where
       at_known (λ id. IsLive is_socket o id) (λ id. IsLiveWhere HasMessage (live_at o id)) (socket_named o name) can.id can.named
       (named_lives is_socket o name population) can.waits
 
-suits : (s : State) (task : List ℕ) (c : Call) → IsPopulation s.objects → CanDo s task c → IfSome (target_of s.objects c) (λ id. Suits s.objects c id)
-suits s task (call.Create path) population can = create_suits s.objects population path can
-suits s task (call.Mkdir path) population can = create_suits s.objects population path can
-suits s task (call.Write path text) population can = write_suits s.objects population path text can
-suits s task (call.Chmod path mode) population can = file_lives s.objects population path
-suits s task (call.Unlink path) population can = unlink_suits s.objects population path can
-suits s task (call.Pread name) population can = named_lives is_pipe s.objects name population
-suits s task (call.Pwrite name text) population can = fill_suits s.objects population name text can
-suits s task (call.Send from to text) population can = deliver_suits s.objects population to can
-suits s task (call.Recv name) population can = receive_suits s.objects population name can
-suits s task (call.Exec path) population can = anything (file_at_path s.objects path)
-suits s task (call.Read path) population can = anything (file_at_path s.objects path)
-suits s task (call.Stat path) population can = anything (file_at_path s.objects path)
-suits s task (call.Readdir path) population can = anything (file_at_path s.objects path)
-suits s task (call.Pstat name) population can = anything (pipe_named s.objects name)
-suits s task (call.Fork child) population can = tt
-suits s task call.Exit population can = tt
-suits s task (call.See name) population can = tt
-suits s task (call.Signal name) population can = tt
-suits s task (call.Debug name) population can = tt
-suits s task (call.Sched name) population can = tt
-suits s task (call.Pipe name) population can = tt
-suits s task (call.Socket name) population can = tt
-suits s task (call.Seesock name) population can = tt
-suits s task call.Kldstat population can = tt
-suits s task (call.Kldload name) population can = tt
-suits s task (call.Kldunload name) population can = tt
-suits s task (call.Sysctl name value) population can = tt
-suits s task call.UgidfwList population can = tt
-suits s task (call.UgidfwAdd rule) population can = tt
-suits s task (call.UgidfwSet n rule) population can = tt
-suits s task (call.UgidfwRemove n) population can = tt
+suits : (s : State) (task : List ℕ) (caller : Option Id) (c : Call) → IsPopulation s.objects → CanDo s task c → IfSome (target_of s.objects caller c) (λ id. Suits s.objects c id)
+suits s task caller (call.Create path) population can = create_suits s.objects population path can
+suits s task caller (call.Mkdir path) population can = create_suits s.objects population path can
+suits s task caller (call.Write path text) population can = write_suits s.objects population path text can
+suits s task caller (call.Chmod path mode) population can = file_lives s.objects population path
+suits s task caller (call.Unlink path) population can = unlink_suits s.objects population path can
+suits s task caller (call.Pread name) population can = named_lives is_pipe s.objects name population
+suits s task caller (call.Pwrite name text) population can = fill_suits s.objects population name text can
+suits s task caller (call.Send from to text) population can = deliver_suits s.objects population to can
+suits s task caller (call.Recv name) population can = receive_suits s.objects population name can
+suits s task caller (call.Exec path) population can = anything (file_at_path s.objects path)
+suits s task caller (call.Read path) population can = anything (file_at_path s.objects path)
+suits s task caller (call.Stat path) population can = anything (file_at_path s.objects path)
+suits s task caller (call.Getfmac path) population can = anything (file_at_path s.objects path)
+suits s task caller (call.Readdir path) population can = anything (file_at_path s.objects path)
+suits s task caller (call.Pstat name) population can = anything (pipe_named s.objects name)
+suits s task caller (call.Fork child) population can = tt
+suits s task caller call.Exit population can = tt
+suits s task caller (call.See name) population can = tt
+suits s task caller (call.Signal name) population can = tt
+suits s task caller (call.Debug name) population can = tt
+suits s task caller (call.Sched name) population can = tt
+suits s task caller (call.Priv p) population can = tt
+suits s task caller call.Getpmac population can = anything caller
+suits s task caller (call.Pipe name) population can = tt
+suits s task caller (call.Socket name) population can = tt
+suits s task caller (call.Seesock name) population can = tt
+suits s task caller call.Kldstat population can = tt
+suits s task caller (call.Kldload name) population can = tt
+suits s task caller (call.Kldunload name) population can = tt
+suits s task caller (call.Sysctl name value) population can = tt
+suits s task caller call.UgidfwList population can = tt
+suits s task caller (call.UgidfwAdd rule) population can = tt
+suits s task caller (call.UgidfwSet n rule) population can = tt
+suits s task caller (call.UgidfwRemove n) population can = tt
 
 -- so does what was found, by its id
 
@@ -255,9 +264,17 @@ pub caller_lives : (o : Entities) (caller : Id) (name : List ℕ) → IsPopulati
 caller_lives o caller name population is =
     subst (λ (found : Option Id). IfSome found (λ id. IsLive is_process o id)) (sym is) (named_lives is_process o name population)
 
-pub target_suits : (s : State) (task : List ℕ) (c : Call) (target : Option Id) → IsPopulation s.objects → CanDo s task c → target ≡ target_of s.objects c
-    → IfSome target (λ id. Suits s.objects c id)
-target_suits s task c target population can is = subst (λ (found : Option Id). IfSome found (λ id. Suits s.objects c id)) (sym is) (suits s task c population can)
+pub target_suits : (s : State) (task : List ℕ) (caller : Option Id) (c : Call) (target : Option Id) → IsPopulation s.objects → CanDo s task c
+    → target ≡ target_of s.objects caller c → IfSome target (λ id. Suits s.objects c id)
+target_suits s task caller c target population can is =
+    subst (λ (found : Option Id). IfSome found (λ id. Suits s.objects c id)) (sym is) (suits s task caller c population can)
 
-pub found_lives : (o : Entities) (c : Call) (target : Option Id) → IsPopulation o → target ≡ target_of o c → IfSome target (λ id. IsSome (live_at o id))
-found_lives o c target population is = subst (λ (found : Option Id). IfSome found (λ id. IsSome (live_at o id))) (sym is) (target_lives o c population)
+pub found_lives : (o : Entities) (name : List ℕ) (found : Found) (c : Call) → IsPopulation o → found.caller ≡ process_named o name → found.target ≡ target_of o found.caller c
+    → IfSome found.target (λ id. IsSome (live_at o id))
+found_lives o name found c population by is =
+    subst (λ (target : Option Id). IfSome target (λ id. IsSome (live_at o id))) (sym is) (target_lives o found.caller c population caller)
+  where
+    caller : IfSome found.caller (λ id. IsSome (live_at o id))
+    caller =
+        subst (λ (id : Option Id). IfSome id (λ id. IsSome (live_at o id))) (sym by)
+        (IfSome_then (process_named o name) (named_lives is_process o name population) (some_live is_process o))

@@ -1,6 +1,7 @@
 -- What a call changes where it is done, by docs/MANUAL.md (CALLS).
+use Rattle.std.specs.Option.{option_map_or}
 use Rattle.std.specs.Prelude.{ℕ, Bool, true, false, List, [], drop, Option, Some, None}
-use Rattle.mf_errno.specs.Module.{module_named}
+use Rattle.mf_errno.specs.Names.{module_named}
 use Rattle.mf_errno.specs.declared.module.Module.{Module}
 use Rattle.mf_cred.specs.declared.cred.FileView.{FileView}
 use Rattle.mf_item.specs.declared.view.Kind.{Kind}
@@ -15,8 +16,7 @@ use Rattle.mf_calls.specs.declared.script.Call.{Call}
 use Rattle.mf_calls.specs.declared.script.Call.TheVariants as call
 use Rattle.mf_plan.specs.declared.state.State.{State}
 use Rattle.mf_plan.specs.declared.target.Target.{Target}
-use Rattle.mf_plan.specs.declared.target.Target.TheVariants.{Root, Name, Nowhere}
-use Rattle.mf_plan.specs.Loading.{loadable}
+use Rattle.mf_plan.specs.declared.target.Target.TheVariants.{Name}
 use Rattle.mf_plan.specs.Names.{child_name}
 use Rattle.mf_plan.specs.Path.{file_at_path, last_name, lookup_along}
 use Rattle.mf_plan.specs.Views.{pipe_named, socket_named}
@@ -38,8 +38,7 @@ with_created s maker kind name what =
 
 -- one live entity is changed, where it is found
 abbrev pub with_changed : State → (EntityData → EntityData) → Option Id → State
-with_changed s change None = s
-with_changed s change (Some id) = with_objects s (with_change (with_what change) s.objects id)
+with_changed s change found = option_map_or (λ id. with_objects s (with_change (with_what change) s.objects id)) found s
 
 -- Files
 
@@ -73,15 +72,13 @@ with_loaded s (Some m) =
 
 -- a module leaves the list: no label changes, and its slot number is not given again
 abbrev pub with_unloaded : State → Option Module → State
-with_unloaded s None = s
-with_unloaded s (Some m) = record s { specs = entries_without m s.specs }
+with_unloaded s m = option_map_or (λ m. record s { specs = entries_without m s.specs }) m s
 
 -- Settings
 
 -- a listed policy after a change of its setting, where one is asked for
 abbrev pub with_setting : State → Option (Module × Change) → State
-with_setting s None = s
-with_setting s (Some asked) = record s { specs = (change_in asked.0 asked.1 s.specs).1 }
+with_setting s asked = option_map_or (λ asked. record s { specs = (change_in asked.0 asked.1 s.specs).1 }) asked s
 
 -- The table: the state after the call of this process of the task, where it is done. Modes are 644 for a file, and 755 for a
 -- directory.
@@ -99,27 +96,10 @@ effect_of s task caller (call.Pread name) = with_changed s cleared (pipe_named s
 effect_of s task caller (call.Pwrite name text) = with_changed s (appended text) (pipe_named s.objects name)
 effect_of s task caller (call.Send from to text) = with_changed s (with_messages (with_message text)) (socket_named s.objects to)
 effect_of s task caller (call.Recv name) = with_changed s (with_messages (drop 1)) (socket_named s.objects name)
-effect_of s task caller (call.Kldload name) = with_loaded s (loadable name)
+effect_of s task caller (call.Kldload name) = with_loaded s (module_named name)
 effect_of s task caller (call.Kldunload name) = with_unloaded s (module_named name)
 effect_of s task caller (call.Sysctl name value) = with_setting s (setting s.specs (call.Sysctl name value))
 effect_of s task caller (call.UgidfwAdd rule) = with_setting s (setting s.specs (call.UgidfwAdd rule))
 effect_of s task caller (call.UgidfwSet n rule) = with_setting s (setting s.specs (call.UgidfwSet n rule))
 effect_of s task caller (call.UgidfwRemove n) = with_setting s (setting s.specs (call.UgidfwRemove n))
 effect_of s task caller other = s
-
--- the calls whose changes take memory
-abbrev pub change_takes_memory : Call → Bool
-change_takes_memory (call.Fork child) = true
-change_takes_memory (call.Create path) = true
-change_takes_memory (call.Mkdir path) = true
-change_takes_memory (call.Write path text) = true
-change_takes_memory (call.Pipe name) = true
-change_takes_memory (call.Socket name) = true
-change_takes_memory (call.Pwrite name text) = true
-change_takes_memory (call.Send from to text) = true
-change_takes_memory (call.Kldload name) = true
-change_takes_memory (call.Sysctl name value) = true
-change_takes_memory (call.UgidfwAdd rule) = true
-change_takes_memory (call.UgidfwSet n rule) = true
-change_takes_memory (call.UgidfwRemove n) = true
-change_takes_memory other = false

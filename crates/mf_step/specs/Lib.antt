@@ -1,5 +1,7 @@
-pub mod Verdict
-pub mod Reply
 pub mod Effect
-pub mod Suits
+pub mod Memory
+pub mod Refused
+pub mod Reply
 pub mod Step
+pub mod Suits
+pub mod Verdict

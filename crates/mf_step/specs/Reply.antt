@@ -1,30 +1,37 @@
 -- The reply to a call, by docs/MANUAL.md (CALLS, OUTPUT).
-use Rattle.std.specs.Prelude.{ℕ, ◌-◌, Bool, true, false, List, [], length, map, Option, Some, None, unwrap_or, option_map, slice_get, slice_index_or, if◌then◌else◌}
+use Rattle.std.specs.Option.{option_map_or}
+use Rattle.std.specs.List.{filter_map}
+use Rattle.std.specs.Prelude.{ℕ, ◌-◌, List, [], filter, find, length, map, Option, Some, None, unwrap_or, option_map, slice_get, slice_index_or, if◌then◌else◌}
+use Rattle.mf_errno.specs.Names.{all_modules, module_named}
 use Rattle.mf_errno.specs.declared.module.Module.{Module}
 use Rattle.mf_item.specs.declared.operation.CheckOp.{CheckOp}
 use Rattle.mf_item.specs.declared.operation.CheckOp.TheVariants.{VnodeLookup}
 use Rattle.mf_item.specs.Item.{Item}
-use Rattle.mf_policy.specs.Modules.{wants_slot}
-use Rattle.mf_policy.specs.Registration.{Entry, slot_for}
+use Rattle.mf_item.specs.declared.view.Kind.{Kind}
+use Rattle.mf_elem.specs.declared.label.LabelValue.{LabelValue}
+use Rattle.mf_elem.specs.declared.label.LabelValue.TheVariants.{Unset, Range, Number}
+use Rattle.mf_list.specs.Asked.{slot_of}
+use Rattle.mf_policy.specs.Modules.{labels_kind, wants_slot}
+use Rattle.mf_policy.specs.Registration.{Entry, is_of, slot_for}
 use Rattle.mf_policy.specs.Settings.{change_in, listed_rules}
 use Rattle.mf_policy.specs.declared.settings.Change.{Change}
 use Rattle.mf_rule.specs.RuleList.{Slots}
 use Rattle.mf_objects.specs.declared.id.Id.{Id}
 use Rattle.mf_objects.specs.Head.{head_of}
-use Rattle.mf_objects.specs.Live.{Entities, file_at, content_at, count_at, messages_at}
+use Rattle.mf_objects.specs.Live.{Entities, kind_at, file_at, label_at, content_at, count_at, messages_at}
 use Rattle.mf_objects.specs.Titles.{names_at}
 use Rattle.mf_calls.specs.declared.script.Call.{Call}
 use Rattle.mf_calls.specs.declared.script.Call.TheVariants as call
 use Rattle.mf_plan.specs.Planned.{Plan}
 use Rattle.mf_plan.specs.declared.plan.Tail.{Tail}
 use Rattle.mf_plan.specs.declared.plan.Tail.TheVariants.{Do, Refuse}
+use Rattle.mf_plan.specs.declared.reply.LabelPart.{LabelPart}
 use Rattle.mf_plan.specs.declared.reply.Loaded.{Loaded}
 use Rattle.mf_plan.specs.declared.reply.Payload.{Payload}
 use Rattle.mf_plan.specs.declared.reply.Payload.TheVariants as payload
 use Rattle.mf_plan.specs.declared.reply.Reply.{Reply}
 use Rattle.mf_plan.specs.declared.reply.Reply.TheVariants as reply
 use Rattle.mf_plan.specs.declared.state.State.{State}
-use Rattle.mf_plan.specs.Loading.{loadable}
 use Rattle.mf_plan.specs.Settings.{setting}
 use Rattle.mf_plan.specs.Path.{file_at_path}
 use Rattle.mf_plan.specs.Views.{is_dir, pipe_named, socket_named}
@@ -34,9 +41,8 @@ use Rattle.mf_step.specs.declared.verdict.Verdict.{Verdict}
 -- Payloads
 
 -- what is read of an entity, where it is found
-abbrev pub payload_of_found : (Id → Payload) → Option Id → Payload
-payload_of_found read None = payload.None
-payload_of_found read (Some id) = read id
+abbrev pub payload_of_found : {A : Type 0} → (A → Payload) → Option A → Payload
+payload_of_found read found = option_map_or read found payload.None
 
 abbrev pub head : Entities → Id → Payload
 head objects id = payload.Head (head_of (content_at objects id))
@@ -55,46 +61,59 @@ size objects id = payload.Size (length (content_at objects id))
 abbrev pub message : Entities → Id → Payload
 message objects id = payload.Head (head_of (slice_index_or (messages_at objects id) 0 []))
 
+-- an unset slot, of a policy that was loaded after the entity came, counts as no partition
+abbrev pub shown : LabelValue → LabelValue
+shown Unset = Number 0
+shown (Range label) = Range label
+shown (Number n) = Number n
+
+-- what a label says of a module's policy, where it is listed
+abbrev pub label_part : List Entry → List LabelValue → Module → Option LabelPart
+label_part listed label m =
+    option_map (λ entry. record { «module» = m; value = shown (slice_index_or label (slot_of entry.0) Unset) }) (find (is_of m) listed)
+
+abbrev pub label_parts_of : List Entry → Kind → List LabelValue → List Module → List LabelPart
+label_parts_of listed kind label modules = filter_map (label_part listed label) (filter (λ m. labels_kind m kind) modules)
+
+-- the parts of the label of an entity of that kind: one for each listed policy that labels the kind
+abbrev pub label_parts : List Entry → Kind → List LabelValue → List LabelPart
+label_parts listed kind label = label_parts_of listed kind label all_modules
+
+abbrev pub label : State → Id → Payload
+label s id = payload.Label (label_parts s.specs (kind_at s.objects id) (label_at s.objects id))
+
 abbrev pub loaded : Entry → Loaded
 loaded entry = record { «module» = entry.0.module; slot = entry.0.slot }
 
 -- the slot that a module gets where so many numbers were given
 abbrev pub slot : ℕ → Option Module → Payload
-slot given None = payload.None
-slot given (Some m) = payload.Slot (slot_for (wants_slot m) given)
+slot given wanted = payload_of_found (λ m. payload.Slot (slot_for (wants_slot m) given)) wanted
 
 abbrev pub rules : Option Slots → Payload
-rules None = payload.None
-rules (Some listed) = payload.Rules listed
+rules listed = payload_of_found payload.Rules listed
 
 abbrev pub rule_number : Option ℕ → Payload
-rule_number None = payload.None
-rule_number (Some n) = payload.Rule n
+rule_number number = payload_of_found payload.Rule number
 
 -- the number of a rule that is added
 abbrev pub added : List Entry → Option (Module × Change) → Payload
-added listed None = payload.None
-added listed (Some asked) = rule_number (change_in asked.0 asked.1 listed).0.number
+added listed asked = payload_of_found (λ asked. rule_number (change_in asked.0 asked.1 listed).0.number) asked
 
--- what the call hands back where it is done
-abbrev pub payload_of : State → Call → Payload
-payload_of s (call.Read path) = payload_of_found (head s.objects) (file_at_path s.objects path)
-payload_of s (call.Stat path) = payload_of_found (stat s.objects) (file_at_path s.objects path)
-payload_of s (call.Readdir path) = payload_of_found (names s.objects) (file_at_path s.objects path)
-payload_of s (call.Pread name) = payload_of_found (head s.objects) (pipe_named s.objects name)
-payload_of s (call.Pstat name) = payload_of_found (size s.objects) (pipe_named s.objects name)
-payload_of s (call.Recv name) = payload_of_found (message s.objects) (socket_named s.objects name)
-payload_of s call.Kldstat = payload.Modules (map loaded s.specs)
-payload_of s (call.Kldload name) = slot s.numbers (loadable name)
-payload_of s call.UgidfwList = rules (listed_rules s.specs)
-payload_of s (call.UgidfwAdd rule) = added s.specs (setting s.specs (call.UgidfwAdd rule))
-payload_of s other = payload.None
-
--- the listing of a directory, or of the rules, takes memory
-abbrev pub payload_takes_memory : Call → Bool
-payload_takes_memory (call.Readdir path) = true
-payload_takes_memory call.UgidfwList = true
-payload_takes_memory other = false
+-- what the call of that process hands back where it is done
+abbrev pub payload_of : State → Option Id → Call → Payload
+payload_of s caller call.Getpmac = payload_of_found (label s) caller
+payload_of s caller (call.Read path) = payload_of_found (head s.objects) (file_at_path s.objects path)
+payload_of s caller (call.Stat path) = payload_of_found (stat s.objects) (file_at_path s.objects path)
+payload_of s caller (call.Getfmac path) = payload_of_found (label s) (file_at_path s.objects path)
+payload_of s caller (call.Readdir path) = payload_of_found (names s.objects) (file_at_path s.objects path)
+payload_of s caller (call.Pread name) = payload_of_found (head s.objects) (pipe_named s.objects name)
+payload_of s caller (call.Pstat name) = payload_of_found (size s.objects) (pipe_named s.objects name)
+payload_of s caller (call.Recv name) = payload_of_found (message s.objects) (socket_named s.objects name)
+payload_of s caller call.Kldstat = payload.Modules (map loaded s.specs)
+payload_of s caller (call.Kldload name) = slot s.numbers (module_named name)
+payload_of s caller call.UgidfwList = rules (listed_rules s.specs)
+payload_of s caller (call.UgidfwAdd rule) = added s.specs (setting s.specs (call.UgidfwAdd rule))
+payload_of s caller other = payload.None
 
 -- Replies
 
@@ -113,13 +132,3 @@ denied_reply plan (Some d) p = reply.Denied d.errno (op_at plan.items d.item) d.
 -- a denial first, then the framework's refusal, then the payload
 abbrev pub reply_to : Plan → Verdict → Payload → Reply
 reply_to plan verdict p = denied_reply plan verdict.denied p
-
--- the refusal or denial where there is one, or else the payload
-abbrev pub refused_or : Option Reply → Payload → Reply
-refused_or None p = reply.Ok p
-refused_or (Some refusal) p = refusal
-
--- neither denied nor refused
-abbrev pub is_done : Reply → Bool
-is_done (reply.Ok payload) = true
-is_done other = false

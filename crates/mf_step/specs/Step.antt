@@ -1,7 +1,9 @@
 -- One call of the sequential framework: its reply, and the state after it. That a refused call changes nothing is this model's own rule.
-use Rattle.std.specs.Prelude.{ℕ, List, Option, Some, None}
+use Rattle.std.specs.Option.{option_map_or}
+use Rattle.std.specs.Prelude.{ℕ, List, Option}
 use Rattle.mf_objects.specs.declared.id.Id.{Id}
 use Rattle.mf_calls.specs.declared.script.Call.{Call}
+use Rattle.mf_plan.specs.declared.reply.Payload.{Payload}
 use Rattle.mf_plan.specs.declared.reply.Reply.{Reply}
 use Rattle.mf_plan.specs.declared.reply.Reply.TheVariants as reply
 use Rattle.mf_plan.specs.declared.state.State.{State}
@@ -12,14 +14,19 @@ use Rattle.mf_step.specs.Verdict.{verdict_of}
 use Rattle.mf_step.specs.Reply.{reply_to, payload_of}
 use Rattle.mf_step.specs.Effect.{effect_of}
 
--- the reply to a call of the task's own process, or of its child of that name
+-- what a call of the task's own process, or of its child of that name, hands back where it is done
+abbrev pub step_payload : State → List ℕ → Option (List ℕ) → Call → Payload
+step_payload s task child call = payload_of s (process_named s.objects (caller_name task child)) call
+
+-- the reply to it
 abbrev pub step_reply : State → List ℕ → Option (List ℕ) → Call → Reply
-step_reply s task child call = reply_to (plan_of s task child call) (verdict_of s.specs (plan_of s task child call)) (payload_of s call)
+step_reply s task child call =
+    reply_to (plan_of s task child call) (verdict_of s.specs (plan_of s task child call))
+    (step_payload s task child call)
 
 -- where the process that calls doesn't live, nothing changes
 abbrev pub performed_by : State → List ℕ → Call → Option Id → State
-performed_by s task call None = s
-performed_by s task call (Some caller) = effect_of s task caller call
+performed_by s task call caller = option_map_or (λ id. effect_of s task id call) caller s
 
 -- the state after the call, where it is done
 abbrev pub performed : State → List ℕ → Option (List ℕ) → Call → State

@@ -1,8 +1,9 @@
 -- What a call's change needs of the entity that the call is about.
 use Rattle.std.specs.Prelude.{◌≡◌, ◌≢◌, ℕ, List, length, None, find}
 use Rattle.mf_objects.specs.declared.id.Id.{Id}
-use Rattle.mf_objects.specs.Changes.{FitsBytes, FitsMessage, HasMessage}
-use Rattle.mf_objects.specs.Live.{Entities, IsLive, IsLiveWhere, live_at, entry_count, is_child, is_directory, is_pipe, is_vnode}
+use Rattle.mf_objects.specs.Fits.{FitsBytes, FitsMessage, HasMessage}
+use Rattle.mf_objects.specs.Live.{Entities, live_at, entry_count, is_child, is_pipe}
+use Rattle.mf_objects.specs.Lives.{IsLive, IsLiveWhere, is_directory, is_vnode}
 use Rattle.mf_calls.specs.declared.script.Call.{Call}
 use Rattle.mf_calls.specs.declared.script.Call.TheVariants as call
 use Rattle.mf_plan.specs.Path.{last_name}

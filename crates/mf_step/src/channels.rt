@@ -4,7 +4,9 @@ ghost use Rattle.mf_names.specs.declared.limits.TheConstants.{SCRIPT_LIMIT};
 ghost use Rattle.mf_objects.specs.declared.limits.TheConstants.{ID_LIMIT};
 ghost use Rattle.mf_item.specs.declared.view.Kind.TheVariants as kinds;
 ghost use Rattle.mf_objects.specs.Changes as change;
-ghost use Rattle.mf_objects.specs.Live.{IsLive, IsLiveWhere, is_pipe, is_process, is_socket, live_at, live_named};
+ghost use Rattle.mf_objects.specs.Fits.{FitsBytes, FitsMessage, HasMessage};
+ghost use Rattle.mf_objects.specs.Live.{is_pipe, is_process, is_socket, live_at, live_named};
+ghost use Rattle.mf_objects.specs.Lives.{IsLive, IsLiveWhere};
 ghost use Rattle.mf_plan.specs.Doing as doing;
 ghost use Rattle.mf_step.specs.Effect as spec;
 
@@ -62,7 +64,7 @@ pub(crate) fn pread(state: &mut State, pipe: Option<Id>)
 
 /// Puts the bytes at the end of what the file or pipe holds. If memory runs out, the state is unchanged.
 pub(crate) fn append(state: &mut State, target: Option<Id>, text: &[u8]) -> Result<(), AllocError>
-    requires { IfSome target (λ id. IsLiveWhere (change.FitsBytes (length text.now)) (live_at state.old.objects id)) }
+    requires { IfSome target (λ id. IsLiveWhere (FitsBytes (length text.now)) (live_at state.old.objects id)) }
     ensures ok { OnOk result (state.new ≡ spec.with_changed state.old (change.appended text.now) target) }
     ensures err { OnErr result (state.new ≡ state.old) }
 {
@@ -80,7 +82,7 @@ pub(crate) fn deliver(
     text: &[u8],
 ) -> Result<(), AllocError>
     requires text { length text.now ≤ SCRIPT_LIMIT }
-    requires room { IfSome socket (λ id. IsLiveWhere change.FitsMessage (live_at state.old.objects id)) }
+    requires room { IfSome socket (λ id. IsLiveWhere FitsMessage (live_at state.old.objects id)) }
     ensures ok { OnOk result (state.new
         ≡ spec.with_changed state.old (change.with_messages (change.with_message text.now)) socket) }
     ensures err { OnErr result (state.new ≡ state.old) }
@@ -93,7 +95,7 @@ pub(crate) fn deliver(
 
 /// Takes the oldest message out of the socket.
 pub(crate) fn recv(state: &mut State, socket: Option<Id>)
-    requires { IfSome socket (λ id. IsLiveWhere change.HasMessage (live_at state.old.objects id)) }
+    requires { IfSome socket (λ id. IsLiveWhere HasMessage (live_at state.old.objects id)) }
     ensures { state.new ≡ spec.with_changed state.old (change.with_messages (drop 1)) socket }
 {
     if let Some(id) = socket {

@@ -3,8 +3,10 @@ ghost use Rattle.std.specs.Prelude.{◌≡◌, ◌<◌, [], OnOk, OnErr, None, I
 ghost use Rattle.mf_objects.specs.declared.limits.TheConstants.{ID_LIMIT, MOST_ENTITIES};
 ghost use Rattle.mf_item.specs.declared.view.Kind.TheVariants as kinds;
 ghost use Rattle.mf_objects.specs.Changes as change;
-ghost use Rattle.mf_objects.specs.Live.{IsLive, has_id, is_child, is_directory, is_process, is_vnode};
+ghost use Rattle.mf_objects.specs.Live.{has_id, is_child, is_process};
+ghost use Rattle.mf_objects.specs.Lives.{IsLive, is_directory, is_vnode};
 ghost use Rattle.mf_plan.specs.Path as walks;
+ghost use Rattle.mf_plan.specs.Places.{free_dir_at};
 ghost use Rattle.mf_step.specs.Effect as spec;
 ghost use Rattle.mf_step.specs.Suits.{HasFree, IsRemovable};
 
@@ -29,7 +31,7 @@ pub(crate) fn make_file(
     is_dir: bool,
 ) -> Result<(), AllocError>
     requires caller { IsLive is_process state.old.objects caller }
-    requires dir { dir ≡ walks.free_dir_at state.old.objects path.now }
+    requires dir { dir ≡ free_dir_at state.old.objects path.now }
     requires free { IfSome dir (λ id. HasFree state.old.objects path.now id) }
     requires few { length state.old.objects.live < MOST_ENTITIES }
     requires next { state.old.objects.next < ID_LIMIT }

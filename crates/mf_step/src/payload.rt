@@ -1,40 +1,47 @@
 //! What a call hands back.
-ghost use Rattle.std.specs.Prelude.{◌≡◌, ◌≤◌, IfOk, IsOk, IfSome, IsSome, false, length, map};
+ghost use Rattle.std.specs.Prelude.{◌≡◌, ◌≤◌, ℕ, List, IfOk, IsOk, IfSome, IsSome, false, length, map};
+ghost use Rattle.mf_errno.specs.Names.{module_named};
 ghost use Rattle.mf_objects.specs.Live.{live_at};
 ghost use Rattle.mf_plan.specs.Found.{target_of};
-ghost use Rattle.mf_plan.specs.Loading as loading;
 ghost use Rattle.mf_plan.specs.Settings as settings;
+ghost use Rattle.mf_plan.specs.Views.{process_named};
 ghost use Rattle.mf_policy.specs.Settings.{listed_rules};
 ghost use Rattle.mf_calls.specs.WellFormed.{IsFormedCall};
 ghost use Rattle.mf_step.specs.Reply as spec;
+ghost use Rattle.mf_step.specs.Memory.{payload_takes_memory};
 
+use crate::labels::label_parts;
 use mf_calls::Call;
 use mf_cred::ArrayVec;
+use mf_errno::Module;
 use mf_objects::{Id, Objects};
-use mf_plan::{Loaded, Payload, State, loadable, setting};
+use mf_plan::{Found, Loaded, Payload, State, setting};
 use mf_policy::{MOST_LISTED, SpecList, registration_of};
 use std::alloc::{AllocError, Global};
 
-/// What the call, which is about the target, hands back where it is done. Only the names of a directory and a list of rules
-/// take memory.
+/// What the call, which is about what was found, hands back where it is done. Only a label, the names of a directory and
+/// a list of rules take memory.
 pub fn payload_of(
     alloc: Global,
     state: &State,
-    target: Option<Id>,
+    found: Found,
     call: &Call,
 ) -> Result<Payload, AllocError>
-    requires target { target ≡ target_of state.now.objects call.now }
+    requires caller { (name : List ℕ) × (found.caller ≡ process_named state.now.objects name) }
+    requires target { found.target ≡ target_of state.now.objects found.caller call.now }
     requires formed { IsFormedCall call.now }
     requires few { length state.now.specs ≤ MOST_LISTED }
-    ensures value { IfOk result (λ payload. payload ≡ spec.payload_of state.now call.now) }
-    ensures memory { spec.payload_takes_memory call.now ≡ false → IsOk result }
+    ensures value { IfOk result (λ payload. payload ≡ spec.payload_of state.now found.caller call.now) }
+    ensures memory { payload_takes_memory call.now ≡ false → IsOk result }
 {
     let objects = &state.objects;
     // Counting the entities shows the proof that the target lives.
     let _live = objects.live();
+    let target = found.target;
     match call {
         Call::Read(_) | Call::Pread(_) => Ok(head(objects, target)),
         Call::Stat(_) => Ok(stat(objects, target)),
+        Call::Getpmac | Call::Getfmac(_) => label(alloc, state, target),
         Call::Readdir(_) => names(alloc, objects, target),
         Call::Pstat(_) => Ok(size(objects, target)),
         Call::Recv(_) => Ok(message(objects, target)),
@@ -48,6 +55,7 @@ pub fn payload_of(
         | Call::Signal(_)
         | Call::Debug(_)
         | Call::Sched(_)
+        | Call::Priv(_)
         | Call::Exec(_)
         | Call::Create(_)
         | Call::Mkdir(_)
@@ -101,6 +109,21 @@ fn names(alloc: Global, objects: &Objects, found: Option<Id>) -> Result<Payload,
     }
 }
 
+/// The label of a process or a file.
+fn label(alloc: Global, state: &State, found: Option<Id>) -> Result<Payload, AllocError>
+    requires { IfSome found (λ id. IsSome (live_at state.now.objects id)) }
+    ensures { IfOk result (λ payload. payload ≡ spec.payload_of_found (spec.label state.now) found) }
+{
+    let objects = &state.objects;
+    match found {
+        Some(id) => {
+            let parts = label_parts(&state.specs, objects.kind(id), &objects.label(id));
+            Payload::label(alloc, parts.as_slice())
+        }
+        None => Ok(Payload::None),
+    }
+}
+
 /// How many bytes a pipe holds.
 fn size(objects: &Objects, found: Option<Id>) -> Payload
     requires { IfSome found (λ id. IsSome (live_at objects.now id)) }
@@ -141,9 +164,9 @@ fn loaded(specs: &SpecList) -> ArrayVec<Loaded, MOST_LISTED>
 
 /// The label slot that a module of that name gets.
 fn slot(state: &State, name: &str) -> Payload
-    ensures { result ≡ spec.slot state.now.numbers (loading.loadable name.now) }
+    ensures { result ≡ spec.slot state.now.numbers (module_named name.now) }
 {
-    match loadable(name) {
+    match Module::from_name(name) {
         None => Payload::None,
         Some(module) => {
             let registration = registration_of(module, state.booted, state.numbers.given());

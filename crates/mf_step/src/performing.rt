@@ -1,13 +1,15 @@
 //! What a call changes.
-ghost use Rattle.std.specs.Prelude.{◌≡◌, ◌+◌, ◌<◌, ◌≤◌, IfSome, IsOk, OnOk, OnErr, false};
+ghost use Rattle.std.specs.Prelude.{◌≡◌, ◌+◌, ◌<◌, ◌≤◌, Some, IfSome, IsOk, OnOk, OnErr, false};
 ghost use Rattle.mf_objects.specs.declared.limits.TheConstants.{ID_LIMIT};
-ghost use Rattle.mf_objects.specs.Live.{IsLive, is_process};
+ghost use Rattle.mf_objects.specs.Live.{is_process};
+ghost use Rattle.mf_objects.specs.Lives.{IsLive};
 ghost use Rattle.mf_plan.specs.Doing.{CanDo};
 ghost use Rattle.mf_plan.specs.Found.{found_of, target_of};
 ghost use Rattle.mf_plan.specs.Plan.{plan_of};
 ghost use Rattle.mf_plan.specs.declared.plan.Tail.TheVariants.{Do};
 ghost use Rattle.mf_calls.specs.WellFormed.{IsFormedCall, IsFormedLine, IsName};
-ghost use Rattle.mf_step.specs.Effect.{change_takes_memory, effect_of};
+ghost use Rattle.mf_step.specs.Effect.{effect_of};
+ghost use Rattle.mf_step.specs.Memory.{change_takes_memory};
 ghost use Rattle.mf_step.specs.Step.{performed};
 ghost use Rattle.mf_step.specs.Suits.{Suits};
 
@@ -63,7 +65,7 @@ fn perform_by(
     requires formed { IsFormedCall call.now }
     requires caller { IsLive is_process state.old.objects caller }
     requires can { CanDo state.old task.now call.now }
-    requires target { target ≡ target_of state.old.objects call.now }
+    requires target { target ≡ target_of state.old.objects (Some caller) call.now }
     requires suits { IfSome target (λ id. Suits state.old.objects call.now id) }
     requires next { state.old.objects.next < ID_LIMIT }
     ensures ok { OnOk result (state.new ≡ effect_of state.old task.now caller call.now) }
@@ -93,9 +95,12 @@ fn perform_by(
         | Call::Signal(_)
         | Call::Debug(_)
         | Call::Sched(_)
+        | Call::Priv(_)
+        | Call::Getpmac
         | Call::Exec(_)
         | Call::Read(_)
         | Call::Stat(_)
+        | Call::Getfmac(_)
         | Call::Readdir(_)
         | Call::Pstat(_)
         | Call::Seesock(_)

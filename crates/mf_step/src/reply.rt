@@ -2,6 +2,7 @@
 ghost use Rattle.std.specs.Prelude.{◌≡◌, IfSome, false};
 ghost use Rattle.mf_plan.specs.declared.reply.Payload.{Payload};
 ghost use Rattle.mf_step.specs.Reply as spec;
+ghost use Rattle.mf_step.specs.Refused.{refused_or, is_done};
 
 use crate::verdict::{Denial, Verdict};
 use mf_item::CheckOp;
@@ -10,8 +11,8 @@ use mf_plan::{Plan, Reply, Tail};
 /// The reply to a call that isn't done, by its plan and the policies' verdict: the denial, or else the framework's own
 /// refusal. None where the call is to be done.
 pub fn refusal_of(plan: &Plan, verdict: &Verdict) -> Option<Reply>
-    ensures reply { (payload : Payload) → spec.reply_to plan.now verdict.now payload ≡ spec.refused_or result payload }
-    ensures refused { IfSome result (λ reply. spec.is_done reply ≡ false) }
+    ensures reply { (payload : Payload) → spec.reply_to plan.now verdict.now payload ≡ refused_or result payload }
+    ensures refused { IfSome result (λ reply. is_done reply ≡ false) }
 {
     match verdict.denied {
         Some(denial) => Some(denied(plan, denial)),
@@ -24,7 +25,7 @@ pub fn refusal_of(plan: &Plan, verdict: &Verdict) -> Option<Reply>
 
 fn denied(plan: &Plan, denial: Denial) -> Reply
     ensures reply { (payload : Payload) → result ≡ spec.denied_reply plan.now (Some denial) payload }
-    ensures refused { spec.is_done result ≡ false }
+    ensures refused { is_done result ≡ false }
 {
     Reply::Denied {
         errno: denial.errno,

@@ -7,8 +7,8 @@ ghost use Rattle.mf_plan.specs.declared.plan.Tail.TheVariants.{Do};
 ghost use Rattle.mf_plan.specs.Found.{found_of};
 ghost use Rattle.mf_plan.specs.Plan.{plan_of};
 ghost use Rattle.mf_plan.specs.declared.reply.Reply.TheVariants as replies;
-ghost use Rattle.mf_step.specs.Reply as spec;
-ghost use Rattle.mf_step.specs.Step.{performed, step_reply, step_state};
+ghost use Rattle.mf_step.specs.Refused.{is_done};
+ghost use Rattle.mf_step.specs.Step.{performed, step_payload, step_reply, step_state};
 ghost use Rattle.mf_step.specs.Verdict.{verdict_of};
 
 use crate::payload::payload_of;
@@ -40,7 +40,7 @@ pub fn step(
     ensures reply { IfOk result (λ reply. reply ≡ step_reply state.old task.now line.now.child line.now.call) }
     ensures state { OnOk result (state.new ≡ step_state state.old task.now line.now.child line.now.call) }
     ensures err { OnErr result (state.new ≡ state.old) }
-    ensures memory { spec.is_done (step_reply state.old task.now line.now.child line.now.call) ≡ false → IsOk result }
+    ensures memory { is_done (step_reply state.old task.now line.now.child line.now.call) ≡ false → IsOk result }
     ensures ids { state.new.objects.next ≤ state.old.objects.next + 1 }
     ensures booted { state.new.booted ≡ state.old.booted }
 {
@@ -64,13 +64,13 @@ fn complete(
     requires found { found ≡ found_of state.old task.now line.now.child line.now.call }
     requires few { length state.old.specs ≤ MOST_LISTED }
     requires next { state.old.objects.next < ID_LIMIT }
-    ensures reply { IfOk result (λ reply. reply ≡ replies.Ok (spec.payload_of state.old line.now.call)) }
+    ensures reply { IfOk result (λ reply. reply ≡ replies.Ok (step_payload state.old task.now line.now.child line.now.call)) }
     ensures state { OnOk result (state.new ≡ performed state.old task.now line.now.child line.now.call) }
     ensures err { OnErr result (state.new ≡ state.old) }
     ensures ids { state.new.objects.next ≤ state.old.objects.next + 1 }
     ensures booted { state.new.booted ≡ state.old.booted }
 {
-    let payload = payload_of(alloc, state, found.target, &line.call)?;
+    let payload = payload_of(alloc, state, found, &line.call)?;
     perform(alloc, state, task, line, found)?;
     Ok(Reply::Ok(payload))
 }

@@ -1,9 +1,7 @@
 -- Texts that stand for bytes, with escapes. The escapes are this model's own.
-use Rattle.std.specs.Prelude.{◌≡◌, ℕ, ◌+◌, ◌-◌, ◌*◌, ◌/◌, ◌%◌, ◌<◌, List, [], ◌∷◌, length, Result, Ok, Err, Bool, nat_le, ◌==◌, ◌&&◌, not, if◌then◌else◌}
-use Rattle.std.specs.List.{flat_map, AllByRecursion}
+use Rattle.std.specs.Prelude.{ℕ, ◌+◌, ◌*◌, ◌/◌, ◌%◌, List, [], ◌∷◌, Result, Ok, Err, Bool, nat_le, ◌==◌, ◌&&◌, not, if◌then◌else◌}
+use Rattle.std.specs.List.{flat_map}
 use Rattle.std.specs.Char.{is_digit, digit_value, digit_char}
-use Rattle.mf_text.specs.declared.escapes.TextFault.{TextFault}
-use Rattle.mf_text.specs.declared.escapes.TextFault.TheVariants.{BadEscape, Memory}
 
 -- the printable bytes of ASCII from `!` to `~` stand for themselves, but for the backslash
 abbrev pub is_literal : ℕ → Bool
@@ -33,24 +31,6 @@ bytes_from place (c ∷ d ∷ e ∷ rest) =
     then (if is_digit d 16 && is_digit e 16 then with_first (digit_value d * 16 + digit_value e) (bytes_from (place + 3) rest) else Err place)
     else with_first c (bytes_from (place + 1) (d ∷ e ∷ rest))
 
--- the text begins with a bad escape, wherever it stands
-abbrev pub BeginsWithBadEscape : List ℕ → Type 0
-BeginsWithBadEscape text = (place : ℕ) → bytes_from place text ≡ Err place
-
--- the text stands for this byte and then for what the rest stands for, which is the end of it
-abbrev pub StandsForByteThen : List ℕ → ℕ → List ℕ → Type 0
-StandsForByteThen text byte rest =
-    (place : ℕ) → bytes_from place text ≡ with_first byte (bytes_from (place + (length text - length rest)) rest)
-
 -- the bytes that a whole text stands for
 abbrev pub bytes_of : List ℕ → Result (List ℕ) ℕ
 bytes_of text = bytes_from 0 text
-
--- a fault other than that memory ran out, at the place that reading gives
-abbrev pub IsFaultOf : TextFault → Result (List ℕ) ℕ → Type 0
-IsFaultOf (BadEscape place) read = read ≡ Err place
-IsFaultOf Memory read = Unit {0}
-
--- What the escaped text of bytes stands for are these bytes.
-abbrev pub EscapedTextStandsForItsBytes : Type 0
-EscapedTextStandsForItsBytes = (bytes : List ℕ) → AllByRecursion (λ byte. byte < 256) bytes → bytes_of (escaped bytes) ≡ Ok bytes

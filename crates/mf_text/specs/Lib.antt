@@ -1,3 +1,4 @@
 pub mod Appending
 pub mod Escape
+pub mod EscapeLaws
 pub mod Number

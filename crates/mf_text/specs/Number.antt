@@ -1,5 +1,6 @@
 -- What a text of digits stands for, and the first fault of a text that isn't one: this model's own numbers, as docs/MANUAL.md has them.
-use Rattle.std.specs.Prelude.{ℕ, List, [], ◌∷◌, Option, Some, None, Result, Ok, Err, nat_le, ◌&&◌, not, if◌then◌else◌}
+use Rattle.std.specs.Option.{option_map_or}
+use Rattle.std.specs.Prelude.{ℕ, List, [], ◌∷◌, Option, Result, Ok, Err, nat_le, ◌&&◌, not, if◌then◌else◌}
 use Rattle.std.specs.List.{position}
 use Rattle.std.specs.Char.{is_digit}
 use Rattle.std.specs.Str.Parse.{digits_value}
@@ -12,8 +13,7 @@ within least greatest value = if nat_le least value && nat_le value greatest the
 
 -- the place of the first byte that is no digit counts before anything of the value
 abbrev pub unless_other : Option ℕ → Result ℕ NumberFault → Result ℕ NumberFault
-unless_other (Some place) number = Err (NotDigit place)
-unless_other None number = number
+unless_other place number = option_map_or (λ place. Err (NotDigit place)) place number
 
 -- the number that the bytes write in a base, from the least to the greatest
 unfoldable pub number_in : ℕ → ℕ → ℕ → List ℕ → Result ℕ NumberFault

@@ -2,7 +2,8 @@
 ghost use Rattle.std.specs.Prelude.{◌≡◌, ◌≢◌, ℕ, ◌+◌, ◌-◌, ◌<◌, ◌++◌, [], ◌∷◌, length, Ok, Err, MatchOption, MatchResult, IfOk, IfErr, IfSome, OnOk, OnErr, string_bytes};
 ghost use Rattle.std.specs.Char.{digit_char};
 ghost use Rattle.mf_text.specs.Appending.{Extends};
-ghost use Rattle.mf_text.specs.Escape.{escaped, escaped_byte, is_literal, bytes_of, BeginsWithBadEscape, StandsForByteThen, IsFaultOf, EscapedTextStandsForItsBytes};
+ghost use Rattle.mf_text.specs.Escape.{escaped, escaped_byte, is_literal, bytes_of};
+ghost use Rattle.mf_text.specs.EscapeLaws.{BeginsWithBadEscape, StandsForByteThen, IsFaultOf, EscapedTextStandsForItsBytes};
 ghost use Rattle.mf_text.specs.declared.escapes.TextFault.TheVariants.{Memory};
 
 use std::alloc::{AllocError, AllocFailed, Global};

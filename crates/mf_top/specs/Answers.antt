@@ -1,8 +1,8 @@
 -- What the program may return and write, and why, by docs/MANUAL.md (EXIT STATUS).
-use Rattle.std.specs.Prelude.{◌≡◌, ◌⊎◌, ℕ, ◌≤◌, List, [], ◌++◌, length, Some, Option, None, IfSome, IsSomeAnd, Result, Ok, Err, codes}
+use Rattle.std.specs.Prelude.{◌≡◌, ◌⊎◌, ℕ, ◌≤◌, List, [], ◌++◌, length, Some, Option, None, IfSome, IsSomeAnd, Result, Ok, Err, codes, ◌+◌, ◌<◌}
 use Rattle.std.specs.Fmt.{decimal}
 use Rattle.mf_errno.specs.declared.errno.Errno.{Errno}
-use Rattle.mf_errno.specs.Errno.{text_of}
+use Rattle.mf_errno.specs.Names.{text_of}
 use Rattle.mf_calls.specs.declared.script.Script.{Script}
 use Rattle.mf_script.specs.declared.error.ScriptFault.{ScriptFault}
 use Rattle.mf_script.specs.declared.error.ScriptError.TheVariants as script_error
@@ -12,14 +12,13 @@ use Rattle.mf_core.specs.declared.history.History.{History}
 use Rattle.mf_core.specs.LegalHistory.{IsLegal, IsComplete}
 use Rattle.mf_flow.specs.Laws.{AreInOrder}
 use Rattle.mf_flow.specs.SourcesText.{sources_text}
-use Rattle.mf_lifetimes.specs.Laws.{AreMadeOnce}
+use Rattle.mf_lifetimes.specs.Once.{AreMadeOnce}
 use Rattle.mf_top.specs.declared.refusal.Refusal.{Refusal}
 use Rattle.mf_top.specs.declared.refusal.Refusal.TheVariants as refusal
 use Rattle.mf_top.specs.declared.command.Command.{Command}
 use Rattle.mf_top.specs.declared.command.Command.TheVariants as command
 use Rattle.mf_top.specs.Commands.{command_of}
 use Rattle.mf_io.specs.Outside.{Seen, FaultsRose, HadNoFault, Took, TookPart}
-use Rattle.mf_top.specs.Reading.{IsTooLong}
 use Rattle.mf_names.specs.declared.limits.TheConstants.{SCRIPT_LIMIT}
 use Rattle.mf_hist.specs.HistoryText.{history_text}
 use Rattle.mf_load.specs.Summary.{load_summary}
@@ -51,6 +50,10 @@ pub record IsUnread (source : Seen) : Type 0 where
   pub same : source.after ≡ source.before
 
 -- An outcome before anything is written, and its cause: what the words ask for, and what is seen of the source.
+
+-- where the source's bytes are known: they are more than a script may have, and one more than that was taken
+abbrev pub IsTooLong : Option (List ℕ) → Option (List ℕ) → Type 0
+IsTooLong before now = IfSome before (λ all. (SCRIPT_LIMIT < length all) × IsSomeAnd now (λ rest. (taken : List ℕ) × (length taken ≡ SCRIPT_LIMIT + 1) × (all ≡ taken ++ rest)))
 
 abbrev pub IsRunOutcome : Seen → Result (List ℕ) Refusal → Type 0
 IsRunOutcome source (Ok text) = HadNoFault source × IfSome source.before (λ bytes. IsRunText bytes text × (source.after ≡ Some []))

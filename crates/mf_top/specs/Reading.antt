@@ -1,14 +1,9 @@
 -- What the reader of a whole source has read: this model's own.
-use Rattle.std.specs.Prelude.{◌≡◌, ℕ, ◌+◌, ◌<◌, List, [], ◌++◌, length, Option, Some, IfSome, IsSomeAnd}
-use Rattle.mf_names.specs.declared.limits.TheConstants.{SCRIPT_LIMIT}
+use Rattle.std.specs.Prelude.{◌≡◌, ℕ, List, [], ◌++◌, Option, Some, IfSome, IsSomeAnd}
 
 -- where the source's bytes are known: they are these, and all of them are taken
 abbrev pub IsWhole : Option (List ℕ) → Option (List ℕ) → List ℕ → Type 0
 IsWhole before now bytes = IfSome before (λ all. (bytes ≡ all) × (now ≡ Some []))
-
--- where the source's bytes are known: they are more than a script may have, and one more than that was taken
-abbrev pub IsTooLong : Option (List ℕ) → Option (List ℕ) → Type 0
-IsTooLong before now = IfSome before (λ all. (SCRIPT_LIMIT < length all) × IsSomeAnd now (λ rest. (taken : List ℕ) × (length taken ≡ SCRIPT_LIMIT + 1) × (all ≡ taken ++ rest)))
 
 -- where the source's bytes are known: n of them came behind those so far, and none only at the end
 abbrev pub GaveOn : Option (List ℕ) → Option (List ℕ) → List ℕ → List ℕ → ℕ → Type 0

@@ -1,8 +1,8 @@
 //! Which of the program's exit statuses never come where nothing fails.
 ghost use Rattle.std.specs.Prelude.{◌≢◌, All, List, ℕ, Result, map, string_bytes};
 ghost use Rattle.mf_policy.specs.Modules.{module_of};
-ghost use Rattle.mf_list.specs.Lists.{IsFresh};
-ghost use Rattle.mf_core.specs.Policies.{AreAllModules};
+ghost use Rattle.mf_list.specs.Fresh.{IsFresh};
+ghost use Rattle.mf_core.specs.AllModules.{AreAllModules};
 ghost use Rattle.mf_top.specs.declared.refusal.Refusal.{Refusal};
 ghost use Rattle.mf_top.specs.Answers.{IsOutcome, IsWritten};
 ghost use Rattle.mf_io.specs.Sure.{seen_source, seen_sink};

@@ -1,8 +1,10 @@
 //! The reader of a whole source.
 ghost use Rattle.std.specs.Prelude.{◌≡◌, ◌<◌, ◌≤◌, ◌+◌, length, IfOk, IsErrOf};
 ghost use Rattle.mf_top.specs.declared.read.ReadError.TheVariants.{Memory, Failed as ReadFailed};
-ghost use Rattle.mf_io.specs.Outside.{HasRisen, Gave};
-ghost use Rattle.mf_top.specs.Reading.{IsWhole, IsTooLong, GaveOn};
+ghost use Rattle.mf_io.specs.Outside.{HasRisen};
+ghost use Rattle.mf_io.specs.Causes.{Gave};
+ghost use Rattle.mf_top.specs.Reading.{IsWhole, GaveOn};
+ghost use Rattle.mf_top.specs.Answers.{IsTooLong};
 ghost use Rattle.mf_names.specs.declared.limits.TheConstants.{SCRIPT_LIMIT};
 
 use mf_io::{Failed, Source};

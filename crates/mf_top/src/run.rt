@@ -1,11 +1,11 @@
 //! The tasks of a script or of a generated load, each in a thread of its own, on one kernel.
 ghost use Rattle.std.specs.Prelude.{◌≡◌, ◌≤◌, ◌+◌, ℕ, false, length, map, vec_len, ◌↔◌, All, IfOk, IsTrue, string_bytes};
 ghost use Rattle.mf_policy.specs.Modules.{module_of};
-ghost use Rattle.mf_list.specs.Lists.{IsFresh};
+ghost use Rattle.mf_list.specs.Fresh.{IsFresh};
 ghost use Rattle.mf_calls.specs.declared.limits.TheConstants.{LINE_LIMIT, TASK_LIMIT};
 ghost use Rattle.mf_calls.specs.WellFormed.{IsWellFormed};
 ghost use Rattle.mf_core.specs.declared.progress.Turn.TheVariants as turn;
-ghost use Rattle.mf_core.specs.Policies.{AreAllModules};
+ghost use Rattle.mf_core.specs.AllModules.{AreAllModules};
 ghost use Rattle.mf_core.specs.CoreView.{all_lines, done_of, open_of};
 ghost use Rattle.mf_share.specs.Passes.{AreOneEach, pass_turn};
 ghost use Rattle.mf_load.specs.Summary.{load_summary};

@@ -1,9 +1,9 @@
 //! The program's call.
 ghost use Rattle.std.specs.Prelude.{◌≡◌, ◌≤◌, ◌⊎◌, All, List, ℕ, map, Some, Result, string_bytes};
 ghost use Rattle.mf_policy.specs.Modules.{module_of};
-ghost use Rattle.mf_list.specs.Lists.{IsFresh};
+ghost use Rattle.mf_list.specs.Fresh.{IsFresh};
 ghost use Rattle.mf_calls.specs.declared.limits.TheConstants.{LINE_LIMIT, TASK_LIMIT};
-ghost use Rattle.mf_core.specs.Policies.{AreAllModules};
+ghost use Rattle.mf_core.specs.AllModules.{AreAllModules};
 ghost use Rattle.mf_top.specs.declared.refusal.Refusal.{Refusal};
 ghost use Rattle.mf_io.specs.Outside.{seen};
 ghost use Rattle.mf_top.specs.declared.command.Command.TheVariants as command;
@@ -24,8 +24,8 @@ use std::thread::Threads;
 /// With the word `run` runs the script that the source holds, leaving its steps aside, and writes its history and the
 /// sources at its end to the sink; with `gen N T` runs the generated load, and writes its summary. Returns the program's
 /// exit status: 0, the status of a `Refusal`, or 5 where a write failed. `words` are those after the program's name.
-/// Nothing is written before the run has ended. `modules` has a policy of each module that is built in, once, in its
-/// initial state. The tasks run side by side, and call `gate`.
+/// Nothing is written before the run has ended. `modules` has a policy of each module, once, in its initial state. The tasks
+/// run side by side, and call `gate`.
 pub fn macsim<S: Source, K: Sink, G: Gate, P: Policy, R: Threads + Wait + Sync>(
     rt: &R,
     alloc: Global,

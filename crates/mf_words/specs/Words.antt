@@ -1,5 +1,5 @@
 -- The lines and words of a text, as docs/MANUAL.md (THE SCRIPT) has them.
-use Rattle.std.specs.Prelude.{ℕ, suc, Bool, false, not, ◌||◌, ◌==◌, if◌then◌else◌, List, [], ◌∷◌}
+use Rattle.std.specs.Prelude.{ℕ, Bool, false, not, ◌||◌, ◌==◌, if◌then◌else◌, List, [], ◌∷◌}
 
 abbrev pub tab : ℕ
 tab = 9
@@ -28,11 +28,6 @@ abbrev pub lines_in : List ℕ → List (List ℕ)
 lines_in [] = []
 lines_in (b ∷ bs) = if b == newline then [] ∷ lines_in bs else onto_first b (lines_in bs)
 
--- where the first line ends
-abbrev pub line_end : List ℕ → ℕ
-line_end [] = 0
-line_end (b ∷ bs) = if b == newline then 0 else suc (line_end bs)
-
 -- the first byte is one of a word
 abbrev pub goes_on : List ℕ → Bool
 goes_on [] = false
@@ -42,11 +37,6 @@ goes_on (b ∷ bs) = not (is_blank b)
 abbrev pub words_in : List ℕ → List (List ℕ)
 words_in [] = []
 words_in (b ∷ bs) = if is_blank b then words_in bs else (if goes_on bs then onto_first b (words_in bs) else (b ∷ []) ∷ words_in bs)
-
--- where the first word ends
-abbrev pub word_end : List ℕ → ℕ
-word_end [] = 0
-word_end (b ∷ bs) = if is_blank b then 0 else suc (word_end bs)
 
 -- the word begins a comment
 abbrev pub is_comment : List ℕ → Bool

@@ -1,7 +1,8 @@
 //! The words of a line and the lines of a text, one after another.
 ghost use Rattle.std.specs.Prelude.{◌≡◌, ◌≢◌, ◌≤◌, ◌<◌, ◌+◌, [], ◌∷◌, length, drop, MatchOption, IfSome, true};
 ghost use Rattle.std.specs.Str.{IsAscii};
-ghost use Rattle.mf_words.specs.Words.{is_blank, is_comment, lines_in, words_in, goes_on, word_end, line_end};
+ghost use Rattle.mf_words.specs.Words.{is_blank, is_comment, lines_in, words_in, goes_on};
+ghost use Rattle.mf_words.specs.Ends.{word_end, line_end};
 
 use std::marker::Model;
 

@@ -5,7 +5,7 @@ ghost use Rattle.mf_objects.specs.declared.id.Id.{Id};
 ghost use Rattle.mf_calls.specs.Tasks.{is_change};
 ghost use Rattle.mf_plan.specs.Doing.{CanDo};
 ghost use Rattle.mf_step.specs.Effect.{effect_of};
-ghost use Rattle.mf_step.specs.Reply.{is_done};
+ghost use Rattle.mf_step.specs.Refused.{is_done};
 ghost use Rattle.mf_core.specs.declared.history.Event.TheVariants as event;
 ghost use Rattle.mf_core.specs.declared.progress.Turn.TheVariants as turn;
 ghost use Rattle.mf_core.specs.LegalHistory.{after, next_reply, next_state, turn_of, MayCome};

@@ -5,7 +5,10 @@ ghost use Rattle.mf_names.specs.declared.limits.TheConstants.{SCRIPT_LIMIT};
 ghost use Rattle.mf_elem.specs.declared.label.TheConstants.{SLOTS};
 ghost use Rattle.mf_objects.specs.Head.{head_of};
 ghost use Rattle.mf_objects.specs.Live as live;
+ghost use Rattle.mf_objects.specs.Lives.{is_vnode, IsLive, IsLiveWhere, value_at, HasSlotsFor};
 ghost use Rattle.mf_objects.specs.Changes as change;
+ghost use Rattle.mf_objects.specs.Labels.{with_value, with_label};
+ghost use Rattle.mf_objects.specs.Fits.{FitsBytes, FitsMessage, HasMessage};
 
 use super::Objects;
 use crate::head::Head;
@@ -17,7 +20,7 @@ use std::alloc::{AllocError, Global};
 impl Objects {
     /// Appends to a regular file or a pipe in which the text fits.
     pub fn append(&mut self, id: Id, text: &[u8]) -> Result<(), AllocError>
-        requires { live.IsLiveWhere (change.FitsBytes (length text.now)) (live.live_at self.old id) }
+        requires { IsLiveWhere (FitsBytes (length text.now)) (live.live_at self.old id) }
         ensures ok { OnOk result (self.new ≡ change.with_change (change.with_what (change.appended text.now)) self.old id) }
         ensures err { OnErr result (self.new ≡ self.old) }
     {
@@ -28,7 +31,7 @@ impl Objects {
 
     /// Empties a pipe.
     pub fn clear(&mut self, id: Id)
-        requires { live.IsLive live.is_pipe self.old id }
+        requires { IsLive live.is_pipe self.old id }
         ensures { self.new ≡ change.with_change (change.with_what change.cleared) self.old id }
     {
         let place = self.place(id);
@@ -38,7 +41,7 @@ impl Objects {
 
     /// Appends a message to those of a socket that has room for it.
     pub fn push_message(&mut self, alloc: Global, id: Id, text: &[u8]) -> Result<(), AllocError>
-        requires room { live.IsLiveWhere change.FitsMessage (live.live_at self.old id) }
+        requires room { IsLiveWhere FitsMessage (live.live_at self.old id) }
         requires fits { length text.now ≤ SCRIPT_LIMIT }
         ensures ok { OnOk result (self.new
             ≡ change.with_change (change.with_what (change.with_messages (change.with_message text.now))) self.old id) }
@@ -52,7 +55,7 @@ impl Objects {
 
     /// Removes the oldest message of a socket and returns its head.
     pub fn pop_message(&mut self, id: Id) -> Head
-        requires { live.IsLiveWhere change.HasMessage (live.live_at self.old id) }
+        requires { IsLiveWhere HasMessage (live.live_at self.old id) }
         ensures rest { self.new ≡ change.with_change (change.with_what (change.with_messages (drop 1))) self.old id }
         ensures oldest { result ≡ head_of (slice_index_or (live.messages_at self.old id) 0 []) }
     {
@@ -64,7 +67,7 @@ impl Objects {
 
     /// Gives a file or a directory these mode bits, as chmod(2) has them.
     pub fn set_mode(&mut self, id: Id, mode: u16)
-        requires { live.IsLive live.is_vnode self.old id }
+        requires { IsLive is_vnode self.old id }
         ensures { self.new ≡ change.with_change (change.with_what (change.with_mode mode)) self.old id }
     {
         let place = self.place(id);
@@ -77,8 +80,8 @@ impl Objects {
         requires live { IsSome (live.live_at self.old id) }
         requires slot { slot < SLOTS }
         requires value { value ≢ Unset }
-        ensures ok { OnOk result (self.new ≡ change.with_change (change.with_value slot value) self.old id) }
-        ensures made { live.value_at self.old id slot ≢ Unset → IsOk result }
+        ensures ok { OnOk result (self.new ≡ change.with_change (with_value slot value) self.old id) }
+        ensures made { value_at self.old id slot ≢ Unset → IsOk result }
         ensures err { OnErr result (self.new ≡ self.old) }
     {
         let place = self.place(id);
@@ -93,8 +96,8 @@ impl Objects {
     /// already take no memory.
     pub fn relabel(&mut self, id: Id, values: &[LabelValue; SLOTS]) -> Result<(), AllocError>
         requires { IsSome (live.live_at self.old id) }
-        ensures ok { OnOk result (self.new ≡ change.with_change (change.with_label values.now) self.old id) }
-        ensures made { live.HasSlotsFor (live.label_at self.old id) values.now → IsOk result }
+        ensures ok { OnOk result (self.new ≡ change.with_change (with_label values.now) self.old id) }
+        ensures made { HasSlotsFor (live.label_at self.old id) values.now → IsOk result }
         ensures err { OnErr result (self.new ≡ self.old) }
     {
         let place = self.place(id);

@@ -1,7 +1,9 @@
 //! Entry names of directories, and titles of entities.
 ghost use Rattle.std.specs.Prelude.{◌≡◌, ◌++◌, IfOk, OnOk, OnErr, IsSome, map, filter, reverse, codes, string_bytes};
 ghost use Rattle.mf_objects.specs.Live as live;
+ghost use Rattle.mf_objects.specs.Lives.{is_directory, IsLive};
 ghost use Rattle.mf_objects.specs.Titles as title;
+ghost use Rattle.mf_objects.specs.Names.{IsFirstNames, IsAppended};
 ghost use Rattle.mf_objects.specs.Sound.{link};
 
 use super::Objects;
@@ -14,9 +16,9 @@ use std::alloc::{AllocError, Global};
 impl Objects {
     /// The first entry names of a directory in byte order.
     pub fn names(&self, alloc: Global, dir: Id) -> Result<NameList, AllocError>
-        requires { live.IsLive live.is_directory self.now dir }
+        requires { IsLive is_directory self.now dir }
         ensures value { IfOk result (λ names. names ≡ title.names_at self.now dir) }
-        ensures first { IfOk result (λ names. title.IsFirstNames names (title.entry_names dir self.now.live)) }
+        ensures first { IfOk result (λ names. IsFirstNames names (title.entry_names dir self.now.live)) }
     {
         let mut names = entry_names(alloc, &self.entities, dir)?;
         names.sort_unstable();
@@ -93,7 +95,7 @@ fn push_own_name(
 ) -> Result<(), AllocError>
     ensures ok { OnOk result (string_bytes out.new
         ≡ string_bytes out.old ++ title.own_name (title.path_in (reverse (map link entities.now)) id) entity.now.name entity.now.what) }
-    ensures err { OnErr result (title.IsAppended (string_bytes out.old) (string_bytes out.new)) }
+    ensures err { OnErr result (IsAppended (string_bytes out.old) (string_bytes out.new)) }
 {
     match entity.what {
         EntityData::Vnode(_) => push_rooted_path(entities, id, out),
@@ -106,7 +108,7 @@ fn push_own_name(
 /// Appends the path of an id, a slash for the root.
 fn push_rooted_path(entities: &[Entity], id: Id, out: &mut String) -> Result<(), AllocError>
     ensures ok { OnOk result (string_bytes out.new ≡ string_bytes out.old ++ title.rooted_path (title.path_in (reverse (map link entities.now)) id)) }
-    ensures err { OnErr result (title.IsAppended (string_bytes out.old) (string_bytes out.new)) }
+    ensures err { OnErr result (IsAppended (string_bytes out.old) (string_bytes out.new)) }
 {
     let start = out.len();
     push_path(entities, id, out)?;
@@ -119,7 +121,7 @@ fn push_rooted_path(entities: &[Entity], id: Id, out: &mut String) -> Result<(),
 /// Appends the path of an id, walking from the newest entity to its directory.
 fn push_path(entities: &[Entity], id: Id, out: &mut String) -> Result<(), AllocError>
     ensures ok { OnOk result (string_bytes out.new ≡ string_bytes out.old ++ title.path_in (reverse (map link entities.now)) id) }
-    ensures err { OnErr result (title.IsAppended (string_bytes out.old) (string_bytes out.new)) }
+    ensures err { OnErr result (IsAppended (string_bytes out.old) (string_bytes out.new)) }
 {
     match entities.split_last() {
         None => Ok(()),
@@ -137,7 +139,7 @@ fn push_path(entities: &[Entity], id: Id, out: &mut String) -> Result<(), AllocE
 /// Appends a slash and the name.
 fn push_component(name: &str, out: &mut String) -> Result<(), AllocError>
     ensures ok { OnOk result (string_bytes out.new ≡ string_bytes out.old ++ codes "/" ++ name.now) }
-    ensures err { OnErr result (title.IsAppended (string_bytes out.old) (string_bytes out.new)) }
+    ensures err { OnErr result (IsAppended (string_bytes out.old) (string_bytes out.new)) }
 {
     out.push_str("/")?;
     out.push_str(name)

@@ -6,6 +6,7 @@ ghost use Rattle.mf_objects.specs.declared.limits.TheConstants.{MOST_ENTITIES};
 ghost use Rattle.mf_elem.specs.declared.label.TheConstants.{SLOTS};
 ghost use Rattle.mf_objects.specs.Head.{head_of};
 ghost use Rattle.mf_objects.specs.Live as live;
+ghost use Rattle.mf_objects.specs.Lives.{is_vnode, is_directory, IsLive, is_from, IsLeast, IsFound, value_at};
 ghost use Rattle.mf_objects.specs.Population.{IsPopulation};
 ghost use Rattle.mf_objects.specs.Index as index;
 ghost use Rattle.mf_objects.specs.Sound.{shown, IsById};
@@ -39,7 +40,7 @@ impl Objects {
     /// The root directory.
     pub fn root(&self) -> Id
         ensures value { result ≡ record { 0 = 0 } }
-        ensures directory { live.IsLive live.is_directory self.now result }
+        ensures directory { IsLive is_directory self.now result }
     {
         // Reading a field brings the type's invariant into the proof.
         let _next = self.next;
@@ -48,9 +49,9 @@ impl Objects {
 
     /// The least live id of at least `n`.
     pub fn least_from(&self, n: u32) -> Option<Id>
-        ensures found { live.IsFound (live.is_from n) self.now result }
+        ensures found { IsFound (is_from n) self.now result }
         ensures live { IfSome result (λ id. IsSome (live.live_at self.now id)) }
-        ensures least { IfSome result (λ id. live.IsLeast n self.now.live id) }
+        ensures least { IfSome result (λ id. IsLeast n self.now.live id) }
         ensures none { IfNone result (All (λ e. e.id.0 < n) self.now.live) }
     {
         least_from(&self.entities, n)
@@ -58,32 +59,32 @@ impl Objects {
 
     /// The live process of this name.
     pub fn process(&self, name: &str) -> Option<Id>
-        ensures found { live.IsFound (live.is_named live.is_process name.now) self.now result }
-        ensures process { IfSome result (λ id. live.IsLive live.is_process self.now id) }
+        ensures found { IsFound (live.is_named live.is_process name.now) self.now result }
+        ensures process { IfSome result (λ id. IsLive live.is_process self.now id) }
     {
         self.named(Group::Processes, name)
     }
 
     /// The live pipe of this name.
     pub fn pipe(&self, name: &str) -> Option<Id>
-        ensures found { live.IsFound (live.is_named live.is_pipe name.now) self.now result }
-        ensures pipe { IfSome result (λ id. live.IsLive live.is_pipe self.now id) }
+        ensures found { IsFound (live.is_named live.is_pipe name.now) self.now result }
+        ensures pipe { IfSome result (λ id. IsLive live.is_pipe self.now id) }
     {
         self.named(Group::Pipes, name)
     }
 
     /// The live socket of this name.
     pub fn socket(&self, name: &str) -> Option<Id>
-        ensures found { live.IsFound (live.is_named live.is_socket name.now) self.now result }
-        ensures socket { IfSome result (λ id. live.IsLive live.is_socket self.now id) }
+        ensures found { IsFound (live.is_named live.is_socket name.now) self.now result }
+        ensures socket { IfSome result (λ id. IsLive live.is_socket self.now id) }
     {
         self.named(Group::Sockets, name)
     }
 
     /// The entry of this name in a directory.
     pub fn child(&self, dir: Id, name: &str) -> Option<Id>
-        ensures found { live.IsFound (live.is_child dir name.now) self.now result }
-        ensures vnode { IfSome result (λ id. live.IsLive live.is_vnode self.now id) }
+        ensures found { IsFound (live.is_child dir name.now) self.now result }
+        ensures vnode { IfSome result (λ id. IsLive is_vnode self.now id) }
         ensures not_root { IfSome result (λ id. id.0 ≢ 0) }
     {
         self.named(Group::Entries(Some(dir)), name)
@@ -127,7 +128,7 @@ impl Objects {
         requires { IsSome (live.live_at self.now id) }
         ensures value { result ≡ length (live.content_at self.now id) }
         ensures most { result ≤ CONTENT_LIMIT }
-        ensures directory { live.IsLive live.is_directory self.now id → result ≡ 0 }
+        ensures directory { IsLive is_directory self.now id → result ≡ 0 }
     {
         self.entity(id).what.content().len() as u32
     }
@@ -190,7 +191,7 @@ impl Objects {
     pub fn value(&self, id: Id, slot: u8) -> LabelValue
         requires live { IsSome (live.live_at self.now id) }
         requires slot { slot < SLOTS }
-        ensures { result ≡ live.value_at self.now id slot }
+        ensures { result ≡ value_at self.now id slot }
     {
         let place = self.place(id);
         self.zones.value(&self.entities[place].label, slot)
@@ -198,7 +199,7 @@ impl Objects {
 
     /// The live entity of this name in a group.
     fn named(&self, group: Group, name: &str) -> Option<Id>
-        ensures found { live.IsFound (index.is_member group name.now) self.now result }
+        ensures found { IsFound (index.is_member group name.now) self.now result }
         ensures population { IsPopulation self.now }
     {
         named_among(

@@ -1,8 +1,10 @@
 //! Removals: what an exit and an unlink take away.
 ghost use Rattle.std.specs.Prelude.{◌≡◌, ◌≢◌, ◌<◌, length, remove, slice_index_or, true};
 ghost use Rattle.mf_objects.specs.Live as live;
+ghost use Rattle.mf_objects.specs.Lives.{is_vnode, IsLive};
 ghost use Rattle.mf_objects.specs.declared.id.Id.{Id};
 ghost use Rattle.mf_objects.specs.Changes as change;
+ghost use Rattle.mf_objects.specs.Fits.{IsBare};
 ghost use Rattle.mf_objects.specs.Population.{HasRoot};
 
 use super::Objects;
@@ -12,7 +14,7 @@ use crate::id::Id;
 impl Objects {
     /// Removes a process, and the pipes and sockets that it made. Its children stay.
     pub fn remove_process(&mut self, id: Id)
-        requires { live.IsLive live.is_process self.old id }
+        requires { IsLive live.is_process self.old id }
         ensures { self.new ≡ change.without (change.goes_with id) self.old }
     {
         self.remove_made_by(id);
@@ -39,7 +41,7 @@ impl Objects {
 
     /// Removes a file, or a directory without entries; not the root.
     pub fn remove_vnode(&mut self, id: Id)
-        requires vnode { live.IsLive live.is_vnode self.old id }
+        requires vnode { IsLive is_vnode self.old id }
         requires not_root { id.0 ≢ 0 }
         requires empty { live.entry_count self.old id ≡ 0 }
         ensures { self.new ≡ change.without (live.has_id id) self.old }
@@ -66,7 +68,7 @@ impl Objects {
     fn remove_at(&mut self, place: usize)
         requires within { place < length self.old.live }
         requires later { 0 < place }
-        requires bare { (d : live.LiveEntity) → let e = slice_index_or self.old.live place d in change.IsBare self.old.live e.id e.what }
+        requires bare { (d : live.LiveEntity) → let e = slice_index_or self.old.live place d in IsBare self.old.live e.id e.what }
         ensures removed { self.new ≡ record self.old { live = remove self.old.live place } }
         ensures by_id { (id : Id) → ((d : live.LiveEntity) → live.has_id id (slice_index_or self.old.live place d) ≡ true)
             → self.new ≡ change.without (live.has_id id) self.old }

@@ -48,7 +48,8 @@ struct Meeting {
     waits_that_ran_out: AtomicU64,
 }
 
-fn is_raised(flag: &AtomicU64) -> bool {
+/// Whether the flag is raised in time.
+pub fn is_raised(flag: &AtomicU64) -> bool {
     for _turn in 0..MOST_TURNS {
         if flag.load(Ordering::SeqCst) != 0 {
             return true;

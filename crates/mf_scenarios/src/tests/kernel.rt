@@ -1,10 +1,10 @@
 //! Two tasks on one kernel, in one thread: the second changes the file's mode between the first one's walk and commit.
 ghost use Rattle.std.specs.Prelude.{◌≡◌, ◌+◌, false, All, length, map};
 ghost use Rattle.mf_policy.specs.Modules.{module_of};
-ghost use Rattle.mf_list.specs.Lists.{IsFresh};
+ghost use Rattle.mf_list.specs.Fresh.{IsFresh};
 ghost use Rattle.mf_calls.specs.WellFormed.{IsWellFormed};
 ghost use Rattle.mf_step.specs.Verdict.{verdict_of};
-ghost use Rattle.mf_core.specs.Policies.{AreAllModules};
+ghost use Rattle.mf_core.specs.AllModules.{AreAllModules};
 ghost use Rattle.mf_top.specs.Passes.{IsSameTicket};
 
 use mf_biba::Biba;
@@ -18,6 +18,7 @@ use mf_names::SCRIPT_LIMIT;
 use mf_partition::Partition;
 use mf_plan::Plan;
 use mf_policy::Policy;
+use mf_priority::Priority;
 use mf_script::read_script;
 use mf_share::{Job, Kernel, Ticket};
 use mf_step::Verdict;
@@ -138,6 +139,7 @@ fn a_plan_goes_stale(rt: HostRuntime) -> Result<(), Fail> {
     modules.push(Box::new(alloc, Mls::new())?)?;
     modules.push(Box::new(alloc, Partition::new())?)?;
     modules.push(Box::new(alloc, Bsdextended::new(alloc)?)?)?;
+    modules.push(Box::new(alloc, Priority::new())?)?;
     let text = changed_during_a_read::<Box<dyn Policy + Send + Sync>, Brand, Brand, HostRuntime>(
         &rt,
         alloc,

@@ -1,9 +1,10 @@
 //! Steps of a core, one by one, where a change waits for an open entry.
 ghost use Rattle.std.specs.Prelude.{◌≡◌, All, OnOk, length, map};
 ghost use Rattle.mf_policy.specs.Modules.{module_of};
-ghost use Rattle.mf_list.specs.Lists.{IsFresh};
+ghost use Rattle.mf_list.specs.Fresh.{IsFresh};
 ghost use Rattle.mf_calls.specs.WellFormed.{IsWellFormed};
-ghost use Rattle.mf_core.specs.Policies.{AreAllModules, AreOf};
+ghost use Rattle.mf_core.specs.Policies.{AreOf};
+ghost use Rattle.mf_core.specs.AllModules.{AreAllModules};
 ghost use Rattle.mf_core.specs.CoreView.{specs_of};
 
 use mf_biba::Biba;
@@ -16,6 +17,7 @@ use mf_names::SCRIPT_LIMIT;
 use mf_partition::Partition;
 use mf_plan::Plan;
 use mf_policy::Policy;
+use mf_priority::Priority;
 use mf_script::read_script;
 use std::alloc::{AllocError, Global};
 use std::process::Abort;
@@ -114,6 +116,7 @@ fn a_change_waits_while_an_entry_is_open(rt: HostRuntime) -> Result<(), Fail> {
     modules.push(Box::new(alloc, Mls::new())?)?;
     modules.push(Box::new(alloc, Partition::new())?)?;
     modules.push(Box::new(alloc, Bsdextended::new(alloc)?)?)?;
+    modules.push(Box::new(alloc, Priority::new())?)?;
     change_during_entry(&rt, alloc, &script, modules)?;
     Ok(())
 }

@@ -7,6 +7,7 @@ use mf_io::{OpenGate, StdSink, StdSource, SureSink, SureSource};
 use mf_mls::Mls;
 use mf_partition::Partition;
 use mf_policy::Policy;
+use mf_priority::Priority;
 use mf_top::law::macsim_over_sure;
 use std::alloc::{AllocError, Global};
 use std::sync::Wait;
@@ -25,6 +26,7 @@ fn run_over_sure<R: Threads + Wait + Sync>(
     modules.push(Box::new(alloc, Mls::new())?)?;
     modules.push(Box::new(alloc, Partition::new())?)?;
     modules.push(Box::new(alloc, Bsdextended::new(alloc)?)?)?;
+    modules.push(Box::new(alloc, Priority::new())?)?;
     Ok(macsim_over_sure(rt, alloc, &words, source, sink, &OpenGate, modules))
 }
 

@@ -48,7 +48,7 @@ changed www 6 no EPERM priv - 1
 ";
 
 /// The replies to the calls of a task.
-fn replies_of(alloc: Global, text: &str, task: &str) -> Result<String, AllocError> {
+pub fn replies_of(alloc: Global, text: &str, task: &str) -> Result<String, AllocError> {
     let done = format!(in alloc; "done {task} ")?;
     let changed = format!(in alloc; "changed {task} ")?;
     let mut replies = String::new(alloc);

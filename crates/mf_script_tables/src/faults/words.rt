@@ -6,12 +6,11 @@ use std::alloc::AllocError;
 /// A boot line for each errno.
 const BOOTS: &[Row] = &[
     (
-        "boot mac_bsdextended\nboot mac_partition\nboot mac_mls\nboot mac_biba",
+        "boot mac_priority\nboot mac_bsdextended\nboot mac_partition\nboot mac_mls\nboot mac_biba",
         NONE,
     ),
     ("boot mac_foo", "1 12 BootRefused ENOENT"),
     ("boot biba", "1 12 BootRefused ENOENT"),
-    ("boot mac_priority", "1 12 BootRefused ENOENT"),
     ("boot #x", "1 12 BootRefused ENOENT"),
     (
         "boot mac_mls\nboot mac_biba\nboot mac_mls",
@@ -146,6 +145,14 @@ const CALLS: &[Row] = &[
     ("see a.", "2 8 BadPath"),
     ("see .a", "2 8 BadPath"),
     ("signal /a", "2 8 BadPath"),
+    ("priv", "2 3 Missing"),
+    ("priv PRIV_KLD_LOAD", "2 2 UnknownWord"),
+    ("priv sched_rtprio", "2 2 UnknownWord"),
+    ("priv SCHED_IDPRIO x", "2 4 Extra"),
+    ("priv MAC_PARTITION", "3 10 NoEnd"),
+    ("getpmac x", "2 4 Extra"),
+    ("getfmac", "2 3 Missing"),
+    ("getfmac x", "2 8 BadPath"),
     ("exec sh", "2 8 BadPath"),
     ("create //", "2 8 BadPath"),
     ("mkdir /a//b", "2 8 BadPath"),

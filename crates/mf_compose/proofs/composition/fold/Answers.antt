@@ -1,6 +1,6 @@
 use Rattle.std.proofs.Common.{ap, sym, ◌∙◌, get_or}
 use Rattle.mf_errno.specs.declared.errno.Errno.TheVariants.{Success}
-use Rattle.mf_errno.specs.Selection.{select}
+use Rattle.mf_errno.specs.OfTwo.{select}
 use Rattle.mf_compose.proofs.Composed.{composition_more}
 use Rattle.mf_compose.proofs.composition.fold.Goals as goal
 

@@ -1,5 +1,5 @@
 use Rattle.std.proofs.Common.{◌≡◌, List, ℕ, false, Result, Ok, Err, ap, ◌∙◌}
-use Rattle.mf_errno.specs.Module.{module_named, module_text}
+use Rattle.mf_errno.specs.Names.{module_named, module_text}
 use Rattle.mf_errno.specs.declared.module.Module.{Module}
 use Rattle.mf_errno.proofs.Modules.{own_name}
 use Rattle.mf_list.specs.Lists.{ListView, CatalogueView}

@@ -1,6 +1,7 @@
 use Rattle.std.proofs.Common.{◌≡◌, ◌+◌, take}
 use Rattle.std.specs.Prelude.{fold}
-use Rattle.mf_core.specs.Opening.{HasAtMost, with_file}
+use Rattle.mf_core.specs.Opening.{with_file}
+use Rattle.mf_core.specs.Registering.{HasAtMost}
 use Rattle.mf_core.proofs.opening.add_files.Given as goal
 
 abbrev pub invariant-loop-file : goal.invariant-loop-file

@@ -1,7 +1,8 @@
 use Rattle.std.proofs.Common.{◌≡◌, ◌+◌, take}
 use Rattle.std.specs.Prelude.{fold}
 use Rattle.mf_calls.specs.declared.limits.TheConstants.{FILE_LIMIT}
-use Rattle.mf_core.specs.Opening.{HasAtMost, with_task}
+use Rattle.mf_core.specs.Opening.{with_task}
+use Rattle.mf_core.specs.Registering.{HasAtMost}
 use Rattle.mf_core.proofs.opening.add_tasks.Given as goal
 
 abbrev pub invariant-loop-task : goal.invariant-loop-task

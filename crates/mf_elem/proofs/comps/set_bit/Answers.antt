@@ -1,5 +1,5 @@
 use Rattle.std.proofs.Common.{ℕ, ◌*◌, ◌/◌, ◌%◌, ◌^◌, refl, get_or, bit_or, rules}
-use Rattle.mf_elem.specs.Comps.{AreWords}
+use Rattle.mf_elem.specs.Bounds.{AreWords}
 use Rattle.mf_elem.proofs.CompsLaws.{SetsBit, numbers_with, words_set}
 use Rattle.mf_elem.proofs.comps.set_bit.Goals as goal
 

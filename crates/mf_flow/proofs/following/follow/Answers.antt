@@ -8,7 +8,8 @@ use Rattle.mf_plan.specs.Outline.{item_of}
 use Rattle.mf_plan.specs.Plan.{plan_of}
 use Rattle.mf_plan.specs.Views.{process_named}
 use Rattle.mf_core.specs.declared.history.Event.{Event}
-use Rattle.mf_core.specs.LegalHistory.{after, next_found}
+use Rattle.mf_core.specs.LegalHistory.{after}
+use Rattle.mf_core.specs.Next.{next_found}
 use Rattle.mf_core.specs.RunView.{RunView}
 use Rattle.mf_flow.specs.Movement.{passed}
 use Rattle.mf_flow.proofs.Followed.{done_flows, done_found, done_line, passed_map}

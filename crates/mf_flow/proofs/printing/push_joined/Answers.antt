@@ -2,7 +2,8 @@ use Rattle.std.proofs.Common.{◌++◌, List, ℕ, map, take, get_or, ap, sym, �
 use Rattle.std.specs.List.{join_with_byte}
 use Rattle.mf_elem.specs.declared.elem.Elem.TheVariants.{Low}
 use Rattle.mf_text.proofs.Appending.{extends_behind, on_err}
-use Rattle.mf_labeltext.specs.Canonical.{elem_text, comma_behind}
+use Rattle.mf_labeltext.specs.Canonical.{elem_text}
+use Rattle.mf_labeltext.specs.Commas.{comma_behind}
 use Rattle.mf_labeltext.proofs.Printings.{elements_more}
 use Rattle.mf_flow.proofs.printing.push_joined.Goals as goal
 

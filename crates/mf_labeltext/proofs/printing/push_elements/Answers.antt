@@ -2,7 +2,8 @@ use Rattle.std.proofs.Common.{◌++◌, List, ℕ, map, take, get_or, ap, sym, �
 use Rattle.std.specs.List.{join_with_byte}
 use Rattle.mf_errno.specs.declared.module.Module.TheVariants.{Biba}
 use Rattle.mf_elem.specs.declared.label.LabelValue.TheVariants.{Unset}
-use Rattle.mf_labeltext.specs.Canonical.{element_text, comma_behind}
+use Rattle.mf_labeltext.specs.Canonical.{element_text}
+use Rattle.mf_labeltext.specs.Commas.{comma_behind}
 use Rattle.mf_text.proofs.Appending.{extends_behind, on_err}
 use Rattle.mf_labeltext.proofs.Printings.{elements_more}
 use Rattle.mf_labeltext.proofs.printing.push_elements.Goals as goal

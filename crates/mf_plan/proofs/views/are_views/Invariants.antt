@@ -1,6 +1,6 @@
 use Rattle.std.proofs.Common.{◌≡◌, map, take}
 use Rattle.mf_plan.specs.Outline.{item_of}
-use Rattle.mf_plan.specs.Planned.{item_with}
+use Rattle.mf_plan.specs.Items.{item_with}
 use Rattle.mf_plan.specs.Viewing.{IsFoundAt}
 use Rattle.mf_plan.proofs.views.are_views.Given as goal
 

@@ -1,12 +1,14 @@
+use Rattle.mf_labeltext.specs.Bytes.{slash}
+use Rattle.mf_labeltext.specs.Reading.{parts}
 use Rattle.std.proofs.Common.{◌≡◌, length, []}
 use denote.Shadow.{shadow}
 use denote.Text.{Utf8}
-use Rattle.mf_script.specs.Parts.{slash, parted, with_component, all_added}
+use Rattle.mf_script.specs.Parts.{with_component, all_added}
 use Rattle.mf_script.proofs.names.components_of.Given as goal
 
 abbrev pub invariant-loop-component : goal.invariant-loop-component
 invariant-loop-component l = record {
-  so_far : all_added with_component l.path (parted slash l.rest) ≡ all_added with_component [] (parted slash l.word);
+  so_far : all_added with_component l.path (parts slash l.rest) ≡ all_added with_component [] (parts slash l.word);
   text : shadow (Utf8 l.rest);
 }
 

@@ -8,7 +8,8 @@ use Rattle.mf_calls.specs.declared.script.Task.{Task}
 use Rattle.mf_calls.specs.declared.script.Script.{Script}
 use Rattle.mf_script.specs.declared.refusal.Refusal.{Refusal}
 use Rattle.mf_script.specs.declared.refusal.Refusal.TheVariants.{Faulty, Memory}
-use Rattle.mf_script.specs.Readers.{Read, Fails, Gives, and_then}
+use Rattle.mf_script.specs.Readers.{Read, and_then}
+use Rattle.mf_script.specs.Gives.{Fails, Gives}
 use Rattle.mf_script.specs.Lines.{line_words}
 use Rattle.mf_script.specs.Grammar.{with_list, line_in}
 use Rattle.mf_script.proofs.rows.line_row.Goals as goal

@@ -1,7 +1,9 @@
 use Rattle.std.proofs.Common.{Option, ap, sym, ◌∙◌}
 use Rattle.mf_objects.specs.declared.id.Id.{Id}
 use Rattle.mf_plan.specs.declared.found.Found.{Found}
+use Rattle.mf_plan.specs.Found.{target_of}
 use Rattle.mf_plan.specs.Names.{caller_name}
+use Rattle.mf_plan.specs.Views.{process_named}
 use Rattle.mf_plan.proofs.Laws.{can_do}
 use Rattle.mf_step.specs.Step.{performed_by}
 use Rattle.mf_step.proofs.Keeping.{call_done, call_keeps}
@@ -16,10 +18,15 @@ perform_by-requires-clause-caller c =
 pub perform_by-requires-clause-can : goal.perform_by-requires-clause-can
 perform_by-requires-clause-can c = can_do c.args.state.now c.args.task.now c.args.line.now.child c.args.line.now.call c.requires.proceeds
 
+pub perform_by-requires-clause-target : goal.perform_by-requires-clause-target
+perform_by-requires-clause-target c =
+    ap (λ (f : Found). f.target) c.requires.found
+    ∙ ap (λ (by : Option Id). target_of c.args.state.now.objects by c.args.line.now.call) (sym (ap (λ (f : Found). f.caller) c.requires.found) ∙ c.in-Some.is)
+
 pub perform_by-requires-clause-suits : goal.perform_by-requires-clause-suits
 perform_by-requires-clause-suits c =
     let s = c.args.state.now in
-    target_suits s c.args.task.now c.args.line.now.call c.args.found.target c.live-live.ensures.population
+    target_suits s c.args.task.now (process_named s.objects (caller_name c.args.task.now c.args.line.now.child)) c.args.line.now.call c.args.found.target c.live-live.ensures.population
     (can_do s c.args.task.now c.args.line.now.child c.args.line.now.call c.requires.proceeds) (ap (λ (f : Found). f.target) c.requires.found)
 
 pub returns-in-Some-clause-ok : goal.returns-in-Some-clause-ok

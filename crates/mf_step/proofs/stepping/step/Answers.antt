@@ -2,7 +2,7 @@ use Rattle.std.proofs.Common.{◌≡◌, Some, None, IfOk, OnOk, ap, sym, ◌∙
 use Rattle.std.proofs.lemmas.Bool.{false≢true}
 use Rattle.mf_plan.specs.Planned.{Plan}
 use Rattle.mf_plan.specs.declared.reply.Reply.{Reply}
-use Rattle.mf_step.specs.Reply.{is_done}
+use Rattle.mf_step.specs.Refused.{is_done}
 use Rattle.mf_step.specs.Step.{after_reply, performed}
 use Rattle.mf_step.proofs.Replies.{may_proceed, not_done, step_reply_is}
 use Rattle.mf_step.proofs.stepping.step.Goals as goal

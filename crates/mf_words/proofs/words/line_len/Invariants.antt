@@ -1,5 +1,5 @@
 use Rattle.std.proofs.Common.{◌≡◌, ◌+◌, drop}
-use Rattle.mf_words.specs.Words.{line_end}
+use Rattle.mf_words.specs.Ends.{line_end}
 use Rattle.mf_words.proofs.words.line_len.Given as goal
 
 abbrev pub invariant-loop-i : goal.invariant-loop-i

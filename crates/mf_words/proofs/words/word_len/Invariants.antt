@@ -1,5 +1,5 @@
 use Rattle.std.proofs.Common.{◌≡◌, ◌+◌, drop}
-use Rattle.mf_words.specs.Words.{word_end}
+use Rattle.mf_words.specs.Ends.{word_end}
 use Rattle.mf_words.proofs.words.word_len.Given as goal
 
 abbrev pub invariant-loop-i : goal.invariant-loop-i

@@ -1,5 +1,5 @@
 use Rattle.std.proofs.Common.{◌≢◌, sym}
-use Rattle.mf_errno.specs.Errno.{text_of}
+use Rattle.mf_errno.specs.Names.{text_of}
 use Rattle.mf_errno.specs.declared.errno.Errno.{Errno}
 use Rattle.mf_errno.specs.declared.errno.Errno.TheVariants.{Success, Eperm, Enoent, Esrch, Edeadlk, Enomem, Eacces, Ebusy, Eexist, Enotdir, Eisdir, Einval, Enfile, Efbig, Eagain, Enobufs, Enotempty}
 use Rattle.mf_errno.proofs.Errors.{no_name}

@@ -1,5 +1,5 @@
 use Rattle.std.proofs.Common.{◌≢◌, ℕ, List, sym}
-use Rattle.mf_errno.specs.Module.{module_text}
+use Rattle.mf_errno.specs.Names.{module_text}
 use Rattle.mf_errno.specs.declared.module.Module.{Module}
 use Rattle.mf_errno.specs.declared.module.Module.TheVariants.{Biba, Mls, Partition, Bsdextended, Priority}
 use Rattle.mf_errno.proofs.Modules.{no_name}

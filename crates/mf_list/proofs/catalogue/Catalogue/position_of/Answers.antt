@@ -1,6 +1,6 @@
 use Rattle.std.proofs.Common.{◌∙◌, ap, sym}
 use Rattle.std.specs.List.{position}
-use Rattle.mf_errno.specs.Module.{same_module}
+use Rattle.mf_errno.specs.Same.{same_module}
 use Rattle.mf_policy.specs.Modules.{module_of}
 use Rattle.mf_list.specs.Lists.{CatalogueView}
 use Rattle.mf_list.proofs.Maps.{map-position}

@@ -3,7 +3,8 @@ use Rattle.std.specs.List.{remove}
 use Rattle.std.proofs.Math.ListN.{get_or-map}
 use Rattle.std.proofs.lemmas.List.{length-map}
 use Rattle.mf_policy.specs.Modules.{fresh_of, module_of}
-use Rattle.mf_list.specs.Lists.{CatalogueView, IsFresh}
+use Rattle.mf_list.specs.Lists.{CatalogueView}
+use Rattle.mf_list.specs.Fresh.{IsFresh}
 use Rattle.mf_list.specs.Places.{IsModulePlace}
 use Rattle.mf_list.proofs.Maps.{map-remove}
 use Rattle.mf_list.proofs.catalogue.Catalogue.take.Goals as goal

@@ -1,6 +1,6 @@
 use Rattle.std.proofs.Common.{◌≡◌, List, sym, subst, set, IfOk}
 use Rattle.mf_policy.specs.Registration.{Entry}
-use Rattle.mf_list.specs.Held.{IsListedOnce}
+use Rattle.mf_list.specs.Once.{IsListedOnce}
 use Rattle.mf_list.specs.Lists.{ListView}
 use Rattle.mf_list.specs.Places.{IsEntryPlace}
 use Rattle.mf_list.specs.Registration.{change_in}

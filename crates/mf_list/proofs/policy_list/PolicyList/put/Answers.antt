@@ -1,6 +1,6 @@
 use Rattle.std.proofs.Common.{◌≡◌, List, ◌∙◌, ap, sym, subst}
 use Rattle.std.specs.List.{insert}
-use Rattle.mf_list.specs.Held.{IsListedOnce}
+use Rattle.mf_list.specs.Once.{IsListedOnce}
 use Rattle.mf_list.specs.Lists.{ListView}
 use Rattle.mf_list.specs.Registration.{with_newest}
 use Rattle.mf_policy.specs.Registration.{Entry}

@@ -1,6 +1,6 @@
 use Rattle.std.proofs.Common.{◌≡◌, subst, Option, MatchOption, length, ℕ}
 use Rattle.std.specs.List.{position_or_len}
-use Rattle.mf_policy.specs.Registration.{is_dynamic}
+use Rattle.mf_policy.specs.Dynamic.{is_dynamic}
 use Rattle.mf_policy.proofs.Places.{place_or_len}
 use Rattle.mf_list.proofs.policy_list.PolicyList.static_len.Goals as goal
 

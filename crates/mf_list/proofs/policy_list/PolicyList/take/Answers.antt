@@ -1,6 +1,6 @@
 use Rattle.std.proofs.Common.{List, sym, subst}
 use Rattle.mf_policy.specs.Registration.{Entry}
-use Rattle.mf_list.specs.Held.{IsListedOnce}
+use Rattle.mf_list.specs.Once.{IsListedOnce}
 use Rattle.mf_list.proofs.Counts.{listed_once-remove}
 use Rattle.mf_list.proofs.policy_list.PolicyList.take.Goals as goal
 

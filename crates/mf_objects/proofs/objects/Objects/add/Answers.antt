@@ -4,7 +4,8 @@ use Rattle.std.proofs.lemmas.List.{length-map}
 use Rattle.mf_objects.specs.declared.id.Id.{Id}
 use Rattle.mf_objects.specs.declared.entity.Entity.{Entity}
 use Rattle.mf_objects.specs.Live.{LiveEntity, Entities, live_at}
-use Rattle.mf_objects.specs.Changes.{MayJoin, with_entity, made}
+use Rattle.mf_objects.specs.Changes.{with_entity, made}
+use Rattle.mf_objects.specs.Fits.{MayJoin}
 use Rattle.mf_objects.specs.Population.{IsRising, Belongs, is_namesake}
 use Rattle.mf_objects.specs.Sound.{live_of, seen}
 use Rattle.mf_objects.proofs.Rising.{find_new}

@@ -1,4 +1,5 @@
-use Rattle.mf_objects.specs.Live.{is_child, is_vnode}
+use Rattle.mf_objects.specs.Live.{is_child}
+use Rattle.mf_objects.specs.Lives.{is_vnode}
 use Rattle.mf_objects.proofs.Found.{kind_found, child_kind, child_not_root}
 use Rattle.mf_objects.proofs.objects.Objects.child.Goals as goal
 

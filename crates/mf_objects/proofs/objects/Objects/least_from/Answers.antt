@@ -1,7 +1,8 @@
 use Rattle.std.proofs.Common.{◌≡◌, List, ap, ◌∙◌, subst, option_map}
 use Rattle.std.specs.Prelude.{find}
 use Rattle.mf_objects.specs.declared.entity.Entity.{Entity}
-use Rattle.mf_objects.specs.Live.{Entities, IsFound, is_from}
+use Rattle.mf_objects.specs.Live.{Entities}
+use Rattle.mf_objects.specs.Lives.{IsFound, is_from}
 use Rattle.mf_objects.specs.Population.{IsRising}
 use Rattle.mf_objects.specs.Sound.{seen}
 use Rattle.mf_objects.proofs.Found.{found_id, live_found, found_least, none_from}

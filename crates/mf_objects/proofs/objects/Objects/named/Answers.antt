@@ -3,7 +3,8 @@ use Rattle.std.specs.Prelude.{find}
 use Rattle.std.specs.Str.{bytes_eq}
 use Rattle.mf_objects.specs.declared.id.Id.{Id}
 use Rattle.mf_objects.specs.declared.entity.Entity.{Entity}
-use Rattle.mf_objects.specs.Live.{Entities, IsFound}
+use Rattle.mf_objects.specs.Live.{Entities}
+use Rattle.mf_objects.specs.Lives.{IsFound}
 use Rattle.mf_objects.specs.Sound.{IsById}
 use Rattle.mf_objects.specs.Index.{is_in, is_member, is_named_at, bucket, bucket_of}
 use Rattle.mf_objects.proofs.ById.{stand_by_id}

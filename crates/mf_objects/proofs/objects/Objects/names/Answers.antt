@@ -2,7 +2,8 @@ use Rattle.std.proofs.Common.{◌≡◌, List, map, ap, sym, ◌∙◌, subst, �
 use Rattle.std.proofs.lemmas.Result.{IfOk-weaker}
 use Rattle.mf_objects.specs.declared.entity.Entity.{Entity}
 use Rattle.mf_objects.specs.Live.{Entities}
-use Rattle.mf_objects.specs.Titles.{names_at, IsFirstNames, entry_names}
+use Rattle.mf_objects.specs.Titles.{names_at, entry_names}
+use Rattle.mf_objects.specs.Names.{IsFirstNames}
 use Rattle.mf_objects.proofs.ByteOrder.{first_are_first, first_sorted}
 use Rattle.mf_objects.proofs.Naming.{raw_names, names_live}
 use Rattle.mf_objects.proofs.objects.Objects.names.Goals as goal

@@ -1,6 +1,8 @@
 use Rattle.std.proofs.Common.{refl, ◌≡◌, ℕ, List, [], ◌∷◌, drop, get_or, ap, sym, ◌∙◌, subst}
-use Rattle.mf_objects.specs.Live.{Entities, live_at, IsLiveWhere, messages_at, messages_of}
-use Rattle.mf_objects.specs.Changes.{with_change, with_what, with_messages, HasMessage}
+use Rattle.mf_objects.specs.Live.{Entities, live_at, messages_at, messages_of}
+use Rattle.mf_objects.specs.Lives.{IsLiveWhere}
+use Rattle.mf_objects.specs.Changes.{with_change, with_what, with_messages}
+use Rattle.mf_objects.specs.Fits.{HasMessage}
 use Rattle.mf_objects.specs.Head.{head_of}
 use Rattle.mf_objects.specs.Sound.{IsPlace}
 use Rattle.mf_objects.proofs.Kept.{view, what_changed}

@@ -1,7 +1,9 @@
 use Rattle.std.proofs.Common.{refl, ◌≡◌, ℕ, List, ap, sym, ◌∙◌, subst}
 use Rattle.std.proofs.lemmas.Result.{on_ok_weaker}
-use Rattle.mf_objects.specs.Live.{Entities, live_at, IsLiveWhere}
-use Rattle.mf_objects.specs.Changes.{with_change, with_what, with_messages, with_message, FitsMessage}
+use Rattle.mf_objects.specs.Live.{Entities, live_at}
+use Rattle.mf_objects.specs.Lives.{IsLiveWhere}
+use Rattle.mf_objects.specs.Changes.{with_change, with_what, with_messages, with_message}
+use Rattle.mf_objects.specs.Fits.{FitsMessage}
 use Rattle.mf_objects.specs.Sound.{IsPlace}
 use Rattle.mf_objects.proofs.Kept.{view, what_changed}
 use Rattle.mf_objects.proofs.Belonging.{messages_stay}

@@ -1,8 +1,10 @@
 use Rattle.std.proofs.Common.{refl, ap, sym, ◌∙◌, subst}
 use Rattle.std.proofs.lemmas.Result.{on_ok_weaker}
 use Rattle.mf_slots.specs.Zones.{Relabels}
-use Rattle.mf_objects.specs.Live.{Entities, HasSlotsFor, label_at}
-use Rattle.mf_objects.specs.Changes.{with_change, with_label}
+use Rattle.mf_objects.specs.Live.{Entities, label_at}
+use Rattle.mf_objects.specs.Lives.{HasSlotsFor}
+use Rattle.mf_objects.specs.Changes.{with_change}
+use Rattle.mf_objects.specs.Labels.{with_label}
 use Rattle.mf_objects.specs.Sound.{IsPlace}
 use Rattle.mf_objects.proofs.Kept.{view, held_place, place_within, label_changed, relabel_sound, slots_made}
 use Rattle.mf_objects.proofs.Indexed.{index_set}

@@ -1,5 +1,6 @@
 use Rattle.std.proofs.Common.{subst}
-use Rattle.mf_objects.specs.Live.{Entities, IsLive, is_directory}
+use Rattle.mf_objects.specs.Live.{Entities}
+use Rattle.mf_objects.specs.Lives.{IsLive, is_directory}
 use Rattle.mf_objects.proofs.Found.{root_live}
 use Rattle.mf_objects.proofs.objects.Objects.root.Goals as goal
 

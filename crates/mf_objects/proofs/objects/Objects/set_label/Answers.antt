@@ -1,8 +1,10 @@
 use Rattle.std.proofs.Common.{◌≡◌, None, ap, sym, ◌∙◌, subst, refl}
 use Rattle.std.proofs.lemmas.Result.{on_ok_weaker}
 use Rattle.mf_slots.specs.Zones.{handle, Makes}
-use Rattle.mf_objects.specs.Live.{Entities, value_at}
-use Rattle.mf_objects.specs.Changes.{with_change, with_value}
+use Rattle.mf_objects.specs.Live.{Entities}
+use Rattle.mf_objects.specs.Lives.{value_at}
+use Rattle.mf_objects.specs.Changes.{with_change}
+use Rattle.mf_objects.specs.Labels.{with_value}
 use Rattle.mf_objects.specs.Sound.{IsPlace}
 use Rattle.mf_objects.proofs.Kept.{view, held_place, made_place, place_within, value_set, value_made, unmade_value, unmade_none, made_sound}
 use Rattle.mf_objects.proofs.Indexed.{index_set}

@@ -1,5 +1,6 @@
 use Rattle.std.proofs.Common.{ap, sym, ◌∙◌, subst}
-use Rattle.mf_objects.specs.Live.{Entities, value_at}
+use Rattle.mf_objects.specs.Live.{Entities}
+use Rattle.mf_objects.specs.Lives.{value_at}
 use Rattle.mf_objects.specs.Sound.{IsPlace}
 use Rattle.mf_objects.proofs.Kept.{view, held_place, place_within, value_place}
 use Rattle.mf_objects.proofs.objects.Objects.value.Goals as goal

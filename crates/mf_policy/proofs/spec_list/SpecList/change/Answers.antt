@@ -1,4 +1,4 @@
-use Rattle.std.proofs.Common.{◌∙◌, ◌≡◌, ap, get_or, position, set, sym, subst, List, IfOk}
+use Rattle.std.proofs.Common.{◌∙◌, ◌≡◌, ap, position, set, sym, subst, List, IfOk}
 use Rattle.mf_policy.specs.Registration.{Entry, is_of}
 use Rattle.mf_policy.specs.Settings.{change_in}
 use Rattle.mf_policy.proofs.Entries.{changed_found, unlisted_change}

@@ -1,0 +1,54 @@
+-- Which entities live, and what they hold, as contracts ask it.
+use Rattle.std.specs.Prelude.{◌≡◌, ◌≢◌, ◌<◌, ◌≤◌, ℕ, All, Bool, true, false, IsTrue, nat_le, List, Option, Some, None, find, slice_index_or, IfSome, IfNone}
+use Rattle.mf_elem.specs.declared.label.LabelValue.{LabelValue}
+use Rattle.mf_elem.specs.declared.label.TheConstants.{SLOTS}
+use Rattle.mf_elem.specs.declared.label.LabelValue.TheVariants as values
+use Rattle.mf_objects.specs.declared.id.Id.{Id}
+use Rattle.mf_objects.specs.declared.entity.EntityData.{EntityData}
+use Rattle.mf_objects.specs.declared.entity.EntityData.TheVariants.{Vnode}
+use Rattle.mf_objects.specs.Live.{Entities, LiveEntity, id_of, label_at, live_at}
+
+abbrev pub is_vnode : EntityData → Bool
+is_vnode (Vnode vnode) = true
+is_vnode other = false
+
+abbrev pub is_directory : EntityData → Bool
+is_directory (Vnode vnode) = vnode.file.dir
+is_directory other = false
+
+abbrev pub passes : (EntityData → Bool) → Option LiveEntity → Bool
+passes test None = false
+passes test (Some e) = test e.what
+
+-- a live process, vnode, pipe, socket or directory has this id
+abbrev pub IsLive : (EntityData → Bool) → Entities → Id → Type 0
+IsLive test objects id = IsTrue (passes test (live_at objects id))
+
+-- an entity was found, and the fact holds of what it is
+abbrev pub IsLiveWhere : (EntityData → Type 0) → Option LiveEntity → Type 0
+IsLiveWhere P None = ⊥
+IsLiveWhere P (Some e) = P e.what
+
+-- its id is at least this number
+abbrev pub is_from : ℕ → LiveEntity → Bool
+is_from n e = nat_le n e.id.0
+
+-- the least live id of at least n
+pub record IsLeast (n : ℕ) (live : List LiveEntity) (id : Id) : Type 0 where
+  pub from : n ≤ id.0
+  pub least : All (λ e. n ≤ e.id.0 → id.0 ≤ e.id.0) live
+
+-- the id is that of the first live entity that passes the test, and none where no live entity passes it
+pub record IsFound (test : LiveEntity → Bool) (objects : Entities) (found : Option Id) : Type 0 where
+  pub id : found ≡ id_of (find test objects.live)
+  pub live : IfSome found (λ id. live_at objects id ≡ find test objects.live)
+  pub absent : IfNone found (find test objects.live ≡ None)
+
+-- the value of a label slot
+abbrev pub value_at : Entities → Id → ℕ → LabelValue
+value_at objects id slot = slice_index_or (label_at objects id) slot values.Unset
+
+-- where the given values aren't Unset, those of the label aren't either
+abbrev pub HasSlotsFor : List LabelValue → List LabelValue → Type 0
+HasSlotsFor label given =
+    (slot : ℕ) → slot < SLOTS → slice_index_or given slot values.Unset ≢ values.Unset → slice_index_or label slot values.Unset ≢ values.Unset

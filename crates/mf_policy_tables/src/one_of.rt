@@ -1,0 +1,88 @@
+//! Biba, MLS and mac_partition as one type, for a list of policies without boxes.
+use mf_biba::Biba;
+use mf_cred::Cred;
+use mf_errno::{Errno, Module, Priv};
+use mf_item::Item;
+use mf_mls::Mls;
+use mf_partition::Partition;
+use mf_policy::{Change, Changed, LoadFlags, Policy, Spec};
+use std::alloc::{AllocError, Global};
+
+/// One of the policies, without a box.
+#[derive(Drop)]
+pub enum OneOf {
+    Biba(Biba),
+    Mls(Mls),
+    Partition(Partition),
+}
+
+impl Policy for OneOf {
+    ghost use Rattle.mf_policy.specs.declared.spec.Spec.TheVariants as means;
+    ghost use Rattle.mf_policy_tables.specs.declared.one_of.OneOf.TheVariants as one;
+
+    ghost spec = { λ policy. elim policy [ one.Biba b ↦ means.Biba | one.Mls m ↦ means.Mls | one.Partition p ↦ means.Partition ] };
+
+    fn module(&self) -> Module {
+        match self {
+            OneOf::Biba(policy) => policy.module(),
+            OneOf::Mls(policy) => policy.module(),
+            OneOf::Partition(policy) => policy.module(),
+        }
+    }
+
+    fn flags(&self) -> LoadFlags {
+        match self {
+            OneOf::Biba(policy) => policy.flags(),
+            OneOf::Mls(policy) => policy.flags(),
+            OneOf::Partition(policy) => policy.flags(),
+        }
+    }
+
+    fn wants_slot(&self) -> bool {
+        match self {
+            OneOf::Biba(policy) => policy.wants_slot(),
+            OneOf::Mls(policy) => policy.wants_slot(),
+            OneOf::Partition(policy) => policy.wants_slot(),
+        }
+    }
+
+    fn same(&self, other: &Spec) -> bool {
+        match self {
+            OneOf::Biba(policy) => policy.same(other),
+            OneOf::Mls(policy) => policy.same(other),
+            OneOf::Partition(policy) => policy.same(other),
+        }
+    }
+
+    fn check(&self, slot: u8, item: &Item) -> Errno {
+        match self {
+            OneOf::Biba(policy) => policy.check(slot, item),
+            OneOf::Mls(policy) => policy.check(slot, item),
+            OneOf::Partition(policy) => policy.check(slot, item),
+        }
+    }
+
+    fn grant(&self, cred: &Cred, privilege: Priv) -> bool {
+        match self {
+            OneOf::Biba(policy) => policy.grant(cred, privilege),
+            OneOf::Mls(policy) => policy.grant(cred, privilege),
+            OneOf::Partition(policy) => policy.grant(cred, privilege),
+        }
+    }
+
+    fn change(&mut self, alloc: Global, change: &Change) -> Result<Changed, AllocError> {
+        match self {
+            OneOf::Biba(policy) => policy.change(alloc, change),
+            OneOf::Mls(policy) => policy.change(alloc, change),
+            OneOf::Partition(policy) => policy.change(alloc, change),
+        }
+    }
+
+    fn reset(&mut self) {
+        match self {
+            OneOf::Biba(policy) => policy.reset(),
+            OneOf::Mls(policy) => policy.reset(),
+            OneOf::Partition(policy) => policy.reset(),
+        }
+    }
+}

@@ -1,0 +1,141 @@
+//! Requests to change labels: which of them are claimed, and the labels after them.
+
+use mf_elem::{Comps, Elem, LabelValue, RangeLabel, SLOTS};
+use mf_errno::Module;
+use mf_item::Kind;
+use mf_labeltext::read_request;
+use mf_policy::{Registration, Spec, SpecList, relabelled};
+use std::alloc::{AllocError, Global};
+
+/// Lists Biba, which holds slot 0.
+fn biba_alone(alloc: Global) -> Result<SpecList, AllocError> {
+    let mut listed = SpecList::new(alloc);
+    let biba = Registration {
+        module: Module::Biba,
+        slot: Some(0),
+        fixed: true,
+    };
+    listed.list(biba, Spec::Biba)?;
+    Ok(listed)
+}
+
+/// Lists Biba, and mac_partition, which holds slot 1.
+fn biba_and_partition(alloc: Global) -> Result<SpecList, AllocError> {
+    let mut listed = biba_alone(alloc)?;
+    let partition = Registration {
+        module: Module::Partition,
+        slot: Some(1),
+        fixed: false,
+    };
+    listed.list(partition, Spec::Partition)?;
+    Ok(listed)
+}
+
+/// Texts for an entity of a kind, and whether Biba and mac_partition claim what they ask.
+const CLAIMS: &[(&str, Kind, bool)] = &[
+    ("biba/5(1-9),partition/7", Kind::Process, true),
+    ("partition/none", Kind::Process, true),
+    ("partition/7", Kind::Socket, false),
+    ("partition/none", Kind::Vnode, false),
+    ("biba/5(1-9)", Kind::Vnode, true),
+    ("biba/5", Kind::Pipe, true),
+    ("biba/5,mls/low", Kind::Process, false),
+    ("biba/5,lomac/low", Kind::Process, false),
+];
+
+/// Whether the listed policies claim what the text asks for an entity of that kind; None for what is no label text.
+fn claims(listed: &SpecList, text: &str, kind: Kind) -> Option<bool> {
+    match read_request(text) {
+        Ok(request) => Some(listed.claims(kind, &request)),
+        Err(_) => None,
+    }
+}
+
+#[test]
+fn claims_of_biba_and_partition(rt: HostRuntime) -> Result<(), AllocError> {
+    let listed = biba_and_partition(rt.alloc())?;
+    for (text, kind, claimed) in CLAIMS {
+        assert!(rt; claims(&listed, text, *kind) == Some(*claimed), "{text}");
+    }
+    Ok(())
+}
+
+#[test]
+fn an_unlisted_partition_is_not_claimed(rt: HostRuntime) -> Result<(), AllocError> {
+    let listed = biba_alone(rt.alloc())?;
+    assert!(rt; claims(&listed, "partition/none", Kind::Process) == Some(false));
+    assert!(rt; claims(&listed, "biba/5", Kind::Process) == Some(true));
+    Ok(())
+}
+
+fn grade(grade: u16) -> Elem {
+    Elem::Grade(grade, Comps::empty())
+}
+
+fn ranged(effective: u16, low: u16, high: u16) -> LabelValue {
+    LabelValue::Range(RangeLabel::ranged(grade(effective), grade(low), grade(high)))
+}
+
+/// A label with these values of Biba and of mac_partition, whose third slot nobody holds.
+fn labelled(biba: LabelValue, partition: LabelValue) -> [LabelValue; SLOTS] {
+    [biba, partition, LabelValue::Number(9), LabelValue::Unset]
+}
+
+/// Whether a label is so after what the text asks, where Biba and mac_partition are listed.
+fn becomes(
+    listed: &SpecList,
+    text: &str,
+    before: &[LabelValue; SLOTS],
+    after: &[LabelValue; SLOTS],
+) -> bool {
+    match read_request(text) {
+        Ok(request) => relabelled(listed, &request, before) == *after,
+        Err(_) => false,
+    }
+}
+
+#[test]
+fn what_is_not_asked_stays(rt: HostRuntime) -> Result<(), AllocError> {
+    let listed = biba_and_partition(rt.alloc())?;
+    let (biba, three) = (ranged(10, 5, 20), LabelValue::Number(3));
+    let rows: &[(&str, LabelValue, LabelValue)] = &[
+        ("biba/7", ranged(7, 5, 20), three),
+        ("biba/(6-18)", ranged(10, 6, 18), three),
+        (
+            "biba/7(6-18),partition/7",
+            ranged(7, 6, 18),
+            LabelValue::Number(7),
+        ),
+        ("partition/none", biba, three),
+        ("mls/7(6-18)", biba, three),
+    ];
+    for (text, of_biba, of_partition) in rows {
+        let after = labelled(*of_biba, *of_partition);
+        assert!(rt;
+            becomes(&listed, text, &labelled(biba, three), &after),
+            "{text}"
+        );
+    }
+    Ok(())
+}
+
+#[test]
+fn values_that_are_unset(rt: HostRuntime) -> Result<(), AllocError> {
+    let listed = biba_and_partition(rt.alloc())?;
+    let unset = LabelValue::Unset;
+    let seven = LabelValue::Range(RangeLabel::effective(grade(7)));
+    let rows: &[(&str, LabelValue, LabelValue)] = &[
+        ("partition/none", unset, unset),
+        ("partition/7", unset, LabelValue::Number(7)),
+        ("biba/7", seven, unset),
+        ("mls/7", unset, unset),
+    ];
+    for (text, of_biba, of_partition) in rows {
+        let after = labelled(*of_biba, *of_partition);
+        assert!(rt;
+            becomes(&listed, text, &labelled(unset, unset), &after),
+            "{text}"
+        );
+    }
+    Ok(())
+}

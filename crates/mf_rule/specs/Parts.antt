@@ -1,0 +1,14 @@
+-- The parts of a rule without tests, and the words of its text.
+use Rattle.std.specs.Prelude.{ℕ, false, List, None}
+use Rattle.mf_rule.specs.declared.rule.Side.{Side}
+use Rattle.mf_rule.specs.declared.rule.ObjectSide.{ObjectSide}
+
+abbrev pub Words : Type 0
+Words = List (List ℕ)
+
+-- no tests
+abbrev pub no_tests : Side
+no_tests = record { not = false; uid = None; gid = None }
+
+abbrev pub no_object_tests : ObjectSide
+no_object_tests = record { side = no_tests; suid = None; sgid = None; uid_of_subject = None; gid_of_subject = None; types = None }

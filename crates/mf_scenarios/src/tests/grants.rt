@@ -1,0 +1,141 @@
+//! Privileges that mac_priority grants, and a run in which it comes and goes.
+
+use crate::tests::gates::is_raised;
+use crate::tests::run_script;
+use crate::tests::tasks::replies_of;
+use crate::tests::transcript::{PLAIN, Rows, run_rows};
+use mf_io::{Gate, MemSink};
+use std::sync::Wait;
+use std::sync::atomic::{AtomicU64, Ordering};
+use std::test::Fail;
+use std::thread::Threads;
+
+const GRANTS: &[Rows] = &[
+    Rows {
+        name: "a realtime user",
+        before: "boot mac_priority\n",
+        task: "uid 1001 gid 1001,47 label -",
+        rows: &[
+            ("priv SCHED_RTPRIO", "ok"),
+            ("priv SCHED_IDPRIO", "no EPERM priv - 1"),
+            ("priv KLD_LOAD", "no EPERM priv - 1"),
+            ("fork c", "ok"),
+            ("@c priv SCHED_RTPRIO", "ok"),
+        ],
+        boots: "boot mac_priority -\n",
+        ..PLAIN
+    },
+    Rows {
+        name: "one grant is enough, whoever is listed beside",
+        before: "boot mac_partition\nboot mac_priority\nboot mac_bsdextended\n",
+        task: "uid 1001 gid 48 label partition/1",
+        rows: &[
+            ("priv SCHED_RTPRIO", "no EPERM priv - 1"),
+            ("priv SCHED_IDPRIO", "ok"),
+        ],
+        boots: "boot mac_partition 0\nboot mac_priority -\nboot mac_bsdextended -\n",
+        ..PLAIN
+    },
+    Rows {
+        name: "root has every privilege",
+        rows: &[
+            ("priv KLD_LOAD", "ok"),
+            ("priv KLD_UNLOAD", "ok"),
+            ("priv MAC_PARTITION", "ok"),
+            ("priv SCHED_RTPRIO", "ok"),
+            ("priv SCHED_IDPRIO", "ok"),
+        ],
+        ..PLAIN
+    },
+];
+
+#[test]
+fn grants(rt: HostRuntime) -> Result<(), Fail> {
+    for rows in GRANTS {
+        run_rows(&rt, rt.alloc(), rows)?;
+    }
+    Ok(())
+}
+
+/// A realtime user asks three times. Root loads the module after the first time, and unloads it after the second.
+const COMES_AND_GOES: &str = "boot mac_bsdextended
+task u uid 1001 gid 1001,47 label -
+priv SCHED_RTPRIO
+priv SCHED_RTPRIO
+priv SCHED_RTPRIO
+end
+task root uid 0 gid 0 label -
+kldstat
+kldload mac_priority
+kldstat
+kldunload mac_priority
+kldstat
+end
+";
+
+const REPLIES: &str = "done u 1 no EPERM priv - 1
+done u 2 ok
+done u 3 no EPERM priv - 1
+";
+
+/// The order of the two tasks. The changes don't call the gate: root's calls beside them do.
+#[derive(Drop)]
+struct Turns {
+    asked_once: AtomicU64,
+    loaded: AtomicU64,
+    asked_twice: AtomicU64,
+    unloaded: AtomicU64,
+    waits_that_ran_out: AtomicU64,
+}
+
+impl Turns {
+    fn new() -> Turns {
+        Turns {
+            asked_once: AtomicU64::new(0),
+            loaded: AtomicU64::new(0),
+            asked_twice: AtomicU64::new(0),
+            unloaded: AtomicU64::new(0),
+            waits_that_ran_out: AtomicU64::new(0),
+        }
+    }
+
+    fn await_flag(&self, flag: &AtomicU64) {
+        if !is_raised(flag) {
+            self.waits_that_ran_out.fetch_add(1, Ordering::SeqCst);
+        }
+    }
+
+    /// Raises the one flag, and waits for the other.
+    fn meet(&self, raised: &AtomicU64, awaited: &AtomicU64) {
+        raised.store(1, Ordering::SeqCst);
+        self.await_flag(awaited);
+    }
+}
+
+impl Gate for Turns {
+    fn between<R: Threads + Wait + Sync>(&self, _rt: &R, _task: u32, _line: u32) {}
+
+    fn after<R: Threads + Wait + Sync>(&self, _rt: &R, task: u32, line: u32) {
+        match (task, line) {
+            (0, 1) => self.meet(&self.asked_once, &self.loaded),
+            (0, 2) => self.meet(&self.asked_twice, &self.unloaded),
+            (1, 1) => self.await_flag(&self.asked_once),
+            (1, 3) => self.meet(&self.loaded, &self.asked_twice),
+            (1, 5) => self.unloaded.store(1, Ordering::SeqCst),
+            _ => {}
+        }
+    }
+}
+
+#[test]
+fn a_grant_comes_and_goes_with_its_module(rt: HostRuntime) -> Result<(), Fail> {
+    let alloc = rt.alloc();
+    let turns = Turns::new();
+    let mut sink = MemSink::new(alloc, 10_000, 10_000, Vec::new(alloc))?;
+    let status = run_script(&rt, alloc, COMES_AND_GOES, &mut sink, &turns)?;
+    assert_eq!(rt; status, 0);
+    assert_eq!(rt; turns.waits_that_ran_out.load(Ordering::SeqCst), 0);
+    let text = String::from_utf8_lossy(alloc, sink.taken())?;
+    assert_eq!(rt; replies_of(alloc, text.as_str(), "u")?.as_str(), REPLIES);
+    Ok(())
+}

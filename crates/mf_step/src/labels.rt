@@ -1,0 +1,75 @@
+//! Labels as calls show them.
+ghost use Rattle.std.specs.Prelude.{◌≡◌, ◌<◌, ◌≤◌, ◌+◌, ◌∷◌, ◌++◌, [], length, slice_index_or};
+ghost use Rattle.mf_elem.specs.declared.label.LabelValue.TheVariants.{Unset};
+ghost use Rattle.mf_step.specs.Reply as spec;
+
+use mf_cred::ArrayVec;
+use mf_elem::{LabelValue, SLOTS};
+use mf_errno::Module;
+use mf_item::Kind;
+use mf_plan::LabelPart;
+use mf_policy::{SpecList, labels_kind};
+
+/// The parts of the label of an entity of that kind: one for each listed policy that labels the kind.
+pub(crate) fn label_parts(
+    specs: &SpecList,
+    kind: Kind,
+    label: &[LabelValue; SLOTS],
+) -> ArrayVec<LabelPart, SLOTS>
+    ensures { result ≡ spec.label_parts specs.now kind label.now }
+{
+    // No other module labels anything.
+    let mut parts = ArrayVec::new();
+    push_part(specs, kind, label, Module::Biba, &mut parts);
+    push_part(specs, kind, label, Module::Mls, &mut parts);
+    push_part(specs, kind, label, Module::Partition, &mut parts);
+    parts
+}
+
+/// Adds the module's part, where it is listed and labels the kind.
+fn push_part(
+    specs: &SpecList,
+    kind: Kind,
+    label: &[LabelValue; SLOTS],
+    module: Module,
+    parts: &mut ArrayVec<LabelPart, SLOTS>,
+)
+    requires { length parts.old < SLOTS }
+    ensures parts { parts.new ≡ parts.old ++ spec.label_parts_of specs.now kind label.now («module» ∷ []) }
+    ensures few { length parts.new ≤ length parts.old + 1 }
+{
+    if !labels_kind(module, kind) {
+        return;
+    }
+    if let Some(part) = label_part(specs, label, module) {
+        parts.push(part);
+    }
+}
+
+fn label_part(specs: &SpecList, label: &[LabelValue; SLOTS], module: Module) -> Option<LabelPart>
+    ensures { result ≡ spec.label_part specs.now label.now «module» }
+{
+    let place = specs.find(module)?;
+    let slot = specs.registration(place).slot.unwrap_or(0);
+    let value = shown(value_in(label, slot));
+    Some(LabelPart { module, value })
+}
+
+fn value_in(label: &[LabelValue; SLOTS], slot: u8) -> LabelValue
+    ensures { result ≡ slice_index_or label.now slot Unset }
+{
+    match label.get(slot as usize) {
+        Some(value) => *value,
+        None => LabelValue::Unset,
+    }
+}
+
+/// The value as it is shown: an unset slot, of a policy that was loaded after the entity came, counts as no partition.
+fn shown(value: LabelValue) -> LabelValue
+    ensures { result ≡ spec.shown value }
+{
+    match value {
+        LabelValue::Unset => LabelValue::Number(0),
+        LabelValue::Range(_) | LabelValue::Number(_) => value,
+    }
+}
