@@ -1,5 +1,5 @@
-//! Runs the script on the standard input, or a generated load, and prints the history and its sources, or the summary, on the
-//! standard output.
+//! Runs the script on the standard input, by threads or by its steps, or a generated load, and prints the history and its
+//! sources, or the summary, on the standard output.
 #![tactic(auto)]
 
 use mf_biba::Biba;

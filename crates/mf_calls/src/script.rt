@@ -28,6 +28,8 @@ pub enum Call {
     Priv(Priv),
     /// Shows the label of the process itself, as getpmac(8) does.
     Getpmac,
+    /// Gives the process itself what the label text says, as mac_set_proc(3) does; setpmac(8) runs a command besides.
+    Setpmac(Word),
     /// Asks whether the file may be executed. Nothing is run.
     Exec(Path),
     /// Makes an empty regular file.
@@ -42,6 +44,8 @@ pub enum Call {
     Stat(Path),
     /// Shows the label of the file or directory, as getfmac(8) does.
     Getfmac(Path),
+    /// Gives the file or directory what the label text says, as setfmac(8) does.
+    Setfmac(Word, Path),
     /// Lists the directory.
     Readdir(Path),
     /// Gives the file or directory these mode bits.
@@ -58,12 +62,16 @@ pub enum Call {
     Pwrite(Name, Bytes<SCRIPT_LIMIT>),
     /// Reads how many bytes the pipe holds.
     Pstat(Name),
+    /// Gives the pipe what the label text says, as mac_set_fd(3) does.
+    Setpipemac(Word, Name),
     /// Sends the bytes as one message from the first socket to the second.
     Send(Name, Name, Bytes<SCRIPT_LIMIT>),
     /// Receives the oldest message of the socket.
     Recv(Name),
     /// Asks whether the socket is visible.
     Seesock(Name),
+    /// Gives the socket what the label text says, as mac_set_fd(3) does.
+    Setsockmac(Word, Name),
     /// Lists the loaded modules, as kldstat(8) does.
     Kldstat,
     /// Loads the module of that name, as kldload(8) does.

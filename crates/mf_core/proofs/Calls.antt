@@ -24,7 +24,8 @@ use Rattle.mf_step.specs.Verdict.{verdict_of}
 use Rattle.mf_core.specs.declared.history.History.{History}
 use Rattle.mf_core.specs.declared.progress.Turn.TheVariants as turns
 use Rattle.mf_core.specs.LegalHistory.{RunState, next_line, next_reply, next_state, reply_at, state_at, turn_of}
-use Rattle.mf_core.specs.Next.{found_at, next_found, next_plan, plan_at}
+use Rattle.mf_core.specs.NextFound.{found_at, next_found}
+use Rattle.mf_core.specs.Next.{next_plan, plan_at}
 use Rattle.mf_core.specs.Consistency.{IsConsistent}
 use Rattle.mf_core.proofs.Consistency.{change_line, entered_line}
 use Rattle.mf_core.proofs.SameLists.{Keeps, change_can, change_effect, change_keeps, done_do, entry_keeps, refused_only}

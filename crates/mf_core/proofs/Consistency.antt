@@ -22,7 +22,7 @@ use Rattle.mf_core.specs.Log.{Log}
 use Rattle.mf_core.specs.Opening.{boots_of}
 use Rattle.mf_core.specs.Progress.{progress_at, first_progress, left, left_at}
 use Rattle.mf_core.specs.LegalHistory.{RunState, MayCome, AllMayCome, after, run_state_of, opening, turn_at_line, turn_in, turn_of, next_line}
-use Rattle.mf_core.specs.Next.{with_event}
+use Rattle.mf_core.specs.WithEvent.{with_event}
 use Rattle.mf_core.specs.Consistency.{IsAtEntry, IsConsistent, HasLine, events_left, events_by}
 use Rattle.mf_core.proofs.Laws.{AllMayCome-append, run_state_after-append, progress_at-first, line_at_entry, line_at_change}
 

@@ -11,7 +11,9 @@ use Rattle.mf_core.specs.Log.{Log}
 use Rattle.mf_core.specs.Progress.{progress_at, first_progress}
 use Rattle.mf_core.specs.Advances.{Advances}
 use Rattle.mf_core.specs.LegalHistory.{RunState, MayCome, after, next_line, opening, turn_of}
-use Rattle.mf_core.specs.Next.{with_event, next_found, next_plan}
+use Rattle.mf_core.specs.WithEvent.{with_event}
+use Rattle.mf_core.specs.NextFound.{next_found}
+use Rattle.mf_core.specs.Next.{next_plan}
 use Rattle.mf_core.specs.Consistency.{IsConsistent}
 use Rattle.mf_core.specs.RunView.{RunView}
 use Rattle.mf_core.specs.CoreView.{CoreView, progress_of, run_state, specs_of, turn_at}

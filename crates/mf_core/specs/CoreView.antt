@@ -19,7 +19,8 @@ use Rattle.mf_core.specs.declared.history.History.{History}
 use Rattle.mf_core.specs.Progress.{progress_at, open_entries}
 use Rattle.mf_core.specs.Advances.{lines_done, Advances}
 use Rattle.mf_core.specs.LegalHistory.{RunState, run_state_of, turn_of, next_reply, next_number}
-use Rattle.mf_core.specs.Next.{next_plan, with_event}
+use Rattle.mf_core.specs.Next.{next_plan}
+use Rattle.mf_core.specs.WithEvent.{with_event}
 
 -- a script, and the history of its run so far
 pub record CoreView : Type 0 where

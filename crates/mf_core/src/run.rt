@@ -15,7 +15,8 @@ ghost use Rattle.mf_step.specs.Verdict.{verdict_of};
 ghost use Rattle.mf_core.specs.declared.history.Event.TheVariants as event;
 ghost use Rattle.mf_core.specs.declared.progress.Turn.TheVariants as turn;
 ghost use Rattle.mf_core.specs.LegalHistory.{after, next_line, next_reply, opening, turn_of, MayCome};
-ghost use Rattle.mf_core.specs.Next.{next_found, next_plan};
+ghost use Rattle.mf_core.specs.NextFound.{next_found};
+ghost use Rattle.mf_core.specs.Next.{next_plan};
 ghost use Rattle.mf_core.specs.Opening.{booted_specs, given_by};
 ghost use Rattle.mf_core.specs.Progress.{open_entries, progress_at};
 

@@ -4,12 +4,12 @@ use Rattle.std.specs.Prelude.{find, Contains}
 use Rattle.std.proofs.lemmas.Bool.Decides.{nat_tests}
 use Rattle.mf_errno.specs.Same.{same_module}
 use Rattle.mf_errno.specs.declared.module.Module.{Module}
-use Rattle.mf_errno.specs.declared.module.Module.TheVariants.{Biba, Mls, Partition, Bsdextended, Priority}
 use Rattle.mf_errno.proofs.Modules.{same_module-is}
 use Rattle.mf_elem.specs.declared.elem.Elem.{Elem}
 use Rattle.mf_elem.specs.declared.label.TheConstants.{SLOTS}
 use Rattle.mf_elem.specs.Label.{is_equal}
 use Rattle.mf_policy.specs.declared.registration.Registration.{Registration}
+use Rattle.mf_policy.specs.Answer.{LatticePolicy}
 use Rattle.mf_list.specs.Asked.{slot_of}
 use Rattle.mf_objects.specs.declared.id.Id.{Id}
 use Rattle.mf_objects.specs.Live.{LiveEntity, Entities, has_id, id_of, live_at}
@@ -18,18 +18,15 @@ use Rattle.mf_objects.specs.Population.{IsRising}
 use Rattle.mf_objects.specs.Titles.{title_at}
 use Rattle.mf_objects.proofs.Rising.{id_differs}
 use Rattle.mf_calls.specs.declared.script.Script.{Script}
-use Rattle.mf_calls.specs.WellFormed.{IsWellFormed}
 use Rattle.mf_core.specs.declared.history.History.{History}
-use Rattle.mf_core.specs.LegalHistory.{IsLegal}
 use Rattle.mf_objects.proofs.Finding.{find_given}
 use Rattle.mf_flow.specs.declared.table.Row.{Row}
 use Rattle.mf_flow.specs.Order.{union}
 use Rattle.mf_flow.specs.Rows.{AreOwnRows, AreRows, IsBooted, Rows, row, element_of, new_row}
 use Rattle.mf_flow.specs.Sources.{Sets, alone, held_by}
 use Rattle.mf_flow.specs.Table.{booted_as, row_of, rows_in}
-use Rattle.mf_flow.specs.HasSources.{HasSources}
 use Rattle.mf_flow.proofs.RowsKept.{first_from, former_row, last_row}
-use Rattle.mf_flow.proofs.Dominating.{biba_booted, mls_booted}
+use Rattle.mf_flow.proofs.Dominating.{AreBootedFor}
 
 -- Own elements
 
@@ -263,33 +260,23 @@ all_sources m o rows before table from n sets rising so_far all are =
 -- The policies that were booted
 
 -- the slot of a policy that was booted
-boot_within : (s : Script) (h : History) (r : Registration) → IsWellFormed s → IsLegal s h → Contains h.boots r → HasSources r.module → slot_of r < SLOTS
-boot_within s h r formed legal booted has = one r.module refl has
-  where
-    one : (m : Module) → r.module ≡ m → HasSources m → slot_of r < SLOTS
-    one Biba of has = (biba_booted s h r formed legal booted of).of.within
-    one Mls of has = (mls_booted s h r formed legal booted of).of.within
-    one Partition of has = absurd has
-    one Bsdextended of has = absurd has
-    one Priority of has = absurd has
-
-pub slot_within : (s : Script) (h : History) (r : Option Registration) → IsWellFormed s → IsLegal s h → IfSome r (IsBooted h) → IfSome r (λ x. slot_of x < SLOTS)
-slot_within s h None formed legal booted = tt
-slot_within s h (Some r) formed legal booted = boot_within s h r formed legal booted.0 booted.1
+pub slot_within : (p : LatticePolicy) (m : Module) (s : Script) (h : History) (r : Option Registration) → AreBootedFor p m s h → IfSome r (IsBooted m h) → IfSome r (λ x. slot_of x < SLOTS)
+slot_within p m s h None all booted = tt
+slot_within p m s h (Some r) all booted = (all r booted).of.within
 
 -- the registration that is found was made at boot, and is the module's
-found_booted : (m : Module) (boots : List Registration) (r : Registration) → HasSources m → Some r ≡ booted_as boots m → Contains boots r × HasSources r.module
-found_booted m [] r has found = cc
-found_booted m (x ∷ boots) r has found = one (same_module m x.module) refl found (found_booted m boots r has)
+found_booted : (m : Module) (boots : List Registration) (r : Registration) → Some r ≡ booted_as boots m → Contains boots r × (r.module ≡ m)
+found_booted m [] r found = cc
+found_booted m (x ∷ boots) r found = one (same_module m x.module) refl found (found_booted m boots r)
   where
-    one : (b : Bool) → same_module m x.module ≡ b → Some r ≡ cond b (Some x) (booted_as boots m) → (Some r ≡ booted_as boots m → Contains boots r × HasSources r.module)
-        → Contains (x ∷ boots) r × HasSources r.module
+    one : (b : Bool) → same_module m x.module ≡ b → Some r ≡ cond b (Some x) (booted_as boots m) → (Some r ≡ booted_as boots m → Contains boots r × (r.module ≡ m))
+        → Contains (x ∷ boots) r × (r.module ≡ m)
     one true hit here rest =
         let same : x ≡ r = cc in
         let of : m ≡ r.module = same_module-is m x.module hit ∙ ap (λ (q : Registration). q.module) same in
-        ((0, omega arith, same), subst HasSources of has)
+        ((0, omega arith, same), sym of)
     one false miss later rest = let found = rest later in ((suc found.0.0, omega (arith, found.0.1), found.0.2), found.1)
 
-pub all_booted : (m : Module) (h : History) (found : Option Registration) → HasSources m → found ≡ booted_as h.boots m → IfSome found (IsBooted h)
-all_booted m h None has is = tt
-all_booted m h (Some r) has is = found_booted m h.boots r has is
+pub all_booted : (m : Module) (h : History) (found : Option Registration) → found ≡ booted_as h.boots m → IfSome found (IsBooted m h)
+all_booted m h None is = tt
+all_booted m h (Some r) is = found_booted m h.boots r is

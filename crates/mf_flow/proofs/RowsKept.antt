@@ -1,5 +1,5 @@
 -- The rows that are kept are the sources of the live entities.
-use Rattle.std.proofs.Common.{◌≡◌, ◌≢◌, ℕ, ◌<◌, ◌≤◌, ◌+◌, zero, suc, Bool, true, false, cond, nat_eq, nat_le, nat_lt, List, [], ◌∷◌, ◌++◌, length, set, Option, Some, None, slice_index_or, refl, ap, sym, ◌∙◌, subst, arith, length-set, length-append, get_or-set_same, get_or-set_other}
+use Rattle.std.proofs.Common.{◌≡◌, ◌≢◌, ℕ, ◌<◌, ◌≤◌, ◌+◌, zero, suc, Bool, true, false, cond, nat_eq, nat_le, List, [], ◌∷◌, ◌++◌, length, set, Option, Some, None, slice_index_or, refl, ap, sym, ◌∙◌, subst, arith, length-set, get_or-set_same, get_or-set_other}
 use Rattle.std.specs.Prelude.{find, fold}
 use Rattle.std.specs.List.{AllByRecursion}
 use Rattle.std.proofs.lemmas.Bool.Decides.{nat_tests}
@@ -23,20 +23,16 @@ use Rattle.mf_objects.specs.Lives.{is_from}
 use Rattle.mf_objects.specs.Live.{label_of as values_of}
 use Rattle.mf_objects.specs.Population.{IsRising}
 use Rattle.mf_objects.proofs.Rising.{id_is}
-use Rattle.mf_plan.specs.declared.state.State.{State}
 use Rattle.mf_objects.proofs.Finding.{find_before, find_given}
-use Rattle.mf_step.proofs.EntityChange.{EntityChange, ChangesEntities}
-use Rattle.mf_step.proofs.EntityChange.EntityChange.{absent, stays, comes, goes}
-use Rattle.mf_step.proofs.StateChange.{StateChange}
-use Rattle.mf_step.proofs.StateChange.StateChange.{same as still, created, changed, removed, loaded, unloaded, set_to}
 use Rattle.mf_flow.specs.Order.{union}
-use Rattle.mf_flow.specs.Rows.{AreKept, AreRows, Rows, row, element_of, element_at as row_element, may_come, joined, received as row_received, rows_between, rows_with, rows_moved, new_row, maker_row, rows_created}
-use Rattle.mf_flow.specs.Sources.{Sets, element_in, element_at, held_by, alone, is_id, received, moved, moved_with, moved_by, moved_by_all, set_after, set_of, sets_across}
+use Rattle.mf_flow.specs.Rows.{AreKept, AreRows, Rows, row, element_of, element_at as row_element, may_come, joined, received as row_received, rows_between, rows_with, rows_moved}
+use Rattle.mf_flow.specs.Sources.{Sets, element_in, element_at, held_by, is_id, received, moved, moved_with, moved_by, moved_by_all}
 use Rattle.mf_flow.proofs.Orders.{IsFlowPolicy}
 use Rattle.mf_flow.proofs.Bounds.{Fit, FitBy, AllowedBy, allows}
 use Rattle.mf_flow.proofs.Placing.{union_nothing}
 use Rattle.mf_flow.proofs.Copies.{IsSubject, IsObject, IsCopied}
-use Rattle.mf_flow.proofs.Flowing.{AllFit, HasElement, same_id, received_all, item_fit}
+use Rattle.mf_flow.proofs.Elements.{HasElement}
+use Rattle.mf_flow.proofs.Flowing.{AllFit, same_id, received_all, item_fit}
 
 -- each live entity has an element
 abbrev pub AllLabelled : Registration → Entities → Type 0
@@ -132,17 +128,7 @@ module _ (p : LatticePolicy) (flows : IsFlowPolicy p) (r : Registration) (o : En
       items_rows (moved_by r o sets item) (rows_moved (slot_of r) o rows item) items success.1 copied.1
       (item_fit p flows r o sets item success.0 copied.0 fit) (item_rows sets rows item success.0 copied.0 fit are)
 
--- Entities that come and go
-
--- a step gives at most one id
-pub change_next : (by : Option Id) (s s' : State) → StateChange by s s' → s'.objects.next ≤ s.objects.next + 1
-change_next by s s' (still is) = omega (arith, ap (λ (x : State). x.objects.next) is)
-change_next by s s' (created from maker name what own live is) = omega (arith, ap (λ (x : State). x.objects.next) is)
-change_next by s s' (changed change id is) = omega (arith, ap (λ (x : State). x.objects.next) is)
-change_next by s s' (removed gone is) = omega (arith, ap (λ (x : State). x.objects.next) is)
-change_next by s s' (loaded m none is) = omega (arith, ap (λ (x : State). x.objects.next) is)
-change_next by s s' (unloaded m ok is) = omega (arith, ap (λ (x : State). x.objects.next) is)
-change_next by s s' (set_to m change is) = omega (arith, ap (λ (x : State). x.objects.next) is)
+-- The first from a number on
 
 from_test : (n m : ℕ) → n ≤ m → nat_le n m ≡ true
 from_test n m l = grind (arith, nat_tests)
@@ -244,52 +230,3 @@ pub former_row : (rows : Rows) (new : List Elem) (n : ℕ) → n < length rows �
 former_row [] new n within = absurd (omega arith)
 former_row (x ∷ rows) new zero within = refl
 former_row (x ∷ rows) new (suc n) within = former_row rows new n (omega arith)
-
-module _ (r : Registration) (by : Option Id) (s s' : State) (rising : IsRising 0 s.objects.next s.objects.live) (step : ChangesEntities by s s') (at_most : s'.objects.next ≤ s.objects.next + 1)
-    (relabelled : Id → Bool) (not_relabelled : (id : Id) → relabelled id ≡ false) (sets : Sets) (rows : Rows) (are : AreRows s.objects sets rows) where
-  maker_is : (from : Id) (maker : LiveEntity) → by ≡ Some from → live_at s.objects from ≡ Some maker → maker_row rows by ≡ set_of by sets
-  maker_is from maker made live =
-      subst (λ (x : Option Id). maker_row rows x ≡ set_of x sets) (sym made) (are.each from maker live)
-
-  abbrev new : List Elem
-  new = new_row (slot_of r) (find (is_from s.objects.next) s'.objects.live) (maker_row rows by)
-
-  -- the row of an entity that is live after the step
-  kept_row : (id : Id) (found found' : Option LiveEntity) (e : LiveEntity) → live_at s.objects id ≡ found → live_at s'.objects id ≡ found' → EntityChange by s id found found' → found' ≡ Some e
-      → (b : Bool) → nat_lt s.objects.next s'.objects.next ≡ b
-      → row (cond b (rows ++ new ∷ []) rows) id.0 ≡ set_after r found found' (relabelled id) (sets id) (set_of by sets)
-  kept_row id _ _ e was is absent now b more = cc
-  kept_row id _ _ e was is (stays old next label) now true more =
-      rw (not_relabelled id) (former_row rows new id.0 (omega (arith, are.count, find_given id old 0 s.objects.next s.objects.live was rising)) ∙ are.each id old was)
-  kept_row id _ _ e was is (stays old next label) now false more = rw (not_relabelled id) (are.each id old was)
-  kept_row id _ _ e was is (comes next maker from made number live label) now false more =
-      let given : id.0 < s'.objects.next = find_given id next 0 s'.objects.next s'.objects.live is step.rising in
-      let none : s'.objects.next ≤ s.objects.next = not_less s.objects.next s'.objects.next more in
-      absurd (omega arith)
-    where
-      not_less : (a b : ℕ) → nat_lt a b ≡ false → b ≤ a
-      not_less a b test = grind (arith, nat_tests)
-  kept_row id _ _ e was is (comes next maker from made number live label) now true more =
-      let first : find (is_from id.0) s'.objects.live ≡ Some next = first_from id next 0 s'.objects.next s'.objects.live step.rising is in
-      let found : find (is_from s.objects.next) s'.objects.live ≡ Some next = subst (λ (n : ℕ). find (is_from n) s'.objects.live ≡ Some next) number first in
-      let place : id.0 ≡ length rows = number ∙ sym are.count in
-      ap (row (rows ++ new ∷ [])) place ∙ last_row rows new
-      ∙ ap (λ (x : Option LiveEntity). new_row (slot_of r) x (maker_row rows by)) found
-      ∙ ap (λ (xs : List Elem). held_by (element_in r next.label) (union (alone (element_in r next.label)) xs)) (maker_is from maker made live)
-  kept_row id _ _ e was is (goes old given) now b more = cc
-
-  created_count : (b : Bool) → nat_lt s.objects.next s'.objects.next ≡ b → length (cond b (rows ++ new ∷ []) rows) ≡ s'.objects.next
-  created_count true more =
-      let less : s.objects.next < s'.objects.next = grind (arith, nat_tests) in
-      omega (arith, are.count, length-append rows (new ∷ []), at_most)
-  created_count false more =
-      let none : s'.objects.next ≤ s.objects.next = grind (arith, nat_tests) in
-      omega (arith, are.count, step.next)
-
-  -- the rows after a call
-  pub created_rows : AreRows s'.objects (sets_across r s s' by relabelled sets) (rows_created (slot_of r) s.objects.next s'.objects by rows)
-  created_rows =
-      record {
-        count = created_count (nat_lt s.objects.next s'.objects.next) refl;
-        each = λ id e live. kept_row id (live_at s.objects id) (live_at s'.objects id) e refl refl (step.each id) live (nat_lt s.objects.next s'.objects.next) refl;
-      }

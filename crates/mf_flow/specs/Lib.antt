@@ -1,5 +1,4 @@
 pub mod Dominated
-pub mod HasSources
 pub mod Laws
 pub mod Movement
 pub mod Numbers

@@ -1,9 +1,12 @@
 -- The sources as a list by the numbers of ids, as they are kept while a history is gone through.
 use Rattle.std.specs.Prelude.{◌≡◌, ◌<◌, Contains, IfSome, ℕ, Bool, false, not, nat_lt, List, [], ◌∷◌, ◌++◌, Option, Some, None, find, fold, length, slice_index_or, slice_set, if◌then◌else◌}
+use Rattle.mf_errno.specs.declared.module.Module.{Module}
+use Rattle.mf_errno.specs.declared.module.Module.TheVariants.{Biba, Mls}
 use Rattle.mf_elem.specs.declared.elem.Elem.{Elem}
 use Rattle.mf_elem.specs.declared.label.TheConstants.{SLOTS}
 use Rattle.mf_elem.specs.declared.label.LabelValue.{LabelValue}
 use Rattle.mf_elem.specs.declared.label.LabelValue.TheVariants.{Unset}
+use Rattle.mf_elem.specs.declared.label.Request.{Request}
 use Rattle.mf_elem.specs.Label.{is_equal}
 use Rattle.mf_item.specs.Item.{Item}
 use Rattle.mf_item.specs.declared.view.ObjectView.{ObjectView}
@@ -24,14 +27,15 @@ use Rattle.mf_plan.specs.declared.reply.Reply.{Reply}
 use Rattle.mf_plan.specs.declared.state.State.{State}
 use Rattle.mf_plan.specs.Outline.{item_of}
 use Rattle.mf_plan.specs.Plan.{plan_of}
+use Rattle.mf_plan.specs.Relabels.{relabel_of}
+use Rattle.mf_step.specs.Step.{after_reply}
 use Rattle.mf_core.specs.declared.history.Event.{Event}
 use Rattle.mf_core.specs.declared.history.Event.TheVariants as event
 use Rattle.mf_core.specs.declared.history.History.{History}
 use Rattle.mf_core.specs.LegalHistory.{RunState, next_line, after, run_state_of}
 use Rattle.mf_flow.specs.Order.{union}
 use Rattle.mf_flow.specs.Movement.{passed}
-use Rattle.mf_flow.specs.Sources.{Sets, alone, held_by, caller_of, sources_of}
-use Rattle.mf_flow.specs.HasSources.{HasSources}
+use Rattle.mf_flow.specs.Sources.{Sets, alone, held_by, has_element, caller_of, sources_of}
 use Rattle.mf_flow.specs.declared.following.Flow.{Flow}
 use Rattle.mf_flow.specs.declared.following.Flows.{Flows}
 
@@ -100,16 +104,27 @@ abbrev pub rows_created : ℕ → ℕ → Entities → Option Id → Rows → Ro
 rows_created slot next objects caller rows =
     if nat_lt next objects.next then rows ++ new_row slot (find (is_from next) objects.live) (maker_row rows caller) ∷ [] else rows
 
-abbrev pub rows_after_line : ℕ → State → State → List ℕ → Option Line → Reply → Rows → Rows
-rows_after_line slot s s' task None reply rows = rows
-rows_after_line slot s s' task (Some line) reply rows =
-    rows_created slot s.objects.next s'.objects (caller_of s task line)
-    (fold (rows_moved slot s.objects) rows (passed reply (plan_of s task line.child line.call).items))
+-- the rows after a relabel, where one is asked for and was made: the entity has its new element alone, where the policy's part gives it one
+abbrev pub rows_given : ℕ → Module → Entities → Option (Id × Request) → Rows → Rows
+rows_given slot m objects None rows = rows
+rows_given slot m objects (Some asked) rows =
+    if has_element m asked.1 then slice_set rows asked.0.0 (alone (element_at slot objects asked.0.0)) else rows
 
-abbrev pub rows_after_event : Script → ℕ → RunState → Event → Rows → Rows
-rows_after_event s slot run (event.Done t line reply) rows =
-    rows_after_line slot run.state (after s run (event.Done t line reply)).state (name_of s t) (next_line s run.progress t) reply rows
-rows_after_event s slot run other rows = rows
+-- what a call with that reply asks of whose label; one that isn't done asks nothing
+abbrev pub asked_of : State → List ℕ → Line → Reply → Option (Id × Request)
+asked_of s task line reply = after_reply reply None (relabel_of s (caller_of s task line) line.call)
+
+abbrev pub rows_after_line : ℕ → Module → State → State → List ℕ → Option Line → Reply → Rows → Rows
+rows_after_line slot m s s' task None reply rows = rows
+rows_after_line slot m s s' task (Some line) reply rows =
+    rows_given slot m s'.objects (asked_of s task line reply)
+    (rows_created slot s.objects.next s'.objects (caller_of s task line)
+    (fold (rows_moved slot s.objects) rows (passed reply (plan_of s task line.child line.call).items)))
+
+abbrev pub rows_after_event : Script → ℕ → Module → RunState → Event → Rows → Rows
+rows_after_event s slot m run (event.Done t line reply) rows =
+    rows_after_line slot m run.state (after s run (event.Done t line reply)).state (name_of s t) (next_line s run.progress t) reply rows
+rows_after_event s slot m run other rows = rows
 
 -- Both policies
 
@@ -126,6 +141,10 @@ abbrev pub flow_created : ℕ → Entities → Option Id → Option Flow → Opt
 flow_created next objects caller None = None
 flow_created next objects caller (Some f) = Some (record f { sets = rows_created f.slot next objects caller f.sets })
 
+abbrev pub flow_given : Module → Entities → Option (Id × Request) → Option Flow → Option Flow
+flow_given m objects asked None = None
+flow_given m objects asked (Some f) = Some (record f { sets = rows_given f.slot m objects asked f.sets })
+
 -- each policy has a label slot
 pub record HaveSlots (flows : Flows) : Type 0 where
   pub biba : IfSome flows.biba (λ f. f.slot < SLOTS)
@@ -137,10 +156,14 @@ flows_moved objects items flows = record { biba = flow_moved objects items flows
 unfoldable pub flows_created : ℕ → Entities → Option Id → Flows → Flows
 flows_created next objects caller flows = record { biba = flow_created next objects caller flows.biba; mls = flow_created next objects caller flows.mls }
 
+unfoldable pub flows_given : Entities → Option (Id × Request) → Flows → Flows
+flows_given objects asked flows = record { biba = flow_given Biba objects asked flows.biba; mls = flow_given Mls objects asked flows.mls }
+
 abbrev pub flows_after_line : State → State → List ℕ → Option Line → Reply → Flows → Flows
 flows_after_line s s' task None reply flows = flows
 flows_after_line s s' task (Some line) reply flows =
-    flows_created s.objects.next s'.objects (caller_of s task line) (flows_moved s.objects (passed reply (plan_of s task line.child line.call).items) flows)
+    flows_given s'.objects (asked_of s task line reply)
+    (flows_created s.objects.next s'.objects (caller_of s task line) (flows_moved s.objects (passed reply (plan_of s task line.child line.call).items) flows))
 
 -- the sources by both policies after the event
 abbrev pub flows_after_event : Script → RunState → Event → Flows → Flows
@@ -176,6 +199,6 @@ IsOpening o r f = (f.slot ≡ slot_of r) × AreOwnRows (slot_of r) o f.sets
 abbrev pub IsFlowOf : Script → History → Registration → Flow → Type 0
 IsFlowOf s h r f = AreRows (run_state_of s h.events.list).state.objects (sources_of s r h.events.list) f.sets
 
--- it was booted, and is one of the policies that have sources
-abbrev pub IsBooted : History → Registration → Type 0
-IsBooted h r = Contains h.boots r × HasSources r.module
+-- it was booted, and is the module's
+abbrev pub IsBooted : Module → History → Registration → Type 0
+IsBooted m h r = Contains h.boots r × (r.module ≡ m)

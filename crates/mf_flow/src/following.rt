@@ -11,10 +11,12 @@ ghost use Rattle.mf_flow.specs.Sources.{alone, held_by};
 
 use crate::elem_set::ElemSet;
 use crate::moving::{move_all, passed};
+use crate::relabelling::{asked_of, give};
 use crate::set_list::SetList;
 use mf_calls::Script;
 use mf_core::{Event, Run};
-use mf_elem::Elem;
+use mf_elem::{Elem, Request};
+use mf_errno::Module;
 use mf_objects::{Id, Objects};
 use mf_plan::{Check, outline_of};
 use mf_policy::slot_label;
@@ -57,18 +59,15 @@ pub fn follow(
             let state = run.state();
             let next = state.objects.next_id();
             let outline = outline_of(state, name, line.child_name(), &line.call);
-            let said = reply.lend();
-            let checks = passed(said.get(), outline.checks.as_slice());
+            let lent = reply.lend();
+            let said = lent.get();
+            let checks = passed(said, outline.checks.as_slice());
             move_in_both(alloc, &state.objects, checks, flows)?;
+            let asked = asked_of(said, &outline);
             run.commit(alloc, *task, *number, outline.found, reply)?;
-            create_in_both(
-                alloc,
-                next,
-                &run.state().objects,
-                outline.found.caller,
-                flows,
-            )?;
-            Ok(())
+            let objects = &run.state().objects;
+            create_in_both(alloc, next, objects, outline.found.caller, flows)?;
+            give_in_both(alloc, objects, &asked, flows)
         }
         Event::Enter(_) | Event::Leave(_) | Event::Changed(..) => run.next(alloc, event),
     }
@@ -100,10 +99,26 @@ fn create_in_both(
     flows: &mut Flows,
 ) -> Result<(), AllocError>
     requires { spec.HaveSlots flows.old }
-    ensures { OnOk result (flows.new ≡ spec.flows_created next objects.now caller flows.old) }
+    ensures created { OnOk result (flows.new ≡ spec.flows_created next objects.now caller flows.old) }
+    ensures slots { OnOk result (spec.HaveSlots flows.new) }
 {
     create_in(alloc, next, objects, caller, &mut flows.biba)?;
     create_in(alloc, next, objects, caller, &mut flows.mls)
+}
+
+/// The sources of an entity that was relabelled, by each policy.
+#[tactic(auto, unfolding(crate::specs::Rows::flows_given))]
+fn give_in_both(
+    alloc: Global,
+    objects: &Objects,
+    asked: &Option<(Id, Request)>,
+    flows: &mut Flows,
+) -> Result<(), AllocError>
+    requires { spec.HaveSlots flows.old }
+    ensures { OnOk result (flows.new ≡ spec.flows_given objects.now asked.now flows.old) }
+{
+    give_in(alloc, Module::Biba, objects, asked, &mut flows.biba)?;
+    give_in(alloc, Module::Mls, objects, asked, &mut flows.mls)
 }
 
 /// What checks that passed move, where the policy was booted.
@@ -132,11 +147,29 @@ fn create_in(
     flow: &mut Option<Flow>,
 ) -> Result<(), AllocError>
     requires { IfSome flow.old (λ f. f.slot < SLOTS) }
-    ensures { OnOk result (flow.new ≡ spec.flow_created next objects.now caller flow.old) }
+    ensures created { OnOk result (flow.new ≡ spec.flow_created next objects.now caller flow.old) }
+    ensures slot { OnOk result (IfSome flow.new (λ f. f.slot < SLOTS)) }
 {
     match flow {
         None => Ok(()),
         Some(flow) => create(alloc, flow.slot, next, objects, caller, &mut flow.sets),
+    }
+}
+
+/// The sources of an entity that was relabelled, by the module's policy, where it was booted.
+fn give_in(
+    alloc: Global,
+    module: Module,
+    objects: &Objects,
+    asked: &Option<(Id, Request)>,
+    flow: &mut Option<Flow>,
+) -> Result<(), AllocError>
+    requires { IfSome flow.old (λ f. f.slot < SLOTS) }
+    ensures { OnOk result (flow.new ≡ spec.flow_given «module» objects.now asked.now flow.old) }
+{
+    match flow {
+        None => Ok(()),
+        Some(flow) => give(alloc, flow.slot, module, objects, asked, &mut flow.sets),
     }
 }
 

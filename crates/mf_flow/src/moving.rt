@@ -16,7 +16,7 @@ use mf_policy::{Movement, row_of, slot_label};
 use std::alloc::{AllocError, Global};
 
 /// The effective element that the live entity of that number has in the slot; none where no such entity lives.
-fn element_at(objects: &Objects, slot: u8, number: u32) -> Option<Elem>
+pub fn element_at(objects: &Objects, slot: u8, number: u32) -> Option<Elem>
     requires { slot < SLOTS }
     ensures { result ≡ rows.element_at slot objects.now number }
 {
@@ -124,7 +124,7 @@ fn move_between(
 }
 
 /// What a check that passed moves.
-#[tactic(auto, unfolding(mf_plan::specs::Outline::item_of))]
+#[tactic(auto, unfolding(mf_plan::specs::Outline::item_asking))]
 fn move_by(
     alloc: Global,
     slot: u8,

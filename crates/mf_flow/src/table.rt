@@ -1,6 +1,7 @@
 //! The table of the sources of a history.
 ghost use Rattle.std.specs.Prelude.{◌≡◌, ◌<◌, ◌++◌, map, IfOk, IfSome, IsSome, OnOk};
 ghost use Rattle.std.specs.Option.{option_copied};
+ghost use Rattle.mf_errno.specs.declared.module.Module.TheVariants.{Biba, Mls};
 ghost use Rattle.mf_elem.specs.declared.label.TheConstants.{SLOTS};
 ghost use Rattle.mf_list.specs.Asked.{slot_of};
 ghost use Rattle.mf_objects.specs.Live.{live_at};
@@ -79,8 +80,8 @@ fn followed<'s>(
 ) -> Result<(Run<'s>, Flows), AllocError>
     requires formed { IsWellFormed script.now }
     requires legal { IsLegal script.now history.now }
-    requires biba { IfSome (option_copied biba) (IsBooted history.now) }
-    requires mls { IfSome (option_copied mls) (IsBooted history.now) }
+    requires biba { IfSome (option_copied biba) (IsBooted Biba history.now) }
+    requires mls { IfSome (option_copied mls) (IsBooted Mls history.now) }
     ensures run { IfOk result (λ r. r.0.run ≡ run_state_of script.now history.now.events.list) }
     ensures biba { IfOk result (λ r. Alike (IsFlowOf script.now history.now) (option_copied biba.entry) r.1.biba) }
     ensures mls { IfOk result (λ r. Alike (IsFlowOf script.now history.now) (option_copied mls.entry) r.1.mls) }

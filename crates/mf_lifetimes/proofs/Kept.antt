@@ -1,7 +1,9 @@
 -- What every step keeps: who holds a label slot, and that the slot of each live entity holds a valid label where its policy stays.
 use Rattle.std.specs.Option.{option_eq}
 use Rattle.std.proofs.Common.{◌≡◌, ℕ, ◌<◌, zero, suc, true, if◌then◌else◌, List, [], ◌∷◌, map, Option, Some, None, refl, ap, sym, ◌∙◌, subst, arith, ◌⊎◌, inl, inr, slice_index_or, nat_eq}
-use Rattle.std.specs.Prelude.{find}
+use Rattle.std.specs.Prelude.{find, unwrap_or}
+use Rattle.std.proofs.lemmas.Bool.Decides.{nat_tests}
+use Rattle.mf_errno.specs.declared.errno.Errno.TheVariants.{Success}
 use Rattle.mf_errno.specs.declared.module.Module.{Module}
 use Rattle.mf_errno.specs.declared.module.Module.TheVariants.{Biba, Mls, Partition, Bsdextended, Priority}
 use Rattle.mf_elem.specs.declared.label.LabelValue.{LabelValue}
@@ -13,22 +15,31 @@ use Rattle.mf_item.specs.declared.view.Kind.TheVariants as kinds
 use Rattle.mf_policy.specs.declared.registration.Registration.{Registration}
 use Rattle.mf_policy.specs.declared.labels.Origin.TheVariants.{Boot, Maker}
 use Rattle.mf_policy.specs.NewLabels.{new_label, new_value, value_of}
-use Rattle.mf_policy.specs.Modules.{facts_of, boot_value, inherited, labels_kind, may_ask}
+use Rattle.mf_policy.specs.Modules.{facts_of, fresh_of, boot_value, inherited, labels_kind, may_ask}
 use Rattle.mf_policy.specs.Registration.{Entry, holds_slot}
+use Rattle.mf_policy.specs.Relabelled.{value_after, relabelled_value, relabelled, value_of as relabelled_by}
+use Rattle.mf_policy.specs.Answer.{answer}
+use Rattle.mf_policy.specs.declared.spec.Spec.{Spec}
+use Rattle.mf_list.specs.Asked.{slot_of}
 use Rattle.mf_objects.specs.declared.id.Id.{Id}
 use Rattle.mf_objects.specs.Live.{LiveEntity, Entities, kind_of, live_at}
-use Rattle.mf_objects.specs.Population.{IsRising}
+use Rattle.mf_objects.specs.declared.entity.EntityData.{EntityData}
 use Rattle.mf_plan.specs.declared.state.State.{State}
 use Rattle.mf_lifetimes.specs.Marks.{value_in, is_set}
 use Rattle.mf_lifetimes.specs.Marks.Mark.{Made}
 use Rattle.mf_lifetimes.specs.Laws.{AreMarksOf, holds_valid}
-use Rattle.mf_step.proofs.StateChange.{StateChange}
-use Rattle.mf_step.proofs.StateChange.StateChange.{same, created, changed, removed, loaded, unloaded, set_to}
-use Rattle.mf_step.proofs.EntityChange.{EntityChange, ChangesEntities, changes_entities}
-use Rattle.mf_step.proofs.EntityChange.EntityChange.{absent, stays, comes, goes}
+use Rattle.mf_step.proofs.StateChange.{Deed, StateChange}
+use Rattle.mf_step.proofs.StateChange.StateChange.{same, created, changed, relabels, removed, loaded, unloaded, set_to}
+use Rattle.mf_step.proofs.EntityChange.{EntityChange, ChangesEntities, changes_entities, stays_rooted}
+use Rattle.mf_step.proofs.EntityChange.EntityChange.{absent, stays, gets_label, comes, goes}
+use Rattle.mf_step.proofs.Allowed.{AsksFor, IsAllowed}
+use Rattle.mf_step.proofs.Allowed.AsksFor.{of_itself, of_object}
+use Rattle.mf_step.proofs.Granted.{granted_by}
+use Rattle.mf_step.proofs.Rooted.{IsRooted}
 use Rattle.mf_lifetimes.proofs.Valid.{IsValidOf, valid_set, boot_valid, inherited_valid}
+use Rattle.mf_lifetimes.proofs.Relabelled.{process_relabelled, object_relabelled}
 use Rattle.mf_lifetimes.proofs.Asked.{AllLetAsk}
-use Rattle.mf_lifetimes.proofs.Listing.{all_found, IsLasting, no_late, IsPinned, IsPassing, NoneLasting, newest, all_newest, all_without, pinned_newest, pinned_without, passing_found, IsBelow, AllBelow, below_newest, AtMostOne, single_newest, one_without, by_holder}
+use Rattle.mf_lifetimes.proofs.Listing.{all_found, found_passes, IsLasting, no_late, IsPinned, IsPassing, NoneLasting, newest, all_newest, all_without, pinned_newest, pinned_without, passing_found, IsBelow, AllBelow, below_newest, AtMostOne, single_newest, one_without, by_holder}
 use Rattle.mf_lifetimes.proofs.Settings.{all_changed, one_changed, pinned_changed}
 
 -- Labels as they are made
@@ -47,9 +58,10 @@ set_marks r Unset set = cc
 set_marks r (Range label) set = (r, refl)
 set_marks r (Number n) set = (r, refl)
 
-lasting_marks : (m : Module) (r : Registration) (kind : Kind) (value : LabelValue) → IsLasting m → IsValidOf m value → AreMarksOf (inherited m kind value) (Made r ∷ [])
+lasting_marks : (m : Module) (r : Registration) (kind : Kind) (value : LabelValue) → IsLasting m → IsValidOf m kinds.Process value
+    → AreMarksOf (inherited m kind value) (Made r ∷ [])
 lasting_marks m r kind value lasting valid =
-    set_marks r (inherited m kind value) (valid_set (facts_of m).labels (inherited m kind value) (inherited_valid m kind value lasting valid))
+    set_marks r (inherited m kind value) (valid_set (facts_of m).labels kind (inherited m kind value) (inherited_valid m kind value lasting valid))
 
 partition_marks : (r : Registration) (kind : Kind) (value : LabelValue)
     → AreMarksOf (inherited Partition kind value) (map Made (if labels_kind Partition kind then r ∷ [] else []))
@@ -62,7 +74,7 @@ partition_marks r kinds.Socket Unset = (r, refl)
 partition_marks r kinds.Socket (Range label) = (r, refl)
 partition_marks r kinds.Socket (Number n) = (r, refl)
 
-module_marks : (m : Module) (r : Registration) (kind : Kind) (value : LabelValue) → (IsLasting m → IsValidOf m value)
+module_marks : (m : Module) (r : Registration) (kind : Kind) (value : LabelValue) → (IsLasting m → IsValidOf m kinds.Process value)
     → AreMarksOf (inherited m kind value) (map Made (if labels_kind m kind then r ∷ [] else []))
 module_marks Biba r kind value valid = lasting_marks Biba r kind value tt (valid tt)
 module_marks Mls r kind value valid = lasting_marks Mls r kind value tt (valid tt)
@@ -70,9 +82,9 @@ module_marks Partition r kind value valid = partition_marks r kind value
 module_marks Bsdextended r kind value valid = refl
 module_marks Priority r kind value valid = refl
 
--- a created entity's slot is set exactly where it is marked
+-- the slot of an entity that a process makes is set exactly where it is marked
 pub created_marks : (found : Option Entry) (kind : Kind) (maker : List LabelValue) (slot : ℕ)
-    → ((x : Entry) → found ≡ Some x → IsLasting x.0.module → IsValidOf x.0.module (slice_index_or maker slot Unset))
+    → ((x : Entry) → found ≡ Some x → IsLasting x.0.module → IsValidOf x.0.module kinds.Process (slice_index_or maker slot Unset))
     → AreMarksOf (value_of found kind (Maker maker) slot) (map Made (by_holder kind found))
 created_marks None kind maker slot valid = refl
 created_marks (Some x) kind maker slot valid = module_marks x.0.module x.0 kind (slice_index_or maker slot Unset) (valid x refl)
@@ -99,44 +111,103 @@ boot_marks slot specs kind request = found_boot (find (holds_slot slot) specs) k
 
 -- a policy that stays has put a valid label into the slot of an entity of the opening state
 pub boot_holds : (slot : ℕ) (r : Registration) (specs : List Entry) (given : ℕ) (kind : Kind) (request : Request) → slot < SLOTS
-    → IsPinned slot r specs given → AllLetAsk kind request specs → IsValidOf r.module (slice_index_or (new_label specs kind (Boot request)) slot Unset)
+    → IsPinned slot r specs given → AllLetAsk kind request specs → IsValidOf r.module kind (slice_index_or (new_label specs kind (Boot request)) slot Unset)
 boot_holds slot r specs given kind request within pinned let_ask =
     let may : may_ask r.module kind request ≡ true =
     (all_found (λ entry. may_ask entry.0.module kind request ≡ true) (holds_slot slot) specs (r, pinned.meaning) let_ask pinned.found).0 in
-    ap (holds_valid (facts_of r.module).labels) (four_values (new_value specs kind (Boot request)) slot within)
-    ∙ ap (λ (found : Option Entry). holds_valid (facts_of r.module).labels (value_of found kind (Boot request) slot)) pinned.found
+    ap (holds_valid (facts_of r.module).labels kind) (four_values (new_value specs kind (Boot request)) slot within)
+    ∙ ap (λ (found : Option Entry). holds_valid (facts_of r.module).labels kind (value_of found kind (Boot request) slot)) pinned.found
     ∙ boot_valid r.module kind request pinned.lasting may
 
 -- What a step keeps
 
--- the slot of each live entity holds a valid label of the module
+-- the slot of each live entity holds a valid label of the module, for its kind
 abbrev pub AllValid : ℕ → Module → Entities → Type 0
-AllValid slot m objects = (id : Id) (e : LiveEntity) → live_at objects id ≡ Some e → IsValidOf m (value_in slot e)
+AllValid slot m objects = (id : Id) (e : LiveEntity) → live_at objects id ≡ Some e → IsValidOf m (kind_of e.what) (value_in slot e)
 
 created_holds : (slot : ℕ) (r : Registration) (specs : List Entry) (given : ℕ) (kind : Kind) (maker : List LabelValue) → slot < SLOTS → IsPinned slot r specs given
-    → IsValidOf r.module (slice_index_or maker slot Unset) → IsValidOf r.module (slice_index_or (new_label specs kind (Maker maker)) slot Unset)
+    → IsValidOf r.module kinds.Process (slice_index_or maker slot Unset) → IsValidOf r.module kind (slice_index_or (new_label specs kind (Maker maker)) slot Unset)
 created_holds slot r specs given kind maker within pinned valid =
-    ap (holds_valid (facts_of r.module).labels) (four_values (new_value specs kind (Maker maker)) slot within)
-    ∙ ap (λ (found : Option Entry). holds_valid (facts_of r.module).labels (value_of found kind (Maker maker) slot)) pinned.found
+    ap (holds_valid (facts_of r.module).labels kind) (four_values (new_value specs kind (Maker maker)) slot within)
+    ∙ ap (λ (found : Option Entry). holds_valid (facts_of r.module).labels kind (value_of found kind (Maker maker) slot)) pinned.found
     ∙ inherited_valid r.module kind (slice_index_or maker slot Unset) pinned.lasting valid
 
-change_valid : {by : Option Id} (slot : ℕ) (r : Registration) (s : State) (id : Id) (found found' : Option LiveEntity) (e : LiveEntity) → slot < SLOTS → IsPinned slot r s.specs s.numbers
-    → AllValid slot r.module s.objects → live_at s.objects id ≡ found → EntityChange by s id found found' → found' ≡ Some e → IsValidOf r.module (value_in slot e)
+-- the value that is read in the slot of a live process
+process_valid : (slot : ℕ) (m : Module) (objects : Entities) (id : Id) (e : LiveEntity) → AllValid slot m objects → live_at objects id ≡ Some e
+    → kind_of e.what ≡ kinds.Process → IsValidOf m kinds.Process (value_in slot e)
+process_valid slot m objects id e all live process = subst (λ (kind : Kind). IsValidOf m kind (value_in slot e)) process (all id e live)
+
+-- the number of the slot that the entry holds
+held_slot : (r : Registration) (slot : ℕ) → option_eq nat_eq r.slot (Some slot) ≡ true → slot_of r ≡ slot
+held_slot r slot holds = one r.slot holds
+  where
+    one : (own : Option ℕ) → option_eq nat_eq own (Some slot) ≡ true → unwrap_or own 0 ≡ slot
+    one None holds = cc
+    one (Some own) holds = grind (arith, nat_tests)
+
+-- what a policy that stays makes of a valid label, where it allows that
+pub relabel_valid : (slot : ℕ) (r : Registration) (s : State) (e : LiveEntity) (request : Request) → IsPinned slot r s.specs s.numbers → AllValid slot r.module s.objects
+    → IsValidOf r.module (kind_of e.what) (value_in slot e) → IsAllowed s e request → IsValidOf r.module (kind_of e.what) (value_after r.module request (value_in slot e))
+relabel_valid slot r s e request pinned all valid allowed = by_check allowed.asks
+  where
+    holds : holds_slot slot (r, pinned.meaning) ≡ true
+    holds = found_passes (holds_slot slot) s.specs (r, pinned.meaning) pinned.found
+
+    answered : answer (fresh_of r.module) slot allowed.item ≡ Success
+    answered =
+        ap (λ (meaning : Spec). answer meaning slot allowed.item) (sym pinned.fresh)
+        ∙ ap (λ (n : ℕ). answer pinned.meaning n allowed.item) (sym (held_slot r slot holds))
+        ∙ granted_by (holds_slot slot) s.specs (r, pinned.meaning) allowed.item pinned.found allowed.granted
+
+    by_check : AsksFor s (kind_of e.what) e.label request allowed.item → IsValidOf r.module (kind_of e.what) (value_after r.module request (value_in slot e))
+    by_check (of_itself process test own) =
+        subst (λ (kind : Kind). IsValidOf r.module kind (value_after r.module request (value_in slot e))) (sym process)
+        (process_relabelled r.module pinned.lasting slot allowed.item request allowed.asked answered e.label test own
+        (subst (λ (kind : Kind). IsValidOf r.module kind (value_in slot e)) process valid))
+    by_check (of_object other test from maker live process own object there labelled) =
+        object_relabelled r.module pinned.lasting slot allowed.item request allowed.asked answered (kind_of e.what) maker.label e.label object other test own there labelled
+        (process_valid slot r.module s.objects from maker all live process) valid
+
+-- the value in a slot that a policy holds, after a relabel
+relabelled_slot : (slot : ℕ) (specs : List Entry) (x : Entry) (request : Request) (label : List LabelValue) → slot < SLOTS → find (holds_slot slot) specs ≡ Some x
+    → slice_index_or (relabelled specs request label) slot Unset ≡ value_after x.0.module request (slice_index_or label slot Unset)
+relabelled_slot slot specs x request label within found =
+    four_values (relabelled_value specs request label) slot within
+    ∙ ap (λ (entry : Option Entry). relabelled_by entry request (slice_index_or label slot Unset)) found
+
+-- what holds of the entity that is made holds of the one that is there
+as_found : (slot : ℕ) (m : Module) (new e : LiveEntity) → Some new ≡ Some e → IsValidOf m (kind_of new.what) (value_in slot new) → IsValidOf m (kind_of e.what) (value_in slot e)
+as_found slot m new e now valid =
+    let same_entity : new ≡ e = cc in
+    subst (λ (x : LiveEntity). IsValidOf m (kind_of x.what) (value_in slot x)) same_entity valid
+
+change_valid : {by : Deed} (slot : ℕ) (r : Registration) (s : State) (id : Id) (found found' : Option LiveEntity) (e : LiveEntity) → slot < SLOTS
+    → IsPinned slot r s.specs s.numbers → AllValid slot r.module s.objects → live_at s.objects id ≡ found → EntityChange by s id found found' → found' ≡ Some e
+    → IsValidOf r.module (kind_of e.what) (value_in slot e)
 change_valid slot r s id _ _ e within pinned all is absent now = cc
-change_valid slot r s id _ _ e within pinned all is (stays old new label) now =
+change_valid slot r s id _ _ e within pinned all is (stays old new kind label) now =
     let same_value : value_in slot new ≡ value_in slot old = ap (λ (values : List LabelValue). slice_index_or values slot Unset) label in
-    let valid : IsValidOf r.module (value_in slot new) = ap (holds_valid (facts_of r.module).labels) same_value ∙ all id old is in
-    let same_entity : new ≡ e = cc in
-    subst (λ (x : LiveEntity). IsValidOf r.module (value_in slot x)) same_entity valid
-change_valid slot r s id _ _ e within pinned all is (comes new maker from own next live label) now =
-    let valid : IsValidOf r.module (value_in slot new) =
-    ap (λ (values : List LabelValue). holds_valid (facts_of r.module).labels (slice_index_or values slot Unset)) label
-    ∙ created_holds slot r s.specs s.numbers (kind_of new.what) maker.label within pinned (all from maker live) in
-    let same_entity : new ≡ e = cc in
-    subst (λ (x : LiveEntity). IsValidOf r.module (value_in slot x)) same_entity valid
+    let valid : IsValidOf r.module (kind_of new.what) (value_in slot new) =
+    ap (λ (k : Kind). holds_valid (facts_of r.module).labels k (value_in slot new)) kind
+    ∙ ap (holds_valid (facts_of r.module).labels (kind_of old.what)) same_value ∙ all id old is in
+    as_found slot r.module new e now valid
+change_valid slot r s id _ _ e within pinned all is (gets_label old new request asked allowed what label) now =
+    let value : value_in slot new ≡ value_after r.module request (value_in slot old) =
+    ap (λ (values : List LabelValue). slice_index_or values slot Unset) label
+    ∙ relabelled_slot slot s.specs (r, pinned.meaning) request old.label within pinned.found in
+    let valid : IsValidOf r.module (kind_of new.what) (value_in slot new) =
+    ap (λ (w : EntityData). holds_valid (facts_of r.module).labels (kind_of w) (value_in slot new)) what
+    ∙ ap (holds_valid (facts_of r.module).labels (kind_of old.what)) value
+    ∙ relabel_valid slot r s old request pinned all (all id old is) allowed in
+    as_found slot r.module new e now valid
+change_valid slot r s id _ _ e within pinned all is (comes new maker from own next live process label) now =
+    let valid : IsValidOf r.module (kind_of new.what) (value_in slot new) =
+    ap (λ (values : List LabelValue). holds_valid (facts_of r.module).labels (kind_of new.what) (slice_index_or values slot Unset)) label
+    ∙ created_holds slot r s.specs s.numbers (kind_of new.what) maker.label within pinned (process_valid slot r.module s.objects from maker all live process) in
+    as_found slot r.module new e now valid
 change_valid slot r s id _ _ e within pinned all is (goes old given) now = cc
 
-pub keeps_valid : {by : Option Id} (slot : ℕ) (r : Registration) (s s' : State) → slot < SLOTS → ChangesEntities by s s' → IsPinned slot r s.specs s.numbers → AllValid slot r.module s.objects
+pub keeps_valid : {by : Deed} (slot : ℕ) (r : Registration) (s s' : State) → slot < SLOTS → ChangesEntities by s s' → IsPinned slot r s.specs s.numbers → AllValid slot r.module s.objects
     → AllValid slot r.module s'.objects
 keeps_valid slot r s s' within step pinned all id e found =
     change_valid slot r s id (live_at s.objects id) (live_at s'.objects id) e within pinned all refl (step.each id) found
@@ -146,11 +217,12 @@ same_policies : (slot : ℕ) (r : Registration) (s s' : State) → s'.specs ≡ 
 same_policies slot r s s' specs numbers pinned =
     subst (λ (x : List Entry). IsPinned slot r x s'.numbers) (sym specs) (subst (λ (n : ℕ). IsPinned slot r s.specs n) (sym numbers) pinned)
 
-pub keeps_pinned : {by : Option Id} (slot : ℕ) (r : Registration) (s s' : State) → StateChange by s s' → IsPinned slot r s.specs s.numbers → IsPinned slot r s'.specs s'.numbers
+pub keeps_pinned : {by : Deed} (slot : ℕ) (r : Registration) (s s' : State) → StateChange by s s' → IsPinned slot r s.specs s.numbers → IsPinned slot r s'.specs s'.numbers
 keeps_pinned slot r s s' (same is) pinned = same_policies slot r s s' (ap (λ (x : State). x.specs) is) (ap (λ (x : State). x.numbers) is) pinned
-keeps_pinned slot r s s' (created from maker name what own live is) pinned =
+keeps_pinned slot r s s' (created from maker name what own live process is) pinned =
     same_policies slot r s s' (ap (λ (x : State). x.specs) is) (ap (λ (x : State). x.numbers) is) pinned
-keeps_pinned slot r s s' (changed change id is) pinned = same_policies slot r s s' (ap (λ (x : State). x.specs) is) (ap (λ (x : State). x.numbers) is) pinned
+keeps_pinned slot r s s' (changed change id kind is) pinned = same_policies slot r s s' (ap (λ (x : State). x.specs) is) (ap (λ (x : State). x.numbers) is) pinned
+keeps_pinned slot r s s' (relabels id e request asked live allowed is) pinned = same_policies slot r s s' (ap (λ (x : State). x.specs) is) (ap (λ (x : State). x.numbers) is) pinned
 keeps_pinned slot r s s' (removed gone is) pinned = same_policies slot r s s' (ap (λ (x : State). x.specs) is) (ap (λ (x : State). x.numbers) is) pinned
 keeps_pinned slot r s s' (loaded m none is) pinned =
     subst (λ (x : State). IsPinned slot r x.specs x.numbers) (sym is) (pinned_newest slot r s.specs s.numbers m s.booted pinned)
@@ -159,10 +231,11 @@ keeps_pinned slot r s s' (unloaded m ok is) pinned =
 keeps_pinned slot r s s' (set_to m change is) pinned =
     subst (λ (x : State). IsPinned slot r x.specs x.numbers) (sym is) (pinned_changed slot r s.specs s.numbers m change pinned)
 
-keeps_passing : {by : Option Id} (slot : ℕ) (s s' : State) → StateChange by s s' → s.booted ≡ true → NoneLasting slot s.specs → NoneLasting slot s'.specs
+keeps_passing : {by : Deed} (slot : ℕ) (s s' : State) → StateChange by s s' → s.booted ≡ true → NoneLasting slot s.specs → NoneLasting slot s'.specs
 keeps_passing slot s s' (same is) booted none = subst (λ (x : State). NoneLasting slot x.specs) (sym is) none
-keeps_passing slot s s' (created from maker name what own live is) booted none = subst (λ (x : State). NoneLasting slot x.specs) (sym is) none
-keeps_passing slot s s' (changed change id is) booted none = subst (λ (x : State). NoneLasting slot x.specs) (sym is) none
+keeps_passing slot s s' (created from maker name what own live process is) booted none = subst (λ (x : State). NoneLasting slot x.specs) (sym is) none
+keeps_passing slot s s' (changed change id kind is) booted none = subst (λ (x : State). NoneLasting slot x.specs) (sym is) none
+keeps_passing slot s s' (relabels id e request asked live allowed is) booted none = subst (λ (x : State). NoneLasting slot x.specs) (sym is) none
 keeps_passing slot s s' (removed gone is) booted none = subst (λ (x : State). NoneLasting slot x.specs) (sym is) none
 keeps_passing slot s s' (loaded m fault is) booted none =
     subst (λ (x : State). NoneLasting slot x.specs) (sym is)
@@ -173,10 +246,11 @@ keeps_passing slot s s' (set_to m change is) booted none =
     subst (λ (x : State). NoneLasting slot x.specs) (sym is)
     (all_changed (λ r. option_eq nat_eq r.slot (Some slot) ≡ true → IsLasting r.module → ⊥) m change s.specs none)
 
-keeps_booted : {by : Option Id} (s s' : State) → StateChange by s s' → s.booted ≡ true → s'.booted ≡ true
+keeps_booted : {by : Deed} (s s' : State) → StateChange by s s' → s.booted ≡ true → s'.booted ≡ true
 keeps_booted s s' (same is) booted = ap (λ (x : State). x.booted) is ∙ booted
-keeps_booted s s' (created from maker name what own live is) booted = ap (λ (x : State). x.booted) is ∙ booted
-keeps_booted s s' (changed change id is) booted = ap (λ (x : State). x.booted) is ∙ booted
+keeps_booted s s' (created from maker name what own live process is) booted = ap (λ (x : State). x.booted) is ∙ booted
+keeps_booted s s' (changed change id kind is) booted = ap (λ (x : State). x.booted) is ∙ booted
+keeps_booted s s' (relabels id e request asked live allowed is) booted = ap (λ (x : State). x.booted) is ∙ booted
 keeps_booted s s' (removed gone is) booted = ap (λ (x : State). x.booted) is ∙ booted
 keeps_booted s s' (loaded m none is) booted = ap (λ (x : State). x.booted) is ∙ booted
 keeps_booted s s' (unloaded m ok is) booted = ap (λ (x : State). x.booted) is ∙ booted
@@ -191,10 +265,11 @@ pub record AreSlots (slot : ℕ) (s : State) : Type 0 where
   pub below : AllBelow s.numbers s.specs
   pub single : AtMostOne slot s.specs
 
-keeps_slots : {by : Option Id} (slot : ℕ) (s s' : State) → StateChange by s s' → AreSlots slot s → AreSlots slot s'
+keeps_slots : {by : Deed} (slot : ℕ) (s s' : State) → StateChange by s s' → AreSlots slot s → AreSlots slot s'
 keeps_slots slot s s' (same is) slots = subst (AreSlots slot) (sym is) slots
-keeps_slots slot s s' (created from maker name what own live is) slots = subst (AreSlots slot) (sym is) (record { below = slots.below; single = slots.single })
-keeps_slots slot s s' (changed change id is) slots = subst (AreSlots slot) (sym is) (record { below = slots.below; single = slots.single })
+keeps_slots slot s s' (created from maker name what own live process is) slots = subst (AreSlots slot) (sym is) (record { below = slots.below; single = slots.single })
+keeps_slots slot s s' (changed change id kind is) slots = subst (AreSlots slot) (sym is) (record { below = slots.below; single = slots.single })
+keeps_slots slot s s' (relabels id e request asked live allowed is) slots = subst (AreSlots slot) (sym is) (record { below = slots.below; single = slots.single })
 keeps_slots slot s s' (removed gone is) slots = subst (AreSlots slot) (sym is) (record { below = slots.below; single = slots.single })
 keeps_slots slot s s' (loaded m none is) slots =
     subst (AreSlots slot) (sym is)
@@ -216,34 +291,40 @@ keeps_slots slot s s' (set_to m change is) slots =
     })
 
 pub record IsKept (slot : ℕ) (s : State) : Type 0 where
-  pub rising : IsRising 0 s.objects.next s.objects.live
+  pub rooted : IsRooted s.objects
   pub booted : s.booted ≡ true
   pub slots : AreSlots slot s
   pub holding : Holding slot s
 
-keeps_holding : {by : Option Id} (slot : ℕ) (s s' : State) → slot < SLOTS → StateChange by s s' → ChangesEntities by s s' → s.booted ≡ true → Holding slot s → Holding slot s'
+keeps_holding : {by : Deed} (slot : ℕ) (s s' : State) → slot < SLOTS → StateChange by s s' → ChangesEntities by s s' → s.booted ≡ true → Holding slot s → Holding slot s'
 keeps_holding slot s s' within shape step booted (inl held) =
     inl (held.0, keeps_pinned slot held.0 s s' shape held.1, keeps_valid slot held.0 s s' within step held.1 held.2)
 keeps_holding slot s s' within shape step booted (inr none) = inr (keeps_passing slot s s' shape booted none)
 
-pub keeps : {by : Option Id} (slot : ℕ) (s s' : State) → slot < SLOTS → StateChange by s s' → IsKept slot s → IsKept slot s'
+pub keeps : {by : Deed} (slot : ℕ) (s s' : State) → slot < SLOTS → StateChange by s s' → IsKept slot s → IsKept slot s'
 keeps {by = by} slot s s' within shape kept =
-    let step : ChangesEntities by s s' = changes_entities by s s' shape kept.rising in
+    let step : ChangesEntities by s s' = changes_entities by s s' shape kept.rooted.rising in
     record {
-      rising = step.rising;
+      rooted = stays_rooted by s s' step kept.rooted;
       booted = keeps_booted s s' shape kept.booted;
       slots = keeps_slots slot s s' shape kept.slots;
       holding = keeps_holding slot s s' within shape step kept.booted kept.holding;
     }
 
--- the maker's slot holds a valid label where who holds the slot stays
-pub maker_valid : (slot : ℕ) (s : State) (from : Id) (maker : LiveEntity) (x : Entry) → IsKept slot s → live_at s.objects from ≡ Some maker
-    → find (holds_slot slot) s.specs ≡ Some x → IsLasting x.0.module → IsValidOf x.0.module (value_in slot maker)
-maker_valid slot s from maker x kept live found lasting = one kept.holding
+-- who holds the slot and stays gives each live entity a valid label
+pub holder_valid : (slot : ℕ) (s : State) (x : Entry) → IsKept slot s → find (holds_slot slot) s.specs ≡ Some x → IsLasting x.0.module
+    → IsPinned slot x.0 s.specs s.numbers × AllValid slot x.0.module s.objects
+holder_valid slot s x kept found lasting = one kept.holding
   where
-    one : Holding slot s → IsValidOf x.0.module (value_in slot maker)
+    one : Holding slot s → IsPinned slot x.0 s.specs s.numbers × AllValid slot x.0.module s.objects
     one (inl held) =
         let holder : Some (held.0, held.1.meaning) ≡ Some x = sym held.1.found ∙ found in
         let same : (held.0, held.1.meaning) ≡ x = cc in
-        subst (λ (entry : Entry). IsValidOf entry.0.module (value_in slot maker)) same (held.2 from maker live)
+        subst (λ (entry : Entry). IsPinned slot entry.0 s.specs s.numbers × AllValid slot entry.0.module s.objects) same (held.1, held.2)
     one (inr none) = absurd (passing_found slot s.specs x none found lasting)
+
+-- the maker's slot holds a process's valid label then
+pub maker_valid : (slot : ℕ) (s : State) (from : Id) (maker : LiveEntity) (x : Entry) → IsKept slot s → live_at s.objects from ≡ Some maker
+    → kind_of maker.what ≡ kinds.Process → find (holds_slot slot) s.specs ≡ Some x → IsLasting x.0.module → IsValidOf x.0.module kinds.Process (value_in slot maker)
+maker_valid slot s from maker x kept live process found lasting =
+    process_valid slot x.0.module s.objects from maker (holder_valid slot s x kept found lasting).1 live process

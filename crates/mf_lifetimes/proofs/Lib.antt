@@ -1,6 +1,8 @@
 pub mod Listing
-mod Settings
+pub mod Settings
 pub mod Valid
+mod Relabelled
+mod FirstValues
 pub mod Asked
 pub mod Boots
 pub mod Openings

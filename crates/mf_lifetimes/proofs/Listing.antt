@@ -47,6 +47,14 @@ all_found P p (e ∷ es) x all found = one (p e) refl (all_found P p es x all.1)
         subst (λ (y : Entry). P y × (p y ≡ true)) is (all.0, hit)
     one false miss rest found = rest found
 
+-- what is found passes
+pub found_passes : (p : Entry → Bool) (es : List Entry) (x : Entry) → find p es ≡ Some x → p x ≡ true
+found_passes p es x found = (all_found (λ _. Unit {0}) p es x (anything es) found).1
+  where
+    anything : (es : List Entry) → AllByRecursion (λ _. Unit {0}) es
+    anything [] = tt
+    anything (e ∷ es) = (tt, anything es)
+
 -- Who holds a slot
 
 find_newest : (slot : ℕ) (x : Entry) (es : List Entry) → holds_slot slot x ≡ false → find (holds_slot slot) (with_newest x es) ≡ find (holds_slot slot) es

@@ -4,37 +4,43 @@ use Rattle.std.specs.Prelude.{find, Contains}
 use Rattle.mf_elem.specs.declared.label.LabelValue.{LabelValue}
 use Rattle.mf_elem.specs.declared.label.LabelValue.TheVariants.{Unset, Range, Number}
 use Rattle.mf_elem.specs.declared.label.TheConstants.{SLOTS}
+use Rattle.mf_elem.specs.declared.label.Request.{Request}
+use Rattle.mf_item.specs.declared.view.Kind.TheVariants as kinds
 use Rattle.mf_policy.specs.declared.registration.Registration.{Registration}
 use Rattle.mf_policy.specs.Registration.{Entry, holds_slot}
+use Rattle.mf_policy.specs.Relabelled.{value_after, relabelled_value, relabelled, value_of as relabelled_by}
 use Rattle.mf_policy.specs.declared.labels.Origin.TheVariants.{Boot, Maker}
 use Rattle.mf_policy.specs.Modules.{facts_of}
 use Rattle.mf_policy.specs.NewLabels.{new_value}
 use Rattle.mf_objects.specs.declared.id.Id.{Id}
+use Rattle.mf_objects.specs.declared.entity.EntityData.{EntityData}
 use Rattle.mf_objects.specs.Live.{LiveEntity, kind_of, live_at}
 use Rattle.mf_calls.specs.declared.script.Line.{Line}
 use Rattle.mf_calls.specs.declared.script.Script.{Script}
 use Rattle.mf_calls.specs.Tasks.{name_of}
 use Rattle.mf_calls.specs.WellFormed.{IsWellFormed}
 use Rattle.mf_plan.specs.declared.state.State.{State}
-use Rattle.mf_plan.specs.Names.{caller_name}
-use Rattle.mf_plan.specs.Views.{process_named}
 use Rattle.mf_core.specs.declared.history.Event.{Event}
 use Rattle.mf_core.specs.declared.history.Event.TheVariants as event
 use Rattle.mf_core.specs.Opening.{opening_state, booted_specs, given_by}
 use Rattle.mf_core.specs.LegalHistory.{RunState, opening, next_line, state_at, after, run_state_after}
-use Rattle.mf_lifetimes.specs.Marks.{Mark, made_marks, ends, is_registered, value_in, is_first, added, marks_across, marks_at_opening, marks_after, marks_of}
+use Rattle.mf_lifetimes.specs.Marks.{Mark, made_marks, ends, is_registered, value_in, added, marks_across, marks_at_opening, marks_after, marks_of}
 use Rattle.mf_lifetimes.specs.Marks.Mark.{Made, Ended, Left}
 use Rattle.mf_lifetimes.specs.Laws.{state_of, SlotsAreMadeOnce, AreMarksOf, SetSlotsAreMarked, GoneSlotsHaveEnded, holds_valid, LabelsAll, BootedPoliciesLast}
 use Rattle.mf_lifetimes.specs.Once.{AreOnce}
 use Rattle.mf_lifetimes.specs.Once.AreOnce.{never, made as made_once, ended as ended_once, left as left_once}
-use Rattle.mf_step.proofs.StateChange.{StateChange, step_change}
+use Rattle.mf_step.proofs.StateChange.{Deed, StateChange, step_by, step_change}
 use Rattle.mf_step.proofs.StateChange.StateChange.{same}
 use Rattle.mf_step.proofs.EntityChange.{EntityChange, ChangesEntities, changes_entities}
-use Rattle.mf_step.proofs.EntityChange.EntityChange.{absent, stays, comes, goes}
-use Rattle.mf_lifetimes.proofs.Listing.{lasting_labels, IsPinned, by_holder, one_labels}
+use Rattle.mf_step.proofs.EntityChange.EntityChange.{absent, stays, gets_label, comes, goes}
+use Rattle.mf_step.proofs.Allowed.{IsAllowed}
+use Rattle.mf_step.proofs.Rooted.{IsRooted}
+use Rattle.mf_lifetimes.proofs.Listing.{IsLasting, lasting_labels, IsPinned, by_holder, one_labels}
+use Rattle.mf_lifetimes.proofs.Valid.{IsValidOf}
+use Rattle.mf_lifetimes.proofs.FirstValues.{with_first, unchanged_marks, relabelled_marks}
 use Rattle.mf_lifetimes.proofs.Boots.{Standing, boots_standing, boots_pinned, boots_below, boots_single}
 use Rattle.mf_lifetimes.proofs.Openings.{AreBooted, opening_booted}
-use Rattle.mf_lifetimes.proofs.Kept.{four_values, created_marks, boot_marks, boot_holds, AllValid, keeps_valid, keeps_pinned, Holding, IsKept, keeps, maker_valid}
+use Rattle.mf_lifetimes.proofs.Kept.{four_values, created_marks, boot_marks, boot_holds, AllValid, keeps_valid, keeps_pinned, Holding, IsKept, keeps, relabel_valid, holder_valid, maker_valid}
 
 -- An entity that isn't live has no slot that is made and hasn't ended, and no marks where its id isn't given yet; the marks of a live one
 -- tell the value.
@@ -47,12 +53,6 @@ pub record IsMarked (slot : ℕ) (id : Id) (s : State) (marks : List Mark) : Typ
   pub agree : Agree slot id s.objects.next (live_at s.objects id) marks
 
 -- One step
-
--- the first value of a slot is never changed into another one by its being unset before
-no_first : (value : LabelValue) → is_first value value ≡ false
-no_first Unset = refl
-no_first (Range label) = refl
-no_first (Number n) = refl
 
 -- behind the one mark of a set slot stands its end
 pub record HaveEnded (marks : List Mark) : Type 0 where
@@ -71,71 +71,109 @@ ends_once specs Unset marks is = rw is (record { once = never; over = λ q same.
 ends_once specs (Range label) marks is = subst (λ (ms : List Mark). HaveEnded (ms ++ ends specs ms)) (sym is.1) (made_ended specs is.0)
 ends_once specs (Number n) marks is = subst (λ (ms : List Mark). HaveEnded (ms ++ ends specs ms)) (sym is.1) (made_ended specs is.0)
 
--- an entity that comes has its marks by the policies that label it
-comes_marked : (slot : ℕ) (s : State) (new maker : LiveEntity) (from : Id) → slot < SLOTS → IsKept slot s → live_at s.objects from ≡ Some maker
-    → value_in slot new ≡ new_value s.specs (kind_of new.what) (Maker maker.label) slot → AreMarksOf (value_in slot new) (made_marks s.specs slot new)
-comes_marked slot s new maker from within kept live is =
-    let marked = created_marks (find (holds_slot slot) s.specs) (kind_of new.what) maker.label slot
-    (λ x found lasting. maker_valid slot s from maker x kept live found lasting) in
-    let labelled : made_marks s.specs slot new ≡ map Made (by_holder (kind_of new.what) (find (holds_slot slot) s.specs)) =
-    ap (map Made) (one_labels slot (kind_of new.what) s.specs kept.slots.single) in
-    rw labelled (subst (λ (value : LabelValue). AreMarksOf value (map Made (by_holder (kind_of new.what) (find (holds_slot slot) s.specs)))) (sym is) marked)
+-- by the policy that holds the slot, where at most one does
+labelled_by : (slot : ℕ) (s : State) (e : LiveEntity) → IsKept slot s
+    → made_marks s.specs slot e ≡ map Made (by_holder (kind_of e.what) (find (holds_slot slot) s.specs))
+labelled_by slot s e kept = ap (map Made) (one_labels slot (kind_of e.what) s.specs kept.slots.single)
 
-change_marked : {by : Option Id} (slot : ℕ) (id : Id) (s : State) (next : ℕ) (found found' : Option LiveEntity) (marks : List Mark) → slot < SLOTS → IsKept slot s → s.objects.next ≤ next
-    → EntityChange by s id found found' → Agree slot id s.objects.next found marks → Agree slot id next found' (marks ++ added s.specs slot marks found found')
-change_marked slot id s next _ _ marks within kept more absent agree =
+-- an entity that a process makes has its marks by the policies that label it
+comes_marked : (slot : ℕ) (s : State) (new maker : LiveEntity) (from : Id) → slot < SLOTS → IsKept slot s → live_at s.objects from ≡ Some maker
+    → kind_of maker.what ≡ kinds.Process → value_in slot new ≡ new_value s.specs (kind_of new.what) (Maker maker.label) slot
+    → AreMarksOf (value_in slot new) (made_marks s.specs slot new)
+comes_marked slot s new maker from within kept live process is =
+    let marked = created_marks (find (holds_slot slot) s.specs) (kind_of new.what) maker.label slot
+    (λ x found lasting. maker_valid slot s from maker x kept live process found lasting) in
+    rw (labelled_by slot s new kept)
+    (subst (λ (value : LabelValue). AreMarksOf value (map Made (by_holder (kind_of new.what) (find (holds_slot slot) s.specs)))) (sym is) marked)
+
+-- an entity that is relabelled has its marks, and one more where its slot has its first value
+relabel_marked : (slot : ℕ) (s : State) (id : Id) (old new : LiveEntity) (request : Request) (marks : List Mark) → slot < SLOTS → IsKept slot s
+    → live_at s.objects id ≡ Some old → IsAllowed s old request → new.what ≡ old.what → new.label ≡ relabelled s.specs request old.label
+    → AreMarksOf (value_in slot old) marks
+    → AreMarksOf (value_in slot new) (with_first marks (value_in slot old) (value_in slot new) (made_marks s.specs slot new))
+relabel_marked slot s id old new request marks within kept live allowed what label agree =
+    rw (labelled, value)
+    (relabelled_marks holder s.specs (kind_of old.what) request (value_in slot old) marks allowed.claimed valid agree)
+  where
+    holder : Option Entry
+    holder = find (holds_slot slot) s.specs
+
+    value : value_in slot new ≡ relabelled_by holder request (value_in slot old)
+    value =
+        ap (λ (values : List LabelValue). slice_index_or values slot Unset) label ∙ four_values (relabelled_value s.specs request old.label) slot within
+
+    labelled : made_marks s.specs slot new ≡ map Made (by_holder (kind_of old.what) holder)
+    labelled = labelled_by slot s new kept ∙ ap (λ (w : EntityData). map Made (by_holder (kind_of w) holder)) what
+
+    valid : (x : Entry) → holder ≡ Some x → IsLasting x.0.module
+        → IsValidOf x.0.module (kind_of old.what) (value_in slot old) × IsValidOf x.0.module (kind_of old.what) (value_after x.0.module request (value_in slot old))
+    valid x found lasting =
+        let held = holder_valid slot s x kept found lasting in
+        let own : IsValidOf x.0.module (kind_of old.what) (value_in slot old) = held.1 id old live in
+        (own, relabel_valid slot x.0 s old request held.0 held.1 own allowed)
+
+change_marked : {by : Deed} (slot : ℕ) (id : Id) (s : State) (next : ℕ) (found found' : Option LiveEntity) (marks : List Mark) → slot < SLOTS → IsKept slot s
+    → live_at s.objects id ≡ found → s.objects.next ≤ next → EntityChange by s id found found' → Agree slot id s.objects.next found marks
+    → Agree slot id next found' (marks ++ added s.specs slot marks found found')
+change_marked slot id s next _ _ marks within kept is more absent agree =
     rw (append-nil marks) (agree.0, λ later. agree.1 (omega arith), agree.2)
-change_marked slot id s next _ _ marks within kept more (stays old new label) agree =
+change_marked slot id s next _ _ marks within kept is more (stays old new kind label) agree =
     let value : value_in slot new ≡ value_in slot old = ap (λ (values : List LabelValue). slice_index_or values slot Unset) label in
-    let not_first : is_first (value_in slot old) (value_in slot new) ≡ false = ap (is_first (value_in slot old)) value ∙ no_first (value_in slot old) in
-    rw (not_first, append-nil marks, value) agree
-change_marked slot id s next _ _ marks within kept more (comes new maker from own is live label) agree =
+    rw value (unchanged_marks (value_in slot old) marks (made_marks s.specs slot new) agree)
+change_marked slot id s next _ _ marks within kept is more (gets_label old new request asked allowed what label) agree =
+    relabel_marked slot s id old new request marks within kept is allowed what label agree
+change_marked slot id s next _ _ marks within kept is more (comes new maker from own given live process label) agree =
     let none : marks ≡ [] = agree.1 (omega arith) in
     let value : value_in slot new ≡ new_value s.specs (kind_of new.what) (Maker maker.label) slot =
     ap (λ (values : List LabelValue). slice_index_or values slot Unset) label ∙ four_values (new_value s.specs (kind_of new.what) (Maker maker.label)) slot within in
-    subst (λ (ms : List Mark). AreMarksOf (value_in slot new) (ms ++ made_marks s.specs slot new)) (sym none) (comes_marked slot s new maker from within kept live value)
-change_marked slot id s next _ _ marks within kept more (goes old given) agree =
+    subst (λ (ms : List Mark). AreMarksOf (value_in slot new) (ms ++ made_marks s.specs slot new)) (sym none)
+    (comes_marked slot s new maker from within kept live process value)
+change_marked slot id s next _ _ marks within kept is more (goes old given) agree =
     let ended = ends_once s.specs (value_in slot old) marks agree in
     (ended.once, λ later. absurd (omega arith), ended.over)
 
-step_marked : {by : Option Id} (slot : ℕ) (id : Id) (s s' : State) (marks : List Mark) → slot < SLOTS → StateChange by s s' → IsMarked slot id s marks
+step_marked : {by : Deed} (slot : ℕ) (id : Id) (s s' : State) (marks : List Mark) → slot < SLOTS → StateChange by s s' → IsMarked slot id s marks
     → IsMarked slot id s' (marks_across id slot marks s s')
 step_marked {by = by} slot id s s' marks within shape marked =
-    let step : ChangesEntities by s s' = changes_entities by s s' shape marked.kept.rising in
+    let step : ChangesEntities by s s' = changes_entities by s s' shape marked.kept.rooted.rising in
     record {
       kept = keeps slot s s' within shape marked.kept;
-      agree = change_marked slot id s s'.objects.next (live_at s.objects id) (live_at s'.objects id) marks within marked.kept step.next (step.each id) marked.agree;
+      agree = change_marked slot id s s'.objects.next (live_at s.objects id) (live_at s'.objects id) marks within marked.kept refl step.next (step.each id) marked.agree;
     }
 
 -- A run
 
--- the process that makes the call of a line, and of an event
-abbrev pub by_line : Script → RunState → ℕ → Option Line → Option Id
-by_line s r t None = None
-by_line s r t (Some line) = process_named r.state.objects (caller_name (name_of s t) line.child)
+-- who makes the call of a line, and of an event, and what it asks of whose label where it is done
 
-abbrev pub by_event : Script → RunState → Event → Option Id
-by_event s r (event.Enter t) = None
+abbrev pub by_nobody : Deed
+by_nobody = record { caller = None; asked = None }
+
+abbrev pub by_line : Script → RunState → ℕ → Option Line → Deed
+by_line s r t None = by_nobody
+by_line s r t (Some line) = step_by r.state (name_of s t) line.child line.call
+
+abbrev pub by_event : Script → RunState → Event → Deed
+by_event s r (event.Enter t) = by_nobody
 by_event s r (event.Done t line reply) = by_line s r t (next_line s r.progress t)
-by_event s r (event.Leave t) = None
+by_event s r (event.Leave t) = by_nobody
 by_event s r (event.Changed t line reply) = by_line s r t (next_line s r.progress t)
 
-line_change : (s : Script) (r : RunState) (t : ℕ) (next : Option Line) → StateChange (by_line s r t next) r.state (state_at s r t next)
-line_change s r t None = same refl
-line_change s r t (Some line) = step_change r.state (name_of s t) line.child line.call
+line_change : (s : Script) (r : RunState) (t : ℕ) (next : Option Line) → IsRooted r.state.objects → StateChange (by_line s r t next) r.state (state_at s r t next)
+line_change s r t None rooted = same refl
+line_change s r t (Some line) rooted = step_change r.state (name_of s t) line.child line.call rooted
 
-pub event_change : (s : Script) (r : RunState) (e : Event) → StateChange (by_event s r e) r.state (after s r e).state
-event_change s r (event.Enter t) = same refl
-event_change s r (event.Done t line reply) = line_change s r t (next_line s r.progress t)
-event_change s r (event.Leave t) = same refl
-event_change s r (event.Changed t line reply) = line_change s r t (next_line s r.progress t)
+pub event_change : (s : Script) (r : RunState) (e : Event) → IsRooted r.state.objects → StateChange (by_event s r e) r.state (after s r e).state
+event_change s r (event.Enter t) rooted = same refl
+event_change s r (event.Done t line reply) rooted = line_change s r t (next_line s r.progress t) rooted
+event_change s r (event.Leave t) rooted = same refl
+event_change s r (event.Changed t line reply) rooted = line_change s r t (next_line s r.progress t) rooted
 
 run_marked : (slot : ℕ) (id : Id) (s : Script) (r : RunState) (marks : List Mark) (es : List Event) → slot < SLOTS → IsMarked slot id r.state marks
     → IsMarked slot id (run_state_after s r es).state (marks_after s id slot r marks es)
 run_marked slot id s r marks [] within marked = marked
 run_marked slot id s r marks (e ∷ es) within marked =
     run_marked slot id s (after s r e) (marks_across id slot marks r.state (after s r e).state) es within
-    (step_marked slot id r.state (after s r e).state marks within (event_change s r e) marked)
+    (step_marked slot id r.state (after s r e).state marks within (event_change s r e marked.kept.rooted) marked)
 
 -- The opening state
 
@@ -143,7 +181,7 @@ opening_valid : (slot : ℕ) (s : Script) (r : Registration) → slot < SLOTS �
     → AllValid slot r.module (opening_state s).objects
 opening_valid slot s r within formed pinned id e found =
     let booted = (opening_booted s formed).each id e found in
-    ap (λ (values : List LabelValue). holds_valid (facts_of r.module).labels (slice_index_or values slot Unset)) booted.label
+    ap (λ (values : List LabelValue). holds_valid (facts_of r.module).labels (kind_of e.what) (slice_index_or values slot Unset)) booted.label
     ∙ boot_holds slot r (booted_specs s) (given_by s.boots) (kind_of e.what) booted.request within pinned booted.let_ask
 
 opening_holding : (slot : ℕ) (s : Script) → slot < SLOTS → IsWellFormed s → Standing slot (booted_specs s) (given_by s.boots) → Holding slot (opening_state s)
@@ -154,7 +192,7 @@ opening_marked : (slot : ℕ) (id : Id) (s : Script) → slot < SLOTS → IsWell
 opening_marked slot id s within formed =
     record {
       kept = record {
-        rising = booted.rising;
+        rooted = booted.rooted;
         booted = refl;
         slots = record { below = boots_below s; single = boots_single s slot };
         holding = opening_holding slot s within formed (boots_standing s slot);
@@ -222,9 +260,9 @@ pub opening_held : (slot : ℕ) (r : Registration) (s : Script) → slot < SLOTS
 opening_held slot r s within formed pinned =
     record { kept = (opening_marked slot (record { 0 = 0 }) s within formed).kept; pinned = pinned; valid = opening_valid slot s r within formed pinned }
 
-pub step_held : {by : Option Id} (slot : ℕ) (r : Registration) (s s' : State) → slot < SLOTS → StateChange by s s' → IsHeld slot r s → IsHeld slot r s'
+pub step_held : {by : Deed} (slot : ℕ) (r : Registration) (s s' : State) → slot < SLOTS → StateChange by s s' → IsHeld slot r s → IsHeld slot r s'
 step_held {by = by} slot r s s' within shape held =
-    let step : ChangesEntities by s s' = changes_entities by s s' shape held.kept.rising in
+    let step : ChangesEntities by s s' = changes_entities by s s' shape held.kept.rooted.rising in
     record {
       kept = keeps slot s s' within shape held.kept;
       pinned = keeps_pinned slot r s s' shape held.pinned;
@@ -235,7 +273,7 @@ run_held : (slot : ℕ) (r : Registration) (s : Script) (run : RunState) (es : L
     → IsHeld slot r (run_state_after s run es).state
 run_held slot r s run [] within held = held
 run_held slot r s run (e ∷ es) within held =
-    run_held slot r s (after s run e) es within (step_held slot r run.state (after s run e).state within (event_change s run e) held)
+    run_held slot r s (after s run e) es within (step_held slot r run.state (after s run e).state within (event_change s run e held.kept.rooted) held)
 
 labels_all : (slot : ℕ) (r : Registration) (s : State) → IsHeld slot r s → LabelsAll r slot s
 labels_all slot r s held =

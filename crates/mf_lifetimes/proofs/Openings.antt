@@ -1,6 +1,6 @@
 -- The entities of the opening state.
 use Rattle.std.proofs.Common.{◌≡◌, ℕ, Bool, true, false, cond, List, [], ◌∷◌, ◌++◌, Option, Some, None, get_or, refl, sym, ◌∙◌, subst, arith}
-use Rattle.std.specs.Prelude.{find, fold}
+use Rattle.std.specs.Prelude.{find, fold, IfSome}
 use Rattle.std.specs.List.{AllByRecursion}
 use Rattle.mf_elem.specs.declared.label.Request.{Request}
 use Rattle.mf_elem.specs.Label.{no_request}
@@ -13,18 +13,18 @@ use Rattle.mf_objects.specs.declared.entity.EntityData.{EntityData}
 use Rattle.mf_objects.specs.declared.entity.EntityData.TheVariants.{Process}
 use Rattle.mf_objects.specs.Live.{LiveEntity, Entities, has_id, kind_of, live_at}
 use Rattle.mf_objects.specs.Changes.{made, with_entity, new_vnode, root_entity}
-use Rattle.mf_objects.specs.Population.{IsRising}
-use Rattle.mf_objects.proofs.Rising.{rising_push, id_is}
+use Rattle.mf_objects.proofs.Rising.{rising_push, id_is, id_differs}
 use Rattle.mf_calls.specs.declared.script.Task.{Task}
 use Rattle.mf_calls.specs.declared.script.FileLine.{FileLine}
 use Rattle.mf_calls.specs.declared.script.Script.{Script}
 use Rattle.mf_calls.specs.WellFormed.{IsWellFormed}
 use Rattle.mf_plan.specs.declared.target.Target.{Target}
 use Rattle.mf_plan.specs.declared.target.Target.TheVariants.{Root, Name, Nowhere}
-use Rattle.mf_plan.specs.Path.{last_name, lookup_along}
+use Rattle.mf_plan.specs.Path.{last_name, lookup_along, root}
 use Rattle.mf_plan.specs.Views.{process_named}
 use Rattle.mf_core.specs.Opening.{root_alone, with_file_at, with_file, with_task_at, with_task, booted_specs, opening_objects}
 use Rattle.mf_objects.proofs.Finding.{find_push_miss, find_push_hit, find_beyond}
+use Rattle.mf_step.proofs.Rooted.{IsRooted}
 use Rattle.mf_lifetimes.proofs.Asked.{AllLetAsk, booted_let, let_nothing}
 use Rattle.mf_lifetimes.proofs.Files.{by_place}
 
@@ -35,34 +35,48 @@ pub record IsBooted (listed : List Entry) (e : LiveEntity) : Type 0 where
   pub let_ask : AllLetAsk (kind_of e.what) request listed
 
 pub record AreBooted (listed : List Entry) (o : Entities) : Type 0 where
-  pub rising : IsRising 0 o.next o.live
+  pub rooted : IsRooted o
   pub each : (id : Id) (e : LiveEntity) → live_at o id ≡ Some e → IsBooted listed e
 
 push_booted : (listed : List Entry) (o : Entities) (name : List ℕ) (request : Request) (what : EntityData) → AllLetAsk (kind_of what) request listed → AreBooted listed o
     → AreBooted listed (with_entity o name (new_label listed (kind_of what) (Boot request)) what)
 push_booted listed o name request what let_ask booted =
-    record { rising = rising_push 0 o.next o.live new refl booted.rising; each = λ id e found. one id e (has_id id new) refl found }
+    record {
+      rooted = record {
+        rising = rising_push 0 o.next o.live new refl booted.rooted.rising;
+        given = omega (arith, booted.rooted.given);
+        vnode = subst (λ (found : Option LiveEntity). IfSome found (λ e. kind_of e.what ≡ kinds.Vnode)) (sym (find_push_miss (has_id root) o.live new other)) booted.rooted.vnode;
+      };
+      each = λ id e found. one id e (has_id id new) refl found;
+    }
   where
     new : LiveEntity
     new = made o name (new_label listed (kind_of what) (Boot request)) what
 
+    other : has_id root new ≡ false
+    other = id_differs root new (λ same. omega (arith, same, booted.rooted.given))
+
     one : (id : Id) (e : LiveEntity) (b : Bool) → has_id id new ≡ b → find (has_id id) (o.live ++ new ∷ []) ≡ Some e → IsBooted listed e
     one id e true hit found =
         let next : o.next ≡ id.0 = id_is id new hit in
-        let there : find (has_id id) (o.live ++ new ∷ []) ≡ Some new = find_push_hit (has_id id) o.live new (find_beyond id 0 o.next o.live (omega arith) booted.rising) hit in
+        let there : find (has_id id) (o.live ++ new ∷ []) ≡ Some new = find_push_hit (has_id id) o.live new (find_beyond id 0 o.next o.live (omega arith) booted.rooted.rising) hit in
         let is : new ≡ e = cc in
         subst (IsBooted listed) is (record { request = request; label = refl; let_ask = let_ask })
     one id e false miss found = booted.each id e (sym (find_push_miss (has_id id) o.live new miss) ∙ found)
 
 root_booted : (listed : List Entry) → AreBooted listed (root_alone listed)
-root_booted listed = record { rising = (omega arith, omega arith); each = λ id e found. one id e (has_id id root) found }
+root_booted listed =
+    record {
+      rooted = record { rising = (omega arith, omega arith); given = omega arith; vnode = refl };
+      each = λ id e found. one id e (has_id id top) found;
+    }
   where
-    root : LiveEntity
-    root = root_entity (new_label listed kinds.Vnode (Boot no_request))
+    top : LiveEntity
+    top = root_entity (new_label listed kinds.Vnode (Boot no_request))
 
-    one : (id : Id) (e : LiveEntity) (b : Bool) → cond b (Some root) None ≡ Some e → IsBooted listed e
+    one : (id : Id) (e : LiveEntity) (b : Bool) → cond b (Some top) None ≡ Some e → IsBooted listed e
     one id e true found =
-        let is : root ≡ e = cc in
+        let is : top ≡ e = cc in
         subst (IsBooted listed) is (record { request = no_request; label = refl; let_ask = let_nothing listed })
     one id e false found = cc
 

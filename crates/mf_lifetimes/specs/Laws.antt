@@ -1,17 +1,19 @@
 -- What is true of the opening state, and of label slots and their marks over every legal history: labels are initialised and destroyed once, as
 -- mac(9) asks.
-use Rattle.std.specs.Prelude.{◌≡◌, ◌≢◌, ℕ, ◌<◌, ◌+◌, Bool, true, false, List, [], ◌∷◌, length, Some, None, Contains}
+use Rattle.std.specs.Prelude.{◌≡◌, ◌≢◌, ℕ, ◌<◌, ◌+◌, Bool, true, false, ◌&&◌, List, [], ◌∷◌, length, Some, None, is_some, is_none, Contains}
 use Rattle.mf_elem.specs.declared.label.TheConstants.{SLOTS}
+use Rattle.mf_elem.specs.declared.label.RangeLabel.{RangeLabel}
 use Rattle.mf_elem.specs.declared.label.LabelValue.{LabelValue}
 use Rattle.mf_elem.specs.declared.label.LabelValue.TheVariants.{Unset, Range, Number}
 use Rattle.mf_elem.specs.Label.{is_valid}
 use Rattle.mf_item.specs.declared.view.Kind.{Kind}
+use Rattle.mf_item.specs.declared.view.Kind.TheVariants as kinds
 use Rattle.mf_policy.specs.declared.modules.Labelling.{Labelling}
 use Rattle.mf_policy.specs.declared.modules.Labelling.TheVariants.{Ranges, Partitions}
 use Rattle.mf_policy.specs.Modules.{facts_of}
 use Rattle.mf_policy.specs.declared.registration.Registration.{Registration}
 use Rattle.mf_objects.specs.declared.id.Id.{Id}
-use Rattle.mf_objects.specs.Live.{LiveEntity, live_at}
+use Rattle.mf_objects.specs.Live.{LiveEntity, kind_of, live_at}
 use Rattle.mf_calls.specs.declared.script.Script.{Script}
 use Rattle.mf_calls.specs.WellFormed.{IsWellFormed}
 use Rattle.mf_plan.specs.declared.state.State.{State}
@@ -45,18 +47,24 @@ abbrev pub GoneSlotsHaveEnded : Type 0
 GoneSlotsHaveEnded = (s : Script) (h : History) (id : Id) (slot : ℕ) (r : Registration) → IsWellFormed s → IsLegal s h
     → live_at (state_of s h).objects id ≡ None → slot < SLOTS → marks_of s h.events.list id slot ≢ Made r ∷ []
 
--- whether a slot that is labelled so holds a valid label: by elements, one whose effective element is there, and lies in the range where there
--- is one; by partitions, a number
-abbrev pub holds_valid : Labelling → LabelValue → Bool
-holds_valid (Ranges process other) (Range label) = is_valid label
-holds_valid Partitions (Number n) = true
-holds_valid labels value = false
+-- whether the label is as entities of that kind have it: a process's has a range, in which its effective element lies, and another's has an
+-- effective element and no range
+abbrev pub suits_kind : Kind → RangeLabel → Bool
+suits_kind kinds.Process label = is_valid label && is_some label.range
+suits_kind other label = is_some label.effective && is_none label.range
 
--- The registration alone is listed with this slot, and labels entities of every kind; and the slot of each live entity holds a valid label,
--- with an effective element where the module labels by elements.
+-- whether a slot that is labelled so holds a valid label for that kind: by elements, one that suits the kind; by partitions, which
+-- no module that stays has, a number
+abbrev pub holds_valid : Labelling → Kind → LabelValue → Bool
+holds_valid (Ranges process other) kind (Range label) = suits_kind kind label
+holds_valid Partitions kind (Number n) = true
+holds_valid labels kind value = false
+
+-- The registration alone is listed with this slot, and labels entities of every kind; and the slot of each live entity holds a valid label:
+-- where the module labels by elements, always with an effective element, and that of a process with a range too.
 pub record LabelsAll (r : Registration) (slot : ℕ) (state : State) : Type 0 where
   pub listed : (kind : Kind) → labellers state.specs kind slot ≡ r ∷ []
-  pub valid : (id : Id) (e : LiveEntity) → live_at state.objects id ≡ Some e → holds_valid (facts_of r.module).labels (value_in slot e) ≡ true
+  pub valid : (id : Id) (e : LiveEntity) → live_at state.objects id ≡ Some e → holds_valid (facts_of r.module).labels (kind_of e.what) (value_in slot e) ≡ true
 
 -- What was booted for good, with a label slot, labels all entities at any time, each with a valid label.
 abbrev pub BootedPoliciesLast : Type 0

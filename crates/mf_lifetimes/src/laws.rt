@@ -16,8 +16,8 @@ pub fn gone_slots_have_ended()
     ensures { GoneSlotsHaveEnded }
 {}
 
-/// A policy of the static list that was booted with a label slot stays listed, and that slot of every live entity holds a valid label,
-/// with an effective element where the policy labels by elements.
+/// A policy of the static list that was booted with a label slot stays listed, and that slot of every live entity holds a valid label
+/// for its kind: where the policy labels by elements always an effective element, and that of a process a range too.
 pub fn booted_policies_last()
     ensures { BootedPoliciesLast }
 {}

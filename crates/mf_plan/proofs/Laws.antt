@@ -5,6 +5,8 @@ use Rattle.mf_errno.specs.Names.{module_named}
 use Rattle.mf_errno.specs.declared.errno.Errno.{Errno}
 use Rattle.mf_errno.specs.declared.errno.Errno.TheVariants as errno
 use Rattle.mf_errno.specs.declared.module.Module.{Module}
+use Rattle.mf_elem.specs.declared.label.Request.{Request}
+use Rattle.mf_item.specs.declared.operation.CheckOp.{CheckOp}
 use Rattle.mf_item.specs.declared.operation.CheckOp.TheVariants as op
 use Rattle.mf_item.specs.declared.view.SubjectView.{SubjectView}
 use Rattle.mf_objects.specs.declared.id.Id.{Id}
@@ -29,7 +31,8 @@ use Rattle.mf_plan.specs.Loading.{load_refusal, unload_refusal}
 use Rattle.mf_policy.specs.Registration.{is_listed}
 use Rattle.mf_plan.specs.Names.{caller_name, child_name}
 use Rattle.mf_plan.specs.Path.{lookup_along, found_at, free_at, entry_at}
-use Rattle.mf_plan.specs.Plan.{ask, on, found, or_refuse, refuse_if, refuse_by, proceed, make_row, create_row, write_row, unlink_row, deliver_row, send_row, load_row, exec_row, read_row, readdir_row, check_row, pread_row, pwrite_row, recv_row, plan_for, plan_by, plan_of}
+use Rattle.mf_plan.specs.Relabels.{request_asked}
+use Rattle.mf_plan.specs.Plan.{ask, on, found, or_refuse, refuse_if, refuse_by, proceed, make_row, create_row, write_row, unlink_row, deliver_row, send_row, load_row, exec_row, read_row, readdir_row, check_row, pread_row, pwrite_row, recv_row, along, relabel_row, asked_row, plan_for, plan_by, plan_of}
 use Rattle.mf_plan.specs.Views.{subject_of, process_named, pipe_named, socket_named, is_full, is_dir, has_entries, overfills, is_full_socket, is_empty_socket}
 use Rattle.mf_plan.proofs.LookingUp.{free_name}
 
@@ -49,21 +52,21 @@ no_fault None rest done = refl
 no_fault (Some e) rest done = cc
 
 -- something was found
-record Finds (row : Id → Plan) (looked_up : Option Id) : Type 0 where
-  id : Id
-  is : looked_up ≡ Some id
-  rest : (row id).tail ≡ Do
+pub record Finds {A : Type 0} (row : A → Plan) (looked_up : Option A) : Type 0 where
+  pub what : A
+  pub is : looked_up ≡ Some what
+  pub rest : (row what).tail ≡ Do
 
-finds : (e : Errno) (row : Id → Plan) (looked_up : Option Id) → (found e row looked_up).tail ≡ Do → Finds row looked_up
+pub finds : {A : Type 0} (e : Errno) (row : A → Plan) (looked_up : Option A) → (found e row looked_up).tail ≡ Do → Finds row looked_up
 finds e row None done = cc
-finds e row (Some id) done = record { id = id; is = refl; rest = done }
+finds e row (Some what) done = record { what = what; is = refl; rest = done }
 
-record Reaches {A : Type 0} (row : A → Plan) (place : Result A Errno) : Type 0 where
-  at : A
-  is : place ≡ Ok at
-  rest : (row at).tail ≡ Do
+pub record Reaches {A : Type 0} (row : A → Plan) (place : Result A Errno) : Type 0 where
+  pub at : A
+  pub is : place ≡ Ok at
+  pub rest : (row at).tail ≡ Do
 
-reaches : {A : Type 0} (row : A → Plan) (place : Result A Errno) → (or_refuse row place).tail ≡ Do → Reaches row place
+pub reaches : {A : Type 0} (row : A → Plan) (place : Result A Errno) → (or_refuse row place).tail ≡ Do → Reaches row place
 reaches row (Ok at) done = record { at = at; is = refl; rest = done }
 reaches row (Err e) done = cc
 
@@ -134,24 +137,24 @@ unlinks o me path done =
 fills : (o : Entities) (me : SubjectView) (name text : List ℕ) → (found errno.Enoent (pwrite_row o me text) (pipe_named o name)).tail ≡ Do → CanFill o name text
 fills o me name text done =
     let pipe = finds errno.Enoent (pwrite_row o me text) (pipe_named o name) done in
-    let room = passes (overfills PIPE_LIMIT o text pipe.id) errno.Eagain proceed pipe.rest in
-    record { id = pipe.id; named = pipe.is; room = room.passed; fits = λ live. fits_pipe (length text) o pipe.id live (ltb-false 16384 _ room.passed) }
+    let room = passes (overfills PIPE_LIMIT o text pipe.what) errno.Eagain proceed pipe.rest in
+    record { id = pipe.what; named = pipe.is; room = room.passed; fits = λ live. fits_pipe (length text) o pipe.what live (ltb-false 16384 _ room.passed) }
 
 delivers : (o : Entities) (me : SubjectView) (from to : List ℕ) → (found errno.Enoent (send_row o me to) (socket_named o from)).tail ≡ Do → CanDeliver o to
 delivers o me from to done =
     let sender = finds errno.Enoent (send_row o me to) (socket_named o from) done in
-    let receiver = finds errno.Enoent (deliver_row o me sender.id) (socket_named o to) sender.rest in
-    let room = passes (is_full_socket o receiver.id) errno.Enobufs proceed receiver.rest in
-    record { id = receiver.id; named = receiver.is; room = room.passed; fits = λ live. fits_message o receiver.id live (leb-false 16 _ room.passed) }
+    let receiver = finds errno.Enoent (deliver_row o me sender.what) (socket_named o to) sender.rest in
+    let room = passes (is_full_socket o receiver.what) errno.Enobufs proceed receiver.rest in
+    record { id = receiver.what; named = receiver.is; room = room.passed; fits = λ live. fits_message o receiver.what live (leb-false 16 _ room.passed) }
 
 receives : (o : Entities) (me : SubjectView) (name : List ℕ) → (found errno.Enoent (recv_row o me) (socket_named o name)).tail ≡ Do → CanReceive o name
 receives o me name done =
     let socket = finds errno.Enoent (recv_row o me) (socket_named o name) done in
-    let some = passes (is_empty_socket o socket.id) errno.Eagain proceed socket.rest in
-    record { id = socket.id; named = socket.is; some = some.passed; waits = λ live. has_message o socket.id live (omega (arith, eqb-false _ 0 some.passed)) }
+    let some = passes (is_empty_socket o socket.what) errno.Eagain proceed socket.rest in
+    record { id = socket.what; named = socket.is; some = some.passed; waits = λ live. has_message o socket.what live (omega (arith, eqb-false _ 0 some.passed)) }
 
 takes : (o : Entities) (name : List ℕ) (row : Id → Plan) → (found errno.Enoent row (pipe_named o name)).tail ≡ Do → CanRead o name
-takes o name row done = let pipe = finds errno.Enoent row (pipe_named o name) done in record { id = pipe.id; named = pipe.is }
+takes o name row done = let pipe = finds errno.Enoent row (pipe_named o name) done in record { id = pipe.what; named = pipe.is }
 
 loadable_module : (fault : Option LoadFault) → option_map load_errno fault ≡ None → fault ≡ None
 loadable_module None none = refl
@@ -176,6 +179,25 @@ unloads s name (Some m) is none =
     by_test true none = refl
     by_test false none = cc
 
+-- what a relabel of a file does once it is known what it asks for, and one of a pipe or socket
+
+abbrev pub file_relabel : State → SubjectView → List (List ℕ) → Request → Plan
+file_relabel s me path request = along s.objects me found_at (λ id. relabel_row request (on s.objects me op.VnodeRelabel id)) (lookup_along s.objects path)
+
+abbrev pub named_relabel : Entities → SubjectView → CheckOp → Option Id → Request → Plan
+named_relabel o me operation holder request = found errno.Enoent (λ id. relabel_row request (on o me operation id)) holder
+
+relabels_file : (s : State) (me : SubjectView) (c : Call) (path : List (List ℕ)) → (asked_row s c (file_relabel s me path)).tail ≡ Do → CanFind s.objects path
+relabels_file s me c path done =
+    let asked = finds errno.Einval (file_relabel s me path) (request_asked s.specs c) done in
+    reads s.objects path (λ id. relabel_row asked.what (on s.objects me op.VnodeRelabel id)) asked.rest
+
+relabels_pipe : (s : State) (me : SubjectView) (c : Call) (name : List ℕ)
+    → (asked_row s c (named_relabel s.objects me op.PipeRelabel (pipe_named s.objects name))).tail ≡ Do → CanRead s.objects name
+relabels_pipe s me c name done =
+    let asked = finds errno.Einval (named_relabel s.objects me op.PipeRelabel (pipe_named s.objects name)) (request_asked s.specs c) done in
+    takes s.objects name (λ id. relabel_row asked.what (on s.objects me op.PipeRelabel id)) asked.rest
+
 -- The table
 
 can_do_for : (s : State) (task : List ℕ) (me : SubjectView) (c : Call) → (plan_for s task me c).tail ≡ Do → CanDo s task c
@@ -187,6 +209,7 @@ can_do_for s task me (call.Debug name) done = tt
 can_do_for s task me (call.Sched name) done = tt
 can_do_for s task me (call.Priv p) done = tt
 can_do_for s task me call.Getpmac done = tt
+can_do_for s task me (call.Setpmac label) done = tt
 can_do_for s task me (call.Exec path) done = reads s.objects path (exec_row s.objects me) done
 can_do_for s task me (call.Create path) done = creates s.objects me path done
 can_do_for s task me (call.Mkdir path) done = creates s.objects me path done
@@ -194,6 +217,7 @@ can_do_for s task me (call.Read path) done = reads s.objects path (read_row s.ob
 can_do_for s task me (call.Write path text) done = writes s.objects me path text done
 can_do_for s task me (call.Stat path) done = reads s.objects path (check_row s.objects me op.VnodeStat) done
 can_do_for s task me (call.Getfmac path) done = reads s.objects path (check_row s.objects me op.VnodeStat) done
+can_do_for s task me (call.Setfmac label path) done = relabels_file s me (call.Setfmac label path) path done
 can_do_for s task me (call.Readdir path) done = reads s.objects path (readdir_row s.objects me) done
 can_do_for s task me (call.Chmod path mode) done = reads s.objects path (check_row s.objects me op.VnodeSetmode) done
 can_do_for s task me (call.Unlink path) done = unlinks s.objects me path done
@@ -202,9 +226,11 @@ can_do_for s task me (call.Socket name) done = makes s.objects (live_named is_so
 can_do_for s task me (call.Pread name) done = takes s.objects name (pread_row s.objects me) done
 can_do_for s task me (call.Pwrite name text) done = fills s.objects me name text done
 can_do_for s task me (call.Pstat name) done = takes s.objects name (check_row s.objects me op.PipeStat) done
+can_do_for s task me (call.Setpipemac label name) done = relabels_pipe s me (call.Setpipemac label name) name done
 can_do_for s task me (call.Send from to text) done = delivers s.objects me from to done
 can_do_for s task me (call.Recv name) done = receives s.objects me name done
 can_do_for s task me (call.Seesock name) done = tt
+can_do_for s task me (call.Setsockmac label name) done = tt
 can_do_for s task me call.Kldstat done = tt
 can_do_for s task me (call.Kldload name) done = loads s me name (module_named name) refl done
 can_do_for s task me (call.Kldunload name) done = unloads s name (module_named name) refl (no_fault (unload_refusal s (module_named name)) proceed done)

@@ -11,9 +11,10 @@ use Rattle.mf_plan.specs.Path.{file_at_path}
 use Rattle.mf_plan.specs.Places.{free_dir_at, entry_at_path}
 use Rattle.mf_plan.specs.Views.{process_named, pipe_named, socket_named}
 
--- the file, pipe or socket that a call reads or changes, or the directory in which it makes a file; the caller of `getpmac`
+-- the file, pipe or socket that a call reads or changes, or the directory in which it makes a file; the caller of `getpmac` and `setpmac`
 abbrev pub target_of : Entities → Option Id → Call → Option Id
 target_of objects caller call.Getpmac = caller
+target_of objects caller (call.Setpmac label) = caller
 target_of objects caller (call.Exec path) = file_at_path objects path
 target_of objects caller (call.Create path) = free_dir_at objects path
 target_of objects caller (call.Mkdir path) = free_dir_at objects path
@@ -21,14 +22,17 @@ target_of objects caller (call.Read path) = file_at_path objects path
 target_of objects caller (call.Write path text) = file_at_path objects path
 target_of objects caller (call.Stat path) = file_at_path objects path
 target_of objects caller (call.Getfmac path) = file_at_path objects path
+target_of objects caller (call.Setfmac label path) = file_at_path objects path
 target_of objects caller (call.Readdir path) = file_at_path objects path
 target_of objects caller (call.Chmod path mode) = file_at_path objects path
 target_of objects caller (call.Unlink path) = entry_at_path objects path
 target_of objects caller (call.Pread name) = pipe_named objects name
 target_of objects caller (call.Pwrite name text) = pipe_named objects name
 target_of objects caller (call.Pstat name) = pipe_named objects name
+target_of objects caller (call.Setpipemac label name) = pipe_named objects name
 target_of objects caller (call.Send from to text) = socket_named objects to
 target_of objects caller (call.Recv name) = socket_named objects name
+target_of objects caller (call.Setsockmac label name) = socket_named objects name
 target_of objects caller other = None
 
 -- the call of that process, and what it is about

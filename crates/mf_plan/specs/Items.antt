@@ -1,5 +1,5 @@
 -- The items of a plan that is kept.
-use Rattle.std.specs.Prelude.{◌<◌, List, [], length, map, All, slice_index_or, None}
+use Rattle.std.specs.Prelude.{◌<◌, List, [], length, map, All, slice_index_or}
 use Rattle.mf_item.specs.Item.{Item}
 use Rattle.mf_item.specs.declared.view.SubjectView.{SubjectView}
 use Rattle.mf_objects.specs.Live.{no_cred}
@@ -12,7 +12,7 @@ nobody = record { id = 0; cred = no_cred; label = [] }
 -- a check of these subjects, as policies see it
 abbrev pub item_with : List SubjectView → CheckView → Item
 item_with subjects check =
-    record { op = check.op; subject = slice_index_or subjects check.subject nobody; object = check.object; request = None; privilege = check.privilege }
+    record { op = check.op; subject = slice_index_or subjects check.subject nobody; object = check.object; request = check.request; privilege = check.privilege }
 
 abbrev pub items_with : List SubjectView → List CheckView → List Item
 items_with subjects checks = map (item_with subjects) checks

@@ -9,6 +9,7 @@ pub mod Path
 pub mod Places
 pub mod Plan
 pub mod Planned
+pub mod Relabels
 pub mod Settings
 pub mod Viewing
 pub mod Views

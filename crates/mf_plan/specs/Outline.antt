@@ -1,5 +1,8 @@
 -- Outlines of plans: checks that name entities by their ids alone, and how policies see them.
-use Rattle.std.specs.Prelude.{All, IfSome, IsSome, List, map, Option, None, option_map}
+use Rattle.std.specs.Prelude.{Bool, true, false, if◌then◌else◌, All, IfSome, IsSome, List, map, Option, Some, None, option_map}
+use Rattle.mf_elem.specs.declared.label.Request.{Request}
+use Rattle.mf_item.specs.declared.operation.CheckOp.{CheckOp}
+use Rattle.mf_item.specs.declared.operation.CheckOp.TheVariants as op
 use Rattle.mf_item.specs.declared.view.SubjectView.{SubjectView}
 use Rattle.mf_item.specs.declared.view.ObjectView.{ObjectView}
 use Rattle.mf_item.specs.Item.{Item}
@@ -14,17 +17,35 @@ use Rattle.mf_plan.specs.Views.{object_of}
 abbrev pub subject_in : Entities → Check → SubjectView
 subject_in objects check = record { id = check.subject.0; cred = cred_at objects check.caller; label = label_at objects check.subject }
 
--- the check as policies see it, by the views of its subject and its object
-abbrev pub item_by : Check → SubjectView → Option ObjectView → Item
-item_by check subject object = record { op = check.op; subject = subject; object = object; request = None; privilege = check.privilege }
+-- whether the operation changes a label
+abbrev pub is_relabel : CheckOp → Bool
+is_relabel op.VnodeRelabel = true
+is_relabel op.PipeRelabel = true
+is_relabel op.SocketRelabel = true
+is_relabel op.CredRelabel = true
+is_relabel other = false
 
--- the check as policies see it
-unfoldable pub item_of : Entities → Check → Item
-item_of objects check = item_by check (subject_in objects check) (option_map (object_of objects) check.object)
+-- the request that goes with a check: that of the outline, where its operation changes a label
+abbrev pub request_for : Option Request → CheckOp → Option Request
+request_for None op = None
+request_for (Some request) op = if is_relabel op then Some request else None
+
+-- the check as policies see it, by the request of its outline, and the views of its subject and its object
+abbrev pub item_by : Option Request → Check → SubjectView → Option ObjectView → Item
+item_by asked check subject object =
+    record { op = check.op; subject = subject; object = object; request = request_for asked check.op; privilege = check.privilege }
+
+-- the check as policies see it, in an outline with this request, and in one with none
+
+unfoldable pub item_asking : Entities → Option Request → Check → Item
+item_asking objects asked check = item_by asked check (subject_in objects check) (option_map (object_of objects) check.object)
+
+abbrev pub item_of : Entities → Check → Item
+item_of objects check = item_asking objects None check
 
 -- the plan as policies see it
 abbrev pub plan_in : Entities → Outline → Plan
-plan_in objects outline = record { items = map (item_of objects) outline.checks; tail = outline.tail }
+plan_in objects outline = record { items = map (item_asking objects outline.request) outline.checks; tail = outline.tail }
 
 -- all that the check names is live
 pub record IsLiveCheck (objects : Entities) (check : Check) : Type 0 where

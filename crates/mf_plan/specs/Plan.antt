@@ -12,6 +12,7 @@ use Rattle.mf_errno.specs.declared.module.Module.{Module}
 use Rattle.mf_errno.specs.declared.module.Module.TheVariants as modules
 use Rattle.mf_errno.specs.declared.privilege.Priv.{Priv}
 use Rattle.mf_errno.specs.declared.privilege.Priv.TheVariants as privilege
+use Rattle.mf_elem.specs.declared.label.Request.{Request}
 use Rattle.mf_item.specs.declared.operation.CheckOp.{CheckOp}
 use Rattle.mf_item.specs.declared.operation.CheckOp.TheVariants as op
 use Rattle.mf_item.specs.declared.view.SubjectView.{SubjectView}
@@ -28,6 +29,7 @@ use Rattle.mf_plan.specs.declared.state.State.{State}
 use Rattle.mf_plan.specs.declared.target.Target.{Target}
 use Rattle.mf_plan.specs.Loading.{load_refusal, unload_refusal}
 use Rattle.mf_policy.specs.Registration.{is_listed}
+use Rattle.mf_plan.specs.Relabels.{request_asked}
 use Rattle.mf_plan.specs.Settings.{setting_refusal}
 use Rattle.mf_plan.specs.Names.{caller_name, child_name}
 use Rattle.mf_plan.specs.Path.{lookup_along, found_at, free_at, entry_at}
@@ -55,13 +57,17 @@ ask item rest = record rest { items = item ∷ rest.items }
 unfoldable pub on : Entities → SubjectView → CheckOp → Id → Item
 on objects subject op id = record { op = op; subject = subject; object = Some (object_of objects id); request = None; privilege = None }
 
--- a check of a privilege, and one of a subject that loads or unloads a module
+-- a check of a privilege, and one of the subject alone
 
 abbrev pub privileged : SubjectView → Priv → Item
 privileged subject p = record { op = op.Priv; subject = subject; object = None; request = None; privilege = Some p }
 
-abbrev pub about_modules : SubjectView → CheckOp → Item
-about_modules subject op = record { op = op; subject = subject; object = None; request = None; privilege = None }
+abbrev pub of_subject : SubjectView → CheckOp → Item
+of_subject subject op = record { op = op; subject = subject; object = None; request = None; privilege = None }
+
+-- the check of a relabel, which has what is asked for
+abbrev pub asking_for : Request → Item → Item
+asking_for request item = record item { request = Some request }
 
 -- goes on with what is found, or else refuses
 
@@ -127,8 +133,16 @@ send_row o me to from = ask (on o me op.SocketSend from) (found errno.Enoent (de
 abbrev pub recv_row : Entities → SubjectView → Id → Plan
 recv_row o me id = ask (on o me op.SocketReceive id) (refuse_if (is_empty_socket o id) errno.Eagain proceed)
 
+-- one check of a relabel
+abbrev pub relabel_row : Request → Item → Plan
+relabel_row request item = ask (asking_for request item) proceed
+
+-- what the call asks of a label comes first: its text must be one that can be read, and be claimed
+abbrev pub asked_row : State → Call → (Request → Plan) → Plan
+asked_row s c row = found errno.Einval row (request_asked s.specs c)
+
 abbrev pub load_row : State → SubjectView → Option Module → Plan
-load_row s me wanted = found errno.Enoent (λ m. ask (about_modules me op.KldLoad) (refuse_by (load_refusal s m) proceed)) wanted
+load_row s me wanted = found errno.Enoent (λ m. ask (of_subject me op.KldLoad) (refuse_by (load_refusal s m) proceed)) wanted
 
 -- root alone changes a setting
 abbrev pub setting_row : State → SubjectView → Call → Plan
@@ -147,6 +161,7 @@ plan_for s task me (call.Debug name) = found errno.Esrch (check_row s.objects me
 plan_for s task me (call.Sched name) = found errno.Esrch (check_row s.objects me op.ProcSched) (process_named s.objects name)
 plan_for s task me (call.Priv p) = ask (privileged me p) proceed
 plan_for s task me call.Getpmac = proceed
+plan_for s task me (call.Setpmac label) = asked_row s (call.Setpmac label) (λ request. relabel_row request (of_subject me op.CredRelabel))
 plan_for s task me (call.Exec path) = along s.objects me found_at (exec_row s.objects me) (lookup_along s.objects path)
 plan_for s task me (call.Create path) = along s.objects me free_at (create_row s.objects me) (lookup_along s.objects path)
 plan_for s task me (call.Mkdir path) = along s.objects me free_at (create_row s.objects me) (lookup_along s.objects path)
@@ -154,6 +169,8 @@ plan_for s task me (call.Read path) = along s.objects me found_at (read_row s.ob
 plan_for s task me (call.Write path text) = along s.objects me found_at (write_row s.objects me text) (lookup_along s.objects path)
 plan_for s task me (call.Stat path) = along s.objects me found_at (check_row s.objects me op.VnodeStat) (lookup_along s.objects path)
 plan_for s task me (call.Getfmac path) = along s.objects me found_at (check_row s.objects me op.VnodeStat) (lookup_along s.objects path)
+plan_for s task me (call.Setfmac label path) =
+    asked_row s (call.Setfmac label path) (λ request. along s.objects me found_at (λ id. relabel_row request (on s.objects me op.VnodeRelabel id)) (lookup_along s.objects path))
 plan_for s task me (call.Readdir path) = along s.objects me found_at (readdir_row s.objects me) (lookup_along s.objects path)
 plan_for s task me (call.Chmod path mode) = along s.objects me found_at (check_row s.objects me op.VnodeSetmode) (lookup_along s.objects path)
 plan_for s task me (call.Unlink path) = along s.objects me entry_at (unlink_row s.objects me) (lookup_along s.objects path)
@@ -162,13 +179,17 @@ plan_for s task me (call.Socket name) = make_row s.objects (socket_named s.objec
 plan_for s task me (call.Pread name) = found errno.Enoent (pread_row s.objects me) (pipe_named s.objects name)
 plan_for s task me (call.Pwrite name text) = found errno.Enoent (pwrite_row s.objects me text) (pipe_named s.objects name)
 plan_for s task me (call.Pstat name) = found errno.Enoent (check_row s.objects me op.PipeStat) (pipe_named s.objects name)
+plan_for s task me (call.Setpipemac label name) =
+    asked_row s (call.Setpipemac label name) (λ request. found errno.Enoent (λ id. relabel_row request (on s.objects me op.PipeRelabel id)) (pipe_named s.objects name))
 plan_for s task me (call.Send from to text) = found errno.Enoent (send_row s.objects me to) (socket_named s.objects from)
 plan_for s task me (call.Recv name) = found errno.Enoent (recv_row s.objects me) (socket_named s.objects name)
 plan_for s task me (call.Seesock name) = found errno.Enoent (check_row s.objects me op.SocketVisible) (socket_named s.objects name)
+plan_for s task me (call.Setsockmac label name) =
+    asked_row s (call.Setsockmac label name) (λ request. found errno.Enoent (λ id. relabel_row request (on s.objects me op.SocketRelabel id)) (socket_named s.objects name))
 plan_for s task me call.Kldstat = proceed
 plan_for s task me (call.Kldload name) = ask (privileged me privilege.KldLoad) (load_row s me (module_named name))
 plan_for s task me (call.Kldunload name) =
-    ask (privileged me privilege.KldUnload) (ask (about_modules me op.KldUnload) (refuse_by (unload_refusal s (module_named name)) proceed))
+    ask (privileged me privilege.KldUnload) (ask (of_subject me op.KldUnload) (refuse_by (unload_refusal s (module_named name)) proceed))
 plan_for s task me (call.Sysctl name value) = setting_row s me (call.Sysctl name value)
 plan_for s task me call.UgidfwList = rules_row s
 plan_for s task me (call.UgidfwAdd rule) = setting_row s me (call.UgidfwAdd rule)

@@ -14,7 +14,7 @@ use mf_names::Path;
 use mf_objects::{Id, Objects};
 
 /// The process that makes a call, and what the call is about: the file, pipe or socket that it reads or changes, the
-/// directory in which it makes a file, or the process whose label it shows. A plan is made by looking these up, and hands
+/// directory in which it makes a file, or the process whose label it shows or changes. A plan is made by looking these up, and hands
 /// them on to payload and effect.
 #[derive(Clone, Copy, Debug, PartialEq, Eq)]
 pub struct Found {
@@ -35,25 +35,28 @@ pub fn found_of(state: &State, task: &str, child: Option<&str>, call: &Call) -> 
     }
 }
 
-/// The file, pipe or socket that a call reads or changes, or the directory in which it makes a file; the caller of `getpmac`.
+/// The file, pipe or socket that a call reads or changes, or the directory in which it makes a file; the caller of
+/// `getpmac` and `setpmac`.
 fn target_in(objects: &Objects, caller: Option<Id>, call: &Call) -> Option<Id>
     ensures { result ≡ spec.target_of objects.now caller call.now }
 {
     match call {
-        Call::Getpmac => caller,
+        Call::Getpmac | Call::Setpmac(_) => caller,
         Call::Exec(path)
         | Call::Read(path)
         | Call::Write(path, _)
         | Call::Stat(path)
         | Call::Getfmac(path)
+        | Call::Setfmac(_, path)
         | Call::Readdir(path)
         | Call::Chmod(path, _) => file_at(objects, path),
         Call::Create(path) | Call::Mkdir(path) => target_of(objects, path).free().ok(),
         Call::Unlink(path) => entry_at(objects, path),
-        Call::Pread(name) | Call::Pwrite(name, _) | Call::Pstat(name) => objects.pipe(
-            name.as_str(),
-        ),
-        Call::Send(_, name, _) | Call::Recv(name) => objects.socket(name.as_str()),
+        Call::Pread(name) | Call::Pwrite(name, _) | Call::Pstat(name) | Call::Setpipemac(_, name) =>
+            objects.pipe(name.as_str()),
+        Call::Send(_, name, _) | Call::Recv(name) | Call::Setsockmac(_, name) => {
+            objects.socket(name.as_str())
+        }
         Call::Fork(_)
         | Call::Exit
         | Call::See(_)

@@ -9,7 +9,7 @@ ghost use Rattle.mf_plan.specs.Plan as plan;
 ghost use Rattle.mf_plan.specs.Ended.{ended};
 ghost use Rattle.mf_plan.specs.Views as view;
 
-use crate::outline::{Checks, ask_modules, ask_privilege};
+use crate::outline::{Checks, ask_alone, ask_privilege};
 use crate::state::State;
 use mf_errno::{Errno, Module, Priv};
 use mf_item::CheckOp;
@@ -56,7 +56,7 @@ pub(crate) fn kldload(
 {
     ask_privilege(&state.objects, caller, Priv::KldLoad, checks);
     let wanted = Module::from_name(name).ok_or(Errno::Enoent)?;
-    ask_modules(&state.objects, caller, CheckOp::KldLoad, checks);
+    ask_alone(&state.objects, caller, CheckOp::KldLoad, checks);
     end_of_load(state, wanted)
 }
 
@@ -71,11 +71,11 @@ pub(crate) fn kldunload(
     requires asking { outline.IsAsking state.now.objects caller checks.old }
     ensures plan { ended (map (outline.item_of state.now.objects) checks.new) result
         ≡ plan.ask (plan.privileged (view.subject_of state.now.objects caller) privilege.KldUnload)
-        (plan.ask (plan.about_modules (view.subject_of state.now.objects caller) op.KldUnload) (plan.refuse_by (spec.unload_refusal state.now (module_named name.now)) plan.proceed)) }
+        (plan.ask (plan.of_subject (view.subject_of state.now.objects caller) op.KldUnload) (plan.refuse_by (spec.unload_refusal state.now (module_named name.now)) plan.proceed)) }
     ensures target { IfOk result (λ target. target ≡ None) }
     ensures asking { outline.IsAsking state.now.objects caller checks.new }
 {
     ask_privilege(&state.objects, caller, Priv::KldUnload, checks);
-    ask_modules(&state.objects, caller, CheckOp::KldUnload, checks);
+    ask_alone(&state.objects, caller, CheckOp::KldUnload, checks);
     end_of_unload(state, name)
 }

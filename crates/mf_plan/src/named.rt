@@ -14,7 +14,7 @@ use crate::outline::{Checks, ask, ask_delivery};
 use crate::views::{is_full, overfills_pipe};
 use mf_errno::Errno;
 use mf_item::CheckOp;
-use mf_names::SCRIPT_LIMIT;
+use mf_names::{Name, SCRIPT_LIMIT};
 use mf_objects::{Id, MOST_MESSAGES, Objects};
 
 /// The tests of a call that makes an entity: EEXIST where `holder` has its name already, ENFILE where no further entity
@@ -49,7 +49,7 @@ pub(crate) fn on_process(
     objects: &Objects,
     caller: Id,
     op: CheckOp,
-    name: &str,
+    name: &Name,
     checks: &mut Checks,
 ) -> Result<Option<Id>, Errno>
     requires empty { checks.old ≡ [] }
@@ -59,27 +59,28 @@ pub(crate) fn on_process(
     ensures target { IfOk result (λ target. target ≡ None) }
     ensures asking { outline.IsAsking objects.now caller checks.new }
 {
-    let id = objects.process(name).ok_or(Errno::Esrch)?;
+    let id = objects.process(name.as_str()).ok_or(Errno::Esrch)?;
     ask(objects, caller, op, id, checks);
     Ok(None)
 }
 
 /// One check of a pipe.
-pub(crate) fn pstat(
+pub(crate) fn on_pipe(
     objects: &Objects,
     caller: Id,
+    op: CheckOp,
     name: &str,
     checks: &mut Checks,
 ) -> Result<Option<Id>, Errno>
     requires empty { checks.old ≡ [] }
     requires asking { outline.IsAsking objects.now caller checks.old }
     ensures plan { ended (map (outline.item_of objects.now) checks.new) result
-        ≡ spec.found errno.Enoent (spec.check_row objects.now (view.subject_of objects.now caller) op.PipeStat) (view.pipe_named objects.now name.now) }
+        ≡ spec.found errno.Enoent (spec.check_row objects.now (view.subject_of objects.now caller) op) (view.pipe_named objects.now name.now) }
     ensures target { IfOk result (λ target. target ≡ view.pipe_named objects.now name.now) }
     ensures asking { outline.IsAsking objects.now caller checks.new }
 {
     let id = objects.pipe(name).ok_or(Errno::Enoent)?;
-    ask(objects, caller, CheckOp::PipeStat, id, checks);
+    ask(objects, caller, op, id, checks);
     Ok(Some(id))
 }
 
@@ -175,6 +176,26 @@ pub(crate) fn recv(
 }
 
 /// One check of a socket.
+pub(crate) fn on_socket(
+    objects: &Objects,
+    caller: Id,
+    op: CheckOp,
+    name: &str,
+    checks: &mut Checks,
+) -> Result<Option<Id>, Errno>
+    requires empty { checks.old ≡ [] }
+    requires asking { outline.IsAsking objects.now caller checks.old }
+    ensures plan { ended (map (outline.item_of objects.now) checks.new) result
+        ≡ spec.found errno.Enoent (spec.check_row objects.now (view.subject_of objects.now caller) op) (view.socket_named objects.now name.now) }
+    ensures target { IfOk result (λ target. target ≡ view.socket_named objects.now name.now) }
+    ensures asking { outline.IsAsking objects.now caller checks.new }
+{
+    let id = objects.socket(name).ok_or(Errno::Enoent)?;
+    ask(objects, caller, op, id, checks);
+    Ok(Some(id))
+}
+
+/// The check of `seesock`. What is seen isn't read, so the call is about no socket.
 pub(crate) fn seesock(
     objects: &Objects,
     caller: Id,
@@ -188,7 +209,6 @@ pub(crate) fn seesock(
     ensures target { IfOk result (λ target. target ≡ None) }
     ensures asking { outline.IsAsking objects.now caller checks.new }
 {
-    let id = objects.socket(name).ok_or(Errno::Enoent)?;
-    ask(objects, caller, CheckOp::SocketVisible, id, checks);
+    on_socket(objects, caller, CheckOp::SocketVisible, name, checks)?;
     Ok(None)
 }

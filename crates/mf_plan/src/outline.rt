@@ -9,6 +9,7 @@ ghost use Rattle.mf_plan.specs.Views as view;
 use crate::found::Found;
 use crate::plan::{MOST_CHECKS, Tail};
 use mf_cred::ArrayVec;
+use mf_elem::Request;
 use mf_errno::Priv;
 use mf_item::CheckOp;
 use mf_objects::{Id, Objects};
@@ -56,6 +57,8 @@ pub(crate) type Checks = ArrayVec<Check, MOST_CHECKS>;
 pub struct Outline {
     pub found: Found,
     pub checks: ArrayVec<Check, MOST_CHECKS>,
+    /// What a relabel asks for. It goes with the check of the relabel alone, and stands here once.
+    pub request: Option<Request>,
     pub tail: Tail,
 }
 
@@ -117,12 +120,12 @@ pub(crate) fn ask_privilege(_objects: &Objects, caller: Id, privilege: Priv, che
     });
 }
 
-/// Adds the check of a caller that loads or unloads a module.
-pub(crate) fn ask_modules(_objects: &Objects, caller: Id, op: CheckOp, checks: &mut Checks)
+/// Adds the check of what the caller does to no entity: it loads or unloads a module, or changes its own label.
+pub(crate) fn ask_alone(_objects: &Objects, caller: Id, op: CheckOp, checks: &mut Checks)
     requires few { length checks.old < MOST_CHECKS }
     requires asking { spec.IsAsking _objects.now caller checks.old }
     ensures seen { map (spec.item_of _objects.now) checks.new
-        ≡ map (spec.item_of _objects.now) checks.old ++ plan.about_modules (view.subject_of _objects.now caller) op ∷ [] }
+        ≡ map (spec.item_of _objects.now) checks.old ++ plan.of_subject (view.subject_of _objects.now caller) op ∷ [] }
     ensures count { length checks.new ≡ length checks.old + 1 }
     ensures asking { spec.IsAsking _objects.now caller checks.new }
 {

@@ -95,7 +95,13 @@ impl Plan {
         ensures { self.new ≡ outlines.plan_in objects.now outline.now }
     {
         let checks = outline.checks.as_slice();
-        fill_views(objects, checks, &mut self.subjects, &mut self.checks);
+        fill_views(
+            objects,
+            &outline.request,
+            checks,
+            &mut self.subjects,
+            &mut self.checks,
+        );
         self.count = checks.len();
         self.tail = outline.tail;
     }
@@ -108,6 +114,7 @@ impl Plan {
         self.tail == outline.tail
             && are_views(
                 objects,
+                &outline.request,
                 outline.checks.as_slice(),
                 self.subjects.as_slice(),
                 &self.checks[..self.count],

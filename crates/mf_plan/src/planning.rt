@@ -6,6 +6,7 @@ ghost use Rattle.mf_plan.specs.declared.plan.Tail.TheVariants.{Do};
 ghost use Rattle.mf_plan.specs.Found.{found_of, target_of};
 ghost use Rattle.mf_plan.specs.Outline as outlines;
 ghost use Rattle.mf_plan.specs.Plan as spec;
+ghost use Rattle.mf_plan.specs.Relabels.{request_asked};
 ghost use Rattle.mf_plan.specs.Ended.{tail_of, ended};
 ghost use Rattle.mf_plan.specs.Names.{caller_name};
 ghost use Rattle.mf_plan.specs.Views.{process_named, subject_of};
@@ -13,10 +14,11 @@ ghost use Rattle.mf_plan.specs.Views.{process_named, subject_of};
 use crate::files::{create, exec, on_file, read, readdir, unlink, write};
 use crate::found::Found;
 use crate::loading::{kldload, kldunload};
-use crate::named::{fork, make, on_process, pread, pstat, pwrite, recv, seesock, send};
+use crate::named::{fork, make, on_pipe, on_process, pread, pwrite, recv, seesock, send};
 use crate::names::caller_of;
 use crate::outline::{Checks, Outline, ask_privilege};
 use crate::plan::{Plan, Tail};
+use crate::relabels::{relabel_caller, relabel_file, relabel_pipe, relabel_socket};
 use crate::settings::{change_setting, list_rules};
 use crate::state::State;
 use mf_calls::Call;
@@ -87,6 +89,7 @@ pub fn outline_of(state: &State, task: &str, child: Option<&str>, call: &Call) -
     ensures live { outlines.AreLive state.now.objects result.checks }
     ensures caller { result.found.caller ≡ process_named state.now.objects (caller_name task.now (option_copied child.entry)) }
     ensures found { result.tail ≡ Do → result.found ≡ found_of state.now task.now (option_copied child.entry) call.now }
+    ensures request { result.tail ≡ Do → result.request ≡ request_asked state.now.specs call.now }
 {
     // It is filled in where it lies: a move would copy all the room for checks.
     let mut outline = Outline {
@@ -95,10 +98,11 @@ pub fn outline_of(state: &State, task: &str, child: Option<&str>, call: &Call) -
             target: None,
         },
         checks: ArrayVec::new(),
+        request: None,
         tail: Tail::Refuse(Errno::Esrch),
     };
     if let Some(caller) = outline.found.caller {
-        let end = ask_for(state, task, caller, call, &mut outline.checks);
+        let end = ask_for(state, task, caller, call, &mut outline);
         outline.found.target = end.ok().flatten();
         outline.tail = tail_of(end);
     }
@@ -132,38 +136,37 @@ fn has_privilege(
     Ok(None)
 }
 
-/// Collects the checks of a call of a live process, in order.
+/// Collects the checks of a call of a live process, in order, and what a relabel asks for.
 fn ask_for(
     state: &State,
     task: &str,
     caller: Id,
     call: &Call,
-    checks: &mut Checks,
+    outline: &mut Outline,
 ) -> Result<Option<Id>, Errno>
     requires task { IsName task.now }
     requires formed { IsFormedCall call.now }
-    requires empty { checks.old ≡ [] }
-    requires asking { outlines.IsAsking state.now.objects caller checks.old }
-    ensures plan { ended (map (outlines.item_of state.now.objects) checks.new) result
+    requires empty { outline.old.checks ≡ [] }
+    requires unasked { outline.old.request ≡ None }
+    requires asking { outlines.IsAsking state.now.objects caller outline.old.checks }
+    ensures plan { ended (map (outlines.item_asking state.now.objects outline.new.request) outline.new.checks) result
         ≡ spec.plan_for state.now task.now (subject_of state.now.objects caller) call.now }
     ensures target { IfOk result (λ target. target ≡ target_of state.now.objects (Some caller) call.now) }
-    ensures asking { outlines.IsAsking state.now.objects caller checks.new }
+    ensures request { IfOk result (λ target. outline.new.request ≡ request_asked state.now.specs call.now) }
+    ensures asking { outlines.IsAsking state.now.objects caller outline.new.checks }
+    ensures found { outline.new.found ≡ outline.old.found }
 {
     let objects = &state.objects;
+    let checks = &mut outline.checks;
     match call {
         Call::Fork(child) => fork(objects, task, child.as_str()),
         Call::Exit | Call::Kldstat => Ok(None),
         Call::Getpmac => Ok(Some(caller)),
-        Call::See(name) => on_process(objects, caller, CheckOp::ProcVisible, name.as_str(), checks),
-        Call::Signal(name) => on_process(
-            objects,
-            caller,
-            CheckOp::ProcSignal,
-            name.as_str(),
-            checks,
-        ),
-        Call::Debug(name) => on_process(objects, caller, CheckOp::ProcDebug, name.as_str(), checks),
-        Call::Sched(name) => on_process(objects, caller, CheckOp::ProcSched, name.as_str(), checks),
+        Call::Setpmac(_) => relabel_caller(state, caller, call, outline),
+        Call::See(name) => on_process(objects, caller, CheckOp::ProcVisible, name, checks),
+        Call::Signal(name) => on_process(objects, caller, CheckOp::ProcSignal, name, checks),
+        Call::Debug(name) => on_process(objects, caller, CheckOp::ProcDebug, name, checks),
+        Call::Sched(name) => on_process(objects, caller, CheckOp::ProcSched, name, checks),
         Call::Priv(privilege) => has_privilege(objects, caller, *privilege, checks),
         Call::Exec(path) => exec(objects, caller, path, checks),
         Call::Create(path) | Call::Mkdir(path) => create(objects, caller, path, checks),
@@ -172,6 +175,7 @@ fn ask_for(
         Call::Stat(path) | Call::Getfmac(path) => {
             on_file(objects, caller, CheckOp::VnodeStat, path, checks)
         }
+        Call::Setfmac(_, path) => relabel_file(state, caller, call, path, outline),
         Call::Readdir(path) => readdir(objects, caller, path, checks),
         Call::Chmod(path, _) => on_file(objects, caller, CheckOp::VnodeSetmode, path, checks),
         Call::Unlink(path) => unlink(objects, caller, path, checks),
@@ -179,10 +183,12 @@ fn ask_for(
         Call::Socket(name) => make(objects, objects.socket(name.as_str())),
         Call::Pread(name) => pread(objects, caller, name.as_str(), checks),
         Call::Pwrite(name, text) => pwrite(objects, caller, name.as_str(), text.as_slice(), checks),
-        Call::Pstat(name) => pstat(objects, caller, name.as_str(), checks),
+        Call::Pstat(name) => on_pipe(objects, caller, CheckOp::PipeStat, name.as_str(), checks),
+        Call::Setpipemac(_, name) => relabel_pipe(state, caller, call, name.as_str(), outline),
         Call::Send(from, to, _) => send(objects, caller, from.as_str(), to.as_str(), checks),
         Call::Recv(name) => recv(objects, caller, name.as_str(), checks),
         Call::Seesock(name) => seesock(objects, caller, name.as_str(), checks),
+        Call::Setsockmac(_, name) => relabel_socket(state, caller, call, name.as_str(), outline),
         Call::Kldload(name) => kldload(state, caller, name.as_str(), checks),
         Call::Kldunload(name) => kldunload(state, caller, name.as_str(), checks),
         Call::Sysctl(..) | Call::UgidfwAdd(_) | Call::UgidfwSet(..) | Call::UgidfwRemove(_) => {

@@ -9,6 +9,7 @@ ghost use Rattle.mf_plan.specs.Views as view;
 use crate::outline::Check;
 use crate::plan::{MOST_CHECKS, MOST_SUBJECTS};
 use mf_cred::ArrayVec;
+use mf_elem::Request;
 use mf_errno::Priv;
 use mf_item::{CheckOp, Item, ObjectView, SubjectView};
 use mf_names::{CONTENT_LIMIT, SCRIPT_LIMIT};
@@ -17,12 +18,13 @@ use mf_objects::{Id, MOST_ENTITIES, Objects, PIPE_LIMIT};
 /// The subjects of a plan's checks, with room for one that a plan before had.
 pub(crate) type Subjects = ArrayVec<SubjectView, MOST_SUBJECTS>;
 
-/// A check of a plan: the place of its subject among those of the plan, and its object.
+/// A check of a plan: the place of its subject among those of the plan, its object, and what a relabel asks for.
 #[derive(Clone, Copy)]
 pub struct CheckView {
     pub op: CheckOp,
     pub subject: usize,
     pub object: Option<ObjectView>,
+    pub request: Option<Request>,
     pub privilege: Option<Priv>,
 }
 
@@ -33,15 +35,22 @@ impl CheckView {
             op: CheckOp::VnodeLookup,
             subject: 0,
             object: None,
+            request: None,
             privilege: None,
         }
     }
 
     /// The check as policies see it, with its subject.
     pub(crate) fn item<'a>(&'a self, subject: &'a SubjectView) -> Item<'a>
-        ensures { result ≡ record { op = self.now.op; subject = subject.now; object = self.now.object; request = None; privilege = self.now.privilege } }
+        ensures { result ≡ record { op = self.now.op; subject = subject.now; object = self.now.object; request = self.now.request; privilege = self.now.privilege } }
     {
-        Item::new(self.op, subject, self.object.as_ref(), None, self.privilege)
+        Item::new(
+            self.op,
+            subject,
+            self.object.as_ref(),
+            self.request.as_ref(),
+            self.privilege,
+        )
     }
 }
 
@@ -112,13 +121,43 @@ fn same_privilege(privilege: Option<Priv>, other: Option<Priv>) -> bool
     privilege == other
 }
 
+/// Whether the operation changes a label.
+fn is_relabel(op: CheckOp) -> bool
+    ensures { result ≡ outline.is_relabel op }
+{
+    matches!(
+        op,
+        CheckOp::VnodeRelabel | CheckOp::PipeRelabel | CheckOp::SocketRelabel | CheckOp::CredRelabel
+    )
+}
+
+/// The request that goes with a check of that operation.
+fn request_for(asked: &Option<Request>, op: CheckOp) -> Option<Request>
+    ensures { result ≡ outline.request_for asked.now op }
+{
+    if is_relabel(op) { *asked } else { None }
+}
+
+/// Whether that request is the one that goes with a check of that operation. Nothing is copied.
+fn is_request(asked: &Option<Request>, op: CheckOp, request: &Option<Request>) -> bool
+    ensures { IsTrue result ↔ (request.now ≡ outline.request_for asked.now op) }
+{
+    match (asked, request) {
+        (None, None) => true,
+        (Some(_), None) => !is_relabel(op),
+        (Some(asked), Some(request)) => is_relabel(op) && request.same(asked),
+        (None, Some(_)) => false,
+    }
+}
+
 /// Whether the view is that of the check, but for its subject.
-fn is_asked(objects: &Objects, check: Check, seen: &CheckView) -> bool
+fn is_asked(objects: &Objects, asked: &Option<Request>, check: Check, seen: &CheckView) -> bool
     requires { outline.IsLiveCheck objects.now check }
-    ensures { IsTrue result ↔ viewing.IsAsked objects.now check seen.now }
+    ensures { IsTrue result ↔ viewing.IsAsked objects.now asked.now check seen.now }
 {
     seen.op == check.op
         && is_object(objects, check.object, &seen.object)
+        && is_request(asked, check.op, &seen.request)
         && same_privilege(seen.privilege, check.privilege)
 }
 
@@ -178,10 +217,16 @@ fn place_of_subject(
     subjects.len() - 1
 }
 
-/// Makes the view that of the check. An object that it shows as it is isn't copied again.
-fn look_again(objects: &Objects, check: Check, subject: usize, seen: &mut CheckView)
+/// Makes the view that of the check. An object or a request that it shows as it is isn't copied again.
+fn look_again(
+    objects: &Objects,
+    asked: &Option<Request>,
+    check: Check,
+    subject: usize,
+    seen: &mut CheckView,
+)
     requires { outline.IsLiveCheck objects.now check }
-    ensures asked { viewing.IsAsked objects.now check seen.new }
+    ensures asked { viewing.IsAsked objects.now asked.now check seen.new }
     ensures subject { seen.new.subject ≡ subject }
 {
     seen.op = check.op;
@@ -190,13 +235,17 @@ fn look_again(objects: &Objects, check: Check, subject: usize, seen: &mut CheckV
     if !is_object(objects, check.object, &seen.object) {
         seen.object = object_in(objects, check.object);
     }
+    if !is_request(asked, check.op, &seen.request) {
+        seen.request = request_for(asked, check.op);
+    }
 }
 
 /// Makes the first views those of the checks. What they showed before is kept where it still holds, since calls in a row
 /// mostly look at the same.
-#[tactic(auto, unfolding(crate::specs::Outline::item_of))]
+#[tactic(auto, unfolding(crate::specs::Outline::item_asking))]
 pub(crate) fn fill_views(
     objects: &Objects,
+    asked: &Option<Request>,
     checks: &[Check],
     subjects: &mut Subjects,
     seen: &mut [CheckView],
@@ -204,13 +253,13 @@ pub(crate) fn fill_views(
     requires few { length checks.now ≤ MOST_CHECKS }
     requires room { length checks.now ≤ length seen.old }
     requires live { outline.AreLive objects.now checks.now }
-    ensures items { items_with subjects.new (take (length checks.now) seen.new) ≡ map (outline.item_of objects.now) checks.now }
+    ensures items { items_with subjects.new (take (length checks.now) seen.new) ≡ map (outline.item_asking objects.now asked.now) checks.now }
     ensures places { HaveSubjects subjects.new (take (length checks.now) seen.new) }
 {
     let mut last = keep_first(objects, checks, subjects);
     for (place, check) in checks.iter().enumerate() {
         let subject = place_of_subject(objects, last, *check, subjects);
-        look_again(objects, *check, subject, &mut seen[place]);
+        look_again(objects, asked, *check, subject, &mut seen[place]);
         last = Some(*check);
     }
 }
@@ -234,9 +283,10 @@ fn is_subject_at(
 }
 
 /// Whether policies see the check so, where the subject of the check before is at `before`.
-#[tactic(auto, unfolding(crate::specs::Outline::item_of))]
+#[tactic(auto, unfolding(crate::specs::Outline::item_asking))]
 fn is_view(
     objects: &Objects,
+    asked: &Option<Request>,
     last: Option<Check>,
     before: usize,
     check: Check,
@@ -246,24 +296,25 @@ fn is_view(
     requires live { outline.IsLiveCheck objects.now check }
     requires place { seen.now.subject < length subjects.now }
     requires last { viewing.IsFoundAt objects.now subjects.now last before }
-    ensures is { IsTrue result ↔ (item_with subjects.now seen.now ≡ outline.item_of objects.now check) }
+    ensures is { IsTrue result ↔ (item_with subjects.now seen.now ≡ outline.item_asking objects.now asked.now check) }
     ensures found { IsTrue result → viewing.IsFoundAt objects.now subjects.now (Some check) seen.now.subject }
 {
-    is_asked(objects, check, seen)
+    is_asked(objects, asked, check, seen)
         && is_subject_at(objects, last, before, check, subjects, seen.subject)
 }
 
 /// Whether policies see these checks so.
-#[tactic(auto, unfolding(crate::specs::Outline::item_of))]
+#[tactic(auto, unfolding(crate::specs::Outline::item_asking))]
 pub(crate) fn are_views(
     objects: &Objects,
+    asked: &Option<Request>,
     checks: &[Check],
     subjects: &[SubjectView],
     seen: &[CheckView],
 ) -> bool
     requires live { outline.AreLive objects.now checks.now }
     requires places { HaveSubjects subjects.now seen.now }
-    ensures { IsTrue result ↔ (items_with subjects.now seen.now ≡ map (outline.item_of objects.now) checks.now) }
+    ensures { IsTrue result ↔ (items_with subjects.now seen.now ≡ map (outline.item_asking objects.now asked.now) checks.now) }
 {
     if seen.len() != checks.len() {
         return false;
@@ -271,7 +322,7 @@ pub(crate) fn are_views(
     let mut last = None;
     let mut before = 0;
     for (i, check) in checks.iter().enumerate() {
-        if !is_view(objects, last, before, *check, subjects, &seen[i]) {
+        if !is_view(objects, asked, last, before, *check, subjects, &seen[i]) {
             return false;
         }
         last = Some(*check);

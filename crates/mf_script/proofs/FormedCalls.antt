@@ -120,6 +120,7 @@ all_formed =
     & one_formed _ _ call.Sched process_read (λ x ok. ok)
     & one_formed _ _ call.Priv privilege_read (λ x ok. ok)
     & bare_formed call.Getpmac tt
+    & one_formed _ _ call.Setpmac word_formed (λ x ok. ok)
     & one_formed _ _ call.Exec path_read (λ x ok. ok)
     & one_formed _ _ call.Create path_read (λ x ok. ok)
     & one_formed _ _ call.Mkdir path_read (λ x ok. ok)
@@ -127,6 +128,7 @@ all_formed =
     & two_formed _ _ _ _ call.Write path_read bytes_formed (λ path text path_ok text_ok. (path_ok, text_ok))
     & one_formed _ _ call.Stat path_read (λ x ok. ok)
     & one_formed _ _ call.Getfmac path_read (λ x ok. ok)
+    & two_formed _ _ _ _ call.Setfmac word_formed path_read (λ label path label_ok path_ok. (label_ok, path_ok))
     & one_formed _ _ call.Readdir path_read (λ x ok. ok)
     & two_formed _ _ _ _ call.Chmod path_read mode_read (λ path mode path_ok mode_ok. (path_ok, mode_ok))
     & one_formed _ _ call.Unlink path_read (λ x ok. ok)
@@ -135,9 +137,11 @@ all_formed =
     & one_formed _ _ call.Pread name_read (λ x ok. ok)
     & two_formed _ _ _ _ call.Pwrite name_read bytes_formed (λ name text name_ok text_ok. (name_ok, text_ok))
     & one_formed _ _ call.Pstat name_read (λ x ok. ok)
+    & two_formed _ _ _ _ call.Setpipemac word_formed name_read (λ label name label_ok name_ok. (label_ok, name_ok))
     & send_formed
     & one_formed _ _ call.Recv name_read (λ x ok. ok)
     & one_formed _ _ call.Seesock name_read (λ x ok. ok)
+    & two_formed _ _ _ _ call.Setsockmac word_formed name_read (λ label name label_ok name_ok. (label_ok, name_ok))
     & bare_formed call.Kldstat tt
     & one_formed _ _ call.Kldload word_formed (λ x ok. ok)
     & one_formed _ _ call.Kldunload word_formed (λ x ok. ok)

@@ -78,6 +78,7 @@ process_calls =
     ∷ (codes "sched", one process_of call.Sched)
     ∷ (codes "priv", one privilege_of call.Priv)
     ∷ (codes "getpmac", bare call.Getpmac)
+    ∷ (codes "setpmac", one any_word call.Setpmac)
     ∷ []
 
 abbrev pub file_calls : Table
@@ -89,6 +90,7 @@ file_calls =
     ∷ (codes "write", two path_of text_of call.Write)
     ∷ (codes "stat", one path_of call.Stat)
     ∷ (codes "getfmac", one path_of call.Getfmac)
+    ∷ (codes "setfmac", two any_word path_of call.Setfmac)
     ∷ (codes "readdir", one path_of call.Readdir)
     ∷ (codes "chmod", two path_of mode_of call.Chmod)
     ∷ (codes "unlink", one path_of call.Unlink)
@@ -101,9 +103,11 @@ channel_calls =
     ∷ (codes "pread", one name_of call.Pread)
     ∷ (codes "pwrite", two name_of text_of call.Pwrite)
     ∷ (codes "pstat", one name_of call.Pstat)
+    ∷ (codes "setpipemac", two any_word name_of call.Setpipemac)
     ∷ (codes "send", three name_of name_of text_of call.Send)
     ∷ (codes "recv", one name_of call.Recv)
     ∷ (codes "seesock", one name_of call.Seesock)
+    ∷ (codes "setsockmac", two any_word name_of call.Setsockmac)
     ∷ []
 
 abbrev pub module_calls : Table

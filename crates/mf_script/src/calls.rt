@@ -4,7 +4,7 @@
 ghost use Rattle.std.specs.Prelude.{◌≡◌, ◌++◌};
 ghost use Rattle.mf_script.specs.Gives.{Gives};
 ghost use Rattle.mf_calls.specs.declared.script.Call.TheVariants as call;
-ghost use Rattle.mf_script.specs.Parts.{name_of, path_of, mode_of, text_of, sides_of};
+ghost use Rattle.mf_script.specs.Parts.{any_word, name_of, path_of, mode_of, text_of, sides_of};
 ghost use Rattle.mf_script.specs.Calls.{call_in, call_named, call_words, calls, file_calls, channel_calls, module_calls, setting_calls, add_rule, set_rule, ugidfw_calls, ugidfw, one, two, three};
 
 use crate::error::ScriptFault;
@@ -19,6 +19,30 @@ fn write(alloc: Global, words: &mut Words) -> Result<Call, Refusal>
     let path = names::path(alloc, words)?;
     let text = parts::text(alloc, words)?;
     Ok(Call::Write(path, text))
+}
+
+fn setfmac(alloc: Global, words: &mut Words) -> Result<Call, Refusal>
+    ensures { Gives (λ c. (c, words.new)) result (two any_word path_of call.Setfmac words.old) }
+{
+    let label = parts::word(alloc, words)?;
+    let path = names::path(alloc, words)?;
+    Ok(Call::Setfmac(label, path))
+}
+
+fn setpipemac(alloc: Global, words: &mut Words) -> Result<Call, Refusal>
+    ensures { Gives (λ c. (c, words.new)) result (two any_word name_of call.Setpipemac words.old) }
+{
+    let label = parts::word(alloc, words)?;
+    let name = names::name(alloc, words)?;
+    Ok(Call::Setpipemac(label, name))
+}
+
+fn setsockmac(alloc: Global, words: &mut Words) -> Result<Call, Refusal>
+    ensures { Gives (λ c. (c, words.new)) result (two any_word name_of call.Setsockmac words.old) }
+{
+    let label = parts::word(alloc, words)?;
+    let name = names::name(alloc, words)?;
+    Ok(Call::Setsockmac(label, name))
 }
 
 fn chmod(alloc: Global, words: &mut Words) -> Result<Call, Refusal>
@@ -108,6 +132,7 @@ fn call(alloc: Global, name: &str, words: &mut Words) -> Result<Call, Refusal>
         "sched" => Ok(Call::Sched(names::process(alloc, words)?)),
         "priv" => Ok(Call::Priv(parts::privilege(words)?)),
         "getpmac" => Ok(Call::Getpmac),
+        "setpmac" => Ok(Call::Setpmac(parts::word(alloc, words)?)),
         _ => file_call(alloc, name, words),
     }
 }
@@ -125,6 +150,7 @@ fn file_call(alloc: Global, name: &str, words: &mut Words) -> Result<Call, Refus
         "write" => write(alloc, words),
         "stat" => Ok(Call::Stat(names::path(alloc, words)?)),
         "getfmac" => Ok(Call::Getfmac(names::path(alloc, words)?)),
+        "setfmac" => setfmac(alloc, words),
         "readdir" => Ok(Call::Readdir(names::path(alloc, words)?)),
         "chmod" => chmod(alloc, words),
         "unlink" => Ok(Call::Unlink(names::path(alloc, words)?)),
@@ -143,9 +169,11 @@ fn channel_call(alloc: Global, name: &str, words: &mut Words) -> Result<Call, Re
         "pread" => Ok(Call::Pread(names::name(alloc, words)?)),
         "pwrite" => pwrite(alloc, words),
         "pstat" => Ok(Call::Pstat(names::name(alloc, words)?)),
+        "setpipemac" => setpipemac(alloc, words),
         "send" => send(alloc, words),
         "recv" => Ok(Call::Recv(names::name(alloc, words)?)),
         "seesock" => Ok(Call::Seesock(names::name(alloc, words)?)),
+        "setsockmac" => setsockmac(alloc, words),
         _ => module_call(alloc, name, words),
     }
 }

@@ -1,3 +1,7 @@
+pub mod Granted
+pub mod Allowed
+pub mod Rooted
+pub mod RelabelChange
 pub mod StateChange
 pub mod EntityChange
 pub mod Relisting

@@ -1,6 +1,6 @@
 -- What a call is about lives, and suits the change of a call that may be done.
-use Rattle.std.proofs.Common.{◌≡◌, ◌≢◌, ℕ, ◌+◌, ◌≤◌, Bool, true, false, cond, List, [], ◌∷◌, Option, Some, None, IsSome, option_map, length, refl, ap, sym, subst, arith, eq-eqb, if◌then◌else◌}
-use Rattle.std.specs.Prelude.{find, IfSome, IfNone, IsTrue}
+use Rattle.std.proofs.Common.{◌≡◌, ◌≢◌, ℕ, Bool, true, false, List, [], ◌∷◌, Option, Some, None, IsSome, option_map, length, refl, ap, sym, subst, eq-eqb, if◌then◌else◌}
+use Rattle.std.specs.Prelude.{find, IfSome, IsTrue}
 use Rattle.std.specs.Result.{result_ok}
 use Rattle.std.proofs.lemmas.Bool.{false≢true}
 use Rattle.std.proofs.lemmas.Option.{IfSome_then}
@@ -8,12 +8,11 @@ use Rattle.mf_errno.specs.declared.errno.Errno.TheVariants.{Enotdir}
 use Rattle.mf_objects.specs.declared.id.Id.{Id}
 use Rattle.mf_objects.specs.declared.entity.EntityData.{EntityData}
 use Rattle.mf_objects.specs.Fits.{FitsBytes, FitsMessage, HasMessage}
-use Rattle.mf_objects.specs.Live.{LiveEntity, Entities, has_id, id_of, is_child, is_named, is_pipe, is_process, is_socket, live_at, live_named}
-use Rattle.mf_objects.specs.Lives.{IsFound, IsLive, IsLiveWhere, is_directory, is_vnode, passes}
-use Rattle.mf_objects.specs.Population.{HasRoot, IsPopulation, IsRising}
-use Rattle.mf_objects.proofs.Found.{child_kind, child_not_root, kind_found, named_kind}
+use Rattle.mf_objects.specs.Live.{LiveEntity, Entities, has_id, is_child, is_pipe, is_process, is_socket, live_at}
+use Rattle.mf_objects.specs.Lives.{IsLive, IsLiveWhere, is_directory, is_vnode, passes}
+use Rattle.mf_objects.specs.Population.{HasRoot, IsPopulation}
+use Rattle.mf_objects.proofs.Found.{child_kind, child_not_root, kind_found}
 use Rattle.mf_objects.proofs.Laws.{directory_vnode, live_directory}
-use Rattle.mf_objects.proofs.Rising.{id_differs}
 use Rattle.mf_calls.specs.declared.script.Call.{Call}
 use Rattle.mf_calls.specs.declared.script.Call.TheVariants as call
 use Rattle.mf_plan.specs.declared.found.Found.{Found}
@@ -25,52 +24,8 @@ use Rattle.mf_plan.specs.Found.{target_of}
 use Rattle.mf_plan.specs.Path.{entry_at, entry_of, file_at_path, found_at, free_at, going_on, nowhere, root, lookup_along, lookup_from}
 use Rattle.mf_plan.specs.Places.{IsTarget, entry_at_path, free_dir_at}
 use Rattle.mf_plan.specs.Views.{is_dir, pipe_named, process_named, socket_named}
+use Rattle.mf_step.proofs.Rooted.{is_found, named_lives}
 use Rattle.mf_step.specs.Suits.{HasFree, IsRemovable, Suits}
-
--- What is found
-
-inside_some : {A : Type 0} (a b : A) → Some a ≡ Some b → a ≡ b
-inside_some a b is = cc
-
-find_least : (test : LiveEntity → Bool) (least next : ℕ) (es : List LiveEntity) (x : LiveEntity) → IsRising least next es → find test es ≡ Some x → least ≤ x.id.0
-find_least test least next [] x rising is = cc
-find_least test least next (e ∷ es) x rising is = one (test e) (find_least test (e.id.0 + 1) next es x rising.1) is
-  where
-    one : (b : Bool) → (find test es ≡ Some x → e.id.0 + 1 ≤ x.id.0) → cond b (Some e) (find test es) ≡ Some x → least ≤ x.id.0
-    one true later is = let same : e.id.0 ≡ x.id.0 = ap (λ (l : LiveEntity). l.id.0) (inside_some e x is) in omega (arith, same, rising.0)
-    one false later is = omega (arith, later is, rising.0)
-
--- an id finds again what has it
-found_again : (test : LiveEntity → Bool) (least next : ℕ) (es : List LiveEntity) (x : LiveEntity) → IsRising least next es → find test es ≡ Some x → find (has_id x.id) es ≡ Some x
-found_again test least next [] x rising is = cc
-found_again test least next (e ∷ es) x rising is = one (test e) (found_again test (e.id.0 + 1) next es x rising.1) is
-  where
-    later : find test es ≡ Some x → e.id.0 + 1 ≤ x.id.0
-    later = find_least test (e.id.0 + 1) next es x rising.1
-
-    one : (b : Bool) → (find test es ≡ Some x → find (has_id x.id) es ≡ Some x) → cond b (Some e) (find test es) ≡ Some x → find (has_id x.id) (e ∷ es) ≡ Some x
-    one true rest is =
-        let hit : has_id x.id e ≡ true = eq-eqb e.id.0 x.id.0 (ap (λ (l : LiveEntity). l.id.0) (inside_some e x is)) in
-        rw hit is
-    one false rest is =
-        let above : e.id.0 + 1 ≤ x.id.0 = later is in
-        let miss : has_id x.id e ≡ false = id_differs x.id e (λ (same : e.id.0 ≡ x.id.0). omega (arith, same, above)) in
-        rw miss (rest is)
-
-is_found : (test : LiveEntity → Bool) (o : Entities) → IsPopulation o → IsFound test o (id_of (find test o.live))
-is_found test o population = record { id = refl; live = again (find test o.live) refl; absent = nothing (find test o.live) }
-  where
-    nothing : (found : Option LiveEntity) → IfNone (id_of found) (found ≡ None)
-    nothing None = refl
-    nothing (Some x) = tt
-
-    again : (found : Option LiveEntity) → find test o.live ≡ found → IfSome (id_of found) (λ id. live_at o id ≡ found)
-    again None is = tt
-    again (Some x) is = found_again test 0 o.next o.live x population.rising is
-
--- a process, pipe or socket that is found by its name
-named_lives : (kind : EntityData → Bool) (o : Entities) (name : List ℕ) → IsPopulation o → IfSome (id_of (live_named kind o name)) (λ id. IsLive kind o id)
-named_lives kind o name population = kind_found (is_named kind name) kind (named_kind kind name) o (id_of (live_named kind o name)) (is_found (is_named kind name) o population)
 
 -- Where a path leads
 
@@ -81,7 +36,7 @@ root_lives (e ∷ es) rooted = let hit : has_id root e ≡ true = eq-eqb e.id.0 
 module _ (o : Entities) (population : IsPopulation o) where
   entry_lives : (dir : Id) (name : List ℕ) → IfSome (entry_of o dir name) (λ id. IsLive is_vnode o id × (id.0 ≢ 0))
   entry_lives dir name =
-      let found = is_found (is_child dir name) o population in
+      let found = is_found (is_child dir name) o population.rising in
       both (entry_of o dir name) (kind_found (is_child dir name) is_vnode (child_kind dir name) o (entry_of o dir name) found)
       (child_not_root dir name o (entry_of o dir name) population found)
     where
@@ -152,14 +107,17 @@ target_lives o caller (call.Read path) population lives = IfSome_then (file_at_p
 target_lives o caller (call.Write path text) population lives = IfSome_then (file_at_path o path) (file_lives o population path) (some_live is_vnode o)
 target_lives o caller (call.Stat path) population lives = IfSome_then (file_at_path o path) (file_lives o population path) (some_live is_vnode o)
 target_lives o caller (call.Getfmac path) population lives = IfSome_then (file_at_path o path) (file_lives o population path) (some_live is_vnode o)
+target_lives o caller (call.Setfmac label path) population lives = IfSome_then (file_at_path o path) (file_lives o population path) (some_live is_vnode o)
 target_lives o caller (call.Readdir path) population lives = IfSome_then (file_at_path o path) (file_lives o population path) (some_live is_vnode o)
 target_lives o caller (call.Chmod path mode) population lives = IfSome_then (file_at_path o path) (file_lives o population path) (some_live is_vnode o)
 target_lives o caller (call.Unlink path) population lives = IfSome_then (entry_at_path o path) (removable_lives o population path) (λ id live. some_live is_vnode o id live.0)
-target_lives o caller (call.Pread name) population lives = IfSome_then (pipe_named o name) (named_lives is_pipe o name population) (some_live is_pipe o)
-target_lives o caller (call.Pwrite name text) population lives = IfSome_then (pipe_named o name) (named_lives is_pipe o name population) (some_live is_pipe o)
-target_lives o caller (call.Pstat name) population lives = IfSome_then (pipe_named o name) (named_lives is_pipe o name population) (some_live is_pipe o)
-target_lives o caller (call.Send from to text) population lives = IfSome_then (socket_named o to) (named_lives is_socket o to population) (some_live is_socket o)
-target_lives o caller (call.Recv name) population lives = IfSome_then (socket_named o name) (named_lives is_socket o name population) (some_live is_socket o)
+target_lives o caller (call.Pread name) population lives = IfSome_then (pipe_named o name) (named_lives is_pipe o name population.rising) (some_live is_pipe o)
+target_lives o caller (call.Pwrite name text) population lives = IfSome_then (pipe_named o name) (named_lives is_pipe o name population.rising) (some_live is_pipe o)
+target_lives o caller (call.Pstat name) population lives = IfSome_then (pipe_named o name) (named_lives is_pipe o name population.rising) (some_live is_pipe o)
+target_lives o caller (call.Setpipemac label name) population lives = IfSome_then (pipe_named o name) (named_lives is_pipe o name population.rising) (some_live is_pipe o)
+target_lives o caller (call.Send from to text) population lives = IfSome_then (socket_named o to) (named_lives is_socket o to population.rising) (some_live is_socket o)
+target_lives o caller (call.Recv name) population lives = IfSome_then (socket_named o name) (named_lives is_socket o name population.rising) (some_live is_socket o)
+target_lives o caller (call.Setsockmac label name) population lives = IfSome_then (socket_named o name) (named_lives is_socket o name population.rising) (some_live is_socket o)
 target_lives o caller (call.Fork child) population lives = tt
 target_lives o caller call.Exit population lives = tt
 target_lives o caller (call.See name) population lives = tt
@@ -168,6 +126,7 @@ target_lives o caller (call.Debug name) population lives = tt
 target_lives o caller (call.Sched name) population lives = tt
 target_lives o caller (call.Priv p) population lives = tt
 target_lives o caller call.Getpmac population lives = lives
+target_lives o caller (call.Setpmac label) population lives = lives
 target_lives o caller (call.Pipe name) population lives = tt
 target_lives o caller (call.Socket name) population lives = tt
 target_lives o caller (call.Seesock name) population lives = tt
@@ -210,64 +169,74 @@ module _ (o : Entities) (population : IsPopulation o) where
   fill_suits : (name text : List ℕ) → CanFill o name text → IfSome (pipe_named o name) (λ id. IsLiveWhere (FitsBytes (length text)) (live_at o id))
   fill_suits name text can =
       at_known (λ id. IsLive is_pipe o id) (λ id. IsLiveWhere (FitsBytes (length text)) (live_at o id)) (pipe_named o name) can.id can.named
-      (named_lives is_pipe o name population) can.fits
+      (named_lives is_pipe o name population.rising) can.fits
 
   deliver_suits : (to : List ℕ) → CanDeliver o to → IfSome (socket_named o to) (λ id. IsLiveWhere FitsMessage (live_at o id))
   deliver_suits to can =
       at_known (λ id. IsLive is_socket o id) (λ id. IsLiveWhere FitsMessage (live_at o id)) (socket_named o to) can.id can.named
-      (named_lives is_socket o to population) can.fits
+      (named_lives is_socket o to population.rising) can.fits
 
   receive_suits : (name : List ℕ) → CanReceive o name → IfSome (socket_named o name) (λ id. IsLiveWhere HasMessage (live_at o id))
   receive_suits name can =
       at_known (λ id. IsLive is_socket o id) (λ id. IsLiveWhere HasMessage (live_at o id)) (socket_named o name) can.id can.named
-      (named_lives is_socket o name population) can.waits
+      (named_lives is_socket o name population.rising) can.waits
 
-suits : (s : State) (task : List ℕ) (caller : Option Id) (c : Call) → IsPopulation s.objects → CanDo s task c → IfSome (target_of s.objects caller c) (λ id. Suits s.objects c id)
-suits s task caller (call.Create path) population can = create_suits s.objects population path can
-suits s task caller (call.Mkdir path) population can = create_suits s.objects population path can
-suits s task caller (call.Write path text) population can = write_suits s.objects population path text can
-suits s task caller (call.Chmod path mode) population can = file_lives s.objects population path
-suits s task caller (call.Unlink path) population can = unlink_suits s.objects population path can
-suits s task caller (call.Pread name) population can = named_lives is_pipe s.objects name population
-suits s task caller (call.Pwrite name text) population can = fill_suits s.objects population name text can
-suits s task caller (call.Send from to text) population can = deliver_suits s.objects population to can
-suits s task caller (call.Recv name) population can = receive_suits s.objects population name can
-suits s task caller (call.Exec path) population can = anything (file_at_path s.objects path)
-suits s task caller (call.Read path) population can = anything (file_at_path s.objects path)
-suits s task caller (call.Stat path) population can = anything (file_at_path s.objects path)
-suits s task caller (call.Getfmac path) population can = anything (file_at_path s.objects path)
-suits s task caller (call.Readdir path) population can = anything (file_at_path s.objects path)
-suits s task caller (call.Pstat name) population can = anything (pipe_named s.objects name)
-suits s task caller (call.Fork child) population can = tt
-suits s task caller call.Exit population can = tt
-suits s task caller (call.See name) population can = tt
-suits s task caller (call.Signal name) population can = tt
-suits s task caller (call.Debug name) population can = tt
-suits s task caller (call.Sched name) population can = tt
-suits s task caller (call.Priv p) population can = tt
-suits s task caller call.Getpmac population can = anything caller
-suits s task caller (call.Pipe name) population can = tt
-suits s task caller (call.Socket name) population can = tt
-suits s task caller (call.Seesock name) population can = tt
-suits s task caller call.Kldstat population can = tt
-suits s task caller (call.Kldload name) population can = tt
-suits s task caller (call.Kldunload name) population can = tt
-suits s task caller (call.Sysctl name value) population can = tt
-suits s task caller call.UgidfwList population can = tt
-suits s task caller (call.UgidfwAdd rule) population can = tt
-suits s task caller (call.UgidfwSet n rule) population can = tt
-suits s task caller (call.UgidfwRemove n) population can = tt
+suits : (s : State) (task : List ℕ) (caller : Option Id) (c : Call) → IsPopulation s.objects → IfSome caller (λ id. IsSome (live_at s.objects id)) → CanDo s task c
+    → IfSome (target_of s.objects caller c) (λ id. Suits s.objects c id)
+suits s task caller (call.Create path) population lives can = create_suits s.objects population path can
+suits s task caller (call.Mkdir path) population lives can = create_suits s.objects population path can
+suits s task caller (call.Write path text) population lives can = write_suits s.objects population path text can
+suits s task caller (call.Chmod path mode) population lives can = file_lives s.objects population path
+suits s task caller (call.Unlink path) population lives can = unlink_suits s.objects population path can
+suits s task caller (call.Pread name) population lives can = named_lives is_pipe s.objects name population.rising
+suits s task caller (call.Pwrite name text) population lives can = fill_suits s.objects population name text can
+suits s task caller (call.Send from to text) population lives can = deliver_suits s.objects population to can
+suits s task caller (call.Recv name) population lives can = receive_suits s.objects population name can
+suits s task caller (call.Setpmac label) population lives can = target_lives s.objects caller (call.Setpmac label) population lives
+suits s task caller (call.Setfmac label path) population lives can = target_lives s.objects caller (call.Setfmac label path) population lives
+suits s task caller (call.Setpipemac label name) population lives can = target_lives s.objects caller (call.Setpipemac label name) population lives
+suits s task caller (call.Setsockmac label name) population lives can = target_lives s.objects caller (call.Setsockmac label name) population lives
+suits s task caller (call.Exec path) population lives can = anything (file_at_path s.objects path)
+suits s task caller (call.Read path) population lives can = anything (file_at_path s.objects path)
+suits s task caller (call.Stat path) population lives can = anything (file_at_path s.objects path)
+suits s task caller (call.Getfmac path) population lives can = anything (file_at_path s.objects path)
+suits s task caller (call.Readdir path) population lives can = anything (file_at_path s.objects path)
+suits s task caller (call.Pstat name) population lives can = anything (pipe_named s.objects name)
+suits s task caller (call.Fork child) population lives can = tt
+suits s task caller call.Exit population lives can = tt
+suits s task caller (call.See name) population lives can = tt
+suits s task caller (call.Signal name) population lives can = tt
+suits s task caller (call.Debug name) population lives can = tt
+suits s task caller (call.Sched name) population lives can = tt
+suits s task caller (call.Priv p) population lives can = tt
+suits s task caller call.Getpmac population lives can = anything caller
+suits s task caller (call.Pipe name) population lives can = tt
+suits s task caller (call.Socket name) population lives can = tt
+suits s task caller (call.Seesock name) population lives can = tt
+suits s task caller call.Kldstat population lives can = tt
+suits s task caller (call.Kldload name) population lives can = tt
+suits s task caller (call.Kldunload name) population lives can = tt
+suits s task caller (call.Sysctl name value) population lives can = tt
+suits s task caller call.UgidfwList population lives can = tt
+suits s task caller (call.UgidfwAdd rule) population lives can = tt
+suits s task caller (call.UgidfwSet n rule) population lives can = tt
+suits s task caller (call.UgidfwRemove n) population lives can = tt
 
 -- so does what was found, by its id
 
 pub caller_lives : (o : Entities) (caller : Id) (name : List ℕ) → IsPopulation o → Some caller ≡ process_named o name → IsLive is_process o caller
 caller_lives o caller name population is =
-    subst (λ (found : Option Id). IfSome found (λ id. IsLive is_process o id)) (sym is) (named_lives is_process o name population)
+    subst (λ (found : Option Id). IfSome found (λ id. IsLive is_process o id)) (sym is) (named_lives is_process o name population.rising)
 
-pub target_suits : (s : State) (task : List ℕ) (caller : Option Id) (c : Call) (target : Option Id) → IsPopulation s.objects → CanDo s task c
-    → target ≡ target_of s.objects caller c → IfSome target (λ id. Suits s.objects c id)
-target_suits s task caller c target population can is =
-    subst (λ (found : Option Id). IfSome found (λ id. Suits s.objects c id)) (sym is) (suits s task caller c population can)
+-- a process that is found by its name lives
+process_lives : (o : Entities) (name : List ℕ) → IsPopulation o → IfSome (process_named o name) (λ id. IsSome (live_at o id))
+process_lives o name population = IfSome_then (process_named o name) (named_lives is_process o name population.rising) (some_live is_process o)
+
+pub target_suits : (s : State) (task name : List ℕ) (c : Call) (target : Option Id) → IsPopulation s.objects → CanDo s task c
+    → target ≡ target_of s.objects (process_named s.objects name) c → IfSome target (λ id. Suits s.objects c id)
+target_suits s task name c target population can is =
+    subst (λ (found : Option Id). IfSome found (λ id. Suits s.objects c id)) (sym is)
+    (suits s task (process_named s.objects name) c population (process_lives s.objects name population) can)
 
 pub found_lives : (o : Entities) (name : List ℕ) (found : Found) (c : Call) → IsPopulation o → found.caller ≡ process_named o name → found.target ≡ target_of o found.caller c
     → IfSome found.target (λ id. IsSome (live_at o id))
@@ -275,6 +244,4 @@ found_lives o name found c population by is =
     subst (λ (target : Option Id). IfSome target (λ id. IsSome (live_at o id))) (sym is) (target_lives o found.caller c population caller)
   where
     caller : IfSome found.caller (λ id. IsSome (live_at o id))
-    caller =
-        subst (λ (id : Option Id). IfSome id (λ id. IsSome (live_at o id))) (sym by)
-        (IfSome_then (process_named o name) (named_lives is_process o name population) (some_live is_process o))
+    caller = subst (λ (id : Option Id). IfSome id (λ id. IsSome (live_at o id))) (sym by) (process_lives o name population)

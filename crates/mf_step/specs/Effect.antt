@@ -3,6 +3,7 @@ use Rattle.std.specs.Option.{option_map_or}
 use Rattle.std.specs.Prelude.{ℕ, Bool, true, false, List, [], drop, Option, Some, None}
 use Rattle.mf_errno.specs.Names.{module_named}
 use Rattle.mf_errno.specs.declared.module.Module.{Module}
+use Rattle.mf_elem.specs.declared.label.Request.{Request}
 use Rattle.mf_cred.specs.declared.cred.FileView.{FileView}
 use Rattle.mf_item.specs.declared.view.Kind.{Kind}
 use Rattle.mf_item.specs.declared.view.Kind.TheVariants as kinds
@@ -20,11 +21,13 @@ use Rattle.mf_plan.specs.declared.target.Target.TheVariants.{Name}
 use Rattle.mf_plan.specs.Names.{child_name}
 use Rattle.mf_plan.specs.Path.{file_at_path, last_name, lookup_along}
 use Rattle.mf_plan.specs.Views.{pipe_named, socket_named}
+use Rattle.mf_plan.specs.Relabels.{relabel_of}
 use Rattle.mf_plan.specs.Settings.{setting}
 use Rattle.mf_policy.specs.Settings.{change_in}
 use Rattle.mf_policy.specs.declared.settings.Change.{Change}
 use Rattle.mf_policy.specs.declared.labels.Origin.TheVariants.{Maker}
 use Rattle.mf_policy.specs.NewLabels.{new_label}
+use Rattle.mf_policy.specs.Relabelled.{relabelled}
 use Rattle.mf_policy.specs.Registration.{entries_without, given_after, registration_of, with_registered}
 
 -- the state with these live entities
@@ -74,6 +77,17 @@ with_loaded s (Some m) =
 abbrev pub with_unloaded : State → Option Module → State
 with_unloaded s m = option_map_or (λ m. record s { specs = entries_without m s.specs }) m s
 
+-- Labels
+
+-- the entity with the label that the listed policies give it for what is asked
+abbrev pub with_request : State → Id × Request → State
+with_request s asked =
+    with_objects s (with_change (λ e. record e { label = relabelled s.specs asked.1 (label_at s.objects asked.0) }) s.objects asked.0)
+
+-- an entity is relabelled, where it is found and something is asked for it
+abbrev pub with_relabelled : State → Option (Id × Request) → State
+with_relabelled s asked = option_map_or (with_request s) asked s
+
 -- Settings
 
 -- a listed policy after a change of its setting, where one is asked for
@@ -85,17 +99,21 @@ with_setting s asked = option_map_or (λ asked. record s { specs = (change_in as
 abbrev pub effect_of : State → List ℕ → Id → Call → State
 effect_of s task caller (call.Fork child) = with_created s caller kinds.Process (child_name task child) (Process (cred_at s.objects caller))
 effect_of s task caller call.Exit = with_objects s (without (goes_with caller) s.objects)
+effect_of s task caller (call.Setpmac label) = with_relabelled s (relabel_of s (Some caller) (call.Setpmac label))
 effect_of s task caller (call.Create path) = with_file s caller FILE_MODE false (last_name path) (lookup_along s.objects path).target
 effect_of s task caller (call.Mkdir path) = with_file s caller DIRECTORY_MODE true (last_name path) (lookup_along s.objects path).target
 effect_of s task caller (call.Write path text) = with_changed s (appended text) (file_at_path s.objects path)
+effect_of s task caller (call.Setfmac label path) = with_relabelled s (relabel_of s (Some caller) (call.Setfmac label path))
 effect_of s task caller (call.Chmod path mode) = with_changed s (with_mode mode) (file_at_path s.objects path)
 effect_of s task caller (call.Unlink path) = without_entry s (lookup_along s.objects path).target
 effect_of s task caller (call.Pipe name) = with_created s caller kinds.Pipe name (new_pipe caller)
 effect_of s task caller (call.Socket name) = with_created s caller kinds.Socket name (new_socket caller)
 effect_of s task caller (call.Pread name) = with_changed s cleared (pipe_named s.objects name)
 effect_of s task caller (call.Pwrite name text) = with_changed s (appended text) (pipe_named s.objects name)
+effect_of s task caller (call.Setpipemac label name) = with_relabelled s (relabel_of s (Some caller) (call.Setpipemac label name))
 effect_of s task caller (call.Send from to text) = with_changed s (with_messages (with_message text)) (socket_named s.objects to)
 effect_of s task caller (call.Recv name) = with_changed s (with_messages (drop 1)) (socket_named s.objects name)
+effect_of s task caller (call.Setsockmac label name) = with_relabelled s (relabel_of s (Some caller) (call.Setsockmac label name))
 effect_of s task caller (call.Kldload name) = with_loaded s (module_named name)
 effect_of s task caller (call.Kldunload name) = with_unloaded s (module_named name)
 effect_of s task caller (call.Sysctl name value) = with_setting s (setting s.specs (call.Sysctl name value))

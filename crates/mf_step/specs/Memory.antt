@@ -1,18 +1,22 @@
--- Which calls take memory.
+-- Which calls may take memory.
 use Rattle.std.specs.Prelude.{Bool, true, false}
 use Rattle.mf_calls.specs.declared.script.Call.{Call}
 use Rattle.mf_calls.specs.declared.script.Call.TheVariants as call
 
--- the calls whose changes take memory
+-- the calls whose changes may take memory
 abbrev pub change_takes_memory : Call → Bool
 change_takes_memory (call.Fork child) = true
+change_takes_memory (call.Setpmac label) = true
 change_takes_memory (call.Create path) = true
 change_takes_memory (call.Mkdir path) = true
 change_takes_memory (call.Write path text) = true
+change_takes_memory (call.Setfmac label path) = true
 change_takes_memory (call.Pipe name) = true
 change_takes_memory (call.Socket name) = true
 change_takes_memory (call.Pwrite name text) = true
+change_takes_memory (call.Setpipemac label name) = true
 change_takes_memory (call.Send from to text) = true
+change_takes_memory (call.Setsockmac label name) = true
 change_takes_memory (call.Kldload name) = true
 change_takes_memory (call.Sysctl name value) = true
 change_takes_memory (call.UgidfwAdd rule) = true

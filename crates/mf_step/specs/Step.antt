@@ -32,10 +32,10 @@ performed_by s task call caller = option_map_or (λ id. effect_of s task id call
 abbrev pub performed : State → List ℕ → Option (List ℕ) → Call → State
 performed s task child call = performed_by s task call (process_named s.objects (caller_name task child))
 
--- a call that is denied or refused changes nothing
-abbrev pub after_reply : Reply → State → State → State
-after_reply (reply.Ok payload) s done = done
-after_reply other s done = s
+-- what comes of a call by its reply: what is so where it is done; and what was so before where it is denied or refused, which changes nothing
+abbrev pub after_reply : {A : Type 0} → Reply → A → A → A
+after_reply (reply.Ok payload) before done = done
+after_reply other before done = before
 
 -- the state after a call
 abbrev pub step_state : State → List ℕ → Option (List ℕ) → Call → State

@@ -1,5 +1,5 @@
 -- What a call's change needs of the entity that the call is about.
-use Rattle.std.specs.Prelude.{◌≡◌, ◌≢◌, ℕ, List, length, None, find}
+use Rattle.std.specs.Prelude.{◌≡◌, ◌≢◌, ℕ, List, length, None, IsSome, find}
 use Rattle.mf_objects.specs.declared.id.Id.{Id}
 use Rattle.mf_objects.specs.Fits.{FitsBytes, FitsMessage, HasMessage}
 use Rattle.mf_objects.specs.Live.{Entities, live_at, entry_count, is_child, is_pipe}
@@ -21,13 +21,17 @@ pub record HasFree (o : Entities) (path : List (List ℕ)) (dir : Id) : Type 0 w
 
 -- The table.
 abbrev pub Suits : Entities → Call → Id → Type 0
+Suits o (call.Setpmac label) id = IsSome (live_at o id)
 Suits o (call.Create path) id = HasFree o path id
 Suits o (call.Mkdir path) id = HasFree o path id
 Suits o (call.Write path text) id = IsLiveWhere (FitsBytes (length text)) (live_at o id)
+Suits o (call.Setfmac label path) id = IsSome (live_at o id)
 Suits o (call.Chmod path mode) id = IsLive is_vnode o id
 Suits o (call.Unlink path) id = IsRemovable o id
 Suits o (call.Pread name) id = IsLive is_pipe o id
 Suits o (call.Pwrite name text) id = IsLiveWhere (FitsBytes (length text)) (live_at o id)
+Suits o (call.Setpipemac label name) id = IsSome (live_at o id)
+Suits o (call.Setsockmac label name) id = IsSome (live_at o id)
 Suits o (call.Send from to text) id = IsLiveWhere FitsMessage (live_at o id)
 Suits o (call.Recv name) id = IsLiveWhere HasMessage (live_at o id)
 Suits o other id = Unit {0}

@@ -15,6 +15,7 @@ ghost use Rattle.mf_step.specs.Suits.{Suits};
 
 use crate::channels::{append, deliver, pipe, pread, recv, socket};
 use crate::files::{chmod, make_file, unlink};
+use crate::labels::relabel;
 use crate::modules::{kldload, kldunload};
 use crate::processes::{exit, fork};
 use crate::settings::change_setting;
@@ -75,6 +76,9 @@ fn perform_by(
     match call {
         Call::Fork(child) => fork(alloc, state, task, caller, child.as_str())?,
         Call::Exit => exit(state, caller),
+        Call::Setpmac(_) | Call::Setfmac(..) | Call::Setpipemac(..) | Call::Setsockmac(..) => {
+            relabel(state, target, call)?
+        }
         Call::Create(path) => make_file(alloc, state, caller, target, path, FILE_MODE, false)?,
         Call::Mkdir(path) => make_file(alloc, state, caller, target, path, DIRECTORY_MODE, true)?,
         Call::Write(_, text) => append(state, target, text.as_slice())?,

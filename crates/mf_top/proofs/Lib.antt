@@ -1,7 +1,10 @@
 pub mod Pieces
 pub mod NoFaults
+mod Complete
 pub mod Modules
 pub mod Whole
 pub mod Passes
 pub mod Summed
+mod Stepped
 mod Told
+mod Wrote

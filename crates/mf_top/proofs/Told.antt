@@ -1,22 +1,31 @@
 -- The refusal that is told has its cause.
-use Rattle.std.proofs.Common.{◌≡◌, inl, inr, Option, Some, None, Err, sym, subst, arith}
+use Rattle.std.proofs.Common.{inl, inr, Option, Some, None, Err, sym, subst}
 use Rattle.mf_io.specs.Outside.{Seen}
 use Rattle.mf_top.specs.declared.refusal.Refusal.{Refusal}
 use Rattle.mf_top.specs.declared.refusal.Refusal.TheVariants as refusal
 use Rattle.mf_top.specs.declared.command.Command.{Command}
 use Rattle.mf_top.specs.declared.command.Command.TheVariants as command
-use Rattle.mf_top.specs.Answers.{IsOutcomeOf, refusal_status}
+use Rattle.mf_top.specs.Answers.{IsOutcomeOf, IsStepOutcome, TellsOfScript}
 use Rattle.mf_top.specs.Refusals.{IsTold}
 
-memory_too : (asked : Option Command) (source : Seen) (r : Refusal) → refusal_status r ≡ 3 → IsOutcomeOf asked source (Err r) → IsOutcomeOf asked source (Err refusal.Memory)
+memory_too : (asked : Option Command) (source : Seen) (r : Refusal) → TellsOfScript r → IsOutcomeOf asked source (Err r) → IsOutcomeOf asked source (Err refusal.Memory)
 memory_too None source (refusal.Script line fault errno) is cause = absurd cc
 memory_too (Some command.Run) source (refusal.Script line fault errno) is cause = cause.0
+memory_too (Some command.Step) source (refusal.Script line fault errno) is cause = cause.0
 memory_too (Some (command.Gen lines tasks)) source (refusal.Script line fault errno) is cause = absurd cause.0
-memory_too asked source refusal.Usage is cause = absurd (omega (arith, is))
-memory_too asked source refusal.ReadFault is cause = absurd (omega (arith, is))
-memory_too asked source refusal.TooLong is cause = absurd (omega (arith, is))
-memory_too asked source refusal.Memory is cause = absurd (omega (arith, is))
+memory_too None source (refusal.Step number) is cause = absurd cc
+memory_too (Some command.Run) source (refusal.Step number) is cause = absurd cause
+memory_too (Some command.Step) source (refusal.Step number) is cause = cause.0
+memory_too (Some (command.Gen lines tasks)) source (refusal.Step number) is cause = absurd cause.0
+memory_too asked source refusal.Usage is cause = absurd is
+memory_too asked source refusal.ReadFault is cause = absurd is
+memory_too asked source refusal.TooLong is cause = absurd is
+memory_too asked source refusal.Memory is cause = absurd is
 
 pub told_cause : (asked : Option Command) (source : Seen) (r told : Refusal) → IsTold r told → IsOutcomeOf asked source (Err r) → IsOutcomeOf asked source (Err told)
 told_cause asked source r told (inl same) cause = subst (λ r. IsOutcomeOf asked source (Err r)) (sym same) cause
 told_cause asked source r told (inr lost) cause = subst (λ r. IsOutcomeOf asked source (Err r)) (sym lost.1) (memory_too asked source r lost.0 cause)
+
+-- the same for the word `step`
+pub told_steps : (source : Seen) (r told : Refusal) → IsTold r told → IsStepOutcome source (Err r) → IsStepOutcome source (Err told)
+told_steps source r told is cause = told_cause (Some command.Step) source r told is cause

@@ -22,6 +22,8 @@ use Rattle.mf_io.specs.Outside.{Seen, FaultsRose, HadNoFault, Took, TookPart}
 use Rattle.mf_names.specs.declared.limits.TheConstants.{SCRIPT_LIMIT}
 use Rattle.mf_hist.specs.HistoryText.{history_text}
 use Rattle.mf_load.specs.Summary.{load_summary}
+use Rattle.mf_stepping.specs.StepText.{AreAllTaken}
+use Rattle.mf_top.specs.Steps.{IsStepText, RefusesStep}
 
 -- The text is that of a history and of its sources, and nothing else. The history is legal and complete for the script; in it each label
 -- slot is made and ended at most once; and under mac_biba each source of a party dominates the party's element, as under mac_mls the
@@ -55,14 +57,23 @@ pub record IsUnread (source : Seen) : Type 0 where
 abbrev pub IsTooLong : Option (List ℕ) → Option (List ℕ) → Type 0
 IsTooLong before now = IfSome before (λ all. (SCRIPT_LIMIT < length all) × IsSomeAnd now (λ rest. (taken : List ℕ) × (length taken ≡ SCRIPT_LIMIT + 1) × (all ≡ taken ++ rest)))
 
+-- why no script is read of the source, or why memory runs out behind that
+abbrev pub IsSourceRefusal : Seen → Refusal → Type 0
+IsSourceRefusal source (refusal.Script line fault errno) = HadNoFault source
+    × IfSome source.before (λ bytes. (length bytes ≤ SCRIPT_LIMIT) × (script_of bytes ≡ Err (script_error.Fault line fault errno)) × (source.after ≡ Some []))
+IsSourceRefusal source refusal.ReadFault = FaultsRose source
+IsSourceRefusal source refusal.TooLong = HadNoFault source × IsTooLong source.before source.after
+IsSourceRefusal source refusal.Memory = HadNoFault source
+IsSourceRefusal source other = ⊥
+
 abbrev pub IsRunOutcome : Seen → Result (List ℕ) Refusal → Type 0
 IsRunOutcome source (Ok text) = HadNoFault source × IfSome source.before (λ bytes. IsRunText bytes text × (source.after ≡ Some []))
-IsRunOutcome source (Err refusal.Usage) = ⊥
-IsRunOutcome source (Err (refusal.Script line fault errno)) = HadNoFault source
-    × IfSome source.before (λ bytes. (length bytes ≤ SCRIPT_LIMIT) × (script_of bytes ≡ Err (script_error.Fault line fault errno)) × (source.after ≡ Some []))
-IsRunOutcome source (Err refusal.ReadFault) = FaultsRose source
-IsRunOutcome source (Err refusal.TooLong) = HadNoFault source × IsTooLong source.before source.after
-IsRunOutcome source (Err refusal.Memory) = HadNoFault source
+IsRunOutcome source (Err refused) = IsSourceRefusal source refused
+
+abbrev pub IsStepOutcome : Seen → Result (List ℕ) Refusal → Type 0
+IsStepOutcome source (Ok text) = HadNoFault source × IfSome source.before (λ bytes. IsStepText bytes text × (source.after ≡ Some []))
+IsStepOutcome source (Err (refusal.Step number)) = HadNoFault source × IfSome source.before (λ bytes. RefusesStep bytes number × (source.after ≡ Some []))
+IsStepOutcome source (Err refused) = IsSourceRefusal source refused
 
 -- the summary of the load, or want of memory
 abbrev pub IsLoaded : ℕ → ℕ → Result (List ℕ) Refusal → Type 0
@@ -80,6 +91,7 @@ IsUsageOutcome source outcome = (outcome ≡ Err refusal.Usage) × IsUnread sour
 abbrev pub IsOutcomeOf : Option Command → Seen → Result (List ℕ) Refusal → Type 0
 IsOutcomeOf None source outcome = IsUsageOutcome source outcome
 IsOutcomeOf (Some command.Run) source outcome = IsRunOutcome source outcome
+IsOutcomeOf (Some command.Step) source outcome = IsStepOutcome source outcome
 IsOutcomeOf (Some (command.Gen lines tasks)) source outcome = IsLoadOutcome lines tasks source outcome
 
 abbrev pub IsOutcome : List (List ℕ) → Seen → Result (List ℕ) Refusal → Type 0
@@ -90,6 +102,7 @@ refusal_status refusal.Usage = 2
 refusal_status (refusal.Script line fault errno) = 3
 refusal_status refusal.ReadFault = 4
 refusal_status refusal.TooLong = 6
+refusal_status (refusal.Step number) = 7
 refusal_status refusal.Memory = 9
 
 -- behind the name of a fault: the errno of a module that can't be booted
@@ -103,11 +116,18 @@ fault_text line fault errno =
     codes "macsim: script line " ++ decimal line ++ codes " fault " ++ decimal (fault_number fault) ++ codes " " ++ fault_name fault ++ errno_text errno ++ codes "\n"
 
 abbrev pub refusal_text : Refusal → List ℕ
-refusal_text refusal.Usage = codes "macsim: usage: run | gen N T\n"
+refusal_text refusal.Usage = codes "macsim: usage: run | step | gen N T\n"
 refusal_text (refusal.Script line fault errno) = fault_text line fault errno
+refusal_text (refusal.Step number) = codes "macsim: step " ++ decimal number ++ codes " refused\n"
 refusal_text refusal.ReadFault = codes "macsim: read fault\n"
 refusal_text refusal.TooLong = codes "macsim: too long\n"
 refusal_text refusal.Memory = codes "macsim: no memory\n"
+
+-- its line tells of a line or of a step of the script
+abbrev pub TellsOfScript : Refusal → Type 0
+TellsOfScript (refusal.Script line fault errno) = Unit {0}
+TellsOfScript (refusal.Step number) = Unit {0}
+TellsOfScript other = ⊥
 
 abbrev pub status_of : Result (List ℕ) Refusal → ℕ
 status_of (Ok text) = 0
@@ -123,14 +143,29 @@ IsWritten sink outcome status =
     ((status ≡ status_of outcome) × HadNoFault sink × Took sink.before sink.after (output_of outcome))
     ⊎ ((status ≡ 5) × FaultsRose sink × TookPart sink.before sink.after (output_of outcome))
 
+-- the source holds a script
+abbrev pub HoldsScript : Seen → Type 0
+HoldsScript source = IsSomeAnd source.before (λ bytes. (length bytes ≤ SCRIPT_LIMIT) × ((s : Script) × (script_of bytes ≡ Ok s)))
+
+-- the source holds a script, each step of which is of one of its tasks and in turn
+abbrev pub HoldsSteps : Seen → Type 0
+HoldsSteps source = IsSomeAnd source.before (λ bytes. (length bytes ≤ SCRIPT_LIMIT) × (s : Script) × (script_of bytes ≡ Ok s) × AreAllTaken s)
+
 -- what the words ask for can be done: the source holds a script, where one is read
 abbrev pub CanBeDone : Option Command → Seen → Type 0
 CanBeDone None source = ⊥
-CanBeDone (Some command.Run) source = IsSomeAnd source.before (λ bytes. (length bytes ≤ SCRIPT_LIMIT) × ((s : Script) × (script_of bytes ≡ Ok s)))
+CanBeDone (Some command.Run) source = HoldsScript source
+CanBeDone (Some command.Step) source = HoldsSteps source
 CanBeDone (Some (command.Gen lines tasks)) source = Unit {0}
 
 -- The right words, known bytes of a script where one is read, and no fault of source or sink.
 pub record IsFaultless (words : List (List ℕ)) (source sink : Seen) : Type 0 where
   pub can : CanBeDone (command_of words) source
+  pub source_stays : ¬ FaultsRose source
+  pub sink_stays : ¬ FaultsRose sink
+
+-- Known bytes of a script whose steps are all in turn, and no fault of source or sink.
+pub record AreStepsFaultless (source sink : Seen) : Type 0 where
+  pub can : HoldsSteps source
   pub source_stays : ¬ FaultsRose source
   pub sink_stays : ¬ FaultsRose sink

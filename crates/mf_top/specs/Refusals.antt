@@ -6,7 +6,7 @@ use Rattle.mf_top.specs.declared.read.ReadError.{ReadError}
 use Rattle.mf_top.specs.declared.read.ReadError.TheVariants as read_error
 use Rattle.mf_top.specs.declared.refusal.Refusal.{Refusal}
 use Rattle.mf_top.specs.declared.refusal.Refusal.TheVariants as refusal
-use Rattle.mf_top.specs.Answers.{refusal_status}
+use Rattle.mf_top.specs.Answers.{TellsOfScript}
 
 abbrev pub read_refusal : ReadError → Refusal
 read_refusal read_error.Failed = refusal.ReadFault
@@ -19,4 +19,4 @@ script_refusal script_error.Memory = refusal.Memory
 
 -- the refusal itself is told; or memory ran out as the line was built that tells of the script
 abbrev pub IsTold : Refusal → Refusal → Type 0
-IsTold r told = (told ≡ r) ⊎ ((refusal_status r ≡ 3) × (told ≡ refusal.Memory))
+IsTold r told = (told ≡ r) ⊎ (TellsOfScript r × (told ≡ refusal.Memory))

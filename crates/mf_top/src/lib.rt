@@ -1,6 +1,7 @@
 //! The program's call. With the word `run` it reads a script from a source, runs its tasks side by side on one kernel,
-//! and writes their history, and the sources of each party at its end, to a sink. With `gen N T` it reads nothing, runs
-//! a load that it makes, and writes its summary. While the tasks go on, it calls a gate.
+//! and writes their history, and the sources of each party at its end, to a sink. With `step` it takes the script's steps
+//! one after another, and writes what they print, and the sources at their end. With `gen N T` it reads nothing, runs a
+//! load that it makes, and writes its summary. While the tasks of a run go on, it calls a gate.
 #![tactic(auto)]
 
 mod command;
@@ -8,9 +9,11 @@ pub mod law;
 mod read;
 mod refusal;
 mod run;
+mod steps;
 mod top;
 mod write;
 
 pub use command::Command;
 pub use refusal::Refusal;
+pub use steps::run_steps;
 pub use top::macsim;

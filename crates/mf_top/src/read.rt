@@ -1,14 +1,19 @@
-//! The reader of a whole source.
+//! The readers of a whole source, and of the script that it holds.
 ghost use Rattle.std.specs.Prelude.{◌≡◌, ◌<◌, ◌≤◌, ◌+◌, length, IfOk, IsErrOf};
 ghost use Rattle.mf_top.specs.declared.read.ReadError.TheVariants.{Memory, Failed as ReadFailed};
-ghost use Rattle.mf_io.specs.Outside.{HasRisen};
+ghost use Rattle.mf_calls.specs.WellFormed.{IsWellFormed};
+ghost use Rattle.mf_io.specs.Outside.{seen, HasRisen};
 ghost use Rattle.mf_io.specs.Causes.{Gave};
 ghost use Rattle.mf_top.specs.Reading.{IsWhole, GaveOn};
 ghost use Rattle.mf_top.specs.Answers.{IsTooLong};
+ghost use Rattle.mf_top.specs.Scripts.{IsRead};
 ghost use Rattle.mf_names.specs.declared.limits.TheConstants.{SCRIPT_LIMIT};
 
+use crate::refusal::Refusal;
+use mf_calls::Script;
 use mf_io::{Failed, Source};
 use mf_names::SCRIPT_LIMIT;
+use mf_script::read_script;
 use std::alloc::{AllocError, Global};
 
 /// The most bytes that are asked for at once.
@@ -57,6 +62,16 @@ pub fn read_all<S: Source>(alloc: Global, source: &mut S) -> Result<Vec<u8>, Rea
         }
     }
     Err(ReadError::TooLong)
+}
+
+/// The script that the source holds to its end.
+pub fn read_source<S: Source>(alloc: Global, source: &mut S) -> Result<Script, Refusal>
+    ensures read { IsRead (seen S.left S.faults source.old source.new) result }
+    ensures formed { IfOk result IsWellFormed }
+{
+    let bytes = read_all(alloc, source)?;
+    let script = read_script(alloc, &bytes)?;
+    Ok(script)
 }
 
 /// Appends at most `room` bytes more, and returns how many.

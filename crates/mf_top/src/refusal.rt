@@ -1,7 +1,7 @@
 //! Why there is no history, and no summary of a load.
 ghost use Rattle.std.specs.Prelude.{◌≡◌, ◌++◌, IfOk, OnOk, OnErr, string_bytes};
 ghost use Rattle.std.specs.Cow.{cow_str_bytes};
-ghost use Rattle.mf_top.specs.Answers.{errno_text, fault_text, refusal_status, refusal_text};
+ghost use Rattle.mf_top.specs.Answers.{errno_text, fault_text, refusal_status, refusal_text, TellsOfScript};
 ghost use Rattle.mf_top.specs.Refusals.{IsTold};
 ghost use Rattle.mf_top.specs.declared.refusal.Refusal.TheVariants as refusal;
 
@@ -27,6 +27,8 @@ pub enum Refusal {
         fault: ScriptFault,
         errno: Option<Errno>,
     },
+    /// The step of this number, counted from 1, is the first that names no task of the script or isn't in turn.
+    Step(u32),
     /// A read of the source failed.
     ReadFault,
     /// The source holds more than a script may have.
@@ -45,19 +47,24 @@ impl Refusal {
             Refusal::Script { .. } => 3,
             Refusal::ReadFault => 4,
             Refusal::TooLong => 6,
+            Refusal::Step(_) => 7,
             Refusal::Memory => 9,
         }
     }
 
-    /// The line that is written in their place. Only one that tells of the script takes memory.
+    /// The line that is written in their place. Only one that tells of a line or of a step of the script takes
+    /// memory.
     pub fn text(self, alloc: Global) -> Result<CowStr<'static>, AllocError>
         ensures text { IfOk result (λ text. cow_str_bytes text ≡ refusal_text self) }
-        ensures memory { OnErr result (refusal_status self ≡ 3) }
+        ensures memory { OnErr result (TellsOfScript self) }
     {
         let text = match self {
-            Refusal::Usage => CowStr::Borrowed("macsim: usage: run | gen N T\n"),
+            Refusal::Usage => CowStr::Borrowed("macsim: usage: run | step | gen N T\n"),
             Refusal::Script { line, fault, errno } => {
                 CowStr::Owned(fault_text(alloc, line, fault, errno)?)
+            }
+            Refusal::Step(number) => {
+                CowStr::Owned(format!(in alloc; "macsim: step {number} refused\n")?)
             }
             Refusal::ReadFault => CowStr::Borrowed("macsim: read fault\n"),
             Refusal::TooLong => CowStr::Borrowed("macsim: too long\n"),

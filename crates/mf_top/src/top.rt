@@ -8,24 +8,26 @@ ghost use Rattle.mf_top.specs.declared.refusal.Refusal.{Refusal};
 ghost use Rattle.mf_io.specs.Outside.{seen};
 ghost use Rattle.mf_top.specs.declared.command.Command.TheVariants as command;
 ghost use Rattle.mf_top.specs.Commands.{command_of};
-ghost use Rattle.mf_top.specs.Answers.{WroteHistory, WroteSummary, IsRunOutcome, IsLoaded, IsOutcome, IsWritten, IsFaultless, status_of, output_of};
+ghost use Rattle.mf_top.specs.Answers.{WroteHistory, WroteSummary, IsRunOutcome, IsLoaded, IsOutcome, IsWritten, IsFaultless};
+ghost use Rattle.mf_top.specs.Steps.{WroteSteps};
 ghost use Rattle.mf_top.specs.Outcomes.{bytes_of_outcome};
 
 use crate::command::Command;
 use crate::refusal::{Refusal, ToldRefusal};
+use crate::steps::step_source;
 use crate::{read, run, write};
-use mf_io::{Failed, Gate, Sink, Source};
+use mf_io::{Gate, Sink, Source};
 use mf_policy::Policy;
-use mf_script::read_script;
 use std::alloc::Global;
 use std::sync::Wait;
 use std::thread::Threads;
 
 /// With the word `run` runs the script that the source holds, leaving its steps aside, and writes its history and the
-/// sources at its end to the sink; with `gen N T` runs the generated load, and writes its summary. Returns the program's
-/// exit status: 0, the status of a `Refusal`, or 5 where a write failed. `words` are those after the program's name.
-/// Nothing is written before the run has ended. `modules` has a policy of each module, once, in its initial state. The tasks
-/// run side by side, and call `gate`.
+/// sources at its end to the sink; with `step` takes its steps one after another, and writes what they print and the
+/// sources at their end; with `gen N T` runs the generated load, and writes its summary. Returns the program's exit
+/// status: 0, the status of a `Refusal`, or 5 where a write failed. `words` are those after the program's name. Nothing is
+/// written before the run has ended. `modules` has a policy of each module, once, in its initial state. The tasks of a run
+/// go on side by side, and call `gate`.
 pub fn macsim<S: Source, K: Sink, G: Gate, P: Policy, R: Threads + Wait + Sync>(
     rt: &R,
     alloc: Global,
@@ -44,6 +46,11 @@ pub fn macsim<S: Source, K: Sink, G: Gate, P: Policy, R: Threads + Wait + Sync>(
     ensures headline { command_of (map string_bytes words.now) ≡ Some command.Run → result ≡ 0
         → WroteHistory (seen S.left S.faults source.old source.new) (seen K.taken K.faults sink.old sink.new) }
 
+    // With `step` and 0 the source held a script to its end, each of its steps was taken, and the sink took their text and
+    // that of the sources at their end, and nothing else.
+    ensures steps { command_of (map string_bytes words.now) ≡ Some command.Step → result ≡ 0
+        → WroteSteps (seen S.left S.faults source.old source.new) (seen K.taken K.faults sink.old sink.new) }
+
     // With `gen N T` and 0 nothing was read, and the sink took the summary of the load, and nothing else.
     ensures load { (lines tasks : ℕ) → command_of (map string_bytes words.now) ≡ Some (command.Gen lines tasks) → result ≡ 0
         → WroteSummary lines tasks (seen S.left S.faults source.old source.new) (seen K.taken K.faults sink.old sink.new) }
@@ -53,18 +60,18 @@ pub fn macsim<S: Source, K: Sink, G: Gate, P: Policy, R: Threads + Wait + Sync>(
         × IsOutcome (map string_bytes words.now) (seen S.left S.faults source.old source.new) outcome
         × IsWritten (seen K.taken K.faults sink.old sink.new) outcome result }
 
-    // The right words, with `run` a script, over a source and a sink that don't fail, gives 0, or 9 if memory runs out.
-    ensures complete { IsFaultless (map string_bytes words.now) (seen S.left S.faults source.old source.new) (seen K.taken K.faults sink.old sink.new)
+    // The right words, with `run` a script, with `step` one whose steps are all in turn, over a source and a sink that don't
+    // fail, gives 0, or 9 if memory runs out.
+    ensures complete { IsFaultless (map string_bytes words.now) (seen S.left S.faults source.old source.new)
+        (seen K.taken K.faults sink.old sink.new)
         → (result ≡ 0) ⊎ (result ≡ 9) }
 {
     let outcome = told(rt, alloc, words, source, gate, modules);
-    match write::write_all(sink, output_of(&outcome).as_bytes()) {
-        Ok(()) => status_of(&outcome),
-        Err(Failed) => 5,
-    }
+    write::write_outcome(sink, &outcome)
 }
 
-/// What is to be written: the text of the run's history or of the load's summary, or why there is none, with its line.
+/// What is to be written: the text of the run's history, of the steps or of the load's summary, or why there is none, with
+/// its line.
 #[tactic(auto, using(crate::proofs::Told::told_cause))]
 fn told<S: Source, G: Gate, P: Policy, R: Threads + Wait + Sync>(
     rt: &R,
@@ -84,7 +91,7 @@ fn told<S: Source, G: Gate, P: Policy, R: Threads + Wait + Sync>(
     }
 }
 
-/// The text of the run's history or of the load's summary, or why there is none.
+/// The text of the run's history, of the steps or of the load's summary, or why there is none.
 fn outcome_of<S: Source, G: Gate, P: Policy, R: Threads + Wait + Sync>(
     rt: &R,
     alloc: Global,
@@ -100,6 +107,7 @@ fn outcome_of<S: Source, G: Gate, P: Policy, R: Threads + Wait + Sync>(
     match Command::of_words(words) {
         None => Err(Refusal::Usage),
         Some(Command::Run) => run_source(rt, alloc, source, gate, modules),
+        Some(Command::Step) => step_source(alloc, source, modules),
         Some(Command::Gen(lines, tasks)) => run_generated(rt, alloc, lines, tasks, gate, modules),
     }
 }
@@ -135,28 +143,7 @@ fn run_source<S: Source, G: Gate, P: Policy, R: Threads + Wait + Sync>(
     requires fresh { All (λ p. IsFresh (P.spec p)) modules.items }
     ensures { IsRunOutcome (seen S.left S.faults source.old source.new) (bytes_of_outcome result) }
 {
-    let bytes = read::read_all(alloc, source)?;
-    let script = read_script(alloc, &bytes)?;
-    // A run takes memory of its own, and needs the script alone.
-    drop(bytes);
+    let script = read::read_source(alloc, source)?;
     let text = run::run_script(rt, alloc, &script, gate, modules)?;
     Ok(text)
-}
-
-fn status_of(outcome: &Result<String, ToldRefusal>) -> u8
-    ensures { result ≡ status_of (bytes_of_outcome outcome.now) }
-{
-    match outcome {
-        Ok(_) => 0,
-        Err(refused) => refused.status(),
-    }
-}
-
-fn output_of(outcome: &Result<String, ToldRefusal>) -> &str
-    ensures { result.now ≡ output_of (bytes_of_outcome outcome.now) }
-{
-    match outcome {
-        Ok(text) => text.as_str(),
-        Err(refused) => refused.text(),
-    }
 }

@@ -7,7 +7,7 @@ ghost use Rattle.mf_step.specs.Reply.{reply_to};
 ghost use Rattle.mf_step.specs.Refused.{is_done};
 ghost use Rattle.mf_step.specs.Verdict.{verdict_of};
 ghost use Rattle.mf_core.specs.LegalHistory.{next_reply};
-ghost use Rattle.mf_core.specs.Next.{next_found};
+ghost use Rattle.mf_core.specs.NextFound.{next_found};
 ghost use Rattle.mf_core.specs.declared.progress.Turn.TheVariants as turn;
 ghost use Rattle.mf_core.specs.Policies.{AreOf, StaysWhileWaiting};
 ghost use Rattle.mf_core.specs.CoreView.{run_state, specs_of, progress_of, turn_at, open_of, done_of, lines_changed, Changes, Commits, IsCurrent, AdvancesBy, AdvancesOn};

@@ -10,17 +10,18 @@ use std::thread::Threads;
 
 /// A run of the program, and what it must give.
 #[derive(Clone, Copy)]
-struct Case {
-    name: &'static str,
-    words: &'static [&'static str],
-    script: &'static str,
-    source_fails: &'static [u64],
-    sink_fails: &'static [u64],
-    status: u8,
-    text: &'static str,
+pub struct Case {
+    pub name: &'static str,
+    pub words: &'static [&'static str],
+    pub script: &'static str,
+    pub source_fails: &'static [u64],
+    pub sink_fails: &'static [u64],
+    pub status: u8,
+    pub text: &'static str,
 }
 
-const PLAIN: Case = Case {
+/// A script with one denial.
+pub const PLAIN: Case = Case {
     name: "the plainest denial",
     words: &["run"],
     script: DENIAL,
@@ -127,6 +128,8 @@ const REFUSALS: &[Case] = &[
 const OTHER_WORDS: &[&[&str]] = &[
     &[],
     &["walk"],
+    &["steps"],
+    &["step", "1"],
     &["run", "1", "1"],
     &["gen"],
     &["gen", "1"],
@@ -139,7 +142,7 @@ const OTHER_WORDS: &[&[&str]] = &[
 ];
 
 /// Runs the case over a source that gives at most 64 bytes a call and a sink that takes at most 10.
-fn run_case<R: Abort + Threads + Wait + Sync>(
+pub fn run_case<R: Abort + Threads + Wait + Sync>(
     rt: &R,
     alloc: Global,
     case: &Case,
@@ -178,7 +181,7 @@ fn words_that_are_not_taken(rt: HostRuntime) -> Result<(), Fail> {
             words,
             source_fails: &[1],
             status: 2,
-            text: "macsim: usage: run | gen N T\n",
+            text: "macsim: usage: run | step | gen N T\n",
             ..PLAIN
         };
         run_case(&rt, rt.alloc(), &case)?;

@@ -12,7 +12,7 @@ use std::thread::Threads;
 
 const GRANTS: &[Rows] = &[
     Rows {
-        name: "a realtime user",
+        name: "mac_priority(4): a realtime user",
         before: "boot mac_priority\n",
         task: "uid 1001 gid 1001,47 label -",
         rows: &[

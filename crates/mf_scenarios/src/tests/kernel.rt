@@ -1,4 +1,4 @@
-//! Two tasks on one kernel, in one thread: the second changes the file's mode between the first one's walk and commit.
+//! Two tasks on one kernel, in one thread: the second relabels the file between the first one's walk and commit.
 ghost use Rattle.std.specs.Prelude.{◌≡◌, ◌+◌, false, All, length, map};
 ghost use Rattle.mf_policy.specs.Modules.{module_of};
 ghost use Rattle.mf_list.specs.Fresh.{IsFresh};
@@ -29,13 +29,13 @@ use std::sync::Wait;
 use std::sync::ledger::{Blank, Ledger};
 use std::test::Fail;
 
-const CHANGED_DURING_A_READ: &str = "boot mac_biba
+const RELABELLED_DURING_A_READ: &str = "boot mac_biba
 file /f reg uid 0 gid 0 mode 644 label biba/high text hi
 task a uid 0 gid 0 label biba/high
 read /f
 end
 task b uid 0 gid 0 label biba/high
-chmod /f 600
+setfmac biba/low /f
 end
 ";
 
@@ -44,12 +44,12 @@ enter a
 enter b
 done b 1 ok
 leave b
-done a 1 ok bytes 2 =hi
+done a 1 no EACCES vnode_open_read mac_biba 2
 leave a
 ";
 
 /// The history of the two tasks: after the second one's call the view of the file in the first one's plan is out of date.
-fn changed_during_a_read<P: Policy, J: Job, B: Ledger, R: Wait + Abort>(
+fn relabelled_during_a_read<P: Policy, J: Job, B: Ledger, R: Wait + Abort>(
     rt: &R,
     alloc: Global,
     script: &Script,
@@ -77,13 +77,13 @@ fn changed_during_a_read<P: Policy, J: Job, B: Ledger, R: Wait + Abort>(
     let mut early = Plan::new();
     kernel.plan(rt, &first, &mut early);
     let early_verdict = Kernel::walk(list, &first, &early);
-    let changed = commit_new_plan(rt, alloc, &kernel, &mut second, list);
+    let relabelled = commit_new_plan(rt, alloc, &kernel, &mut second, list);
     kernel.leave(rt, second, &mut passes[1]);
     let read = commit_twice(rt, alloc, &kernel, &mut first, list, &early, &early_verdict);
     kernel.leave(rt, first, &mut passes[0]);
     drop(policies);
     let core = kernel.close(passes);
-    assert!(rt; matches!(changed, Ok(Commit::Done)));
+    assert!(rt; matches!(relabelled, Ok(Commit::Done)));
     assert!(rt; matches!(read, Ok(Commit::Done)));
     let mut text = String::new(alloc);
     print_history(script, core.history(), &mut text)?;
@@ -131,8 +131,8 @@ fn commit_twice<P: Policy, J: Job, B: Ledger, R: Wait>(
 #[test]
 fn a_plan_goes_stale(rt: HostRuntime) -> Result<(), Fail> {
     let alloc = rt.alloc();
-    assert!(rt; CHANGED_DURING_A_READ.len() <= SCRIPT_LIMIT);
-    let script = read_script(alloc, CHANGED_DURING_A_READ.as_bytes())?;
+    assert!(rt; RELABELLED_DURING_A_READ.len() <= SCRIPT_LIMIT);
+    let script = read_script(alloc, RELABELLED_DURING_A_READ.as_bytes())?;
     let parts = script.tasks.len() as u64 + 1;
     let mut modules: Vec<Box<dyn Policy + Send + Sync>> = Vec::new(alloc);
     modules.push(Box::new(alloc, Biba::new())?)?;
@@ -140,7 +140,7 @@ fn a_plan_goes_stale(rt: HostRuntime) -> Result<(), Fail> {
     modules.push(Box::new(alloc, Partition::new())?)?;
     modules.push(Box::new(alloc, Bsdextended::new(alloc)?)?)?;
     modules.push(Box::new(alloc, Priority::new())?)?;
-    let text = changed_during_a_read::<Box<dyn Policy + Send + Sync>, Brand, Brand, HostRuntime>(
+    let text = relabelled_during_a_read::<Box<dyn Policy + Send + Sync>, Brand, Brand, HostRuntime>(
         &rt,
         alloc,
         &script,

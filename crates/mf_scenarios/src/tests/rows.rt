@@ -57,7 +57,7 @@ const OBJECTS: &[Rows] = &[
             ("@c exit", "ok"),
             ("pread p", "no ENOENT - -"),
             ("see t.c", "no ESRCH - -"),
-            ("@c stat /", "no ESRCH - -"),
+            ("@c getpmac", "no ESRCH - -"),
             ("fork c", "ok"),
         ],
         sources: "source biba vnode:/ high\nsource biba proc:t 5\nsource biba proc:t.c 5\n",

@@ -18,6 +18,7 @@ write /home/alice/n !
 read /home/alice/n
 create /tmp/a
 create /home/x
+setpmac biba/high
 see www
 end
 task www uid 80 gid 80 label biba/low(low-low),mls/low(low-low)
@@ -36,7 +37,8 @@ done alice 3 ok
 done alice 4 ok bytes 5 =note!
 done alice 5 ok
 done alice 6 no EACCES vnode_create mac_mls 3
-done alice 7 no ESRCH proc_visible mac_biba 1
+done alice 7 no EPERM cred_relabel mac_biba 1
+done alice 8 no ESRCH proc_visible mac_biba 1
 ";
 
 const WWW: &str = "done www 1 no EACCES vnode_lookup mac_mls 3

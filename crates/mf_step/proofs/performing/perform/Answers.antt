@@ -3,7 +3,6 @@ use Rattle.mf_objects.specs.declared.id.Id.{Id}
 use Rattle.mf_plan.specs.declared.found.Found.{Found}
 use Rattle.mf_plan.specs.Found.{target_of}
 use Rattle.mf_plan.specs.Names.{caller_name}
-use Rattle.mf_plan.specs.Views.{process_named}
 use Rattle.mf_plan.proofs.Laws.{can_do}
 use Rattle.mf_step.specs.Step.{performed_by}
 use Rattle.mf_step.proofs.Keeping.{call_done, call_keeps}
@@ -26,7 +25,7 @@ perform_by-requires-clause-target c =
 pub perform_by-requires-clause-suits : goal.perform_by-requires-clause-suits
 perform_by-requires-clause-suits c =
     let s = c.args.state.now in
-    target_suits s c.args.task.now (process_named s.objects (caller_name c.args.task.now c.args.line.now.child)) c.args.line.now.call c.args.found.target c.live-live.ensures.population
+    target_suits s c.args.task.now (caller_name c.args.task.now c.args.line.now.child) c.args.line.now.call c.args.found.target c.live-live.ensures.population
     (can_do s c.args.task.now c.args.line.now.child c.args.line.now.call c.requires.proceeds) (ap (λ (f : Found). f.target) c.requires.found)
 
 pub returns-in-Some-clause-ok : goal.returns-in-Some-clause-ok
@@ -42,16 +41,16 @@ pub returns-in-Some-clause-next : goal.returns-in-Some-clause-next
 returns-in-Some-clause-next c =
     let caller = sym c.in-Some.is ∙ ap (λ (f : Found). f.caller) c.requires.found in
     (call_keeps c.perform_by.result c.args.state.now c.perform_by.new.state c.args.task.now c.args.line.now.child c.args.line.now.call c.in-Some.caller caller
-    c.requires.proceeds c.perform_by.ensures.ok c.perform_by.ensures.err).next
+    c.live-live.ensures.population.rising c.requires.proceeds c.perform_by.ensures.ok c.perform_by.ensures.err).next
 
 pub returns-in-Some-clause-rises : goal.returns-in-Some-clause-rises
 returns-in-Some-clause-rises c =
     let caller = sym c.in-Some.is ∙ ap (λ (f : Found). f.caller) c.requires.found in
     (call_keeps c.perform_by.result c.args.state.now c.perform_by.new.state c.args.task.now c.args.line.now.child c.args.line.now.call c.in-Some.caller caller
-    c.requires.proceeds c.perform_by.ensures.ok c.perform_by.ensures.err).rises
+    c.live-live.ensures.population.rising c.requires.proceeds c.perform_by.ensures.ok c.perform_by.ensures.err).rises
 
 pub returns-in-Some-clause-kept : goal.returns-in-Some-clause-kept
 returns-in-Some-clause-kept c =
     let caller = sym c.in-Some.is ∙ ap (λ (f : Found). f.caller) c.requires.found in
     (call_keeps c.perform_by.result c.args.state.now c.perform_by.new.state c.args.task.now c.args.line.now.child c.args.line.now.call c.in-Some.caller caller
-    c.requires.proceeds c.perform_by.ensures.ok c.perform_by.ensures.err).kept
+    c.live-live.ensures.population.rising c.requires.proceeds c.perform_by.ensures.ok c.perform_by.ensures.err).kept

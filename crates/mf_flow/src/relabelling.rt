@@ -1,0 +1,70 @@
+//! What a relabel makes of the sources.
+ghost use Rattle.std.specs.Prelude.{◌≡◌, ◌<◌, None, IfOk, OnOk};
+ghost use Rattle.std.specs.Option.{option_zip};
+ghost use Rattle.mf_elem.specs.declared.label.TheConstants.{SLOTS};
+ghost use Rattle.mf_step.specs.Step.{after_reply};
+ghost use Rattle.mf_flow.specs.Rows.{rows_given};
+ghost use Rattle.mf_flow.specs.Sources.{alone, has_element as has_element_for};
+
+use crate::elem_set::ElemSet;
+use crate::moving::element_at;
+use crate::set_list::SetList;
+use mf_elem::{Elem, Request};
+use mf_errno::Module;
+use mf_objects::{Id, Objects};
+use mf_plan::{Outline, Reply};
+use mf_policy::range_asked;
+use std::alloc::{AllocError, Global};
+
+/// What a call with that reply asks of whose label. One that isn't done asks nothing.
+pub fn asked_of(reply: &Reply, outline: &Outline) -> Option<(Id, Request)>
+    ensures { result ≡ after_reply reply.now None (option_zip outline.now.found.target outline.now.request) }
+{
+    match reply {
+        Reply::Ok(_) => outline.found.target.zip(outline.request),
+        Reply::Denied { .. } | Reply::Refused(_) => None,
+    }
+}
+
+/// Starts the sources of an entity anew, where its relabel gives it an effective element by the module's policy.
+pub fn give(
+    alloc: Global,
+    slot: u8,
+    module: Module,
+    objects: &Objects,
+    asked: &Option<(Id, Request)>,
+    sets: &mut SetList,
+) -> Result<(), AllocError>
+    requires { slot < SLOTS }
+    ensures { OnOk result (sets.new ≡ rows_given slot «module» objects.now asked.now sets.old) }
+{
+    match asked {
+        Some((id, request)) if has_element(module, request) => {
+            let element = element_at(objects, slot, id.number());
+            let set = own_source(alloc, element)?;
+            sets.put(id.number(), Some(set));
+            Ok(())
+        }
+        _ => Ok(()),
+    }
+}
+
+/// Whether the request has an effective element for the module's policy.
+fn has_element(module: Module, request: &Request) -> bool
+    ensures { result ≡ has_element_for «module» request.now }
+{
+    match range_asked(module, request) {
+        None => false,
+        Some(label) => label.effective.is_some(),
+    }
+}
+
+/// A party's element, as its only source. One labelled equal has none.
+fn own_source(alloc: Global, element: Option<Elem>) -> Result<ElemSet, AllocError>
+    ensures { IfOk result (λ set. set ≡ alone element) }
+{
+    match element {
+        None | Some(Elem::Equal) => Ok(ElemSet::new(alloc)),
+        Some(own) => ElemSet::one(alloc, own),
+    }
+}

@@ -1,0 +1,107 @@
+-- That the first value of a slot, which a relabel gives it, makes its mark, and that another value makes none.
+use Rattle.std.proofs.Common.{◌≡◌, ℕ, Bool, true, false, not, cond, ◌&&◌, ◌||◌, if◌then◌else◌, nat_eq, List, [], ◌∷◌, ◌++◌, map, append-nil, Option, Some, None, refl}
+use Rattle.std.specs.Prelude.{is_some}
+use Rattle.std.specs.List.{list_all}
+use Rattle.std.proofs.lemmas.Bool.{and_parts}
+use Rattle.mf_errno.specs.Names.{all_modules}
+use Rattle.mf_errno.specs.declared.module.Module.{Module}
+use Rattle.mf_errno.specs.declared.module.Module.TheVariants.{Biba, Mls, Partition, Bsdextended, Priority}
+use Rattle.mf_elem.specs.declared.label.LabelValue.{LabelValue}
+use Rattle.mf_elem.specs.declared.label.LabelValue.TheVariants.{Unset, Range, Number}
+use Rattle.mf_elem.specs.declared.label.Request.{Request}
+use Rattle.mf_item.specs.declared.view.Kind.{Kind}
+use Rattle.mf_item.specs.declared.view.Kind.TheVariants as kinds
+use Rattle.mf_policy.specs.declared.registration.Registration.{Registration}
+use Rattle.mf_policy.specs.Claims.{claims_part, is_claimed}
+use Rattle.mf_policy.specs.Modules.{facts_of, is_process, labels_kind}
+use Rattle.mf_policy.specs.Registration.{Entry, is_listed}
+use Rattle.mf_policy.specs.Relabelled.{number_after, value_after, value_of}
+use Rattle.mf_lifetimes.specs.Marks.{Mark, is_set, is_first}
+use Rattle.mf_lifetimes.specs.Marks.Mark.{Made}
+use Rattle.mf_lifetimes.specs.Laws.{AreMarksOf}
+use Rattle.mf_lifetimes.proofs.Listing.{IsLasting, by_holder}
+use Rattle.mf_lifetimes.proofs.Valid.{IsValidOf, valid_set}
+
+-- the marks of a slot that had these, after its value has become another, where these are made with its first one
+abbrev pub with_first : List Mark → LabelValue → LabelValue → List Mark → List Mark
+with_first marks old new made = marks ++ (if is_first old new then made else [])
+
+-- an unchanged value is no first one
+pub no_first : (value : LabelValue) → is_first value value ≡ false
+no_first Unset = refl
+no_first (Range label) = refl
+no_first (Number n) = refl
+
+pub unchanged_marks : (value : LabelValue) (marks made : List Mark) → AreMarksOf value marks → AreMarksOf value (with_first marks value value made)
+unchanged_marks value marks made agree = rw (no_first value, append-nil marks) agree
+
+-- a set slot has its mark from before
+set_marks : (old new : LabelValue) (marks made : List Mark) → is_set old ≡ true → is_set new ≡ true → AreMarksOf old marks → AreMarksOf new (with_first marks old new made)
+set_marks Unset new marks made was is agree = cc
+set_marks old Unset marks made was is agree = cc
+set_marks (Range label) (Range after) marks made was is agree = rw (append-nil marks) agree
+set_marks (Range label) (Number n) marks made was is agree = rw (append-nil marks) agree
+set_marks (Number m) (Range after) marks made was is agree = rw (append-nil marks) agree
+set_marks (Number m) (Number n) marks made was is agree = rw (append-nil marks) agree
+
+-- an unset slot has its mark with its first value
+first_marks : (old new : LabelValue) (r : Registration) (marks : List Mark) → is_set new ≡ true → AreMarksOf old marks
+    → AreMarksOf new (with_first marks old new (Made r ∷ []))
+first_marks old Unset r marks is agree = cc
+first_marks Unset (Range after) r marks is agree = (r, rw agree refl)
+first_marks Unset (Number n) r marks is agree = (r, rw agree refl)
+first_marks (Range label) new r marks is agree = set_marks (Range label) new marks (Made r ∷ []) refl is agree
+first_marks (Number n) new r marks is agree = set_marks (Number n) new marks (Made r ∷ []) refl is agree
+
+-- mac_partition's values: a partition is asked for processes alone, which it labels
+
+number_marks : (r : Registration) (kind : Kind) (asked : Option ℕ) (value : LabelValue) (marks : List Mark) → (is_some asked ≡ true → is_process kind ≡ true)
+    → AreMarksOf value marks → AreMarksOf (number_after asked value) (with_first marks value (number_after asked value) (map Made (if labels_kind Partition kind then r ∷ [] else [])))
+number_marks r kind None value marks claimed agree = unchanged_marks value marks _ agree
+number_marks r kinds.Process (Some n) value marks claimed agree = one (nat_eq n 0)
+  where
+    one : (none : Bool) → AreMarksOf (cond none value (Number n)) (with_first marks value (cond none value (Number n)) (Made r ∷ []))
+    one true = unchanged_marks value marks (Made r ∷ []) agree
+    one false = first_marks value (Number n) r marks refl agree
+number_marks r kinds.Vnode (Some n) value marks claimed agree = let process = claimed refl in cc
+number_marks r kinds.Pipe (Some n) value marks claimed agree = let process = claimed refl in cc
+number_marks r kinds.Socket (Some n) value marks claimed agree = let process = claimed refl in cc
+
+-- a claimed partition is a process's
+claimed_process : (listed : List Entry) (kind : Kind) (request : Request) → is_claimed listed kind request ≡ true → is_some request.partition ≡ true → is_process kind ≡ true
+claimed_process listed kind request claimed asked =
+    let each = (and_parts (not request.other) (list_all (claims_part listed kind request) all_modules) claimed).1 in
+    let later = (and_parts (claims_part listed kind request Biba) _ each).1 in
+    let last = (and_parts (claims_part listed kind request Mls) _ later).1 in
+    let part = (and_parts (claims_part listed kind request Partition) _ last).0 in
+    one (is_some request.partition) asked part
+  where
+    one : (named : Bool) → named ≡ true → (not named || (is_listed Partition listed && is_process kind)) ≡ true → is_process kind ≡ true
+    one true is part = (and_parts (is_listed Partition listed) (is_process kind) part).1
+    one false not_named part = cc
+
+lasting_marks : (m : Module) (kind : Kind) (old new : LabelValue) (marks made : List Mark) → IsValidOf m kind old × IsValidOf m kind new → AreMarksOf old marks
+    → AreMarksOf new (with_first marks old new made)
+lasting_marks m kind old new marks made valid agree =
+    set_marks old new marks made (valid_set (facts_of m).labels kind old valid.0) (valid_set (facts_of m).labels kind new valid.1) agree
+
+-- any module's, where its labels are valid if it stays
+module_marks : (m : Module) (r : Registration) (kind : Kind) (request : Request) (value : LabelValue) (marks : List Mark)
+    → (is_some request.partition ≡ true → is_process kind ≡ true)
+    → (IsLasting m → IsValidOf m kind value × IsValidOf m kind (value_after m request value))
+    → AreMarksOf value marks
+    → AreMarksOf (value_after m request value) (with_first marks value (value_after m request value) (map Made (if labels_kind m kind then r ∷ [] else [])))
+module_marks Biba r kind request value marks claimed valid agree = lasting_marks Biba kind value _ marks _ (valid tt) agree
+module_marks Mls r kind request value marks claimed valid agree = lasting_marks Mls kind value _ marks _ (valid tt) agree
+module_marks Partition r kind request value marks claimed valid agree = number_marks r kind request.partition value marks claimed agree
+module_marks Bsdextended r kind request value marks claimed valid agree = unchanged_marks value marks _ agree
+module_marks Priority r kind request value marks claimed valid agree = unchanged_marks value marks _ agree
+
+-- the slot of an entity that a claimed request relabels has its mark exactly where it is set then
+pub relabelled_marks : (found : Option Entry) (listed : List Entry) (kind : Kind) (request : Request) (value : LabelValue) (marks : List Mark)
+    → is_claimed listed kind request ≡ true
+    → ((x : Entry) → found ≡ Some x → IsLasting x.0.module → IsValidOf x.0.module kind value × IsValidOf x.0.module kind (value_after x.0.module request value))
+    → AreMarksOf value marks → AreMarksOf (value_of found request value) (with_first marks value (value_of found request value) (map Made (by_holder kind found)))
+relabelled_marks None listed kind request value marks claimed valid agree = unchanged_marks value marks [] agree
+relabelled_marks (Some x) listed kind request value marks claimed valid agree =
+    module_marks x.0.module x.0 kind request value marks (claimed_process listed kind request claimed) (valid x refl) agree

@@ -1,0 +1,16 @@
+mod Lists
+pub mod Bounded
+mod Plans
+mod Labels
+mod Contents
+mod Finding
+mod Replies
+mod Holding
+mod Rules
+mod Effects
+mod Values
+mod Requests
+mod Listed
+mod Labelled
+mod Openings
+pub mod Runs

@@ -1,0 +1,187 @@
+-- The reply to a call fits its fields, where the state is within the bounds.
+use Rattle.std.proofs.Common.{◌≡◌, ℕ, ◌<◌, ◌≤◌, ◌^◌, Bool, true, false, List, [], length, map, Option, Some, None, refl, ap, sym, subst, arith}
+use Rattle.std.specs.Prelude.{if◌then◌else◌, find, position, option_and_then, slice_index_or, slice_set, IfSome}
+use Rattle.std.proofs.lemmas.List.{length-map}
+use Rattle.std.proofs.lemmas.List.Quantifiers.{position-Some}
+use Rattle.mf_errno.specs.Names.{module_named}
+use Rattle.mf_errno.specs.declared.module.Module.{Module}
+use Rattle.mf_errno.specs.declared.module.Module.TheVariants as modules
+use Rattle.mf_policy.specs.declared.settings.Change.{Change}
+use Rattle.mf_policy.specs.declared.settings.Change.TheVariants.{FirstMatch, RuleAdd, RuleSet, RuleRemove}
+use Rattle.mf_policy.specs.declared.settings.Changed.{Changed}
+use Rattle.mf_policy.specs.declared.spec.Spec.{Spec}
+use Rattle.mf_policy.specs.declared.spec.Spec.TheVariants as means
+use Rattle.mf_policy.specs.Modules.{wants_slot}
+use Rattle.mf_policy.specs.Registration.{Entry, is_of, slot_for}
+use Rattle.mf_policy.specs.Settings.{change_at, change_in, change_of, done, listed_rules, no_setting, rules_of, with_rule}
+use Rattle.mf_rule.specs.RuleList.{Slots, is_free}
+use Rattle.mf_list.proofs.Counts.{listed_few}
+use Rattle.mf_names.specs.declared.limits.TheConstants.{CONTENT_LIMIT, SCRIPT_LIMIT}
+use Rattle.mf_objects.specs.declared.id.Id.{Id}
+use Rattle.mf_objects.specs.Live.{LiveEntity, Entities, content_at, count_at, has_id, is_named, is_process, kind_at, label_at, label_of, live_at, messages_at}
+use Rattle.mf_objects.specs.Titles.{names_at}
+use Rattle.mf_objects.proofs.Finding.{found_live}
+use Rattle.mf_calls.specs.declared.script.Call.{Call}
+use Rattle.mf_calls.specs.declared.script.Call.TheVariants as call
+use Rattle.mf_calls.specs.WellFormed.{IsFormedCall}
+use Rattle.mf_plan.specs.declared.plan.Tail.{Tail}
+use Rattle.mf_plan.specs.declared.plan.Tail.TheVariants.{Do, Refuse}
+use Rattle.mf_plan.specs.declared.reply.Loaded.{Loaded}
+use Rattle.mf_plan.specs.declared.reply.Payload.{Payload}
+use Rattle.mf_plan.specs.declared.reply.Payload.TheVariants as payload
+use Rattle.mf_plan.specs.declared.state.State.{State}
+use Rattle.mf_plan.specs.Names.{caller_name}
+use Rattle.mf_plan.specs.Path.{file_at_path}
+use Rattle.mf_plan.specs.Plan.{plan_of}
+use Rattle.mf_plan.specs.Planned.{Plan}
+use Rattle.mf_plan.specs.Settings.{setting}
+use Rattle.mf_plan.specs.Views.{is_dir, pipe_named, process_named, socket_named}
+use Rattle.mf_step.specs.declared.verdict.Denial.{Denial}
+use Rattle.mf_step.specs.Reply.{denied_reply, head, label, loaded, message, names, payload_of, payload_of_found, rule_number, rules, size, stat, tail_reply}
+use Rattle.mf_step.specs.Step.{step_payload, step_reply}
+use Rattle.mf_step.specs.Verdict.{denial_from, verdict_of}
+use Rattle.mf_hist.specs.Lines.{AreRules, IsPayload, IsReply, IsSlot}
+use Rattle.mf_lifetimes.proofs.Listing.{IsBelow}
+use Rattle.mf_reading.proofs.Bounded.{AllFit, AreBounded, AreBoundedSpecs, IsBoundedSpec, IsBoundedState}
+use Rattle.mf_reading.proofs.Contents.{content_fits, file_fits, head_fits, message_fits, names_fit}
+use Rattle.mf_reading.proofs.Finding.{file_lives}
+use Rattle.mf_reading.proofs.Labels.{parts_fit}
+use Rattle.mf_reading.proofs.Lists.{all_found, all_mapped, either_way}
+use Rattle.mf_reading.proofs.Plans.{denied_within, few_checks}
+
+-- Payloads
+
+-- what is read of an entity fits where it is read of the entity that is found
+found_fits : {A : Type 0} (read : A → Payload) (found : Option A) → ((x : A) → found ≡ Some x → IsPayload (read x)) → IsPayload (payload_of_found read found)
+found_fits read None fits = tt
+found_fits read (Some x) fits = fits x refl
+
+names_of : (o : Entities) (id : Id) → AreBounded o → IsPayload (names o id)
+names_of o id bounded = one (is_dir o id) refl
+  where
+    one : (b : Bool) → is_dir o id ≡ b → IsPayload (if b then payload.Names (count_at o id) (names_at o id) else payload.None)
+    one true directory = names_fit o id bounded directory
+    one false other = tt
+
+slots_fit : (given : ℕ) (r : Option ℕ) → given < 2 ^ 8 → IsBelow given r → IsSlot r
+slots_fit given None small below = tt
+slots_fit given (Some n) small below = omega (arith, small, below)
+
+slot_fits : (wanted : Bool) (given : ℕ) → given < 2 ^ 8 → IsSlot (slot_for wanted given)
+slot_fits true given small = small
+slot_fits false given small = tt
+
+-- Rules
+
+spec_rules : (spec : Spec) → IsBoundedSpec spec → IfSome (rules_of spec) AreRules
+spec_rules (means.Bsdextended rules first) fits = fits
+spec_rules means.Biba fits = tt
+spec_rules means.Mls fits = tt
+spec_rules means.Partition fits = tt
+spec_rules means.Priority fits = tt
+
+rules_fit : (specs : List Entry) → AreBoundedSpecs specs → IfSome (listed_rules specs) AreRules
+rules_fit specs bounded = one (find (is_of modules.Bsdextended) specs) refl
+  where
+    one : (found : Option Entry) → find (is_of modules.Bsdextended) specs ≡ found → IfSome (option_and_then (λ (entry : Entry). rules_of entry.1) found) AreRules
+    one None is = tt
+    one (Some entry) is = spec_rules entry.1 (all_found (λ (x : Entry). IsBoundedSpec x.1) (is_of modules.Bsdextended) specs entry bounded is).0
+
+listed_fit : (listed : Option Slots) → IfSome listed AreRules → IsPayload (rules listed)
+listed_fit None fits = tt
+listed_fit (Some slots) fits = fits
+
+-- the number of a rule that is added is one of a rule list
+change_number : (spec : Spec) (change : Change) → IsBoundedSpec spec → IfSome (change_of spec change).0.number (λ n. n < 2 ^ 32)
+change_number (means.Bsdextended slots first) (FirstMatch enabled) fits = tt
+change_number (means.Bsdextended slots first) (RuleAdd rule) fits = one (position is_free slots) refl
+  where
+    one : (place : Option ℕ) → position is_free slots ≡ place → IfSome (with_rule slots first rule place).0.number (λ n. n < 2 ^ 32)
+    one None is = tt
+    one (Some n) is = omega (arith, (position-Some is_free slots n None is).0, fits.all)
+change_number (means.Bsdextended slots first) (RuleSet n rule) fits = tt
+change_number (means.Bsdextended slots first) (RuleRemove n) fits =
+    either_way (λ (c : Changed × Spec). IfSome c.0.number (λ n. n < 2 ^ 32)) (is_free (slice_index_or slots n None)) (no_setting, means.Bsdextended slots first)
+    (done, means.Bsdextended (slice_set slots n None) first) tt tt
+change_number means.Biba change fits = tt
+change_number means.Mls change fits = tt
+change_number means.Partition change fits = tt
+change_number means.Priority change fits = tt
+
+number_fits : (m : Module) (change : Change) (specs : List Entry) → AreBoundedSpecs specs → IfSome (change_in m change specs).0.number (λ n. n < 2 ^ 32)
+number_fits m change specs bounded = one (find (is_of m) specs) refl
+  where
+    one : (found : Option Entry) → find (is_of m) specs ≡ found → IfSome (change_at m change specs found).0.number (λ n. n < 2 ^ 32)
+    one None is = tt
+    one (Some entry) is = change_number entry.1 change (all_found (λ (x : Entry). IsBoundedSpec x.1) (is_of m) specs entry bounded is).0
+
+numbered_fit : (number : Option ℕ) → IfSome number (λ n. n < 2 ^ 32) → IsPayload (rule_number number)
+numbered_fit None fits = tt
+numbered_fit (Some n) fits = fits
+
+-- The table: what a call hands back.
+
+module _ (s : State) (bounded : IsBoundedState s) where
+  small_given : s.numbers < 2 ^ 8
+  small_given = omega (arith, bounded.listed.given)
+
+  label_fits : (id : Id) (e : LiveEntity) → live_at s.objects id ≡ Some e → IsPayload (label s id)
+  label_fits id e live =
+      let fit : AllFit s.specs e.label = (all_found (λ (x : LiveEntity). AllFit s.specs x.label) (has_id id) s.objects.live e bounded.labelled.fit live).0 in
+      let is : label_at s.objects id ≡ e.label = ap label_of live in
+      parts_fit s.specs (label_at s.objects id) (subst (AllFit s.specs) (sym is) fit) bounded.listed.slotted (kind_at s.objects id)
+
+  caller_label : (name : List ℕ) (id : Id) → process_named s.objects name ≡ Some id → IsPayload (label s id)
+  caller_label name id found = let here = found_live (is_named is_process name) id s.objects.live found in label_fits id here.0 here.1
+
+  file_label : (path : List (List ℕ)) (id : Id) → file_at_path s.objects path ≡ Some id → IsPayload (label s id)
+  file_label path id found = let here = file_lives s.objects path id bounded.holds.objects.rooted found in label_fits id here.0 here.1
+
+  head_at : (id : Id) → IsPayload (head s.objects id)
+  head_at id = head_fits CONTENT_LIMIT (content_at s.objects id) (omega arith) (content_fits s.objects id bounded.holds.objects)
+
+  size_at : (id : Id) → length (content_at s.objects id) < 2 ^ 32
+  size_at id = omega (arith, (content_fits s.objects id bounded.holds.objects).few)
+
+  loaded_fit : IsPayload (payload.Modules (map loaded s.specs))
+  loaded_fit = record {
+    few = omega (arith, length-map s.specs loaded, listed_few s.specs bounded.once);
+    slots = all_mapped (λ (x : Entry). IsBelow s.numbers x.0.slot) (λ (l : Loaded). IsSlot l.slot) loaded s.specs
+        (λ x below. slots_fit s.numbers x.0.slot small_given below) bounded.listed.below;
+  }
+
+  payload_fits : (name : List ℕ) (c : Call) → IsPayload (payload_of s (process_named s.objects name) c)
+  payload_fits name call.Getpmac = found_fits (label s) (process_named s.objects name) (caller_label name)
+  payload_fits name (call.Read path) = found_fits (head s.objects) (file_at_path s.objects path) (λ id found. head_at id)
+  payload_fits name (call.Stat path) = found_fits (stat s.objects) (file_at_path s.objects path) (λ id found. (file_fits s.objects id bounded.holds.objects, size_at id))
+  payload_fits name (call.Getfmac path) = found_fits (label s) (file_at_path s.objects path) (file_label path)
+  payload_fits name (call.Readdir path) = found_fits (names s.objects) (file_at_path s.objects path) (λ id found. names_of s.objects id bounded.holds.objects)
+  payload_fits name (call.Pread pipe) = found_fits (head s.objects) (pipe_named s.objects pipe) (λ id found. head_at id)
+  payload_fits name (call.Pstat pipe) = found_fits (size s.objects) (pipe_named s.objects pipe) (λ id found. size_at id)
+  payload_fits name (call.Recv socket) =
+      found_fits (message s.objects) (socket_named s.objects socket)
+      (λ id found. head_fits SCRIPT_LIMIT (slice_index_or (messages_at s.objects id) 0 []) (omega arith) (message_fits s.objects id bounded.holds.objects))
+  payload_fits name call.Kldstat = loaded_fit
+  payload_fits name (call.Kldload word) =
+      found_fits (λ m. payload.Slot (slot_for (wants_slot m) s.numbers)) (module_named word) (λ m found. slot_fits (wants_slot m) s.numbers small_given)
+  payload_fits name call.UgidfwList = listed_fit (listed_rules s.specs) (rules_fit s.specs bounded.holds.specs)
+  payload_fits name (call.UgidfwAdd rule) =
+      found_fits (λ asked. rule_number (change_in asked.0 asked.1 s.specs).0.number) (setting s.specs (call.UgidfwAdd rule))
+      (λ asked found. numbered_fit (change_in asked.0 asked.1 s.specs).0.number (number_fits asked.0 asked.1 s.specs bounded.holds.specs))
+  payload_fits name other = tt
+
+  -- Replies
+
+  tail_fits : (tail : Tail) (p : Payload) → IsPayload p → IsReply (tail_reply tail p)
+  tail_fits Do p fits = fits
+  tail_fits (Refuse errno) p fits = tt
+
+  denied_fits : (plan : Plan) (denied : Option Denial) (p : Payload) → length plan.items ≤ 12 → denial_from s.specs 1 plan.items ≡ denied → IsPayload p
+      → IsReply (denied_reply plan denied p)
+  denied_fits plan None p few is fits = tail_fits plan.tail p fits
+  denied_fits plan (Some d) p few is fits = omega (arith, few, denied_within s.specs 1 plan.items d is)
+
+  pub reply_fits : (task : List ℕ) (child : Option (List ℕ)) (c : Call) → IsFormedCall c → IsReply (step_reply s task child c)
+  reply_fits task child c formed =
+      denied_fits (plan_of s task child c) (verdict_of s.specs (plan_of s task child c)).denied (step_payload s task child c)
+      (few_checks s task child c formed) refl (payload_fits (caller_name task child) c)

@@ -1,0 +1,86 @@
+-- The rules of a listed policy stay such as words can stand for.
+use Rattle.std.proofs.Common.{◌≡◌, ℕ, Bool, true, false, cond, List, [], ◌∷◌, Option, Some, None, refl, ◌∙◌}
+use Rattle.std.specs.Prelude.{find, position, replicate, slice_index_or, slice_set, IfSome}
+use Rattle.std.proofs.lemmas.List.{length-replicate, length-set}
+use Rattle.std.proofs.lemmas.List.Elements.{All-from_recursion, All-replicate, All-set, recursion_from_All}
+use Rattle.mf_errno.specs.declared.module.Module.{Module}
+use Rattle.mf_errno.specs.declared.module.Module.TheVariants.{Biba, Mls, Partition, Bsdextended, Priority}
+use Rattle.mf_policy.specs.declared.settings.Change.{Change}
+use Rattle.mf_policy.specs.declared.settings.Change.TheVariants.{FirstMatch, RuleAdd, RuleSet, RuleRemove}
+use Rattle.mf_policy.specs.declared.settings.Changed.{Changed}
+use Rattle.mf_policy.specs.declared.spec.Spec.{Spec}
+use Rattle.mf_policy.specs.declared.spec.Spec.TheVariants as means
+use Rattle.mf_policy.specs.Modules.{fresh_of}
+use Rattle.mf_policy.specs.Registration.{Entry, is_of}
+use Rattle.mf_policy.specs.Settings.{change_at, change_in, change_of, done, no_setting, with_rule, with_spec, without_rule}
+use Rattle.mf_rule.specs.RuleGrammar.{IsRule}
+use Rattle.mf_rule.specs.RuleList.{Slots, is_free}
+use Rattle.mf_rule.specs.declared.rule.Rule.{Rule}
+use Rattle.mf_rule.specs.declared.rule_list.TheConstants.{MAX_RULES}
+use Rattle.mf_hist.specs.Lines.{AreRules}
+use Rattle.mf_reading.proofs.Bounded.{AreBoundedSpecs, IsBoundedSpec}
+use Rattle.mf_reading.proofs.Lists.{all_found, either_way}
+
+abbrev no_rule : Option Rule
+no_rule = None
+
+-- a policy in its initial state
+pub fresh_bounded : (m : Module) → IsBoundedSpec (fresh_of m)
+fresh_bounded Biba = tt
+fresh_bounded Mls = tt
+fresh_bounded Partition = tt
+fresh_bounded Bsdextended = record {
+  all = length-replicate MAX_RULES no_rule;
+  each = recursion_from_All (λ (slot : Option Rule). IfSome slot IsRule) (replicate MAX_RULES no_rule) (All-replicate (λ (slot : Option Rule). IfSome slot IsRule) MAX_RULES no_rule tt);
+}
+fresh_bounded Priority = tt
+
+-- a change with a rule that words can stand for, where it has one
+abbrev pub IsFormedChange : Change → Type 0
+IsFormedChange (RuleAdd rule) = IsRule rule
+IsFormedChange (RuleSet n rule) = IsRule rule
+IsFormedChange other = Unit {0}
+
+slot_set : (rules : Slots) (n : ℕ) (slot : Option Rule) → IfSome slot IsRule → AreRules rules → AreRules (slice_set rules n slot)
+slot_set rules n slot formed fits = record {
+  all = length-set rules n slot ∙ fits.all;
+  each = recursion_from_All (λ (s : Option Rule). IfSome s IsRule) (slice_set rules n slot)
+      (All-set (λ (s : Option Rule). IfSome s IsRule) rules n slot formed (All-from_recursion (λ (s : Option Rule). IfSome s IsRule) rules fits.each));
+}
+
+rule_added : (rules : Slots) (first : Bool) (rule : Rule) (place : Option ℕ) → IsRule rule → AreRules rules → IsBoundedSpec (with_rule rules first rule place).1
+rule_added rules first rule None formed fits = fits
+rule_added rules first rule (Some n) formed fits = slot_set rules n (Some rule) formed fits
+
+rule_removed : (rules : Slots) (first : Bool) (n : ℕ) → AreRules rules → IsBoundedSpec (without_rule rules first n).1
+rule_removed rules first n fits =
+    either_way (λ (c : Changed × Spec). IsBoundedSpec c.1) (is_free (slice_index_or rules n None)) (no_setting, means.Bsdextended rules first)
+    (done, means.Bsdextended (slice_set rules n None) first) fits (slot_set rules n None tt fits)
+
+change_bounded : (spec : Spec) (change : Change) → IsFormedChange change → IsBoundedSpec spec → IsBoundedSpec (change_of spec change).1
+change_bounded (means.Bsdextended rules first) (FirstMatch enabled) formed fits = fits
+change_bounded (means.Bsdextended rules first) (RuleAdd rule) formed fits = rule_added rules first rule (position is_free rules) formed fits
+change_bounded (means.Bsdextended rules first) (RuleSet n rule) formed fits = slot_set rules n (Some rule) formed fits
+change_bounded (means.Bsdextended rules first) (RuleRemove n) formed fits = rule_removed rules first n fits
+change_bounded means.Biba change formed fits = tt
+change_bounded means.Mls change formed fits = tt
+change_bounded means.Partition change formed fits = tt
+change_bounded means.Priority change formed fits = tt
+
+spec_set : (m : Module) (spec : Spec) (specs : List Entry) → IsBoundedSpec spec → AreBoundedSpecs specs → AreBoundedSpecs (with_spec m spec specs)
+spec_set m spec [] here all = tt
+spec_set m spec (x ∷ specs) here all = one (is_of m x) (spec_set m spec specs here all.1)
+  where
+    one : (b : Bool) → AreBoundedSpecs (with_spec m spec specs) → AreBoundedSpecs (cond b ((x.0, spec) ∷ specs) (x ∷ with_spec m spec specs))
+    one true rest = (here, all.1)
+    one false rest = (all.0, rest)
+
+-- a change of a setting of a listed policy
+pub specs_changed : (m : Module) (change : Change) (specs : List Entry) → IsFormedChange change → AreBoundedSpecs specs → AreBoundedSpecs (change_in m change specs).1
+specs_changed m change specs formed all = one (find (is_of m) specs) refl
+  where
+    one : (found : Option Entry) → find (is_of m) specs ≡ found → AreBoundedSpecs (change_at m change specs found).1
+    one None is = all
+    one (Some entry) is =
+        spec_set m (change_of entry.1 change).1 specs
+        (change_bounded entry.1 change formed (all_found (λ (x : Entry). IsBoundedSpec x.1) (is_of m) specs entry all is).0) all

@@ -1,0 +1,131 @@
+-- Every state of a run of a well-formed script is within the bounds, so the replies of its legal histories fit, and they can be read.
+use Rattle.std.proofs.Common.{◌≡◌, ℕ, ◌<◌, List, [], ◌∷◌, length, Option, Some, None, get_or, refl, sym, ◌∙◌, subst, arith}
+use Rattle.std.specs.Prelude.{All, option_map, slice_get, unwrap_or}
+use Rattle.std.specs.List.{AllByRecursion}
+use Rattle.std.proofs.lemmas.Option.{slice_get-get_or, slice_get_within}
+use Rattle.mf_objects.specs.declared.id.Id.{Id}
+use Rattle.mf_calls.specs.declared.script.Call.{Call}
+use Rattle.mf_calls.specs.declared.script.Line.{Line}
+use Rattle.mf_calls.specs.declared.script.Script.{Script}
+use Rattle.mf_calls.specs.declared.script.Task.{Task}
+use Rattle.mf_calls.specs.Tasks.{lines_of, name_of}
+use Rattle.mf_calls.specs.WellFormed.{IsFormedCall, IsFormedLine, IsFormedTask, IsWellFormed}
+use Rattle.mf_plan.specs.declared.reply.Reply.{Reply}
+use Rattle.mf_plan.specs.declared.reply.Reply.TheVariants as reply
+use Rattle.mf_plan.specs.declared.state.State.{State}
+use Rattle.mf_plan.specs.Doing.{CanDo}
+use Rattle.mf_plan.specs.Names.{caller_name}
+use Rattle.mf_plan.specs.Plan.{plan_of}
+use Rattle.mf_plan.specs.Views.{process_named}
+use Rattle.mf_plan.specs.declared.plan.Tail.TheVariants.{Do}
+use Rattle.mf_plan.proofs.Laws.{can_do}
+use Rattle.mf_step.specs.Step.{after_reply, performed_by, performed, step_payload, step_reply, step_state}
+use Rattle.mf_step.specs.Verdict.{verdict_of}
+use Rattle.mf_step.proofs.StateChange.{step_change}
+use Rattle.mf_core.specs.declared.history.Event.{Event}
+use Rattle.mf_core.specs.declared.history.Event.TheVariants as event
+use Rattle.mf_core.specs.Progress.{progress_at}
+use Rattle.mf_core.specs.LegalHistory.{AllMayCome, MayCome, RunState, after, next_line, next_reply, next_state, opening, reply_at, state_at}
+use Rattle.mf_core.proofs.SameLists.{ok_do, step_once}
+use Rattle.mf_hist.specs.Legal.{HasReply}
+use Rattle.mf_hist.specs.Lines.{IsReply}
+use Rattle.mf_hist.proofs.Legal.{legal_readable}
+use Rattle.mf_reading.specs.Laws.{LegalHistoriesAreRead, RepliesFit}
+use Rattle.mf_reading.proofs.Bounded.{HoldsBounded, IsBoundedState}
+use Rattle.mf_reading.proofs.Effects.{effect_holds}
+use Rattle.mf_reading.proofs.Finding.{objects_rooted}
+use Rattle.mf_reading.proofs.Labelled.{keeps_labelled}
+use Rattle.mf_reading.proofs.Listed.{keeps_listed}
+use Rattle.mf_reading.proofs.Openings.{opening_bounded}
+use Rattle.mf_reading.proofs.Replies.{reply_fits}
+use Rattle.mf_reading.proofs.Requests.{step_requests}
+
+-- One call
+
+performed_holds : (s : State) (task name : List ℕ) (c : Call) (caller : Option Id) → process_named s.objects name ≡ caller → IsFormedCall c → CanDo s task c → HoldsBounded s
+    → HoldsBounded (performed_by s task c caller)
+performed_holds s task name c None is formed can holds = holds
+performed_holds s task name c (Some caller) is formed can holds = effect_holds s holds task name caller c is formed can
+
+module _ (s : State) (task : List ℕ) (child : Option (List ℕ)) (c : Call) (formed : IsFormedCall c) where
+  step_holds : HoldsBounded s → HoldsBounded (step_state s task child c)
+  step_holds holds = one (step_reply s task child c) refl
+    where
+      one : (r : Reply) → step_reply s task child c ≡ r → HoldsBounded (after_reply r s (performed s task child c))
+      one (reply.Ok p) is =
+          let may : (plan_of s task child c).tail ≡ Do = ok_do (plan_of s task child c) (verdict_of s.specs (plan_of s task child c)) (step_payload s task child c) p is in
+          performed_holds s task (caller_name task child) c (process_named s.objects (caller_name task child)) refl formed (can_do s task child c may) holds
+      one (reply.Denied errno op item by) is = holds
+      one (reply.Refused errno) is = holds
+
+  step_bounded : IsBoundedState s → IsBoundedState (step_state s task child c)
+  step_bounded bounded =
+      let shape = step_change s task child c (objects_rooted s.objects bounded.holds.objects.rising bounded.holds.objects.rooted) in
+      record {
+        holds = step_holds bounded.holds;
+        listed = keeps_listed s (step_state s task child c) shape bounded.listed;
+        once = step_once s task bounded.once child c;
+        labelled = keeps_labelled s (step_state s task child c) shape (step_requests s task child c) bounded.listed bounded.labelled;
+      }
+
+-- Lines
+
+at_place : {X : Type 0} (P : X → Type 0) (xs : List X) (k : ℕ) (x : X) → slice_get xs k ≡ Some x → All P xs → P x
+at_place P xs k x is all =
+    let within : k < length xs = slice_get_within xs k x is in
+    let there : Some x ≡ Some (get_or xs k x) = sym is ∙ slice_get-get_or xs k x within in
+    let same : get_or xs k x ≡ x = cc in
+    subst P same (all k x within)
+
+lines_formed : (s : Script) (t : ℕ) → IsWellFormed s → All IsFormedLine (lines_of s t)
+lines_formed s t formed = one (slice_get s.tasks t) refl
+  where
+    one : (found : Option Task) → slice_get s.tasks t ≡ found → All IsFormedLine (unwrap_or (option_map (λ (task : Task). task.lines) found) [])
+    one None is = λ k d within. absurd (omega (arith, within))
+    one (Some task) is = (at_place (IsFormedTask s.boots) s.tasks t task is formed.each_task).lines
+
+-- Events
+
+module _ (s : Script) (formed : IsWellFormed s) where
+  line_formed : (r : RunState) (t : ℕ) (line : Line) → next_line s r.progress t ≡ Some line → IsFormedLine line
+  line_formed r t line is = at_place IsFormedLine (lines_of s t) (progress_at r.progress t).lines line is (lines_formed s t formed)
+
+  line_bounded : (r : RunState) (t : ℕ) → IsBoundedState r.state → IsBoundedState (next_state s r t)
+  line_bounded r t bounded = one (next_line s r.progress t) refl
+    where
+      one : (line : Option Line) → next_line s r.progress t ≡ line → IsBoundedState (state_at s r t line)
+      one None is = bounded
+      one (Some line) is = step_bounded r.state (name_of s t) line.child line.call (line_formed r t line is).call bounded
+
+  line_fits : (r : RunState) (t : ℕ) (x : Reply) → IsBoundedState r.state → next_reply s r t ≡ Some x → IsReply x
+  line_fits r t x bounded is = one (next_line s r.progress t) refl is
+    where
+      one : (line : Option Line) → next_line s r.progress t ≡ line → reply_at s r t line ≡ Some x → IsReply x
+      one None at is = cc
+      one (Some line) at is =
+          let same : step_reply r.state (name_of s t) line.child line.call ≡ x = cc in
+          subst IsReply same (reply_fits r.state bounded (name_of s t) line.child line.call (line_formed r t line at).call)
+
+  event_bounded : (r : RunState) (e : Event) → IsBoundedState r.state → IsBoundedState (after s r e).state
+  event_bounded r (event.Enter t) bounded = bounded
+  event_bounded r (event.Done t line x) bounded = line_bounded r t bounded
+  event_bounded r (event.Leave t) bounded = bounded
+  event_bounded r (event.Changed t line x) bounded = line_bounded r t bounded
+
+  event_fits : (r : RunState) (e : Event) → IsBoundedState r.state → MayCome s r e → HasReply e
+  event_fits r (event.Enter t) bounded may = tt
+  event_fits r (event.Done t line x) bounded may = line_fits r t x bounded may.2
+  event_fits r (event.Leave t) bounded may = tt
+  event_fits r (event.Changed t line x) bounded may = line_fits r t x bounded may.3
+
+  events_fit : (r : RunState) (es : List Event) → IsBoundedState r.state → AllMayCome s r es → AllByRecursion HasReply es
+  events_fit r [] bounded may = tt
+  events_fit r (e ∷ es) bounded may = (event_fits r e bounded may.0, events_fit (after s r e) es (event_bounded r e bounded) may.1)
+
+-- The laws
+
+pub replies_fit : RepliesFit
+replies_fit s h formed legal = events_fit s formed (opening s) h.events.list (opening_bounded s formed) legal.events
+
+pub histories_read : LegalHistoriesAreRead
+histories_read s h formed legal = legal_readable s h formed legal (replies_fit s h formed legal)

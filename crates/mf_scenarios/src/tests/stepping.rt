@@ -1,0 +1,134 @@
+//! The steps of a script, taken one after another.
+
+use crate::tests::cases::{Case, PLAIN, run_case};
+use std::test::Fail;
+
+/// Each step of which is in turn.
+const STEPPED: Case = Case {
+    words: &["step"],
+    ..PLAIN
+};
+
+const TAKEN: &[Case] = &[
+    Case {
+        name: "no steps",
+        script: "boot mac_biba\ntask t uid 0 gid 0 label -\nread /\nend\n",
+        text: "boot mac_biba 0\nsource biba vnode:/ high\nsource biba proc:t high\n",
+        ..STEPPED
+    },
+    Case {
+        name: "a change waits while an entry is open",
+        script: "boot mac_partition\nfile /f reg uid 0 gid 0 mode 644 label - text hi\ntask a uid 0 gid 0 label -\nread /f\nend\ntask b uid 0 gid 0 label -\nkldunload mac_partition\nend\nsteps\nenter a\nchange b\nplan a\ndone a\nleave a\nchange b\nend\n",
+        text: "boot mac_partition 0\nenter a\nwaits b 1\ndone a 1 ok bytes 2 =hi\nleave a\nchanged b 1 ok\n",
+        ..STEPPED
+    },
+    Case {
+        name: "a file is relabelled between the walk and the commit",
+        script: "boot mac_biba\nfile /f reg uid 0 gid 0 mode 644 label biba/high text hi\ntask a uid 0 gid 0 label biba/high\nread /f\nend\ntask b uid 0 gid 0 label biba/high\nsetfmac biba/low /f\nend\nsteps\nenter a\nplan a\nenter b\nplan b\ndone b\nleave b\ndone a\nplan a\ndone a\nleave a\nend\n",
+        text: "boot mac_biba 0\nenter a\nenter b\ndone b 1 ok\nleave b\nstale a\ndone a 1 no EACCES vnode_open_read mac_biba 2\nleave a\nsource biba vnode:/ high\nsource biba vnode:/f low\nsource biba proc:a high\nsource biba proc:b high\n",
+        ..STEPPED
+    },
+    Case {
+        name: "a plan that is made again is the one that counts",
+        script: "file /f reg uid 0 gid 0 mode 644 label - text hi\ntask a uid 0 gid 0 label -\nread /f\nend\ntask b uid 0 gid 0 label -\nchmod /f 600\nread /f\nend\nsteps\nenter a\nplan a\nenter b\nplan b\ndone b\nplan a\nleave b\ndone a\nenter b\nend\n",
+        text: "enter a\nenter b\ndone b 1 ok\nleave b\ndone a 1 ok bytes 2 =hi\nenter b\n",
+        ..STEPPED
+    },
+    Case {
+        name: "a grant by one",
+        script: "task u uid 1001 gid 1001,47 label -\npriv SCHED_RTPRIO\npriv SCHED_RTPRIO\npriv SCHED_RTPRIO\nend\ntask r uid 0 gid 0 label -\nkldload mac_priority\nkldunload mac_priority\nend\nsteps\nenter u\nplan u\ndone u\nleave u\nchange r\nenter u\nplan u\ndone u\nleave u\nchange r\nenter u\nplan u\ndone u\nleave u\nend\n",
+        text: "enter u\ndone u 1 no EPERM priv - 1\nleave u\nchanged r 1 ok slot -\nenter u\ndone u 2 ok\nleave u\nchanged r 2 ok\nenter u\ndone u 3 no EPERM priv - 1\nleave u\n",
+        ..STEPPED
+    },
+    Case {
+        name: "a sink that fails",
+        script: "boot mac_biba\ntask t uid 0 gid 0 label -\nread /\nend\nsteps\nenter t\nend\n",
+        sink_fails: &[2],
+        status: 5,
+        text: "boot mac_b",
+        ..STEPPED
+    },
+];
+
+/// Each with a step that names no task, or isn't in turn.
+const REFUSED: &[Case] = &[
+    Case {
+        name: "no task",
+        script: "task t uid 0 gid 0 label -\nread /f\nend\ntask l uid 0 gid 0 label -\nkldload mac_biba\nend\nsteps\nenter u\nend\n",
+        status: 7,
+        text: "macsim: step 1 refused\n",
+        ..STEPPED
+    },
+    Case {
+        name: "an entry is open",
+        script: "task t uid 0 gid 0 label -\nread /f\nend\ntask l uid 0 gid 0 label -\nkldload mac_biba\nend\nsteps\nenter t\nenter t\nend\n",
+        status: 7,
+        text: "macsim: step 2 refused\n",
+        ..STEPPED
+    },
+    Case {
+        name: "a plan before the entry",
+        script: "task t uid 0 gid 0 label -\nread /f\nend\ntask l uid 0 gid 0 label -\nkldload mac_biba\nend\nsteps\nplan t\nend\n",
+        status: 7,
+        text: "macsim: step 1 refused\n",
+        ..STEPPED
+    },
+    Case {
+        name: "no plan is kept",
+        script: "task t uid 0 gid 0 label -\nread /f\nend\ntask l uid 0 gid 0 label -\nkldload mac_biba\nend\nsteps\nenter t\ndone t\nend\n",
+        status: 7,
+        text: "macsim: step 2 refused\n",
+        ..STEPPED
+    },
+    Case {
+        name: "the call isn't done",
+        script: "task t uid 0 gid 0 label -\nread /f\nend\ntask l uid 0 gid 0 label -\nkldload mac_biba\nend\nsteps\nenter t\nplan t\nleave t\nend\n",
+        status: 7,
+        text: "macsim: step 3 refused\n",
+        ..STEPPED
+    },
+    Case {
+        name: "the call is done",
+        script: "task t uid 0 gid 0 label -\nread /f\nend\ntask l uid 0 gid 0 label -\nkldload mac_biba\nend\nsteps\nenter t\nplan t\ndone t\nplan t\nend\n",
+        status: 7,
+        text: "macsim: step 4 refused\n",
+        ..STEPPED
+    },
+    Case {
+        name: "no more lines",
+        script: "task t uid 0 gid 0 label -\nread /f\nend\ntask l uid 0 gid 0 label -\nkldload mac_biba\nend\nsteps\nchange l\nchange l\nend\n",
+        status: 7,
+        text: "macsim: step 2 refused\n",
+        ..STEPPED
+    },
+    Case {
+        name: "a change is no entry",
+        script: "task t uid 0 gid 0 label -\nread /f\nend\ntask l uid 0 gid 0 label -\nkldload mac_biba\nend\nsteps\nenter l\nend\n",
+        status: 7,
+        text: "macsim: step 1 refused\n",
+        ..STEPPED
+    },
+    Case {
+        name: "an entry is no change",
+        script: "task t uid 0 gid 0 label -\nread /f\nend\ntask l uid 0 gid 0 label -\nkldload mac_biba\nend\nsteps\nchange t\nend\n",
+        status: 7,
+        text: "macsim: step 1 refused\n",
+        ..STEPPED
+    },
+];
+
+#[test]
+fn steps_are_taken(rt: HostRuntime) -> Result<(), Fail> {
+    for case in TAKEN {
+        run_case(&rt, rt.alloc(), case)?;
+    }
+    Ok(())
+}
+
+#[test]
+fn steps_are_refused(rt: HostRuntime) -> Result<(), Fail> {
+    for case in REFUSED {
+        run_case(&rt, rt.alloc(), case)?;
+    }
+    Ok(())
+}

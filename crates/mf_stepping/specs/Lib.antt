@@ -1,0 +1,7 @@
+pub mod StepRun
+pub mod Steps
+pub mod StepText
+pub mod Laws
+pub mod Stepper
+pub mod Answers
+pub mod Outcome

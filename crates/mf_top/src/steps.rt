@@ -1,0 +1,107 @@
+//! The steps of a script, one after another.
+ghost use Rattle.std.specs.Prelude.{◌≡◌, ◌⊎◌, All, List, ℕ, map, Result, Ok, IfOk, OnErr, IfErr, string_bytes};
+ghost use Rattle.mf_policy.specs.Modules.{module_of};
+ghost use Rattle.mf_list.specs.Fresh.{IsFresh};
+ghost use Rattle.mf_calls.specs.WellFormed.{IsWellFormed};
+ghost use Rattle.mf_core.specs.AllModules.{AreAllModules};
+ghost use Rattle.mf_io.specs.Outside.{seen};
+ghost use Rattle.mf_top.specs.declared.refusal.Refusal.{Refusal};
+ghost use Rattle.mf_top.specs.declared.refusal.Refusal.TheVariants as refusal;
+ghost use Rattle.mf_top.specs.Answers.{AreStepsFaultless, IsStepOutcome, IsWritten};
+ghost use Rattle.mf_top.specs.Outcomes.{bytes_of_outcome};
+ghost use Rattle.mf_top.specs.Scripts.{AreStepped};
+ghost use Rattle.mf_top.specs.Steps.{WroteSteps};
+
+use crate::refusal::{Refusal, ToldRefusal};
+use crate::{read, write};
+use mf_calls::Script;
+use mf_flow::{print_sources, sources};
+use mf_io::{Sink, Source};
+use mf_policy::Policy;
+use mf_stepping::Stepped;
+use std::alloc::Global;
+
+/// Does what the program does with the word `step`: takes the steps of the script that the source holds, one after another,
+/// and writes what they print and the sources at their end to the sink. Returns the program's exit status. It starts no
+/// thread and never waits. Nothing is written before the last step. `modules` has a policy of each module, once, in its
+/// initial state.
+pub fn run_steps<S: Source, K: Sink, P: Policy>(
+    alloc: Global,
+    source: &mut S,
+    sink: &mut K,
+    modules: Vec<P>,
+) -> u8
+    requires modules { AreAllModules (map (λ p. module_of (P.spec p)) modules.items) }
+    requires fresh { All (λ p. IsFresh (P.spec p)) modules.items }
+
+    // With 0 the source held a script to its end, each of its steps was taken, and the sink took their text and that of the
+    // sources at their end, and nothing else.
+    ensures steps { result ≡ 0
+        → WroteSteps (seen S.left S.faults source.old source.new) (seen K.taken K.faults sink.old sink.new) }
+
+    // Each status has its cause, and what was taken is its text, or with 5 a beginning of another's.
+    ensures cause { (outcome : Result (List ℕ) Refusal)
+        × IsStepOutcome (seen S.left S.faults source.old source.new) outcome
+        × IsWritten (seen K.taken K.faults sink.old sink.new) outcome result }
+
+    // A script whose steps are all in turn, over a source and a sink that don't fail, gives 0, or 9 if memory runs out.
+    ensures complete { AreStepsFaultless (seen S.left S.faults source.old source.new) (seen K.taken K.faults sink.old sink.new)
+        → (result ≡ 0) ⊎ (result ≡ 9) }
+{
+    let outcome = told(alloc, source, modules);
+    write::write_outcome(sink, &outcome)
+}
+
+/// What is to be written: the text of the steps, or why there is none, with its line.
+#[tactic(auto, using(crate::proofs::Told::told_steps))]
+fn told<S: Source, P: Policy>(
+    alloc: Global,
+    source: &mut S,
+    modules: Vec<P>,
+) -> Result<String, ToldRefusal>
+    requires modules { AreAllModules (map (λ p. module_of (P.spec p)) modules.items) }
+    requires fresh { All (λ p. IsFresh (P.spec p)) modules.items }
+    ensures { IsStepOutcome (seen S.left S.faults source.old source.new) (bytes_of_outcome result) }
+{
+    match step_source(alloc, source, modules) {
+        Ok(text) => Ok(text),
+        Err(refusal) => Err(ToldRefusal::new(alloc, refusal)),
+    }
+}
+
+/// The text of the steps of what the source holds, and of the sources at their end.
+#[tactic(auto, using(crate::proofs::Stepped::step_refusal, crate::proofs::Stepped::stepped))]
+pub fn step_source<S: Source, P: Policy>(
+    alloc: Global,
+    source: &mut S,
+    modules: Vec<P>,
+) -> Result<String, Refusal>
+    requires modules { AreAllModules (map (λ p. module_of (P.spec p)) modules.items) }
+    requires fresh { All (λ p. IsFresh (P.spec p)) modules.items }
+    ensures { IsStepOutcome (seen S.left S.faults source.old source.new) (bytes_of_outcome result) }
+{
+    let script = read::read_source(alloc, source)?;
+    let text = step_script(alloc, &script, modules)?;
+    Ok(text)
+}
+
+/// The text of the steps of the script, and of the sources at their end.
+fn step_script<P: Policy>(
+    alloc: Global,
+    script: &Script,
+    modules: Vec<P>,
+) -> Result<String, Refusal>
+    requires formed { IsWellFormed script.now }
+    requires modules { AreAllModules (map (λ p. module_of (P.spec p)) modules.items) }
+    requires fresh { All (λ p. IsFresh (P.spec p)) modules.items }
+    ensures { AreStepped script.now (bytes_of_outcome result) }
+{
+    match mf_stepping::run_steps(alloc, script, modules)? {
+        Stepped::Refused(number) => Err(Refusal::Step(number)),
+        Stepped::Taken { mut text, core } => {
+            let table = sources(alloc, script, core.history())?;
+            print_sources(&table, &mut text)?;
+            Ok(text)
+        }
+    }
+}
