@@ -1,7 +1,8 @@
 #!/bin/sh
 # Runs each script of examples/, and compares what is printed with the .out file beside it; and a picture of its sources with the .dot
-# file, where there is one. The text of a script with several tasks depends on their order: it is run several times, and of each run is
-# compared what holds in every order. A line for each failure, then a count.
+# file, where there is one. A script with steps is run by them, and its text is always the same. Without them the text of a script with several
+# tasks depends on their order: it is run several times, and of each run is compared what holds in every order. A line for each failure, then a
+# count.
 cd "$(dirname "$0")/.." || exit 1
 printed=$(mktemp) && told=$(mktemp) || exit 1
 trap 'rm -f "$printed" "$told"' EXIT
@@ -32,9 +33,20 @@ agrees() {
         END { if ((getline line <expected) > 0) bad = 1; exit bad }'
 }
 
+has_steps() {
+    grep -q '^[[:blank:]]*steps[[:blank:]]*$' "$1"
+}
+
+# Whether the script's text is always the same.
+is_settled() {
+    has_steps "$1" || [ "$(awk '$1 == "task"' "$1" | wc -l)" -le 1 ]
+}
+
 is_as_expected() {
-    ./macsim run <"$1" >"$printed" || return 1
-    if [ "$(awk '$1 == "task"' "$1" | wc -l)" -le 1 ]; then
+    word=run
+    ! has_steps "$1" || word=step
+    ./macsim "$word" <"$1" >"$printed" || return 1
+    if is_settled "$1"; then
         cmp -s "$printed" "${1%.macsim}.out"
     else
         by_task "$1" "$printed" >"$told"
@@ -50,7 +62,7 @@ for script in examples/*.macsim; do
     good=yes
     for run in 1 2 3 4 5; do
         is_as_expected "$script" && is_drawn "$script" || good=
-        [ "$(awk '$1 == "task"' "$script" | wc -l)" -gt 1 ] || break
+        ! is_settled "$script" || break
     done
     if [ -n "$good" ]; then
         passed=$((passed + 1))

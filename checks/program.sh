@@ -65,13 +65,14 @@ check_usage() {
 # The program is there before the first run that counts.
 ./macsim </dev/null >"$folder/printed" 2>&1
 
-text usage 'macsim: usage: run | gen N T'
+text usage 'macsim: usage: run | step | gen N T'
 text unknown_word 'macsim: script line 1 fault 2 UnknownWord'
 text no_module 'macsim: script line 1 fault 12 BootRefused ENOENT'
 text no_end 'macsim: script line 3 fault 10 NoEnd'
 text too_many 'macsim: script line 1 fault 11 TooMany'
 text read_fault 'macsim: read fault'
 text too_long 'macsim: too long'
+text refused 'macsim: step 2 refused'
 printf 'gen 2 2\nok 2\nENOENT 1\nEACCES 1\n' >"$folder/summary"
 printf 'foo\n' >"$folder/bad"
 printf 'boot mac_foo' >"$folder/unbooted"
@@ -81,6 +82,9 @@ printf 'task t uid 0 gid 0 label -\nread /a\n' >"$folder/unended"
     head -c 65537 /dev/zero | tr '\0' a
 } >"$folder/heavy"
 { cat "$script"; printf 'steps\nenter t\nend\n'; } >"$folder/stepped"
+{ cat "$script"; printf 'steps\nenter t\nplan t\ndone t\nleave t\nend\n'; } >"$folder/all_stepped"
+{ cat "$script"; printf 'steps\nenter t\nenter t\nend\n'; } >"$folder/twice"
+{ cat "$script"; printf 'steps\nenter t\nleave u\nend\n'; } >"$folder/no_task"
 script_of "$most" "$folder/longest"
 script_of "$((most + 1))" "$folder/longer"
 
@@ -90,6 +94,7 @@ check_usage walk
 check_usage Run
 check_usage "$(printf '\377')"
 check_usage run "$script"
+check_usage step "$script"
 check_usage gen 2
 check_usage gen 2 2 2
 check_usage gen 0 2
@@ -110,6 +115,13 @@ check 'run: the longest script' ends 0 "$folder/longest" "$history" run
 check 'run: one byte more' ends 6 "$folder/longer" "$folder/too_long" run
 check 'run: an input that cannot be read' ends 4 . "$folder/read_fault" run
 check 'run: an output that cannot be written' fails_to_write
+
+check 'step: each step is taken' ends 0 "$folder/all_stepped" "$history" step
+check 'step: a step that is out of turn' ends 7 "$folder/twice" "$folder/refused" step
+check 'step: a step of no task' ends 7 "$folder/no_task" "$folder/refused" step
+check 'step: a word that is none' ends 3 "$folder/bad" "$folder/unknown_word" step
+check 'step: one byte more' ends 6 "$folder/longer" "$folder/too_long" step
+check 'step: an input that cannot be read' ends 4 . "$folder/read_fault" step
 
 check 'gen: a load' ends 0 "$folder/bad" "$folder/summary" gen 2 2
 check 'gen: leading zeros' ends 0 "$folder/bad" "$folder/summary" gen 002 02
