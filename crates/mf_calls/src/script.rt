@@ -1,6 +1,8 @@
 //! A script, as it was read.
 ghost use Rattle.std.specs.Prelude.{◌≡◌, ◌<◌, length};
+ghost use Rattle.std.specs.List.{position};
 ghost use Rattle.std.specs.Option.{option_copied};
+ghost use Rattle.std.specs.Str.{bytes_eq};
 
 use crate::{CONTENT_LIMIT, SCRIPT_LIMIT};
 use mf_cred::{Cred, FileView};
@@ -184,7 +186,7 @@ impl Script {
     ghost use Rattle.std.specs.Prelude.{slice_get, Some, ◌≤◌};
     ghost use Rattle.std.specs.List.{sum_by};
     ghost use Rattle.mf_calls.specs.declared.limits.TheConstants.{ALL_LINES_LIMIT};
-    ghost use Rattle.mf_calls.specs.Tasks.{lines_of, name_of};
+    ghost use Rattle.mf_calls.specs.Tasks.{lines_of, name_of, task_named};
     ghost use Rattle.mf_calls.specs.WellFormed.{IsWellFormed, line_count};
 
     /// The name of the task of that number, from 0. No text where the script has no such task.
@@ -195,6 +197,13 @@ impl Script {
             None => "",
             Some(found) => found.name.as_str(),
         }
+    }
+
+    /// The number of the first task of that name, from 0.
+    pub fn task_named(&self, name: &str) -> Option<usize>
+        ensures { result ≡ task_named self.now name.now }
+    {
+        named(self.tasks.as_slice(), name)
     }
 
     /// The line of the task at index `lines`, from 0.
@@ -229,4 +238,16 @@ impl Script {
         }
         count
     }
+}
+
+fn named(tasks: &[Task], name: &str) -> Option<usize>
+    ensures { result ≡ position (λ task. bytes_eq task.name name.now) tasks.now }
+{
+    tasks.iter().position(|task| has_name(task, name))
+}
+
+fn has_name(task: &Task, name: &str) -> bool
+    ensures { result ≡ bytes_eq task.now.name name.now }
+{
+    task.name.as_str() == name
 }

@@ -125,19 +125,17 @@ done_found s run e t number said state task line found is may here task_is line_
     ap (found_at s run t) line_is ∙ ap (λ (f : Found). Some f) (sym found_here)
 
 -- and so was what it asks of whose label
-pub done_asked : (s : Script) (run : RunState) (e : Event) (t number : ℕ) (said : Reply) (state : State) (task : List ℕ) (line : Line) (found : Found) (request : Option Request)
+pub done_asked : (s : Script) (run : RunState) (e : Event) (t number : ℕ) (said : Reply) (state : State) (task : List ℕ) (line : Line) (found : Found)
     → e ≡ event.Done t number said → MayCome s run e → state ≡ run.state → task ≡ name_of s t → next_line s run.progress t ≡ Some line
     → ((plan_of state task line.child line.call).tail ≡ Do → found ≡ found_of state task line.child line.call)
-    → ((plan_of state task line.child line.call).tail ≡ Do → request ≡ request_asked state.specs line.call)
-    → after_reply said None (option_zip found.target request) ≡ asked_of state task line said
-done_asked s run e t number said state task line found request is may here task_is line_is found_is request_is =
+    → after_reply said None (option_zip found.target found.request) ≡ asked_of state task line said
+done_asked s run e t number said state task line found is may here task_is line_is found_is =
     one said (done_ends s run e t number said state task line is may here task_is line_is)
   where
-    one : (said : Reply) → (is_done said ≡ true → (plan_of state task line.child line.call).tail ≡ Do) → after_reply said None (option_zip found.target request) ≡ asked_of state task line said
+    one : (said : Reply) → (is_done said ≡ true → (plan_of state task line.child line.call).tail ≡ Do) → after_reply said None (option_zip found.target found.request) ≡ asked_of state task line said
     one (reply.Ok payload) ends =
         let tail : (plan_of state task line.child line.call).tail ≡ Do = ends refl in
-        ap (λ (x : Found). option_zip x.target request) (found_is tail)
-        ∙ ap (λ (x : Option Request). option_zip (found_of state task line.child line.call).target x) (request_is tail)
+        ap (λ (x : Found). option_zip x.target x.request) (found_is tail)
         ∙ zipped state (caller_of state task line) line.call
     one (reply.Denied errno op item by) ends = refl
     one (reply.Refused errno) ends = refl

@@ -18,7 +18,7 @@ use mf_core::{Event, Run};
 use mf_elem::{Elem, Request};
 use mf_errno::Module;
 use mf_objects::{Id, Objects};
-use mf_plan::{Check, outline_of};
+use mf_plan::{Check, LastLabel, outline_of};
 use mf_policy::slot_label;
 use std::alloc::{AllocError, Global};
 
@@ -43,6 +43,7 @@ pub fn follow(
     script: &Script,
     run: &mut Run,
     flows: &mut Flows,
+    last: &mut LastLabel,
     event: &Event,
 ) -> Result<(), AllocError>
     requires slots { spec.HaveSlots flows.old }
@@ -58,7 +59,8 @@ pub fn follow(
             let name = script.name_of(*task);
             let state = run.state();
             let next = state.objects.next_id();
-            let outline = outline_of(state, name, line.child_name(), &line.call);
+            last.keep(&line.call);
+            let outline = outline_of(state, name, line.child_name(), &line.call, last);
             let lent = reply.lend();
             let said = lent.get();
             let checks = passed(said, outline.checks.as_slice());

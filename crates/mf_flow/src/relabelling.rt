@@ -18,10 +18,10 @@ use std::alloc::{AllocError, Global};
 
 /// What a call with that reply asks of whose label. One that isn't done asks nothing.
 pub fn asked_of(reply: &Reply, outline: &Outline) -> Option<(Id, Request)>
-    ensures { result ≡ after_reply reply.now None (option_zip outline.now.found.target outline.now.request) }
+    ensures { result ≡ after_reply reply.now None (option_zip outline.now.found.target outline.now.found.request) }
 {
     match reply {
-        Reply::Ok(_) => outline.found.target.zip(outline.request),
+        Reply::Ok(_) => outline.found.target.zip(outline.found.request),
         Reply::Denied { .. } | Reply::Refused(_) => None,
     }
 }

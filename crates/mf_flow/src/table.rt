@@ -23,6 +23,7 @@ use mf_core::{BootList, History, Run};
 use mf_errno::Module;
 use mf_names::{Listing, Name};
 use mf_objects::{Id, Objects};
+use mf_plan::LastLabel;
 use mf_policy::Registration;
 use std::alloc::{AllocError, Global};
 
@@ -91,8 +92,9 @@ fn followed<'s>(
         biba: opening_flow(alloc, biba, &run.state().objects)?,
         mls: opening_flow(alloc, mls, &run.state().objects)?,
     };
+    let mut last = LastLabel::new();
     for event in history.events.as_slice() {
-        follow(alloc, script, &mut run, &mut flows, event)?;
+        follow(alloc, script, &mut run, &mut flows, &mut last, event)?;
         free_gone(alloc, &run.state().objects, &mut flows.biba);
         free_gone(alloc, &run.state().objects, &mut flows.mls);
     }

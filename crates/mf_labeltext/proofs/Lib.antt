@@ -10,3 +10,4 @@ pub mod Printings
 pub mod CanonicalSpelling
 pub mod Rising
 pub mod PartsSpelling
+pub mod Digits

@@ -73,7 +73,7 @@ no_slash (c ∷ cs) all = (no_slash_byte c all.0, no_slash cs all.1)
 differ : (text word : List ℕ) → bytes_eq text word ≡ false → text ≢ word
 differ text word is same = let e : bytes_eq text word ≡ true = (bytes_eq-Decides text word).1 same in cc
 
-differs : (text word : List ℕ) → text ≢ word → bytes_eq text word ≡ false
+pub differs : (text word : List ℕ) → text ≢ word → bytes_eq text word ≡ false
 differs text word other = false_from_ne_true (bytes_eq text word) (λ is. other (same_text text word is))
 
 abbrev if_partition : List ℕ → List ℕ → Request → Option Request

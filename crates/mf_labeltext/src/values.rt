@@ -1,5 +1,5 @@
 //! The values of label elements: elements with grades and compartments, ranges, and partition numbers.
-ghost use Rattle.std.specs.Prelude.{◌≡◌, ◌≤◌, IfSome};
+ghost use Rattle.std.specs.Prelude.{◌≡◌, ◌≤◌, IfSome, IsTrue};
 ghost use Rattle.mf_labeltext.specs.Reading.{number, comps_in, grade_in, elem_in, effective_in, range_in, label_in, partition_in};
 
 use crate::splitting::split_once;
@@ -51,8 +51,29 @@ fn read_grade(text: &str) -> Option<Elem>
     }
 }
 
-#[tactic(auto, unfolding(crate::specs::Reading::elem_in))]
+/// Whether the text begins as a grade does. No word for an element begins with a digit.
+fn begins_with_digit(text: &str) -> bool
+    ensures { IsTrue result → elem_in text.now ≡ grade_in text.now }
+{
+    match text.as_bytes().first() {
+        Some(byte) => byte.is_ascii_digit(),
+        None => false,
+    }
+}
+
 fn read_elem(text: &str) -> Option<Elem>
+    ensures { result ≡ elem_in text.now }
+{
+    // Most elements are grades, and so they are compared with no word.
+    if begins_with_digit(text) {
+        read_grade(text)
+    } else {
+        read_named_elem(text)
+    }
+}
+
+#[tactic(auto, unfolding(crate::specs::Reading::elem_in))]
+fn read_named_elem(text: &str) -> Option<Elem>
     ensures { result ≡ elem_in text.now }
 {
     if text == "low" || text == "lo" {

@@ -9,6 +9,7 @@ use Rattle.mf_plan.specs.declared.state.State.{State}
 use Rattle.mf_plan.specs.Names.{caller_name}
 use Rattle.mf_plan.specs.Path.{file_at_path}
 use Rattle.mf_plan.specs.Places.{free_dir_at, entry_at_path}
+use Rattle.mf_plan.specs.Relabels.{request_asked}
 use Rattle.mf_plan.specs.Views.{process_named, pipe_named, socket_named}
 
 -- the file, pipe or socket that a call reads or changes, or the directory in which it makes a file; the caller of `getpmac` and `setpmac`
@@ -35,10 +36,10 @@ target_of objects caller (call.Recv name) = socket_named objects name
 target_of objects caller (call.Setsockmac label name) = socket_named objects name
 target_of objects caller other = None
 
--- the call of that process, and what it is about
+-- the call of that process, what it is about, and what it asks of a label
 abbrev pub found_by : State → Call → Option Id → Found
-found_by s call caller = record { caller = caller; target = target_of s.objects caller call }
+found_by s call caller = record { caller = caller; target = target_of s.objects caller call; request = request_asked s.specs call }
 
--- the process that makes a call, and what the call is about
+-- the process that makes a call, what the call is about, and what it asks of a label
 abbrev pub found_of : State → List ℕ → Option (List ℕ) → Call → Found
 found_of s task child call = found_by s call (process_named s.objects (caller_name task child))

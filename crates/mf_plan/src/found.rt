@@ -6,20 +6,25 @@ ghost use Rattle.mf_plan.specs.Found as spec;
 ghost use Rattle.mf_plan.specs.Path as paths;
 ghost use Rattle.mf_plan.specs.Places.{entry_at_path};
 
+use crate::last_label::LastLabel;
 use crate::lookup::target_of;
 use crate::names::caller_of;
+use crate::relabels::request_asked;
 use crate::state::State;
 use mf_calls::Call;
+use mf_elem::Request;
 use mf_names::Path;
 use mf_objects::{Id, Objects};
 
 /// The process that makes a call, and what the call is about: the file, pipe or socket that it reads or changes, the
-/// directory in which it makes a file, or the process whose label it shows or changes. A plan is made by looking these up, and hands
-/// them on to payload and effect.
+/// directory in which it makes a file, or the process whose label it shows or changes; and what it asks of a label. A plan is made
+/// by looking these up, and hands them on to payload and effect.
 #[derive(Clone, Copy, Debug, PartialEq, Eq)]
 pub struct Found {
     pub caller: Option<Id>,
     pub target: Option<Id>,
+    /// What a relabel asks for. It goes with the check of the relabel alone, and stands here once.
+    pub request: Option<Request>,
 }
 
 /// What a call of the task's own process, or of its child of that name, is about.
@@ -32,6 +37,7 @@ pub fn found_of(state: &State, task: &str, child: Option<&str>, call: &Call) -> 
     Found {
         caller,
         target: target_in(&state.objects, caller, call),
+        request: request_asked(&state.specs, call, &LastLabel::new()),
     }
 }
 

@@ -3,6 +3,7 @@
 
 mod files;
 mod found;
+mod last_label;
 mod loading;
 mod lookup;
 mod named;
@@ -18,12 +19,12 @@ mod target;
 mod views;
 
 pub use found::{Found, found_of};
+pub use last_label::LastLabel;
 pub use lookup::{Lookup, lookup_along, target_of};
 pub use names::{ChildName, caller_of, child_name};
 pub use outline::{Check, Outline};
 pub use plan::{MOST_CHECKS, Plan, Tail};
 pub use planning::{outline_of, plan_of};
-pub use relabels::request_asked;
 pub use reply::{LabelPart, Loaded, Payload, Reply};
 pub use settings::setting;
 pub use state::State;

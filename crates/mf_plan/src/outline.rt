@@ -9,7 +9,6 @@ ghost use Rattle.mf_plan.specs.Views as view;
 use crate::found::Found;
 use crate::plan::{MOST_CHECKS, Tail};
 use mf_cred::ArrayVec;
-use mf_elem::Request;
 use mf_errno::Priv;
 use mf_item::CheckOp;
 use mf_objects::{Id, Objects};
@@ -57,8 +56,6 @@ pub(crate) type Checks = ArrayVec<Check, MOST_CHECKS>;
 pub struct Outline {
     pub found: Found,
     pub checks: ArrayVec<Check, MOST_CHECKS>,
-    /// What a relabel asks for. It goes with the check of the relabel alone, and stands here once.
-    pub request: Option<Request>,
     pub tail: Tail,
 }
 

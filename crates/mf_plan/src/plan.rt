@@ -5,6 +5,7 @@ ghost use Rattle.mf_objects.specs.Live.{Entities};
 ghost use Rattle.mf_plan.specs.Outline as outlines;
 ghost use Rattle.mf_plan.specs.Plan.{proceed};
 
+use crate::last_label::LastLabel;
 use crate::outline::Outline;
 use crate::views::{CheckView, Subjects, are_views, fill_views};
 use mf_errno::Errno;
@@ -32,6 +33,8 @@ pub enum Tail {
 /// views after the first `count` are left from calls before.
 #[derive(Drop)]
 pub struct Plan {
+    /// The label text that the plan was made by, where it was a relabel's.
+    pub(crate) label: LastLabel,
     subjects: Subjects,
     checks: [CheckView; MOST_CHECKS],
     count: usize,
@@ -57,6 +60,7 @@ impl Plan {
         ensures { result ≡ proceed }
     {
         Plan {
+            label: LastLabel::new(),
             subjects: Subjects::new(),
             checks: [CheckView::none(); MOST_CHECKS],
             count: 0,
@@ -97,7 +101,7 @@ impl Plan {
         let checks = outline.checks.as_slice();
         fill_views(
             objects,
-            &outline.request,
+            &outline.found.request,
             checks,
             &mut self.subjects,
             &mut self.checks,
@@ -114,7 +118,7 @@ impl Plan {
         self.tail == outline.tail
             && are_views(
                 objects,
-                &outline.request,
+                &outline.found.request,
                 outline.checks.as_slice(),
                 self.subjects.as_slice(),
                 &self.checks[..self.count],

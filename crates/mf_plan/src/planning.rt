@@ -13,6 +13,7 @@ ghost use Rattle.mf_plan.specs.Views.{process_named, subject_of};
 
 use crate::files::{create, exec, on_file, read, readdir, unlink, write};
 use crate::found::Found;
+use crate::last_label::LastLabel;
 use crate::loading::{kldload, kldunload};
 use crate::named::{fork, make, on_pipe, on_process, pread, pwrite, recv, seesock, send};
 use crate::names::caller_of;
@@ -50,7 +51,8 @@ impl Plan {
         ensures plan { self.new ≡ spec.plan_of state.now task.now (option_copied child.entry) call.now }
         ensures found { self.new.tail ≡ Do → result ≡ found_of state.now task.now (option_copied child.entry) call.now }
     {
-        let outline = outline_of(state, task, child, call);
+        self.label.keep(call);
+        let outline = outline_of(state, task, child, call, &self.label);
         self.fill(&state.objects, &outline);
         outline.found
     }
@@ -69,7 +71,7 @@ impl Plan {
         ensures is { IsSome result ↔ (self.now ≡ spec.plan_of state.now task.now (option_copied child.entry) call.now) }
         ensures found { self.now.tail ≡ Do → IfSome result (λ found. found ≡ found_of state.now task.now (option_copied child.entry) call.now) }
     {
-        let outline = outline_of(state, task, child, call);
+        let outline = outline_of(state, task, child, call, &self.label);
         if self.is_outlined(&state.objects, &outline) {
             Some(outline.found)
         } else {
@@ -79,8 +81,14 @@ impl Plan {
 }
 
 /// The outline of the plan of a call of the task's own process, or of its child of that name: its checks with ids in the
-/// place of views.
-pub fn outline_of(state: &State, task: &str, child: Option<&str>, call: &Call) -> Outline
+/// place of views. A label text that is the last one isn't read again.
+pub fn outline_of(
+    state: &State,
+    task: &str,
+    child: Option<&str>,
+    call: &Call,
+    last: &LastLabel,
+) -> Outline
     requires task { IsName task.now }
     requires child { IsFormedChild (option_copied child) }
     requires formed { IsFormedCall call.now }
@@ -89,20 +97,19 @@ pub fn outline_of(state: &State, task: &str, child: Option<&str>, call: &Call) -
     ensures live { outlines.AreLive state.now.objects result.checks }
     ensures caller { result.found.caller ≡ process_named state.now.objects (caller_name task.now (option_copied child.entry)) }
     ensures found { result.tail ≡ Do → result.found ≡ found_of state.now task.now (option_copied child.entry) call.now }
-    ensures request { result.tail ≡ Do → result.request ≡ request_asked state.now.specs call.now }
 {
     // It is filled in where it lies: a move would copy all the room for checks.
     let mut outline = Outline {
         found: Found {
             caller: caller_of(&state.objects, task, child),
             target: None,
+            request: None,
         },
         checks: ArrayVec::new(),
-        request: None,
         tail: Tail::Refuse(Errno::Esrch),
     };
     if let Some(caller) = outline.found.caller {
-        let end = ask_for(state, task, caller, call, &mut outline);
+        let end = ask_for(state, task, caller, call, last, &mut outline);
         outline.found.target = end.ok().flatten();
         outline.tail = tail_of(end);
     }
@@ -142,19 +149,20 @@ fn ask_for(
     task: &str,
     caller: Id,
     call: &Call,
+    last: &LastLabel,
     outline: &mut Outline,
 ) -> Result<Option<Id>, Errno>
     requires task { IsName task.now }
     requires formed { IsFormedCall call.now }
     requires empty { outline.old.checks ≡ [] }
-    requires unasked { outline.old.request ≡ None }
+    requires unasked { outline.old.found.request ≡ None }
     requires asking { outlines.IsAsking state.now.objects caller outline.old.checks }
-    ensures plan { ended (map (outlines.item_asking state.now.objects outline.new.request) outline.new.checks) result
+    ensures plan { ended (map (outlines.item_asking state.now.objects outline.new.found.request) outline.new.checks) result
         ≡ spec.plan_for state.now task.now (subject_of state.now.objects caller) call.now }
     ensures target { IfOk result (λ target. target ≡ target_of state.now.objects (Some caller) call.now) }
-    ensures request { IfOk result (λ target. outline.new.request ≡ request_asked state.now.specs call.now) }
+    ensures request { IfOk result (λ target. outline.new.found.request ≡ request_asked state.now.specs call.now) }
     ensures asking { outlines.IsAsking state.now.objects caller outline.new.checks }
-    ensures found { outline.new.found ≡ outline.old.found }
+    ensures caller { outline.new.found.caller ≡ outline.old.found.caller }
 {
     let objects = &state.objects;
     let checks = &mut outline.checks;
@@ -162,7 +170,7 @@ fn ask_for(
         Call::Fork(child) => fork(objects, task, child.as_str()),
         Call::Exit | Call::Kldstat => Ok(None),
         Call::Getpmac => Ok(Some(caller)),
-        Call::Setpmac(_) => relabel_caller(state, caller, call, outline),
+        Call::Setpmac(_) => relabel_caller(state, caller, call, last, outline),
         Call::See(name) => on_process(objects, caller, CheckOp::ProcVisible, name, checks),
         Call::Signal(name) => on_process(objects, caller, CheckOp::ProcSignal, name, checks),
         Call::Debug(name) => on_process(objects, caller, CheckOp::ProcDebug, name, checks),
@@ -175,7 +183,7 @@ fn ask_for(
         Call::Stat(path) | Call::Getfmac(path) => {
             on_file(objects, caller, CheckOp::VnodeStat, path, checks)
         }
-        Call::Setfmac(_, path) => relabel_file(state, caller, call, path, outline),
+        Call::Setfmac(_, path) => relabel_file(state, caller, call, path, last, outline),
         Call::Readdir(path) => readdir(objects, caller, path, checks),
         Call::Chmod(path, _) => on_file(objects, caller, CheckOp::VnodeSetmode, path, checks),
         Call::Unlink(path) => unlink(objects, caller, path, checks),
@@ -184,11 +192,25 @@ fn ask_for(
         Call::Pread(name) => pread(objects, caller, name.as_str(), checks),
         Call::Pwrite(name, text) => pwrite(objects, caller, name.as_str(), text.as_slice(), checks),
         Call::Pstat(name) => on_pipe(objects, caller, CheckOp::PipeStat, name.as_str(), checks),
-        Call::Setpipemac(_, name) => relabel_pipe(state, caller, call, name.as_str(), outline),
+        Call::Setpipemac(_, name) => relabel_pipe(
+            state,
+            caller,
+            call,
+            name.as_str(),
+            last,
+            outline,
+        ),
         Call::Send(from, to, _) => send(objects, caller, from.as_str(), to.as_str(), checks),
         Call::Recv(name) => recv(objects, caller, name.as_str(), checks),
         Call::Seesock(name) => seesock(objects, caller, name.as_str(), checks),
-        Call::Setsockmac(_, name) => relabel_socket(state, caller, call, name.as_str(), outline),
+        Call::Setsockmac(_, name) => relabel_socket(
+            state,
+            caller,
+            call,
+            name.as_str(),
+            last,
+            outline,
+        ),
         Call::Kldload(name) => kldload(state, caller, name.as_str(), checks),
         Call::Kldunload(name) => kldunload(state, caller, name.as_str(), checks),
         Call::Sysctl(..) | Call::UgidfwAdd(_) | Call::UgidfwSet(..) | Call::UgidfwRemove(_) => {

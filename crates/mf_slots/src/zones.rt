@@ -117,11 +117,11 @@ impl Zones {
     {
         for slot in 0..SLOTS {
             let zone = &mut self.zones[slot];
-            make_room(zone, label.handles[slot], values[slot])?;
+            make_room(zone, label.handles[slot], &values[slot])?;
         }
         for slot in 0..SLOTS {
             let zone = &mut self.zones[slot];
-            label.handles[slot] = rewrite(zone, label.handles[slot], values[slot]);
+            label.handles[slot] = rewrite(zone, label.handles[slot], &values[slot]);
         }
         Ok(())
     }
@@ -182,8 +182,10 @@ impl Zones {
         ensures value { result ≡ value_at self.now slot (Some key) }
         ensures set { IsHeldAt self.now slot (Some key) → result ≢ Unset }
     {
-        let found = self.zones[slot as usize].get(key);
-        found.copied().unwrap_or(LabelValue::Unset)
+        if let Some(found) = self.zones[slot as usize].get(key) {
+            return *found;
+        }
+        LabelValue::Unset
     }
 
     /// Frees all values of the label.
@@ -213,10 +215,10 @@ impl Zones {
 fn make_room(
     zone: &mut Slab<LabelValue>,
     key: Option<usize>,
-    value: LabelValue,
+    value: &LabelValue,
 ) -> Result<(), AllocError>
-    ensures room { OnOk result (HasRoomToWrite zone.new key value) }
-    ensures made { IsMadeFor key value → IsOk result }
+    ensures room { OnOk result (HasRoomToWrite zone.new key value.now) }
+    ensures made { IsMadeFor key value.now → IsOk result }
     ensures same { zone.new.slots ≡ zone.old.slots }
 {
     match (key, value) {
@@ -226,20 +228,20 @@ fn make_room(
 }
 
 /// Puts the value under its key, or a free one, and returns the key. Unset has none.
-fn rewrite(zone: &mut Slab<LabelValue>, key: Option<usize>, value: LabelValue) -> Option<usize>
-    requires room { HasRoomToWrite zone.old key value }
+fn rewrite(zone: &mut Slab<LabelValue>, key: Option<usize>, value: &LabelValue) -> Option<usize>
+    requires room { HasRoomToWrite zone.old key value.now }
     requires held { IsIn zone.old.slots key }
-    ensures { Rewrites zone.old.slots zone.new.slots key result value }
+    ensures { Rewrites zone.old.slots zone.new.slots key result value.now }
 {
     match (key, value) {
         (None, LabelValue::Unset) => None,
-        (None, LabelValue::Range(_) | LabelValue::Number(_)) => Some(add(zone, value)),
+        (None, LabelValue::Range(_) | LabelValue::Number(_)) => Some(add(zone, *value)),
         (Some(key), LabelValue::Unset) => {
             let _freed = zone.try_remove(key);
             None
         }
         (Some(key), LabelValue::Range(_) | LabelValue::Number(_)) => {
-            put(zone, key, value);
+            put(zone, key, *value);
             Some(key)
         }
     }

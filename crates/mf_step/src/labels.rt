@@ -3,17 +3,15 @@ ghost use Rattle.std.specs.Option.{option_zip};
 ghost use Rattle.std.specs.Prelude.{◌≡◌, ◌<◌, ◌≤◌, ◌+◌, ◌∷◌, ◌++◌, [], length, slice_index_or, IfSome, IsSome, OnOk, OnErr};
 ghost use Rattle.mf_elem.specs.declared.label.LabelValue.TheVariants.{Unset};
 ghost use Rattle.mf_objects.specs.Live.{live_at};
-ghost use Rattle.mf_plan.specs.Relabels as asks;
 ghost use Rattle.mf_step.specs.Effect as effect;
 ghost use Rattle.mf_step.specs.Reply as spec;
 
-use mf_calls::Call;
 use mf_cred::ArrayVec;
-use mf_elem::{LabelValue, SLOTS};
+use mf_elem::{LabelValue, Request, SLOTS};
 use mf_errno::Module;
 use mf_item::Kind;
 use mf_objects::Id;
-use mf_plan::{LabelPart, State, request_asked};
+use mf_plan::{LabelPart, State};
 use mf_policy::{SpecList, labels_kind, relabelled};
 use std::alloc::AllocError;
 
@@ -81,18 +79,19 @@ fn shown(value: LabelValue) -> LabelValue
     }
 }
 
-/// Gives the entity the label that the call asks for. Slots that are made first take memory; if it runs out, the state is
+/// Gives the entity the label that is asked for. Slots that are made first take memory; if it runs out, the state is
 /// unchanged.
-pub(crate) fn relabel(state: &mut State, target: Option<Id>, call: &Call) -> Result<(), AllocError>
+pub(crate) fn relabel(
+    state: &mut State,
+    target: Option<Id>,
+    asked: &Option<Request>,
+) -> Result<(), AllocError>
     requires { IfSome target (λ id. IsSome (live_at state.old.objects id)) }
-    ensures ok { OnOk result (state.new ≡ effect.with_relabelled state.old (option_zip target (asks.request_asked state.old.specs call.now))) }
+    ensures ok { OnOk result (state.new ≡ effect.with_relabelled state.old (option_zip target asked.now)) }
     ensures err { OnErr result (state.new ≡ state.old) }
 {
-    let Some(id) = target else {
-        return Ok(());
-    };
-    if let Some(request) = request_asked(&state.specs, call) {
-        let label = relabelled(&state.specs, &request, &state.objects.label(id));
+    if let (Some(id), Some(request)) = (target, asked) {
+        let label = relabelled(&state.specs, request, &state.objects.label(id));
         state.objects.relabel(id, &label)?;
     }
     Ok(())

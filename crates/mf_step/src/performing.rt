@@ -6,6 +6,7 @@ ghost use Rattle.mf_objects.specs.Lives.{IsLive};
 ghost use Rattle.mf_plan.specs.Doing.{CanDo};
 ghost use Rattle.mf_plan.specs.Found.{found_of, target_of};
 ghost use Rattle.mf_plan.specs.Plan.{plan_of};
+ghost use Rattle.mf_plan.specs.Relabels.{request_asked};
 ghost use Rattle.mf_plan.specs.declared.plan.Tail.TheVariants.{Do};
 ghost use Rattle.mf_calls.specs.WellFormed.{IsFormedCall, IsFormedLine, IsName};
 ghost use Rattle.mf_step.specs.Effect.{effect_of};
@@ -20,6 +21,7 @@ use crate::modules::{kldload, kldunload};
 use crate::processes::{exit, fork};
 use crate::settings::change_setting;
 use mf_calls::{Call, DIRECTORY_MODE, FILE_MODE, Line};
+use mf_elem::Request;
 use mf_objects::Id;
 use mf_plan::{Found, State};
 use std::alloc::{AllocError, Global};
@@ -48,7 +50,17 @@ pub fn perform(
     // Counting the entities shows the proof that what was found among them lives.
     let _live = state.objects.live();
     match found.caller {
-        Some(caller) => perform_by(alloc, state, task, caller, found.target, &line.call),
+        Some(caller) => {
+            perform_by(
+                alloc,
+                state,
+                task,
+                caller,
+                found.target,
+                &found.request,
+                &line.call,
+            )
+        }
         None => Ok(()),
     }
 }
@@ -60,6 +72,7 @@ fn perform_by(
     task: &str,
     caller: Id,
     target: Option<Id>,
+    asked: &Option<Request>,
     call: &Call,
 ) -> Result<(), AllocError>
     requires task { IsName task.now }
@@ -67,6 +80,7 @@ fn perform_by(
     requires caller { IsLive is_process state.old.objects caller }
     requires can { CanDo state.old task.now call.now }
     requires target { target ≡ target_of state.old.objects (Some caller) call.now }
+    requires asked { asked.now ≡ request_asked state.old.specs call.now }
     requires suits { IfSome target (λ id. Suits state.old.objects call.now id) }
     requires next { state.old.objects.next < ID_LIMIT }
     ensures ok { OnOk result (state.new ≡ effect_of state.old task.now caller call.now) }
@@ -77,7 +91,7 @@ fn perform_by(
         Call::Fork(child) => fork(alloc, state, task, caller, child.as_str())?,
         Call::Exit => exit(state, caller),
         Call::Setpmac(_) | Call::Setfmac(..) | Call::Setpipemac(..) | Call::Setsockmac(..) => {
-            relabel(state, target, call)?
+            relabel(state, target, asked)?
         }
         Call::Create(path) => make_file(alloc, state, caller, target, path, FILE_MODE, false)?,
         Call::Mkdir(path) => make_file(alloc, state, caller, target, path, DIRECTORY_MODE, true)?,

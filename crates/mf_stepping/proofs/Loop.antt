@@ -5,7 +5,8 @@ use Rattle.mf_calls.specs.declared.script.Script.{Script}
 use Rattle.mf_calls.specs.declared.script.Step.{Step}
 use Rattle.mf_stepping.specs.StepRun.{StepRun}
 use Rattle.mf_stepping.specs.Stepper.{StepperView, step_run}
-use Rattle.mf_stepping.specs.Steps.{AreTaken, IsTaken, IsRefused, IsInTurn, task_named}
+use Rattle.mf_calls.specs.Tasks.{task_named}
+use Rattle.mf_stepping.specs.Steps.{AreTaken, IsTaken, IsRefused, IsInTurn}
 use Rattle.mf_stepping.specs.Answers.{StepsOrNot}
 
 some_is : {A : Type 0} (x y : A) → Some x ≡ Some y → x ≡ y

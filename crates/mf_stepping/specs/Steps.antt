@@ -1,13 +1,11 @@
 -- Which steps are in turn, and what each of them does and prints, by docs/MANUAL.md (STEPS).
 use Rattle.std.specs.Prelude.{◌≡◌, ◌≢◌, ◌⊎◌, ℕ, ◌<◌, List, [], ◌∷◌, ◌++◌, Option, Some, IsSome, codes}
-use Rattle.std.specs.List.{position}
 use Rattle.std.specs.Fmt.{decimal}
-use Rattle.std.specs.Str.{bytes_eq}
 use Rattle.mf_calls.specs.declared.script.Script.{Script}
 use Rattle.mf_calls.specs.declared.script.Step.{Step}
 use Rattle.mf_calls.specs.declared.script.StepKind.{StepKind}
 use Rattle.mf_calls.specs.declared.script.StepKind.TheVariants as step
-use Rattle.mf_calls.specs.Tasks.{name_of}
+use Rattle.mf_calls.specs.Tasks.{name_of, task_named}
 use Rattle.mf_plan.specs.Planned.{Plan}
 use Rattle.mf_plan.specs.declared.reply.Reply.{Reply}
 use Rattle.mf_step.specs.Verdict.{verdict_of}
@@ -80,10 +78,6 @@ Does s old step.Leave t text new = Appends s old (event.Leave t) text new
 Does s old step.Change t text new = ChangesOrWaits s old t text new
 
 -- Steps one after another
-
--- the number of the task of that name
-abbrev pub task_named : Script → List ℕ → Option ℕ
-task_named s name = position (λ task. bytes_eq task.name name) s.tasks
 
 -- the step is of a task of the script, in turn, and does what such a step does
 abbrev pub IsTaken : Script → StepRun → Step → List ℕ → StepRun → Type 0

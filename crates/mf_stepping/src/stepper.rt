@@ -1,7 +1,5 @@
 //! A core with the plans that its steps keep.
 ghost use Rattle.std.specs.Prelude.{◌≡◌, ◌<◌, [], All, length, map, IfOk, OnOk, IsTrue, ◌↔◌, string_bytes};
-ghost use Rattle.std.specs.List.{position};
-ghost use Rattle.std.specs.Str.{bytes_eq};
 ghost use Rattle.mf_policy.specs.Modules.{module_of};
 ghost use Rattle.mf_list.specs.Fresh.{IsFresh};
 ghost use Rattle.mf_calls.specs.declared.script.StepKind.TheVariants as step;
@@ -12,7 +10,7 @@ ghost use Rattle.mf_stepping.specs.StepRun.{step_opening};
 ghost use Rattle.mf_stepping.specs.Steps.{Does, IsInTurn};
 
 use crate::kept::{KeptPlan, KeptPlans};
-use mf_calls::{Script, Step, StepKind, Task};
+use mf_calls::{Script, Step, StepKind};
 use mf_core::{ChangeOutcome, Commit, Core, Event, Turn};
 use mf_hist::print_event;
 use mf_list::{Catalogue, PolicyList};
@@ -91,7 +89,7 @@ impl<'s, P: Policy> Stepper<'s, P> {
         ensures script { self.new.core.script ≡ self.old.core.script }
         ensures step { IfOk result (λ taken. StepsOrNot taken self.old step.now self.new (string_bytes out.old) (string_bytes out.new)) }
     {
-        let Some(task) = named(self.script.tasks.as_slice(), step.task.as_str()) else {
+        let Some(task) = self.script.task_named(step.task.as_str()) else {
             return Ok(false);
         };
         let task = task as u32;
@@ -226,17 +224,4 @@ fn print_last(script: &Script, events: &[Event], out: &mut String) -> Result<(),
         None => Ok(()),
         Some(event) => print_event(script, event, out),
     }
-}
-
-/// The number of the first task of that name.
-fn named(tasks: &[Task], name: &str) -> Option<usize>
-    ensures { result ≡ position (λ task. bytes_eq task.name name.now) tasks.now }
-{
-    tasks.iter().position(|task| has_name(task, name))
-}
-
-fn has_name(task: &Task, name: &str) -> bool
-    ensures { result ≡ bytes_eq task.now.name name.now }
-{
-    task.name.as_str() == name
 }

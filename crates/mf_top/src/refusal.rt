@@ -1,4 +1,4 @@
-//! Why there is no history, and no summary of a load.
+//! Why nothing is told: no history, no steps, no summary of a load.
 ghost use Rattle.std.specs.Prelude.{◌≡◌, ◌++◌, IfOk, OnOk, OnErr, string_bytes};
 ghost use Rattle.std.specs.Cow.{cow_str_bytes};
 ghost use Rattle.mf_top.specs.Answers.{errno_text, fault_text, refusal_status, refusal_text, TellsOfScript};
@@ -15,7 +15,7 @@ use std::marker::Model;
 /// The line where memory ran out.
 const NO_MEMORY: &str = "macsim: no memory\n";
 
-/// Why no history and no summary is written.
+/// Why no history, no text of steps and no summary is written.
 #[derive(Clone, Copy, Debug, PartialEq, Eq)]
 pub enum Refusal {
     /// The words are none of the program's.

@@ -220,10 +220,18 @@ impl Objects {
     }
 }
 
+/// The first id of at least `n` among entities that stand by rising id.
 fn least_from(entities: &[Entity], n: u32) -> Option<Id>
+    requires { IsById entities.now }
     ensures { result ≡ option_map (λ e. e.id) (find (λ e. nat_le n e.id.0) entities.now) }
 {
-    let found = entities.iter().find(|e| e.is_from(n))?;
+    // Where nothing older is gone, an entity stands at the place of its number.
+    let first = n as usize;
+    if first < entities.len() && entities[first].has_id(Id(n)) {
+        return Some(entities[first].id);
+    }
+    let place = entities.partition_point(|e| !e.is_from(n));
+    let found = entities.get(place)?;
     Some(found.id)
 }
 

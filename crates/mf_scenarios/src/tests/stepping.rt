@@ -1,6 +1,15 @@
 //! The steps of a script, taken one after another.
 
 use crate::tests::cases::{Case, PLAIN, run_case};
+use mf_biba::Biba;
+use mf_bsdextended::Bsdextended;
+use mf_io::{MemSink, MemSource, Sink, Source};
+use mf_mls::Mls;
+use mf_partition::Partition;
+use mf_policy::Policy;
+use mf_priority::Priority;
+use mf_top::run_steps;
+use std::alloc::{AllocError, Global};
 use std::test::Fail;
 
 /// Each step of which is in turn.
@@ -88,6 +97,13 @@ const REFUSED: &[Case] = &[
         ..STEPPED
     },
     Case {
+        name: "the plan went with its commit that was stale",
+        script: "boot mac_biba\nfile /f reg uid 0 gid 0 mode 644 label biba/high text hi\ntask a uid 0 gid 0 label biba/high\nread /f\nend\ntask b uid 0 gid 0 label biba/high\nsetfmac biba/low /f\nend\nsteps\nenter a\nplan a\nenter b\nplan b\ndone b\ndone a\ndone a\nend\n",
+        status: 7,
+        text: "macsim: step 7 refused\n",
+        ..STEPPED
+    },
+    Case {
         name: "the call is done",
         script: "task t uid 0 gid 0 label -\nread /f\nend\ntask l uid 0 gid 0 label -\nkldload mac_biba\nend\nsteps\nenter t\nplan t\ndone t\nplan t\nend\n",
         status: 7,
@@ -116,6 +132,33 @@ const REFUSED: &[Case] = &[
         ..STEPPED
     },
 ];
+
+/// Takes the steps over the policy modules that are built in, and returns the exit status. It is given no runtime.
+fn step_with<S: Source, K: Sink>(
+    alloc: Global,
+    source: &mut S,
+    sink: &mut K,
+) -> Result<u8, AllocError> {
+    let mut modules: Vec<Box<dyn Policy + Send + Sync>> = Vec::new(alloc);
+    modules.push(Box::new(alloc, Biba::new())?)?;
+    modules.push(Box::new(alloc, Mls::new())?)?;
+    modules.push(Box::new(alloc, Partition::new())?)?;
+    modules.push(Box::new(alloc, Bsdextended::new(alloc)?)?)?;
+    modules.push(Box::new(alloc, Priority::new())?)?;
+    Ok(run_steps(alloc, source, sink, modules))
+}
+
+#[test]
+fn no_thread_is_needed(rt: HostRuntime) -> Result<(), Fail> {
+    let taken = &TAKEN[0];
+    let bytes = taken.script.as_bytes().to_vec(rt.alloc())?;
+    let mut source = MemSource::new(bytes, 64, Vec::new(rt.alloc()));
+    let mut sink = MemSink::new(rt.alloc(), 1000, 10, Vec::new(rt.alloc()))?;
+    let status = step_with(rt.alloc(), &mut source, &mut sink)?;
+    assert_eq!(rt; status, taken.status);
+    assert_eq!(rt; sink.taken(), taken.text.as_bytes());
+    Ok(())
+}
 
 #[test]
 fn steps_are_taken(rt: HostRuntime) -> Result<(), Fail> {

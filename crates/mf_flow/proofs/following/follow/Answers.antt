@@ -34,23 +34,22 @@ returns-in_ok-create_in_both-in-Done-clause-flows c =
     λ tail. ap (λ (p : Plan). p.tail) c.outline_of-outline.ensures.plan ∙ ap (λ (child : Option (List ℕ)). (plan_of state task child line.call).tail) c.child_name.ensures ∙ tail in
     on_ok_weaker c.give_in_both.result (λ given.
     done_flows s run e c.in-Done.task c.in-Done.number c.in-Done.reply state c.state.result.now task line c.args.flows.now c.move_in_both.new.flows c.create_in_both.new.flows c.give_in_both.new.flows
-    (map (item_asking state.objects outline.request) c.passed-checks.result.now) c.next_id-next.result outline.found.caller c.asked_of-asked.result
+    (map (item_asking state.objects outline.found.request) c.passed-checks.result.now) c.next_id-next.result outline.found.caller c.asked_of-asked.result
     c.in-Done.is c.state-state.ensures
     (c.state.ensures ∙ ap (λ (x : RunView). x.run.state) c.in_ok-commit-in-Done.ensures.ok ∙ ap (λ (x : Event). (after c.args.run.now.script run x).state) (sym c.in-Done.is)
     ∙ ap (λ (x : Script). (after x run e).state) c.requires.script)
     c.name_of-name.ensures next_is
-    (ap (map (item_asking state.objects outline.request)) (c.passed-checks.ensures ∙ ap (λ xs. passed c.get-said.result.now xs) c.as_slice.ensures.value
+    (ap (map (item_asking state.objects outline.found.request)) (c.passed-checks.ensures ∙ ap (λ xs. passed c.get-said.result.now xs) c.as_slice.ensures.value
     ∙ ap (λ (said : Reply). passed said outline.checks) said_is)
-    ∙ sym (passed_map c.in-Done.reply (item_asking state.objects outline.request) outline.checks)
+    ∙ sym (passed_map c.in-Done.reply (item_asking state.objects outline.found.request) outline.checks)
     ∙ ap (λ (p : Plan). passed c.in-Done.reply p.items) c.outline_of-outline.ensures.plan
     ∙ ap (λ (child : Option (List ℕ)). passed c.in-Done.reply (plan_of state task child line.call).items) c.child_name.ensures)
-    (c.in_ok-move_in_both-in-Done.ensures.moved ∙ sym (same_flows state.objects outline.request c.passed-checks.result.now c.args.flows.now))
+    (c.in_ok-move_in_both-in-Done.ensures.moved ∙ sym (same_flows state.objects outline.found.request c.passed-checks.result.now c.args.flows.now))
     c.next_id-next.ensures
     (c.outline_of-outline.ensures.caller ∙ ap (λ (child : Option (List ℕ)). process_named state.objects (caller_name task child)) c.child_name.ensures)
-    (c.asked_of-asked.ensures ∙ ap (λ (said : Reply). after_reply said None (option_zip outline.found.target outline.request)) said_is
-    ∙ done_asked s run e c.in-Done.task c.in-Done.number c.in-Done.reply state task line outline.found outline.request c.in-Done.is c.requires.may c.state-state.ensures c.name_of-name.ensures next_is
-    (λ tail. c.outline_of-outline.ensures.found (outline_tail tail) ∙ ap (λ (child : Option (List ℕ)). found_of state task child line.call) c.child_name.ensures)
-    (λ tail. c.outline_of-outline.ensures.request (outline_tail tail)))
+    (c.asked_of-asked.ensures ∙ ap (λ (said : Reply). after_reply said None (option_zip outline.found.target outline.found.request)) said_is
+    ∙ done_asked s run e c.in-Done.task c.in-Done.number c.in-Done.reply state task line outline.found c.in-Done.is c.requires.may c.state-state.ensures c.name_of-name.ensures next_is
+    (λ tail. c.outline_of-outline.ensures.found (outline_tail tail) ∙ ap (λ (child : Option (List ℕ)). found_of state task child line.call) c.child_name.ensures))
     c.in_ok-create_in_both-in-Done.ensures.created
     given) c.give_in_both.ensures
 

@@ -7,17 +7,15 @@ use Rattle.mf_objects.specs.Labels.{with_label}
 use Rattle.mf_objects.specs.Live.{Entities, label_at}
 use Rattle.mf_objects.specs.declared.id.Id.{Id}
 use Rattle.mf_policy.specs.Relabelled.{relabelled}
-use Rattle.mf_plan.specs.Relabels.{request_asked}
 use Rattle.mf_step.specs.Effect.{with_objects, with_relabelled}
 use Rattle.mf_step.proofs.labels.relabel.Goals as goal
 
 pub returns-in_ok-relabel-clause-ok : goal.returns-in_ok-relabel-clause-ok
 returns-in_ok-relabel-clause-ok c =
     let s = c.args.state.now in
-    let id = c.in-Some.id in
-    let request = c.in-Some-request_asked.request in
+    let id = c.in-Some-Some.id in
+    let request = c.in-Some-Some.request in
     let label : c.relabelled-label.result ≡ relabelled s.specs request (label_at s.objects id) = c.relabelled-label.ensures ∙ ap (relabelled s.specs request) c.label.ensures in
-    let claimed : request_asked s.specs c.args.call.now ≡ Some request = sym c.request_asked.ensures ∙ c.in-Some-request_asked.is in
-    let asked : option_zip c.args.target (request_asked s.specs c.args.call.now) ≡ Some (id, request) = (λ k. option_zip (c.in-Some.is k) (claimed k)) in
+    let asked : option_zip c.args.target c.args.asked.now ≡ Some (id, request) = (λ k. option_zip (c.in-Some-Some.is-0 k) (c.in-Some-Some.is-1 k)) in
     ap (λ (o : Entities). with_objects s o) (c.in_ok-relabel.ensures.ok ∙ ap (λ (values : List LabelValue). with_change (with_label values) s.objects id) label)
     ∙ sym (ap (λ (o : Option (Id × Request)). with_relabelled s o) asked)

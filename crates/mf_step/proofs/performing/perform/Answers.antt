@@ -22,6 +22,9 @@ perform_by-requires-clause-target c =
     ap (λ (f : Found). f.target) c.requires.found
     ∙ ap (λ (by : Option Id). target_of c.args.state.now.objects by c.args.line.now.call) (sym (ap (λ (f : Found). f.caller) c.requires.found) ∙ c.in-Some.is)
 
+pub perform_by-requires-clause-asked : goal.perform_by-requires-clause-asked
+perform_by-requires-clause-asked c = ap (λ (f : Found). f.request) c.requires.found
+
 pub perform_by-requires-clause-suits : goal.perform_by-requires-clause-suits
 perform_by-requires-clause-suits c =
     let s = c.args.state.now in

@@ -1,12 +1,19 @@
-use Rattle.std.proofs.Common.{◌≡◌, List, ap, ◌∙◌, subst, option_map}
+use Rattle.std.proofs.Common.{◌≡◌, List, ap, sym, ◌∙◌, subst, option_map}
 use Rattle.std.specs.Prelude.{find}
 use Rattle.mf_objects.specs.declared.entity.Entity.{Entity}
 use Rattle.mf_objects.specs.Live.{Entities}
 use Rattle.mf_objects.specs.Lives.{IsFound, is_from}
 use Rattle.mf_objects.specs.Population.{IsRising}
-use Rattle.mf_objects.specs.Sound.{seen}
+use Rattle.mf_objects.specs.Sound.{seen, IsById}
+use Rattle.mf_objects.proofs.ById.{stand_by_id}
 use Rattle.mf_objects.proofs.Found.{found_id, live_found, found_least, none_from}
 use Rattle.mf_objects.proofs.objects.Objects.least_from.Goals as goal
+
+pub least_from-requires : goal.least_from-requires
+least_from-requires c =
+    let es = c.self.inside.entities.items in
+    subst (λ (xs : List Entity). IsById xs) (sym c.deref.ensures.value)
+    (stand_by_id c.self.inside.zones 0 c.self.inside.next es c.self.invariant.0.population.rising)
 
 pub returns-clause-found : goal.returns-clause-found
 returns-clause-found c =
