@@ -1,4 +1,4 @@
-//! Runs of the whole program, and of the kernel and core below it: tests, and nothing else.
+//! Runs of the whole program: tests, and nothing else.
 #![tactic(auto)]
 
 #[cfg(test)]
