@@ -4,7 +4,7 @@ use Rattle.std.specs.declared.alloc.AllocError.{AllocError}
 use Rattle.std.proofs.lemmas.List.Elements.{All-nil, All-cons, All-weaker}
 use Rattle.std.proofs.lemmas.Bool.Decides.{nat_tests}
 use Rattle.std.specs.Prelude.{find, All, IfSome, IfNone}
-use Rattle.mf_slots.specs.Zones.{Contents, value_of}
+use Rattle.mf_slots.specs.Zones.{Contents, label_values, value_of}
 use Rattle.mf_objects.specs.declared.id.Id.{Id}
 use Rattle.mf_objects.specs.declared.entity.Entity.{Entity}
 use Rattle.mf_objects.specs.declared.entity.EntityData.{EntityData}
@@ -13,7 +13,7 @@ use Rattle.mf_objects.specs.Live.{LiveEntity, Entities, has_id, live_at, id_of, 
 use Rattle.mf_objects.specs.Lives.{is_from, IsLeast, is_directory, IsFound, IsLiveWhere, IsLive, is_vnode}
 use Rattle.std.specs.Str.{bytes_eq}
 use Rattle.mf_objects.specs.Population.{Belongs, IsPopulation, IsRising, HasRoot}
-use Rattle.mf_objects.specs.Sound.{seen, shown, live_of, IsSound, IsPlace, label_values}
+use Rattle.mf_objects.specs.Sound.{seen, shown, live_of, IsSound, IsPlace}
 use Rattle.mf_objects.proofs.Rising.{id_differs, at_least}
 use Rattle.mf_objects.proofs.Belonging.{Stays, entry_directory, find_all}
 use Rattle.mf_objects.proofs.Kept.{view, found_place, what_changed, set_same}
@@ -109,11 +109,16 @@ what_sound (Err error) next zones es id i e w change place is sound stays change
     let put : set es i e' ≡ es = ap (set es i) is_same ∙ set_same es i e is in
     rw put sound
 
+-- the label of the entity at a place
+pub label_there : (next : ℕ) (zones : Contents) (es : List Entity) (id : Id) (i : ℕ) (e : Entity) → IsPlace (view next zones es) id i → e ≡ get_or es i e
+    → label_values zones e.label ≡ label_at (view next zones es) id
+label_there next zones es id i e place is = ap label_of (sym (found_place next zones es id i e place is))
+
 -- the four values of the label of the entity at a place
 pub label_place : (next : ℕ) (zones : Contents) (es : List Entity) (id : Id) (i : ℕ) (e : Entity) → IsPlace (view next zones es) id i → e ≡ get_or es i e
     → value_of zones e.label 0 ∷ value_of zones e.label 1 ∷ value_of zones e.label 2 ∷ value_of zones e.label 3 ∷ [] ≡ label_at (view next zones es) id
 unfolding label_values
-label_place next zones es id i e place is = ap label_of (sym (found_place next zones es id i e place is))
+label_place next zones es id i e place is = label_there next zones es id i e place is
 
 root_found : (next : ℕ) (es : List LiveEntity) → HasRoot es → IsLive is_directory (record { next = next; live = es }) (record { 0 = 0 })
 root_found next [] root = absurd root

@@ -52,12 +52,7 @@ exact_whole zones zones' xs ys e label values exact relabels =
             | inr other ↦
                 let zero_now = owned_no (handle label slot) h other in
                 elim (has_handle (handle e.label slot) h) [
-                  | inl was ↦
-                      let was_one = owned_yes (handle e.label slot) h was in
-                      elim (m.kept_or_freed h was) [
-                        | inl own ↦ absurd (other own)
-                        | inr freed ↦ let none = held_none (under zones' slot h) freed in omega (arith, old, new, count, most, zero_now, was_one, none)
-                      ]
+                  | inl was ↦ absurd (other (m.kept h was))
                   | inr never ↦
                       let zero_then = owned_no (handle e.label slot) h never in
                       let same = ap held_count (m.others h never other) in

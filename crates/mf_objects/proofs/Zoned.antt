@@ -5,12 +5,12 @@ use Rattle.std.proofs.lemmas.Bool.{cases_eq}
 use Rattle.std.proofs.lemmas.Bool.Decides.{nat_tests}
 use Rattle.mf_elem.specs.declared.label.LabelValue.{LabelValue}
 use Rattle.mf_elem.specs.declared.label.LabelValue.TheVariants.{Unset}
-use Rattle.mf_slots.specs.Zones.{Contents, Handles, handle, under, value_of, value_at, value_or_unset, value_for, MakesLabel, GivesUp, Writes, Makes, IsHeld, IsHeldAt}
+use Rattle.mf_slots.specs.Zones.{Contents, Handles, handle, label_values, under, value_of, value_at, value_or_unset, value_for, MakesLabel, GivesUp, Writes, Makes, IsHeld, IsHeldAt}
 use Rattle.mf_slots.proofs.ZonesLaws.{value_of-same, has_handle}
 use Rattle.mf_objects.specs.declared.entity.Entity.{Entity}
 use Rattle.mf_objects.specs.Live.{LiveEntity}
 use Rattle.mf_objects.specs.Labels.{with_value}
-use Rattle.mf_objects.specs.Sound.{label_values, seen, labels_of, owned, owner_count, held_count, IsExact, live_of}
+use Rattle.mf_objects.specs.Sound.{seen, labels_of, owned, owner_count, held_count, IsExact, live_of}
 
 -- Owners of a handle
 

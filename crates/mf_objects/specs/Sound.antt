@@ -2,17 +2,13 @@
 use Rattle.std.specs.Prelude.{◌≡◌, ◌≢◌, ℕ, ◌+◌, ◌<◌, ◌≤◌, nat_eq, true, slice_index_or, List, [], ◌∷◌, length, map, AllPairs, Option, Some, None, if◌then◌else◌}
 use Rattle.mf_elem.specs.declared.label.LabelValue.{LabelValue}
 use Rattle.mf_elem.specs.declared.label.TheConstants.{SLOTS}
-use Rattle.mf_slots.specs.Zones.{Contents, Handles, handle, under, value_of, NoneUnset}
+use Rattle.mf_slots.specs.Zones.{Contents, Handles, handle, under, label_values, NoneUnset}
 use Rattle.mf_objects.specs.declared.limits.TheConstants.{MOST_ENTITIES}
 use Rattle.mf_objects.specs.declared.entity.Entity.{Entity}
 use Rattle.mf_objects.specs.declared.id.Id.{Id}
 use Rattle.mf_objects.specs.Titles.{Link, parent_of}
 use Rattle.mf_objects.specs.Live.{LiveEntity, Entities, has_id, live_at}
 use Rattle.mf_objects.specs.Population.{IsPopulation}
-
--- the values of the four slots of a label
-unfoldable pub label_values : Contents → Handles → List LabelValue
-label_values zones label = value_of zones label 0 ∷ value_of zones label 1 ∷ value_of zones label 2 ∷ value_of zones label 3 ∷ []
 
 -- an entity as contracts see it
 abbrev pub seen : Contents → Entity → LiveEntity

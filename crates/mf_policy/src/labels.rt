@@ -1,5 +1,7 @@
 //! The label of an entity: at boot, at creation, and after a relabel.
-ghost use Rattle.std.specs.Prelude.{◌≡◌, ◌<◌};
+ghost use Rattle.std.specs.Prelude.{◌≡◌, ◌≢◌, ◌<◌, true, false};
+ghost use Rattle.mf_elem.specs.declared.label.LabelValue.{LabelValue};
+ghost use Rattle.mf_elem.specs.declared.label.LabelValue.TheVariants.{Unset};
 ghost use Rattle.mf_policy.specs.NewLabels as spec;
 ghost use Rattle.mf_policy.specs.Relabelled as after;
 
@@ -44,7 +46,7 @@ fn new_value(listed: &SpecList, kind: Kind, origin: &Origin, slot: u8) -> LabelV
 }
 
 /// The label of an entity after a relabel, while these policies are listed: each takes the parts that the request gives it, and
-/// all else stays.
+/// all else stays. This is the plain form, which a relabel meets slot by slot.
 pub fn relabelled(
     listed: &SpecList,
     request: &Request,
@@ -77,8 +79,16 @@ fn relabelled_value(
     }
 }
 
-/// What the module makes of the value in its slot.
-fn value_after(module: Module, request: &Request, value: &LabelValue) -> LabelValue
+/// Whether a relabel that asks for this sets the value of the module's slot. Partition 0 sets none.
+pub fn sets_value(module: Module, request: &Request) -> bool
+    ensures none { result ≡ false → (value : LabelValue) → after.value_after «module» request.now value ≡ value }
+    ensures some { result ≡ true → (value : LabelValue) → after.value_after «module» request.now value ≢ Unset }
+{
+    range_asked(module, request).is_some() || matches!(number_asked(module, request), Some(1..))
+}
+
+/// The value that a relabel leaves in the module's slot, in the place of this one.
+pub fn value_after(module: Module, request: &Request, value: &LabelValue) -> LabelValue
     ensures { result ≡ after.value_after «module» request.now value.now }
 {
     match facts_of(module).labels {

@@ -17,7 +17,7 @@ mod settings;
 mod spec;
 mod spec_list;
 
-pub use labels::{Origin, new_label, relabelled};
+pub use labels::{Origin, new_label, relabelled, sets_value, value_after};
 pub use lattice::{Lattice, errno_unless, lattice_answer, slot_label};
 pub use laws::{objects_get_no_range, subjects_stay_valid};
 pub use load_flags::{LoadFlags, flags_of};

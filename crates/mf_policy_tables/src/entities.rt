@@ -201,14 +201,15 @@ fn the_oldest_message_first(rt: HostRuntime) -> Result<(), AllocError> {
 }
 
 #[test]
-fn a_whole_label_at_once(rt: HostRuntime) -> Result<(), AllocError> {
+fn unset_leaves_a_slot_as_it_is(rt: HostRuntime) -> Result<(), AllocError> {
     let unset = LabelValue::Unset;
-    let values = [unset, LabelValue::Number(2), LabelValue::Number(3), unset];
+    let (two, three) = (LabelValue::Number(2), LabelValue::Number(3));
     let mut objects = Objects::new(rt.alloc(), &labelled(7))?;
     let root = objects.root();
-    objects.relabel(root, &values)?;
+    objects.relabel(root, &[unset, two, three, unset])?;
     let root = objects.root();
-    assert!(rt; objects.label(root) == values && objects.has_label(root, &values));
+    let after = [LabelValue::Number(7), two, three, unset];
+    assert!(rt; objects.label(root) == after && objects.has_label(root, &after));
     Ok(())
 }
 

@@ -1,10 +1,10 @@
 //! Requests to change labels: which of them are claimed, and the labels after them.
 
-use mf_elem::{Comps, Elem, LabelValue, RangeLabel, SLOTS};
+use mf_elem::{Comps, Elem, LabelValue, RangeLabel, Request, SLOTS};
 use mf_errno::Module;
 use mf_item::Kind;
 use mf_labeltext::read_request;
-use mf_policy::{Registration, Spec, SpecList, relabelled};
+use mf_policy::{Registration, Spec, SpecList, relabelled, sets_value, value_after};
 use std::alloc::{AllocError, Global};
 
 /// Lists Biba, which holds slot 0.
@@ -81,7 +81,15 @@ fn labelled(biba: LabelValue, partition: LabelValue) -> [LabelValue; SLOTS] {
     [biba, partition, LabelValue::Number(9), LabelValue::Unset]
 }
 
-/// Whether a label is so after what the text asks, where Biba and mac_partition are listed.
+/// The value of a slot after what the request asks, by the policy that holds it.
+fn value_in(listed: &SpecList, request: &Request, slot: u8, before: LabelValue) -> LabelValue {
+    match listed.holder(slot) {
+        Some(module) if sets_value(module, request) => value_after(module, request, &before),
+        _ => before,
+    }
+}
+
+/// Whether a label is so after what the text asks, as a whole and in each slot.
 fn becomes(
     listed: &SpecList,
     text: &str,
@@ -89,7 +97,13 @@ fn becomes(
     after: &[LabelValue; SLOTS],
 ) -> bool {
     match read_request(text) {
-        Ok(request) => relabelled(listed, &request, before) == *after,
+        Ok(request) => {
+            relabelled(listed, &request, before) == *after
+                && value_in(listed, &request, 0, before[0]) == after[0]
+                && value_in(listed, &request, 1, before[1]) == after[1]
+                && value_in(listed, &request, 2, before[2]) == after[2]
+                && value_in(listed, &request, 3, before[3]) == after[3]
+        }
         Err(_) => false,
     }
 }

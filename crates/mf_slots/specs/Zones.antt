@@ -1,5 +1,5 @@
 -- Label values in zones: one zone for each slot number, in which each value lies under a handle.
-use Rattle.std.specs.Prelude.{◌≡◌, ◌≢◌, ℕ, ◌<◌, List, [], Option, Some, None, IsSome, slice_index_or}
+use Rattle.std.specs.Prelude.{◌≡◌, ◌≢◌, ℕ, ◌<◌, List, [], ◌∷◌, Option, Some, None, IsSome, slice_index_or}
 use Rattle.slab.specs.Slab.{Slab, HasRoomFor}
 use Rattle.mf_elem.specs.declared.label.LabelValue.{LabelValue}
 use Rattle.mf_elem.specs.declared.label.TheConstants.{SLOTS}
@@ -64,13 +64,21 @@ abbrev pub value_or_unset : Option LabelValue → LabelValue
 value_or_unset None = Unset
 value_or_unset (Some v) = v
 
+-- what a zone has under the handle of a slot, and Unset where the slot isn't made
+abbrev pub held_in : Zone → Option ℕ → LabelValue
+held_in zone None = Unset
+held_in zone (Some h) = value_or_unset (at_handle zone h)
+
 abbrev pub value_at : Contents → ℕ → Option ℕ → LabelValue
-value_at zones slot None = Unset
-value_at zones slot (Some h) = value_or_unset (under zones slot h)
+value_at zones slot key = held_in (zone_of zones slot) key
 
 -- the value of a label's slot, Unset where the slot isn't made
 abbrev pub value_of : Contents → Handles → ℕ → LabelValue
 value_of zones label slot = value_at zones slot (handle label slot)
+
+-- the values of the four slots of a label
+unfoldable pub label_values : Contents → Handles → List LabelValue
+label_values zones label = value_of zones label 0 ∷ value_of zones label 1 ∷ value_of zones label 2 ∷ value_of zones label 3 ∷ []
 
 -- one of the values of a label
 abbrev pub value_for : List LabelValue → ℕ → LabelValue
@@ -113,13 +121,27 @@ pub record Adds (zone zone' : Zone) (key : Option ℕ) (v : LabelValue) : Type 0
   pub was_free : at_handle zone new ≡ None
   pub updates : Updates zone zone' new (Some v)
 
--- A slot that has the first handle gets this value, and then has the second handle: a made slot keeps its handle, one that
--- isn't made gets a free one, and what gets Unset is freed.
+-- A slot that has the first handle gets this value, and then has the second handle: a made slot keeps its handle, and never becomes Unset; one
+-- that isn't made gets a free handle, and none for Unset.
 abbrev pub Rewrites : Zone → Zone → Option ℕ → Option ℕ → LabelValue → Type 0
 Rewrites zone zone' None key Unset = (zone' ≡ zone) × (key ≡ None)
 Rewrites zone zone' None key v = Adds zone zone' key v
-Rewrites zone zone' (Some h) key Unset = Updates zone zone' h None × (key ≡ None)
+Rewrites zone zone' (Some h) key Unset = ⊥
 Rewrites zone zone' (Some h) key v = Updates zone zone' h (Some v) × (key ≡ Some h)
+
+-- the new value of a slot with an old one: Unset leaves it the old one
+abbrev pub given : LabelValue → LabelValue → LabelValue
+given Unset old = old
+given new old = new
+
+-- the values of a label that is given new ones, slot by slot
+unfoldable pub given_to : List LabelValue → List LabelValue → List LabelValue
+given_to values label =
+    given (value_for values 0) (value_for label 0)
+    ∷ given (value_for values 1) (value_for label 1)
+    ∷ given (value_for values 2) (value_for label 2)
+    ∷ given (value_for values 3) (value_for label 3)
+    ∷ []
 
 -- every slot of the label gets its value of these
 pub record Relabels (zones zones' : Contents) (label label' : Handles) (values : List LabelValue) : Type 0 where

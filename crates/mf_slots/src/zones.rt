@@ -2,7 +2,7 @@
 ghost use Rattle.std.specs.Prelude.{◌≡◌, ◌≢◌, ◌<◌, ◌↔◌, [], ◌∷◌, Some, None, OnOk, OnErr, IfOk, IsOk, IsTrue, IsSome, replicate, ℕ};
 ghost use Rattle.mf_elem.specs.declared.label.TheConstants.{SLOTS};
 ghost use Rattle.slab.specs.Slab.{HasRoomFor};
-ghost use Rattle.mf_slots.specs.Zones.{IsHeld, IsIn, IsMadeAt, IsHeldAt, Makes, MakesLabel, SetsAt, Frees, GivesUp, handle, value_at, value_of, value_for, Adds, Updates, Relabels, Rewrites, AreMade, IsMadeFor, HasRoomToWrite};
+ghost use Rattle.mf_slots.specs.Zones.{IsHeld, IsIn, IsMadeAt, IsHeldAt, Makes, MakesLabel, SetsAt, Frees, GivesUp, handle, held_in, value_at, value_of, value_for, label_values, given, given_to, Adds, Updates, Relabels, Rewrites, AreMade, IsMadeFor, HasRoomToWrite};
 ghost use Rattle.mf_elem.specs.declared.label.LabelValue.TheVariants.{Unset};
 
 use mf_elem::{LabelValue, SLOTS};
@@ -103,15 +103,15 @@ impl Zones {
         Ok(label)
     }
 
-    /// Gives the slots of the label these values; a slot that is to be Unset is given up. If memory runs out, nothing is
-    /// changed. Slots that are made already take no memory.
+    /// Gives the slots of the label these values; Unset leaves a slot as it is. If memory runs out, nothing is changed. Slots
+    /// that are made already take no memory.
     pub fn relabel(
         &mut self,
         label: &mut Label,
         values: &[LabelValue; SLOTS],
     ) -> Result<(), AllocError>
         requires { IsHeld self.old label.old }
-        ensures ok { OnOk result (Relabels self.old self.new label.old label.new values.now) }
+        ensures ok { OnOk result (Relabels self.old self.new label.old label.new (given_to values.now (label_values self.old label.old))) }
         ensures made { AreMade label.old values.now → IsOk result }
         ensures err { OnErr result ((self.new ≡ self.old) × (label.new ≡ label.old)) }
     {
@@ -227,19 +227,16 @@ fn make_room(
     }
 }
 
-/// Puts the value under its key, or a free one, and returns the key. Unset has none.
+/// Puts the value under its key, or a free one, and returns the key. Unset leaves what is there.
 fn rewrite(zone: &mut Slab<LabelValue>, key: Option<usize>, value: &LabelValue) -> Option<usize>
     requires room { HasRoomToWrite zone.old key value.now }
     requires held { IsIn zone.old.slots key }
-    ensures { Rewrites zone.old.slots zone.new.slots key result value.now }
+    requires set { held_in zone.old.slots key ≡ Unset → key ≡ None }
+    ensures { Rewrites zone.old.slots zone.new.slots key result (given value.now (held_in zone.old.slots key)) }
 {
     match (key, value) {
-        (None, LabelValue::Unset) => None,
+        (_, LabelValue::Unset) => key,
         (None, LabelValue::Range(_) | LabelValue::Number(_)) => Some(add(zone, *value)),
-        (Some(key), LabelValue::Unset) => {
-            let _freed = zone.try_remove(key);
-            None
-        }
         (Some(key), LabelValue::Range(_) | LabelValue::Number(_)) => {
             put(zone, key, *value);
             Some(key)

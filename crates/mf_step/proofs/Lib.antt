@@ -12,5 +12,6 @@ mod Entries
 mod Keeping
 mod Denials
 mod LastName
+mod Given
 mod LabelParts
 mod Loads

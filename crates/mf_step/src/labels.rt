@@ -2,7 +2,10 @@
 ghost use Rattle.std.specs.Option.{option_zip};
 ghost use Rattle.std.specs.Prelude.{◌≡◌, ◌<◌, ◌≤◌, ◌+◌, ◌∷◌, ◌++◌, [], length, slice_index_or, IfSome, IsSome, OnOk, OnErr};
 ghost use Rattle.mf_elem.specs.declared.label.LabelValue.TheVariants.{Unset};
-ghost use Rattle.mf_objects.specs.Live.{live_at};
+ghost use Rattle.mf_slots.specs.Zones.{given};
+ghost use Rattle.mf_objects.specs.Live.{label_at, live_at};
+ghost use Rattle.mf_objects.specs.Lives.{value_at};
+ghost use Rattle.mf_policy.specs.Relabelled.{relabelled_value};
 ghost use Rattle.mf_step.specs.Effect as effect;
 ghost use Rattle.mf_step.specs.Reply as spec;
 
@@ -12,7 +15,7 @@ use mf_errno::Module;
 use mf_item::Kind;
 use mf_objects::Id;
 use mf_plan::{LabelPart, State};
-use mf_policy::{SpecList, labels_kind, relabelled};
+use mf_policy::{SpecList, labels_kind, sets_value, value_after};
 use std::alloc::AllocError;
 
 /// The parts of the label of an entity of that kind: one for each listed policy that labels the kind.
@@ -91,8 +94,27 @@ pub(crate) fn relabel(
     ensures err { OnErr result (state.new ≡ state.old) }
 {
     if let (Some(id), Some(request)) = (target, asked) {
-        let label = relabelled(&state.specs, request, &state.objects.label(id));
-        state.objects.relabel(id, &label)?;
+        let mut values = [LabelValue::Unset; SLOTS];
+        give(state, id, request, 0, &mut values[0]);
+        give(state, id, request, 1, &mut values[1]);
+        give(state, id, request, 2, &mut values[2]);
+        give(state, id, request, 3, &mut values[3]);
+        state.objects.relabel(id, &values)?;
     }
     Ok(())
+}
+
+/// Puts down the value that the relabel sets in the entity's slot. Where it sets none, Unset stays there, so that the slot isn't
+/// written.
+fn give(state: &State, id: Id, request: &Request, slot: u8, value: &mut LabelValue)
+    requires live { IsSome (live_at state.now.objects id) }
+    requires slot { slot < SLOTS }
+    requires unset { value.old ≡ Unset }
+    ensures { given value.new (value_at state.now.objects id slot) ≡ relabelled_value state.now.specs request.now (label_at state.now.objects id) slot }
+{
+    if let Some(module) = state.specs.holder(slot) {
+        if sets_value(module, request) {
+            *value = value_after(module, request, &state.objects.value(id, slot));
+        }
+    }
 }

@@ -3,6 +3,7 @@ ghost use Rattle.std.specs.Prelude.{◌≡◌, ◌≢◌, ◌≤◌, ◌<◌, []
 ghost use Rattle.mf_elem.specs.declared.label.LabelValue.TheVariants.{Unset};
 ghost use Rattle.mf_names.specs.declared.limits.TheConstants.{SCRIPT_LIMIT};
 ghost use Rattle.mf_elem.specs.declared.label.TheConstants.{SLOTS};
+ghost use Rattle.mf_slots.specs.Zones.{given_to};
 ghost use Rattle.mf_objects.specs.Head.{head_of};
 ghost use Rattle.mf_objects.specs.Live as live;
 ghost use Rattle.mf_objects.specs.Lives.{is_vnode, IsLive, IsLiveWhere, value_at, HasSlotsFor};
@@ -92,11 +93,11 @@ impl Objects {
         }
         self.zones.make(label, slot, value)
     }
-    /// Gives the slots of the entity's label these values; a slot that is to be Unset is given up. Slots that are made
-    /// already take no memory.
+    /// Gives the slots of the entity's label these values; Unset leaves a slot as it is. Slots that are made already take no
+    /// memory.
     pub fn relabel(&mut self, id: Id, values: &[LabelValue; SLOTS]) -> Result<(), AllocError>
         requires { IsSome (live.live_at self.old id) }
-        ensures ok { OnOk result (self.new ≡ change.with_change (with_label values.now) self.old id) }
+        ensures ok { OnOk result (self.new ≡ change.with_change (with_label (given_to values.now (live.label_at self.old id))) self.old id) }
         ensures made { HasSlotsFor (live.label_at self.old id) values.now → IsOk result }
         ensures err { OnErr result (self.new ≡ self.old) }
     {

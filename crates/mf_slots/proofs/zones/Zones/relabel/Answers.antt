@@ -2,7 +2,7 @@ use Rattle.std.proofs.Common.{◌≡◌, ◌<◌, length, set, sym, ◌∙◌, s
 use Rattle.std.proofs.lemmas.List.{length-map, length-set}
 use Rattle.slab.specs.Slab.{Slab}
 use Rattle.mf_elem.specs.declared.label.LabelValue.{LabelValue}
-use Rattle.mf_slots.specs.Zones.{Contents, Handles, NoneUnset}
+use Rattle.mf_slots.specs.Zones.{Contents, Handles, NoneUnset, given_to, label_values}
 use Rattle.mf_slots.proofs.Places.{seen, seen_kept}
 use Rattle.mf_slots.proofs.Relabelling.{RewritesBelow, on_err, room_more, rewrites_more, rewritten, set_relabels}
 use Rattle.mf_slots.proofs.zones.Zones.relabel.Goals as goal
@@ -37,8 +37,8 @@ invariant_of-self-in-loop-slot-2 c =
     let below = subst (λ (n : ℕ). RewritesBelow n c.args.self.now slabs c.args.label.now keys c.args.values.now) all c.loop-slot-2.invariant in
     let four : length c.args.self.now ≡ 4 = ap (λ (z : Contents). length z) (sym c.self.view_is) ∙ length-map c.self.inside.zones.items (λ (s : Slab LabelValue). s.slots) ∙ c.self.invariant.0 in
     let long : length c.args.label.now ≡ 4 = ap (λ (l : Handles). length l) (sym c.label.view_is) ∙ c.label.invariant in
-    let relabels = rewritten c.args.self.now slabs c.args.label.now keys c.args.values.now four long (omega arith) below in
-    (below.long, set_relabels c.args.self.now (seen slabs) c.args.label.now keys c.args.values.now (subst NoneUnset c.self.view_is c.self.invariant.1) relabels)
+    let relabels = rewritten c.args.self.now slabs c.args.label.now keys c.args.values.now four long below in
+    (below.long, set_relabels c.args.self.now (seen slabs) c.args.label.now keys (given_to c.args.values.now (label_values c.args.self.now c.args.label.now)) (subst NoneUnset c.self.view_is c.self.invariant.1) relabels)
 
 pub loop-slot-2-preserved : goal.loop-slot-2-preserved
 loop-slot-2-preserved c =
@@ -54,7 +54,7 @@ returns-clause-ok c =
     let below = subst (λ (n : ℕ). RewritesBelow n c.args.self.now slabs c.args.label.now keys c.args.values.now) all c.loop-slot-2.invariant in
     let four : length c.args.self.now ≡ 4 = ap (λ (z : Contents). length z) (sym c.self.view_is) ∙ length-map c.self.inside.zones.items (λ (s : Slab LabelValue). s.slots) ∙ c.self.invariant.0 in
     let long : length c.args.label.now ≡ 4 = ap (λ (l : Handles). length l) (sym c.label.view_is) ∙ c.label.invariant in
-    rewritten c.args.self.now slabs c.args.label.now keys c.args.values.now four long (omega arith) below
+    rewritten c.args.self.now slabs c.args.label.now keys c.args.values.now four long below
 
 pub invariant_of-label : goal.invariant_of-label
 invariant_of-label c = c.loop-slot-2.invariant.wide
