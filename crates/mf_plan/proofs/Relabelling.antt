@@ -1,5 +1,5 @@
 -- The checks of a relabel: those that are collected, with what the relabel asks for.
-use Rattle.std.proofs.Common.{◌≡◌, List, [], ◌∷◌, ◌++◌, Option, Some, None, Result, Ok, Err, map, refl, ap, sym, ◌∙◌}
+use Rattle.std.proofs.Common.{◌≡◌, List, [], ◌∷◌, ◌++◌, Option, Some, None, Result, Ok, Err, IsSome, map, refl, ap, ◌∙◌}
 use Rattle.std.proofs.lemmas.List.{map-append}
 use Rattle.mf_elem.specs.declared.label.Request.{Request}
 use Rattle.mf_errno.specs.declared.errno.Errno.{Errno}
@@ -79,12 +79,13 @@ unfolding on
 socket_asking o me request None = refl
 socket_asking o me request (Some id) = refl
 
--- the row of a relabel, from the checks that were collected without what is asked for
-pub asked_plan : (s : State) (c : Call) (row : Request → Plan) (request : Request) (checks : List Check) (end : Result (Option Id) Errno) (collected : Plan)
-    → request_asked s.specs c ≡ Some request → ended (map (item_of s.objects) checks) end ≡ collected → plan_asking request collected ≡ row request
-    → ended (map (item_asking s.objects (Some request)) checks) end ≡ asked_row s c row
-asked_plan s c row request checks end collected asked is asking =
+-- the row of a relabel that asks for something, from the checks that were collected without it
+pub asked_plan : (s : State) (c : Call) (row : Request → Plan) (what : Option Request) (checks : List Check) (end : Result (Option Id) Errno) (collected : Plan)
+    → what ≡ request_asked s.specs c → IsSome what → ended (map (item_of s.objects) checks) end ≡ collected → ((request : Request) → plan_asking request collected ≡ row request)
+    → ended (map (item_asking s.objects what) checks) end ≡ asked_row s c row
+asked_plan s c row None checks end collected asked some is asking = cc
+asked_plan s c row (Some request) checks end collected asked some is asking =
     ap (λ (items : List Item). ended items end) (all_asking s.objects request checks)
     ∙ ap (plan_asking request) is
-    ∙ asking
-    ∙ sym (ap (λ (what : Option Request). found errno.Einval row what) asked)
+    ∙ asking request
+    ∙ ap (λ (what : Option Request). found errno.Einval row what) asked

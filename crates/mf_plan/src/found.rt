@@ -9,7 +9,7 @@ ghost use Rattle.mf_plan.specs.Places.{entry_at_path};
 use crate::last_label::LastLabel;
 use crate::lookup::target_of;
 use crate::names::caller_of;
-use crate::relabels::request_asked;
+use crate::relabels::put_request;
 use crate::state::State;
 use mf_calls::Call;
 use mf_elem::Request;
@@ -34,11 +34,13 @@ pub fn found_of(state: &State, task: &str, child: Option<&str>, call: &Call) -> 
     ensures { result ≡ spec.found_of state.now task.now (option_copied child.entry) call.now }
 {
     let caller = caller_of(&state.objects, task, child);
-    Found {
+    let mut found = Found {
         caller,
         target: target_in(&state.objects, caller, call),
-        request: request_asked(&state.specs, call, &LastLabel::new()),
-    }
+        request: None,
+    };
+    put_request(&state.specs, call, &LastLabel::new(), &mut found.request);
+    found
 }
 
 /// The file, pipe or socket that a call reads or changes, or the directory in which it makes a file; the caller of

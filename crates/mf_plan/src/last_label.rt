@@ -1,5 +1,5 @@
 //! The label text that was read last.
-ghost use Rattle.std.specs.Prelude.{◌≡◌, ◌≤◌, length, IsTrue};
+ghost use Rattle.std.specs.Prelude.{◌≡◌, ◌↔◌, ◌≤◌, length, IfSome, IsTrue};
 ghost use Rattle.std.specs.Result.{result_ok};
 ghost use Rattle.mf_labeltext.specs.Reading.{request_in};
 
@@ -53,28 +53,44 @@ impl LastLabel {
     }
 
     fn keep_text(&mut self, text: &str) {
-        if text.len() <= MOST_KEPT && !is_same(self.text.as_slice(), text) {
-            self.text = copy_of(text.as_bytes());
-            self.request = read_request(text).ok();
+        if text.len() <= MOST_KEPT && self.kept(text).is_none() {
+            self.replace(text);
         }
     }
 
-    /// What the label text asks for; None where it can't be read.
-    pub(crate) fn read(&self, text: &str) -> Option<Request>
-        ensures { result ≡ result_ok (request_in text.now) }
+    /// Keeps this text in place of the last one.
+    fn replace(&mut self, text: &str)
+        requires { length text.now ≤ MOST_KEPT }
     {
-        if is_same(self.text.as_slice(), text) {
-            self.request
+        self.text = copy_of(text.as_bytes());
+        self.request = read_request(text).ok();
+    }
+
+    /// What the label text asks for, if it is the one that was kept: `Some(&None)` where that can't be read.
+    pub(crate) fn kept(&self, text: &str) -> Option<&Option<Request>>
+        ensures { IfSome result (λ read. read.now ≡ result_ok (request_in text.now)) }
+    {
+        if is_same(self.text.as_slice(), text.as_bytes()) {
+            Some(&self.request)
         } else {
-            read_request(text).ok()
+            None
         }
     }
 }
 
-fn is_same(kept: &[u8], text: &str) -> bool
-    ensures { IsTrue result → kept.now ≡ text.now }
+/// Whether the two are one text. Label texts are short, and std's `==` is made for long slices.
+fn is_same(kept: &[u8], text: &[u8]) -> bool
+    ensures { IsTrue result ↔ (kept.now ≡ text.now) }
 {
-    kept == text.as_bytes()
+    if kept.len() != text.len() {
+        return false;
+    }
+    for place in 0..kept.len() {
+        if kept[place] != text[place] {
+            return false;
+        }
+    }
+    true
 }
 
 fn copy_of(bytes: &[u8]) -> ArrayVec<u8, MOST_KEPT>

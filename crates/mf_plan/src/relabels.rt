@@ -1,5 +1,5 @@
 //! Calls that change a label.
-ghost use Rattle.std.specs.Prelude.{◌≡◌, [], map, IfOk, Some, None};
+ghost use Rattle.std.specs.Prelude.{◌≡◌, [], map, option_and_then, IfErr, IfOk, IsSome, OnOk, Some, None};
 ghost use Rattle.mf_errno.specs.declared.errno.Errno.TheVariants as errno;
 ghost use Rattle.mf_item.specs.declared.operation.CheckOp.TheVariants as op;
 ghost use Rattle.mf_plan.specs.Ended.{ended};
@@ -18,32 +18,85 @@ use mf_calls::Call;
 use mf_elem::Request;
 use mf_errno::Errno;
 use mf_item::{CheckOp, Kind};
-use mf_names::Path;
+use mf_labeltext::read_request;
+use mf_names::{Name, Path};
 use mf_objects::Id;
 use mf_policy::SpecList;
 
-/// What the call asks of a label. None where its text can't be read, or no listed policy claims a part of it, and for a call
-/// that changes no label. Whether the request is refused is the policies' matter.
-pub(crate) fn request_asked(specs: &SpecList, call: &Call, last: &LastLabel) -> Option<Request>
-    ensures { result ≡ spec.request_asked specs.now call.now }
+/// Puts down what the call asks of a label. None where its text can't be read, or no listed policy claims a part of it, and for
+/// a call that changes no label. Whether the request is refused is the policies' matter.
+pub(crate) fn put_request(
+    specs: &SpecList,
+    call: &Call,
+    last: &LastLabel,
+    asked: &mut Option<Request>,
+)
+    requires { asked.old ≡ None }
+    ensures { asked.new ≡ spec.request_asked specs.now call.now }
 {
     match call {
-        Call::Setpmac(label) => claimed_in(specs, Kind::Process, label.as_str(), last),
-        Call::Setfmac(label, _) => claimed_in(specs, Kind::Vnode, label.as_str(), last),
-        Call::Setpipemac(label, _) => claimed_in(specs, Kind::Pipe, label.as_str(), last),
-        Call::Setsockmac(label, _) => claimed_in(specs, Kind::Socket, label.as_str(), last),
-        _ => None,
+        Call::Setpmac(label) => put_claimed(specs, Kind::Process, label.as_str(), last, asked),
+        Call::Setfmac(label, _) => put_claimed(specs, Kind::Vnode, label.as_str(), last, asked),
+        Call::Setpipemac(label, _) => put_claimed(specs, Kind::Pipe, label.as_str(), last, asked),
+        Call::Setsockmac(label, _) => put_claimed(specs, Kind::Socket, label.as_str(), last, asked),
+        _ => {}
     }
 }
 
-/// What the label text asks for, where it can be read and is claimed for an entity of that kind.
-fn claimed_in(specs: &SpecList, kind: Kind, text: &str, last: &LastLabel) -> Option<Request>
-    ensures { result ≡ spec.claimed_in specs.now kind text.now }
+/// Puts down what the label text asks for, where it can be read and is claimed for an entity of that kind.
+fn put_claimed(
+    specs: &SpecList,
+    kind: Kind,
+    text: &str,
+    last: &LastLabel,
+    asked: &mut Option<Request>,
+)
+    requires { asked.old ≡ None }
+    ensures { asked.new ≡ spec.claimed_in specs.now kind text.now }
 {
-    match last.read(text) {
-        Some(request) if specs.claims(kind, &request) => Some(request),
-        _ => None,
+    match last.kept(text) {
+        Some(read) => put_if_claimed(specs, kind, read, asked),
+        None => put_read(specs, kind, text, asked),
     }
+}
+
+/// Puts down what a label text asks for that has to be read, where it is claimed for an entity of that kind.
+fn put_read(specs: &SpecList, kind: Kind, text: &str, asked: &mut Option<Request>)
+    requires { asked.old ≡ None }
+    ensures { asked.new ≡ spec.claimed_in specs.now kind text.now }
+{
+    put_if_claimed(specs, kind, &read_request(text).ok(), asked)
+}
+
+/// Puts down what was read, where it is claimed for an entity of that kind.
+fn put_if_claimed(specs: &SpecList, kind: Kind, read: &Option<Request>, asked: &mut Option<Request>)
+    requires { asked.old ≡ None }
+    ensures { asked.new ≡ option_and_then (spec.if_claimed specs.now kind) read.now }
+{
+    if let Some(request) = read {
+        if specs.claims(kind, request) {
+            *asked = *read;
+        }
+    }
+}
+
+/// Puts down what the call asks of a label, before anything is looked up. EINVAL where its text can't be read or isn't claimed.
+fn judge(
+    specs: &SpecList,
+    call: &Call,
+    last: &LastLabel,
+    asked: &mut Option<Request>,
+) -> Result<(), Errno>
+    requires { asked.old ≡ None }
+    ensures asked { asked.new ≡ spec.request_asked specs.now call.now }
+    ensures ok { OnOk result (IsSome asked.new) }
+    ensures err { IfErr result (λ error. (error ≡ errno.Einval) × (asked.new ≡ None)) }
+{
+    put_request(specs, call, last, asked);
+    if asked.is_none() {
+        return Err(Errno::Einval);
+    }
+    Ok(())
 }
 
 /// The check of a relabel of the caller itself.
@@ -64,7 +117,7 @@ pub(crate) fn relabel_caller(
     ensures asking { outlines.IsAsking state.now.objects caller outline.new.checks }
     ensures caller { outline.new.found.caller ≡ outline.old.found.caller }
 {
-    outline.found.request = Some(request_asked(&state.specs, call, last).ok_or(Errno::Einval)?);
+    judge(&state.specs, call, last, &mut outline.found.request)?;
     ask_alone(
         &state.objects,
         caller,
@@ -95,7 +148,7 @@ pub(crate) fn relabel_file(
     ensures asking { outlines.IsAsking state.now.objects caller outline.new.checks }
     ensures caller { outline.new.found.caller ≡ outline.old.found.caller }
 {
-    outline.found.request = Some(request_asked(&state.specs, call, last).ok_or(Errno::Einval)?);
+    judge(&state.specs, call, last, &mut outline.found.request)?;
     on_file(
         &state.objects,
         caller,
@@ -110,7 +163,7 @@ pub(crate) fn relabel_pipe(
     state: &State,
     caller: Id,
     call: &Call,
-    name: &str,
+    name: &Name,
     last: &LastLabel,
     outline: &mut Outline,
 ) -> Result<Option<Id>, Errno>
@@ -126,12 +179,12 @@ pub(crate) fn relabel_pipe(
     ensures asking { outlines.IsAsking state.now.objects caller outline.new.checks }
     ensures caller { outline.new.found.caller ≡ outline.old.found.caller }
 {
-    outline.found.request = Some(request_asked(&state.specs, call, last).ok_or(Errno::Einval)?);
+    judge(&state.specs, call, last, &mut outline.found.request)?;
     on_pipe(
         &state.objects,
         caller,
         CheckOp::PipeRelabel,
-        name,
+        name.as_str(),
         &mut outline.checks,
     )
 }
@@ -141,7 +194,7 @@ pub(crate) fn relabel_socket(
     state: &State,
     caller: Id,
     call: &Call,
-    name: &str,
+    name: &Name,
     last: &LastLabel,
     outline: &mut Outline,
 ) -> Result<Option<Id>, Errno>
@@ -157,12 +210,12 @@ pub(crate) fn relabel_socket(
     ensures asking { outlines.IsAsking state.now.objects caller outline.new.checks }
     ensures caller { outline.new.found.caller ≡ outline.old.found.caller }
 {
-    outline.found.request = Some(request_asked(&state.specs, call, last).ok_or(Errno::Einval)?);
+    judge(&state.specs, call, last, &mut outline.found.request)?;
     on_socket(
         &state.objects,
         caller,
         CheckOp::SocketRelabel,
-        name,
+        name.as_str(),
         &mut outline.checks,
     )
 }

@@ -7,7 +7,7 @@ pub returns-in-Setfmac-clause-plan : goal.returns-in-Setfmac-clause-plan
 returns-in-Setfmac-clause-plan c = rw c.in-Setfmac.is (rw c.in-Setfmac.is at c.relabel_file.ensures.plan)
 
 pub returns-in-Setpipemac-clause-plan : goal.returns-in-Setpipemac-clause-plan
-returns-in-Setpipemac-clause-plan c = rw c.in-Setpipemac.is (rw (c.in-Setpipemac.is, c.as_str-in-Setpipemac.ensures) at c.relabel_pipe.ensures.plan)
+returns-in-Setpipemac-clause-plan c = rw c.in-Setpipemac.is (rw c.in-Setpipemac.is at c.relabel_pipe.ensures.plan)
 
 pub returns-in-Setsockmac-clause-plan : goal.returns-in-Setsockmac-clause-plan
-returns-in-Setsockmac-clause-plan c = rw c.in-Setsockmac.is (rw (c.in-Setsockmac.is, c.as_str-in-Setsockmac.ensures) at c.relabel_socket.ensures.plan)
+returns-in-Setsockmac-clause-plan c = rw c.in-Setsockmac.is (rw c.in-Setsockmac.is at c.relabel_socket.ensures.plan)

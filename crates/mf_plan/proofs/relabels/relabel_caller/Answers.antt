@@ -9,5 +9,5 @@ pub returns-clause-plan : goal.returns-clause-plan
 returns-clause-plan c =
     let s = c.args.state.now in
     let me = subject_of s.objects c.args.caller in
-    asked_plan s c.args.call.now (λ request. relabel_row request (of_subject me op.CredRelabel)) c.in_ok-ok_or.field-0 c.ask_alone.new.checks
-    (Ok (Some c.args.caller)) (ask (of_subject me op.CredRelabel) proceed) (search rules) (search rules) refl
+    asked_plan s c.args.call.now (λ request. relabel_row request (of_subject me op.CredRelabel)) c.judge.new.asked c.ask_alone.new.checks
+    (Ok (Some c.args.caller)) (ask (of_subject me op.CredRelabel) proceed) c.judge.ensures.asked c.in_ok-judge.ensures.ok (search rules) (λ request. refl)

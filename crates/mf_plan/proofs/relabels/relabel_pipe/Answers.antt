@@ -1,4 +1,3 @@
-use Rattle.std.proofs.Common.{rules}
 use Rattle.mf_errno.specs.declared.errno.Errno.TheVariants as errno
 use Rattle.mf_item.specs.declared.operation.CheckOp.TheVariants as op
 use Rattle.mf_plan.specs.Plan.{check_row, found}
@@ -12,6 +11,6 @@ returns-clause-plan c =
     let s = c.args.state.now in
     let me = subject_of s.objects c.args.caller in
     let holder = pipe_named s.objects c.args.name.now in
-    asked_plan s c.args.call.now (named_relabel s.objects me op.PipeRelabel holder) c.in_ok-ok_or.field-0 c.on_pipe.new.checks c.on_pipe.result
-    (found errno.Enoent (check_row s.objects me op.PipeRelabel) holder) (search rules) c.on_pipe.ensures.plan
-    (pipe_asking s.objects me c.in_ok-ok_or.field-0 holder)
+    asked_plan s c.args.call.now (named_relabel s.objects me op.PipeRelabel holder) c.judge.new.asked c.on_pipe.new.checks c.on_pipe.result
+    (found errno.Enoent (check_row s.objects me op.PipeRelabel) holder) c.judge.ensures.asked c.in_ok-judge.ensures.ok (rw c.as_str.ensures at c.on_pipe.ensures.plan)
+    (λ request. pipe_asking s.objects me request holder)
