@@ -3,9 +3,11 @@ mod Names
 mod Known
 mod Keeping
 mod Asking
+mod Doing
 mod Calls
 mod Totals
 mod Standing
+mod Going
 mod Running
 mod Opened
 mod Turning
