@@ -1,3 +1,4 @@
 pub mod Item
 pub mod Named
+pub mod NoSubject
 pub mod Operation

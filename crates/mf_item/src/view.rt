@@ -1,5 +1,6 @@
 //! Subjects and objects as policies see them: copies of what they are at the time of the check.
 ghost use Rattle.std.specs.Prelude.{◌≡◌, ◌↔◌, IsTrue};
+ghost use Rattle.mf_item.specs.NoSubject.{no_subject};
 
 use mf_cred::{Cred, Duplicate, FileView};
 use mf_elem::{LabelValue, SLOTS};
@@ -44,6 +45,8 @@ impl SubjectView {
 }
 
 impl Default for SubjectView {
+    ghost is_default = { λ view. view ≡ no_subject };
+
     fn default() -> SubjectView {
         SubjectView {
             id: 0,

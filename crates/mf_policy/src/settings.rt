@@ -8,7 +8,7 @@ use mf_errno::Errno;
 use mf_rule::{Rule, RuleList};
 
 /// A change of a setting.
-#[derive(Clone, Copy, Debug)]
+#[derive(Clone, Copy)]
 pub enum Change {
     /// Whether the file system firewall stops at the first rule that matches, as the sysctl
     /// `security.mac.bsdextended.firstmatch_enabled` of mac_bsdextended(4) sets it.

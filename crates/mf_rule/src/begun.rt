@@ -6,14 +6,14 @@ ghost use Rattle.mf_rule.specs.Parts.{no_object_tests, no_tests};
 use crate::rule::{ObjectSide, Rule, Side};
 
 /// The parts of a rule that have tests.
-#[derive(Clone, Copy, Debug, PartialEq, Eq)]
+#[derive(Clone, Copy, PartialEq, Eq)]
 pub enum Part {
     Subject,
     Object,
 }
 
 /// What the next word has to be. A bool says whether a `!` turns the test.
-#[derive(Clone, Copy, Debug, PartialEq, Eq)]
+#[derive(Clone, Copy)]
 pub enum Next {
     /// The word `subject`.
     Start,
@@ -36,7 +36,7 @@ pub enum Next {
 }
 
 /// A rule so far, and what comes next.
-#[derive(Clone, Copy, Debug, PartialEq, Eq)]
+#[derive(Clone, Copy)]
 pub struct Begun {
     pub next: Next,
     pub rule: Rule,

@@ -38,7 +38,7 @@ pub const ANY_TYPE: u8 = 127;
 pub const LAST_ID: u32 = 4_294_967_295;
 
 /// A test of an id: that it lies in a range, both ends included; after `!` that it doesn't.
-#[derive(Clone, Copy, Debug, PartialEq, Eq)]
+#[derive(Clone, Copy, PartialEq, Eq)]
 pub struct IdTest {
     pub not: bool,
     pub least: u32,
@@ -46,14 +46,14 @@ pub struct IdTest {
 }
 
 /// A test of a file's type: that it is among these; after `!` that it isn't.
-#[derive(Clone, Copy, Debug, PartialEq, Eq)]
+#[derive(Clone, Copy, PartialEq, Eq)]
 pub struct TypeTest {
     pub not: bool,
     pub types: u8,
 }
 
 /// The tests of ids, of a subject or of an object. After `not` the whole part is turned.
-#[derive(Clone, Copy, Debug, PartialEq, Eq)]
+#[derive(Clone, Copy)]
 pub struct Side {
     pub not: bool,
     pub uid: Option<IdTest>,
@@ -61,7 +61,7 @@ pub struct Side {
 }
 
 /// The tests of an object. Those without a value say whether what they name has to be so: Some(false) stands for `!`.
-#[derive(Clone, Copy, Debug, PartialEq, Eq)]
+#[derive(Clone, Copy)]
 pub struct ObjectSide {
     pub side: Side,
     pub suid: Option<bool>,
@@ -72,7 +72,7 @@ pub struct ObjectSide {
 }
 
 /// A rule of mac_bsdextended(4): which subjects and which objects it matches, and the letters that it gives.
-#[derive(Clone, Copy, Debug, PartialEq, Eq)]
+#[derive(Clone, Copy)]
 pub struct Rule {
     pub subject: Side,
     pub object: ObjectSide,
