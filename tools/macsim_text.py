@@ -1,0 +1,284 @@
+"""Reads scripts of macsim and the histories that it prints, for the tools beside this file. Nothing of it is proved.
+
+Scripts are read by the grammar of docs/MANUAL.md (THE SCRIPT), without its limits and without what rules and label texts say: those the
+program judges. What can't be read is BadInput, which tells the file and the line; so no tool answers by a part of its input.
+"""
+import re
+import subprocess
+import sys
+from collections import namedtuple
+from pathlib import Path
+
+ROOT = Path(__file__).resolve().parent.parent
+PROGRAM = ROOT / "macsim"
+
+# A script. Each of its parts has the number of its line, from 1; `lines` are all lines as they stand there, comments too. `steps` is None
+# where the script has no such part, `files` and `tasks` are by path and by name.
+Script = namedtuple("Script", "name lines boots files tasks steps")
+Boot = namedtuple("Boot", "number module")
+File = namedtuple("File", "number path is_directory uid gid mode label")
+Task = namedtuple("Task", "number name uid groups label calls")
+# `child` is the name behind `@`, or None; `words` are the call's name and its arguments.
+Call = namedtuple("Call", "number text child words")
+Step = namedtuple("Step", "number kind task")
+
+# A line of a history: its number and text, its first word, and of `done` and `changed` the task, its line and the reply.
+Event = namedtuple("Event", "number text kind task line reply")
+# What the reply to a denied call says.
+Denial = namedtuple("Denial", "errno operation module check")
+
+
+class BadInput(Exception):
+    """An input that can't be read, or doesn't belong to another."""
+
+    def __init__(self, name, number, fault):
+        super().__init__(f"{name} line {number}: {fault}" if number else f"{name}: {fault}")
+
+
+class Fault(Exception):
+    """What is wrong with the words of a line."""
+
+
+# Words
+
+COMPONENT = r"/(?!\.{1,2}(?:/|$))[A-Za-z0-9._-]{1,32}"
+NAME = r"[A-Za-z0-9_-]{1,32}"
+# The words of the manual that stand for others. Each other word of a form stands there itself.
+WORDS = {
+    "PATH": rf"/|(?:{COMPONENT}){{1,8}}",
+    "KIND": "reg|dir",
+    "N": "[0-9]+",
+    "OCTAL": "[0-7]+",
+    "GROUPS": "[0-9]+(?:,[0-9]+)*",
+    "NAME": NAME,
+    "PROCESS": rf"{NAME}(?:\.{NAME})?",
+    "L": ".+",
+    "LABEL": ".+",
+    "WORD": ".+",
+    "MODULE": "mac_biba|mac_mls|mac_partition|mac_bsdextended|mac_priority",
+    "PRIVILEGE": "KLD_LOAD|KLD_UNLOAD|MAC_PARTITION|SCHED_RTPRIO|SCHED_IDPRIO",
+    "NAME=VALUE": "[^=]*=.*",
+    "TEXT": r"(?:[^\\]|\\[0-9A-Fa-f]{2})+",
+}
+CALLS = {
+    **dict.fromkeys(("exit", "getpmac", "kldstat"), ""),
+    **dict.fromkeys(("see", "signal", "debug", "sched"), "PROCESS"),
+    **dict.fromkeys(("exec", "create", "mkdir", "read", "stat", "getfmac", "readdir", "unlink"), "PATH"),
+    **dict.fromkeys(("fork", "pipe", "socket", "pread", "pstat", "recv", "seesock"), "NAME"),
+    **dict.fromkeys(("kldload", "kldunload"), "WORD"),
+    "priv": "PRIVILEGE",
+    "setpmac": "LABEL",
+    "write": "PATH TEXT",
+    "setfmac": "LABEL PATH",
+    "chmod": "PATH OCTAL",
+    "pwrite": "NAME TEXT",
+    "setpipemac": "LABEL NAME",
+    "setsockmac": "LABEL NAME",
+    "send": "NAME NAME TEXT",
+    "sysctl": "NAME=VALUE",
+}
+UGIDFW = {"list": "", "add": "", "set": "N", "remove": "N"}
+FILE = "PATH KIND uid N gid N mode OCTAL label L"
+TASK = "NAME uid N gid GROUPS label L"
+STEPS = ("enter", "plan", "done", "leave", "change")
+
+
+def is_word(word, want):
+    return re.fullmatch(WORDS[want], word) is not None if want in WORDS else word == want
+
+
+def match_words(words, form):
+    """Faults where the words aren't those of the form."""
+    wanted = form.split()
+    for word, want in zip(words, wanted):
+        if not is_word(word, want):
+            raise Fault(f"`{word}` stands where {want} is wanted")
+    if len(words) < len(wanted):
+        raise Fault(f"it ends where {wanted[len(words)]} is wanted")
+    if len(words) > len(wanted):
+        raise Fault(f"`{words[len(wanted)]}` is too much")
+
+
+def match_ugidfw(words):
+    if not words or words[0] not in UGIDFW:
+        raise Fault(f"there is no call `{' '.join(['ugidfw', *words[:1]])}`")
+    arguments = len(UGIDFW[words[0]].split())
+    has_rule = words[0] in ("add", "set")
+    match_words(words[1 : 1 + arguments] if has_rule else words[1:], UGIDFW[words[0]])
+    if has_rule and len(words) == 1 + arguments:
+        raise Fault("it ends where a rule is wanted")
+
+
+def match_call(words):
+    if not words:
+        raise Fault("it ends where a call is wanted")
+    if words[0] == "ugidfw":
+        match_ugidfw(words[1:])
+    elif words[0] in CALLS:
+        match_words(words[1:], CALLS[words[0]])
+    else:
+        raise Fault(f"there is no call `{words[0]}`")
+
+
+# Scripts
+
+
+class ScriptReader:
+    """Reads the lines of a script one after another."""
+
+    def __init__(self, name, lines):
+        self.script = Script(name, lines, [], {}, {}, None)
+        # The part that is read, and the task whose lines are.
+        self.part, self.task = "boot", None
+
+    def read_boot(self, number, words):
+        match_words(words[1:], "MODULE")
+        if words[1] in (boot.module for boot in self.script.boots):
+            raise Fault(f"{words[1]} is booted already")
+        self.script.boots.append(Boot(number, words[1]))
+
+    def read_file(self, number, words):
+        has_text = len(words) > 11 and words[2] == "reg"
+        match_words(words[1:], FILE + " text TEXT" * has_text)
+        path, kind, _, uid, _, gid, _, mode, _, label = words[1:11]
+        if path == "/" or path in self.script.files:
+            raise Fault(f"{path} is there already")
+        directory = path.rpartition("/")[0]
+        if directory and not (directory in self.script.files and self.script.files[directory].is_directory):
+            raise Fault(f"there is no directory {directory}")
+        self.script.files[path] = File(number, path, kind == "dir", int(uid), int(gid), int(mode, 8), label)
+
+    def read_task(self, number, words):
+        match_words(words[1:], TASK)
+        name, _, uid, _, groups, _, label = words[1:]
+        if name in self.script.tasks:
+            raise Fault(f"there is a task {name} already")
+        self.task = Task(number, name, int(uid), [int(group) for group in groups.split(",")], label, [])
+
+    def read_in_task(self, number, words):
+        if words == ["end"]:
+            self.script.tasks[self.task.name] = self.task
+            self.task = None
+            return
+        child = words[0][1:] if words[0].startswith("@") else None
+        if child is not None:
+            match_words([child], "NAME")
+        call = words[child is not None :]
+        match_call(call)
+        self.task.calls.append(Call(number, " ".join(words), child, call))
+
+    def read_in_steps(self, number, words):
+        if words == ["end"]:
+            self.part = "end"
+        elif words[0] in STEPS:
+            match_words(words[1:], "NAME")
+            self.script.steps.append(Step(number, words[0], words[1]))
+        else:
+            raise Fault(f"there is no step `{words[0]}`")
+
+    def read_part(self, number, words):
+        """Reads a line outside tasks and steps. The parts stand in this order."""
+        parts = ("boot", "file", "task", "steps")
+        if words[0] not in parts or self.part not in parts[: parts.index(words[0]) + 1]:
+            raise Fault(f"`{words[0]}` may not stand here")
+        self.part = words[0]
+        if words[0] == "steps":
+            match_words(words[1:], "")
+            self.script = self.script._replace(steps=[])
+        else:
+            {"boot": self.read_boot, "file": self.read_file, "task": self.read_task}[words[0]](number, words)
+
+    def read_line(self, number, line):
+        if re.search(r"[^\t -~]", line):
+            raise Fault("it has a byte that may not stand in a script")
+        words = line.split()
+        if not words or words[0].startswith("#"):
+            return
+        if self.task is not None:
+            self.read_in_task(number, words)
+        elif self.part == "steps":
+            self.read_in_steps(number, words)
+        else:
+            self.read_part(number, words)
+
+
+def script_of(text, name):
+    lines = text.split("\n")
+    if lines[-1] == "":
+        lines.pop()
+    reader = ScriptReader(name, lines)
+    for number, line in enumerate(lines, 1):
+        try:
+            reader.read_line(number, line)
+        except Fault as fault:
+            raise BadInput(name, number, fault) from None
+    if reader.task is not None or reader.part == "steps":
+        raise BadInput(name, len(lines) + 1, "the script ends inside a task or the steps")
+    return reader.script
+
+
+# Histories
+
+# The words of each kind of line, but for a reply and the elements of a source, which may hold any.
+EVENTS = {
+    "boot": r"boot (\S+) (?:\d|-)",
+    **dict.fromkeys(("enter", "leave", "stale"), rf"(?:enter|leave|stale) ({NAME})"),
+    "waits": rf"waits ({NAME}) \d+",
+    **dict.fromkeys(("done", "changed"), rf"(?:done|changed) ({NAME}) (\d+) (ok(?: .+)?|no E[A-Z]+ \S+ \S+(?: \d+)?)"),
+    "source": r"source (?:biba|mls) \S+ \S+",
+}
+DENIED = re.compile(r"no (E[A-Z]+) ([a-z_]+) (\S+) (\d+)")
+
+
+def event_of(line, number, name):
+    kind = line.partition(" ")[0]
+    found = re.fullmatch(EVENTS.get(kind, "(?!)"), line)
+    if found is None:
+        said = "macsim printed no history, but an error" if kind == "macsim:" else "no line of a history"
+        raise BadInput(name, number, f"{said}: {line}")
+    task, count, reply = (*found.groups(), None, None, None)[:3]
+    return Event(number, line, kind, task, count and int(count), reply)
+
+
+def events_of(text, name):
+    if text and not text.endswith("\n"):
+        raise BadInput(name, text.count("\n") + 1, "the history ends inside a line")
+    return [event_of(line, number, name) for number, line in enumerate(text.split("\n")[:-1], 1)]
+
+
+def denial_of(reply):
+    """What a reply says of a denial, or None where the call wasn't denied."""
+    found = re.fullmatch(DENIED, reply or "")
+    return found and Denial(found[1], found[2], found[3], int(found[4]))
+
+
+# Files and the program
+
+
+def text_of(path):
+    """The text of a file, or of the standard input for `-`. Every byte is a character of its own."""
+    try:
+        bytes_read = sys.stdin.buffer.read() if path == "-" else Path(path).read_bytes()
+    except OSError as error:
+        raise BadInput(path, None, error.strerror) from None
+    return bytes_read.decode("latin-1")
+
+
+def read_script(path):
+    return script_of(text_of(path), path)
+
+
+def read_history(path):
+    return events_of(text_of(path), "the history" if path == "-" else path)
+
+
+def run_program(program, word, text):
+    """What `macsim run` or `macsim step` prints of a script, where it ends with 0."""
+    try:
+        ran = subprocess.run([program, word], input=text.encode("latin-1"), stdout=subprocess.PIPE, check=False)
+    except OSError as error:
+        raise BadInput(program, None, error.strerror) from None
+    printed = ran.stdout.decode("latin-1")
+    if ran.returncode != 0:
+        raise BadInput(f"{program} {word}", None, f"status {ran.returncode}: {printed.strip() or 'nothing was printed'}")
+    return printed
