@@ -260,16 +260,20 @@ def text_of(path):
     try:
         bytes_read = sys.stdin.buffer.read() if path == "-" else Path(path).read_bytes()
     except OSError as error:
-        raise BadInput(path, None, error.strerror) from None
+        raise BadInput(name_of(path), None, error.strerror) from None
     return bytes_read.decode("latin-1")
 
 
+def name_of(path):
+    return "the standard input" if path == "-" else str(path)
+
+
 def read_script(path):
-    return script_of(text_of(path), path)
+    return script_of(text_of(path), name_of(path))
 
 
 def read_history(path):
-    return events_of(text_of(path), "the history" if path == "-" else path)
+    return events_of(text_of(path), name_of(path))
 
 
 def run_program(program, word, text):

@@ -1,0 +1,86 @@
+#!/bin/sh
+# Runs each script of examples/, and holds tools/flows to what is printed: the sources that its flows come to are the lines of sources. Then
+# what it draws and tells of one example, and that it says what is wrong with an input, and prints nothing of it. A line for each failure, then
+# a count.
+cd "$(dirname "$0")/.." || exit 1
+folder=$(mktemp -d) || exit 1
+trap 'rm -rf "$folder"' EXIT
+passed=0
+failed=0
+
+# Counts what was found, by its exit status, and says which it was where it failed.
+count() {
+    if [ "$1" -eq 0 ]; then
+        passed=$((passed + 1))
+    else
+        failed=$((failed + 1))
+        echo "$2"
+    fi
+}
+
+run() {
+    word=run
+    ! grep -q '^[[:blank:]]*steps[[:blank:]]*$' "$1" || word=step
+    ./macsim "$word" <"$1" >"$folder/history"
+}
+
+has_its_sources() {
+    run "$1" || return 1
+    grep '^source ' "$folder/history" >"$folder/printed"
+    tools/flows --sources "$1" "$folder/history" >"$folder/told" && cmp -s "$folder/told" "$folder/printed"
+}
+
+# Whether the tool prints what stands on the standard input, of the last history, which it reads from its own.
+prints() {
+    cat >"$folder/expected"
+    tools/flows "$@" <"$folder/history" >"$folder/told" && cmp -s "$folder/told" "$folder/expected"
+}
+
+# Whether the tool ends with a failure, prints nothing, and says this on the standard error.
+complains() {
+    said=$1
+    shift
+    ! tools/flows "$@" >"$folder/told" 2>"$folder/errors" && [ ! -s "$folder/told" ] && grep -qF -e "$said" "$folder/errors"
+}
+
+for script in examples/*.macsim; do
+    has_its_sources "$script"
+    count $? "$script: the flows come to other sources than are printed"
+done
+
+script=examples/19-through-a-process.macsim
+run "$script"
+prints "$script" <<'END'
+digraph flows {
+    "vnode:/" -> "proc:t" [label="vnode_lookup 6,7"];
+    "vnode:/inbox" -> "proc:t" [label="vnode_open_read 6\nvnode_read 6"];
+    "proc:t" -> "vnode:/report" [label="vnode_open_write 7\nvnode_write 7"];
+}
+END
+count $? "$script: another picture"
+prints --only --from vnode:/inbox "$script" <<'END'
+proc:t from vnode:/inbox by vnode_open_read, line 6: read /inbox
+vnode:/report from proc:t by vnode_open_write, line 7: write /report mail
+END
+count $? "$script: something else may hold what was in /inbox"
+prints --from proc:t "$script" <<'END'
+vnode:/report from proc:t by vnode_open_write, line 7: write /report mail
+END
+count $? "$script: something else may hold what was in t"
+
+complains 'there is no thing vnode:/none' --from vnode:/none "$script" "$folder/history"
+count $? "a thing that isn't there isn't told"
+complains "doesn't belong to this script" examples/02-write-then-read.macsim "$folder/history"
+count $? "the history of another script isn't told"
+sed 3d "$folder/history" >"$folder/part"
+complains 'part line 3: ' "$script" "$folder/part"
+count $? "a history that isn't whole isn't told"
+echo 'macsim: script line 2 fault 2 UnknownWord' >"$folder/fault"
+complains 'macsim printed no history' "$script" "$folder/fault"
+count $? "the text of an error isn't told"
+sed 's/^read/raed/' "$script" >"$folder/faulty"
+complains "faulty line 6: there is no call \`raed\`" "$folder/faulty" "$folder/history"
+count $? "a fault of the script isn't told"
+
+echo "$passed passed, $failed failed"
+[ "$failed" -eq 0 ]

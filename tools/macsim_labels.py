@@ -1,0 +1,118 @@
+"""Label texts, and what labels are when something comes or is relabelled, by docs/MANUAL.md (LABELS, RELABELLING). Nothing of it is proved."""
+import re
+from collections import namedtuple
+
+# An element is a tuple that stands in the order in which sources are listed: low, grades with their rising compartments, high, equal.
+LOW, HIGH, EQUAL = (0,), (2,), (3,)
+GRADE = 1
+NAMED = {"low": LOW, "lo": LOW, "high": HIGH, "hi": HIGH, "equal": EQUAL, "eq": EQUAL}
+
+# What mac_biba or mac_mls has in a label. Each part may be None: of a text what it doesn't give, and the range of what is no process.
+Levels = namedtuple("Levels", "effective range")
+
+BIBA, MLS, PARTITION = "mac_biba", "mac_mls", "mac_partition"
+MODULES = {"biba": BIBA, "mls": MLS, "partition": PARTITION}
+LATTICES = {BIBA: HIGH, MLS: LOW}
+
+
+def element_of(text):
+    if text in NAMED:
+        return NAMED[text]
+    if not re.fullmatch(r"\d+(:\d+(\+\d+)*)?", text):
+        raise ValueError(f"`{text}` is no element")
+    grade, _, compartments = text.partition(":")
+    numbers = {int(number) for number in compartments.split("+") if number}
+    return (GRADE, int(grade), *sorted(numbers))
+
+
+def levels_of(text):
+    found = re.fullmatch(r"([^()]*)(?:\(([^()-]*)-([^()-]*)\))?", text)
+    if not found or text == "":
+        raise ValueError(f"`{text}` is neither an element nor a range")
+    effective, bottom, top = found.groups()
+    return Levels(element_of(effective) if effective else None, (element_of(bottom), element_of(top)) if bottom is not None else None)
+
+
+def partition_of(text):
+    if text != "none" and not text.isdecimal():
+        raise ValueError(f"`{text}` is no partition")
+    return 0 if text == "none" else int(text)
+
+
+def request_of(text):
+    """What a label text gives, by module: Levels or a partition. The last element of a policy counts, and replaces the earlier ones whole."""
+    request = {}
+    for part in [] if text == "-" else text.split(","):
+        name, slash, value = part.partition("/")
+        if not slash or name not in MODULES:
+            raise ValueError(f"`{part}` is no element of a label")
+        request[MODULES[name]] = partition_of(value) if name == "partition" else levels_of(value)
+    return request
+
+
+# Labels, by slot
+
+
+def replaced(old, asked):
+    """The value with the parts that are asked in place of its own."""
+    if not isinstance(asked, Levels):
+        return asked or old
+    old = old or Levels(None, None)
+    return Levels(asked.effective or old.effective, asked.range or old.range)
+
+
+def labels_kind(module, kind):
+    return module in LATTICES or (module == PARTITION and kind in ("proc", "socket"))
+
+
+def boot_label(slots, kind, request):
+    """The label of what is there at boot, where the modules have these slots."""
+    label = {}
+    for module, slot in slots.items():
+        if module in LATTICES:
+            default = Levels(LATTICES[module], (LOW, HIGH) if kind == "proc" else None)
+            label[slot] = replaced(default, request.get(module, Levels(None, None)))
+        elif labels_kind(module, kind):
+            label[slot] = request.get(module, 0)
+    return label
+
+
+def new_label(slots, kind, maker):
+    """The label of what a process of the label `maker` makes."""
+    label = {}
+    for module, slot in slots.items():
+        value = maker.get(slot)
+        if module in LATTICES and value is not None:
+            label[slot] = value if kind == "proc" else Levels(value.effective, None)
+        elif labels_kind(module, kind):
+            label[slot] = value or 0
+    return label
+
+
+def relabelled(slots, label, request):
+    asked = {slots[module]: value for module, value in request.items() if module in slots}
+    changed = {slot: replaced(label.get(slot), value) for slot, value in asked.items()}
+    return {**label, **{slot: value for slot, value in changed.items() if value is not None}}
+
+
+# Texts
+
+
+def element_text(element):
+    for name in ("low", "high", "equal"):
+        if element == NAMED[name]:
+            return name
+    compartments = "+".join(map(str, element[2:]))
+    return f"{element[1]}:{compartments}" if compartments else str(element[1])
+
+
+def value_text(module, value):
+    """What a label says of a module's policy, in canonical text. A value is None where the slot is unset."""
+    if module == PARTITION:
+        return f"partition/{value or 'none'}"
+    name = module.removeprefix("mac_")
+    if value is None:
+        return f"no {name} element"
+    effective = element_text(value.effective) if value.effective else ""
+    ends = "-".join(map(element_text, value.range)) if value.range else None
+    return f"{name}/{effective}" + (f"({ends})" if ends else "")

@@ -1,0 +1,198 @@
+"""Follows a history of macsim through its script: which process made each call, its checks with their objects and labels, and what became of
+things. Nothing of it is proved. A history that doesn't fit the script is BadInput.
+"""
+from collections import namedtuple
+
+from macsim_checks import CREATING, RELABELS, checks_of, is_change
+from macsim_labels import BIBA, MLS, PARTITION, boot_label, new_label, relabelled, request_of
+from macsim_text import BadInput, denial_of
+from macsim_things import Credential, FileFacts, Thing, Things
+
+MODES = {"create": 0o644, "mkdir": 0o755}
+LABELLING = (BIBA, MLS, PARTITION)
+
+# A check with its subject and object, and with their labels and attributes as they were then. The object may be None.
+Check = namedtuple("Check", "operation subject object subject_label object_label file")
+# What a line of a history tells: its event; the call that it is about, or None; the process that made the call, or None; the checks up to
+# the last that was asked or moved; the denial, or None; the label slots, by module, as they were then; and what the call made, what it
+# relabelled and what went.
+Happening = namedtuple("Happening", "event call caller checks denial slots made relabelled gone")
+
+
+class Mismatch(Exception):
+    """What the history says can't be so by the script."""
+
+
+class Replay:
+    """The things of a script as its history goes on."""
+
+    def __init__(self, script):
+        self.script = script
+        self.made_calls = dict.fromkeys(script.tasks, 0)
+        self.slots, self.given = {}, 0
+        self.boots = [f"boot {boot.module} {self.register(boot.module)}" for boot in script.boots]
+        root_label = boot_label(self.slots, "vnode", {})
+        self.things = Things(Thing("vnode", "", root_label, 0, None, FileFacts(0, 0, 0o755, True)))
+        for file in script.files.values():
+            self.open_file(file)
+        for task in script.tasks.values():
+            self.open("proc", task, task.name, None, Credential(task.uid, task.groups))
+        # The label of each thing at the opening, before anything relabels it.
+        self.opening = {thing: thing.label for thing in self.things}
+
+    # The opening
+
+    def register(self, module):
+        """Registers a module, and returns its label slot as it is printed."""
+        if module not in LABELLING:
+            return "-"
+        self.slots = {**self.slots, module: self.given}
+        self.given += 1
+        return str(self.slots[module])
+
+    def open_file(self, file):
+        directory, _, name = file.path.rpartition("/")
+        facts = FileFacts(file.uid, file.gid, file.mode, file.is_directory)
+        self.open("vnode", file, name, self.things.walk(directory or "/").found, facts)
+
+    def open(self, kind, line, name, holder, facts):
+        try:
+            label = boot_label(self.slots, kind, request_of(line.label))
+        except ValueError as error:
+            raise BadInput(self.script.name, line.number, error) from None
+        self.things.add(Thing(kind, name, label, line.number, holder, facts))
+
+    # Calls
+
+    def next_call(self, task):
+        """The next call of a task, or None where it has made all."""
+        if task not in self.made_calls:
+            raise Mismatch(f"the script has no task {task}")
+        calls = self.script.tasks[task].calls
+        return calls[self.made_calls[task]] if self.made_calls[task] < len(calls) else None
+
+    def last_call(self, task):
+        made = self.made_calls.get(task, 0)
+        if made == 0:
+            raise Mismatch(f"task {task} made no call")
+        return self.script.tasks[task].calls[made - 1]
+
+    def seen(self, operation, subject, found):
+        file = found.facts if found is not None and found.kind == "vnode" else None
+        return Check(operation, subject, found, subject.label, found and found.label, file)
+
+    def asked_checks(self, call, caller, reply):
+        checks = [self.seen(*check) for check in checks_of(self.things, caller, call.words, reply)]
+        denial = denial_of(reply)
+        if denial is None:
+            return checks, None
+        number = denial.check
+        if not 0 < number <= len(checks) or checks[number - 1].operation != denial.operation:
+            raise Mismatch(f"check {number} of line {call.number} `{call.text}` isn't {denial.operation}")
+        return checks[:number], denial
+
+    def follow_call(self, event):
+        call = self.next_call(event.task)
+        if call is None or event.line != self.made_calls[event.task] + 1:
+            raise Mismatch(f"the next call of task {event.task} is not that of line {event.line} of it")
+        if (event.kind == "changed") != is_change(call.words):
+            raise Mismatch(f"line {call.number} `{call.text}` isn't `{event.kind}`")
+        self.made_calls[event.task] += 1
+        caller = self.things.named("proc", event.task if call.child is None else f"{event.task}.{call.child}")
+        checks, denial = self.asked_checks(call, caller, event.reply)
+        slots = self.slots
+        made, changed, gone = self.do(event, call, caller) if event.reply.startswith("ok") else (None, None, [])
+        return Happening(event, call, caller, checks, denial, slots, made, changed, gone)
+
+    # What a call changes where it is done: what it makes, what it relabels, and what goes
+
+    def do(self, event, call, caller):
+        name = call.words[0]
+        if caller is None:
+            raise Mismatch(f"line {call.number} `{call.text}`: the process that calls isn't there")
+        if name in RELABELS:
+            return None, self.relabel(call, caller), []
+        if name in CREATING or name in ("fork", "pipe", "socket"):
+            return self.make(event, call, caller), None, []
+        if name in ("exit", "unlink"):
+            return None, None, self.remove(call, caller)
+        if name == "chmod":
+            file = self.found(call, self.things.walk(call.words[1]).found)
+            file.facts = file.facts._replace(mode=int(call.words[2], 8))
+        if name == "kldload" and self.register(call.words[1]) != event.reply.removeprefix("ok slot "):
+            raise Mismatch(f"line {call.number} `{call.text}` gets another label slot")
+        if name == "kldunload":
+            self.slots = {module: slot for module, slot in self.slots.items() if module != call.words[1]}
+        return None, None, []
+
+    def found(self, call, thing):
+        if thing is None:
+            raise Mismatch(f"line {call.number} `{call.text}` is about what isn't there")
+        return thing
+
+    def target(self, call, caller):
+        """What a call relabels."""
+        kinds = {"setpipemac": "pipe", "setsockmac": "socket"}
+        if call.words[0] == "setpmac":
+            return caller
+        if call.words[0] == "setfmac":
+            return self.things.walk(call.words[2]).found
+        return self.things.named(kinds[call.words[0]], call.words[2])
+
+    def relabel(self, call, caller):
+        """The thing that is relabelled, and what is asked, by module."""
+        try:
+            request = request_of(call.words[RELABELS[call.words[0]]])
+        except ValueError as error:
+            raise Mismatch(f"line {call.number} `{call.text}`: {error}") from None
+        thing = self.found(call, self.target(call, caller))
+        thing.label = relabelled(self.slots, thing.label, request)
+        return thing, request
+
+    def make(self, event, call, caller):
+        name = call.words[1]
+        if call.words[0] in CREATING:
+            walk = self.things.walk(name)
+            holder, kind, name = self.found(call, walk.directory), "vnode", name.rpartition("/")[2]
+            facts = FileFacts(caller.facts.uid, holder.facts.gid, MODES[call.words[0]], call.words[0] == "mkdir")
+        elif call.words[0] == "fork":
+            holder, kind, name, facts = None, "proc", f"{event.task}.{name}", caller.facts
+        else:
+            holder, kind, facts = caller, call.words[0], None
+        thing = Thing(kind, name, new_label(self.slots, kind, caller.label), call.number, holder, facts)
+        if thing.key() in self.things.by_key:
+            raise Mismatch(f"line {call.number} `{call.text}`: {thing.title} is there already")
+        self.things.add(thing)
+        return thing
+
+    def remove(self, call, caller):
+        if call.words[0] == "exit":
+            gone = self.things.with_process(caller)
+        else:
+            gone = [self.found(call, self.things.walk(call.words[1]).found)]
+        for thing in gone:
+            self.things.remove(thing)
+        return gone
+
+    # Histories
+
+    def follow_event(self, event):
+        if event.kind in ("done", "changed"):
+            return self.follow_call(event)
+        call = None
+        if event.kind in ("enter", "stale", "waits"):
+            call = self.next_call(event.task)
+        elif event.kind == "leave":
+            call = self.last_call(event.task)
+        return Happening(event, call, None, [], None, self.slots, None, None, [])
+
+    def follow(self, events, name):
+        """What each line of the history tells, one after another."""
+        boots = [event.text for event in events if event.kind == "boot"]
+        if boots != self.boots or [event.kind for event in events[: len(boots)]] != ["boot"] * len(boots):
+            raise BadInput(name, None, "it doesn't begin with the boot lines of this script")
+        for event in events:
+            try:
+                yield self.follow_event(event)
+            except Mismatch as fault:
+                raise BadInput(name, event.number, f"it doesn't belong to this script: {fault}") from None
