@@ -27,7 +27,7 @@ run() {
 has_its_sources() {
     run "$1" || return 1
     grep '^source ' "$folder/history" >"$folder/printed"
-    tools/flows --sources "$1" "$folder/history" >"$folder/told" && cmp -s "$folder/told" "$folder/printed"
+    grep -v '^source ' "$folder/history" | tools/flows --sources "$1" >"$folder/told" && cmp -s "$folder/told" "$folder/printed"
 }
 
 # Whether the tool prints what stands on the standard input, of the last history, which it reads from its own.
@@ -72,6 +72,9 @@ complains 'there is no thing vnode:/none' --from vnode:/none "$script" "$folder/
 count $? "a thing that isn't there isn't told"
 complains "doesn't belong to this script" examples/02-write-then-read.macsim "$folder/history"
 count $? "the history of another script isn't told"
+sed '/^source/s/,3/,4/' "$folder/history" >"$folder/other"
+complains 'the flows come to other sources' "$script" "$folder/other"
+count $? "other sources aren't told"
 sed 3d "$folder/history" >"$folder/part"
 complains 'part line 3: ' "$script" "$folder/part"
 count $? "a history that isn't whole isn't told"

@@ -32,10 +32,28 @@ CREATING = ("create", "mkdir")
 WITHOUT_OBJECT = {"setpmac": ["cred_relabel"], "priv": ["priv"], "kldload": ["priv", "kld_load"], "kldunload": ["priv", "kld_unload"]}
 # The place of the label text among the words.
 RELABELS = {"setpmac": 1, "setfmac": 1, "setpipemac": 1, "setsockmac": 1}
+# What the reply to a call begins with that is done, where it isn't `ok` alone.
+PAYLOADS = {
+    **dict.fromkeys(("read", "pread", "recv"), "ok bytes"),
+    **dict.fromkeys(("getpmac", "getfmac"), "ok label"),
+    "stat": "ok stat",
+    "pstat": "ok size",
+    "readdir": "ok names",
+    "kldstat": "ok modules",
+    "kldload": "ok slot",
+    "ugidfw list": "ok rules",
+    "ugidfw add": "ok rule",
+}
 
 
 def is_change(words):
     return words[0] in ("kldload", "kldunload", "sysctl") or (words[0] == "ugidfw" and words[1] != "list")
+
+
+def is_reply_to(words, reply):
+    """Whether a reply is a refusal, or of the kind that such a call gets."""
+    name = " ".join(words[:2]) if words[0] == "ugidfw" else words[0]
+    return reply.startswith("no ") or " ".join(reply.split(" ")[:2]) == PAYLOADS.get(name, "ok")
 
 
 def asked_at_end(walk, words):

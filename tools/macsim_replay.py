@@ -3,7 +3,7 @@ things. Nothing of it is proved. A history that doesn't fit the script is BadInp
 """
 from collections import namedtuple
 
-from macsim_checks import CREATING, RELABELS, checks_of, is_change
+from macsim_checks import CREATING, RELABELS, checks_of, is_change, is_reply_to
 from macsim_labels import BIBA, MLS, PARTITION, boot_label, new_label, relabelled, request_of
 from macsim_text import BadInput, denial_of
 from macsim_things import Credential, FileFacts, Thing, Things
@@ -95,8 +95,8 @@ class Replay:
         call = self.next_call(event.task)
         if call is None or event.line != self.made_calls[event.task] + 1:
             raise Mismatch(f"the next call of task {event.task} is not that of line {event.line} of it")
-        if (event.kind == "changed") != is_change(call.words):
-            raise Mismatch(f"line {call.number} `{call.text}` isn't `{event.kind}`")
+        if (event.kind == "changed") != is_change(call.words) or not is_reply_to(call.words, event.reply):
+            raise Mismatch(f"line {call.number} `{call.text}` has no such line")
         self.made_calls[event.task] += 1
         caller = self.things.named("proc", event.task if call.child is None else f"{event.task}.{call.child}")
         checks, denial = self.asked_checks(call, caller, event.reply)
