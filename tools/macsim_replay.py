@@ -13,10 +13,10 @@ LABELLING = (BIBA, MLS, PARTITION)
 
 # A check with its subject and object, and with their labels and attributes as they were then. The object may be None.
 Check = namedtuple("Check", "operation subject object subject_label object_label file")
-# What a line of a history tells: its event; the call that it is about, or None; the process that made the call, or None; the checks up to
-# the last that was asked or moved; the denial, or None; the label slots, by module, as they were then; and what the call made, what it
-# relabelled and what went.
-Happening = namedtuple("Happening", "event call caller checks denial slots made relabelled gone")
+# What a line of a history tells: its event; the number of the line of the script that it is about, or None; the call, or None; the process
+# that made the call, or None; its checks, up to the one that was denied; the denial, or None; the label slots, by module, as they were
+# then; what the call made; and what it relabelled, with what was asked.
+Happening = namedtuple("Happening", "event line call caller checks denial slots made relabelled")
 
 
 class Mismatch(Exception):
@@ -101,21 +101,21 @@ class Replay:
         caller = self.things.named("proc", event.task if call.child is None else f"{event.task}.{call.child}")
         checks, denial = self.asked_checks(call, caller, event.reply)
         slots = self.slots
-        made, changed, gone = self.do(event, call, caller) if event.reply.startswith("ok") else (None, None, [])
-        return Happening(event, call, caller, checks, denial, slots, made, changed, gone)
+        made, changed = self.do(event, call, caller) if event.reply.startswith("ok") else (None, None)
+        return Happening(event, call.number, call, caller, checks, denial, slots, made, changed)
 
-    # What a call changes where it is done: what it makes, what it relabels, and what goes
+    # What a call changes where it is done. What it makes and what it relabels is returned
 
     def do(self, event, call, caller):
         name = call.words[0]
         if caller is None:
             raise Mismatch(f"line {call.number} `{call.text}`: the process that calls isn't there")
         if name in RELABELS:
-            return None, self.relabel(call, caller), []
+            return None, self.relabel(call, caller)
         if name in CREATING or name in ("fork", "pipe", "socket"):
-            return self.make(event, call, caller), None, []
+            return self.make(event, call, caller), None
         if name in ("exit", "unlink"):
-            return None, None, self.remove(call, caller)
+            self.remove(call, caller)
         if name == "chmod":
             file = self.found(call, self.things.walk(call.words[1]).found)
             file.facts = file.facts._replace(mode=int(call.words[2], 8))
@@ -123,7 +123,7 @@ class Replay:
             raise Mismatch(f"line {call.number} `{call.text}` gets another label slot")
         if name == "kldunload":
             self.slots = {module: slot for module, slot in self.slots.items() if module != call.words[1]}
-        return None, None, []
+        return None, None
 
     def found(self, call, thing):
         if thing is None:
@@ -172,25 +172,34 @@ class Replay:
             gone = [self.found(call, self.things.walk(call.words[1]).found)]
         for thing in gone:
             self.things.remove(thing)
-        return gone
 
     # Histories
+
+    def line_of(self, event):
+        """The number of the line of the script that another event is about. The root directory has none."""
+        if event.kind == "boot":
+            return next(boot.number for boot in self.script.boots if boot.module == event.text.split(" ")[1])
+        if event.kind == "source":
+            title = event.text.split(" ")[2]
+            number = next((thing.number for thing in self.things if thing.title == title), None)
+            if number is None:
+                raise Mismatch(f"there is no {title} at the end")
+            return number or None
+        call = self.last_call(event.task) if event.kind == "leave" else self.next_call(event.task)
+        if call is None:
+            raise Mismatch(f"task {event.task} made all its calls")
+        return call.number
 
     def follow_event(self, event):
         if event.kind in ("done", "changed"):
             return self.follow_call(event)
-        call = None
-        if event.kind in ("enter", "stale", "waits"):
-            call = self.next_call(event.task)
-        elif event.kind == "leave":
-            call = self.last_call(event.task)
-        return Happening(event, call, None, [], None, self.slots, None, None, [])
+        return Happening(event, self.line_of(event), None, None, [], None, self.slots, None, None)
 
     def follow(self, events, name):
         """What each line of the history tells, one after another."""
         boots = [event.text for event in events if event.kind == "boot"]
         if boots != self.boots or [event.kind for event in events[: len(boots)]] != ["boot"] * len(boots):
-            raise BadInput(name, None, "it doesn't begin with the boot lines of this script")
+            raise BadInput(name, 1, "it doesn't begin with the boot lines of this script")
         for event in events:
             try:
                 yield self.follow_event(event)

@@ -1,0 +1,116 @@
+#!/bin/sh
+# Runs each script of examples/, and holds tools/annotate to what is printed: without what it adds its text is the history, and for each denial
+# the number and the operation of the last of the checks that it derives are those of the reply, and a cause of the manual stands below.
+# Then the whole text of one example, and that it says what is wrong with an input, and prints nothing of it. A line for each failure, then a
+# count.
+cd "$(dirname "$0")/.." || exit 1
+folder=$(mktemp -d) || exit 1
+trap 'rm -rf "$folder"' EXIT
+passed=0
+failed=0
+
+# Counts what was found, by its exit status, and says which it was where it failed.
+count() {
+    if [ "$1" -eq 0 ]; then
+        passed=$((passed + 1))
+    else
+        failed=$((failed + 1))
+        echo "$2"
+    fi
+}
+
+run() {
+    word=run
+    ! grep -q '^[[:blank:]]*steps[[:blank:]]*$' "$1" || word=step
+    ./macsim "$word" <"$1" >"$folder/history"
+}
+
+# Whether below each denial stand its checks, as many as its number says and the last with its operation, and a cause. Prints how many.
+derives_the_denials() {
+    awk '
+        function finish() { if (open && !(derived && explained)) { print "not explained: " denial; bad = 1 } }
+        /^[a-z]/ {
+            finish()
+            open = $4 == "no" && $8 ~ /^[0-9]+$/
+            denial = $1 " " $2 " " $3
+            operation = $6
+            check = $8
+            derived = explained = 0
+            denials += open
+        }
+        /^    checks: / {
+            number = split(substr($0, 13), checks, ", ")
+            split(checks[number], last, " ")
+            derived = number == check && last[1] == check && last[2] == operation
+        }
+        /^    usual cause: ./ { explained = 1 }
+        END { finish(); print denials + 0; exit bad }'
+}
+
+is_explained() {
+    run "$1" && tools/annotate "$1" "$folder/history" >"$folder/told" || return 1
+    sed 's/    .*//; /^$/d' "$folder/told" | cmp -s - "$folder/history" || return 1
+    found=$(derives_the_denials <"$folder/told") || return 1
+    [ "$found" -eq "$(grep -c ' no E.* [0-9][0-9]*$' "$folder/history")" ] || return 1
+    denials=$((denials + found))
+}
+
+# Whether the tool prints what stands on the standard input, but for what the manual says of the denials.
+prints() {
+    cat >"$folder/expected"
+    tools/annotate "$@" "$folder/history" >"$folder/told" && grep -v '^    usual ' "$folder/told" | cmp -s - "$folder/expected"
+}
+
+# Whether the tool ends with a failure, prints nothing, and says this on the standard error.
+complains() {
+    said=$1
+    shift
+    ! tools/annotate "$@" >"$folder/told" 2>"$folder/errors" && [ ! -s "$folder/told" ] && grep -qF -e "$said" "$folder/errors"
+}
+
+denials=0
+for script in examples/*.macsim; do
+    is_explained "$script"
+    count $? "$script: a line isn't as in the history, or a denial isn't derived"
+done
+
+script=examples/01-plainest-denial.macsim
+run "$script"
+prints "$script" <<'END'
+boot mac_biba 0    # line 2: boot mac_biba
+enter t    # line 5: read /a
+done t 1 no EACCES vnode_open_read mac_biba 2    # line 5: read /a
+    checks: 1 vnode_lookup vnode:/, 2 vnode_open_read vnode:/a
+    subject: proc:t biba/high(low-high)
+    object: vnode:/a biba/low
+leave t    # line 5: read /a
+source biba vnode:/ high
+source biba vnode:/a low    # line 3: file /a reg uid 0 gid 0 mode 644 label biba/low text hi
+source biba proc:t high    # line 4: task t uid 0 gid 0 label biba/high
+END
+count $? "$script: another text"
+
+cp "$folder/history" "$folder/whole"
+grep ' no E' "$folder/whole" >"$folder/history"
+complains "line 1: it doesn't begin with the boot lines" "$script" "$folder/history"
+count $? "a part of a history isn't told"
+prints --part "$script" <<'END'
+done t 1 no EACCES vnode_open_read mac_biba 2    # line 5: read /a
+    checks: unknown
+    subject: unknown
+    object: unknown
+END
+count $? "$script: another text of a part"
+
+sed 's/vnode_open_read mac_biba 2/vnode_lookup mac_biba 2/' "$folder/whole" >"$folder/other"
+complains "other line 3: it doesn't belong to this script: check 2 of line 5 \`read /a\` isn't vnode_lookup" "$script" "$folder/other"
+count $? "a check that can't be isn't told"
+echo 'macsim: script line 2 fault 2 UnknownWord' >"$folder/fault"
+complains 'macsim printed no history' "$script" "$folder/fault"
+count $? "the text of an error isn't told"
+sed 's/^read/raed/' "$script" >"$folder/faulty"
+complains "faulty line 5: there is no call \`raed\`" "$folder/faulty" "$folder/whole"
+count $? "a fault of the script isn't told"
+
+echo "$denials denials; $passed passed, $failed failed"
+[ "$failed" -eq 0 ] && [ "$denials" -gt 0 ]
