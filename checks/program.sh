@@ -1,9 +1,10 @@
 #!/bin/sh
 # Runs the program with words and inputs at their edges, since `main` has no contract: of each run is wanted its exit status, its whole
-# standard output, and nothing on the standard error. A line for each failure, then a count.
+# standard output, and nothing on the standard error. A line for each failure, then a count. What ./macsim adds is for checks/wrapper.sh.
 cd "$(dirname "$0")/.." || exit 1
 folder=$(mktemp -d) || exit 1
 trap 'rm -rf "$folder"' EXIT
+program=crates/macsim/out/macsim
 script=examples/01-plainest-denial.macsim
 history=${script%.macsim}.out
 most=1048576
@@ -29,19 +30,19 @@ text() {
 ends() {
     status=$1 input=$2 output=$3
     shift 3
-    ./macsim "$@" <"$input" >"$folder/printed" 2>"$folder/told"
+    "$program" "$@" <"$input" >"$folder/printed" 2>"$folder/told"
     [ "$?" -eq "$status" ] && cmp -s "$folder/printed" "$output" && [ ! -s "$folder/told" ]
 }
 
 # Whether a run with these words leaves the whole input to who reads next.
 reads_nothing() {
-    { ./macsim "$@" >"$folder/printed" 2>&1; cat >"$folder/left"; } <"$script"
+    { "$program" "$@" >"$folder/printed" 2>&1; cat >"$folder/left"; } <"$script"
     cmp -s "$folder/left" "$script"
 }
 
 # Whether a run over the script, with a device that takes nothing, tells so by its status.
 fails_to_write() {
-    ./macsim run <"$script" >/dev/full 2>"$folder/told"
+    "$program" run <"$script" >/dev/full 2>"$folder/told"
     [ "$?" -eq 5 ] && [ ! -s "$folder/told" ]
 }
 
@@ -62,7 +63,7 @@ check_usage() {
     check "words: $*" ends 2 "$script" "$folder/usage" "$@"
 }
 
-# The program is there before the first run that counts.
+# The program is built before the first run that counts.
 ./macsim </dev/null >"$folder/printed" 2>&1
 
 text usage 'macsim: usage: run | step | gen N T'
