@@ -1,6 +1,19 @@
-# Prints a steps part that makes a history again: behind the history's script, with `macsim step`, it gives the same lines.
-BEGIN { print "steps" }
-$1 == "enter" || $1 == "leave" { print $1, $2 }
-$1 == "done" { print "plan", $2; print "done", $2 }
-$1 == "changed" { print "change", $2 }
-END { print "end" }
+# Prints a steps part that makes the history of a `run` again: behind the history's script, with `macsim step`, it gives the same lines. What
+# is no such history, as the fault of a script, is told on the standard error, with status 1, and nothing is printed.
+function stop(why) {
+    print why > "/dev/stderr"
+    failed = 1
+    exit 1
+}
+/^macsim:/ { stop($0) }
+$1 ~ /^(waits|stale)$/ { stop("steps.awk: line " NR " is of macsim step, whose script has its steps: " $0) }
+$1 !~ /^(boot|enter|done|leave|changed|source)$/ { stop("steps.awk: line " NR " is none of a history: " $0) }
+$1 == "enter" || $1 == "leave" { step[++count] = $1 " " $2 }
+$1 == "done" { step[++count] = "plan " $2 "\ndone " $2 }
+$1 == "changed" { step[++count] = "change " $2 }
+END {
+    if (failed) exit 1
+    print "steps"
+    for (i = 1; i <= count; i++) print step[i]
+    print "end"
+}
