@@ -1,11 +1,12 @@
 #!/bin/sh
-# Runs each script of examples/, and compares what is printed with the .out file beside it; and a picture of its sources with the .dot
-# file, where there is one. A script with steps is run by them, and its text is always the same. Without them the text of a script with several
-# tasks depends on their order: it is run several times, and of each run is compared what holds in every order. A line for each failure, then a
-# count.
+# Runs each script of examples/, and compares what is printed with the .out file beside it; a picture of its sources with the .dot file, where
+# there is one; and the replies with the comments `#=` in it, by tools/expect. Each script has an .out file or such comments. A script with steps
+# is run by them, and its text is always the same. Without them the text of a script with several tasks depends on their order: it is run several
+# times, and of each run is compared what holds in every order. A line for each failure, then a count.
 cd "$(dirname "$0")/.." || exit 1
 printed=$(mktemp) && told=$(mktemp) || exit 1
 trap 'rm -f "$printed" "$told"' EXIT
+expects='^[[:blank:]]*#='
 passed=0
 failed=0
 
@@ -58,17 +59,32 @@ is_drawn() {
     [ ! -e "${1%.macsim}.dot" ] || awk -f examples/sources.awk "$printed" | cmp -s - "${1%.macsim}.dot"
 }
 
-for script in examples/*.macsim; do
-    good=yes
+# Whether a script with an .out file prints what is there, in each of several runs where they may differ.
+is_as_printed() {
     for run in 1 2 3 4 5; do
-        is_as_expected "$script" && is_drawn "$script" || good=
-        ! is_settled "$script" || break
+        is_as_expected "$1" && is_drawn "$1" || return 1
+        ! is_settled "$1" || return 0
     done
-    if [ -n "$good" ]; then
+}
+
+is_as_told() {
+    tools/expect "$1" >"$told" 2>&1 || { cat "$told"; return 1; }
+}
+
+has_one() {
+    [ -e "${1%.macsim}.out" ] || grep -q "$expects" "$1"
+}
+
+for script in examples/*.macsim; do
+    why=
+    has_one "$script" || why="there is neither ${script%.macsim}.out nor a comment #="
+    [ ! -e "${script%.macsim}.out" ] || is_as_printed "$script" || why="the output is not as in ${script%.macsim}.out"
+    ! grep -q "$expects" "$script" || is_as_told "$script" || why="the replies are not as the comments #= tell"
+    if [ -z "$why" ]; then
         passed=$((passed + 1))
     else
         failed=$((failed + 1))
-        echo "$script: the output is not as in ${script%.macsim}.out"
+        echo "$script: $why"
     fi
 done
 echo "$passed passed, $failed failed"
