@@ -1,0 +1,51 @@
+#!/bin/sh
+# Tries the lines of docs/ERRORS.md, "Lines of the shell", in the script that is told there: those of the first column have the fault or the
+# reply of the second, and those of the last are replied to with ok. A line for each that doesn't, then a count.
+cd "$(dirname "$0")/.." || exit 1
+folder=$(mktemp -d) || exit 1
+trap 'rm -rf "$folder"' EXIT
+passed=0
+failed=0
+
+# What is printed of a task with the lines of a file.
+replies() {
+    {
+        printf 'boot mac_biba\nboot mac_partition\nboot mac_bsdextended\n'
+        printf 'file /a reg uid 0 gid 0 mode 644 label -\nfile /d dir uid 0 gid 0 mode 755 label -\ntask t uid 0 gid 0 label -\n'
+        cat "$1"
+        printf 'end\n'
+    } | ./macsim run 2>"$folder/told" | grep -E '^(macsim:|done|changed) '
+}
+
+# Whether one line is printed, which ends with the text.
+has_ending() {
+    [ "$(replies "$1" | sed 's/^macsim: script line 7 //; s/^[a-z]* t 1 //')" = "$2" ]
+}
+
+are_ok() {
+    replies "$1" >"$folder/replies"
+    [ "$(grep -c ' t [0-9]* ok' "$folder/replies")" -eq "$(wc -l <"$1")" ] && ! grep -qv ' t [0-9]* ok' "$folder/replies"
+}
+
+check() {
+    case=$1
+    shift
+    if "$@"; then
+        passed=$((passed + 1))
+    else
+        failed=$((failed + 1))
+        echo "docs/ERRORS.md: not so: $case"
+    fi
+}
+
+sed -n '/^### Lines of the shell/,/^\*\*/s/^| `//p' docs/ERRORS.md >"$folder/rows"
+while IFS= read -r row; do
+    printf '%s\n' "${row%%\` | *}" >"$folder/pasted"
+    rest=${row#*\` | }
+    last=${row##* | \`}
+    printf '%s\n' "${last%\` |}" | sed 's/`, `/\n/g' >"$folder/corrected"
+    check "$(cat "$folder/pasted")" has_ending "$folder/pasted" "${rest%% | *}"
+    check "$(cat "$folder/corrected")" are_ok "$folder/corrected"
+done <"$folder/rows"
+echo "$passed passed, $failed failed"
+[ "$failed" -eq 0 ] && [ "$passed" -gt 0 ]
