@@ -15,7 +15,7 @@ pub use gate::{Gate, OpenGate};
 pub use memory::{MemSink, MemSource};
 pub use sink::Sink;
 pub use source::{Failed, Source};
-pub use standard::{StdSink, StdSource};
+pub use standard::{KnownSink, StdSink, StdSource};
 pub use sure::{SureSink, SureSource};
 
 #[cfg(test)]
