@@ -14,3 +14,4 @@ mod Listed
 mod Labelled
 mod Openings
 pub mod Runs
+pub mod WholeText
