@@ -249,7 +249,7 @@ class SpecFile:
         if MARKS.match(line):
             current = Definition(line, number, above)
             self.definitions[current.name] = current
-        elif current and (line.startswith((" ", "unfolding ")) or is_clause_of(current.name, line)):
+        elif current and (line.startswith((" ", "}", "unfolding ")) or is_clause_of(current.name, line)):
             current.add(line, above)
         else:
             raise Unreadable(f"{self.crate} {self.file} line {number}: {line}")
