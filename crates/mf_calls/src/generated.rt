@@ -1,13 +1,15 @@
 //! The script of a generated load: tasks that each work in a directory of their own, with lines that are drawn from a
 //! sequence of numbers.
-ghost use Rattle.std.specs.Prelude.{◌≡◌, ◌<◌, ◌≤◌, IfOk, codes};
+ghost use Rattle.std.specs.Prelude.{◌≡◌, ◌<◌, ◌≤◌, [], ◌∷◌, IfOk, codes};
+ghost use Rattle.mf_errno.specs.declared.module.Module.TheVariants.{Biba};
 ghost use Rattle.mf_names.specs.Paths.{HasNoSlash};
 ghost use Rattle.mf_calls.specs.declared.limits.TheConstants.{LINE_LIMIT, TASK_LIMIT};
+ghost use Rattle.mf_calls.specs.declared.script.Call.TheVariants as calls;
 ghost use Rattle.mf_calls.specs.WellFormed.{IsWellFormed};
 ghost use Rattle.mf_calls.specs.Generated.{next_number, drawn, call_of, load_lines, load_directory, load_file, load_files, load_cred, load_task, load_tasks, asked, plain_grade, task_grade, task_name, file_name, scratch_name, directory_path, path_in, generated};
 
 use crate::script::{Call, FileLine, Line, Script, Task};
-use crate::{DIRECTORY_MODE, FILE_MODE, SCRIPT_LIMIT};
+use crate::{DIRECTORY_MODE, FILE_MODE};
 use mf_cred::{Cred, FileView};
 use mf_elem::{Comps, Elem, RangeLabel, Request};
 use mf_errno::Module;
@@ -23,8 +25,7 @@ pub fn generate(alloc: Global, lines: u32, tasks: u32) -> Result<Script, AllocEr
     ensures value { IfOk result (λ s. s ≡ generated lines tasks) }
     ensures formed { IfOk result (λ s. IsWellFormed s) }
 {
-    let mut boots = Listing::new(alloc);
-    boots.push(Module::Biba)?;
+    let boots = load_boots(alloc)?;
     let files = load_files(alloc, tasks)?;
     let tasks = load_tasks(alloc, lines, tasks)?;
     Ok(Script {
@@ -33,6 +34,15 @@ pub fn generate(alloc: Global, lines: u32, tasks: u32) -> Result<Script, AllocEr
         tasks,
         steps: Listing::new(alloc),
     })
+}
+
+/// The modules: mac_biba alone.
+fn load_boots(alloc: Global) -> Result<Listing<Module>, AllocError>
+    ensures { IfOk result (λ boots. boots ≡ Biba ∷ []) }
+{
+    let mut boots = Listing::new(alloc);
+    boots.push(Module::Biba)?;
+    Ok(boots)
 }
 
 /// The directory and the file of each task.
@@ -171,39 +181,22 @@ fn load_call(alloc: Global, task: u32, number: u64) -> Result<Call, AllocError>
     let drawn = number / 65536;
     let scratch = drawn / 6 % 4;
     match drawn % 6 {
-        0 => {
-            let path = file_path(alloc, task)?;
-            let text = one_letter(alloc)?;
-            Ok(Call::Write(path, text))
-        }
-        1 => {
-            let path = file_path(alloc, task)?;
-            Ok(Call::Read(path))
-        }
-        2 => {
-            let path = file_path(alloc, task)?;
-            Ok(Call::Stat(path))
-        }
-        3 => {
-            let path = directory_path(alloc, task)?;
-            Ok(Call::Readdir(path))
-        }
-        4 => {
-            let path = scratch_path(alloc, task, scratch)?;
-            Ok(Call::Create(path))
-        }
-        _ => {
-            let path = scratch_path(alloc, task, scratch)?;
-            Ok(Call::Unlink(path))
-        }
+        0 => load_write(alloc, task),
+        1 => Ok(Call::Read(file_path(alloc, task)?)),
+        2 => Ok(Call::Stat(file_path(alloc, task)?)),
+        3 => Ok(Call::Readdir(directory_path(alloc, task)?)),
+        4 => Ok(Call::Create(scratch_path(alloc, task, scratch)?)),
+        _ => Ok(Call::Unlink(scratch_path(alloc, task, scratch)?)),
     }
 }
 
-/// The text that a line writes.
-fn one_letter(alloc: Global) -> Result<Bytes<SCRIPT_LIMIT>, AllocError>
-    ensures { IfOk result (λ text. text ≡ codes "x") }
+/// The call that appends one letter to the task's file.
+fn load_write(alloc: Global, task: u32) -> Result<Call, AllocError>
+    ensures { IfOk result (λ call. call ≡ calls.Write (path_in task file_name) (codes "x")) }
 {
-    Bytes::copy_of(alloc, b"x")
+    let path = file_path(alloc, task)?;
+    let text = Bytes::copy_of(alloc, b"x")?;
+    Ok(Call::Write(path, text))
 }
 
 /// The path of a task's directory.

@@ -156,7 +156,7 @@ pub struct FileLine {
 }
 
 /// What a step does for its task's next call: it enters, makes the plan, commits or leaves, or makes a change.
-#[derive(Clone, Copy, Debug, PartialEq, Eq)]
+#[derive(Clone, Copy, PartialEq, Eq)]
 pub enum StepKind {
     Enter,
     Plan,

@@ -13,7 +13,7 @@ use mf_errno::Module;
 use mf_item::Kind;
 
 /// Where a new entity comes from.
-#[derive(Clone, Copy, Debug)]
+#[derive(Clone, Copy)]
 pub enum Origin {
     /// The script, which asks this for it.
     Boot(Request),

@@ -8,7 +8,7 @@ use mf_errno::Module;
 
 /// The flags that a module is registered with, as the kernel's `MAC_POLICY_SET` takes them: NOTLATE, that it can't be loaded
 /// once boot has ended, and UNLOADOK, that it may be unloaded.
-#[derive(Clone, Copy, Debug, PartialEq, Eq)]
+#[derive(Clone, Copy)]
 pub struct LoadFlags(u8);
 
 bitflag_items! {

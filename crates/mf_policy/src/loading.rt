@@ -10,7 +10,7 @@ use mf_elem::SLOTS;
 use mf_errno::{Errno, Module};
 
 /// Why a module can't be loaded: the first of these that applies.
-#[derive(Clone, Copy, Debug, PartialEq, Eq)]
+#[derive(Clone, Copy)]
 pub enum LoadFault {
     /// Boot has ended, and the module has the flag NOTLATE.
     NotLate,
@@ -21,7 +21,7 @@ pub enum LoadFault {
 }
 
 /// Why a module can't be unloaded: the first of these that applies.
-#[derive(Clone, Copy, Debug, PartialEq, Eq)]
+#[derive(Clone, Copy)]
 pub enum UnloadFault {
     /// The module isn't listed.
     NotLoaded,

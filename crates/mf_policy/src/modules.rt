@@ -7,7 +7,7 @@ use mf_errno::Module;
 use mf_item::Kind;
 
 /// What is true of a module.
-#[derive(Clone, Copy, Debug)]
+#[derive(Clone, Copy)]
 pub struct Facts {
     /// Whether the module can't be loaded once boot has ended.
     pub not_late: bool,
@@ -18,7 +18,7 @@ pub struct Facts {
 }
 
 /// What the labels of a module are.
-#[derive(Clone, Copy, Debug)]
+#[derive(Clone, Copy)]
 pub enum Labelling {
     /// It labels nothing, and has no label slot.
     Nothing,

@@ -14,7 +14,7 @@ use mf_item::CheckOp;
 use mf_rule::{ADMINISTER, EXECUTE, READ, STAT, WRITE};
 
 /// What Biba and MLS test.
-#[derive(Clone, Copy, Debug, PartialEq, Eq)]
+#[derive(Clone, Copy, PartialEq, Eq)]
 pub enum Test {
     /// The subject may observe the object, else this error.
     Observe(Errno),
@@ -35,7 +35,7 @@ pub enum Test {
 }
 
 /// What the partition policy tests.
-#[derive(Clone, Copy, Debug, PartialEq, Eq)]
+#[derive(Clone, Copy)]
 pub enum PartitionTest {
     /// The subject's partition agrees with the object's, else this error.
     Agree(Errno),
@@ -46,7 +46,7 @@ pub enum PartitionTest {
 }
 
 /// What rules about files are asked.
-#[derive(Clone, Copy, Debug, PartialEq, Eq)]
+#[derive(Clone, Copy, PartialEq, Eq)]
 pub enum Letters {
     /// Whether they give all of these letters of ugidfw(8), of which there may be none.
     Asked(u8),
@@ -55,7 +55,7 @@ pub enum Letters {
 }
 
 /// Which way information moves where the operation is allowed.
-#[derive(Clone, Copy, Debug, PartialEq, Eq)]
+#[derive(Clone, Copy, PartialEq, Eq)]
 pub enum Movement {
     Still,
     ToSubject,
@@ -64,7 +64,7 @@ pub enum Movement {
 }
 
 /// A row of the table.
-#[derive(Clone, Copy, Debug, PartialEq, Eq)]
+#[derive(Clone, Copy)]
 pub struct Row {
     pub test: Test,
     pub partition: PartitionTest,

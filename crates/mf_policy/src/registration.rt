@@ -8,7 +8,7 @@ pub const MOST_LISTED: usize = 8;
 
 /// How a policy is registered: its module, the number of its label slot, below `SLOTS`, where it has one, and whether it is
 /// in the static list, which it can't leave.
-#[derive(Clone, Copy, Debug, PartialEq, Eq)]
+#[derive(Clone, Copy, PartialEq, Eq)]
 pub struct Registration {
     pub module: Module,
     pub slot: Option<u8>,

@@ -7,5 +7,5 @@ use Rattle.mf_calls.proofs.generated.generate.Goals as goal
 pub returns-clause-formed : goal.returns-clause-formed
 returns-clause-formed c =
     subst IsWellFormed
-    (sym (generated_is c.args.lines c.args.tasks c.push.new.self c.in_ok-files.files c.in_ok-tasks.tasks c.new.result (cc (c.in_ok-push.ensures.ok, c.new-boots.ensures)) c.in_ok-files.ensures c.in_ok-tasks.ensures c.new.ensures))
+    (sym (generated_is c.args.lines c.args.tasks c.in_ok-boots.boots c.in_ok-files.files c.in_ok-tasks.tasks c.new.result c.in_ok-boots.ensures c.in_ok-files.ensures c.in_ok-tasks.ensures c.new.ensures))
     (generated_formed c.args.lines c.args.tasks c.requires.lines c.requires.tasks)
