@@ -2,6 +2,7 @@ pub mod Doing
 pub mod Ended
 pub mod Found
 pub mod Items
+pub mod LastLabel
 pub mod Loading
 pub mod Names
 pub mod Outline

@@ -1,7 +1,8 @@
 //! The label text that was read last.
-ghost use Rattle.std.specs.Prelude.{◌≡◌, ◌↔◌, ◌≤◌, length, IfSome, IsTrue};
+ghost use Rattle.std.specs.Prelude.{◌≡◌, ◌↔◌, ◌≤◌, [], length, IfSome, IsSome, IsTrue};
 ghost use Rattle.std.specs.Result.{result_ok};
 ghost use Rattle.mf_labeltext.specs.Reading.{request_in};
+ghost use Rattle.mf_plan.specs.LastLabel as spec;
 
 use mf_calls::Call;
 use mf_cred::ArrayVec;
@@ -13,7 +14,7 @@ use std::marker::Model;
 const MOST_KEPT: usize = 64;
 
 /// The label text that was read last, with what it asks for. The plan of a relabel is made more than once, with one text: that is
-/// compared then, and not read again. Contracts see nothing of it.
+/// compared then, and not read again. Contracts see the text, which is empty at first: that can't be read either.
 #[derive(Drop)]
 pub struct LastLabel {
     text: ArrayVec<u8, MOST_KEPT>,
@@ -21,20 +22,22 @@ pub struct LastLabel {
 }
 
 impl Model for LastLabel {
-    ghost use Rattle.std.specs.Prelude.{◌≡◌, ⊤};
+    ghost use Rattle.std.specs.Prelude.{◌≡◌, ℕ, List};
     ghost use Rattle.std.specs.Result.{result_ok};
     ghost use Rattle.mf_labeltext.specs.Reading.{request_in};
 
-    ghost Value = { Unit {0} };
+    ghost Value = { List ℕ };
 
-    ghost view = { λ l. tt };
+    ghost view = { λ l. l.text };
 
     ghost invariant = { λ l. l.request ≡ result_ok (request_in l.text) };
 }
 
 impl LastLabel {
     /// No text yet.
-    pub fn new() -> LastLabel {
+    pub fn new() -> LastLabel
+        ensures { result ≡ [] }
+    {
         LastLabel {
             text: ArrayVec::new(),
             request: None,
@@ -42,7 +45,9 @@ impl LastLabel {
     }
 
     /// Keeps the label text of the call, where it has one. One that is too long isn't kept.
-    pub fn keep(&mut self, call: &Call) {
+    pub fn keep(&mut self, call: &Call)
+        ensures { self.new ≡ spec.kept_after self.old call.now }
+    {
         match call {
             Call::Setpmac(label)
             | Call::Setfmac(label, _)
@@ -52,7 +57,9 @@ impl LastLabel {
         }
     }
 
-    fn keep_text(&mut self, text: &str) {
+    fn keep_text(&mut self, text: &str)
+        ensures { self.new ≡ spec.kept_with self.old text.now }
+    {
         if text.len() <= MOST_KEPT && self.kept(text).is_none() {
             self.replace(text);
         }
@@ -61,6 +68,7 @@ impl LastLabel {
     /// Keeps this text in place of the last one.
     fn replace(&mut self, text: &str)
         requires { length text.now ≤ MOST_KEPT }
+        ensures { self.new ≡ text.now }
     {
         self.text = copy_of(text.as_bytes());
         self.request = read_request(text).ok();
@@ -68,7 +76,8 @@ impl LastLabel {
 
     /// What the label text asks for, if it is the one that was kept: `Some(&None)` where that can't be read.
     pub(crate) fn kept(&self, text: &str) -> Option<&Option<Request>>
-        ensures { IfSome result (λ read. read.now ≡ result_ok (request_in text.now)) }
+        ensures read { IfSome result (λ read. read.now ≡ result_ok (request_in text.now)) }
+        ensures found { IsSome result ↔ (self.now ≡ text.now) }
     {
         if is_same(self.text.as_slice(), text.as_bytes()) {
             Some(&self.request)

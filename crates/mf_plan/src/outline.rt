@@ -14,7 +14,7 @@ use mf_item::CheckOp;
 use mf_objects::{Id, Objects};
 
 /// A check that names what it is about, and copies no view of it.
-#[derive(Clone, Copy, Debug, PartialEq, Eq)]
+#[derive(Clone, Copy)]
 pub struct Check {
     pub op: CheckOp,
     /// The process that calls, whose credential counts.

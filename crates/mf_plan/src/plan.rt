@@ -20,7 +20,7 @@ pub const MOST_CHECKS: usize = 12;
 pub const MOST_SUBJECTS: usize = MOST_CHECKS + 1;
 
 /// How a call ends where no check is denied.
-#[derive(Clone, Copy, Debug, PartialEq, Eq)]
+#[derive(Clone, Copy, PartialEq, Eq)]
 pub enum Tail {
     /// The call is done.
     Do,

@@ -13,14 +13,14 @@ use mf_rule::RuleList;
 use std::alloc::{AllocError, Global};
 
 /// A loaded module, and the number of its label slot where it has one.
-#[derive(Clone, Copy, Debug, Default, PartialEq, Eq)]
+#[derive(Clone, Copy, Default)]
 pub struct Loaded {
     pub module: Module,
     pub slot: Option<u8>,
 }
 
 /// What the label of an entity says of one policy.
-#[derive(Clone, Copy, Debug, Default, PartialEq, Eq)]
+#[derive(Clone, Copy, Default)]
 pub struct LabelPart {
     pub module: Module,
     pub value: LabelValue,

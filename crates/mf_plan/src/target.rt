@@ -8,7 +8,7 @@ use mf_errno::Errno;
 use mf_objects::{Id, Objects};
 
 /// Where a path leads.
-#[derive(Clone, Copy, Debug, PartialEq, Eq)]
+#[derive(Clone, Copy)]
 pub enum Target {
     /// To the root directory.
     Root,
