@@ -195,6 +195,12 @@ class Replay:
             return self.follow_call(event)
         return Happening(event, self.line_of(event), None, None, [], None, self.slots, None, None)
 
+    def is_whole(self, events):
+        """Whether all calls were made, or all steps taken."""
+        made = all(self.made_calls[task.name] == len(task.calls) for task in self.script.tasks.values())
+        taken = sum(event.kind not in ("boot", "source") for event in events)
+        return made or taken == sum(step.kind != "plan" for step in self.script.steps or [])
+
     def follow(self, events, name):
         """What each line of the history tells, one after another."""
         boots = [event.text for event in events if event.kind == "boot"]
@@ -205,3 +211,5 @@ class Replay:
                 yield self.follow_event(event)
             except Mismatch as fault:
                 raise BadInput(name, event.number, f"it doesn't belong to this script: {fault}") from None
+        if not self.is_whole(events):
+            raise BadInput(name, len(events) + 1, "it ends before the calls of the script do")

@@ -4,6 +4,7 @@ Scripts are read by the grammar of docs/MANUAL.md (THE SCRIPT), without its limi
 program judges. What can't be read is BadInput, which tells the file and the line; so no tool answers by a part of its input.
 """
 import re
+import signal
 import subprocess
 import sys
 from collections import namedtuple
@@ -78,8 +79,6 @@ CALLS = {
     "sysctl": "NAME=VALUE",
 }
 UGIDFW = {"list": "", "add": "", "set": "N", "remove": "N"}
-FILE = "PATH KIND uid N gid N mode OCTAL label L"
-TASK = "NAME uid N gid GROUPS label L"
 STEPS = ("enter", "plan", "done", "leave", "change")
 
 
@@ -139,7 +138,7 @@ class ScriptReader:
 
     def read_file(self, number, words):
         has_text = len(words) > 11 and words[2] == "reg"
-        match_words(words[1:], FILE + " text TEXT" * has_text)
+        match_words(words[1:], "PATH KIND uid N gid N mode OCTAL label L" + " text TEXT" * has_text)
         path, kind, _, uid, _, gid, _, mode, _, label = words[1:11]
         if path == "/" or path in self.script.files:
             raise Fault(f"{path} is there already")
@@ -149,7 +148,7 @@ class ScriptReader:
         self.script.files[path] = File(number, path, kind == "dir", int(uid), int(gid), int(mode, 8), label)
 
     def read_task(self, number, words):
-        match_words(words[1:], TASK)
+        match_words(words[1:], "NAME uid N gid GROUPS label L")
         name, _, uid, _, groups, _, label = words[1:]
         if name in self.script.tasks:
             raise Fault(f"there is a task {name} already")
@@ -203,9 +202,7 @@ class ScriptReader:
 
 
 def script_of(text, name):
-    lines = text.split("\n")
-    if lines[-1] == "":
-        lines.pop()
+    lines = text.removesuffix("\n").split("\n") if text else []
     reader = ScriptReader(name, lines)
     for number, line in enumerate(lines, 1):
         try:
@@ -286,3 +283,14 @@ def run_program(program, word, text):
     if ran.returncode != 0:
         raise BadInput(f"{program} {word}", None, f"status {ran.returncode}: {printed.strip() or 'nothing was printed'}")
     return printed
+
+
+def print_answer(tool, answer):
+    """Prints the whole answer, or says on the standard error why there is none."""
+    try:
+        text = answer()
+    except BadInput as fault:
+        sys.exit(f"{tool}: {fault}")
+    # Who reads no further than some lines ends it without a word.
+    signal.signal(signal.SIGPIPE, signal.SIG_DFL)
+    sys.stdout.write(text)
