@@ -71,11 +71,11 @@ are_replies() {
         END { exit bad || !last || found != wanted }' "${1%.macsim}.out" "$folder/counts"
 }
 
-# Whether an order that is given is made, and finds what depends on it.
+# Whether both replies of an example are found, twice alike, and as docs/MANUAL.md shows them.
 finds_both() {
-    tools/orders --differing examples/10-two-tasks.macsim >"$folder/counts" &&
-        [ "$(grep -c '^    [0-9]* ok bytes' "$folder/counts")" -eq 2 ] && grep -q 'with more than one reply 1$' "$folder/counts" &&
-        tools/orders --differing examples/10-two-tasks.macsim | cmp -s - "$folder/counts"
+    tools/orders --differing examples/10-two-tasks.macsim >"$folder/counts" && [ "$(wc -l <"$folder/counts")" -eq 4 ] || return 1
+    sed 's/^/    /' "$folder/counts" | while IFS= read -r line; do grep -qxF -e "$line" docs/MANUAL.md || exit 1; done || return 1
+    tools/orders --differing examples/10-two-tasks.macsim | cmp -s - "$folder/counts"
 }
 
 # Whether the command ends with that status, prints nothing, and tells the text on the standard error.
