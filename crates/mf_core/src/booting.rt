@@ -17,8 +17,25 @@ use mf_policy::{Policy, Registration};
 use mf_slots::SlotNumbers;
 use std::alloc::{AllocError, Global};
 
+/// The registrations of these modules in order, and the list and the catalogue after them.
+pub fn boot<P: Policy>(
+    alloc: Global,
+    modules: &Listing<Module>,
+    policies: Vec<P>,
+) -> Result<(BootList, PolicyList<P>, Catalogue<P>), AllocError>
+    requires boots { AreBoots modules.now }
+    requires modules { AreAllModules (map (λ p. module_of (P.spec p)) policies.items) }
+    requires fresh { All (λ p. IsFresh (P.spec p)) policies.items }
+    ensures boots { IfOk result (λ r. r.0 ≡ spec.registrations_from 0 modules.now) }
+    ensures policies { IfOk result (λ r. AreOf (spec.listed_by r.0) r.1 r.2) }
+{
+    let (mut list, mut catalogue) = unlisted(alloc, policies)?;
+    let boots = register_boots(alloc, modules, &mut list, &mut catalogue)?;
+    Ok((boots, list, catalogue))
+}
+
 /// An empty list, and a catalogue of these policies.
-pub fn unlisted<P: Policy>(
+fn unlisted<P: Policy>(
     alloc: Global,
     modules: Vec<P>,
 ) -> Result<(PolicyList<P>, Catalogue<P>), AllocError>
@@ -33,7 +50,7 @@ pub fn unlisted<P: Policy>(
 }
 
 /// Registers these modules in order, and returns the registrations.
-pub fn register_boots<P: Policy>(
+fn register_boots<P: Policy>(
     alloc: Global,
     modules: &Listing<Module>,
     list: &mut PolicyList<P>,

@@ -12,7 +12,7 @@ ghost use Rattle.mf_core.specs.declared.progress.Phase.TheVariants as phase;
 ghost use Rattle.mf_core.specs.LegalHistory.{IsComplete, IsLegal};
 ghost use Rattle.mf_core.specs.WithEvent.{with_event};
 ghost use Rattle.mf_core.specs.Next.{next_plan};
-ghost use Rattle.mf_core.specs.Opening.{boots_of};
+ghost use Rattle.mf_core.specs.Opening.{booted_specs, boots_of};
 ghost use Rattle.mf_core.specs.Policies.{AreOf};
 ghost use Rattle.mf_core.specs.AllModules.{AreAllModules};
 ghost use Rattle.mf_core.specs.Progress.{progress_at, first_progress, open_entries, left};
@@ -21,8 +21,8 @@ ghost use Rattle.mf_core.specs.CoreView.{run_state, specs_of, progress_of, turn_
 
 mod changing;
 
-use crate::booting::{register_boots, unlisted};
-use crate::history::{Event, EventList, History};
+use crate::booting::boot;
+use crate::history::{BootList, Event, EventList, History};
 use crate::progress::Turn;
 use crate::run::Run;
 use mf_calls::Script;
@@ -70,15 +70,33 @@ impl<'s> Core<'s> {
         ensures entries { IfOk result (λ r. open_of r.0 ≡ 0) }
         ensures lines { IfOk result (λ r. done_of r.0 ≡ 0) }
     {
-        let run = Run::new(alloc, script)?;
-        let (mut list, mut catalogue) = unlisted(alloc, modules)?;
-        let boots = register_boots(alloc, &script.boots, &mut list, &mut catalogue)?;
+        let (boots, list, catalogue) = boot(alloc, &script.boots, modules)?;
+        let core = Core::with_boots(alloc, script, boots)?;
+        Ok((core, list, catalogue))
+    }
+
+    /// The core before the first event of the script, with the registrations of the modules that it boots.
+    fn with_boots(
+        alloc: Global,
+        script: &'s Script,
+        boots: BootList,
+    ) -> Result<Core<'s>, AllocError>
+        requires formed { IsWellFormed script.now }
+        requires boots { boots ≡ boots_of script.now }
+        ensures script { IfOk result (λ core. core.script ≡ script.now) }
+        ensures boots { IfOk result (λ core. core.history.boots ≡ boots_of script.now) }
+        ensures history { IfOk result (λ core. core.history.events.list ≡ []) }
+        ensures progress { IfOk result (λ core. (t : ℕ) → progress_at (progress_of core) t ≡ first_progress) }
+        ensures specs { IfOk result (λ core. specs_of core ≡ booted_specs script.now) }
+        ensures entries { IfOk result (λ core. open_of core ≡ 0) }
+        ensures lines { IfOk result (λ core. done_of core ≡ 0) }
+    {
         let events = EventList::with_room(alloc, 3 * script.line_count())?;
-        let core = Core {
+        let run = Run::new(alloc, script)?;
+        Ok(Core {
             run,
             history: History { boots, events },
-        };
-        Ok((core, list, catalogue))
+        })
     }
 
     /// What the task may do next. Tasks count from 0.

@@ -94,12 +94,8 @@ impl<'s> Core<'s> {
         if waiting > 0 {
             return Ok(ChangeOutcome::Waits(waiting));
         }
-        let mut plan = Plan::new();
-        let found = self.run.plan(task, &mut plan);
-        let verdict = Core::walk(list, &plan);
-        let reply = self.run.reply(alloc, task, &plan, found, &verdict)?;
-        let listed = self.run.listed_after(alloc, task, &reply)?;
-        self.run.relist(alloc, task, &reply, list, catalogue)?;
+        let reply = self.run.change_reply(alloc, task, list)?;
+        let listed = self.run.relisted(alloc, task, &reply, list, catalogue)?;
         let number = self.run.lines(task) + 1;
         self.run.put(task, number, &reply, listed);
         self.history

@@ -4,11 +4,12 @@ ghost use Rattle.std.specs.Prelude.{◌≡◌, ◌<◌, ℕ, List, length, true,
 ghost use Rattle.mf_objects.specs.declared.id.Id.{Id};
 ghost use Rattle.mf_calls.specs.Tasks.{is_change};
 ghost use Rattle.mf_plan.specs.Doing.{CanDo};
+ghost use Rattle.mf_plan.specs.declared.reply.Reply.{Reply};
 ghost use Rattle.mf_step.specs.Effect.{effect_of};
 ghost use Rattle.mf_step.specs.Refused.{is_done};
 ghost use Rattle.mf_core.specs.declared.history.Event.TheVariants as event;
 ghost use Rattle.mf_core.specs.declared.progress.Turn.TheVariants as turn;
-ghost use Rattle.mf_core.specs.LegalHistory.{after, next_reply, next_state, turn_of, MayCome};
+ghost use Rattle.mf_core.specs.LegalHistory.{after, next_line, next_reply, next_state, turn_of, MayCome};
 ghost use Rattle.mf_core.specs.Policies.{AreListedAfter, AreOf};
 
 use super::Run;
@@ -16,9 +17,9 @@ use crate::kept_reply::KeptReply;
 use crate::relisting::relist;
 use mf_calls::Call;
 use mf_list::{Catalogue, PolicyList};
-use mf_plan::State;
+use mf_plan::{Plan, State};
 use mf_policy::{Policy, SpecList};
-use mf_step::{listed_after, put_listed};
+use mf_step::{listed_after, put_listed, verdict_of};
 use std::alloc::{AllocError, Global};
 
 impl<'s> Run<'s> {
@@ -39,8 +40,51 @@ impl<'s> Run<'s> {
         Ok(())
     }
 
+    /// The reply to the change of the task's next line. The listed policies must be those of the state. A change that is
+    /// denied or refused takes no memory.
+    pub(crate) fn change_reply<P: Policy>(
+        &self,
+        alloc: Global,
+        task: u32,
+        list: &PolicyList<P>,
+    ) -> Result<KeptReply, AllocError>
+        requires task { task < length self.now.script.tasks }
+        requires line { IsSome (next_line self.now.script self.now.run.progress task) }
+        requires listed { list.now.entries ≡ self.now.run.state.specs }
+        ensures value { IfOk result (λ reply. next_reply self.now.script self.now.run task ≡ Some reply) }
+        ensures memory { (reply : Reply) → next_reply self.now.script self.now.run task ≡ Some reply → is_done reply ≡ false → IsOk result }
+    {
+        let mut plan = Plan::new();
+        let found = self.plan(task, &mut plan);
+        let verdict = verdict_of(list, &plan);
+        self.reply(alloc, task, &plan, found, &verdict)
+    }
+
+    /// The listed specs after the change of the task's next line, where it is done with this reply. The list and the
+    /// catalogue follow; if memory runs out, they are unchanged.
+    pub(crate) fn relisted<P: Policy>(
+        &self,
+        alloc: Global,
+        task: u32,
+        reply: &KeptReply,
+        list: &mut PolicyList<P>,
+        catalogue: &mut Catalogue<P>,
+    ) -> Result<Option<SpecList>, AllocError>
+        requires turn { turn_of self.now.script self.now.run.progress task ≡ turn.Change }
+        requires reply { next_reply self.now.script self.now.run task ≡ Some reply.now }
+        requires policies { AreOf self.now.run.state.specs list.old catalogue.old }
+        ensures value { IfOk result (AreListedAfter (next_state self.now.script self.now.run task) reply.now) }
+        ensures policies { OnOk result (AreOf (next_state self.now.script self.now.run task).specs list.new catalogue.new) }
+        ensures err { OnErr result ((list.new ≡ list.old) × (catalogue.new ≡ catalogue.old)) }
+        ensures memory { is_done reply.now ≡ false → IsOk result }
+    {
+        let listed = self.listed_after(alloc, task, reply)?;
+        self.relist(alloc, task, reply, list, catalogue)?;
+        Ok(listed)
+    }
+
     /// The listed specs after the change of the task's next line, where it is done with this reply.
-    pub(crate) fn listed_after(
+    fn listed_after(
         &self,
         alloc: Global,
         task: u32,
@@ -61,7 +105,7 @@ impl<'s> Run<'s> {
 
     /// The list and the catalogue follow the change of the task's next line, where it is done with this reply. If memory runs
     /// out, they are unchanged.
-    pub(crate) fn relist<P: Policy>(
+    fn relist<P: Policy>(
         &self,
         alloc: Global,
         task: u32,
