@@ -12,7 +12,7 @@ use mf_policy::{MOST_LISTED, Policy};
 
 /// What the policies answer together: the composed errno, and the policy that decides it. No policy decides a success,
 /// nor a check of a privilege.
-#[derive(Clone, Copy, Debug, PartialEq, Eq)]
+#[derive(Clone, Copy, PartialEq, Eq)]
 pub struct Answer {
     pub errno: Errno,
     pub by: Option<Module>,
