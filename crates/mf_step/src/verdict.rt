@@ -9,7 +9,7 @@ use mf_policy::Policy;
 
 /// A denial: the number of the denied check, from 1, the errno, and the policy that decided it. No policy decides a
 /// check of a privilege.
-#[derive(Clone, Copy, Debug, PartialEq, Eq)]
+#[derive(Clone, Copy)]
 pub struct Denial {
     pub item: u8,
     pub errno: Errno,
@@ -17,7 +17,7 @@ pub struct Denial {
 }
 
 /// The policies' verdict on a plan: the first denial, if a check is denied.
-#[derive(Clone, Copy, Debug, PartialEq, Eq)]
+#[derive(Clone, Copy)]
 pub struct Verdict {
     pub denied: Option<Denial>,
 }
