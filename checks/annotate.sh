@@ -115,5 +115,28 @@ sed 's/^read/raed/' "$script" >"$folder/faulty"
 complains "faulty line 5: there is no call \`raed\`" "$folder/faulty" "$folder/whole"
 count $? "a fault of the script isn't told"
 
+# Each operation has its rows in the manual, by each policy that may decide it.
+while read -r errno module operations; do
+    for operation in $operations; do
+        echo "done t 1 no $errno $operation $module 1"
+    done
+done >"$folder/history" <<'END'
+EACCES mac_biba vnode_lookup vnode_readdir vnode_open_read vnode_read vnode_exec vnode_stat vnode_open_write vnode_write vnode_create
+EACCES mac_mls vnode_unlink_dir vnode_unlink vnode_setmode pipe_read pipe_stat pipe_write socket_send socket_deliver socket_receive
+EACCES mac_bsdextended vnode_lookup vnode_readdir vnode_open_read vnode_open_write vnode_exec vnode_stat vnode_create
+EACCES mac_bsdextended vnode_unlink_dir vnode_unlink vnode_setmode
+EACCES mac_mls proc_signal proc_sched proc_debug
+ESRCH mac_partition proc_visible proc_signal proc_sched proc_debug
+ENOENT mac_partition socket_visible
+EPERM mac_partition cred_relabel
+EPERM mac_mls cred_relabel vnode_relabel pipe_relabel socket_relabel
+EINVAL mac_biba cred_relabel vnode_relabel pipe_relabel socket_relabel
+EPERM mac_biba kld_load kld_unload
+EPERM - priv
+END
+tools/annotate --part "$script" "$folder/history" >"$folder/told" &&
+    awk '/^done/ { if (open) bad = 1; open = 1 } /^    usual cause: ./ { open = 0 } END { exit bad || open }' "$folder/told"
+count $? "an operation has no row in the manual"
+
 echo "$denials denials; $passed passed, $failed failed"
 [ "$failed" -eq 0 ] && [ "$denials" -gt 0 ]

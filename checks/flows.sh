@@ -1,7 +1,7 @@
 #!/bin/sh
 # Runs each script of examples/, and holds tools/flows to what is printed: the sources that its flows come to are the lines of sources. Then
-# what it draws and tells of one example, and that it says what is wrong with an input, and prints nothing of it. A line for each failure, then
-# a count.
+# the same of a script in which each operation that moves information is told by the sources alone; what it draws and tells of one example;
+# and that it says what is wrong with an input, and prints nothing of it. A line for each failure, then a count.
 cd "$(dirname "$0")/.." || exit 1
 folder=$(mktemp -d) || exit 1
 trap 'rm -rf "$folder"' EXIT
@@ -47,6 +47,61 @@ for script in examples/*.macsim; do
     has_its_sources "$script"
     count $? "$script: the flows come to other sources than are printed"
 done
+
+# What is read is of a grade of its own, and what gets something is written to once.
+cat >"$folder/each.macsim" <<'END'
+boot mac_biba
+file /list dir uid 0 gid 0 mode 755 label biba/1
+file /tool reg uid 0 gid 0 mode 755 label biba/2
+file /seen reg uid 0 gid 0 mode 644 label biba/3
+file /read reg uid 0 gid 0 mode 644 label biba/4
+file /mark reg uid 0 gid 0 mode 644 label biba/8
+file /written reg uid 0 gid 0 mode 644 label biba/low
+file /mode reg uid 0 gid 0 mode 644 label biba/low
+file /made dir uid 0 gid 0 mode 755 label biba/low
+file /gone dir uid 0 gid 0 mode 755 label biba/low
+file /gone/one reg uid 0 gid 0 mode 644 label biba/low
+file /kept dir uid 0 gid 0 mode 755 label biba/low
+file /kept/full dir uid 0 gid 0 mode 755 label biba/low
+file /kept/full/one reg uid 0 gid 0 mode 644 label biba/low
+task t uid 0 gid 0 label biba/low
+pipe out
+socket from
+socket to
+fork signalled
+fork sched
+fork debugged
+fork a
+@a setpmac biba/5
+@a pipe five
+@a setpmac biba/6
+@a pipe six
+@a setpmac biba/7
+@a socket seven
+readdir /list
+exec /tool
+stat /seen
+read /read
+pread five
+pstat six
+recv seven
+signal t.signalled
+sched t.sched
+@debugged read /mark
+debug t.debugged
+write /written x
+chmod /mode 600
+create /made/new
+unlink /gone/one
+unlink /kept/full
+pwrite out x
+send from to x
+fork late
+setfmac biba/9 /written
+end
+END
+has_its_sources "$folder/each.macsim"
+count $? "the flows of each operation come to other sources than are printed"
 
 script=examples/19-through-a-process.macsim
 run "$script"
