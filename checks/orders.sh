@@ -101,9 +101,12 @@ printf 'task t uid 0 gid 0 label -\nend\ntask t uid 0 gid 0 label -\nend\n' >"$f
 printf 'task t uid 0 gid 0 label -\nugidfw add x\nend\n' >"$folder/bad_rule"
 printf 'macsim: script line 2 fault 7 BadRule\n' >"$folder/fault"
 printf 'boot mac_biba 0\nhello\n' >"$folder/no_history"
+printf 'task t uid 0 gid 0 label -\r\nend\r\n' >"$folder/carriage_returns"
+head -n 3 examples/01-plainest-denial.out >"$folder/cut_off"
 check 'in-order: steps' refuses 1 'line 10: ' awk -f examples/in-order.awk "$stepped"
 check 'in-order: no end' refuses 1 'line 3: ' awk -f examples/in-order.awk "$folder/unended"
 check 'in-order: a name twice' refuses 1 'line 3: ' awk -f examples/in-order.awk "$folder/twice"
+check 'in-order: a carriage return' refuses 1 'line 1: ' awk -f examples/in-order.awk "$folder/carriage_returns"
 check 'in-order: no such task' refuses 1 'no task x' awk -v order='writer x' -f examples/in-order.awk "$two"
 check 'in-order: one call too many' refuses 1 'no more than 1 calls' awk -v order='writer writer' -f examples/in-order.awk "$two"
 check 'orders: steps' refuses 2 'line 10: ' tools/orders "$stepped"
@@ -114,6 +117,7 @@ for recipe in sources steps; do
     check "$recipe: a fault" refuses 1 'macsim: script line 2 fault 7 BadRule' awk -f "examples/$recipe.awk" "$folder/fault"
     check "$recipe: no history" refuses 1 'line 2 is none of a history' awk -f "examples/$recipe.awk" "$folder/no_history"
 done
+check 'steps: a history that is cut off' refuses 1 "isn't whole" awk -f examples/steps.awk "$folder/cut_off"
 check 'steps: a history of steps' refuses 1 'line 3 is of macsim step' awk -f examples/steps.awk examples/34-loader-waits.out
 
 echo "$passed passed, $failed failed"

@@ -39,6 +39,7 @@ function add_calls(word) {
 }
 
 { line[NR] = $0 }
+/[^\t -~]/ { stop("line " NR ": it has a byte that may not stand in a script") }
 NF == 0 || $1 ~ /^#/ { next }
 open == "" && $1 == "steps" { stop("line " NR ": the script has steps already") }
 open == "" && $1 == "task" && ($2 in calls) { stop("line " NR ": an earlier task has the name " $2) }

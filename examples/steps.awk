@@ -8,11 +8,14 @@ function stop(why) {
 /^macsim:/ { stop($0) }
 $1 ~ /^(waits|stale)$/ { stop("steps.awk: line " NR " is of macsim step, whose script has its steps: " $0) }
 $1 !~ /^(boot|enter|done|leave|changed|source)$/ { stop("steps.awk: line " NR " is none of a history: " $0) }
+$1 == "enter" { open[$2] = 1 }
+$1 == "leave" { delete open[$2] }
 $1 == "enter" || $1 == "leave" { step[++count] = $1 " " $2 }
 $1 == "done" { step[++count] = "plan " $2 "\ndone " $2 }
 $1 == "changed" { step[++count] = "change " $2 }
 END {
     if (failed) exit 1
+    for (task in open) stop("steps.awk: the history isn't whole, it ends while " task " is in the kernel")
     print "steps"
     for (i = 1; i <= count; i++) print step[i]
     print "end"
