@@ -1,7 +1,8 @@
 -- Merging two sets along both, and folding one by one.
-use Rattle.std.proofs.Common.{◌≡◌, ℕ, ◌+◌, ◌-◌, ◌<◌, ◌≤◌, zero, suc, List, [], ◌∷◌, ◌++◌, append_assoc, append-nil, length, length-drop, take, take_all, drop, get_or, refl, ap, sym, ◌∙◌, arith}
+use Rattle.std.proofs.Common.{◌≡◌, ℕ, ◌+◌, ◌-◌, ◌<◌, ◌≤◌, zero, suc, List, [], ◌∷◌, ◌++◌, append_assoc, append-nil, length, length-drop, take, take_all, drop, get_or, true, refl, ap, sym, ◌∙◌, arith}
 use Rattle.std.specs.Prelude.{fold}
 use Rattle.std.specs.Ordering.{match_ordering}
+use Rattle.std.specs.Set.{merge_step}
 use Rattle.std.specs.declared.cmp.Ordering.{Ordering}
 use Rattle.std.specs.declared.cmp.Ordering.TheVariants.{Less, Equal, Greater}
 use Rattle.std.proofs.Math.Seq.{drop-cons}
@@ -95,25 +96,66 @@ merged_theirs set other items m n over so_far =
 
 -- Looking for what a set lacks
 
--- where the rest of the set has what is left of the other, the set has all
+-- the set has all exactly where the rest of it has what is left of the other
 pub record AreFound (set other : List Elem) (m n : ℕ) : Type 0 where
   pub theirs : n ≤ length other
   pub then : union (drop m set) (drop n other) ≡ drop m set → union set other ≡ set
+  pub only : union set other ≡ set → union (drop m set) (drop n other) ≡ drop m set
 
 pub found_none : (set other : List Elem) → AreFound set other 0 0
-found_none set other = record { theirs = omega arith; then = λ all. all }
+found_none set other = record { theirs = omega arith; then = λ all. all; only = λ all. all }
 
 pub found_less : (set other : List Elem) (m n : ℕ) (x y d : Elem) → m < length set → n < length other → x ≡ get_or set m d → y ≡ get_or other n d
     → elem_cmp x y ≡ Less → AreFound set other m n → AreFound set other (m + 1) n
 found_less set other m n x y d mine theirs x_is y_is less so_far =
     let next : union (drop m set) (drop n other) ≡ x ∷ union (drop (m + 1) set) (drop n other) = step set other m n x y d mine theirs x_is y_is ∙ ap (λ (o : Ordering). match_ordering o (x ∷ union (drop (m + 1) set) (drop n other)) (x ∷ union (drop (m + 1) set) (drop (n + 1) other)) (y ∷ union (drop m set) (drop (n + 1) other))) less in
-    record { theirs = so_far.theirs; then = λ rest. so_far.then (next ∙ ap (λ (ys : List Elem). x ∷ ys) rest ∙ sym (one_on set m x d mine x_is)) }
+    record {
+      theirs = so_far.theirs;
+      then = λ rest. so_far.then (next ∙ ap (λ (ys : List Elem). x ∷ ys) rest ∙ sym (one_on set m x d mine x_is));
+      only = λ all. let both : x ∷ union (drop (m + 1) set) (drop n other) ≡ x ∷ drop (m + 1) set = sym next ∙ so_far.only all ∙ one_on set m x d mine x_is in cc;
+    }
 
 pub found_equal : (set other : List Elem) (m n : ℕ) (x y d : Elem) → m < length set → n < length other → x ≡ get_or set m d → y ≡ get_or other n d
     → elem_cmp x y ≡ Equal → AreFound set other m n → AreFound set other (m + 1) (n + 1)
 found_equal set other m n x y d mine theirs x_is y_is equal so_far =
     let next : union (drop m set) (drop n other) ≡ x ∷ union (drop (m + 1) set) (drop (n + 1) other) = step set other m n x y d mine theirs x_is y_is ∙ ap (λ (o : Ordering). match_ordering o (x ∷ union (drop (m + 1) set) (drop n other)) (x ∷ union (drop (m + 1) set) (drop (n + 1) other)) (y ∷ union (drop m set) (drop (n + 1) other))) equal in
-    record { theirs = omega arith; then = λ rest. so_far.then (next ∙ ap (λ (ys : List Elem). x ∷ ys) rest ∙ sym (one_on set m x d mine x_is)) }
+    record {
+      theirs = omega arith;
+      then = λ rest. so_far.then (next ∙ ap (λ (ys : List Elem). x ∷ ys) rest ∙ sym (one_on set m x d mine x_is));
+      only = λ all. let both : x ∷ union (drop (m + 1) set) (drop (n + 1) other) ≡ x ∷ drop (m + 1) set = sym next ∙ so_far.only all ∙ one_on set m x d mine x_is in cc;
+    }
+
+longest : (o : Ordering) (n : ℕ) (less equal greater : List Elem) → n ≤ length less → n ≤ length equal → n ≤ length greater → n ≤ length (match_ordering o less equal greater)
+longest Less n less equal greater a b c = a
+longest Equal n less equal greater a b c = b
+longest Greater n less equal greater a b c = c
+
+-- a union is as long as the set
+longer_step : (x : Elem) (xs : List Elem) (on : List Elem → List Elem) → ((ys : List Elem) → length xs ≤ length (on ys))
+    → (ys : List Elem) → suc (length xs) ≤ length (merge_step elem_cmp true x xs on ys)
+longer_step x xs on h [] = omega arith
+longer_step x xs on h (y ∷ ys) =
+    longest (elem_cmp x y) (suc (length xs)) (x ∷ on (y ∷ ys)) (x ∷ on ys) (y ∷ merge_step elem_cmp true x xs on ys)
+    (omega (arith, h (y ∷ ys))) (omega (arith, h ys)) (omega (arith, longer_step x xs on h ys))
+
+longer : (set other : List Elem) → length set ≤ length (union set other)
+longer [] other = omega arith
+longer (x ∷ set) other = longer_step x set (union set) (longer set) other
+
+-- an element of the other that comes before the rest of the set isn't in it
+pub lacks_one : (set other : List Elem) (m n : ℕ) (x y d : Elem) → m < length set → n < length other → x ≡ get_or set m d → y ≡ get_or other n d
+    → elem_cmp x y ≡ Greater → AreFound set other m n → union set other ≡ set → ⊥
+lacks_one set other m n x y d mine theirs x_is y_is greater so_far all =
+    let next : union (drop m set) (drop n other) ≡ y ∷ union (drop m set) (drop (n + 1) other) = step set other m n x y d mine theirs x_is y_is ∙ ap (λ (o : Ordering). match_ordering o (x ∷ union (drop (m + 1) set) (drop n other)) (x ∷ union (drop (m + 1) set) (drop (n + 1) other)) (y ∷ union (drop m set) (drop (n + 1) other))) greater in
+    let same : y ∷ union (drop m set) (drop (n + 1) other) ≡ drop m set = sym next ∙ so_far.only all in
+    omega (arith, ap length same, longer (drop m set) (drop (n + 1) other))
+
+-- where the set is at its end and has all, nothing is left of the other
+pub none_left : (set other : List Elem) (m n : ℕ) → length set ≤ m → AreFound set other m n → union set other ≡ set → n ≡ length other
+none_left set other m n over so_far all =
+    let none : drop m set ≡ [] = beyond set m over in
+    let rest : drop n other ≡ [] = sym (ap (λ (xs : List Elem). union xs (drop n other)) none) ∙ so_far.only all ∙ none in
+    omega (arith, so_far.theirs, ap length rest, length-drop n other)
 
 pub all_found : (set other : List Elem) (m n : ℕ) → n ≡ length other → AreFound set other m n → union set other ≡ set
 all_found set other m n all so_far =

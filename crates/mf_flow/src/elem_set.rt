@@ -1,5 +1,5 @@
 //! Sets of elements, kept in the order in which they are listed.
-ghost use Rattle.std.specs.Prelude.{◌≡◌, [], ◌∷◌, IfOk, IsTrue};
+ghost use Rattle.std.specs.Prelude.{◌≡◌, ◌↔◌, [], ◌∷◌, IfOk, IsTrue};
 ghost use Rattle.mf_flow.specs.Order.{union};
 
 use crate::order::compare;
@@ -68,7 +68,7 @@ impl ElemSet {
 
 /// Whether a set has all elements of another. It takes no memory.
 pub fn has_all(set: &[Elem], other: &[Elem]) -> bool
-    ensures { IsTrue result → union set.now other.now ≡ set.now }
+    ensures { IsTrue result ↔ (union set.now other.now ≡ set.now) }
 {
     let mut found = 0;
     for element in set {
