@@ -41,38 +41,3 @@ fn is_same(errno: Errno, other: Errno) -> bool
 {
     errno == other
 }
-
-#[cfg(test)]
-mod tests {
-    use super::*;
-
-    #[test]
-    fn precedence_against_walk_order(rt: HostRuntime) {
-        let table: [(&[Errno], Errno, Option<usize>); 8] = [
-            (&[], Errno::Success, None),
-            (&[Errno::Success, Errno::Success], Errno::Success, None),
-            (&[Errno::Eacces, Errno::Esrch], Errno::Esrch, Some(1)),
-            (&[Errno::Eacces, Errno::Eacces], Errno::Eacces, Some(0)),
-            (
-                &[Errno::Eperm, Errno::Einval, Errno::Edeadlk],
-                Errno::Edeadlk,
-                Some(2),
-            ),
-            (
-                &[Errno::Success, Errno::Enoent, Errno::Eacces],
-                Errno::Enoent,
-                Some(1),
-            ),
-            (&[Errno::Eperm, Errno::Ebusy], Errno::Eperm, Some(0)),
-            (
-                &[Errno::Enomem, Errno::Ebusy, Errno::Enomem],
-                Errno::Enomem,
-                Some(0),
-            ),
-        ];
-        for (answers, errno, place) in table {
-            assert_eq!(rt; fold(answers), errno);
-            assert_eq!(rt; decider(answers), place);
-        }
-    }
-}

@@ -7,14 +7,3 @@ pub fn granted(grants: &[bool]) -> bool
 {
     grants.contains(&true)
 }
-
-#[cfg(test)]
-mod tests {
-    use super::*;
-
-    #[test]
-    fn one_grant_is_enough(rt: HostRuntime) {
-        assert!(rt; granted(&[false, true]));
-        assert!(rt; !granted(&[]));
-    }
-}

@@ -88,18 +88,3 @@ pub struct FileView {
     pub mode: u16,
     pub dir: bool,
 }
-
-#[cfg(test)]
-mod tests {
-    use super::*;
-
-    #[test]
-    fn groups_of_a_credential(rt: HostRuntime) {
-        let mut cred = Cred::default();
-        cred.groups.push(47);
-        let copy = cred.copy();
-        assert!(rt; copy.is_root());
-        assert!(rt; copy.in_group(0) && copy.in_group(47) && !copy.in_group(48));
-        assert!(rt; copy.same(&cred) && !copy.same(&Cred::default()));
-    }
-}

@@ -74,17 +74,3 @@ fn is_covered(theirs: &[u64], mine: &[u64]) -> bool
     }
     true
 }
-
-#[cfg(test)]
-mod tests {
-    use super::*;
-
-    #[test]
-    fn first_and_last_compartment(rt: HostRuntime) {
-        let none = Comps::empty();
-        let ends = none.with(256).with(1);
-        assert!(rt; ends.has(1) && ends.has(256) && !ends.has(2));
-        assert!(rt; ends.contains(&none) && !none.contains(&ends));
-        assert_eq!(rt; ends, none.with(1).with(256));
-    }
-}

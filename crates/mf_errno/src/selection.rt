@@ -21,23 +21,3 @@ pub fn select(newer: Errno, older: Errno) -> Errno
         _ => newer,
     }
 }
-
-#[cfg(test)]
-mod tests {
-    use super::*;
-
-    #[test]
-    fn precedence_of_two_answers(rt: HostRuntime) {
-        let table = [
-            (Errno::Eperm, Errno::Eacces, Errno::Eacces),
-            (Errno::Edeadlk, Errno::Einval, Errno::Edeadlk),
-            (Errno::Ebusy, Errno::Eperm, Errno::Eperm),
-            (Errno::Ebusy, Errno::Enomem, Errno::Ebusy),
-            (Errno::Success, Errno::Enomem, Errno::Enomem),
-            (Errno::Success, Errno::Success, Errno::Success),
-        ];
-        for (newer, older, selected) in table {
-            assert_eq!(rt; select(newer, older), selected);
-        }
-    }
-}

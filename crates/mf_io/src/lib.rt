@@ -17,6 +17,3 @@ pub use sink::Sink;
 pub use source::{Failed, Source};
 pub use standard::{KnownSink, StdSink, StdSource};
 pub use sure::{SureSink, SureSource};
-
-#[cfg(test)]
-mod tests;

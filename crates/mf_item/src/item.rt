@@ -82,22 +82,3 @@ impl<'a> Item<'a> {
         self.privilege
     }
 }
-
-#[cfg(test)]
-mod tests {
-    use super::*;
-    use std::alloc::AllocError;
-
-    #[test]
-    fn an_item_has_its_parts(rt: HostRuntime) -> Result<(), AllocError> {
-        let (subject, request) = (SubjectView::default(), Request::none());
-        let item = Item::new(CheckOp::CredRelabel, &subject, None, Some(&request), None);
-        assert!(rt; item.subject().same(&subject) && item.object().is_none());
-        assert!(rt; item.request().is_some() && item.privilege().is_none());
-        assert_eq!(rt; item.op().name(), "cred_relabel");
-        assert_eq!(rt; CheckOp::from_name(item.op().name()), Some(item.op()));
-        let shown = format!(in rt.alloc(); "{}", CheckOp::KldLoad)?;
-        assert!(rt; shown.as_str() == "kld_load");
-        Ok(())
-    }
-}

@@ -72,19 +72,3 @@ impl<const MOST: usize> Bytes<MOST> {
         self.items.clear();
     }
 }
-
-#[cfg(test)]
-mod tests {
-    use super::*;
-
-    #[test]
-    fn a_text_grows_and_is_emptied(rt: HostRuntime) -> Result<(), AllocError> {
-        let mut text: Bytes<4> = Bytes::copy_of(rt.alloc(), b"ab")?;
-        assert!(rt; text.as_slice() == b"ab".as_slice());
-        text.clear();
-        assert!(rt; text.as_slice().is_empty());
-        text.append(b"cd")?;
-        assert!(rt; text.as_slice() == b"cd".as_slice());
-        Ok(())
-    }
-}

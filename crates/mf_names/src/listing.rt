@@ -68,18 +68,3 @@ impl<T: Drop> Listing<T> {
         Ok(())
     }
 }
-
-#[cfg(test)]
-mod tests {
-    use super::*;
-
-    #[test]
-    fn items_stay_in_order(rt: HostRuntime) -> Result<(), AllocError> {
-        let mut numbers = Listing::new(rt.alloc());
-        numbers.push(2u32)?;
-        numbers.push(1)?;
-        assert_eq!(rt; numbers.len(), 2);
-        assert!(rt; numbers.as_slice() == [2, 1].as_slice());
-        Ok(())
-    }
-}

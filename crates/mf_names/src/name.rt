@@ -75,24 +75,3 @@ impl Word {
         self.text.as_str()
     }
 }
-
-#[cfg(test)]
-mod tests {
-    use super::*;
-
-    #[test]
-    fn names_keep_their_text(rt: HostRuntime) -> Result<(), AllocError> {
-        let word = Word::from_string(String::from_str(rt.alloc(), "mac_biba")?);
-        assert!(rt; word.as_str() == "mac_biba");
-        let mut names = NameList::new(rt.alloc());
-        names.push(Name::from_str(rt.alloc(), "t0")?)?;
-        names.push(Name::from_string(String::from_str(rt.alloc(), "t1")?))?;
-        assert_eq!(rt; names.len(), 2);
-        for name in names.as_slice() {
-            assert!(rt; name.as_str().len() == 2);
-        }
-        let listed = NameList::from_vec(Vec::new(rt.alloc()));
-        assert_eq!(rt; listed.len(), 0);
-        Ok(())
-    }
-}

@@ -9,8 +9,6 @@ mod printing;
 mod reading;
 mod rule;
 mod rule_list;
-#[cfg(test)]
-mod tests;
 mod values;
 
 pub use fault::RuleFault;

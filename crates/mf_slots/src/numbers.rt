@@ -50,18 +50,3 @@ impl SlotNumbers {
         Some(self.given - 1)
     }
 }
-
-#[cfg(test)]
-mod tests {
-    use super::*;
-
-    #[test]
-    fn slots_run_out(rt: HostRuntime) {
-        let mut numbers = SlotNumbers::new();
-        for n in 0..4 {
-            assert_eq!(rt; numbers.take(), Some(n));
-        }
-        assert_eq!(rt; numbers.take(), None);
-        assert_eq!(rt; numbers.given(), 4);
-    }
-}

@@ -270,33 +270,3 @@ fn add(zone: &mut Slab<LabelValue>, value: LabelValue) -> usize
 {
     zone.insert_reserved(value)
 }
-
-#[cfg(test)]
-mod tests {
-    use super::*;
-    use std::test::Fail;
-
-    #[test]
-    fn two_labels_share_a_zone(rt: HostRuntime) -> Result<(), Fail> {
-        let mut zones = Zones::new(rt.alloc())?;
-        let one = LabelValue::Number(1);
-        let two = LabelValue::Number(2);
-        let first = zones.make_label(&[one, LabelValue::Unset, LabelValue::Unset, one])?;
-        let second = zones.make_label(&[two, two, LabelValue::Unset, LabelValue::Unset])?;
-        assert!(rt; first.is_made(3) && !first.is_made(1));
-        assert_eq!(rt; zones.value(&first, 0), one);
-        assert_eq!(rt; zones.value(&second, 0), two);
-        Ok(())
-    }
-
-    #[test]
-    fn a_slot_through_its_life(rt: HostRuntime) -> Result<(), Fail> {
-        let mut zones = Zones::new(rt.alloc())?;
-        let mut label = Label::new();
-        zones.make(&mut label, 2, LabelValue::Number(1))?;
-        zones.set(&label, 2, LabelValue::Number(2));
-        assert_eq!(rt; zones.value(&label, 2), LabelValue::Number(2));
-        zones.give_up(label);
-        Ok(())
-    }
-}

@@ -146,29 +146,3 @@ fn hexadecimal_digit(value: u8) -> char
 pub fn escape_and_back()
     ensures { EscapedTextStandsForItsBytes }
 {}
-
-#[cfg(test)]
-mod tests {
-    use super::*;
-
-    #[test]
-    fn bytes_and_their_escaped_text(rt: HostRuntime) -> Result<(), TextFault> {
-        let bytes = [97, 32, 92, 0, 255];
-        let mut text = String::from_str(rt.alloc(), "text ")?;
-        escape(&bytes, &mut text)?;
-        assert!(rt; text.as_str() == "text a\\20\\5c\\00\\ff");
-        let read = unescape(rt.alloc(), "a\\20\\5C\\00\\fF")?;
-        assert!(rt; read.as_slice() == bytes.as_slice());
-        Ok(())
-    }
-
-    #[test]
-    fn bad_escapes(rt: HostRuntime) {
-        for (text, place) in [("a\\2", 1), ("\\", 0), ("\\5c\\5g", 3), ("é\\", 2)] {
-            match unescape_bytes(rt.alloc(), text.as_bytes()) {
-                Err(TextFault::BadEscape(found)) => assert_eq!(rt; found, place),
-                _ => panic!(rt; "no bad escape"),
-            }
-        }
-    }
-}

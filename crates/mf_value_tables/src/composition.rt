@@ -1,0 +1,40 @@
+//! Answers of several policies, and what they are together.
+
+use mf_compose::{decider, fold, granted};
+use mf_errno::Errno;
+
+/// Answers in walk order, their composition, and the place of the policy that decides.
+const ANSWERS: [(&[Errno], Errno, Option<usize>); 8] = [
+    (&[], Errno::Success, None),
+    (&[Errno::Success, Errno::Success], Errno::Success, None),
+    (&[Errno::Eacces, Errno::Esrch], Errno::Esrch, Some(1)),
+    (&[Errno::Eacces, Errno::Eacces], Errno::Eacces, Some(0)),
+    (
+        &[Errno::Eperm, Errno::Einval, Errno::Edeadlk],
+        Errno::Edeadlk,
+        Some(2),
+    ),
+    (
+        &[Errno::Success, Errno::Enoent, Errno::Eacces],
+        Errno::Enoent,
+        Some(1),
+    ),
+    (&[Errno::Eperm, Errno::Ebusy], Errno::Eperm, Some(0)),
+    (
+        &[Errno::Enomem, Errno::Ebusy, Errno::Enomem],
+        Errno::Enomem,
+        Some(0),
+    ),
+];
+
+#[test]
+fn precedence_against_walk_order(rt: HostRuntime) {
+    for (answers, errno, place) in ANSWERS {
+        assert!(rt; fold(answers) == errno && decider(answers) == place);
+    }
+}
+
+#[test]
+fn one_grant_is_enough(rt: HostRuntime) {
+    assert!(rt; granted(&[false, true]) && !granted(&[]));
+}

@@ -1,0 +1,42 @@
+//! Slot numbers, and labels in their zones.
+
+use mf_elem::LabelValue;
+use mf_slots::{Label, SlotNumbers, Zones};
+use std::alloc::AllocError;
+use std::process::Abort;
+
+#[test]
+fn slots_run_out(rt: HostRuntime) {
+    let mut numbers = SlotNumbers::new();
+    for wanted in [Some(0), Some(1), Some(2), Some(3), None] {
+        assert!(rt; numbers.take() == wanted);
+    }
+    assert!(rt; numbers.given() == 4);
+}
+
+/// Makes two labels, which keep their own values in the slot that both have.
+fn make_two(rt: &impl Abort, zones: &mut Zones) -> Result<(), AllocError> {
+    let (one, two) = (LabelValue::Number(1), LabelValue::Number(2));
+    let first = zones.make_label(&[one, LabelValue::Unset, LabelValue::Unset, one])?;
+    let second = zones.make_label(&[two, two, LabelValue::Unset, LabelValue::Unset])?;
+    assert!(rt; first.is_made(3) && !first.is_made(1));
+    assert!(rt; zones.value(&first, 0) == one && zones.value(&second, 0) == two);
+    Ok(())
+}
+
+#[test]
+fn two_labels_share_a_zone(rt: HostRuntime) -> Result<(), AllocError> {
+    let mut zones = Zones::new(rt.alloc())?;
+    make_two(&rt, &mut zones)
+}
+
+#[test]
+fn a_slot_through_its_life(rt: HostRuntime) -> Result<(), AllocError> {
+    let mut zones = Zones::new(rt.alloc())?;
+    let mut label = Label::new();
+    zones.make(&mut label, 2, LabelValue::Number(1))?;
+    zones.set(&label, 2, LabelValue::Number(2));
+    assert!(rt; zones.value(&label, 2) == LabelValue::Number(2));
+    zones.give_up(label);
+    Ok(())
+}
