@@ -1,4 +1,5 @@
-# Prints a script with steps behind it, in which one call is whole before the next begins. A recipe, and not proved.
+# Prints a script with steps behind it, in which one call is whole before the next begins. It isn't proved; checks/orders.sh compares the
+# order of the replies that come of it.
 #
 #     awk -f examples/in-order.awk SCRIPT | ./macsim step
 #     awk -v order='root* httpd root httpd*' -f examples/in-order.awk SCRIPT | ./macsim step

@@ -1,5 +1,6 @@
 # Draws the sources of a run for Graphviz: an edge from each element to each process, file, pipe and socket whose sources have it. What is no
-# history, as the fault of a script, is told on the standard error, with status 1, and nothing is printed.
+# history, as the fault of a script, is told on the standard error, with status 1, and nothing is printed. It isn't proved; checks/examples.sh
+# compares one picture.
 function stop(why) {
     print why > "/dev/stderr"
     failed = 1

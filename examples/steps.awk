@@ -1,5 +1,6 @@
 # Prints a steps part that makes the history of a `run` again: behind the history's script, with `macsim step`, it gives the same lines. What
-# is no such history, as the fault of a script, is told on the standard error, with status 1, and nothing is printed.
+# is no such history, as the fault of a script, is told on the standard error, with status 1, and nothing is printed. It isn't proved;
+# checks/steps.sh compares the two histories.
 function stop(why) {
     print why > "/dev/stderr"
     failed = 1
