@@ -9,7 +9,7 @@ use Rattle.mf_core.specs.declared.progress.ChangeOutcome.{ChangeOutcome}
 use Rattle.mf_core.specs.declared.progress.ChangeOutcome.TheVariants as outcome
 use Rattle.mf_core.specs.declared.progress.Turn.{Turn}
 use Rattle.mf_core.specs.declared.progress.Turn.TheVariants as turn
-use Rattle.mf_core.specs.LegalHistory.{turn_at_line}
+use Rattle.mf_core.specs.LegalHistory.{turn_at_line, IsLegal}
 use Rattle.mf_core.specs.CoreView.{CoreView, lines_at, turn_at}
 
 -- the script without lines
@@ -68,6 +68,11 @@ pass_turn s pass = turn_unless pass.stopped (turn_at_line (slice_get (lines_of s
 abbrev pub ticket_turn : Bool → Turn
 ticket_turn true = turn.Done
 ticket_turn false = turn.Entered
+
+-- It is the core of a run of the script: its history is a legal one.
+pub record IsCoreOf (s : Script) (run : CoreView) : Type 0 where
+  pub script_is : run.script ≡ s
+  pub legal : IsLegal run.script run.history
 
 -- the core's turn of the task, and its lines done, are those that the pass says, or the ticket
 

@@ -12,7 +12,7 @@ ghost use Rattle.mf_core.specs.Next.{next_plan};
 ghost use Rattle.mf_core.specs.WithEvent.{with_event};
 ghost use Rattle.mf_core.specs.Policies.{StaysWhileWaiting};
 ghost use Rattle.mf_core.specs.CoreView.{specs_of, run_state, open_of, Changes, Commits};
-ghost use Rattle.mf_share.specs.Passes.{AgreesWithPass, AgreesWithTicket, pass_changed, pass_left, pass_turn, ticket_after, ticket_for};
+ghost use Rattle.mf_share.specs.Passes.{AgreesWithPass, AgreesWithTicket, IsCoreOf, pass_changed, pass_left, pass_turn, ticket_after, ticket_for};
 
 use crate::pass::{Job, Pass, Ticket};
 use crate::policies::Policies;
@@ -63,7 +63,9 @@ impl<'s, J: Job, B: Ledger> Desk<'s, J, B> {
             × (self.new ≡ record self.old { history = with_event self.old.history (event.Enter pass.old.task) })
             × (ticket ≡ ticket_for pass.old) × (pass.new ≡ record pass.old { out = true })) }
         ensures none { IfNone result (¬ AgreesWithPass self.old pass.old × (self.new ≡ self.old) × (pass.new ≡ pass.old)) }
+        ensures core { IsCoreOf J.script self.old }
     {
+        let _history = self.core.history();
         let task = pass.task;
         let lines = pass.lines;
         if self.core.turn(task) != Turn::Entry || self.core.lines(task) != lines {
@@ -88,7 +90,9 @@ impl<'s, J: Job, B: Ledger> Desk<'s, J, B> {
         requires { ticket.now.committed ≡ false }
         ensures made { IsTrue result → AgreesWithTicket self.now ticket.now × (next_plan self.now.script (run_state self.now) ticket.now.task ≡ Some plan.new) }
         ensures none { result ≡ false → ¬ AgreesWithTicket self.now ticket.now × (plan.new ≡ plan.old) }
+        ensures core { IsCoreOf J.script self.now }
     {
+        let _history = self.core.history();
         let task = ticket.task;
         let lines = ticket.lines;
         if self.core.turn(task) != Turn::Entered || self.core.lines(task) != lines {
@@ -118,7 +122,9 @@ impl<'s, J: Job, B: Ledger> Desk<'s, J, B> {
         ensures none { IfOk result (λ found. IfNone found (¬ AgreesWithTicket self.old ticket.old × (self.new ≡ self.old) × (ticket.new ≡ ticket.old))) }
         ensures err { OnErr result (AgreesWithTicket self.old ticket.old × (self.new ≡ self.old) × (ticket.new ≡ ticket.old)) }
         ensures memory { is_done (reply_to plan.now verdict.now payload.None) ≡ false → IsOk result }
+        ensures core { IsCoreOf J.script self.old }
     {
+        let _history = self.core.history();
         self.busy.audit(&mut ticket.busy);
         let task = ticket.task;
         let lines = ticket.lines;
@@ -142,7 +148,9 @@ impl<'s, J: Job, B: Ledger> Desk<'s, J, B> {
             × (self.new ≡ record self.old { history = with_event self.old.history (event.Leave ticket.task) })
             × (pass.new ≡ pass_left ticket.committed pass.old)) }
         ensures err { IfErr result (λ back. ¬ AgreesWithTicket self.old ticket × (back ≡ ticket) × (self.new ≡ self.old) × (pass.new ≡ pass.old)) }
+        ensures core { IsCoreOf J.script self.old }
     {
+        let _history = self.core.history();
         let task = ticket.task;
         let lines = ticket.lines;
         let turn = if ticket.committed {
@@ -196,7 +204,9 @@ impl<'s, J: Job, B: Ledger> Desk<'s, J, B> {
             × (policies.old.list.entries ≡ specs_of self.old)
             × (self.new ≡ self.old) × (policies.new ≡ policies.old) × (pass.new ≡ record pass.old { stopped = true })) }
         ensures memory { (reply : Reply) → next_reply self.old.script (run_state self.old) pass.old.task ≡ Some reply → is_done reply ≡ false → IsOk result }
+        ensures core { IsCoreOf J.script self.old }
     {
+        let _history = self.core.history();
         let task = pass.task;
         let lines = pass.lines;
         if self.core.turn(task) != Turn::Change || self.core.lines(task) != lines {

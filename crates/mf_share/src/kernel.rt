@@ -1,13 +1,14 @@
 //! The kernel: the desk and the policies, each behind a lock of its own.
-ghost use Rattle.std.specs.Prelude.{◌≡◌, ◌+◌, [], true, false, All, length, map, IfOk, OnErr, OnOk};
+ghost use Rattle.std.specs.Prelude.{◌≡◌, ◌+◌, [], true, false, All, length, map, IfOk, OnErr, OnOk, Some};
 ghost use Rattle.mf_policy.specs.Modules.{module_of};
 ghost use Rattle.mf_list.specs.Fresh.{IsFresh};
 ghost use Rattle.mf_calls.specs.WellFormed.{IsWellFormed};
 ghost use Rattle.mf_step.specs.Verdict as step;
 ghost use Rattle.mf_core.specs.declared.progress.Turn.TheVariants as turn;
 ghost use Rattle.mf_core.specs.AllModules.{AreAllModules};
-ghost use Rattle.mf_core.specs.CoreView.{done_of, open_of};
-ghost use Rattle.mf_share.specs.Passes.{AreBack, AreFirst, AreOneEach, lines_sum, pass_left, pass_turn, ticket_after, ticket_for};
+ghost use Rattle.mf_core.specs.Next.{next_plan};
+ghost use Rattle.mf_core.specs.CoreView.{CoreView, done_of, open_of, run_state, Commits};
+ghost use Rattle.mf_share.specs.Passes.{AgreesWithPass, AgreesWithTicket, AreBack, AreFirst, AreOneEach, IsCoreOf, lines_sum, pass_left, pass_turn, ticket_after, ticket_for};
 
 use crate::desk::Desk;
 use crate::pass::{Job, Pass, Ticket};
@@ -91,21 +92,10 @@ impl<'s, P: Policy, J: Job, B: Ledger> Kernel<'s, P, J, B> {
         ensures passes { IfOk result (λ r. AreOneEach J.script r.1.items) }
         ensures first { IfOk result (λ r. AreFirst r.1.items (length J.script.tasks)) }
     {
-        let (core, list, catalogue) = Core::new(alloc, script, modules)?;
         let (done_book, mut done) = lines.open::<J>();
         let (busy_book, mut busy) = busy.open::<B>();
-        let tasks = script.tasks.len();
-        let mut passes = Vec::with_capacity(alloc, tasks)?;
-        for task in 0..tasks as u32 {
-            passes.push(Pass {
-                task,
-                lines: 0,
-                out: false,
-                stopped: false,
-                done: done.split_off(1, 0),
-                busy: busy.split_off(1, 0),
-            })?;
-        }
+        let passes = first_passes(alloc, script, &mut done, &mut busy)?;
+        let (core, list, catalogue) = Core::new(alloc, script, modules)?;
         let kernel = Kernel {
             script,
             desk: Mutex::new(Desk {
@@ -137,6 +127,7 @@ impl<'s, P: Policy, J: Job, B: Ledger> Kernel<'s, P, J, B> {
         requires turn { pass_turn J.script pass.old ≡ turn.Entry }
         ensures ticket { result ≡ ticket_for pass.old }
         ensures pass { pass.new ≡ record pass.old { out = true } }
+        ensures found { (core : CoreView) × IsCoreOf J.script core × AgreesWithPass core pass.old }
     {
         for _ in rt.forever() {
             let found = self.desk.lock(rt).enter(pass);
@@ -155,6 +146,8 @@ impl<'s, P: Policy, J: Job, B: Ledger> Kernel<'s, P, J, B> {
     /// Makes `plan` that of the ticket's call, from the state that the core is in during the call.
     pub fn plan<R: Wait>(&self, rt: &R, ticket: &Ticket<J, B>, plan: &mut Plan)
         requires { ticket.now.committed ≡ false }
+        ensures found { (core : CoreView) × IsCoreOf J.script core × AgreesWithTicket core ticket.now
+            × (next_plan core.script (run_state core) ticket.now.task ≡ Some plan.new) }
     {
         for _ in rt.forever() {
             let found = self.desk.lock(rt).plan(ticket, plan);
@@ -186,6 +179,8 @@ impl<'s, P: Policy, J: Job, B: Ledger> Kernel<'s, P, J, B> {
         requires verdict { verdict.now ≡ step.verdict_of list.now.entries plan.now }
         ensures ok { IfOk result (λ commit. ticket.new ≡ ticket_after commit ticket.old) }
         ensures err { OnErr result (ticket.new ≡ ticket.old) }
+        ensures found { IfOk result (λ commit. (old : CoreView) × (new : CoreView) × IsCoreOf J.script old × AgreesWithTicket old ticket.old
+            × Commits old ticket.old.task list.now.entries plan.now commit new) }
     {
         for _ in rt.forever() {
             let found = self
@@ -204,7 +199,8 @@ impl<'s, P: Policy, J: Job, B: Ledger> Kernel<'s, P, J, B> {
         requires task { ticket.task ≡ pass.old.task }
         requires lines { ticket.lines ≡ pass.old.lines }
         requires out { pass.old.out ≡ true }
-        ensures { pass.new ≡ pass_left ticket.committed pass.old }
+        ensures pass { pass.new ≡ pass_left ticket.committed pass.old }
+        ensures found { (core : CoreView) × IsCoreOf J.script core × AgreesWithTicket core ticket }
     {
         let mut held = ticket;
         for _ in rt.forever() {
@@ -271,20 +267,60 @@ impl<'s, P: Policy, J: Job, B: Ledger> Kernel<'s, P, J, B> {
             busy: mut busy_book,
         } = desk.into_inner();
         let Own { mut done, mut busy } = own.into_inner();
-        for pass in passes {
-            let Pass {
-                task: _,
-                lines: _,
-                out: _,
-                stopped: _,
-                done: done_part,
-                busy: busy_part,
-            } = pass;
-            done.merge(done_part);
-            busy.merge(busy_part);
-        }
+        take_back(passes, &mut done, &mut busy);
         done_book.audit(&mut done);
         busy_book.audit(&mut busy);
         core
+    }
+}
+
+/// A pass for each task in order, with a part of each ledger.
+fn first_passes<J: Job, B: Ledger>(
+    alloc: Global,
+    script: &Script,
+    done: &mut Share<J>,
+    busy: &mut Share<B>,
+) -> Result<Vec<Pass<J, B>>, AllocError>
+    requires formed { IsWellFormed script.now }
+    requires job { script.now ≡ J.script }
+    requires done { (done.old.parts ≡ length script.now.tasks + 1) × (done.old.amount ≡ 0) }
+    requires busy { (busy.old.parts ≡ length script.now.tasks + 1) × (busy.old.amount ≡ 0) }
+    ensures passes { IfOk result (λ passes. AreOneEach J.script passes.items) }
+    ensures first { IfOk result (λ passes. AreFirst passes.items (length J.script.tasks)) }
+    ensures done { OnOk result ((done.new.parts ≡ 1) × (done.new.amount ≡ 0)) }
+    ensures busy { OnOk result ((busy.new.parts ≡ 1) × (busy.new.amount ≡ 0)) }
+{
+    let tasks = script.tasks.len();
+    let mut passes = Vec::with_capacity(alloc, tasks)?;
+    for task in 0..tasks as u32 {
+        passes.push(Pass {
+            task,
+            lines: 0,
+            out: false,
+            stopped: false,
+            done: done.split_off(1, 0),
+            busy: busy.split_off(1, 0),
+        })?;
+    }
+    Ok(passes)
+}
+
+/// Takes the shares of these passes back. None of them has a ticket out.
+fn take_back<J: Job, B: Ledger>(passes: Vec<Pass<J, B>>, done: &mut Share<J>, busy: &mut Share<B>)
+    requires { AreBack passes.items (length passes.items) }
+    ensures done { (done.new.parts ≡ done.old.parts + length passes.items) × (done.new.amount ≡ done.old.amount + lines_sum passes.items) }
+    ensures busy { (busy.new.parts ≡ busy.old.parts + length passes.items) × (busy.new.amount ≡ busy.old.amount) }
+{
+    for pass in passes {
+        let Pass {
+            task: _,
+            lines: _,
+            out: _,
+            stopped: _,
+            done: done_part,
+            busy: busy_part,
+        } = pass;
+        done.merge(done_part);
+        busy.merge(busy_part);
     }
 }
