@@ -25,7 +25,7 @@ use Rattle.mf_script.specs.Outcome.{IsScriptOf}
 use Rattle.mf_script.proofs.ScriptWords.{AreWords, script_words}
 use Rattle.mf_script.proofs.FormedLines.{file_formed, task_formed, step_formed}
 use Rattle.mf_script.proofs.FormedCalls.{line_formed}
-use Rattle.mf_script.proofs.Formed.{no_pairs, boot_judged, AreFiles, file_judged, IsNextTask, task_judged, lists_formed, line_added, lists_added}
+use Rattle.mf_script.proofs.Formed.{no_pairs, boot_listed, AreFiles, file_judged, IsNextTask, task_judged, lists_formed, line_added, lists_added}
 use Rattle.mf_script.proofs.Yields.{Yields, done, refused, chain, skip, checked, either}
 
 -- the task that is open, and how many lines list the rules, with its own
@@ -144,8 +144,8 @@ with_step s step formed few is room =
 boot_keeps : (s : Script) (ws : Words) → IsWellFormed s → s.files ≡ [] → s.tasks ≡ [] → Yields Keeps (boot_in s ws)
 unfolding boot_in Keeps IsAt
 boot_keeps s ws formed no_files no_tasks =
-    skip _ _ (λ name. chain _ _ (boot_judged s.boots name formed.boots)
-    (λ m are. done (record { formed = with_boots s (s.boots ++ m ∷ []) formed no_files no_tasks are; at = (no_files, no_tasks) })))
+    chain _ _ (boot_listed s.boots ws formed.boots)
+    (λ m are. done (record { formed = with_boots s (s.boots ++ m ∷ []) formed no_files no_tasks are; at = (no_files, no_tasks) }))
 
 files_of : (s : Script) → IsWellFormed s → AreFiles s.boots s.files
 files_of s formed = record { few = formed.files; paths = formed.paths; each = formed.each_file; directories = formed.directories }

@@ -59,24 +59,34 @@ request_for kind boots w = do
 abbrev pub has_path : List (List ℕ) → FileLine → Bool
 has_path path f = is_same_path f.path path
 
--- the file after these; the root directory is always there
-unfoldable pub judged_file : List Module → List FileLine → FileWords → Read FileLine
-judged_file boots files f = do
+-- what a file's label asks for, where the file may stand after these; the root directory is always there
+unfoldable pub file_label : List Module → List FileLine → FileWords → Read Request
+file_label boots files f = do
   u ← unless TooMany (nat_lt (length files) FILE_LIMIT && nat_le (length f.text) CONTENT_LIMIT)
   u ← unless Duplicate (not (is_root f.path || list_any (has_path f.path) files))
   u ← unless BadPath (has_directory files (directory_of f.path))
-  label ← request_for kinds.Vnode boots f.label
+  request_for kinds.Vnode boots f.label
+
+-- the file after these
+unfoldable pub judged_file : List Module → List FileLine → FileWords → Read FileLine
+judged_file boots files f = do
+  label ← file_label boots files f
   Ok (record { path = f.path; file = f.file; label = label; text = f.text })
 
 abbrev pub has_name : List ℕ → Task → Bool
 has_name name task = bytes_eq task.name name
 
+-- what a task's label asks for, where the task may stand after these
+unfoldable pub task_label : List Module → List Task → TaskWords → Read Request
+task_label boots tasks t = do
+  u ← unless TooMany (nat_lt (length tasks) TASK_LIMIT)
+  u ← unless Duplicate (not (list_any (has_name t.name) tasks))
+  request_for kinds.Process boots t.label
+
 -- the task after these, before its lines
 unfoldable pub judged_task : List Module → List Task → TaskWords → Read Task
 judged_task boots tasks t = do
-  u ← unless TooMany (nat_lt (length tasks) TASK_LIMIT)
-  u ← unless Duplicate (not (list_any (has_name t.name) tasks))
-  label ← request_for kinds.Process boots t.label
+  label ← task_label boots tasks t
   Ok (record { name = t.name; cred = t.cred; label = label; lines = [] })
 
 -- how many lines list the rules, with this call
@@ -91,10 +101,13 @@ with_list call lists =
 abbrev pub State : Type 0
 State = Script × Place
 
+-- the module behind the word `boot`
+unfoldable pub booted_after : List Module → Words → Read Module
+booted_after boots ws = boot_words ws >>= judged_boot boots
+
 unfoldable pub boot_in : Script → Words → Read State
 boot_in s ws = do
-  name ← boot_words ws
-  m ← judged_boot s.boots name
+  m ← booted_after s.boots ws
   Ok (record s { boots = s.boots ++ m ∷ [] }, place.Boots)
 
 unfoldable pub file_in : Script → Words → Read State

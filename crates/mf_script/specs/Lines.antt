@@ -2,6 +2,8 @@
 -- for is judged afterwards.
 use Rattle.std.specs.Prelude.{ℕ, Bool, true, false, ◌==◌, if◌then◌else◌, List, [], ◌∷◌, Option, Some, None, Ok, codes}
 use Rattle.std.specs.Str.{bytes_eq}
+use Rattle.mf_cred.specs.declared.cred.Cred.{Cred}
+use Rattle.mf_cred.specs.declared.cred.FileView.{FileView}
 use Rattle.mf_words.specs.Words.{Words}
 use Rattle.mf_calls.specs.declared.script.Line.{Line}
 use Rattle.mf_calls.specs.declared.script.Step.{Step}
@@ -27,28 +29,40 @@ file_text dir [] = Ok ([], [])
 file_text true (w ∷ ws) = fails (if bytes_eq w (codes "text") then UnknownWord else Extra)
 file_text false (w ∷ ws) = field (codes "text") text_of (w ∷ ws)
 
--- behind the word `file`: PATH KIND "uid" N "gid" N "mode" OCTAL "label" L [ "text" TEXT ]
-unfoldable pub file_words : Words → Read FileWords
-file_words ws = do
-  path ← word_by path_of ws
-  dir ← word_by is_directory_of path.1
+-- KIND "uid" N "gid" N "mode" OCTAL
+unfoldable pub file_view : Words → Read (FileView × Words)
+file_view ws = do
+  dir ← word_by is_directory_of ws
   uid ← field (codes "uid") number_of dir.1
   gid ← field (codes "gid") number_of uid.1
   mode ← field (codes "mode") mode_of gid.1
-  label ← field (codes "label") any_word mode.1
-  text ← file_text dir.0 label.1
-  u ← no_more text.1
-  Ok (record { path = path.0; file = record { uid = uid.0; gid = gid.0; mode = mode.0; dir = dir.0 }; label = label.0; text = text.0 })
+  Ok (record { uid = uid.0; gid = gid.0; mode = mode.0; dir = dir.0 }, mode.1)
 
--- behind the word `task`: NAME "uid" N "gid" GROUPS "label" L
+-- behind the word `file`: PATH, the attributes, "label" L [ "text" TEXT ]
+unfoldable pub file_words : Words → Read FileWords
+file_words ws = do
+  path ← word_by path_of ws
+  file ← file_view path.1
+  label ← field (codes "label") any_word file.1
+  text ← file_text file.0.dir label.1
+  u ← no_more text.1
+  Ok (record { path = path.0; file = file.0; label = label.0; text = text.0 })
+
+-- "uid" N "gid" GROUPS
+unfoldable pub cred_words : Words → Read (Cred × Words)
+cred_words ws = do
+  uid ← field (codes "uid") number_of ws
+  groups ← field (codes "gid") groups_of uid.1
+  Ok (record { uid = uid.0; ruid = uid.0; svuid = uid.0; groups = groups.0 }, groups.1)
+
+-- behind the word `task`: NAME, the credential, "label" L
 unfoldable pub task_words : Words → Read TaskWords
 task_words ws = do
   name ← word_by name_of ws
-  uid ← field (codes "uid") number_of name.1
-  groups ← field (codes "gid") groups_of uid.1
-  label ← field (codes "label") any_word groups.1
+  cred ← cred_words name.1
+  label ← field (codes "label") any_word cred.1
   u ← no_more label.1
-  Ok (record { name = name.0; cred = record { uid = uid.0; ruid = uid.0; svuid = uid.0; groups = groups.0 }; label = label.0 })
+  Ok (record { name = name.0; cred = cred.0; label = label.0 })
 
 abbrev pub at_sign : ℕ
 at_sign = 64

@@ -209,8 +209,7 @@ pub fn call_named(alloc: Global, name: &str, words: &mut Words) -> Result<Call, 
     ensures { Gives (λ c. c) result (call_named name.now words.old) }
 {
     let call = call(alloc, name, words)?;
-    parts::no_more(words)?;
-    Ok(call)
+    parts::at_end(words, call)
 }
 
 /// A call with its arguments, after which the line must end.

@@ -1,11 +1,12 @@
 //! What the words of a line ask for, judged.
 #![tactic(auto, unfolding(crate::specs::Readers::and_then))]
 
-ghost use Rattle.std.specs.Prelude.{◌≡◌};
+ghost use Rattle.std.specs.Prelude.{◌≡◌, ◌≤◌, length, OnOk};
 ghost use Rattle.std.specs.List.{list_any};
+ghost use Rattle.mf_names.specs.declared.limits.TheConstants.{CONTENT_LIMIT};
 ghost use Rattle.mf_calls.specs.Paths.{is_directory_at, has_directory};
 ghost use Rattle.mf_script.specs.Gives.{Gives};
-ghost use Rattle.mf_script.specs.Grammar.{judged_module, judged_boot, request_of, request_for, has_path, judged_file, has_name, judged_task, with_list};
+ghost use Rattle.mf_script.specs.Grammar.{judged_module, judged_boot, request_of, request_for, has_path, file_label, judged_file, has_name, task_label, judged_task, with_list};
 
 use crate::error::ScriptFault;
 use crate::lines::{FileWords, TaskWords};
@@ -96,6 +97,26 @@ fn has_directory(files: &[FileLine], path: &Components<'_>) -> bool
     path.is_empty() || lists_directory(files, path)
 }
 
+/// What the file's label asks for, where the file may stand after these.
+#[tactic(auto, unfolding(crate::specs::Grammar::file_label, crate::specs::Readers::and_then))]
+fn file_label(boots: &[Module], files: &[FileLine], words: &FileWords) -> Result<Request, Refusal>
+    ensures label { Gives (λ r. r) result (file_label boots.now files.now words.now) }
+    ensures fits { OnOk result (length words.now.text ≤ CONTENT_LIMIT) }
+{
+    if files.len() >= FILE_LIMIT || words.text.as_slice().len() > CONTENT_LIMIT {
+        return Err(faulty(ScriptFault::TooMany));
+    }
+    let components = words.path.components();
+    if components.is_empty() || has_path(files, &components) {
+        return Err(faulty(ScriptFault::Duplicate));
+    }
+    if !has_directory(files, &directory_of(&words.path)) {
+        return Err(faulty(ScriptFault::BadPath));
+    }
+    let label = request_for(Kind::Vnode, boots, words.label.as_str())?;
+    Ok(label)
+}
+
 /// The file that the words ask for, after these.
 #[tactic(auto, unfolding(crate::specs::Grammar::judged_file, crate::specs::Readers::and_then))]
 pub fn judged_file(
@@ -106,25 +127,9 @@ pub fn judged_file(
 ) -> Result<FileLine, Refusal>
     ensures { Gives (λ f. f) result (judged_file boots.now files.now words) }
 {
-    let FileWords {
-        path,
-        file,
-        label,
-        text,
-    } = words;
-    let text = text.as_slice();
-    if files.len() >= FILE_LIMIT || text.len() > CONTENT_LIMIT {
-        return Err(faulty(ScriptFault::TooMany));
-    }
-    let components = path.components();
-    if components.is_empty() || has_path(files, &components) {
-        return Err(faulty(ScriptFault::Duplicate));
-    }
-    if !has_directory(files, &directory_of(&path)) {
-        return Err(faulty(ScriptFault::BadPath));
-    }
-    let label = request_for(Kind::Vnode, boots, label.as_str())?;
-    let text = Bytes::copy_of(alloc, text)?;
+    let label = file_label(boots, files, &words)?;
+    let text = Bytes::copy_of(alloc, words.text.as_slice())?;
+    let FileWords { path, file, .. } = words;
     Ok(FileLine {
         path,
         file,
@@ -139,6 +144,20 @@ fn has_name(tasks: &[Task], name: &Name) -> bool
     tasks.iter().any(|task| task.name.as_str() == name.as_str())
 }
 
+/// What the task's label asks for, where the task may stand after these.
+#[tactic(auto, unfolding(crate::specs::Grammar::task_label, crate::specs::Readers::and_then))]
+fn task_label(boots: &[Module], tasks: &[Task], words: &TaskWords) -> Result<Request, Refusal>
+    ensures { Gives (λ r. r) result (task_label boots.now tasks.now words.now) }
+{
+    if tasks.len() >= TASK_LIMIT {
+        return Err(faulty(ScriptFault::TooMany));
+    }
+    if has_name(tasks, &words.name) {
+        return Err(faulty(ScriptFault::Duplicate));
+    }
+    request_for(Kind::Process, boots, words.label.as_str())
+}
+
 /// The task that the words ask for, after these. It has no lines yet.
 #[tactic(auto, unfolding(crate::specs::Grammar::judged_task, crate::specs::Readers::and_then))]
 pub fn judged_task(
@@ -149,14 +168,8 @@ pub fn judged_task(
 ) -> Result<Task, Refusal>
     ensures { Gives (λ t. t) result (judged_task boots.now tasks.now words) }
 {
-    if tasks.len() >= TASK_LIMIT {
-        return Err(faulty(ScriptFault::TooMany));
-    }
-    let TaskWords { name, cred, label } = words;
-    if has_name(tasks, &name) {
-        return Err(faulty(ScriptFault::Duplicate));
-    }
-    let label = request_for(Kind::Process, boots, label.as_str())?;
+    let label = task_label(boots, tasks, &words)?;
+    let TaskWords { name, cred, .. } = words;
     Ok(Task {
         name,
         cred,

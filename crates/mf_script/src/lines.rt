@@ -3,7 +3,7 @@
 
 ghost use Rattle.std.specs.Prelude.{◌≡◌};
 ghost use Rattle.mf_script.specs.Gives.{Gives};
-ghost use Rattle.mf_script.specs.Lines.{boot_words, file_text, file_words, task_words, line_words, kind_of, step_words};
+ghost use Rattle.mf_script.specs.Lines.{boot_words, file_text, file_view, file_words, cred_words, task_words, line_words, kind_of, step_words};
 
 use crate::error::ScriptFault;
 use crate::refusal::{Refusal, faulty};
@@ -35,8 +35,7 @@ pub fn boot_words(alloc: Global, words: &mut Words) -> Result<Word, Refusal>
     ensures { Gives (λ name. name) result (boot_words words.old) }
 {
     let name = parts::word(alloc, words)?;
-    parts::no_more(words)?;
-    Ok(name)
+    parts::at_end(words, name)
 }
 
 /// The text of a file line, where it has one. A directory has none.
@@ -63,29 +62,53 @@ fn file_text(alloc: Global, dir: bool, words: &mut Words) -> Result<Bytes<SCRIPT
     }
 }
 
+/// The attributes of a file: its kind, its owner, its group and its mode.
+#[tactic(auto, unfolding(crate::specs::Lines::file_view, crate::specs::Readers::and_then))]
+fn file_view(words: &mut Words) -> Result<FileView, Refusal>
+    ensures { Gives (λ f. (f, words.new)) result (file_view words.old) }
+{
+    let dir = parts::is_directory(words)?;
+    let uid = parts::number_field(words, "uid")?;
+    let gid = parts::number_field(words, "gid")?;
+    let mode = parts::mode_field(words, "mode")?;
+    Ok(FileView {
+        uid,
+        gid,
+        mode,
+        dir,
+    })
+}
+
 /// The words behind `file`.
 #[tactic(auto, unfolding(crate::specs::Lines::file_words, crate::specs::Readers::and_then))]
 pub fn file_words(alloc: Global, words: &mut Words) -> Result<FileWords, Refusal>
     ensures { Gives (λ f. f) result (file_words words.old) }
 {
     let path = names::path(alloc, words)?;
-    let dir = parts::is_directory(words)?;
-    let uid = parts::number_field(words, "uid")?;
-    let gid = parts::number_field(words, "gid")?;
-    let mode = parts::mode_field(words, "mode")?;
+    let file = file_view(words)?;
     let label = parts::word_field(alloc, words, "label")?;
-    let text = file_text(alloc, dir, words)?;
-    parts::no_more(words)?;
-    Ok(FileWords {
+    let text = file_text(alloc, file.dir, words)?;
+    let asked = FileWords {
         path,
-        file: FileView {
-            uid,
-            gid,
-            mode,
-            dir,
-        },
+        file,
         label,
         text,
+    };
+    parts::at_end(words, asked)
+}
+
+/// The credential of a task: its uid and its groups.
+#[tactic(auto, unfolding(crate::specs::Lines::cred_words, crate::specs::Readers::and_then))]
+fn cred_words(words: &mut Words) -> Result<Cred, Refusal>
+    ensures { Gives (λ c. (c, words.new)) result (cred_words words.old) }
+{
+    let uid = parts::number_field(words, "uid")?;
+    let groups = parts::groups_field(words, "gid")?;
+    Ok(Cred {
+        uid,
+        ruid: uid,
+        svuid: uid,
+        groups,
     })
 }
 
@@ -95,20 +118,9 @@ pub fn task_words(alloc: Global, words: &mut Words) -> Result<TaskWords, Refusal
     ensures { Gives (λ t. t) result (task_words words.old) }
 {
     let name = names::name(alloc, words)?;
-    let uid = parts::number_field(words, "uid")?;
-    let groups = parts::groups_field(words, "gid")?;
+    let cred = cred_words(words)?;
     let label = parts::word_field(alloc, words, "label")?;
-    parts::no_more(words)?;
-    Ok(TaskWords {
-        name,
-        cred: Cred {
-            uid,
-            ruid: uid,
-            svuid: uid,
-            groups,
-        },
-        label,
-    })
+    parts::at_end(words, TaskWords { name, cred, label })
 }
 
 /// A line of a task, by its first word: a call, and the child that makes it where the line names one.
@@ -153,6 +165,5 @@ pub fn step_words(alloc: Global, first: &str, words: &mut Words) -> Result<Step,
 {
     let kind = kind_of(first)?;
     let task = names::name(alloc, words)?;
-    parts::no_more(words)?;
-    Ok(Step { kind, task })
+    parts::at_end(words, Step { kind, task })
 }

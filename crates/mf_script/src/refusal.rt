@@ -8,14 +8,14 @@ use mf_errno::Errno;
 use std::alloc::{AllocError, AllocFailed};
 
 /// The fault of a line, with an errno where a module can't be booted.
-#[derive(Clone, Copy, Debug, PartialEq, Eq)]
+#[derive(Clone, Copy)]
 pub struct LineFault {
     pub fault: ScriptFault,
     pub errno: Option<Errno>,
 }
 
 /// Why a line is not read.
-#[derive(Clone, Copy, Debug, PartialEq, Eq)]
+#[derive(Clone, Copy)]
 pub enum Refusal {
     /// It has this fault.
     Faulty(LineFault),

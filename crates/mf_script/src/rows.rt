@@ -4,12 +4,13 @@
 ghost use Rattle.std.specs.Prelude.{◌≡◌, ◌++◌, ◌∷◌, []};
 ghost use Rattle.mf_script.specs.Gives.{Gives};
 ghost use Rattle.mf_script.specs.declared.rows.Place.TheVariants as place;
-ghost use Rattle.mf_script.specs.Grammar.{boot_in, file_in, task_in, line_in, step_in, alone, behind_tasks, behind_files, behind_boots, in_task, in_steps, row_in, words_line};
+ghost use Rattle.mf_script.specs.Grammar.{booted_after, boot_in, file_in, task_in, line_in, step_in, alone, behind_tasks, behind_files, behind_boots, in_task, in_steps, row_in, words_line};
 
 use crate::error::ScriptFault;
 use crate::refusal::{Refusal, faulty};
 use crate::{Words, judging, lines, parts};
 use mf_calls::{LINE_LIMIT, STEP_LIMIT, Script, Task};
+use mf_errno::Module;
 use mf_words::is_comment;
 use std::alloc::Global;
 
@@ -30,13 +31,21 @@ pub enum Place {
     End,
 }
 
+/// The module behind `boot`, where it may be booted after these.
+#[tactic(auto, unfolding(crate::specs::Grammar::booted_after, crate::specs::Readers::and_then))]
+fn booted_after(alloc: Global, boots: &[Module], words: &mut Words) -> Result<Module, Refusal>
+    ensures { Gives (λ m. m) result (booted_after boots.now words.old) }
+{
+    let name = lines::boot_words(alloc, words)?;
+    judging::judged_boot(boots, name.as_str())
+}
+
 /// Takes the words behind `boot`.
 #[tactic(auto, unfolding(crate::specs::Grammar::boot_in, crate::specs::Readers::and_then))]
 fn boot_row(alloc: Global, script: &mut Script, words: &mut Words) -> Result<Place, Refusal>
     ensures { Gives (λ p. (script.new, p)) result (boot_in script.old words.old) }
 {
-    let name = lines::boot_words(alloc, words)?;
-    let booted = judging::judged_boot(script.boots.as_slice(), name.as_str())?;
+    let booted = booted_after(alloc, script.boots.as_slice(), words)?;
     script.boots.push(booted)?;
     Ok(Place::Boots)
 }
@@ -128,8 +137,7 @@ fn end_row(
 fn alone(script: &Script, next: Place, words: &mut Words) -> Result<Place, Refusal>
     ensures { Gives (λ p. (script.now, p)) result (alone (script.now, next) words.old) }
 {
-    parts::no_more(words)?;
-    Ok(next)
+    parts::at_end(words, next)
 }
 
 /// Takes a line behind tasks, by its first word.
