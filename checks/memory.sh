@@ -1,14 +1,14 @@
 #!/bin/sh
 # Runs the program with one of its first allocations failing, as the words and the modules are made, since `main` has no contract: it ends
-# with the status of want of memory and prints nothing. Each number is a build of its own, half a minute long, so three stand for the first
-# dozen, and their runs go side by side; other numbers can be given. A line for each failure, then a count.
+# with the status of want of memory and prints nothing. Each number is a build of its own, half a minute long, so one stands for the first
+# dozen here; others can be given, as `checks/memory.sh 1 2 3`, and their runs go side by side. A line for each failure, then a count.
 cd "$(dirname "$0")/../crates/macsim" || exit 1
 folder=$(mktemp -d) || exit 1
 trap 'rm -rf "$folder"' EXIT
 passed=0
 failed=0
 
-[ $# -gt 0 ] || set -- 1 5 9
+[ $# -gt 0 ] || set -- 5
 
 # The run with the allocation of that number failing: what it prints, what the builder says, and its status.
 run_without() {

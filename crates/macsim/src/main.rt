@@ -2,6 +2,14 @@
 //! sources, or the summary, on the standard output.
 #![tactic(auto)]
 
+ghost use Rattle.std.specs.Prelude.{◌≡◌, ◌⊎◌, List, ℕ, map, Some, Result, IfOk, OnErr, string_bytes};
+ghost use Rattle.mf_io.specs.Outside.{seen};
+ghost use Rattle.mf_top.specs.declared.refusal.Refusal.{Refusal};
+ghost use Rattle.mf_top.specs.declared.command.Command.TheVariants as command;
+ghost use Rattle.mf_top.specs.Commands.{command_of};
+ghost use Rattle.mf_top.specs.Answers.{WroteHistory, WroteSummary, IsOutcome, IsWritten, IsFaultless};
+ghost use Rattle.mf_top.specs.Steps.{WroteSteps};
+
 use mf_biba::Biba;
 use mf_bsdextended::Bsdextended;
 use mf_io::{OpenGate, Sink, Source, StdSink, StdSource};
@@ -37,14 +45,29 @@ fn words_of(rt: &HostRuntime) -> io::Result<Vec<String>> {
     Ok(words)
 }
 
-/// Runs the program over the policy modules that are built in, and returns its exit status.
+/// Runs the program over the policy modules that are built in, and returns its exit status, of which it promises what
+/// `macsim` does. Where memory runs out before that, nothing is read and nothing written.
 fn run<S: Source, K: Sink, R: Threads + Wait + Sync>(
     rt: &R,
     alloc: Global,
     words: &[String],
     source: &mut S,
     sink: &mut K,
-) -> Result<u8, AllocError> {
+) -> Result<u8, AllocError>
+    ensures headline { IfOk result (λ status. command_of (map string_bytes words.now) ≡ Some command.Run → status ≡ 0
+        → WroteHistory (seen S.left S.faults source.old source.new) (seen K.taken K.faults sink.old sink.new)) }
+    ensures steps { IfOk result (λ status. command_of (map string_bytes words.now) ≡ Some command.Step → status ≡ 0
+        → WroteSteps (seen S.left S.faults source.old source.new) (seen K.taken K.faults sink.old sink.new)) }
+    ensures load { IfOk result (λ status. (lines tasks : ℕ) → command_of (map string_bytes words.now) ≡ Some (command.Gen lines tasks) → status ≡ 0
+        → WroteSummary lines tasks (seen S.left S.faults source.old source.new) (seen K.taken K.faults sink.old sink.new)) }
+    ensures cause { IfOk result (λ status. (outcome : Result (List ℕ) Refusal)
+        × IsOutcome (map string_bytes words.now) (seen S.left S.faults source.old source.new) outcome
+        × IsWritten (seen K.taken K.faults sink.old sink.new) outcome status) }
+    ensures complete { IfOk result (λ status. IsFaultless (map string_bytes words.now) (seen S.left S.faults source.old source.new)
+        (seen K.taken K.faults sink.old sink.new)
+        → (status ≡ 0) ⊎ (status ≡ 9)) }
+    ensures untouched { OnErr result ((source.new ≡ source.old) × (sink.new ≡ sink.old)) }
+{
     let mut modules: Vec<Box<dyn Policy + Send + Sync>> = Vec::new(alloc);
     modules.push(Box::new(alloc, Biba::new())?)?;
     modules.push(Box::new(alloc, Mls::new())?)?;

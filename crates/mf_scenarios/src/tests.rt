@@ -25,6 +25,7 @@ use mf_policy::Policy;
 use mf_priority::Priority;
 use mf_top::macsim;
 use std::alloc::{AllocError, Global};
+use std::process::Abort;
 use std::sync::Wait;
 use std::thread::Threads;
 
@@ -42,7 +43,7 @@ fn words_of(alloc: Global, given: &[&str]) -> Result<Vec<String>, AllocError> {
     Ok(words)
 }
 
-/// Runs the program over the policy modules that are built in, and returns its exit status.
+/// Runs the program with these words over the policy modules that are built in, and returns its exit status.
 fn run_with<S: Source, K: Sink, G: Gate, R: Threads + Wait + Sync>(
     rt: &R,
     alloc: Global,
@@ -52,13 +53,30 @@ fn run_with<S: Source, K: Sink, G: Gate, R: Threads + Wait + Sync>(
     gate: &G,
 ) -> Result<u8, AllocError> {
     let words = words_of(alloc, words)?;
+    run_words(rt, alloc, words.as_slice(), source, sink, gate)
+}
+
+/// The same with words that the caller keeps: while the modules are made nothing else is owned.
+fn run_words<S: Source, K: Sink, G: Gate, R: Threads + Wait + Sync>(
+    rt: &R,
+    alloc: Global,
+    words: &[String],
+    source: &mut S,
+    sink: &mut K,
+    gate: &G,
+) -> Result<u8, AllocError> {
     let mut modules: Vec<Box<dyn Policy + Send + Sync>> = Vec::new(alloc);
     modules.push(Box::new(alloc, Biba::new())?)?;
     modules.push(Box::new(alloc, Mls::new())?)?;
     modules.push(Box::new(alloc, Partition::new())?)?;
     modules.push(Box::new(alloc, Bsdextended::new(alloc)?)?)?;
     modules.push(Box::new(alloc, Priority::new())?)?;
-    Ok(macsim(rt, alloc, &words, source, sink, gate, modules))
+    Ok(macsim(rt, alloc, words, source, sink, gate, modules))
+}
+
+/// Wants this exit status, and that the sink took this text.
+fn wants<R: Abort>(rt: &R, name: &str, status: u8, wanted: u8, sink: &MemSink, text: &[u8]) {
+    assert!(rt; status == wanted && sink.taken() == text, "{name}");
 }
 
 /// Runs the script with this gate, and returns the exit status.

@@ -17,6 +17,7 @@ use Rattle.mf_top.specs.declared.command.Command.{Command}
 use Rattle.mf_top.specs.declared.command.Command.TheVariants as command
 use Rattle.mf_top.specs.Answers.{CanBeDone, HoldsScript, IsOutcomeOf, IsSourceRefusal, IsTooLong, IsWritten, status_of}
 use Rattle.mf_top.specs.Steps.{RefusesStep}
+use Rattle.mf_top.proofs.Known.{known}
 
 -- done, or memory ran out
 abbrev pub IsDoneOrNot : ℕ → Type 0
@@ -32,9 +33,9 @@ ok_is read s t is was = cc
 
 no_refusal : (before after : Option (List ℕ)) (line : ℕ) (fault : ScriptFault) (errno : Option Errno)
     → IsSomeAnd before (λ bytes. (length bytes ≤ SCRIPT_LIMIT) × ((s : Script) × (script_of bytes ≡ Ok s)))
-    → IfSome before (λ bytes. (length bytes ≤ SCRIPT_LIMIT) × (script_of bytes ≡ Err (script_error.Fault line fault errno)) × (after ≡ Some [])) → ⊥
+    → IfSome before (λ bytes. ((length bytes ≤ SCRIPT_LIMIT) × (script_of bytes ≡ Err (script_error.Fault line fault errno))) × (after ≡ Some [])) → ⊥
 no_refusal None after line fault errno holds cause = holds
-no_refusal (Some bytes) after line fault errno holds cause = no_script_fault holds.1.0 (script_error.Fault line fault errno) (sym holds.1.1 ∙ cause.1)
+no_refusal (Some bytes) after line fault errno holds cause = no_script_fault holds.1.0 (script_error.Fault line fault errno) (sym holds.1.1 ∙ cause.0.1)
 
 fits : (before after : Option (List ℕ)) → IsSomeAnd before (λ bytes. (length bytes ≤ SCRIPT_LIMIT) × ((s : Script) × (script_of bytes ≡ Ok s))) → IsTooLong before after → ⊥
 fits None after holds long = holds
@@ -42,7 +43,7 @@ fits (Some bytes) after holds long = omega (arith, holds.0, long.0)
 
 source_done : (source : Seen) (refused : Refusal) → HoldsScript source → ¬ FaultsRose source → IsSourceRefusal source refused → IsDoneOrNot (status_of (Err refused))
 source_done source refusal.Usage holds quiet cause = absurd cause
-source_done source (refusal.Script line fault errno) holds quiet cause = absurd (no_refusal source.before source.after line fault errno holds cause.1)
+source_done source (refusal.Script line fault errno) holds quiet cause = absurd (no_refusal source.before source.after line fault errno holds (known source _ cause.1))
 source_done source (refusal.Step number) holds quiet cause = absurd cause
 source_done source refusal.ReadFault holds quiet cause = absurd (quiet cause)
 source_done source refusal.TooLong holds quiet cause = absurd (fits source.before source.after holds cause.1)
@@ -67,7 +68,7 @@ outcome_done None source outcome can quiet cause = absurd can
 outcome_done (Some command.Run) source (Ok text) can quiet cause = inl refl
 outcome_done (Some command.Run) source (Err refused) can quiet cause = source_done source refused can quiet cause
 outcome_done (Some command.Step) source (Ok text) can quiet cause = inl refl
-outcome_done (Some command.Step) source (Err (refusal.Step number)) can quiet cause = absurd (no_step_refused source.before source.after number can cause.1)
+outcome_done (Some command.Step) source (Err (refusal.Step number)) can quiet cause = absurd (no_step_refused source.before source.after number can (known source _ cause.1))
 outcome_done (Some command.Step) source (Err refusal.Usage) can quiet cause = absurd cause
 outcome_done (Some command.Step) source (Err (refusal.Script line fault errno)) can quiet cause =
     source_done source (refusal.Script line fault errno) (holds_script source.before can) quiet cause

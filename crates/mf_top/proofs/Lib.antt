@@ -1,10 +1,12 @@
 pub mod Pieces
+pub mod Known
 pub mod NoFaults
 mod Complete
 pub mod Modules
 pub mod Whole
 pub mod Passes
 pub mod Summed
+mod FromSource
 mod Stepped
 mod Told
 mod Wrote

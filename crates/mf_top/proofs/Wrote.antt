@@ -1,12 +1,12 @@
 -- What was written where the status is 0.
-use Rattle.std.proofs.Common.{◌≡◌, ℕ, List, [], Option, Some, None, Result, Ok, Err, inl, inr, refl, sym, ◌∙◌, subst, arith}
-use Rattle.std.specs.Prelude.{IfSome}
+use Rattle.std.proofs.Common.{◌≡◌, ℕ, List, Option, Some, Result, Ok, Err, inl, inr, refl, sym, ◌∙◌, subst, arith}
 use Rattle.mf_io.specs.Outside.{Seen, Took}
 use Rattle.mf_top.specs.declared.refusal.Refusal.{Refusal}
 use Rattle.mf_top.specs.declared.refusal.Refusal.TheVariants as refusal
 use Rattle.mf_top.specs.declared.command.Command.{Command}
 use Rattle.mf_top.specs.declared.command.Command.TheVariants as command
 use Rattle.mf_top.specs.Answers.{IsRunText, IsRunOutcome, IsStepOutcome, IsLoaded, IsLoadOutcome, IsOutcomeOf, IsWritten, WroteHistory, WroteSummary, refusal_status}
+use Rattle.mf_top.specs.Reading.{Held}
 use Rattle.mf_top.specs.Steps.{IsStepText, WroteSteps}
 
 never_zero : (refused : Refusal) → refusal_status refused ≡ 0 → ⊥
@@ -24,21 +24,20 @@ whole_text sink (Ok text) status zero (inl whole) = (text, refl, whole.2)
 whole_text sink (Err refused) status zero (inl whole) = absurd (never_zero refused (sym whole.0 ∙ zero))
 whole_text sink outcome status zero (inr part) = absurd (omega (arith, zero, part.0))
 
-took_of : (before after : Option (List ℕ)) (text : List ℕ) (IsOf : List ℕ → List ℕ → Type 0) (sink : Seen) → IfSome before (λ bytes. IsOf bytes text × (after ≡ Some [])) → Took sink.before sink.after text
-    → IfSome before (λ bytes. (after ≡ Some []) × ((text : List ℕ) × IsOf bytes text × Took sink.before sink.after text))
-took_of None after text IsOf sink is took = tt
-took_of (Some bytes) after text IsOf sink is took = (is.1, (text, is.0, took))
+took_of : (source sink : Seen) (text : List ℕ) (IsOf : List ℕ → List ℕ → Type 0) → Held source (λ bytes. IsOf bytes text) → Took sink.before sink.after text
+    → Held source (λ bytes. (text : List ℕ) × IsOf bytes text × Took sink.before sink.after text)
+took_of source sink text IsOf held took = (held.0, held.1, (text, held.2, took))
 
 module _ (source sink : Seen) (outcome : Result (List ℕ) Refusal) (status : ℕ) (zero : status ≡ 0) (written : IsWritten sink outcome status) where
   wrote_history : IsRunOutcome source outcome → WroteHistory source sink
   wrote_history cause =
       let all = whole_text sink outcome status zero written in
-      took_of source.before source.after all.0 IsRunText sink (subst (IsRunOutcome source) all.1 cause).1 all.2
+      took_of source sink all.0 IsRunText (subst (IsRunOutcome source) all.1 cause).1 all.2
 
   pub wrote_steps : IsStepOutcome source outcome → WroteSteps source sink
   wrote_steps cause =
       let all = whole_text sink outcome status zero written in
-      took_of source.before source.after all.0 IsStepText sink (subst (IsStepOutcome source) all.1 cause).1 all.2
+      took_of source sink all.0 IsStepText (subst (IsStepOutcome source) all.1 cause).1 all.2
 
   wrote_summary : (lines tasks : ℕ) → IsLoadOutcome lines tasks source outcome → WroteSummary lines tasks source sink
   wrote_summary lines tasks cause =

@@ -23,24 +23,24 @@ use Rattle.mf_names.specs.declared.limits.TheConstants.{SCRIPT_LIMIT}
 use Rattle.mf_hist.specs.HistoryText.{history_text}
 use Rattle.mf_load.specs.Summary.{load_summary}
 use Rattle.mf_stepping.specs.StepText.{AreAllTaken}
+use Rattle.mf_top.specs.Reading.{Held}
+use Rattle.mf_top.specs.Slots.{AreMarked}
 use Rattle.mf_top.specs.Steps.{IsStepText, RefusesStep}
 
 -- The text is that of a history and of its sources, and nothing else. The history is legal and complete for the script; in it each label
--- slot is made and ended at most once; and under mac_biba each source of a party dominates the party's element, as under mac_mls the
--- element dominates each.
+-- slot is made and ended at most once, and is set where it was made and hasn't ended; and under mac_biba each source of a party dominates the
+-- party's element, as under mac_mls the element dominates each.
 abbrev pub IsRunOf : Script → List ℕ → Type 0
 IsRunOf s text =
-    (h : History) × IsLegal s h × IsComplete s h × AreMadeOnce s h × AreInOrder s h × (text ≡ history_text s h ++ sources_text s h)
+    (h : History) × IsLegal s h × IsComplete s h × AreMadeOnce s h × AreMarked s h × AreInOrder s h × (text ≡ history_text s h ++ sources_text s h)
 
 -- the bytes are a script and no more than one may have, and the text is that of a legal and complete history of it
 abbrev pub IsRunText : List ℕ → List ℕ → Type 0
 IsRunText bytes text = (length bytes ≤ SCRIPT_LIMIT) × (s : Script) × (script_of bytes ≡ Ok s) × IsRunOf s text
 
--- Where the bytes of source and sink are known: the source held a script to its end, and the sink took the text of one
--- history that is legal and complete for it, and nothing else.
+-- The source held a script to its end, and the sink took the text of one history that is legal and complete for it, and nothing else.
 abbrev pub WroteHistory : Seen → Seen → Type 0
-WroteHistory source sink = IfSome source.before (λ bytes.
-    (source.after ≡ Some []) × ((text : List ℕ) × IsRunText bytes text × Took sink.before sink.after text))
+WroteHistory source sink = Held source (λ bytes. (text : List ℕ) × IsRunText bytes text × Took sink.before sink.after text)
 
 -- Where the bytes of the sink are known: it took the summary of the load, and nothing else; and nothing was read.
 abbrev pub WroteSummary : ℕ → ℕ → Seen → Seen → Type 0
@@ -59,20 +59,20 @@ IsTooLong before now = IfSome before (λ all. (SCRIPT_LIMIT < length all) × IsS
 
 -- why no script is read of the source, or why memory runs out behind that
 abbrev pub IsSourceRefusal : Seen → Refusal → Type 0
-IsSourceRefusal source (refusal.Script line fault errno) = HadNoFault source
-    × IfSome source.before (λ bytes. (length bytes ≤ SCRIPT_LIMIT) × (script_of bytes ≡ Err (script_error.Fault line fault errno)) × (source.after ≡ Some []))
+IsSourceRefusal source (refusal.Script line fault errno) =
+    HadNoFault source × Held source (λ bytes. (length bytes ≤ SCRIPT_LIMIT) × (script_of bytes ≡ Err (script_error.Fault line fault errno)))
 IsSourceRefusal source refusal.ReadFault = FaultsRose source
 IsSourceRefusal source refusal.TooLong = HadNoFault source × IsTooLong source.before source.after
 IsSourceRefusal source refusal.Memory = HadNoFault source
 IsSourceRefusal source other = ⊥
 
 abbrev pub IsRunOutcome : Seen → Result (List ℕ) Refusal → Type 0
-IsRunOutcome source (Ok text) = HadNoFault source × IfSome source.before (λ bytes. IsRunText bytes text × (source.after ≡ Some []))
+IsRunOutcome source (Ok text) = HadNoFault source × Held source (λ bytes. IsRunText bytes text)
 IsRunOutcome source (Err refused) = IsSourceRefusal source refused
 
 abbrev pub IsStepOutcome : Seen → Result (List ℕ) Refusal → Type 0
-IsStepOutcome source (Ok text) = HadNoFault source × IfSome source.before (λ bytes. IsStepText bytes text × (source.after ≡ Some []))
-IsStepOutcome source (Err (refusal.Step number)) = HadNoFault source × IfSome source.before (λ bytes. RefusesStep bytes number × (source.after ≡ Some []))
+IsStepOutcome source (Ok text) = HadNoFault source × Held source (λ bytes. IsStepText bytes text)
+IsStepOutcome source (Err (refusal.Step number)) = HadNoFault source × Held source (λ bytes. RefusesStep bytes number)
 IsStepOutcome source (Err refused) = IsSourceRefusal source refused
 
 -- the summary of the load, or want of memory

@@ -1,4 +1,5 @@
 pub mod Reading
+pub mod Slots
 pub mod Passes
 pub mod Commands
 pub mod Steps

@@ -1,5 +1,5 @@
 -- What the word `step` writes, by docs/MANUAL.md (STEPS).
-use Rattle.std.specs.Prelude.{◌≡◌, ℕ, ◌≤◌, List, [], ◌++◌, length, Some, IfSome, Ok}
+use Rattle.std.specs.Prelude.{◌≡◌, ℕ, ◌≤◌, List, ◌++◌, length, Ok}
 use Rattle.mf_calls.specs.declared.script.Script.{Script}
 use Rattle.mf_script.specs.Grammar.{script_of}
 use Rattle.mf_core.specs.declared.history.History.{History}
@@ -10,12 +10,15 @@ use Rattle.mf_lifetimes.specs.Once.{AreMadeOnce}
 use Rattle.mf_io.specs.Outside.{Seen, Took}
 use Rattle.mf_names.specs.declared.limits.TheConstants.{SCRIPT_LIMIT}
 use Rattle.mf_stepping.specs.StepText.{IsStepRun, IsFirstRefused}
+use Rattle.mf_top.specs.Reading.{Held}
+use Rattle.mf_top.specs.Slots.{AreMarked}
 
 -- The text is that of the steps of the script, each of which is taken, and of the sources at their end, and nothing else. Their history is
--- legal; in it each label slot is made and ended at most once; and what flowed into a party is in the order of its policy.
+-- legal; in it each label slot is made and ended at most once, and is set where it was made and hasn't ended; and what flowed into a party is in the
+-- order of its policy.
 abbrev pub IsStepsOf : Script → List ℕ → Type 0
 IsStepsOf s text =
-    (h : History) × (steps : List ℕ) × IsStepRun s h steps × IsLegal s h × AreMadeOnce s h × AreInOrder s h × (text ≡ steps ++ sources_text s h)
+    (h : History) × (steps : List ℕ) × IsStepRun s h steps × IsLegal s h × AreMadeOnce s h × AreMarked s h × AreInOrder s h × (text ≡ steps ++ sources_text s h)
 
 -- the bytes are a script and no more than one may have, and the text is that of its steps
 abbrev pub IsStepText : List ℕ → List ℕ → Type 0
@@ -25,8 +28,6 @@ IsStepText bytes text = (length bytes ≤ SCRIPT_LIMIT) × (s : Script) × (scri
 abbrev pub RefusesStep : List ℕ → ℕ → Type 0
 RefusesStep bytes number = (length bytes ≤ SCRIPT_LIMIT) × (s : Script) × (script_of bytes ≡ Ok s) × IsFirstRefused s number
 
--- Where the bytes of source and sink are known: the source held a script to its end, and the sink took the text of its steps, each of which
--- was taken, and nothing else.
+-- The source held a script to its end, and the sink took the text of its steps, each of which was taken, and nothing else.
 abbrev pub WroteSteps : Seen → Seen → Type 0
-WroteSteps source sink = IfSome source.before (λ bytes.
-    (source.after ≡ Some []) × ((text : List ℕ) × IsStepText bytes text × Took sink.before sink.after text))
+WroteSteps source sink = Held source (λ bytes. (text : List ℕ) × IsStepText bytes text × Took sink.before sink.after text)

@@ -10,6 +10,7 @@ mod read;
 mod refusal;
 mod run;
 mod steps;
+mod text;
 mod top;
 mod write;
 

@@ -65,6 +65,7 @@ pub fn read_all<S: Source>(alloc: Global, source: &mut S) -> Result<Vec<u8>, Rea
 }
 
 /// The script that the source holds to its end.
+#[tactic(auto, using(crate::proofs::FromSource::read_of, crate::proofs::FromSource::refused))]
 pub fn read_source<S: Source>(alloc: Global, source: &mut S) -> Result<Script, Refusal>
     ensures read { IsRead (seen S.left S.faults source.old source.new) result }
     ensures formed { IfOk result IsWellFormed }

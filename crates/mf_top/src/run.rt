@@ -12,10 +12,9 @@ ghost use Rattle.mf_load.specs.Summary.{load_summary};
 ghost use Rattle.mf_top.specs.Answers.{IsRunOf};
 ghost use Rattle.mf_top.specs.Passes.{HaveAll, IsBack, IsLine, IsSameTicket, WentOn};
 
+use crate::text::whole_text;
 use mf_calls::{Script, generate};
 use mf_core::{Commit, Core, Turn};
-use mf_flow::{print_sources, sources};
-use mf_hist::print_history;
 use mf_io::Gate;
 use mf_load::{summary_is_settled, summary_text};
 use mf_plan::Plan;
@@ -42,11 +41,7 @@ pub fn run_script<P: Policy, G: Gate, R: Threads + Wait + Sync>(
     ensures { IfOk result (λ text. IsRunOf script.now (string_bytes text)) }
 {
     let core = run_core(rt, alloc, script, gate, modules)?;
-    let history = core.history();
-    let table = sources(alloc, script, history)?;
-    let mut text = String::new(alloc);
-    print_history(script, history, &mut text)?;
-    print_sources(&table, &mut text)?;
+    let text = whole_text(alloc, script, core.history())?;
     Ok(text)
 }
 

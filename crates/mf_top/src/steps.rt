@@ -13,9 +13,9 @@ ghost use Rattle.mf_top.specs.Scripts.{AreStepped};
 ghost use Rattle.mf_top.specs.Steps.{WroteSteps};
 
 use crate::refusal::{Refusal, ToldRefusal};
+use crate::text::add_sources;
 use crate::{read, write};
 use mf_calls::Script;
-use mf_flow::{print_sources, sources};
 use mf_io::{Sink, Source};
 use mf_policy::Policy;
 use mf_stepping::Stepped;
@@ -35,7 +35,7 @@ pub fn run_steps<S: Source, K: Sink, P: Policy>(
     requires fresh { All (λ p. IsFresh (P.spec p)) modules.items }
 
     // With 0 the source held a script to its end, each of its steps was taken, and the sink took their text and that of the
-    // sources at their end, and nothing else.
+    // sources at their end, and nothing else. Of their history is said what `macsim` says of a run's, but that it is complete.
     ensures steps { result ≡ 0
         → WroteSteps (seen S.left S.faults source.old source.new) (seen K.taken K.faults sink.old sink.new) }
 
@@ -99,8 +99,7 @@ fn step_script<P: Policy>(
     match mf_stepping::run_steps(alloc, script, modules)? {
         Stepped::Refused(number) => Err(Refusal::Step(number)),
         Stepped::Taken { mut text, core } => {
-            let table = sources(alloc, script, core.history())?;
-            print_sources(&table, &mut text)?;
+            add_sources(alloc, script, core.history(), &mut text)?;
             Ok(text)
         }
     }

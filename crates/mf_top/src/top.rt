@@ -41,8 +41,9 @@ pub fn macsim<S: Source, K: Sink, G: Gate, P: Policy, R: Threads + Wait + Sync>(
     requires fresh { All (λ p. IsFresh (P.spec p)) modules.items }
 
     // With `run` and 0 the source held a script to its end, and the sink took the text of one history that is legal and
-    // complete for it, and of its sources, and nothing else. In it each label slot is made and ended at most once, and
-    // what flowed into a party is in the order of its policy.
+    // complete for it, and of its sources, and nothing else. In it each label slot is made and ended at most once, at its
+    // end a live entity's slot is unset exactly where it has no mark, and what flowed into a party is in the order of its
+    // policy. Where source or sink doesn't tell its bytes, there are bytes of which this holds.
     ensures headline { command_of (map string_bytes words.now) ≡ Some command.Run → result ≡ 0
         → WroteHistory (seen S.left S.faults source.old source.new) (seen K.taken K.faults sink.old sink.new) }
 
@@ -132,6 +133,7 @@ fn run_generated<G: Gate, P: Policy, R: Threads + Wait + Sync>(
 }
 
 /// The text of the history of what the source holds, and of its sources.
+#[tactic(auto, using(crate::proofs::FromSource::ran))]
 fn run_source<S: Source, G: Gate, P: Policy, R: Threads + Wait + Sync>(
     rt: &R,
     alloc: Global,

@@ -67,7 +67,7 @@ fn relabelled_during_a_read<P: Policy, J: Job, B: Ledger, R: Wait + Abort>(
     requires busy_parts { (busy.parts ≡ B.parts) × (busy.parts ≡ length script.now.tasks + 1) }
 {
     let (kernel, mut passes) = Kernel::<P, J, B>::open(alloc, script, modules, lines, busy)?;
-    assert_eq!(rt; passes.len(), 2);
+    assert!(rt; passes.len() == 2);
     let policies = kernel.policies(rt);
     let list = policies.list();
     assert!(rt; kernel.turn(&passes[0]) == Turn::Entry);
@@ -83,8 +83,7 @@ fn relabelled_during_a_read<P: Policy, J: Job, B: Ledger, R: Wait + Abort>(
     kernel.leave(rt, first, &mut passes[0]);
     drop(policies);
     let core = kernel.close(passes);
-    assert!(rt; matches!(relabelled, Ok(Commit::Done)));
-    assert!(rt; matches!(read, Ok(Commit::Done)));
+    assert!(rt; matches!(relabelled, Ok(Commit::Done)) && matches!(read, Ok(Commit::Done)));
     let mut text = String::new(alloc);
     print_history(script, core.history(), &mut text)?;
     Ok(text)
@@ -133,6 +132,19 @@ fn a_plan_goes_stale(rt: HostRuntime) -> Result<(), Fail> {
     let alloc = rt.alloc();
     assert!(rt; RELABELLED_DURING_A_READ.len() <= SCRIPT_LIMIT);
     let script = read_script(alloc, RELABELLED_DURING_A_READ.as_bytes())?;
+    let text = over_modules(&rt, alloc, &script)?;
+    assert!(rt; text.as_str() == HISTORY);
+    Ok(())
+}
+
+/// The history over the modules that are built in.
+fn over_modules<R: Wait + Abort>(
+    rt: &R,
+    alloc: Global,
+    script: &Script,
+) -> Result<String, AllocError>
+    requires formed { IsWellFormed script.now }
+{
     let parts = script.tasks.len() as u64 + 1;
     let mut modules: Vec<Box<dyn Policy + Send + Sync>> = Vec::new(alloc);
     modules.push(Box::new(alloc, Biba::new())?)?;
@@ -140,14 +152,12 @@ fn a_plan_goes_stale(rt: HostRuntime) -> Result<(), Fail> {
     modules.push(Box::new(alloc, Partition::new())?)?;
     modules.push(Box::new(alloc, Bsdextended::new(alloc)?)?)?;
     modules.push(Box::new(alloc, Priority::new())?)?;
-    let text = relabelled_during_a_read::<Box<dyn Policy + Send + Sync>, Brand, Brand, HostRuntime>(
-        &rt,
+    relabelled_during_a_read::<Box<dyn Policy + Send + Sync>, Brand, Brand, R>(
+        rt,
         alloc,
-        &script,
+        script,
         modules,
         Blank::new(parts),
         Blank::new(parts),
-    )?;
-    assert_eq!(rt; text.as_str(), HISTORY);
-    Ok(())
+    )
 }

@@ -39,7 +39,7 @@ fn begin_entry<R: Abort>(rt: &R, core: &mut Core)
     ensures script { core.new.script ≡ core.old.script }
     ensures specs { specs_of core.new ≡ specs_of core.old }
 {
-    assert_eq!(rt; core.turn(0), Turn::Entry);
+    assert!(rt; core.turn(0) == Turn::Entry);
     core.enter(0);
 }
 
@@ -54,13 +54,13 @@ fn finish_entry<P: Policy, R: Abort>(
     ensures script { OnOk result (core.new.script ≡ core.old.script) }
     ensures specs { OnOk result (specs_of core.new ≡ specs_of core.old) }
 {
-    assert_eq!(rt; core.turn(0), Turn::Entered);
+    assert!(rt; core.turn(0) == Turn::Entered);
     let mut plan = Plan::new();
     core.plan(0, &mut plan);
     let verdict = Core::walk(list, &plan);
     let done = core.done(alloc, 0, list, &plan, &verdict)?;
-    assert_eq!(rt; done, Commit::Done);
-    assert_eq!(rt; core.turn(0), Turn::Done);
+    assert!(rt; done == Commit::Done);
+    assert!(rt; core.turn(0) == Turn::Done);
     core.leave(0);
     Ok(())
 }
@@ -78,11 +78,31 @@ fn try_change<P: Policy, R: Abort>(
     ensures script { OnOk result (core.new.script ≡ core.old.script) }
     ensures policies { AreOf (specs_of core.new) list.new catalogue.new }
 {
-    assert_eq!(rt; core.turn(1), Turn::Change);
+    assert!(rt; core.turn(1) == Turn::Change);
     core.change(alloc, 1, list, catalogue)
 }
 
-/// Task 1 would change the list of policies while task 0 is in its entry.
+/// Task 1 would change the list of policies while task 0 is in its entry, and does once that has ended.
+fn wait_and_change<P: Policy, R: Abort>(
+    rt: &R,
+    alloc: Global,
+    core: &mut Core,
+    list: &mut PolicyList<P>,
+    catalogue: &mut Catalogue<P>,
+) -> Result<(), AllocError>
+    requires tasks { length core.old.script.tasks ≡ 2 }
+    requires policies { AreOf (specs_of core.old) list.old catalogue.old }
+{
+    begin_entry(rt, core);
+    let early = try_change(rt, alloc, core, list, catalogue)?;
+    assert!(rt; early == ChangeOutcome::Waits(1));
+    finish_entry(rt, alloc, core, list)?;
+    let late = try_change(rt, alloc, core, list, catalogue)?;
+    assert!(rt; late == ChangeOutcome::Done && list.listed().len() == 0);
+    Ok(())
+}
+
+/// The same from the beginning.
 fn change_during_entry<P: Policy, R: Abort>(
     rt: &R,
     alloc: Global,
@@ -95,14 +115,7 @@ fn change_during_entry<P: Policy, R: Abort>(
     requires fresh { All (λ p. IsFresh (P.spec p)) modules.items }
 {
     let (mut core, mut list, mut catalogue) = Core::new(alloc, script, modules)?;
-    begin_entry(rt, &mut core);
-    let early = try_change(rt, alloc, &mut core, &mut list, &mut catalogue)?;
-    assert_eq!(rt; early, ChangeOutcome::Waits(1));
-    finish_entry(rt, alloc, &mut core, &list)?;
-    let late = try_change(rt, alloc, &mut core, &mut list, &mut catalogue)?;
-    assert_eq!(rt; late, ChangeOutcome::Done);
-    assert_eq!(rt; list.listed().len(), 0);
-    Ok(())
+    wait_and_change(rt, alloc, &mut core, &mut list, &mut catalogue)
 }
 
 #[test]
@@ -110,13 +123,21 @@ fn a_change_waits_while_an_entry_is_open(rt: HostRuntime) -> Result<(), Fail> {
     let alloc = rt.alloc();
     assert!(rt; UNLOADED_DURING_A_READ.len() <= SCRIPT_LIMIT);
     let script = read_script(alloc, UNLOADED_DURING_A_READ.as_bytes())?;
-    assert_eq!(rt; script.tasks.len(), 2);
+    assert!(rt; script.tasks.len() == 2);
+    over_modules(&rt, alloc, &script)?;
+    Ok(())
+}
+
+/// The change over the modules that are built in.
+fn over_modules<R: Abort>(rt: &R, alloc: Global, script: &Script) -> Result<(), AllocError>
+    requires formed { IsWellFormed script.now }
+    requires tasks { length script.now.tasks ≡ 2 }
+{
     let mut modules: Vec<Box<dyn Policy + Send + Sync>> = Vec::new(alloc);
     modules.push(Box::new(alloc, Biba::new())?)?;
     modules.push(Box::new(alloc, Mls::new())?)?;
     modules.push(Box::new(alloc, Partition::new())?)?;
     modules.push(Box::new(alloc, Bsdextended::new(alloc)?)?)?;
     modules.push(Box::new(alloc, Priority::new())?)?;
-    change_during_entry(&rt, alloc, &script, modules)?;
-    Ok(())
+    change_during_entry(rt, alloc, script, modules)
 }

@@ -1,6 +1,6 @@
 //! Words, scripts and faults, and what the program makes of them.
 
-use crate::tests::{DENIAL, DENIED, run_with};
+use crate::tests::{DENIAL, DENIED, run_with, wants};
 use mf_io::{MemSink, MemSource, OpenGate};
 use std::alloc::{AllocError, Global};
 use std::process::Abort;
@@ -147,13 +147,18 @@ pub fn run_case<R: Abort + Threads + Wait + Sync>(
     alloc: Global,
     case: &Case,
 ) -> Result<(), AllocError> {
-    let name = case.name;
     let bytes = case.script.as_bytes().to_vec(alloc)?;
     let mut source = MemSource::new(bytes, 64, case.source_fails.to_vec(alloc)?);
     let mut sink = MemSink::new(alloc, 1000, 10, case.sink_fails.to_vec(alloc)?)?;
     let status = run_with(rt, alloc, case.words, &mut source, &mut sink, &OpenGate)?;
-    assert_eq!(rt; status, case.status, "{name}");
-    assert_eq!(rt; sink.taken(), case.text.as_bytes(), "{name}");
+    wants(
+        rt,
+        case.name,
+        status,
+        case.status,
+        &sink,
+        case.text.as_bytes(),
+    );
     Ok(())
 }
 
@@ -195,7 +200,13 @@ fn one_byte_too_long(rt: HostRuntime) -> Result<(), Fail> {
     let mut source = MemSource::new(bytes, 65_536, Vec::new(rt.alloc()));
     let mut sink = MemSink::new(rt.alloc(), 100, 100, Vec::new(rt.alloc()))?;
     let status = run_with(&rt, rt.alloc(), &["run"], &mut source, &mut sink, &OpenGate)?;
-    assert_eq!(rt; status, 6);
-    assert_eq!(rt; sink.taken(), b"macsim: too long\n".as_slice());
+    wants(
+        &rt,
+        "too long",
+        status,
+        6,
+        &sink,
+        b"macsim: too long\n".as_slice(),
+    );
     Ok(())
 }

@@ -1,8 +1,9 @@
 //! Runs over a source or a sink that fails: no call of it follows.
 ghost use Rattle.std.specs.Prelude.{◌≡◌};
 
-use crate::tests::{DENIAL, run_with};
+use crate::tests::{DENIAL, run_with, wants};
 use mf_io::{Failed, MemSink, MemSource, OpenGate, Sink, Source};
+use std::process::Abort;
 use std::test::Fail;
 
 /// A source or a sink, which counts its calls and those after the first that failed.
@@ -24,6 +25,11 @@ impl<T: Drop> Watched<T> {
             has_failed: false,
             calls_after: 0,
         }
+    }
+
+    /// Wants so many calls, and none after the first that failed.
+    fn wants_calls<R: Abort>(&self, rt: &R, calls: u64) {
+        assert!(rt; self.calls == calls && self.calls_after == 0);
     }
 
     /// Counts the next call.
@@ -75,10 +81,15 @@ fn a_source_that_fails_is_left_alone(rt: HostRuntime) -> Result<(), Fail> {
     let mut source = Watched::new(MemSource::new(bytes, 40, vec![in alloc; 2]?));
     let mut sink = MemSink::new(alloc, 1000, 1000, Vec::new(alloc))?;
     let status = run_with(&rt, alloc, &["run"], &mut source, &mut sink, &OpenGate)?;
-    assert_eq!(rt; status, 4);
-    assert_eq!(rt; sink.taken(), b"macsim: read fault\n".as_slice());
-    assert_eq!(rt; source.calls, 2);
-    assert_eq!(rt; source.calls_after, 0);
+    wants(
+        &rt,
+        "a read fails",
+        status,
+        4,
+        &sink,
+        b"macsim: read fault\n".as_slice(),
+    );
+    source.wants_calls(&rt, 2);
     Ok(())
 }
 
@@ -91,10 +102,9 @@ fn a_sink_that_fails_is_left_alone(rt: HostRuntime) -> Result<(), Fail> {
         let mut source = Watched::new(MemSource::new(bytes, 1000, Vec::new(alloc)));
         let mut sink = Watched::new(MemSink::new(alloc, 1000, 10, vec![in alloc; failing]?)?);
         let status = run_with(&rt, alloc, &["run"], &mut source, &mut sink, &OpenGate)?;
-        assert_eq!(rt; status, 5);
-        assert_eq!(rt; source.calls, 2);
-        assert_eq!(rt; sink.calls, failing);
-        assert_eq!(rt; sink.calls_after, 0);
+        assert!(rt; status == 5);
+        source.wants_calls(&rt, 2);
+        sink.wants_calls(&rt, failing);
     }
     Ok(())
 }

@@ -1,7 +1,8 @@
 //! Runs whose gate counts the calls, and runs whose tasks wait for each other in it.
 
-use crate::tests::{DENIAL, DENIED, run_load, run_script};
+use crate::tests::{DENIAL, DENIED, run_load, run_script, wants};
 use mf_io::{Gate, MemSink};
+use std::process::Abort;
 use std::sync::Wait;
 use std::sync::atomic::{AtomicU64, Ordering};
 use std::test::Fail;
@@ -35,8 +36,13 @@ impl Gate for Counts {
     }
 }
 
-/// How many turns a task waits for the other.
-const MOST_TURNS: u64 = 100_000_000;
+/// How many turns a task waits for the other: some seconds on a machine that does nothing else.
+const MOST_TURNS: u64 = 1_000_000_000;
+
+/// Wants this count.
+pub fn wants_count<R: Abort>(rt: &R, count: &AtomicU64, wanted: u64) {
+    assert!(rt; count.load(Ordering::SeqCst) == wanted);
+}
 
 /// Two tasks that meet between walk and commit; the first one waits there until the second has left.
 #[derive(Drop)]
@@ -74,6 +80,12 @@ impl Meeting {
             self.waits_that_ran_out.fetch_add(1, Ordering::SeqCst);
         }
     }
+
+    /// Wants that both tasks came between walk and commit, and that no wait ran out.
+    fn wants_both<R: Abort>(&self, rt: &R) {
+        wants_count(rt, &self.waits_that_ran_out, 0);
+        assert!(rt; self.calls_between.load(Ordering::SeqCst) >= 2);
+    }
 }
 
 impl Gate for Meeting {
@@ -106,11 +118,10 @@ fn each_line_calls_the_gate_once(rt: HostRuntime) -> Result<(), Fail> {
     };
     let mut sink = MemSink::new(alloc, 1000, 1000, Vec::new(alloc))?;
     let status = run_script(&rt, alloc, DENIAL, &mut sink, &counts)?;
-    assert_eq!(rt; status, 0);
-    assert_eq!(rt; sink.taken(), DENIED.as_bytes());
-    assert_eq!(rt; counts.between.load(Ordering::SeqCst), 1);
-    assert_eq!(rt; counts.after.load(Ordering::SeqCst), 1);
-    assert_eq!(rt; counts.others.load(Ordering::SeqCst), 0);
+    wants(&rt, "one line", status, 0, &sink, DENIED.as_bytes());
+    wants_count(&rt, &counts.between, 1);
+    wants_count(&rt, &counts.after, 1);
+    wants_count(&rt, &counts.others, 0);
     Ok(())
 }
 
@@ -129,9 +140,8 @@ fn one_task_commits_while_another_is_between(rt: HostRuntime) -> Result<(), Fail
     let meeting = Meeting::new();
     let mut sink = MemSink::new(alloc, 1000, 1000, Vec::new(alloc))?;
     let status = run_script(&rt, alloc, TWO_READERS, &mut sink, &meeting)?;
-    assert_eq!(rt; status, 0);
-    assert_eq!(rt; meeting.waits_that_ran_out.load(Ordering::SeqCst), 0);
-    assert!(rt; meeting.calls_between.load(Ordering::SeqCst) >= 2);
+    assert!(rt; status == 0);
+    meeting.wants_both(&rt);
     Ok(())
 }
 
@@ -141,10 +151,15 @@ fn so_do_the_tasks_of_a_load(rt: HostRuntime) -> Result<(), Fail> {
     let meeting = Meeting::new();
     let mut sink = MemSink::new(alloc, 1000, 1000, Vec::new(alloc))?;
     let status = run_load(&rt, alloc, &["gen", "1", "2"], &mut sink, &meeting)?;
-    assert_eq!(rt; status, 0);
-    assert_eq!(rt; sink.taken(), b"gen 1 2\nok 1\nEACCES 1\n".as_slice());
-    assert_eq!(rt; meeting.waits_that_ran_out.load(Ordering::SeqCst), 0);
-    assert!(rt; meeting.calls_between.load(Ordering::SeqCst) >= 2);
+    wants(
+        &rt,
+        "a load",
+        status,
+        0,
+        &sink,
+        b"gen 1 2\nok 1\nEACCES 1\n".as_slice(),
+    );
+    meeting.wants_both(&rt);
     Ok(())
 }
 
@@ -170,9 +185,8 @@ fn a_stale_commit_is_tried_again(rt: HostRuntime) -> Result<(), Fail> {
     let meeting = Meeting::new();
     let mut sink = MemSink::new(alloc, 1000, 1000, Vec::new(alloc))?;
     let status = run_script(&rt, alloc, READER_AND_REMOVER, &mut sink, &meeting)?;
-    assert_eq!(rt; status, 0);
-    assert_eq!(rt; meeting.waits_that_ran_out.load(Ordering::SeqCst), 0);
-    assert_eq!(rt; meeting.calls_between.load(Ordering::SeqCst), 3);
-    assert!(rt; sink.taken().ends_with(REMOVED_BEFORE_THE_COMMIT.as_bytes()));
+    assert!(rt; status == 0 && sink.taken().ends_with(REMOVED_BEFORE_THE_COMMIT.as_bytes()));
+    wants_count(&rt, &meeting.waits_that_ran_out, 0);
+    wants_count(&rt, &meeting.calls_between, 3);
     Ok(())
 }

@@ -1,8 +1,8 @@
 //! Privileges that mac_priority grants, and a run in which it comes and goes.
 
-use crate::tests::gates::is_raised;
+use crate::tests::gates::{is_raised, wants_count};
 use crate::tests::run_script;
-use crate::tests::tasks::replies_of;
+use crate::tests::tasks::wants_replies;
 use crate::tests::transcript::{PLAIN, Rows, run_rows};
 use mf_io::{Gate, MemSink};
 use std::sync::Wait;
@@ -133,9 +133,9 @@ fn a_grant_comes_and_goes_with_its_module(rt: HostRuntime) -> Result<(), Fail> {
     let turns = Turns::new();
     let mut sink = MemSink::new(alloc, 10_000, 10_000, Vec::new(alloc))?;
     let status = run_script(&rt, alloc, COMES_AND_GOES, &mut sink, &turns)?;
-    assert_eq!(rt; status, 0);
-    assert_eq!(rt; turns.waits_that_ran_out.load(Ordering::SeqCst), 0);
+    assert!(rt; status == 0);
+    wants_count(&rt, &turns.waits_that_ran_out, 0);
     let text = String::from_utf8_lossy(alloc, sink.taken())?;
-    assert_eq!(rt; replies_of(alloc, text.as_str(), "u")?.as_str(), REPLIES);
+    wants_replies(&rt, alloc, text.as_str(), "u", REPLIES)?;
     Ok(())
 }

@@ -16,16 +16,22 @@ fn summary_of<R: Abort + Threads + Wait + Sync>(
 ) -> Result<String, AllocError> {
     let mut sink = MemSink::new(alloc, 1000, 7, Vec::new(alloc))?;
     let status = run_load(rt, alloc, words, &mut sink, &OpenGate)?;
-    assert_eq!(rt; status, 0);
+    assert!(rt; status == 0);
     String::from_utf8_lossy(alloc, sink.taken())
 }
 
+/// Words of loads, and their summaries.
+const SMALL: &[(&[&str], &str)] = &[
+    (&["gen", "01", "2"], "gen 1 2\nok 1\nEACCES 1\n"),
+    (&["gen", "2", "2"], "gen 2 2\nok 2\nENOENT 1\nEACCES 1\n"),
+];
+
 #[test]
 fn small_loads(rt: HostRuntime) -> Result<(), Fail> {
-    let one_line = summary_of(&rt, rt.alloc(), &["gen", "01", "2"])?;
-    assert_eq!(rt; one_line.as_str(), "gen 1 2\nok 1\nEACCES 1\n");
-    let two_lines = summary_of(&rt, rt.alloc(), &["gen", "2", "2"])?;
-    assert_eq!(rt; two_lines.as_str(), "gen 2 2\nok 2\nENOENT 1\nEACCES 1\n");
+    for (words, wanted) in SMALL {
+        let summary = summary_of(&rt, rt.alloc(), words)?;
+        assert!(rt; summary.as_str() == *wanted);
+    }
     Ok(())
 }
 
@@ -46,7 +52,7 @@ fn sum_of_counts(text: &str) -> u64 {
 fn largest_load(rt: HostRuntime) -> Result<(), Fail> {
     let first = summary_of(&rt, rt.alloc(), &["gen", "4096", "16"])?;
     let second = summary_of(&rt, rt.alloc(), &["gen", "4096", "16"])?;
-    assert_eq!(rt; first.as_str(), second.as_str());
-    assert_eq!(rt; sum_of_counts(first.as_str()), 65_536);
+    assert!(rt; first.as_str() == second.as_str());
+    assert!(rt; sum_of_counts(first.as_str()) == 65_536);
     Ok(())
 }

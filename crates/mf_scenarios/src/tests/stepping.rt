@@ -1,6 +1,7 @@
 //! The steps of a script, taken one after another.
 
 use crate::tests::cases::{Case, PLAIN, run_case};
+use crate::tests::wants;
 use mf_biba::Biba;
 use mf_bsdextended::Bsdextended;
 use mf_io::{MemSink, MemSource, Sink, Source};
@@ -155,8 +156,14 @@ fn no_thread_is_needed(rt: HostRuntime) -> Result<(), Fail> {
     let mut source = MemSource::new(bytes, 64, Vec::new(rt.alloc()));
     let mut sink = MemSink::new(rt.alloc(), 1000, 10, Vec::new(rt.alloc()))?;
     let status = step_with(rt.alloc(), &mut source, &mut sink)?;
-    assert_eq!(rt; status, taken.status);
-    assert_eq!(rt; sink.taken(), taken.text.as_bytes());
+    wants(
+        &rt,
+        taken.name,
+        status,
+        taken.status,
+        &sink,
+        taken.text.as_bytes(),
+    );
     Ok(())
 }
 

@@ -3,6 +3,7 @@
 use crate::tests::run_script;
 use mf_io::{MemSink, OpenGate};
 use std::alloc::{AllocError, Global};
+use std::process::Abort;
 use std::test::Fail;
 
 const SCRIPT: &str = "boot mac_biba
@@ -50,7 +51,7 @@ changed www 6 no EPERM priv - 1
 ";
 
 /// The replies to the calls of a task.
-pub fn replies_of(alloc: Global, text: &str, task: &str) -> Result<String, AllocError> {
+fn replies_of(alloc: Global, text: &str, task: &str) -> Result<String, AllocError> {
     let done = format!(in alloc; "done {task} ")?;
     let changed = format!(in alloc; "changed {task} ")?;
     let mut replies = String::new(alloc);
@@ -62,14 +63,27 @@ pub fn replies_of(alloc: Global, text: &str, task: &str) -> Result<String, Alloc
     Ok(replies)
 }
 
+/// Wants these replies to the calls of a task.
+pub fn wants_replies<R: Abort>(
+    rt: &R,
+    alloc: Global,
+    text: &str,
+    task: &str,
+    wanted: &str,
+) -> Result<(), AllocError> {
+    let replies = replies_of(alloc, text, task)?;
+    assert!(rt; replies.as_str() == wanted);
+    Ok(())
+}
+
 #[test]
 fn replies_in_any_order_of_events(rt: HostRuntime) -> Result<(), Fail> {
     let alloc = rt.alloc();
     let mut sink = MemSink::new(alloc, 10_000, 10_000, Vec::new(alloc))?;
     let status = run_script(&rt, alloc, SCRIPT, &mut sink, &OpenGate)?;
-    assert_eq!(rt; status, 0);
+    assert!(rt; status == 0);
     let text = String::from_utf8_lossy(alloc, sink.taken())?;
-    assert_eq!(rt; replies_of(alloc, text.as_str(), "alice")?.as_str(), ALICE);
-    assert_eq!(rt; replies_of(alloc, text.as_str(), "www")?.as_str(), WWW);
+    wants_replies(&rt, alloc, text.as_str(), "alice", ALICE)?;
+    wants_replies(&rt, alloc, text.as_str(), "www", WWW)?;
     Ok(())
 }

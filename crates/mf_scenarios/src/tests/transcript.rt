@@ -1,6 +1,6 @@
 //! The lines of a task, each with its reply.
 
-use crate::tests::run_script;
+use crate::tests::{run_script, wants};
 use mf_io::{MemSink, OpenGate};
 use std::alloc::{AllocError, Global};
 use std::process::Abort;
@@ -74,14 +74,12 @@ impl Transcript {
         alloc: Global,
         rows: &Rows,
     ) -> Result<(), AllocError> {
-        let name = rows.name;
         let behind = rows.behind;
         write!(self.script, "end\n{behind}")?;
         self.text.push_str(rows.sources)?;
         let mut sink = MemSink::new(alloc, 100_000, 100_000, Vec::new(alloc))?;
         let status = run_script(rt, alloc, self.script.as_str(), &mut sink, &OpenGate)?;
-        assert_eq!(rt; status, 0, "{name}");
-        assert_eq!(rt; sink.taken(), self.text.as_bytes(), "{name}");
+        wants(rt, rows.name, status, 0, &sink, self.text.as_bytes());
         Ok(())
     }
 }

@@ -20,7 +20,7 @@ close-core-requires-clause-each g c = λ _ _.
     let w0 : w.task ≡ 1 = ap task (second-before ps c.enter-first.new.pass w size c.index_mut-2.ensures.value) ∙ (each 1 (omega arith) w).0 in
     let v1 : v'.task ≡ 0 = ap task (first-read ps c.enter-first.new.pass c.enter-second.new.pass c.leave.new.pass v' size c.index_mut-4.ensures.value ∙ c.enter-first.ensures.pass) ∙ v0 in
     let w1 : w'.task ≡ 1 = ap task (second-read ps c.enter-first.new.pass c.enter-second.new.pass w' size c.index_mut-3.ensures.value ∙ c.enter-second.ensures.pass) ∙ w0 in
-    let a : c.leave-2.new.pass.task ≡ 0 = ap task c.leave-2.ensures ∙ (left-task _ v' ∙ v1) in
-    let b : c.leave.new.pass.task ≡ 1 = ap task c.leave.ensures ∙ (left-task _ w' ∙ w1) in
+    let a : c.leave-2.new.pass.task ≡ 0 = ap task c.leave-2.ensures.pass ∙ (left-task _ v' ∙ v1) in
+    let b : c.leave.new.pass.task ≡ 1 = ap task c.leave.ensures.pass ∙ (left-task _ w' ∙ w1) in
     (two-back s ps c.enter-first.new.pass c.enter-second.new.pass c.leave-2.new.pass c.leave.new.pass size whole
-    a (ap out c.leave-2.ensures ∙ left-out _ v') b (ap out c.leave.ensures ∙ left-out _ w')).each
+    a (ap out c.leave-2.ensures.pass ∙ left-out _ v') b (ap out c.leave.ensures.pass ∙ left-out _ w')).each

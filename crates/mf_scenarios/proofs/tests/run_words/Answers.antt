@@ -4,8 +4,8 @@ use Rattle.mf_bsdextended.specs.declared.bsdextended.Bsdextended.{Bsdextended}
 use Rattle.mf_policy.specs.declared.spec.Spec.{Spec}
 use Rattle.mf_policy.specs.declared.spec.Spec.TheVariants as means
 use Rattle.mf_top.proofs.Modules.{are_all, are_fresh, behind}
-use Rattle.mf_scenarios.proofs.tests.run_with.OwnLists.{own-1}
-use Rattle.mf_scenarios.proofs.tests.run_with.Goals as goal
+use Rattle.mf_scenarios.proofs.tests.run_words.OwnLists.{own-1}
+use Rattle.mf_scenarios.proofs.tests.run_words.Goals as goal
 
 made_spec : {i at : own-1.I} → i ≡ at → {y : (own-1.entry i).0.Denot} {x : (own-1.entry at).0.Denot}
     → Made (λ j. (own-1.entry j).0.coded.code) (own-1.entry at).0.coded.code at i y x → (own-1.entry i).1.spec y ≡ (own-1.entry at).1.spec x
