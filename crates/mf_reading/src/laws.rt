@@ -11,7 +11,7 @@ pub fn legal_histories_are_read()
     ensures { LegalHistoriesAreRead }
 {}
 
-/// The text of the sources begins otherwise than a history's lines do, so `read_history` over a whole text stops at its first line.
+/// The text of the sources begins otherwise than a history's lines do, so a whole text falls apart into the two in one way.
 pub fn sources_are_no_line()
     ensures { SourcesAreNoLine }
 {}
