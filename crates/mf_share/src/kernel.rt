@@ -4,10 +4,11 @@ ghost use Rattle.mf_policy.specs.Modules.{module_of};
 ghost use Rattle.mf_list.specs.Fresh.{IsFresh};
 ghost use Rattle.mf_calls.specs.WellFormed.{IsWellFormed};
 ghost use Rattle.mf_step.specs.Verdict as step;
+ghost use Rattle.mf_core.specs.declared.progress.ChangeOutcome.TheVariants as outcome;
 ghost use Rattle.mf_core.specs.declared.progress.Turn.TheVariants as turn;
 ghost use Rattle.mf_core.specs.AllModules.{AreAllModules};
 ghost use Rattle.mf_core.specs.Next.{next_plan};
-ghost use Rattle.mf_core.specs.CoreView.{CoreView, done_of, open_of, run_state, Commits};
+ghost use Rattle.mf_core.specs.CoreView.{CoreView, done_of, open_of, run_state, Changes, Commits};
 ghost use Rattle.mf_share.specs.Passes.{AgreesWithPass, AgreesWithTicket, AreBack, AreFirst, AreOneEach, IsCoreOf, lines_sum, pass_left, pass_turn, ticket_after, ticket_for};
 
 use crate::desk::Desk;
@@ -230,6 +231,8 @@ impl<'s, P: Policy, J: Job, B: Ledger> Kernel<'s, P, J, B> {
         requires turn { pass_turn J.script pass.old ≡ turn.Change }
         ensures ok { OnOk result (pass.new ≡ record pass.old { lines = pass.old.lines + 1 }) }
         ensures err { OnErr result (pass.new ≡ record pass.old { stopped = true }) }
+        ensures found { OnOk result ((old : CoreView) × (new : CoreView) × IsCoreOf J.script old × AgreesWithPass old pass.old
+            × Changes old pass.old.task outcome.Done new) }
     {
         let mut desk = self.desk.lock(rt);
         for _ in rt.forever() {
