@@ -12,7 +12,7 @@ made_spec : {i at : own-1.I} → i ≡ at → {y : (own-1.entry i).0.Denot} {x :
 made_spec {i} {at} same {y} {x} made = read_made own-1 (own-1.entry at) at refl Spec (λ j v. j.1.spec v) i y x made
 
 pub relabelled_during_a_read-requires-clause-modules : goal.relabelled_during_a_read-requires-clause-modules
-relabelled_during_a_read-requires-clause-modules g c κs =
+relabelled_during_a_read-requires-clause-modules g c κs within =
     are_all _ _ _ _ _ _ _ _ _ _ _ _ c.new-modules.ensures.items c.in_ok-push.ensures.items c.in_ok-push-2.ensures.items c.in_ok-push-3.ensures.items c.in_ok-push-4.ensures.items c.in_ok-push-5.ensures.items
     (behind (λ v. (own-1.entry v).0.Denot) (λ v x. (own-1.entry v).1.spec x) _ _ c.into_dyn_box.result.value _ c.into_dyn_box.ensures.0 (λ y. refl))
     (behind (λ v. (own-1.entry v).0.Denot) (λ v x. (own-1.entry v).1.spec x) _ _ c.into_dyn_box-in_ok-new-2.result.value _ c.into_dyn_box-in_ok-new-2.ensures.0 (λ y. refl))
@@ -21,7 +21,7 @@ relabelled_during_a_read-requires-clause-modules g c κs =
     (behind (λ v. (own-1.entry v).0.Denot) (λ v x. (own-1.entry v).1.spec x) _ _ c.into_dyn_box-in_ok-new-6.result.value _ c.into_dyn_box-in_ok-new-6.ensures.0 (λ y. refl))
 
 pub relabelled_during_a_read-requires-clause-fresh : goal.relabelled_during_a_read-requires-clause-fresh
-relabelled_during_a_read-requires-clause-fresh g c κs =
+relabelled_during_a_read-requires-clause-fresh g c κs within =
     are_fresh _ _ _ _ _ _ _ _ _ _ _ c.new-modules.ensures.items c.in_ok-push.ensures.items c.in_ok-push-2.ensures.items c.in_ok-push-3.ensures.items c.in_ok-push-4.ensures.items c.in_ok-push-5.ensures.items
     (λ p. (own-1.entry p.vtable).1.spec p.value)
     (behind (λ v. (own-1.entry v).0.Denot) (λ v x. (own-1.entry v).1.spec x) _ _ c.into_dyn_box.result.value _ c.into_dyn_box.ensures.0 (λ y. refl))
