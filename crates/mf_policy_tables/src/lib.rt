@@ -2,13 +2,25 @@
 #![tactic(auto)]
 
 #[cfg(test)]
+mod asked;
+#[cfg(test)]
+mod biba;
+#[cfg(test)]
+mod bsdextended;
+#[cfg(test)]
 mod entities;
 #[cfg(test)]
 mod labels;
 #[cfg(test)]
+mod mls;
+#[cfg(test)]
 mod one_of;
 #[cfg(test)]
+mod partition;
+#[cfg(test)]
 mod policies;
+#[cfg(test)]
+mod priority;
 #[cfg(test)]
 mod registrations;
 #[cfg(test)]
