@@ -27,7 +27,7 @@ run() {
 has_its_sources() {
     run "$1" || return 1
     grep '^source ' "$folder/history" >"$folder/printed"
-    grep -v '^source ' "$folder/history" | tools/flows --sources "$1" >"$folder/told" && cmp -s "$folder/told" "$folder/printed"
+    tools/flows --sources "$1" "$folder/history" >"$folder/told" && cmp -s "$folder/told" "$folder/printed"
 }
 
 # Whether the tool prints what stands on the standard input, of the last history, which it reads from its own.

@@ -118,6 +118,14 @@ for recipe in sources steps; do
     check "$recipe: no history" refuses 1 'line 2 is none of a history' awk -f "examples/$recipe.awk" "$folder/no_history"
 done
 check 'steps: a history that is cut off' refuses 1 "isn't whole" awk -f examples/steps.awk "$folder/cut_off"
+grep -v '^source' examples/01-plainest-denial.out >"$folder/without_sources"
+grep -v '^enter' examples/01-plainest-denial.out >"$folder/without_enter"
+for recipe in sources steps; do
+    check "$recipe: without sources" refuses 1 "isn't whole" awk -f "examples/$recipe.awk" "$folder/without_sources"
+done
+check 'steps: a line that is left out' refuses 1 'line 2 may not come here' awk -f examples/steps.awk "$folder/without_enter"
+check 'steps: no history' refuses 1 'there is no history' awk -f examples/steps.awk /dev/null
+check 'sources: no sources' refuses 1 'there are no sources' awk -f examples/sources.awk examples/38-twelve-rules.out
 check 'steps: a history of steps' refuses 1 'line 3 is of macsim step' awk -f examples/steps.awk examples/34-loader-waits.out
 
 echo "$passed passed, $failed failed"

@@ -2,6 +2,8 @@
 import re
 from collections import namedtuple
 
+from macsim_text import DIGITS, number_of
+
 # An element is a tuple that stands in the order in which sources are listed: low, grades with their rising compartments, high, equal.
 LOW, HIGH, EQUAL = (0,), (2,), (3,)
 GRADE = 1
@@ -18,11 +20,11 @@ LATTICES = {BIBA: HIGH, MLS: LOW}
 def element_of(text):
     if text in NAMED:
         return NAMED[text]
-    if not re.fullmatch(r"\d+(:\d+(\+\d+)*)?", text):
+    if not re.fullmatch(rf"{DIGITS}(:{DIGITS}(\+{DIGITS})*)?", text):
         raise ValueError(f"`{text}` is no element")
     grade, _, compartments = text.partition(":")
-    numbers = {int(number) for number in compartments.split("+") if number}
-    return (GRADE, int(grade), *sorted(numbers))
+    numbers = {number_of(number) for number in compartments.split("+") if number}
+    return (GRADE, number_of(grade), *sorted(numbers))
 
 
 def levels_of(text):
@@ -34,9 +36,9 @@ def levels_of(text):
 
 
 def partition_of(text):
-    if text != "none" and not text.isdecimal():
+    if text != "none" and not re.fullmatch(DIGITS, text):
         raise ValueError(f"`{text}` is no partition")
-    return 0 if text == "none" else int(text)
+    return 0 if text == "none" else number_of(text)
 
 
 def request_of(text):

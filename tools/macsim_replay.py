@@ -4,12 +4,15 @@ things. Nothing of it is proved. A history that doesn't fit the script is BadInp
 from collections import namedtuple
 
 from macsim_checks import CREATING, RELABELS, checks_of, is_change, is_reply_to
+from macsim_kernel import Kernel
 from macsim_labels import BIBA, MLS, PARTITION, boot_label, new_label, relabelled, request_of
 from macsim_text import BadInput, denial_of
 from macsim_things import Credential, FileFacts, Thing, Things
 
 MODES = {"create": 0o644, "mkdir": 0o755}
 LABELLING = (BIBA, MLS, PARTITION)
+# The step of a line whose first word is another.
+STEPS = {"stale": "done", "changed": "change", "waits": "change"}
 
 # A check with its subject and object, and with their labels and attributes as they were then. The object may be None.
 Check = namedtuple("Check", "operation subject object subject_label object_label file")
@@ -23,12 +26,18 @@ class Mismatch(Exception):
     """What the history says can't be so by the script."""
 
 
+def is_line_of(call, event):
+    """Whether the line of a reply is of the kind that such a call has."""
+    return (event.kind == "changed") == is_change(call.words) and is_reply_to(call.words, event.reply)
+
+
 class Replay:
     """The things of a script as its history goes on."""
 
     def __init__(self, script):
         self.script = script
         self.made_calls = dict.fromkeys(script.tasks, 0)
+        self.kernel = Kernel()
         self.slots, self.given = {}, 0
         self.boots = [f"boot {boot.module} {self.register(boot.module)}" for boot in script.boots]
         root_label = boot_label(self.slots, "vnode", {})
@@ -37,6 +46,8 @@ class Replay:
             self.open_file(file)
         for task in script.tasks.values():
             self.open("proc", task, task.name, None, Credential(task.uid, task.groups))
+        # The lines of sources that are to come, the next one last. None before the first.
+        self.sources = None
         # The label of each thing at the opening, before anything relabels it.
         self.opening = {thing: thing.label for thing in self.things}
 
@@ -95,7 +106,7 @@ class Replay:
         call = self.next_call(event.task)
         if call is None or event.line != self.made_calls[event.task] + 1:
             raise Mismatch(f"the next call of task {event.task} is not that of line {event.line} of it")
-        if (event.kind == "changed") != is_change(call.words) or not is_reply_to(call.words, event.reply):
+        if not is_line_of(call, event):
             raise Mismatch(f"line {call.number} `{call.text}` has no such line")
         self.made_calls[event.task] += 1
         caller = self.things.named("proc", event.task if call.child is None else f"{event.task}.{call.child}")
@@ -175,41 +186,66 @@ class Replay:
 
     # Histories
 
+    def source_lines(self):
+        """The beginning of each line of sources, and the thing that it is about."""
+        lattices = [module.removeprefix("mac_") for module in (BIBA, MLS) if module in self.slots]
+        return [(f"source {name} {thing.title} ", thing) for name in lattices for thing in self.things]
+
+    def line_of_source(self, event):
+        """The number of the line of the script that made a thing. The root directory has none."""
+        if self.sources is None:
+            self.sources = self.source_lines()[::-1]
+        beginning, thing = self.sources.pop() if self.sources else ("", None)
+        if thing is None or not event.text.startswith(beginning):
+            raise Mismatch(f"the line of sources that comes here is {beginning or 'none'}")
+        return thing.number or None
+
     def line_of(self, event):
-        """The number of the line of the script that another event is about. The root directory has none."""
+        """The number of the line of the script that another event is about, or None."""
         if event.kind == "boot":
             return next(boot.number for boot in self.script.boots if boot.module == event.text.split(" ")[1])
         if event.kind == "source":
-            title = event.text.split(" ")[2]
-            number = next((thing.number for thing in self.things if thing.title == title), None)
-            if number is None:
-                raise Mismatch(f"there is no {title} at the end")
-            return number or None
+            return self.line_of_source(event)
         call = self.last_call(event.task) if event.kind == "leave" else self.next_call(event.task)
         if call is None:
             raise Mismatch(f"task {event.task} made all its calls")
+        if event.kind in ("enter", "waits") and is_change(call.words) != (event.kind == "waits"):
+            raise Mismatch(f"line {call.number} `{call.text}` has no such line")
         return call.number
 
     def follow_event(self, event):
+        if not self.kernel.may_come(event):
+            raise Mismatch(f"`{event.text}` may not come here")
+        self.kernel.follow(event)
         if event.kind in ("done", "changed"):
             return self.follow_call(event)
         return Happening(event, self.line_of(event), None, None, [], None, self.slots, None, None)
 
-    def is_whole(self, events):
-        """Whether all calls were made, or all steps taken."""
+    def has_all_calls(self, events):
+        """Whether all steps were taken, or else, as by `run`, all calls made."""
+        steps = [(step.kind, step.task) for step in self.script.steps or [] if step.kind != "plan"]
+        taken = [(STEPS.get(event.kind, event.kind), event.task) for event in events if event.task is not None]
+        if self.script.steps is not None and taken == steps:
+            return True
+        is_of_run = not any(event.kind in ("stale", "waits") for event in events)
         made = all(self.made_calls[task.name] == len(task.calls) for task in self.script.tasks.values())
-        taken = sum(event.kind not in ("boot", "source") for event in events)
-        return made or taken == sum(step.kind != "plan" for step in self.script.steps or [])
+        return is_of_run and made and not self.kernel.is_done
+
+    def judge_end(self, events, name):
+        """The history has to be a whole one."""
+        if not self.has_all_calls(events):
+            raise BadInput(name, len(events) + 1, "it ends before the calls of the script do")
+        if self.sources if self.sources is not None else self.source_lines():
+            raise BadInput(name, len(events) + 1, "it ends before its sources do")
 
     def follow(self, events, name):
         """What each line of the history tells, one after another."""
         boots = [event.text for event in events if event.kind == "boot"]
-        if boots != self.boots or [event.kind for event in events[: len(boots)]] != ["boot"] * len(boots):
+        if boots != self.boots:
             raise BadInput(name, 1, "it doesn't begin with the boot lines of this script")
         for event in events:
             try:
                 yield self.follow_event(event)
             except Mismatch as fault:
                 raise BadInput(name, event.number, f"it doesn't belong to this script: {fault}") from None
-        if not self.is_whole(events):
-            raise BadInput(name, len(events) + 1, "it ends before the calls of the script do")
+        self.judge_end(events, name)

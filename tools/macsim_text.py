@@ -4,14 +4,7 @@ Scripts are read by the grammar of docs/MANUAL.md (THE SCRIPT), without its limi
 program judges. What can't be read is BadInput, which tells the file and the line; so no tool answers by a part of its input.
 """
 import re
-import signal
-import subprocess
-import sys
 from collections import namedtuple
-from pathlib import Path
-
-ROOT = Path(__file__).resolve().parent.parent
-PROGRAM = ROOT / "macsim"
 
 # A script. Each of its parts has the number of its line, from 1; `lines` are all lines as they stand there, comments too. `steps` is None
 # where the script has no such part, `files` and `tasks` are by path and by name.
@@ -40,6 +33,17 @@ class Fault(Exception):
     """What is wrong with the words of a line."""
 
 
+# Numbers
+
+# Leading zeros may be any number.
+DIGITS = "0*[0-9]{1,10}"
+
+
+def number_of(word):
+    """The value of DIGITS."""
+    return int(word[-10:])
+
+
 # Words
 
 COMPONENT = r"/(?!\.{1,2}(?:/|$))[A-Za-z0-9._-]{1,32}"
@@ -48,9 +52,9 @@ NAME = r"[A-Za-z0-9_-]{1,32}"
 WORDS = {
     "PATH": rf"/|(?:{COMPONENT}){{1,8}}",
     "KIND": "reg|dir",
-    "N": "[0-9]+",
-    "OCTAL": "[0-7]+",
-    "GROUPS": "[0-9]+(?:,[0-9]+)*",
+    "N": DIGITS,
+    "OCTAL": "0*[0-7]{1,4}",
+    "GROUPS": f"{DIGITS}(?:,{DIGITS}){{0,15}}",
     "NAME": NAME,
     "PROCESS": rf"{NAME}(?:\.{NAME})?",
     "L": ".+",
@@ -145,14 +149,14 @@ class ScriptReader:
         directory = path.rpartition("/")[0]
         if directory and not (directory in self.script.files and self.script.files[directory].is_directory):
             raise Fault(f"there is no directory {directory}")
-        self.script.files[path] = File(number, path, kind == "dir", int(uid), int(gid), int(mode, 8), label)
+        self.script.files[path] = File(number, path, kind == "dir", number_of(uid), number_of(gid), int(mode, 8), label)
 
     def read_task(self, number, words):
         match_words(words[1:], "NAME uid N gid GROUPS label L")
         name, _, uid, _, groups, _, label = words[1:]
         if name in self.script.tasks:
             raise Fault(f"there is a task {name} already")
-        self.task = Task(number, name, int(uid), [int(group) for group in groups.split(",")], label, [])
+        self.task = Task(number, name, number_of(uid), [number_of(group) for group in groups.split(",")], label, [])
 
     def read_in_task(self, number, words):
         if words == ["end"]:
@@ -216,25 +220,28 @@ def script_of(text, name):
 
 # Histories
 
-# The words of each kind of line, but for a reply and the elements of a source, which may hold any.
+# The words of each kind of line, but for what is handed back with `ok` and the elements of a source, which may hold any.
+DENIED = r"no (E[A-Z]+) ([a-z_]+) (-|mac_[a-z]+) ([1-9]\d?)"
+TASK = rf"(?P<task>{NAME})"
 EVENTS = {
-    "boot": r"boot (\S+) (?:\d|-)",
-    **dict.fromkeys(("enter", "leave", "stale"), rf"(?:enter|leave|stale) ({NAME})"),
-    "waits": rf"waits ({NAME}) \d+",
-    **dict.fromkeys(("done", "changed"), rf"(?:done|changed) ({NAME}) (\d+) (ok(?: .+)?|no E[A-Z]+ \S+ \S+(?: \d+)?)"),
+    "boot": r"boot mac_[a-z]+ (?:\d|-)",
+    **dict.fromkeys(("enter", "leave", "stale"), rf"[a-z]+ {TASK}"),
+    "waits": rf"waits {TASK} [1-9]\d?",
+    **dict.fromkeys(("done", "changed"), rf"[a-z]+ {TASK} (?P<line>[1-9]\d{{0,3}}) (?P<reply>ok(?: .+)?|no E[A-Z]+ - -|{DENIED})"),
     "source": r"source (?:biba|mls) \S+ \S+",
 }
-DENIED = re.compile(r"no (E[A-Z]+) ([a-z_]+) (\S+) (\d+)")
 
 
 def event_of(line, number, name):
+    if re.search("[^ -~]", line):
+        raise BadInput(name, number, "it has a byte that may not stand in a history")
     kind = line.partition(" ")[0]
     found = re.fullmatch(EVENTS.get(kind, "(?!)"), line)
     if found is None:
         said = "macsim printed no history, but an error" if kind == "macsim:" else "no line of a history"
         raise BadInput(name, number, f"{said}: {line}")
-    task, count, reply = (*found.groups(), None, None, None)[:3]
-    return Event(number, line, kind, task, count and int(count), reply)
+    told = found.groupdict()
+    return Event(number, line, kind, told.get("task"), int(told["line"]) if "line" in told else None, told.get("reply"))
 
 
 def events_of(text, name):
@@ -247,50 +254,3 @@ def denial_of(reply):
     """What a reply says of a denial, or None where the call wasn't denied."""
     found = re.fullmatch(DENIED, reply or "")
     return found and Denial(found[1], found[2], found[3], int(found[4]))
-
-
-# Files and the program
-
-
-def text_of(path):
-    """The text of a file, or of the standard input for `-`. Every byte is a character of its own."""
-    try:
-        bytes_read = sys.stdin.buffer.read() if path == "-" else Path(path).read_bytes()
-    except OSError as error:
-        raise BadInput(name_of(path), None, error.strerror) from None
-    return bytes_read.decode("latin-1")
-
-
-def name_of(path):
-    return "the standard input" if path == "-" else str(path)
-
-
-def read_script(path):
-    return script_of(text_of(path), name_of(path))
-
-
-def read_history(path):
-    return events_of(text_of(path), name_of(path))
-
-
-def run_program(program, word, text):
-    """What `macsim run` or `macsim step` prints of a script, where it ends with 0."""
-    try:
-        ran = subprocess.run([program, word], input=text.encode("latin-1"), stdout=subprocess.PIPE, check=False)
-    except OSError as error:
-        raise BadInput(program, None, error.strerror) from None
-    printed = ran.stdout.decode("latin-1")
-    if ran.returncode != 0:
-        raise BadInput(f"{program} {word}", None, f"status {ran.returncode}: {printed.strip() or 'nothing was printed'}")
-    return printed
-
-
-def print_answer(tool, answer):
-    """Prints the whole answer, or says on the standard error why there is none."""
-    try:
-        text = answer()
-    except BadInput as fault:
-        sys.exit(f"{tool}: {fault}")
-    # Who reads no further than some lines ends it without a word.
-    signal.signal(signal.SIGPIPE, signal.SIG_DFL)
-    sys.stdout.write(text)
