@@ -64,7 +64,7 @@ check_usage() {
 }
 
 # The program is built before the first run that counts.
-./macsim </dev/null >"$folder/printed" 2>&1
+./macsim run </dev/null >"$folder/printed" 2>&1
 
 text usage 'macsim: usage: run | step | gen N T'
 text unknown_word 'macsim: script line 1 fault 2 UnknownWord'

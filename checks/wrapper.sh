@@ -62,6 +62,12 @@ told() {
     grep -qF "$1" "$folder/told"
 }
 
+# Whether the copy tells who asks for help the usage and the manual, and builds nothing.
+helps() {
+    PATH=$1 "$copy/macsim" --help >"$folder/printed" 2>"$folder/told"
+    [ "$?" -eq 2 ] && ./macsim --help 2>/dev/null | cmp -s - "$folder/printed" && [ "$(cat "$folder/told")" = "$begin" ] && [ ! -e "$new" ]
+}
+
 keeps_the_old() {
     add_old_program
     runs_copy "$1" 1 '' && told 'is still in' && [ "$("$new")" = old ]
@@ -74,7 +80,7 @@ builds_once() {
 }
 
 # The program is built before the first run that counts.
-./macsim </dev/null >"$folder/printed" 2>&1
+./macsim run </dev/null >"$folder/printed" 2>&1
 
 begin='macsim: the manual is docs/MANUAL.md; begin with: ./macsim run < examples/01-plainest-denial.macsim'
 printf 'foo\n' >"$folder/bad"
@@ -97,6 +103,7 @@ rm "$folder/bin/rt"
 mkdir "$folder/tools"
 for tool in dirname readlink find head; do ln -s "$(command -v $tool)" "$folder/tools/$tool"; done
 check 'no rt, and no program' runs_copy "$folder/tools" 1 ''
+check 'help without a program' helps "$folder/tools"
 check 'no rt, and an old program' keeps_the_old "$folder/tools"
 make_copy 'echo "a proof failed"; exit 1'
 check 'a build that fails' keeps_the_old "$folder/bin:$PATH"
