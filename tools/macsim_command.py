@@ -10,6 +10,8 @@ from macsim_checks import is_change
 from macsim_text import BadInput, events_of, script_of
 
 ROOT = Path(__file__).resolve().parent.parent
+# Who stops a tool ends it without a word.
+signal.signal(signal.SIGINT, signal.SIG_DFL)
 
 # Words
 
@@ -122,7 +124,6 @@ def print_text(tool, text):
 
 def print_answer(tool, answer):
     """Prints the whole answer, or says on the standard error why there is none."""
-    signal.signal(signal.SIGINT, signal.SIG_DFL)
     try:
         text = answer()
     except BadInput as fault:

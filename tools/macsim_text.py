@@ -22,11 +22,17 @@ Event = namedtuple("Event", "number text kind task line reply")
 Denial = namedtuple("Denial", "errno operation module check")
 
 
+# How many characters of what is wrong are told.
+MOST_SAID = 300
+
+
 class BadInput(Exception):
     """An input that can't be read, or doesn't belong to another."""
 
     def __init__(self, name, number, fault):
-        super().__init__(f"{name} line {number}: {fault}" if number else f"{name}: {fault}")
+        said = str(fault)
+        said = said if len(said) <= MOST_SAID else f"{said[:MOST_SAID]}.."
+        super().__init__(f"{name} line {number}: {said}" if number else f"{name}: {said}")
 
 
 class Fault(Exception):
