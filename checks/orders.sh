@@ -105,6 +105,7 @@ printf 'task t uid 0 gid 0 label -\r\nend\r\n' >"$folder/carriage_returns"
 head -n 3 examples/01-plainest-denial.out >"$folder/cut_off"
 check 'in-order: steps' refuses 1 'line 10: ' awk -f examples/in-order.awk "$stepped"
 check 'in-order: no end' refuses 1 'line 3: ' awk -f examples/in-order.awk "$folder/unended"
+check 'in-order: no task' refuses 1 'no task' awk -f examples/in-order.awk /dev/null
 check 'in-order: a name twice' refuses 1 'line 3: ' awk -f examples/in-order.awk "$folder/twice"
 check 'in-order: a carriage return' refuses 1 'line 1: ' awk -f examples/in-order.awk "$folder/carriage_returns"
 check 'in-order: no such task' refuses 1 'no task x' awk -v order='writer x' -f examples/in-order.awk "$two"

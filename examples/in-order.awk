@@ -54,6 +54,7 @@ open != "" {
 END {
     if (failed) exit 1
     if (open != "") stop("line " NR + 1 ": task " open " has no end")
+    if (in_script == "") stop("the script has no task")
     count = split(order == "" ? in_script : order, word, " ")
     for (i = 1; i <= count; i++) add_calls(word[i])
     for (i = 1; i <= NR; i++) print line[i]
