@@ -3,27 +3,7 @@
 # the number and the operation of the last of the checks that it derives are those of the reply, and a cause of the manual stands below.
 # Then the whole text of one example, and that it says what is wrong with an input, and prints nothing of it. A line for each failure, then a
 # count.
-cd "$(dirname "$0")/.." || exit 1
-folder=$(mktemp -d) || exit 1
-trap 'rm -rf "$folder"' EXIT
-passed=0
-failed=0
-
-# Counts what was found, by its exit status, and says which it was where it failed.
-count() {
-    if [ "$1" -eq 0 ]; then
-        passed=$((passed + 1))
-    else
-        failed=$((failed + 1))
-        echo "$2"
-    fi
-}
-
-run() {
-    word=run
-    ! grep -q '^[[:blank:]]*steps[[:blank:]]*$' "$1" || word=step
-    ./macsim "$word" <"$1" >"$folder/history"
-}
+. "$(dirname "$0")/counting"
 
 # Whether below each denial stand its checks, as many as its number says and the last with its operation, and a cause. Prints how many.
 derives_the_denials() {
@@ -156,5 +136,5 @@ tools/annotate --part "$script" "$folder/history" >"$folder/told" &&
     awk '/^done/ { if (open) bad = 1; open = 1 } /^    usual cause: ./ { open = 0 } END { exit bad || open }' "$folder/told"
 count $? "an operation has no row in the manual"
 
-echo "$denials denials; $passed passed, $failed failed"
-[ "$failed" -eq 0 ] && [ "$denials" -gt 0 ]
+echo "$denials denials"
+[ "$denials" -gt 0 ] && print_count

@@ -2,11 +2,7 @@
 # Holds tools/expect to the outputs of examples/: behind each call of a script a comment is written that expects the reply of its .out file, or
 # one of those that may come, and all have to be met; and then one that expects the opposite, and none may be met. Then inputs that can't be
 # read: they end with 2, and nothing is printed. A line for each failure, then a count.
-cd "$(dirname "$0")/.." || exit 1
-folder=$(mktemp -d) || exit 1
-trap 'rm -rf "$folder"' EXIT
-passed=0
-failed=0
+. "$(dirname "$0")/counting"
 
 # Prints the script $2 with comments behind its calls: the replies of the output $1, or with $3 the opposite of each.
 with_comments() {
@@ -54,17 +50,6 @@ is_refused() {
     [ "$?" -eq 2 ] && [ ! -s "$folder/printed" ] && grep -qF "$2" "$folder/told"
 }
 
-check() {
-    case=$1
-    shift
-    if "$@"; then
-        passed=$((passed + 1))
-    else
-        failed=$((failed + 1))
-        echo "expect: not as wanted: $case"
-    fi
-}
-
 for script in examples/*.macsim; do
     [ ! -e "${script%.macsim}.out" ] || ! grep -qE '^(done|changed) ' "${script%.macsim}.out" || check "$script" holds "$script"
 done
@@ -77,5 +62,4 @@ check 'a word that is none' is_refused "${task}kldstart\n#= ok\nend\n" 'line 2'
 check 'a rule that is none' is_refused "${task}ugidfw add x\n#= ok\nend\n" 'script line 2 fault 7 BadRule'
 check 'a step out of turn' is_refused "${task}kldstat\n#= ok\nend\nsteps\nplan t\nend\n" 'step 1 refused'
 check 'no end' is_refused "${task}kldstat\n#= ok\n" 'line 4'
-echo "$passed passed, $failed failed"
-[ "$failed" -eq 0 ]
+print_count

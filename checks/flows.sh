@@ -2,27 +2,7 @@
 # Runs each script of examples/, and holds tools/flows to what is printed: the sources that its flows come to are the lines of sources. Then
 # the same of a script in which each operation that moves information is told by the sources alone; what it draws and tells of one example;
 # and that it says what is wrong with an input, and prints nothing of it. A line for each failure, then a count.
-cd "$(dirname "$0")/.." || exit 1
-folder=$(mktemp -d) || exit 1
-trap 'rm -rf "$folder"' EXIT
-passed=0
-failed=0
-
-# Counts what was found, by its exit status, and says which it was where it failed.
-count() {
-    if [ "$1" -eq 0 ]; then
-        passed=$((passed + 1))
-    else
-        failed=$((failed + 1))
-        echo "$2"
-    fi
-}
-
-run() {
-    word=run
-    ! grep -q '^[[:blank:]]*steps[[:blank:]]*$' "$1" || word=step
-    ./macsim "$word" <"$1" >"$folder/history"
-}
+. "$(dirname "$0")/counting"
 
 has_its_sources() {
     run "$1" || return 1
@@ -143,5 +123,4 @@ sed 's/^read/raed/' "$script" >"$folder/faulty"
 complains "faulty line 6: there is no call \`raed\`" "$folder/faulty" "$folder/history"
 count $? "a fault of the script isn't told"
 
-echo "$passed passed, $failed failed"
-[ "$failed" -eq 0 ]
+print_count

@@ -4,26 +4,7 @@
 #   replies come again, in that order;
 # - tools/orders: each call has as many replies as there were orders, and each is one that the .out file has for it.
 # Then inputs that can't be read: they are told, and nothing is printed. A line for each failure, then a count.
-cd "$(dirname "$0")/.." || exit 1
-folder=$(mktemp -d) || exit 1
-trap 'rm -rf "$folder"' EXIT
-passed=0
-failed=0
-
-check() {
-    case=$1
-    shift
-    if "$@"; then
-        passed=$((passed + 1))
-    else
-        failed=$((failed + 1))
-        echo "orders: not as wanted: $case"
-    fi
-}
-
-has_steps() {
-    grep -q '^[[:blank:]]*steps[[:blank:]]*$' "$1"
-}
+. "$(dirname "$0")/counting"
 
 replies() {
     grep -E '^(done|changed) ' "$1"
@@ -129,5 +110,4 @@ check 'steps: no history' refuses 1 'there is no history' awk -f examples/steps.
 check 'sources: no sources' refuses 1 'there are no sources' awk -f examples/sources.awk examples/38-twelve-rules.out
 check 'steps: a history of steps' refuses 1 'line 3 is of macsim step' awk -f examples/steps.awk examples/34-loader-waits.out
 
-echo "$passed passed, $failed failed"
-[ "$failed" -eq 0 ]
+print_count

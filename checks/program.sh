@@ -1,15 +1,11 @@
 #!/bin/sh
 # Runs the program with words and inputs at their edges, since `main` has no contract: of each run is wanted its exit status, its whole
 # standard output, and nothing on the standard error. A line for each failure, then a count. What ./macsim adds is for checks/wrapper.sh.
-cd "$(dirname "$0")/.." || exit 1
-folder=$(mktemp -d) || exit 1
-trap 'rm -rf "$folder"' EXIT
+. "$(dirname "$0")/counting"
 program=crates/macsim/out/macsim
 script=examples/01-plainest-denial.macsim
 history=${script%.macsim}.out
 most=1048576
-passed=0
-failed=0
 
 # A script of so many bytes: a right one, and behind it a comment.
 script_of() {
@@ -44,18 +40,6 @@ reads_nothing() {
 fails_to_write() {
     "$program" run <"$script" >/dev/full 2>"$folder/told"
     [ "$?" -eq 5 ] && [ ! -s "$folder/told" ]
-}
-
-# Counts a case, of that name.
-check() {
-    case=$1
-    shift
-    if "$@"; then
-        passed=$((passed + 1))
-    else
-        failed=$((failed + 1))
-        echo "macsim: not as wanted: $case"
-    fi
 }
 
 # Counts a run that is refused for its words.
@@ -128,5 +112,4 @@ check 'gen: a load' ends 0 "$folder/bad" "$folder/summary" gen 2 2
 check 'gen: leading zeros' ends 0 "$folder/bad" "$folder/summary" gen 002 02
 check 'gen: the input is not read' reads_nothing gen 2 2
 
-echo "$passed passed, $failed failed"
-[ "$failed" -eq 0 ]
+print_count

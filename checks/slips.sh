@@ -1,11 +1,7 @@
 #!/bin/sh
 # Tries the lines of docs/ERRORS.md, "Lines of the shell", in the script that is told there: those of the first column have the fault or the
 # reply of the second, and those of the last are replied to with ok. A line for each that doesn't, then a count.
-cd "$(dirname "$0")/.." || exit 1
-folder=$(mktemp -d) || exit 1
-trap 'rm -rf "$folder"' EXIT
-passed=0
-failed=0
+. "$(dirname "$0")/counting"
 
 # What is printed of a task with the lines of a file.
 replies() {
@@ -27,17 +23,6 @@ are_ok() {
     [ "$(grep -c ' t [0-9]* ok' "$folder/replies")" -eq "$(wc -l <"$1")" ] && ! grep -qv ' t [0-9]* ok' "$folder/replies"
 }
 
-check() {
-    case=$1
-    shift
-    if "$@"; then
-        passed=$((passed + 1))
-    else
-        failed=$((failed + 1))
-        echo "docs/ERRORS.md: not so: $case"
-    fi
-}
-
 sed -n '/^### Lines of the shell/,/^\*\*/s/^| `//p' docs/ERRORS.md >"$folder/rows"
 while IFS= read -r row; do
     printf '%s\n' "${row%%\` | *}" >"$folder/pasted"
@@ -47,5 +32,4 @@ while IFS= read -r row; do
     check "$(cat "$folder/pasted")" has_ending "$folder/pasted" "${rest%% | *}"
     check "$(cat "$folder/corrected")" are_ok "$folder/corrected"
 done <"$folder/rows"
-echo "$passed passed, $failed failed"
-[ "$failed" -eq 0 ] && [ "$passed" -gt 0 ]
+print_count

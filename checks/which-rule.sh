@@ -1,28 +1,8 @@
 #!/bin/sh
 # Compares what tools/which-rule tells of the twelve rules of an example; that it finds a rule for each denial of examples/ that names
 # mac_bsdextended; and that it says what is wrong with an input, and prints nothing of it. A line for each failure, then a count.
-cd "$(dirname "$0")/.." || exit 1
-folder=$(mktemp -d) || exit 1
-trap 'rm -rf "$folder"' EXIT
-passed=0
-failed=0
+. "$(dirname "$0")/counting"
 denials=0
-
-# Counts what was found, by its exit status, and says which it was where it failed.
-count() {
-    if [ "$1" -eq 0 ]; then
-        passed=$((passed + 1))
-    else
-        failed=$((failed + 1))
-        echo "$2"
-    fi
-}
-
-run() {
-    word=run
-    ! grep -q '^[[:blank:]]*steps[[:blank:]]*$' "$1" || word=step
-    ./macsim "$word" <"$1" >"$folder/history"
-}
 
 # Whether what is told has each denial of the history that names the rules, in order, and a rule with its line below each.
 tells_each() {
@@ -94,5 +74,5 @@ sed 's/mode rsx$/mode rsq/' "$script" >"$folder/faulty"
 complains 'BadRule' "$folder/faulty"
 count $? "a rule that can't be read isn't told"
 
-echo "$denials denials; $passed passed, $failed failed"
-[ "$failed" -eq 0 ] && [ "$denials" -gt 0 ]
+echo "$denials denials"
+[ "$denials" -gt 0 ] && print_count

@@ -2,26 +2,10 @@
 # Runs the script ./macsim, which runs the program: its status and standard output are the program's, and on the standard error there is a
 # line where the status isn't 0. What it does where the program has to be built is tried in a folder of its own, with another program in
 # the place of `rt`. A line for each failure, then a count.
-cd "$(dirname "$0")/.." || exit 1
-folder=$(mktemp -d) || exit 1
-trap 'rm -rf "$folder"' EXIT
+. "$(dirname "$0")/counting"
 script=examples/01-plainest-denial.macsim
 copy=$folder/repository
 new=$copy/crates/macsim/out/macsim
-passed=0
-failed=0
-
-# Counts a case, of that name.
-check() {
-    case=$1
-    shift
-    if "$@"; then
-        passed=$((passed + 1))
-    else
-        failed=$((failed + 1))
-        echo "macsim: not as wanted: $case"
-    fi
-}
 
 # Whether a run over this input with these words ends with the status and tells the line.
 tells() {
@@ -114,5 +98,4 @@ make_copy "$builder"
 add_old_program
 check 'a build in place of an old program' builds_once
 
-echo "$passed passed, $failed failed"
-[ "$failed" -eq 0 ]
+print_count
