@@ -1,7 +1,8 @@
 -- Reading elements one after another.
 use Rattle.std.proofs.Common.{◌≡◌, ℕ, ◌+◌, List, [], length, Some, None, Result, Ok, Err, refl, ap, ◌∙◌}
 use Rattle.mf_elem.specs.declared.label.Request.{Request}
-use Rattle.mf_labeltext.specs.Reading.{cut, parts, element_in, elements_in, and_then}
+use Rattle.mf_text.specs.Results.{and_then}
+use Rattle.mf_labeltext.specs.Reading.{cut, parts, element_in, elements_in}
 use Rattle.mf_labeltext.specs.declared.fault.LabelFault.{LabelFault}
 use Rattle.mf_labeltext.proofs.Cutting.{parts_none, parts_some}
 

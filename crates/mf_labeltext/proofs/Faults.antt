@@ -5,7 +5,8 @@ use Rattle.std.specs.Option.{ok_or}
 use Rattle.mf_elem.specs.declared.label.Request.{Request}
 use Rattle.mf_elem.specs.Label.{no_request}
 use Rattle.mf_labeltext.specs.LabelGrammar.{IsName, Asks, SpellsElement}
-use Rattle.mf_labeltext.specs.Reading.{cut, parts, with_part, is_name, element_from_halves, element_in, and_then, elements_in, request_in}
+use Rattle.mf_text.specs.Results.{and_then}
+use Rattle.mf_labeltext.specs.Reading.{cut, parts, with_part, is_name, element_from_halves, element_in, elements_in, request_in}
 use Rattle.mf_labeltext.specs.FirstFault.{AsksSomething, HasNoName, IsUnknown, IsElementFault, place_behind, IsFirstLabelFault}
 use Rattle.mf_labeltext.specs.declared.fault.LabelFault.{LabelFault}
 use Rattle.mf_labeltext.specs.declared.fault.LabelFault.TheVariants.{NoSlash, BadValue, EmptyElement}

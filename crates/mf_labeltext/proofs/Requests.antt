@@ -8,7 +8,8 @@ use Rattle.std.specs.Str.{bytes_eq}
 use Rattle.mf_elem.specs.declared.label.Request.{Request}
 use Rattle.mf_labeltext.specs.LabelGrammar.{IsNameByte, IsName, Asks, SpellsElement, SpellElements, Spells}
 use Rattle.mf_elem.specs.Label.{no_request}
-use Rattle.mf_labeltext.specs.Reading.{cut, parts, label_in, partition_in, with_part, is_name_byte, is_name, element_from_halves, element_in, and_then, elements_in, request_in, ◌>>=◌}
+use Rattle.mf_text.specs.Results.{and_then}
+use Rattle.mf_labeltext.specs.Reading.{cut, parts, label_in, partition_in, with_part, is_name_byte, is_name, element_from_halves, element_in, elements_in, request_in, ◌>>=◌}
 use Rattle.mf_labeltext.specs.declared.fault.LabelFault.{LabelFault}
 use Rattle.mf_labeltext.specs.declared.fault.LabelFault.TheVariants.{NoSlash, BadValue}
 use Rattle.mf_labeltext.proofs.Cutting.{IsFree, cut_is, cut_free, parts_free, parts_are_some, parts_join, join_parts}

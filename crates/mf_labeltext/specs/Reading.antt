@@ -8,6 +8,7 @@ use Rattle.std.specs.FinSet as set
 use Rattle.std.specs.FinSet.{FinSet}
 use Rattle.std.specs.Ordering.{nat_cmp}
 use Rattle.mf_text.specs.Number.{number_in}
+use Rattle.mf_text.specs.Results.{and_then}
 use Rattle.mf_elem.specs.Comps.{comps_of}
 use Rattle.mf_elem.specs.declared.comps.Comps.{Comps}
 use Rattle.mf_elem.specs.declared.comps.TheConstants.{LAST_COMPARTMENT}
@@ -24,8 +25,7 @@ use Rattle.mf_labeltext.specs.Bytes.{close_parenthesis, colon, comma, dash, open
 
 infixl 10 ◌>>=◌
 abbrev pub ◌>>=◌ : {A B : Type 0} → Option A → (A → Option B) → Option B
-(Some x) >>= f = f x
-None >>= f = None
+found >>= more = option_and_then more found
 
 -- the halves of a text with one byte more in front
 abbrev pub with_first : ℕ → Option (List ℕ × List ℕ) → Option (List ℕ × List ℕ)
@@ -132,10 +132,6 @@ element_from_halves place request (Some halves) =
 unfoldable pub element_in : ℕ → Request → List ℕ → Result Request LabelFault
 element_in place request [] = Err (EmptyElement place)
 element_in place request (c ∷ cs) = element_from_halves place request (cut slash (c ∷ cs))
-
-abbrev pub and_then : {A : Type 0} → Result A LabelFault → (A → Result A LabelFault) → Result A LabelFault
-and_then (Ok x) f = f x
-and_then (Err fault) f = Err fault
 
 -- the request with the elements added, of which the first stands at a place
 unfoldable pub elements_in : ℕ → Request → List (List ℕ) → Result Request LabelFault

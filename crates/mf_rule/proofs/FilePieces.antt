@@ -8,8 +8,10 @@ use Rattle.mf_rule.specs.declared.begun.Next.TheVariants as next
 use Rattle.mf_rule.specs.declared.begun.Begun.{Begun}
 use Rattle.mf_rule.specs.declared.fault.RuleFault.TheVariants.{BadType, BadMode}
 use Rattle.mf_rule.specs.Words.{types_in, mode_in}
-use Rattle.mf_rule.specs.Canonical.{mark_text, not_text, flag_text, types_text, types_letters}
-use Rattle.mf_rule.specs.Reading.{goes_on, once, by_value, side_of, with_side, and_then, fitted, tested, named, file_test, flagged, read_from}
+use Rattle.mf_rule.specs.Words.{type_letters}
+use Rattle.mf_rule.specs.Canonical.{mark_text, not_text, flag_text, types_text, letters_text}
+use Rattle.mf_text.specs.Results.{and_then}
+use Rattle.mf_rule.specs.Reading.{goes_on, once, by_value, side_of, with_side, fitted, tested, named, file_test, flagged, read_from}
 use Rattle.mf_rule.proofs.Pieces.{free_by, tail, Led, word_then, begun, open_at, On, on_trans, on_words, on_same, mark_step}
 use Rattle.mf_rule.proofs.Letters.{types_back}
 
@@ -215,9 +217,9 @@ type_value turned rule w types ws is = λ place.
     (place + 1, ap (λ v. and_then (by_value (BadType place) v (λ types. goes_on (next.Test Object) (put_types rule (Some (type_test turned types))))) (λ more. read_from (place + 1) more ws)) is)
 
 type_some : (b : Bool) (rule : Rule) (turned : Bool) (types : ℕ) (x : List ℕ) → Led x → rule.object.types ≡ None → 1 ≤ types → types ≤ 127
-    → On (begun (open_at Object b) rule) (tail ((mark_text turned ++ (codes " type " ++ types_letters types)) ++ x)) (begun (next.Test Object) (put_types rule (Some (type_test turned types)))) (tail x)
+    → On (begun (open_at Object b) rule) (tail ((mark_text turned ++ (codes " type " ++ letters_text type_letters types)) ++ x)) (begun (next.Test Object) (put_types rule (Some (type_test turned types)))) (tail x)
 type_some b rule true types x led none some fits =
-    let w = types_letters types in
+    let w = letters_text type_letters types in
     let back = types_back types some fits in
     let ws = w ∷ tail x in
     let start = begun (open_at Object b) rule in
@@ -228,7 +230,7 @@ type_some b rule true types x led none some fits =
     (on_trans start (begun (next.Name Object) rule) after (codes "!" ∷ codes "type" ∷ ws) (codes "type" ∷ ws) (tail x) (mark_step Object b rule (codes "type" ∷ ws))
     (on_trans (begun (next.Name Object) rule) (begun (next.Types true) rule) after (codes "type" ∷ ws) ws (tail x) (type_marked rule ws none) (type_value true rule w types (tail x) back.0)))
 type_some b rule false types x led none some fits =
-    let w = types_letters types in
+    let w = letters_text type_letters types in
     let back = types_back types some fits in
     let ws = w ∷ tail x in
     let start = begun (open_at Object b) rule in

@@ -1,5 +1,7 @@
 -- What is read is a rule: its ranges are of ids, and its letters are those of types and of modes.
-use Rattle.std.proofs.Common.{◌≡◌, ℕ, ◌<◌, ◌≤◌, ◌^◌, Bool, true, false, cond, eqb, leb, List, [], ◌∷◌, Option, Some, None, Ok, Err, IfSome, IfOk, refl, sym, subst, arith, lit<, lit≤, inl, inr}
+use Rattle.std.proofs.Common.{◌≡◌, ℕ, ◌<◌, ◌≤◌, ◌^◌, true, false, cond, eqb, leb, List, [], ◌∷◌, Option, Some, None, Ok, Err, find, option_map, IfSome, IfOk, refl, sym, subst, arith, lit<, lit≤, inl, inr}
+use Rattle.std.specs.Prelude.{◌==◌}
+use Rattle.std.specs.List.{AllByRecursion}
 use Rattle.std.specs.Int.RustNames.{bit_or}
 use Rattle.std.proofs.lemmas.Nat.{or_lt, le_or_l, le_or_r}
 use Rattle.std.proofs.lemmas.Bool.{leb-true}
@@ -8,74 +10,65 @@ use Rattle.mf_labeltext.proofs.Numbers.{number_spells, bind_some, some_is}
 use Rattle.mf_rule.specs.declared.rule.Side.{Side}
 use Rattle.mf_rule.specs.declared.rule.ObjectSide.{ObjectSide}
 use Rattle.mf_rule.specs.declared.rule.Rule.{Rule}
-use Rattle.mf_rule.specs.Words.{id, ordered, range_from_halves, range_in, mode_letter, type_letter, with_letters, mode_in, types_in}
+use Rattle.mf_rule.specs.Words.{id, ordered, range_from_halves, range_in, bit_of, with_letters, letters_in, mode_in, types_in}
+use Rattle.mf_rule.specs.Words.{mode_letters, type_letters}
 use Rattle.mf_rule.specs.RuleGrammar.{SpellsIdTest, SpellsFileTest, SpellsObjectTest, SpellTests, Spells, AreRanges, AreTypes, IsRule}
 use Rattle.mf_rule.specs.Parts.{Words, no_tests, no_object_tests}
-use Rattle.mf_rule.specs.Reading.{Read, rule_in}
+use Rattle.mf_rule.specs.Reading.{OrFault, rule_in}
 use Rattle.mf_rule.specs.RoundTrip.{WhatIsReadIsARule}
 use Rattle.mf_rule.proofs.ReadAsSpelled.{read_is_spelled}
 
 -- ---- letters
--- what holds of a letter's bit holds of what is found, if it holds of the letters behind
-letter_is : (P : ℕ → Type 0) (hit : Bool) (bit : ℕ) (others : Option ℕ) (found : ℕ) → P bit → (others ≡ Some found → P found) → cond hit (Some bit) others ≡ Some found → P found
-letter_is P true bit others found holds rest is = subst P (some_is bit found is) holds
-letter_is P false bit others found holds rest is = rest is
+-- what holds of each bit of a table holds of what a letter adds
+row_is : (P : ℕ → Type 0) (table : List (ℕ × ℕ)) (c bit : ℕ) → AllByRecursion (λ row. P row.1) table → bit_of table c ≡ Some bit → P bit
+row_is P [] c bit all = λ is. absurd cc
+row_is P (row ∷ rows) c bit all =
+    elim (eqb row.0 c) as (λ b. option_map (λ row. row.1) (cond b (Some row) (find (λ row. row.0 == c) rows)) ≡ Some bit → P bit) [
+      | true ↦ λ is. subst P (some_is row.1 bit is) all.0
+      | false ↦ λ is. row_is P rows c bit all.1 is
+    ]
 
-mode_letter_fits : (c bit : ℕ) → mode_letter c ≡ Some bit → bit < 2 ^ 5
-mode_letter_fits c bit is =
-    let P : ℕ → Type 0 = λ n. n < 2 ^ 5 in
-    letter_is P (eqb c 97) 1 _ bit (lit< tt)
-    (letter_is P (eqb c 114) 2 _ bit (lit< tt)
-    (letter_is P (eqb c 115) 4 _ bit (lit< tt)
-    (letter_is P (eqb c 119) 8 _ bit (lit< tt)
-    (letter_is P (eqb c 120) 16 _ bit (lit< tt)
-    (letter_is P (eqb c 110) 0 _ bit (lit< tt) (λ none. cc)))))) is
+mode_letter_fits : (c bit : ℕ) → bit_of mode_letters c ≡ Some bit → bit < 2 ^ 5
+mode_letter_fits c bit is = row_is (λ n. n < 2 ^ 5) mode_letters c bit (lit< tt, (lit< tt, (lit< tt, (lit< tt, (lit< tt, (lit< tt, tt)))))) is
 
 abbrev IsType : ℕ → Type 0
 IsType n = (1 ≤ n) × (n < 2 ^ 7)
 
-type_letter_fits : (c bit : ℕ) → type_letter c ≡ Some bit → IsType bit
+type_letter_fits : (c bit : ℕ) → bit_of type_letters c ≡ Some bit → IsType bit
 type_letter_fits c bit is =
-    letter_is IsType (eqb c 97) 127 _ bit (lit≤ tt, lit< tt)
-    (letter_is IsType (eqb c 114) 1 _ bit (lit≤ tt, lit< tt)
-    (letter_is IsType (eqb c 100) 2 _ bit (lit≤ tt, lit< tt)
-    (letter_is IsType (eqb c 98) 4 _ bit (lit≤ tt, lit< tt)
-    (letter_is IsType (eqb c 99) 8 _ bit (lit≤ tt, lit< tt)
-    (letter_is IsType (eqb c 108) 16 _ bit (lit≤ tt, lit< tt)
-    (letter_is IsType (eqb c 115) 32 _ bit (lit≤ tt, lit< tt)
-    (letter_is IsType (eqb c 112) 64 _ bit (lit≤ tt, lit< tt) (λ none. absurd cc)))))))) is
+    row_is IsType type_letters c bit ((lit≤ tt, lit< tt), ((lit≤ tt, lit< tt), ((lit≤ tt, lit< tt), ((lit≤ tt, lit< tt), ((lit≤ tt, lit< tt), ((lit≤ tt, lit< tt), ((lit≤ tt, lit< tt), ((lit≤ tt, lit< tt), tt)))))))) is
 
 -- letters of so many bits have so many bits together
-letters_fit : (letter : ℕ → Option ℕ) (k : ℕ) → ((c bit : ℕ) → letter c ≡ Some bit → bit < 2 ^ k) → (bits : ℕ) (cs : List ℕ) (n : ℕ) → bits < 2 ^ k → with_letters letter bits cs ≡ Some n → n < 2 ^ k
+letters_fit : (table : List (ℕ × ℕ)) (k : ℕ) → ((c bit : ℕ) → bit_of table c ≡ Some bit → bit < 2 ^ k) → (bits : ℕ) (cs : List ℕ) (n : ℕ) → bits < 2 ^ k → with_letters table bits cs ≡ Some n → n < 2 ^ k
 unfolding with_letters
-letters_fit letter k each bits [] n fits is = let P : ℕ → Type 0 = λ n. n < 2 ^ k in subst P (some_is bits n is) fits
-letters_fit letter k each bits (c ∷ cs) n fits is =
-    let found = bind_some (letter c) (λ bit. with_letters letter (bit_or bits bit) cs) n is in
-    letters_fit letter k each (bit_or bits found.0) cs n (or_lt k bits found.0 fits (each c found.0 found.1)) found.2
+letters_fit table k each bits [] n fits is = let P : ℕ → Type 0 = λ n. n < 2 ^ k in subst P (some_is bits n is) fits
+letters_fit table k each bits (c ∷ cs) n fits is =
+    let found = bind_some (bit_of table c) (λ bit. with_letters table (bit_or bits bit) cs) n is in
+    letters_fit table k each (bit_or bits found.0) cs n (or_lt k bits found.0 fits (each c found.0 found.1)) found.2
 
 -- no letter takes a bit away
-letters_keep : (letter : ℕ → Option ℕ) (bits : ℕ) (cs : List ℕ) (n : ℕ) → with_letters letter bits cs ≡ Some n → bits ≤ n
+letters_keep : (table : List (ℕ × ℕ)) (bits : ℕ) (cs : List ℕ) (n : ℕ) → with_letters table bits cs ≡ Some n → bits ≤ n
 unfolding with_letters
-letters_keep letter bits [] n is = let same = some_is bits n is in omega arith
-letters_keep letter bits (c ∷ cs) n is =
-    let found = bind_some (letter c) (λ bit. with_letters letter (bit_or bits bit) cs) n is in
-    let more = letters_keep letter (bit_or bits found.0) cs n found.2 in
+letters_keep table bits [] n is = let same = some_is bits n is in omega arith
+letters_keep table bits (c ∷ cs) n is =
+    let found = bind_some (bit_of table c) (λ bit. with_letters table (bit_or bits bit) cs) n is in
+    let more = letters_keep table (bit_or bits found.0) cs n found.2 in
     let kept = le_or_l bits found.0 in
     omega arith
 
 mode_fits : (w : List ℕ) (mode : ℕ) → mode_in w ≡ Some mode → mode < 32
-unfolding mode_in
+unfolding mode_in letters_in
 mode_fits [] mode is = absurd cc
-mode_fits (c ∷ cs) mode is = letters_fit mode_letter 5 mode_letter_fits 0 (c ∷ cs) mode (lit< tt) is
+mode_fits (c ∷ cs) mode is = letters_fit mode_letters 5 mode_letter_fits 0 (c ∷ cs) mode (lit< tt) is
 
 types_fit : (w : List ℕ) (types : ℕ) → types_in w ≡ Some types → AreTypes types
-unfolding types_in with_letters
+unfolding types_in letters_in with_letters
 types_fit [] types is = absurd cc
 types_fit (c ∷ cs) types is =
-    let first = bind_some (type_letter c) (λ bit. with_letters type_letter (bit_or 0 bit) cs) types is in
+    let first = bind_some (bit_of type_letters c) (λ bit. with_letters type_letters (bit_or 0 bit) cs) types is in
     let one = type_letter_fits c first.0 first.1 in
-    let fits = letters_fit type_letter 7 (λ c bit is. (type_letter_fits c bit is).1) 0 (c ∷ cs) types (lit< tt) is in
-    let kept = letters_keep type_letter (bit_or 0 first.0) cs types first.2 in
+    let fits = letters_fit type_letters 7 (λ c bit is. (type_letter_fits c bit is).1) 0 (c ∷ cs) types (lit< tt) is in
+    let kept = letters_keep type_letters (bit_or 0 first.0) cs types first.2 in
     let put = le_or_r 0 first.0 in
     (omega arith, omega arith)
 
@@ -152,6 +145,6 @@ spelled_is_rule words rule spells =
 pub read_is_rule : WhatIsReadIsARule
 read_is_rule words rule is = spelled_is_rule words rule (read_is_spelled words rule is)
 
-pub if_read : (words : Words) (read : Read Rule) → read ≡ rule_in words → IfOk read IsRule
+pub if_read : (words : Words) (read : OrFault Rule) → read ≡ rule_in words → IfOk read IsRule
 if_read words (Ok rule) is = read_is_rule words rule (sym is)
 if_read words (Err fault) is = tt

@@ -1,9 +1,10 @@
 -- Lists of slots of which all from a number on are free: what is said of the slots before it is said of all.
 use Rattle.std.proofs.Common.{◌≡◌, ℕ, zero, suc, ◌≤◌, Bool, true, false, not, ◌&&◌, ◌||◌, cond, Option, Some, None, [], ◌∷◌, ◌++◌, ◌-◌, find, length, take, get_or, replicate, refl, ap, sym, ◌∙◌, arith}
 use Rattle.std.specs.List.{list_all}
+use Rattle.std.specs.Option.{option_map_or}
 use Rattle.mf_cred.specs.declared.cred.Cred.{Cred}
 use Rattle.mf_cred.specs.declared.cred.FileView.{FileView}
-use Rattle.mf_rule.specs.RuleList.{Slots, is_match, grants, by_first, verdict}
+use Rattle.mf_rule.specs.RuleList.{Slots, is_match, grants, verdict}
 use Rattle.mf_rule.specs.declared.rule.Rule.{Rule}
 
 -- every slot from the number on is free
@@ -41,7 +42,7 @@ all_used test (suc used) (slot ∷ slots) passes free =
     ap (◌&&◌ (test slot)) (all_used test used slots passes (free_behind used slot slots free))
 
 pub verdict_of_used : (first : Bool) (used : ℕ) (slots : Slots) (cred : Cred) (file : FileView) (wanted : ℕ) → IsFreeFrom used slots → verdict first (take used slots) cred file wanted ≡ verdict first slots cred file wanted
-verdict_of_used true used slots cred file wanted free = ap (by_first wanted) (find_used (is_match cred file) used slots refl free)
+verdict_of_used true used slots cred file wanted free = ap (λ found. option_map_or (grants wanted) found true) (find_used (is_match cred file) used slots refl free)
 verdict_of_used false used slots cred file wanted free = all_used (λ slot. not (is_match cred file slot) || grants wanted slot) used slots refl free
 
 -- what a list is, by its used slots

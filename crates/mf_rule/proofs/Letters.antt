@@ -2,8 +2,9 @@
 use Rattle.std.proofs.Common.{◌≡◌, ℕ, ◌<◌, ◌≤◌, zero, suc, Bool, true, false, cond, eqb, Option, Some, None, refl, ap, ◌∙◌, arith}
 use Rattle.std.proofs.lemmas.Bool.{eqb-true, eqb-false}
 use Rattle.mf_labeltext.proofs.Cutting.{IsFree}
-use Rattle.mf_rule.specs.Words.{mode_in, types_in, with_letters}
-use Rattle.mf_rule.specs.Canonical.{mode_text, types_letters}
+use Rattle.mf_rule.specs.Words.{mode_in, types_in, letters_in, with_letters}
+use Rattle.mf_rule.specs.Canonical.{letters_text}
+use Rattle.mf_rule.specs.Words.{mode_letters, type_letters}
 use Rattle.mf_rule.proofs.Pieces.{all_free, free_by}
 
 -- the number is read from the text, which has no blank
@@ -37,30 +38,30 @@ below test (suc n) m all less =
     ]) refl all
 
 mode_reads : ℕ → Bool
-mode_reads m = reads (mode_in (mode_text m)) m (all_free (mode_text m))
+mode_reads m = reads (mode_in (letters_text mode_letters m)) m (all_free (letters_text mode_letters m))
 
 all_modes : all_below mode_reads 32 ≡ true
-unfolding mode_reads mode_in with_letters
+unfolding mode_reads mode_in letters_in with_letters
 all_modes = refl
 
-pub mode_back : (m : ℕ) → m < 32 → (mode_in (mode_text m) ≡ Some m) × IsFree 32 (mode_text m)
+pub mode_back : (m : ℕ) → m < 32 → (mode_in (letters_text mode_letters m) ≡ Some m) × IsFree 32 (letters_text mode_letters m)
 unfolding mode_reads
 mode_back m fits =
-    let is = reads_is (mode_in (mode_text m)) m (all_free (mode_text m)) (below mode_reads 32 m all_modes fits) in
-    (is.0, free_by (mode_text m) is.1)
+    let is = reads_is (mode_in (letters_text mode_letters m)) m (all_free (letters_text mode_letters m)) (below mode_reads 32 m all_modes fits) in
+    (is.0, free_by (letters_text mode_letters m) is.1)
 
 -- no type at all isn't tried
 type_reads : ℕ → Bool
 type_reads zero = true
-type_reads (suc n) = reads (types_in (types_letters (suc n))) (suc n) (all_free (types_letters (suc n)))
+type_reads (suc n) = reads (types_in (letters_text type_letters (suc n))) (suc n) (all_free (letters_text type_letters (suc n)))
 
 all_types : all_below type_reads 128 ≡ true
-unfolding type_reads types_in with_letters
+unfolding type_reads types_in letters_in with_letters
 all_types = refl
 
-pub types_back : (n : ℕ) → 1 ≤ n → n ≤ 127 → (types_in (types_letters n) ≡ Some n) × IsFree 32 (types_letters n)
+pub types_back : (n : ℕ) → 1 ≤ n → n ≤ 127 → (types_in (letters_text type_letters n) ≡ Some n) × IsFree 32 (letters_text type_letters n)
 unfolding type_reads
 types_back zero some fits = absurd (omega (arith, some))
 types_back (suc n) some fits =
-    let is = reads_is (types_in (types_letters (suc n))) (suc n) (all_free (types_letters (suc n))) (below type_reads 128 (suc n) all_types (omega (arith, fits))) in
-    (is.0, free_by (types_letters (suc n)) is.1)
+    let is = reads_is (types_in (letters_text type_letters (suc n))) (suc n) (all_free (letters_text type_letters (suc n))) (below type_reads 128 (suc n) all_types (omega (arith, fits))) in
+    (is.0, free_by (letters_text type_letters (suc n)) is.1)

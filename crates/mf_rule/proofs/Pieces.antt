@@ -14,7 +14,8 @@ use Rattle.mf_rule.specs.declared.fault.RuleFault.TheVariants.{BadRange}
 use Rattle.mf_rule.specs.Words.{range_in}
 use Rattle.mf_rule.specs.Canonical.{mark_text, range_text, id_text}
 use Rattle.mf_rule.specs.RuleGrammar.{IsRange}
-use Rattle.mf_rule.specs.Reading.{goes_on, once, by_value, side_of, with_side, id_test, and_then, fitted, tested, named, read_from}
+use Rattle.mf_text.specs.Results.{and_then}
+use Rattle.mf_rule.specs.Reading.{goes_on, once, by_value, side_of, with_side, id_test, fitted, tested, named, read_from}
 use Rattle.mf_rule.proofs.Ranges.{range_back}
 
 abbrev pub all_free : List ℕ → Bool

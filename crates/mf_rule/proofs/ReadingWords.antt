@@ -3,13 +3,14 @@ use Rattle.std.proofs.Common.{◌≡◌, ℕ, ◌+◌, ◌<◌, ◌≤◌, List,
 use Rattle.std.proofs.lemmas.List.{at_drop_more, drop_all}
 use Rattle.mf_rule.specs.declared.rule.Rule.{Rule}
 use Rattle.mf_rule.specs.declared.begun.Begun.{Begun}
-use Rattle.mf_rule.specs.Reading.{Read, and_then, with_word, whole, read_from}
+use Rattle.mf_text.specs.Results.{and_then}
+use Rattle.mf_rule.specs.Reading.{OrFault, with_word, whole, read_from}
 
 abbrev pub texts : List (Bor (List ℕ)) → List (List ℕ)
 texts words = map (λ word. word.now) words
 
 -- one word read, and the others behind it
-abbrev pub then_rest : ℕ → List (Bor (List ℕ)) → Read Begun → Read Rule
+abbrev pub then_rest : ℕ → List (Bor (List ℕ)) → OrFault Begun → OrFault Rule
 then_rest place words read = and_then read (λ more. read_from (place + 1) more (texts (drop (place + 1) words)))
 
 pub read_more : (words : List (Bor (List ℕ))) (place : ℕ) (begun : Begun) (d : Bor (List ℕ)) → place < length words

@@ -11,7 +11,8 @@ use Rattle.mf_rule.specs.declared.begun.Part.TheVariants.{Subject, Object}
 use Rattle.mf_rule.specs.declared.begun.Next.TheVariants as next
 use Rattle.mf_rule.specs.RuleGrammar.{AreRanges, IsRule}
 use Rattle.mf_rule.specs.Parts.{no_object_tests}
-use Rattle.mf_rule.specs.Canonical.{not_text, id_text, side_text, flag_text, flags_text, types_text, object_text, mode_text, rule_text, range_text, types_letters}
+use Rattle.mf_rule.specs.Words.{mode_letters, type_letters}
+use Rattle.mf_rule.specs.Canonical.{not_text, id_text, side_text, flag_text, flags_text, types_text, object_text, rule_text, range_text, letters_text}
 use Rattle.mf_rule.specs.RoundTrip.{CanonicalTextStandsForItsRule}
 use Rattle.mf_rule.specs.Reading.{no_rule, nothing_read, rule_in, read_from, fitted}
 use Rattle.mf_rule.proofs.Pieces.{tail, Led, word_then, free_by, begun, open_at, On, on_trans, on_words, uid_piece, gid_piece, put_uid, put_gid}
@@ -31,11 +32,11 @@ led_flag w led (Some wanted) x led_x = led_append (flag_text w (Some wanted)) x 
 
 led_types_alone : (test : Option TypeTest) → Led (types_text test)
 led_types_alone None = tt
-led_types_alone (Some test) = led_mark test.not (codes " type " ++ types_letters test.types) refl
+led_types_alone (Some test) = led_mark test.not (codes " type " ++ letters_text type_letters test.types) refl
 
 led_types : (test : Option TypeTest) (x : List ℕ) → Led x → Led (types_text test ++ x)
 led_types None x led_x = led_x
-led_types (Some test) x led_x = led_append (types_text (Some test)) x (led_mark test.not (codes " type " ++ types_letters test.types) refl) led_x
+led_types (Some test) x led_x = led_append (types_text (Some test)) x (led_mark test.not (codes " type " ++ letters_text type_letters test.types) refl) led_x
 
 led_bare : (wanted : Option Bool) → Led (flag_text (codes " gid_of_subject") wanted)
 led_bare None = tt
@@ -184,7 +185,7 @@ unfolding rule_text
 text_back rule ok =
     let s = side_text rule.subject in
     let o = object_text rule.object in
-    let m = mode_text rule.mode in
+    let m = letters_text mode_letters rule.mode in
     let letters = mode_back rule.mode ok.mode in
     let y = codes " mode " ++ m in
     let x = codes " object" ++ (o ++ y) in

@@ -14,7 +14,8 @@ use Rattle.mf_rule.specs.declared.fault.RuleFault.{RuleFault}
 use Rattle.mf_rule.specs.Words.{range_in, mode_in}
 use Rattle.mf_rule.specs.RuleGrammar.{marked, SpellsIdTest, SpellsFileTest, SpellsObjectTest, SpellTests, SpellsSubject, SpellsObject, Spells}
 use Rattle.mf_rule.specs.Parts.{Words, no_object_tests}
-use Rattle.mf_rule.specs.Reading.{Read, goes_on, once, by_value, side_of, id_test, no_rule, and_then}
+use Rattle.mf_text.specs.Results.{and_then}
+use Rattle.mf_rule.specs.Reading.{OrFault, goes_on, once, by_value, side_of, id_test, no_rule}
 use Rattle.mf_rule.proofs.Pieces.{begun, put_uid, put_gid}
 use Rattle.mf_rule.proofs.Spelled.{flat}
 
@@ -26,15 +27,15 @@ way false x y z is = inr (refl, is)
 pub same_text : (text word : List ℕ) → bytes_eq text word ≡ true → text ≡ word
 same_text text word is = (bytes_eq-Decides text word).0 is
 
-pub once_is : {A : Type 0} (place : ℕ) (test : Option A) (more : Read Begun) (b : Begun) → once place test more ≡ Ok b → (test ≡ None) × (more ≡ Ok b)
+pub once_is : {A : Type 0} (place : ℕ) (test : Option A) (more : OrFault Begun) (b : Begun) → once place test more ≡ Ok b → (test ≡ None) × (more ≡ Ok b)
 once_is place None more b is = (refl, is)
 once_is place (Some test) more b is = absurd cc
 
-pub value_is : {A : Type 0} (fault : RuleFault) (value : Option A) (more : A → Read Begun) (b : Begun) → by_value fault value more ≡ Ok b → (x : A) × (value ≡ Some x) × (more x ≡ Ok b)
+pub value_is : {A : Type 0} (fault : RuleFault) (value : Option A) (more : A → OrFault Begun) (b : Begun) → by_value fault value more ≡ Ok b → (x : A) × (value ≡ Some x) × (more x ≡ Ok b)
 value_is fault None more b is = absurd cc
 value_is fault (Some x) more b is = (x, refl, is)
 
-pub then_is : (read : Read Begun) (more : Begun → Read Rule) (rule : Rule) → and_then read more ≡ Ok rule → (b : Begun) × (read ≡ Ok b) × (more b ≡ Ok rule)
+pub then_is : (read : OrFault Begun) (more : Begun → OrFault Rule) (rule : Rule) → and_then read more ≡ Ok rule → (b : Begun) × (read ≡ Ok b) × (more b ≡ Ok rule)
 then_is (Ok b) more rule is = (b, refl, is)
 then_is (Err fault) more rule is = absurd cc
 
@@ -107,7 +108,7 @@ Holds next.End r ws rule = (ws ≡ []) × (r ≡ rule)
 abbrev pub After : Begun → Words → Rule → Type 0
 After b ws rule = Holds b.next b.rule ws rule
 
-abbrev pub ok : {A : Type 0} → A → Read A
+abbrev pub ok : {A : Type 0} → A → OrFault A
 ok x = Ok x
 
 pub ok_is : (b c : Begun) → ok b ≡ ok c → b ≡ c

@@ -2,8 +2,9 @@
 --
 -- The tests, `!` and `not`, first match and the letters are those of ugidfw(8) and mac_bsdextended(4). That a uid test looks at the
 -- effective, the real and the saved uid, and a gid test at every group, is this model's own choice.
-use Rattle.std.specs.Prelude.{ℕ, Bool, true, false, not, ◌&&◌, ◌||◌, ◌==◌, nat_le, if◌then◌else◌, Option, Some, None}
+use Rattle.std.specs.Prelude.{ℕ, Bool, true, not, ◌&&◌, ◌||◌, ◌==◌, nat_le, if◌then◌else◌, Option}
 use Rattle.std.specs.List.{list_any}
+use Rattle.std.specs.Option.{option_map_or}
 use Rattle.std.specs.Int.RustNames.{bit_and}
 use Rattle.mf_cred.specs.declared.cred.Cred.{Cred}
 use Rattle.mf_cred.specs.declared.cred.FileView.{FileView}
@@ -16,18 +17,11 @@ use Rattle.mf_rule.specs.declared.rule.Rule.{Rule}
 
 -- a test that isn't there holds
 abbrev pub if_asked : {A : Type 0} → Option A → (A → Bool) → Bool
-if_asked None holds = true
-if_asked (Some test) holds = holds test
+if_asked test holds = option_map_or holds test true
 
 -- `!` turns one test, and `not` a whole part
 abbrev pub turned : Bool → Bool → Bool
-turned true holds = not holds
-turned false holds = holds
-
--- what is asked for is so, or has not to be so
-abbrev pub agrees : Bool → Bool → Bool
-agrees true is = is
-agrees false is = not is
+turned not_so holds = if not_so then not holds else holds
 
 -- from the least to the greatest, both included
 abbrev pub has : IdTest → ℕ → Bool
@@ -68,10 +62,10 @@ abbrev pub object_tests : ObjectSide → Cred → FileView → Bool
 object_tests object cred file =
     if_asked object.side.uid (λ test. turned test.not (has test file.uid))
     && if_asked object.side.gid (λ test. turned test.not (has test file.gid))
-    && if_asked object.suid (λ wanted. agrees wanted (is_suid file))
-    && if_asked object.sgid (λ wanted. agrees wanted (is_sgid file))
-    && if_asked object.uid_of_subject (λ wanted. agrees wanted (owns cred file))
-    && if_asked object.gid_of_subject (λ wanted. agrees wanted (in_group cred file.gid))
+    && if_asked object.suid (λ wanted. turned (not wanted) (is_suid file))
+    && if_asked object.sgid (λ wanted. turned (not wanted) (is_sgid file))
+    && if_asked object.uid_of_subject (λ wanted. turned (not wanted) (owns cred file))
+    && if_asked object.gid_of_subject (λ wanted. turned (not wanted) (in_group cred file.gid))
     && if_asked object.types (λ test. turned test.not (has_type test.types file.dir))
 
 abbrev pub object_matches : ObjectSide → Cred → FileView → Bool

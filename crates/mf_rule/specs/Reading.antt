@@ -2,8 +2,10 @@
 -- next, each word either fits or is a fault; where the words end too early, the fault is that the next one is missing.
 --
 -- ugidfw(8) says which words are rules; which fault a list of words has is this model's own choice.
-use Rattle.std.specs.Prelude.{ℕ, ◌+◌, Bool, true, false, not, List, [], ◌∷◌, Option, Some, None, is_some, Result, Ok, Err, codes, if◌then◌else◌}
+use Rattle.std.specs.Prelude.{ℕ, ◌+◌, Bool, true, false, not, List, [], ◌∷◌, Option, Some, is_some, Result, Ok, Err, codes, if◌then◌else◌}
+use Rattle.std.specs.Option.{ok_or}
 use Rattle.std.specs.Str.{bytes_eq}
+use Rattle.mf_text.specs.Results.{and_then, ◌>>=◌}
 use Rattle.mf_rule.specs.Words.{range_in, mode_in, types_in}
 use Rattle.mf_rule.specs.Parts.{Words, no_tests, no_object_tests}
 use Rattle.mf_rule.specs.declared.rule.IdTest.{IdTest}
@@ -18,11 +20,11 @@ use Rattle.mf_rule.specs.declared.fault.RuleFault.{RuleFault}
 use Rattle.mf_rule.specs.declared.fault.RuleFault.TheVariants.{UnknownWord, Missing, BadRange, BadMode, BadType}
 
 -- what is read, or a fault
-abbrev pub Read : Type 0 → Type 0
-Read A = Result A RuleFault
+abbrev pub OrFault : Type 0 → Type 0
+OrFault A = Result A RuleFault
 
 -- this comes next, and the rule so far is this
-abbrev pub goes_on : Next → Rule → Read Begun
+abbrev pub goes_on : Next → Rule → OrFault Begun
 goes_on what rule = Ok (record { next = what; rule = rule })
 
 abbrev pub no_rule : Rule
@@ -53,19 +55,15 @@ behind Subject = next.First Object
 behind Object = next.Letters
 
 -- a test stands only once in its part
-abbrev pub unless_there : ℕ → Bool → Read Begun → Read Begun
-unless_there place true more = Err (UnknownWord place)
-unless_there place false more = more
-
-abbrev pub once : {A : Type 0} → ℕ → Option A → Read Begun → Read Begun
-once place test more = unless_there place (is_some test) more
+abbrev pub once : {A : Type 0} → ℕ → Option A → OrFault Begun → OrFault Begun
+once place test more = if is_some test then Err (UnknownWord place) else more
 
 -- a file test without a value
-abbrev pub flagged : Rule → Read Begun
+abbrev pub flagged : Rule → OrFault Begun
 flagged rule = goes_on (next.Test Object) rule
 
 -- the name of a test that only an object has
-unfoldable pub file_test : ℕ → Bool → Rule → List ℕ → Read Begun
+unfoldable pub file_test : ℕ → Bool → Rule → List ℕ → OrFault Begun
 file_test place turned rule w =
     if bytes_eq w (codes "suid") then once place rule.object.suid (flagged (record rule { object = record rule.object { suid = Some (not turned) } }))
     else if bytes_eq w (codes "sgid") then once place rule.object.sgid (flagged (record rule { object = record rule.object { sgid = Some (not turned) } }))
@@ -74,34 +72,33 @@ file_test place turned rule w =
     else if bytes_eq w (codes "type") then once place rule.object.types (goes_on (next.Types turned) rule)
     else Err (UnknownWord place)
 
-abbrev pub other_test : Part → ℕ → Bool → Rule → List ℕ → Read Begun
+abbrev pub other_test : Part → ℕ → Bool → Rule → List ℕ → OrFault Begun
 other_test Subject place turned rule w = Err (UnknownWord place)
 other_test Object place turned rule w = file_test place turned rule w
 
 -- the name of a test
-unfoldable pub named : ℕ → Part → Bool → Rule → List ℕ → Read Begun
+unfoldable pub named : ℕ → Part → Bool → Rule → List ℕ → OrFault Begun
 named place part turned rule w =
     if bytes_eq w (codes "uid") then once place (side_of part rule).uid (goes_on (next.Uid part turned) rule)
     else if bytes_eq w (codes "gid") then once place (side_of part rule).gid (goes_on (next.Gid part turned) rule)
     else other_test part place turned rule w
 
 -- `!`, the name of a test, or the word that ends the part
-unfoldable pub tested : ℕ → Part → Rule → List ℕ → Read Begun
+unfoldable pub tested : ℕ → Part → Rule → List ℕ → OrFault Begun
 tested place part rule w =
     if bytes_eq w (codes "!") then goes_on (next.Name part) rule
     else if bytes_eq w (end_of part) then goes_on (behind part) rule
     else named place part false rule w
 
 -- the value of a test, where the word is one
-abbrev pub by_value : {A : Type 0} → RuleFault → Option A → (A → Read Begun) → Read Begun
-by_value fault None more = Err fault
-by_value fault (Some value) more = more value
+abbrev pub by_value : {A : Type 0} → RuleFault → Option A → (A → OrFault Begun) → OrFault Begun
+by_value fault value more = and_then (ok_or value fault) more
 
 abbrev pub id_test : Bool → ℕ × ℕ → IdTest
 id_test turned ends = record { not = turned; least = ends.0; greatest = ends.1 }
 
 -- the rule so far with the word at a place added, by what has to come next
-unfoldable pub fitted : ℕ → Next → Rule → List ℕ → Read Begun
+unfoldable pub fitted : ℕ → Next → Rule → List ℕ → OrFault Begun
 fitted place next.Start rule w = if bytes_eq w (codes "subject") then goes_on (next.First Subject) rule else Err (UnknownWord place)
 fitted place (next.First part) rule w = if bytes_eq w (codes "not") then goes_on (next.Test part) (with_not part rule) else tested place part rule w
 fitted place (next.Test part) rule w = tested place part rule w
@@ -115,23 +112,19 @@ fitted place (next.Types turned) rule w =
 fitted place next.Letters rule w = by_value (BadMode place) (mode_in w) (λ mode. goes_on next.End (record rule { mode = mode }))
 fitted place next.End rule w = Err (UnknownWord place)
 
-abbrev pub with_word : ℕ → Begun → List ℕ → Read Begun
+abbrev pub with_word : ℕ → Begun → List ℕ → OrFault Begun
 with_word place begun w = fitted place begun.next begun.rule w
 
 -- the rule, where it is whole
-abbrev pub whole : ℕ → Next → Rule → Read Rule
+abbrev pub whole : ℕ → Next → Rule → OrFault Rule
 whole place next.End rule = Ok rule
 whole place other rule = Err (Missing place)
 
-abbrev pub and_then : {A B : Type 0} → Read A → (A → Read B) → Read B
-and_then (Ok x) more = more x
-and_then (Err fault) more = Err fault
-
 -- the rule so far, and the words from a place on
-unfoldable pub read_from : ℕ → Begun → Words → Read Rule
+unfoldable pub read_from : ℕ → Begun → Words → OrFault Rule
 read_from place begun [] = whole place begun.next begun.rule
-read_from place begun (w ∷ ws) = and_then (with_word place begun w) (λ more. read_from (place + 1) more ws)
+read_from place begun (w ∷ ws) = with_word place begun w >>= λ more. read_from (place + 1) more ws
 
 -- the rule that the words stand for, or their first fault
-unfoldable pub rule_in : Words → Read Rule
+unfoldable pub rule_in : Words → OrFault Rule
 rule_in words = read_from 0 nothing_read words

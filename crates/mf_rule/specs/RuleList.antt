@@ -4,6 +4,7 @@
 -- that what no rule matches is allowed, is this model's own choice.
 use Rattle.std.specs.Prelude.{ℕ, Bool, true, false, not, ◌||◌, List, Option, Some, None, find}
 use Rattle.std.specs.List.{list_all}
+use Rattle.std.specs.Option.{option_map_or}
 use Rattle.mf_cred.specs.declared.cred.Cred.{Cred}
 use Rattle.mf_cred.specs.declared.cred.FileView.{FileView}
 use Rattle.mf_rule.specs.Match.{matches, gives}
@@ -20,20 +21,13 @@ is_free (Some rule) = false
 
 -- a rule has the number, and matches
 abbrev pub is_match : Cred → FileView → Option Rule → Bool
-is_match cred file None = false
-is_match cred file (Some rule) = matches rule cred file
+is_match cred file slot = option_map_or (λ rule. matches rule cred file) slot false
 
--- the rule of the number gives the letters, where there is one
+-- the rule gives the letters, where there is one
 abbrev pub grants : ℕ → Option Rule → Bool
-grants wanted None = true
-grants wanted (Some rule) = gives rule wanted
-
--- what the first match says; where there is none, yes
-abbrev pub by_first : ℕ → Option (Option Rule) → Bool
-by_first wanted None = true
-by_first wanted (Some slot) = grants wanted slot
+grants wanted slot = option_map_or (λ rule. gives rule wanted) slot true
 
 -- With first match the matching rule of the least number decides; without, every matching rule has to give the letters.
 abbrev pub verdict : Bool → Slots → Cred → FileView → ℕ → Bool
-verdict true slots cred file wanted = by_first wanted (find (is_match cred file) slots)
+verdict true slots cred file wanted = option_map_or (grants wanted) (find (is_match cred file) slots) true
 verdict false slots cred file wanted = list_all (λ slot. not (is_match cred file slot) || grants wanted slot) slots

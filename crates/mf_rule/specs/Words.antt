@@ -2,7 +2,7 @@
 --
 -- The letters of modes and types are those of ugidfw(8). That letters may be repeated, that `n` beside others adds nothing, and that
 -- leading zeros are accepted, is this model's own choice.
-use Rattle.std.specs.Prelude.{ℕ, List, [], ◌∷◌, Option, Some, None, nat_le, ◌==◌, if◌then◌else◌}
+use Rattle.std.specs.Prelude.{ℕ, List, [], ◌∷◌, Option, Some, None, nat_le, ◌==◌, if◌then◌else◌, ◌<◌, find, option_map, zip, codes}
 use Rattle.std.specs.Int.RustNames.{bit_or}
 use Rattle.mf_labeltext.specs.Bytes.{colon}
 use Rattle.mf_labeltext.specs.Reading.{◌>>=◌, cut, number}
@@ -27,42 +27,34 @@ range_from_halves w (Some halves) = do
 unfoldable pub range_in : List ℕ → Option (ℕ × ℕ)
 range_in w = range_from_halves w (cut colon w)
 
--- what a letter of a mode adds: a, r, s, w, x, or n, which is nothing
-abbrev pub mode_letter : ℕ → Option ℕ
-mode_letter c =
-    if c == 97 then Some ADMINISTER
-    else if c == 114 then Some READ
-    else if c == 115 then Some STAT
-    else if c == 119 then Some WRITE
-    else if c == 120 then Some EXECUTE
-    else if c == 110 then Some 0
-    else None
+-- each letter of a mode and its bit, where `n` is for none
+abbrev pub mode_letters : List (ℕ × ℕ)
+mode_letters = zip (codes "narswx") (0 ∷ ADMINISTER ∷ READ ∷ STAT ∷ WRITE ∷ EXECUTE ∷ [])
 
--- what a letter of types adds: a, which is all of them, r, d, b, c, l, s, p
-abbrev pub type_letter : ℕ → Option ℕ
-type_letter c =
-    if c == 97 then Some ANY_TYPE
-    else if c == 114 then Some REGULAR
-    else if c == 100 then Some DIRECTORY
-    else if c == 98 then Some BLOCK
-    else if c == 99 then Some CHARACTER
-    else if c == 108 then Some LINK
-    else if c == 115 then Some SOCKET
-    else if c == 112 then Some FIFO
-    else None
+-- each letter of types and its bit, where `a` is for all of them
+abbrev pub type_letters : List (ℕ × ℕ)
+type_letters = zip (codes "ardbclsp") (ANY_TYPE ∷ REGULAR ∷ DIRECTORY ∷ BLOCK ∷ CHARACTER ∷ LINK ∷ SOCKET ∷ FIFO ∷ [])
+
+-- a letter of one byte
+abbrev pub IsAsciiLetter : ℕ × ℕ → Type 0
+IsAsciiLetter row = row.0 < 128
+
+-- what a letter adds, by a table
+abbrev pub bit_of : List (ℕ × ℕ) → ℕ → Option ℕ
+bit_of table letter = option_map (λ row. row.1) (find (λ row. row.0 == letter) table)
 
 -- the bits so far, and those that the letters add
-unfoldable pub with_letters : (ℕ → Option ℕ) → ℕ → List ℕ → Option ℕ
-with_letters letter bits [] = Some bits
-with_letters letter bits (c ∷ cs) = letter c >>= λ bit. with_letters letter (bit_or bits bit) cs
+unfoldable pub with_letters : List (ℕ × ℕ) → ℕ → List ℕ → Option ℕ
+with_letters table bits [] = Some bits
+with_letters table bits (c ∷ cs) = bit_of table c >>= λ bit. with_letters table (bit_or bits bit) cs
 
--- one or more letters
-abbrev pub letters_in : (ℕ → Option ℕ) → List ℕ → Option ℕ
-letters_in letter [] = None
-letters_in letter (c ∷ cs) = with_letters letter 0 (c ∷ cs)
+-- one letter or more
+unfoldable pub letters_in : List (ℕ × ℕ) → List ℕ → Option ℕ
+letters_in table [] = None
+letters_in table (c ∷ cs) = with_letters table 0 (c ∷ cs)
 
 unfoldable pub mode_in : List ℕ → Option ℕ
-mode_in w = letters_in mode_letter w
+mode_in w = letters_in mode_letters w
 
 unfoldable pub types_in : List ℕ → Option ℕ
-types_in w = letters_in type_letter w
+types_in w = letters_in type_letters w

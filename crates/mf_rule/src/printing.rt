@@ -1,12 +1,12 @@
 //! Printing rules in their canonical text.
-ghost use Rattle.std.specs.Prelude.{◌≡◌, ◌++◌, string_bytes, OnOk, OnErr};
+ghost use Rattle.std.specs.Prelude.{◌≡◌, ◌++◌, string_bytes, codes, All, OnOk, OnErr};
+ghost use Rattle.std.specs.List.{flat_map};
+ghost use Rattle.mf_rule.specs.Words.{IsAsciiLetter, mode_letters};
 ghost use Rattle.mf_text.specs.Appending.{Extends};
 ghost use Rattle.mf_rule.specs.Canonical as spec;
 
-use crate::rule::{
-    ADMINISTER, ANY_TYPE, BLOCK, CHARACTER, DIRECTORY, EXECUTE, FIFO, IdTest, LINK, ObjectSide,
-    READ, REGULAR, Rule, SOCKET, STAT, Side, TypeTest, WRITE,
-};
+use crate::rule::{IdTest, ObjectSide, Rule, Side, TypeTest};
+use crate::values::{MODE_LETTERS, TYPE_LETTERS};
 use mf_text::print_number;
 use std::alloc::AllocError;
 
@@ -34,7 +34,7 @@ fn push_rule(rule: &Rule, out: &mut String) -> Result<(), AllocError>
 }
 
 fn push_subject_part(side: &Side, out: &mut String) -> Result<(), AllocError>
-    ensures ok { OnOk result (string_bytes out.new ≡ string_bytes out.old ++ spec.subject_part side.now) }
+    ensures ok { OnOk result (string_bytes out.new ≡ string_bytes out.old ++ (codes "subject" ++ spec.side_text side.now)) }
     ensures err { OnErr result (Extends (string_bytes out.old) (string_bytes out.new)) }
 {
     out.push_str("subject")?;
@@ -42,7 +42,7 @@ fn push_subject_part(side: &Side, out: &mut String) -> Result<(), AllocError>
 }
 
 fn push_object_part(object: &ObjectSide, out: &mut String) -> Result<(), AllocError>
-    ensures ok { OnOk result (string_bytes out.new ≡ string_bytes out.old ++ spec.object_part object.now) }
+    ensures ok { OnOk result (string_bytes out.new ≡ string_bytes out.old ++ (codes " object" ++ spec.object_text object.now)) }
     ensures err { OnErr result (Extends (string_bytes out.old) (string_bytes out.new)) }
 {
     out.push_str(" object")?;
@@ -50,11 +50,11 @@ fn push_object_part(object: &ObjectSide, out: &mut String) -> Result<(), AllocEr
 }
 
 fn push_mode_part(mode: u8, out: &mut String) -> Result<(), AllocError>
-    ensures ok { OnOk result (string_bytes out.new ≡ string_bytes out.old ++ spec.mode_part mode) }
+    ensures ok { OnOk result (string_bytes out.new ≡ string_bytes out.old ++ (codes " mode " ++ spec.letters_text mode_letters mode)) }
     ensures err { OnErr result (Extends (string_bytes out.old) (string_bytes out.new)) }
 {
     out.push_str(" mode ")?;
-    push_mode(mode, out)
+    push_letters(&MODE_LETTERS, mode, out)
 }
 
 fn push_side(side: &Side, out: &mut String) -> Result<(), AllocError>
@@ -136,16 +136,6 @@ fn push_flag(name: &str, wanted: Option<bool>, out: &mut String) -> Result<(), A
     out.push_str(name)
 }
 
-fn push_letter(bits: u8, bit: u8, letter: &str, out: &mut String) -> Result<(), AllocError>
-    ensures ok { OnOk result (string_bytes out.new ≡ string_bytes out.old ++ spec.letter_text bits bit letter.now) }
-    ensures err { OnErr result (Extends (string_bytes out.old) (string_bytes out.new)) }
-{
-    if bits & bit == 0 {
-        return Ok(());
-    }
-    out.push_str(letter)
-}
-
 fn push_types(test: &Option<TypeTest>, out: &mut String) -> Result<(), AllocError>
     ensures ok { OnOk result (string_bytes out.new ≡ string_bytes out.old ++ spec.types_text test.now) }
     ensures err { OnErr result (Extends (string_bytes out.old) (string_bytes out.new)) }
@@ -155,70 +145,43 @@ fn push_types(test: &Option<TypeTest>, out: &mut String) -> Result<(), AllocErro
     };
     push_mark(test.not, out)?;
     out.push_str(" type ")?;
-    push_type_letters(test.types, out)
+    push_letters(&TYPE_LETTERS, test.types, out)
 }
 
-fn push_type_letters(types: u8, out: &mut String) -> Result<(), AllocError>
-    ensures ok { OnOk result (string_bytes out.new ≡ string_bytes out.old ++ spec.types_letters types) }
+/// The letters of a table that stand for the bits.
+fn push_letters(table: &[(u8, u8)], bits: u8, out: &mut String) -> Result<(), AllocError>
+    requires { All IsAsciiLetter table.now }
+    ensures ok { OnOk result (string_bytes out.new ≡ string_bytes out.old ++ spec.letters_text table.now bits) }
     ensures err { OnErr result (Extends (string_bytes out.old) (string_bytes out.new)) }
 {
-    if types == ANY_TYPE {
-        return out.push_str("a");
+    let Some((whole, others)) = table.split_first() else {
+        return Ok(());
+    };
+    if bits == whole.1 {
+        return out.push(char::from(whole.0));
     }
-    push_some_types(types, out)
+    push_set_letters(others, bits, out)
 }
 
-fn push_some_types(types: u8, out: &mut String) -> Result<(), AllocError>
-    ensures ok { OnOk result (string_bytes out.new ≡ string_bytes out.old ++ spec.some_types types) }
+/// The letters of which the bits are set.
+fn push_set_letters(table: &[(u8, u8)], bits: u8, out: &mut String) -> Result<(), AllocError>
+    requires { All IsAsciiLetter table.now }
+    ensures ok { OnOk result (string_bytes out.new ≡ string_bytes out.old ++ flat_map (spec.letter_text bits) table.now) }
     ensures err { OnErr result (Extends (string_bytes out.old) (string_bytes out.new)) }
 {
-    push_files(types, out)?;
-    push_devices(types, out)?;
-    push_others(types, out)
-}
-
-fn push_files(types: u8, out: &mut String) -> Result<(), AllocError>
-    ensures ok { OnOk result (string_bytes out.new ≡ string_bytes out.old ++ spec.files_letters types) }
-    ensures err { OnErr result (Extends (string_bytes out.old) (string_bytes out.new)) }
-{
-    push_letter(types, REGULAR, "r", out)?;
-    push_letter(types, DIRECTORY, "d", out)
-}
-
-fn push_devices(types: u8, out: &mut String) -> Result<(), AllocError>
-    ensures ok { OnOk result (string_bytes out.new ≡ string_bytes out.old ++ spec.devices_letters types) }
-    ensures err { OnErr result (Extends (string_bytes out.old) (string_bytes out.new)) }
-{
-    push_letter(types, BLOCK, "b", out)?;
-    push_letter(types, CHARACTER, "c", out)
-}
-
-fn push_others(types: u8, out: &mut String) -> Result<(), AllocError>
-    ensures ok { OnOk result (string_bytes out.new ≡ string_bytes out.old ++ spec.others_letters types) }
-    ensures err { OnErr result (Extends (string_bytes out.old) (string_bytes out.new)) }
-{
-    push_letter(types, LINK, "l", out)?;
-    push_letter(types, SOCKET, "s", out)?;
-    push_letter(types, FIFO, "p", out)
-}
-
-fn push_mode(mode: u8, out: &mut String) -> Result<(), AllocError>
-    ensures ok { OnOk result (string_bytes out.new ≡ string_bytes out.old ++ spec.mode_text mode) }
-    ensures err { OnErr result (Extends (string_bytes out.old) (string_bytes out.new)) }
-{
-    if mode == 0 {
-        return out.push_str("n");
+    for row in table {
+        push_letter(*row, bits, out)?;
     }
-    push_some_letters(mode, out)
+    Ok(())
 }
 
-fn push_some_letters(mode: u8, out: &mut String) -> Result<(), AllocError>
-    ensures ok { OnOk result (string_bytes out.new ≡ string_bytes out.old ++ spec.some_letters mode) }
+fn push_letter(row: (u8, u8), bits: u8, out: &mut String) -> Result<(), AllocError>
+    requires { IsAsciiLetter row }
+    ensures ok { OnOk result (string_bytes out.new ≡ string_bytes out.old ++ spec.letter_text bits row) }
     ensures err { OnErr result (Extends (string_bytes out.old) (string_bytes out.new)) }
 {
-    push_letter(mode, ADMINISTER, "a", out)?;
-    push_letter(mode, READ, "r", out)?;
-    push_letter(mode, STAT, "s", out)?;
-    push_letter(mode, WRITE, "w", out)?;
-    push_letter(mode, EXECUTE, "x", out)
+    if bits & row.1 == 0 {
+        return Ok(());
+    }
+    out.push(char::from(row.0))
 }

@@ -1,9 +1,10 @@
 //! Reading the words of a rule.
-ghost use Rattle.std.specs.Prelude.{◌≡◌, ◌↔◌, Ok, IfOk, ◌<◌, ◌^◌, ◌+◌, length, map};
+ghost use Rattle.std.specs.Prelude.{◌≡◌, ◌↔◌, cond, Err, Ok, IfOk, ◌<◌, ◌^◌, ◌+◌, length, map};
 ghost use Rattle.mf_rule.specs.Reading as spec;
 ghost use Rattle.mf_rule.specs.RuleGrammar.{Spells, IsRule};
 ghost use Rattle.mf_rule.specs.declared.rule.Rule.{Rule};
 ghost use Rattle.mf_rule.specs.declared.begun.Next.TheVariants as next;
+ghost use Rattle.mf_rule.specs.declared.fault.RuleFault.TheVariants.{UnknownWord};
 
 use crate::begun::{Begun, Next, Part};
 use crate::fault::RuleFault;
@@ -124,7 +125,7 @@ fn tested(place: usize, part: Part, rule: Rule, word: &str) -> Result<Begun, Rul
 
 /// What comes behind a test's name, unless that test was there before.
 fn once(place: usize, is_there: bool, next: Next, rule: Rule) -> Result<Begun, RuleFault>
-    ensures { result ≡ spec.unless_there place is_there (spec.goes_on next rule) }
+    ensures { result ≡ cond is_there (Err (UnknownWord place)) (spec.goes_on next rule) }
 {
     if is_there {
         return Err(RuleFault::UnknownWord(place));

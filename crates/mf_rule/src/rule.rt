@@ -1,5 +1,5 @@
 //! Rules, and which subjects and files they match.
-ghost use Rattle.std.specs.Prelude.{◌≡◌, ◌↔◌, IsTrue};
+ghost use Rattle.std.specs.Prelude.{◌≡◌, ◌↔◌, IsTrue, not};
 ghost use Rattle.std.specs.List.{list_any};
 ghost use Rattle.mf_rule.specs.Match as spec;
 ghost use Rattle.mf_rule.specs.Flags.{SameFlags};
@@ -139,7 +139,7 @@ fn object_id(test: &Option<IdTest>, id: u32) -> bool
 }
 
 fn flag(wanted: Option<bool>, is: bool) -> bool
-    ensures { result ≡ spec.if_asked wanted (λ w. spec.agrees w is) }
+    ensures { result ≡ spec.if_asked wanted (λ w. spec.turned (not w) is) }
 {
     match wanted {
         None => true,

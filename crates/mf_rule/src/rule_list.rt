@@ -1,6 +1,7 @@
 //! Rule lists, and their verdict.
 ghost use Rattle.std.specs.Prelude.{◌≡◌, ◌↔◌, ◌<◌, ◌≤◌, ℕ, [], IsTrue, true, false, Some, None, find, option_copied, length, not, ◌||◌, position, replicate, slice_index_or, slice_set, IfOk, MatchResult};
 ghost use Rattle.std.specs.List.{list_all};
+ghost use Rattle.std.specs.Option.{option_map_or};
 ghost use Rattle.mf_rule.specs.RuleList as spec;
 ghost use Rattle.mf_rule.specs.declared.rule.Rule.{Rule};
 
@@ -204,7 +205,7 @@ fn first_match<'a>(
 }
 
 fn by_first(slots: &[Option<Rule>], cred: &Cred, file: &FileView, wanted: u8) -> bool
-    ensures { result ≡ spec.by_first wanted (find (spec.is_match cred.now file.now) slots.now) }
+    ensures { result ≡ option_map_or (spec.grants wanted) (find (spec.is_match cred.now file.now) slots.now) true }
 {
     match first_match(slots, cred, file) {
         None => true,

@@ -53,69 +53,47 @@ pub fn read_range(word: &str) -> Option<(u32, u32)>
     }
 }
 
-fn mode_letter(letter: u8) -> Option<u8>
-    ensures { result ≡ spec.mode_letter letter }
-{
-    match letter {
-        b'a' => Some(ADMINISTER),
-        b'r' => Some(READ),
-        b's' => Some(STAT),
-        b'w' => Some(WRITE),
-        b'x' => Some(EXECUTE),
-        b'n' => Some(0),
-        _ => None,
-    }
-}
+/// The letters of a mode with their bits, in the order of the canonical text. The first stands there alone, for just its bits.
+pub const MODE_LETTERS: [(u8, u8); 6] = [
+    (b'n', 0),
+    (b'a', ADMINISTER),
+    (b'r', READ),
+    (b's', STAT),
+    (b'w', WRITE),
+    (b'x', EXECUTE),
+];
 
-fn type_letter(letter: u8) -> Option<u8>
-    ensures { result ≡ spec.type_letter letter }
-{
-    match letter {
-        b'a' => Some(ANY_TYPE),
-        b'r' => Some(REGULAR),
-        b'd' => Some(DIRECTORY),
-        b'b' => Some(BLOCK),
-        b'c' => Some(CHARACTER),
-        b'l' => Some(LINK),
-        b's' => Some(SOCKET),
-        b'p' => Some(FIFO),
-        _ => None,
-    }
-}
+/// The same of types.
+pub const TYPE_LETTERS: [(u8, u8); 8] = [
+    (b'a', ANY_TYPE),
+    (b'r', REGULAR),
+    (b'd', DIRECTORY),
+    (b'b', BLOCK),
+    (b'c', CHARACTER),
+    (b'l', LINK),
+    (b's', SOCKET),
+    (b'p', FIFO),
+];
 
 /// The letters of a mode, as bits.
+#[tactic(auto, unfolding(crate::specs::Words::mode_in))]
 pub fn read_mode(word: &str) -> Option<u8>
     ensures { result ≡ spec.mode_in word.now }
 {
-    mode_bits(word.as_bytes())
-}
-
-#[tactic(auto, unfolding(crate::specs::Words::mode_in, crate::specs::Words::with_letters))]
-fn mode_bits(letters: &[u8]) -> Option<u8>
-    ensures { result ≡ spec.mode_in letters.now }
-{
-    if letters.is_empty() {
-        return None;
-    }
-    let mut bits = 0;
-    let mut rest = letters;
-    while let [letter, after @ ..] = rest {
-        bits |= mode_letter(*letter)?;
-        rest = after;
-    }
-    Some(bits)
+    letter_bits(&MODE_LETTERS, word.as_bytes())
 }
 
 /// The letters of types, as bits.
+#[tactic(auto, unfolding(crate::specs::Words::types_in))]
 pub fn read_types(word: &str) -> Option<u8>
     ensures { result ≡ spec.types_in word.now }
 {
-    type_bits(word.as_bytes())
+    letter_bits(&TYPE_LETTERS, word.as_bytes())
 }
 
-#[tactic(auto, unfolding(crate::specs::Words::types_in, crate::specs::Words::with_letters))]
-fn type_bits(letters: &[u8]) -> Option<u8>
-    ensures { result ≡ spec.types_in letters.now }
+#[tactic(auto, unfolding(crate::specs::Words::letters_in, crate::specs::Words::with_letters))]
+fn letter_bits(table: &[(u8, u8)], letters: &[u8]) -> Option<u8>
+    ensures { result ≡ spec.letters_in table.now letters.now }
 {
     if letters.is_empty() {
         return None;
@@ -123,8 +101,15 @@ fn type_bits(letters: &[u8]) -> Option<u8>
     let mut bits = 0;
     let mut rest = letters;
     while let [letter, after @ ..] = rest {
-        bits |= type_letter(*letter)?;
+        bits |= bit_of(table, *letter)?;
         rest = after;
     }
     Some(bits)
+}
+
+fn bit_of(table: &[(u8, u8)], letter: u8) -> Option<u8>
+    ensures { result ≡ spec.bit_of table.now letter }
+{
+    let row = table.iter().find(|row| row.0 == letter)?;
+    Some(row.1)
 }

@@ -8,7 +8,7 @@ returns-clause-err c =
     let front = string_bytes c.args.out.now in
     let mark = mark_text c.in-Some.test.not in
     let name = codes " type " in
-    let last = c.push_type_letters in
+    let last = c.push_letters in
     fails_behind front (mark ++ name) (string_bytes c.push_str.new.self) (string_bytes last.new.out) last.result
     (c.in_ok-push_str.ensures.bytes ∙ ap (λ text. text ++ name) c.in_ok-push_mark.ensures.ok ∙ append_assoc front mark name)
     last.ensures.err
