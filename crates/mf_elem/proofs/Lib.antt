@@ -1,2 +1,3 @@
 pub mod CompsLaws
 pub mod SameElement
+pub mod Valid

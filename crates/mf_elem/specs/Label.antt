@@ -12,31 +12,18 @@ use Rattle.mf_elem.specs.declared.label.Request.{Request}
 abbrev pub has_equal_effective : Option Elem → Bool
 has_equal_effective effective = option_map_or is_equal effective false
 
-abbrev pub has_equal_end : Option (Elem × Elem) → Bool
-has_equal_end range = option_map_or (λ ends. is_equal ends.0 || is_equal ends.1) range false
-
 -- the effective element or an end of the range is equal
 abbrev pub has_equal : RangeLabel → Bool
-has_equal label = has_equal_effective label.effective || has_equal_end label.range
+has_equal label = has_equal_effective label.effective || option_map_or (λ ends. is_equal ends.0 || is_equal ends.1) label.range false
 
--- a range that is there, and is exactly low to high
-abbrev pub is_whole_range : Option (Elem × Elem) → Bool
-is_whole_range range = option_map_or (λ ends. is_same_element ends.0 Low && is_same_element ends.1 High) range false
-
--- A subject with this label is privileged: it may ask for `equal` in a relabel, and mac_biba lets it load modules.
--- Privilege alone doesn't exempt it from the other checks.
+-- A subject with this label is privileged, since some part is `equal`, or its range is exactly low to high: it may ask for `equal` in a
+-- relabel, and mac_biba lets it load modules. Privilege alone doesn't exempt it from the other checks.
 abbrev pub is_privileged : RangeLabel → Bool
-is_privileged label = has_equal label || is_whole_range label.range
-
-abbrev pub holds_effective : Elem → Option (Elem × Elem) → Bool
-holds_effective element range = option_map_or (λ ends. in_range element ends.0 ends.1) range true
-
-abbrev pub is_valid_for : Option Elem → Option (Elem × Elem) → Bool
-is_valid_for effective range = option_map_or (λ element. holds_effective element range) effective false
+is_privileged label = has_equal label || option_map_or (λ ends. is_same_element ends.0 Low && is_same_element ends.1 High) label.range false
 
 -- the effective element is there, and lies in the range where that is there too
 abbrev pub is_valid : RangeLabel → Bool
-is_valid label = is_valid_for label.effective label.range
+is_valid label = option_map_or (λ element. option_map_or (λ ends. in_range element ends.0 ends.1) label.range true) label.effective false
 
 -- the request that names no policy
 abbrev pub no_request : Request

@@ -1,5 +1,7 @@
 //! Labels as policies keep them, and as users ask for them.
-ghost use Rattle.std.specs.Prelude.{◌≡◌, ◌↔◌, IsTrue};
+ghost use Rattle.std.specs.Prelude.{◌≡◌, ◌↔◌, ◌||◌, IsTrue, false};
+ghost use Rattle.std.specs.Option.{option_map_or};
+ghost use Rattle.mf_elem.specs.Elem.{is_equal};
 ghost use Rattle.mf_elem.specs.Label as spec;
 ghost use Rattle.mf_elem.specs.declared.label.LabelValue.TheVariants.{Unset};
 
@@ -107,7 +109,7 @@ fn is_equal_effective(effective: &Option<Elem>) -> bool
 }
 
 fn has_equal_end(range: &Option<(Elem, Elem)>) -> bool
-    ensures { result ≡ spec.has_equal_end range.now }
+    ensures { result ≡ option_map_or (λ ends. is_equal ends.0 || is_equal ends.1) range.now false }
 {
     matches!(range, Some((Elem::Equal, _)) | Some((_, Elem::Equal)))
 }

@@ -11,10 +11,6 @@ privilege_text MacPartition = codes "MAC_PARTITION"
 privilege_text SchedRtprio = codes "SCHED_RTPRIO"
 privilege_text SchedIdprio = codes "SCHED_IDPRIO"
 
--- all of them
-abbrev pub all_privileges : List Priv
-all_privileges = KldLoad ∷ KldUnload ∷ MacPartition ∷ SchedRtprio ∷ SchedIdprio ∷ []
-
 -- the privilege of that name
 unfoldable pub privilege_named : List ℕ → Option Priv
-privilege_named name = find (λ p. bytes_eq (privilege_text p) name) all_privileges
+privilege_named name = find (λ p. bytes_eq (privilege_text p) name) (KldLoad ∷ KldUnload ∷ MacPartition ∷ SchedRtprio ∷ SchedIdprio ∷ [])

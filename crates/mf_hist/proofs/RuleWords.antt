@@ -22,11 +22,11 @@ use Rattle.mf_rule.specs.declared.rule.Side.{Side}
 use Rattle.mf_rule.specs.declared.rule.ObjectSide.{ObjectSide}
 use Rattle.mf_rule.specs.declared.rule.TypeTest.{TypeTest}
 use Rattle.mf_rule.specs.declared.rule.Rule.{Rule}
-use Rattle.mf_rule.specs.Canonical.{not_text, mark_text, range_text, id_text, flag_text, letter_text, letters_text, types_text, side_text, flags_text, object_text, rule_text}
+use Rattle.mf_rule.specs.Canonical.{not_text, mark_text, id_range_text, id_text, flag_text, letter_text, letters_text, types_text, side_text, flags_text, object_text, rule_text}
 use Rattle.mf_text.specs.Results.{and_then}
 use Rattle.mf_rule.specs.Reading.{OrFault, with_word, file_test, tested, named, fitted, read_from, rule_in, nothing_read}
 use Rattle.mf_rule.specs.RuleGrammar.{IsRange, AreRanges, IsRule}
-use Rattle.mf_rule.specs.Words.{mode_letters, type_letters, range_in, letters_in, types_in, mode_in}
+use Rattle.mf_rule.specs.Words.{mode_letters, type_letters, id_range_in, letters_in, types_in, mode_in}
 use Rattle.mf_rule.proofs.RoundTrips.{canonical_text_reads}
 use Rattle.mf_calls.specs.Names.{is_some_text}
 use Rattle.mf_hist.proofs.Words.{is_graphic, AreWords, behind, both, join}
@@ -75,7 +75,7 @@ mark_plain : (turned : Bool) → Plain (mark_text turned)
 mark_plain true = put (codes " !") refl
 mark_plain false = put [] refl
 
-range_plain : (least greatest : ℕ) → least ≤ 4294967295 → greatest ≤ 4294967295 → Plain (range_text least greatest)
+range_plain : (least greatest : ℕ) → least ≤ 4294967295 → greatest ≤ 4294967295 → Plain (id_range_text least greatest)
 range_plain least greatest low high = either (eqb least greatest) (id_plain least low) (then (id_plain least low) (then (put (codes ":") refl) (id_plain greatest high)))
 
 ids_plain : {name : List ℕ} (test : Option IdTest) → Plain name → IfSome test IsRange → Plain (id_text name test)
@@ -163,7 +163,7 @@ empty_tested place Subject rule = empty_named place Subject false rule
 empty_tested place Object rule = empty_named place Object false rule
 
 empty_fitted : (place : ℕ) (what : Next) (rule : Rule) → IsFault (fitted place what rule [])
-unfolding fitted range_in cut number number_in types_in mode_in letters_in
+unfolding fitted id_range_in cut number number_in types_in mode_in letters_in
 empty_fitted place next.Start rule = tt
 empty_fitted place (next.First part) rule = empty_tested place part rule
 empty_fitted place (next.Test part) rule = empty_tested place part rule

@@ -17,7 +17,7 @@ use Rattle.mf_elem.specs.declared.label.LabelValue.{LabelValue}
 use Rattle.mf_elem.specs.declared.label.LabelValue.TheVariants.{Unset, Range, Number}
 use Rattle.mf_elem.specs.declared.label.Request.{Request}
 use Rattle.mf_labeltext.specs.LabelGrammar.{SpellsNumber, SpellEach, SpellsGrade, SpellsElem, SpellsParts, SpellsLabel, SpellsPartition, IsName, SpellsElement}
-use Rattle.mf_labeltext.specs.Reading.{is_name_byte}
+use Rattle.mf_labeltext.specs.Reading.{is_policy_name_byte}
 use Rattle.mf_labeltext.specs.Canonical.{rising, comps_text, elem_text, effective_text, range_text, label_text, partition_text, element_text}
 use Rattle.mf_labeltext.specs.RoundTrip.{range_of, number_of, IsValueOf}
 use Rattle.mf_labeltext.proofs.Cutting.{IsFree}
@@ -84,7 +84,7 @@ with_value before Mls value = record before { mls = range_of (Some value) }
 with_value before Partition value = record before { partition = number_of (Some value) }
 with_value before policy value = before
 
-name_is : (c : ℕ) (cs : List ℕ) → list_all is_name_byte (c ∷ cs) ≡ true → IsName (c ∷ cs)
+name_is : (c : ℕ) (cs : List ℕ) → list_all is_policy_name_byte (c ∷ cs) ≡ true → IsName (c ∷ cs)
 name_is c cs all = (λ e. cc, name_bytes_are (c ∷ cs) all)
 
 pub element_spells : (policy : Module) (value : LabelValue) (before : Request) → IsValueOf policy value → SpellsElement (element_text (policy, value)) before (with_value before policy value)

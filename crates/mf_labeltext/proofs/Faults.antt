@@ -6,13 +6,13 @@ use Rattle.mf_elem.specs.declared.label.Request.{Request}
 use Rattle.mf_elem.specs.Label.{no_request}
 use Rattle.mf_labeltext.specs.LabelGrammar.{IsName, Asks, SpellsElement}
 use Rattle.mf_text.specs.Results.{and_then}
-use Rattle.mf_labeltext.specs.Reading.{cut, parts, with_part, is_name, element_from_halves, element_in, elements_in, request_in}
+use Rattle.mf_labeltext.specs.Reading.{cut, parts, with_part, is_policy_name, element_from_halves, element_in, elements_in, request_in}
 use Rattle.mf_labeltext.specs.FirstFault.{AsksSomething, HasNoName, IsUnknown, IsElementFault, place_behind, IsFirstLabelFault}
 use Rattle.mf_labeltext.specs.declared.fault.LabelFault.{LabelFault}
 use Rattle.mf_labeltext.specs.declared.fault.LabelFault.TheVariants.{NoSlash, BadValue, EmptyElement}
 use Rattle.mf_labeltext.proofs.Cutting.{cut_is, cut_free, parts_free, parts_join, join_parts}
 use Rattle.mf_labeltext.proofs.Numbers.{some_is}
-use Rattle.mf_labeltext.proofs.Requests.{name_is, is_name_for, no_slash, part_asks, asks_part, element_spells, spells_element}
+use Rattle.mf_labeltext.proofs.Requests.{name_is, is_policy_name_for, no_slash, part_asks, asks_part, element_spells, spells_element}
 
 abbrev err : LabelFault → Result Request LabelFault
 err fault = Err fault
@@ -63,11 +63,11 @@ no_name element none name value is named =
 clash : false ≡ true → ⊥
 clash is = cc
 
-other_name : (element front back : List ℕ) → cut 47 element ≡ Some (front, back) → is_name front ≡ false → HasNoName element
+other_name : (element front back : List ℕ) → cut 47 element ≡ Some (front, back) → is_policy_name front ≡ false → HasNoName element
 other_name element front back some other name value is named =
     let found = cut_free 47 name value (no_slash name named.1) in
     let same : (name, value) ≡ (front, back) = some_is (name, value) (front, back) (sym found ∙ ap (cut 47) (sym is) ∙ some) in
-    absurd (clash (sym other ∙ ap is_name (ap (λ halves. halves.0) (sym same)) ∙ is_name_for name named))
+    absurd (clash (sym other ∙ ap is_policy_name (ap (λ halves. halves.0) (sym same)) ∙ is_policy_name_for name named))
 
 value_fault : (read : Option Request) (found fault : LabelFault) → ok_or read found ≡ Err fault → (read ≡ None) × (found ≡ fault)
 value_fault None found fault is = (refl, err_is found fault is)
@@ -78,7 +78,7 @@ halves_fault : (place : ℕ) (before : Request) (element : List ℕ) (fault : La
 halves_fault place before element fault None some none is = subst (IsElementFault place element) (err_is (NoSlash place) fault is) (some, no_name element none, refl)
 halves_fault place before element fault (Some halves) some parted is =
     let found = BadValue (place + length halves.0 + 1) in
-    elim (is_name halves.0) as (λ b. is_name halves.0 ≡ b → cond b (ok_or (with_part halves.0 halves.1 before) (BadValue (place + length halves.0 + 1))) (Err (NoSlash place)) ≡ Err fault → IsElementFault place element fault) [
+    elim (is_policy_name halves.0) as (λ b. is_policy_name halves.0 ≡ b → cond b (ok_or (with_part halves.0 halves.1 before) (BadValue (place + length halves.0 + 1))) (Err (NoSlash place)) ≡ Err fault → IsElementFault place element fault) [
       | true ↦ λ named is.
           let none = value_fault (with_part halves.0 halves.1 before) found fault is in
           subst (IsElementFault place element) none.1
@@ -95,7 +95,7 @@ element_fault place before (c ∷ cs) fault is = halves_fault place before (c �
 no_name_fault : (place : ℕ) (before : Request) (element : List ℕ) (halves : Option (List ℕ × List ℕ)) → HasNoName element → cut 47 element ≡ halves → element_from_halves place before halves ≡ Err (NoSlash place)
 no_name_fault place before element None lacks none = refl
 no_name_fault place before element (Some halves) lacks parted =
-    elim (is_name halves.0) as (λ b. is_name halves.0 ≡ b → cond b (ok_or (with_part halves.0 halves.1 before) (BadValue (place + length halves.0 + 1))) (Err (NoSlash place)) ≡ Err (NoSlash place)) [
+    elim (is_policy_name halves.0) as (λ b. is_policy_name halves.0 ≡ b → cond b (ok_or (with_part halves.0 halves.1 before) (BadValue (place + length halves.0 + 1))) (Err (NoSlash place)) ≡ Err (NoSlash place)) [
       | true ↦ λ named. absurd (lacks halves.0 halves.1 (cut_is 47 element halves.0 halves.1 parted).whole (name_is halves.0 named))
       | false ↦ λ other. refl
     ] refl
@@ -104,7 +104,7 @@ named_fault : (place : ℕ) (before : Request) (c : ℕ) (cs value : List ℕ) �
 unfolding element_in
 named_fault place before c cs value named unknown =
     ap (element_from_halves place before) (cut_free 47 (c ∷ cs) value (no_slash (c ∷ cs) named.1))
-    ∙ ap (λ b. cond b (ok_or (with_part (c ∷ cs) value before) (BadValue (place + length (c ∷ cs) + 1))) (Err (NoSlash place))) (is_name_for (c ∷ cs) named)
+    ∙ ap (λ b. cond b (ok_or (with_part (c ∷ cs) value before) (BadValue (place + length (c ∷ cs) + 1))) (Err (NoSlash place))) (is_policy_name_for (c ∷ cs) named)
     ∙ ap (λ read. ok_or read (BadValue (place + length (c ∷ cs) + 1))) (unread (c ∷ cs) value before unknown (with_part (c ∷ cs) value before) refl)
 
 value_unread : (place : ℕ) (before : Request) (name value : List ℕ) → IsName name → IsUnknown name value → element_in place before (name ++ 47 ∷ value) ≡ Err (BadValue (place + length name + 1))

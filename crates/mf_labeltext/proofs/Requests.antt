@@ -9,7 +9,7 @@ use Rattle.mf_elem.specs.declared.label.Request.{Request}
 use Rattle.mf_labeltext.specs.LabelGrammar.{IsNameByte, IsName, Asks, SpellsElement, SpellElements, Spells}
 use Rattle.mf_elem.specs.Label.{no_request}
 use Rattle.mf_text.specs.Results.{and_then}
-use Rattle.mf_labeltext.specs.Reading.{cut, parts, label_in, partition_in, with_part, is_name_byte, is_name, element_from_halves, element_in, elements_in, request_in, ◌>>=◌}
+use Rattle.mf_labeltext.specs.Reading.{cut, parts, label_in, partition_in, with_part, is_policy_name_byte, is_policy_name, element_from_halves, element_in, elements_in, request_in, ◌>>=◌}
 use Rattle.mf_labeltext.specs.declared.fault.LabelFault.{LabelFault}
 use Rattle.mf_labeltext.specs.declared.fault.LabelFault.TheVariants.{NoSlash, BadValue}
 use Rattle.mf_labeltext.proofs.Cutting.{IsFree, cut_is, cut_free, parts_free, parts_are_some, parts_join, join_parts}
@@ -17,7 +17,7 @@ use Rattle.mf_labeltext.proofs.Numbers.{bind_some, some_is}
 use Rattle.mf_labeltext.proofs.Spelling.{chosen, either, each_true, both_true, same_text, label_spells, spells_label, partition_spells, spells_partition}
 
 -- ---- names
-name_byte_is : (byte : ℕ) → is_name_byte byte ≡ true → IsNameByte byte
+name_byte_is : (byte : ℕ) → is_policy_name_byte byte ≡ true → IsNameByte byte
 name_byte_is byte is =
     elim (either (leb 97 byte && leb byte 122) ((leb 48 byte && leb byte 57) || eqb byte 95) is) [
       | inl letter ↦ let range = each_true (leb 97 byte) (leb byte 122) letter in inl (leb-true 97 byte range.0, leb-true byte 122 range.1)
@@ -35,31 +35,31 @@ or_right : (a b : Bool) → b ≡ true → (a || b) ≡ true
 or_right true b is = refl
 or_right false b is = is
 
-pub is_name_byte_for : (byte : ℕ) → IsNameByte byte → is_name_byte byte ≡ true
-is_name_byte_for byte (inl letter) =
+pub is_policy_name_byte_for : (byte : ℕ) → IsNameByte byte → is_policy_name_byte byte ≡ true
+is_policy_name_byte_for byte (inl letter) =
     or_left (leb 97 byte && leb byte 122) ((leb 48 byte && leb byte 57) || eqb byte 95) (both_true (leb 97 byte) (leb byte 122) (le-leb 97 byte letter.0) (le-leb byte 122 letter.1))
-is_name_byte_for byte (inr (inl digit)) =
+is_policy_name_byte_for byte (inr (inl digit)) =
     or_right (leb 97 byte && leb byte 122) ((leb 48 byte && leb byte 57) || eqb byte 95)
     (or_left (leb 48 byte && leb byte 57) (eqb byte 95) (both_true (leb 48 byte) (leb byte 57) (le-leb 48 byte digit.0) (le-leb byte 57 digit.1)))
-is_name_byte_for byte (inr (inr underscore)) =
+is_policy_name_byte_for byte (inr (inr underscore)) =
     or_right (leb 97 byte && leb byte 122) ((leb 48 byte && leb byte 57) || eqb byte 95)
     (or_right (leb 48 byte && leb byte 57) (eqb byte 95) (eq-eqb byte 95 underscore))
 
-pub name_bytes_are : (text : List ℕ) → list_all is_name_byte text ≡ true → AllByRecursion IsNameByte text
+pub name_bytes_are : (text : List ℕ) → list_all is_policy_name_byte text ≡ true → AllByRecursion IsNameByte text
 name_bytes_are [] all = tt
-name_bytes_are (c ∷ cs) all = let parts = each_true (is_name_byte c) (list_all is_name_byte cs) all in (name_byte_is c parts.0, name_bytes_are cs parts.1)
+name_bytes_are (c ∷ cs) all = let parts = each_true (is_policy_name_byte c) (list_all is_policy_name_byte cs) all in (name_byte_is c parts.0, name_bytes_are cs parts.1)
 
-are_name_bytes : (text : List ℕ) → AllByRecursion IsNameByte text → list_all is_name_byte text ≡ true
+are_name_bytes : (text : List ℕ) → AllByRecursion IsNameByte text → list_all is_policy_name_byte text ≡ true
 are_name_bytes [] all = refl
-are_name_bytes (c ∷ cs) all = both_true (is_name_byte c) (list_all is_name_byte cs) (is_name_byte_for c all.0) (are_name_bytes cs all.1)
+are_name_bytes (c ∷ cs) all = both_true (is_policy_name_byte c) (list_all is_policy_name_byte cs) (is_policy_name_byte_for c all.0) (are_name_bytes cs all.1)
 
-pub name_is : (text : List ℕ) → is_name text ≡ true → IsName text
+pub name_is : (text : List ℕ) → is_policy_name text ≡ true → IsName text
 name_is [] is = absurd cc
 name_is (c ∷ cs) is = (λ e. cc, name_bytes_are (c ∷ cs) is)
 
-pub is_name_for : (text : List ℕ) → IsName text → is_name text ≡ true
-is_name_for [] name = absurd (name.0 refl)
-is_name_for (c ∷ cs) name = are_name_bytes (c ∷ cs) name.1
+pub is_policy_name_for : (text : List ℕ) → IsName text → is_policy_name text ≡ true
+is_policy_name_for [] name = absurd (name.0 refl)
+is_policy_name_for (c ∷ cs) name = are_name_bytes (c ∷ cs) name.1
 
 no_slash_byte : (byte : ℕ) → IsNameByte byte → byte ≢ 47
 no_slash_byte byte (inl letter) same = omega arith
@@ -136,7 +136,7 @@ ok_or_is (Some next) fault after is = cc
 halves_spell : (place : ℕ) (element : List ℕ) (before after : Request) (halves : Option (List ℕ × List ℕ)) → cut 47 element ≡ halves → element_from_halves place before halves ≡ Ok after → SpellsElement element before after
 halves_spell place element before after None none is = absurd cc
 halves_spell place element before after (Some halves) some is =
-    elim (is_name halves.0) as (λ b. is_name halves.0 ≡ b → cond b (ok_or (with_part halves.0 halves.1 before) (BadValue (place + length halves.0 + 1))) (Err (NoSlash place)) ≡ Ok after → SpellsElement element before after) [
+    elim (is_policy_name halves.0) as (λ b. is_policy_name halves.0 ≡ b → cond b (ok_or (with_part halves.0 halves.1 before) (BadValue (place + length halves.0 + 1))) (Err (NoSlash place)) ≡ Ok after → SpellsElement element before after) [
       | true ↦ λ name is.
           let parted = cut_is 47 element halves.0 halves.1 some in (
             halves.0,
@@ -157,7 +157,7 @@ spells_named : (place : ℕ) (c : ℕ) (cs value : List ℕ) (before after : Req
 unfolding element_in
 spells_named place c cs value before after name asks =
     ap (element_from_halves place before) (cut_free 47 (c ∷ cs) value (no_slash (c ∷ cs) name.1))
-    ∙ ap (λ b. cond b (ok_or (with_part (c ∷ cs) value before) (BadValue (place + length (c ∷ cs) + 1))) (Err (NoSlash place))) (is_name_for (c ∷ cs) name)
+    ∙ ap (λ b. cond b (ok_or (with_part (c ∷ cs) value before) (BadValue (place + length (c ∷ cs) + 1))) (Err (NoSlash place))) (is_policy_name_for (c ∷ cs) name)
     ∙ ap (λ read. ok_or read (BadValue (place + length (c ∷ cs) + 1))) (asks_part (c ∷ cs) value before after asks)
 
 spells_halves : (place : ℕ) (name value : List ℕ) (before after : Request) → IsName name → Asks name value before after → element_in place before (name ++ 47 ∷ value) ≡ Ok after

@@ -1,6 +1,7 @@
 -- The canonical text of labels: one of the texts of maclabel(7) for each label. Which one is this model's own.
-use Rattle.std.specs.Prelude.{ℕ, List, [], ◌∷◌, ◌++◌, Option, Some, None, map, filter, codes, ◌==◌, if◌then◌else◌}
+use Rattle.std.specs.Prelude.{ℕ, List, [], ◌∷◌, ◌++◌, Option, map, filter, codes, ◌==◌, if◌then◌else◌}
 use Rattle.std.specs.List.{join_with_byte}
+use Rattle.std.specs.Option.{option_map_or}
 use Rattle.std.specs.Fmt.{decimal}
 use Rattle.std.specs.FinSet as set
 use Rattle.mf_errno.specs.Same.{same_module}
@@ -38,12 +39,10 @@ elem_text Equal = codes "equal"
 elem_text (Grade grade comps) = decimal grade ++ comps_text (rising comps)
 
 abbrev pub effective_text : Option Elem → List ℕ
-effective_text None = []
-effective_text (Some element) = elem_text element
+effective_text element = option_map_or elem_text element []
 
 abbrev pub range_text : Option (Elem × Elem) → List ℕ
-range_text None = []
-range_text (Some ends) = open_parenthesis ∷ elem_text ends.0 ++ (dash ∷ elem_text ends.1 ++ close_parenthesis ∷ [])
+range_text range = option_map_or (λ ends. open_parenthesis ∷ elem_text ends.0 ++ (dash ∷ elem_text ends.1 ++ close_parenthesis ∷ [])) range []
 
 abbrev pub label_text : RangeLabel → List ℕ
 label_text label = effective_text label.effective ++ range_text label.range

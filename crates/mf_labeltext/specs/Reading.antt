@@ -114,19 +114,19 @@ with_part name value request =
     else Some (record request { other = true })
 
 -- a lower-case letter, a digit or an underscore
-abbrev pub is_name_byte : ℕ → Bool
-is_name_byte byte = (nat_le 97 byte && nat_le byte 122) || ((nat_le 48 byte && nat_le byte 57) || byte == 95)
+abbrev pub is_policy_name_byte : ℕ → Bool
+is_policy_name_byte byte = (nat_le 97 byte && nat_le byte 122) || ((nat_le 48 byte && nat_le byte 57) || byte == 95)
 
 -- one or more of these bytes
-abbrev pub is_name : List ℕ → Bool
-is_name [] = false
-is_name (c ∷ cs) = list_all is_name_byte (c ∷ cs)
+abbrev pub is_policy_name : List ℕ → Bool
+is_policy_name [] = false
+is_policy_name (c ∷ cs) = list_all is_policy_name_byte (c ∷ cs)
 
 -- an element of which the name and the value were parted at the first slash
 abbrev pub element_from_halves : ℕ → Request → Option (List ℕ × List ℕ) → Result Request LabelFault
 element_from_halves place request None = Err (NoSlash place)
 element_from_halves place request (Some halves) =
-    if is_name halves.0 then ok_or (with_part halves.0 halves.1 request) (BadValue (place + length halves.0 + 1)) else Err (NoSlash place)
+    if is_policy_name halves.0 then ok_or (with_part halves.0 halves.1 request) (BadValue (place + length halves.0 + 1)) else Err (NoSlash place)
 
 -- the request with the element at a place added
 unfoldable pub element_in : ℕ → Request → List ℕ → Result Request LabelFault

@@ -4,7 +4,7 @@ ghost use Rattle.std.specs.List.{list_all};
 ghost use Rattle.mf_elem.specs.Bounds.{IsRequest};
 ghost use Rattle.mf_elem.specs.declared.label.Request.{Request};
 ghost use Rattle.mf_labeltext.specs.LabelGrammar.{Spells};
-ghost use Rattle.mf_labeltext.specs.Reading.{is_name_byte, is_name, with_part, element_in, request_in};
+ghost use Rattle.mf_labeltext.specs.Reading.{is_policy_name_byte, is_policy_name, with_part, element_in, request_in};
 ghost use Rattle.mf_labeltext.specs.FirstFault.{IsFirstLabelFault};
 ghost use Rattle.mf_labeltext.specs.declared.fault.LabelFault.{LabelFault};
 
@@ -50,7 +50,7 @@ fn read_element(place: usize, request: &Request, element: &str) -> Result<Reques
         return Err(LabelFault::EmptyElement(place));
     }
     match split_once(element, '/') {
-        Some((name, value)) if is_name(name) => {
+        Some((name, value)) if is_policy_name(name) => {
             let next = with_part(name, value, request);
             next.ok_or(LabelFault::BadValue(place + name.len() + 1))
         }
@@ -76,20 +76,20 @@ fn with_part(name: &str, value: &str, request: &Request) -> Option<Request>
     Some(next)
 }
 
-fn is_name_byte(byte: u8) -> bool
-    ensures { result ≡ is_name_byte byte }
+fn is_policy_name_byte(byte: u8) -> bool
+    ensures { result ≡ is_policy_name_byte byte }
 {
     matches!(byte, b'a'..=b'z' | b'0'..=b'9' | b'_')
 }
 
-fn is_name(text: &str) -> bool
-    ensures { result ≡ is_name text.now }
+fn is_policy_name(text: &str) -> bool
+    ensures { result ≡ is_policy_name text.now }
 {
     !text.is_empty() && are_name_bytes(text.as_bytes())
 }
 
 fn are_name_bytes(text: &[u8]) -> bool
-    ensures { result ≡ list_all is_name_byte text.now }
+    ensures { result ≡ list_all is_policy_name_byte text.now }
 {
-    text.iter().all(|byte| is_name_byte(*byte))
+    text.iter().all(|byte| is_policy_name_byte(*byte))
 }

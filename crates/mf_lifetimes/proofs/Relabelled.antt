@@ -14,7 +14,8 @@ use Rattle.mf_elem.specs.declared.label.LabelValue.{LabelValue}
 use Rattle.mf_elem.specs.declared.label.LabelValue.TheVariants.{Unset, Range, Number}
 use Rattle.mf_elem.specs.declared.label.Request.{Request}
 use Rattle.mf_elem.specs.Elem.{in_range}
-use Rattle.mf_elem.specs.Label.{is_valid, is_valid_for, replaced}
+use Rattle.mf_elem.specs.Label.{is_valid, replaced}
+use Rattle.mf_elem.proofs.Valid.{is_valid_for}
 use Rattle.mf_item.specs.declared.view.Kind.{Kind}
 use Rattle.mf_item.specs.declared.view.Kind.TheVariants as kinds
 use Rattle.mf_item.specs.declared.view.ObjectView.{ObjectView}

@@ -11,7 +11,7 @@ use Rattle.mf_rule.specs.Words.{types_in, mode_in}
 use Rattle.mf_rule.specs.Words.{type_letters}
 use Rattle.mf_rule.specs.Canonical.{mark_text, not_text, flag_text, types_text, letters_text}
 use Rattle.mf_text.specs.Results.{and_then}
-use Rattle.mf_rule.specs.Reading.{goes_on, once, by_value, side_of, with_side, fitted, tested, named, file_test, flagged, read_from}
+use Rattle.mf_rule.specs.Reading.{reads_on, once, by_value, side_of, with_side, fitted, tested, named, file_test, flagged, read_from}
 use Rattle.mf_rule.proofs.Pieces.{free_by, tail, Led, word_then, begun, open_at, On, on_trans, on_words, on_same, mark_step}
 use Rattle.mf_rule.proofs.Letters.{types_back}
 
@@ -68,7 +68,7 @@ mode_step false rule ws = λ place. (place + 1, refl)
 pub letters_step : (rule : Rule) (w : List ℕ) (mode : ℕ) (ws : List (List ℕ)) → mode_in w ≡ Some mode → On (begun next.Letters rule) (w ∷ ws) (begun next.End (record rule { mode = mode })) ws
 unfolding read_from fitted
 letters_step rule w mode ws is = λ place.
-    (place + 1, ap (λ v. and_then (by_value (BadMode place) v (λ mode. goes_on next.End (record rule { mode = mode }))) (λ more. read_from (place + 1) more ws)) is)
+    (place + 1, ap (λ v. and_then (by_value (BadMode place) v (λ mode. reads_on next.End (record rule { mode = mode }))) (λ more. read_from (place + 1) more ws)) is)
 
 -- ---- suid
 abbrev pub put_suid : Rule → Option Bool → Rule
@@ -203,18 +203,18 @@ type_test turned types = record { not = turned; types = types }
 
 pub type_name : (b : Bool) (rule : Rule) (ws : List (List ℕ)) → rule.object.types ≡ None → On (begun (open_at Object b) rule) (codes "type" ∷ ws) (begun (next.Types false) rule) ws
 unfolding read_from fitted tested named file_test
-type_name true rule ws none = λ place. (place + 1, ap (λ t. and_then (once place t (goes_on (next.Types false) rule)) (λ more. read_from (place + 1) more ws)) none)
-type_name false rule ws none = λ place. (place + 1, ap (λ t. and_then (once place t (goes_on (next.Types false) rule)) (λ more. read_from (place + 1) more ws)) none)
+type_name true rule ws none = λ place. (place + 1, ap (λ t. and_then (once place t (reads_on (next.Types false) rule)) (λ more. read_from (place + 1) more ws)) none)
+type_name false rule ws none = λ place. (place + 1, ap (λ t. and_then (once place t (reads_on (next.Types false) rule)) (λ more. read_from (place + 1) more ws)) none)
 
 pub type_marked : (rule : Rule) (ws : List (List ℕ)) → rule.object.types ≡ None → On (begun (next.Name Object) rule) (codes "type" ∷ ws) (begun (next.Types true) rule) ws
 unfolding read_from fitted named file_test
-type_marked rule ws none = λ place. (place + 1, ap (λ t. and_then (once place t (goes_on (next.Types true) rule)) (λ more. read_from (place + 1) more ws)) none)
+type_marked rule ws none = λ place. (place + 1, ap (λ t. and_then (once place t (reads_on (next.Types true) rule)) (λ more. read_from (place + 1) more ws)) none)
 
 pub type_value : (turned : Bool) (rule : Rule) (w : List ℕ) (types : ℕ) (ws : List (List ℕ)) → types_in w ≡ Some types
     → On (begun (next.Types turned) rule) (w ∷ ws) (begun (next.Test Object) (put_types rule (Some (type_test turned types)))) ws
 unfolding read_from fitted
 type_value turned rule w types ws is = λ place.
-    (place + 1, ap (λ v. and_then (by_value (BadType place) v (λ types. goes_on (next.Test Object) (put_types rule (Some (type_test turned types))))) (λ more. read_from (place + 1) more ws)) is)
+    (place + 1, ap (λ v. and_then (by_value (BadType place) v (λ types. reads_on (next.Test Object) (put_types rule (Some (type_test turned types))))) (λ more. read_from (place + 1) more ws)) is)
 
 type_some : (b : Bool) (rule : Rule) (turned : Bool) (types : ℕ) (x : List ℕ) → Led x → rule.object.types ≡ None → 1 ≤ types → types ≤ 127
     → On (begun (open_at Object b) rule) (tail ((mark_text turned ++ (codes " type " ++ letters_text type_letters types)) ++ x)) (begun (next.Test Object) (put_types rule (Some (type_test turned types)))) (tail x)

@@ -10,7 +10,7 @@ use Rattle.mf_labeltext.proofs.Numbers.{number_spells, bind_some, some_is}
 use Rattle.mf_rule.specs.declared.rule.Side.{Side}
 use Rattle.mf_rule.specs.declared.rule.ObjectSide.{ObjectSide}
 use Rattle.mf_rule.specs.declared.rule.Rule.{Rule}
-use Rattle.mf_rule.specs.Words.{id, ordered, range_from_halves, range_in, bit_of, with_letters, letters_in, mode_in, types_in}
+use Rattle.mf_rule.specs.Words.{id, ordered, range_from_halves, id_range_in, bit_of, with_letters, letters_in, mode_in, types_in}
 use Rattle.mf_rule.specs.Words.{mode_letters, type_letters}
 use Rattle.mf_rule.specs.RuleGrammar.{SpellsIdTest, SpellsFileTest, SpellsObjectTest, SpellTests, Spells, AreRanges, AreTypes, IsRule}
 use Rattle.mf_rule.specs.Parts.{Words, no_tests, no_object_tests}
@@ -98,8 +98,8 @@ halves_are w (Some halves) ends is =
     let greatest = bind_some (id halves.1) (λ greatest. ordered least.0 greatest) ends least.2 in
     ordered_are least.0 greatest.0 ends (id_fits halves.1 greatest.0 greatest.1) greatest.2
 
-range_fits : (w : List ℕ) (ends : ℕ × ℕ) → range_in w ≡ Some ends → AreEnds ends
-unfolding range_in
+range_fits : (w : List ℕ) (ends : ℕ × ℕ) → id_range_in w ≡ Some ends → AreEnds ends
+unfolding id_range_in
 range_fits w ends is = halves_are w (cut 58 w) ends is
 
 -- ---- tests, one after another

@@ -4,7 +4,7 @@ use Rattle.std.specs.List.{list_all}
 use Rattle.std.specs.Option.{option_map_or}
 use Rattle.mf_cred.specs.declared.cred.Cred.{Cred}
 use Rattle.mf_cred.specs.declared.cred.FileView.{FileView}
-use Rattle.mf_rule.specs.RuleList.{Slots, is_match, grants, verdict}
+use Rattle.mf_rule.specs.RuleList.{Slots, is_match, slot_gives, verdict}
 use Rattle.mf_rule.specs.declared.rule.Rule.{Rule}
 
 -- every slot from the number on is free
@@ -42,8 +42,8 @@ all_used test (suc used) (slot ∷ slots) passes free =
     ap (◌&&◌ (test slot)) (all_used test used slots passes (free_behind used slot slots free))
 
 pub verdict_of_used : (first : Bool) (used : ℕ) (slots : Slots) (cred : Cred) (file : FileView) (wanted : ℕ) → IsFreeFrom used slots → verdict first (take used slots) cred file wanted ≡ verdict first slots cred file wanted
-verdict_of_used true used slots cred file wanted free = ap (λ found. option_map_or (grants wanted) found true) (find_used (is_match cred file) used slots refl free)
-verdict_of_used false used slots cred file wanted free = all_used (λ slot. not (is_match cred file slot) || grants wanted slot) used slots refl free
+verdict_of_used true used slots cred file wanted free = ap (λ found. option_map_or (slot_gives wanted) found true) (find_used (is_match cred file) used slots refl free)
+verdict_of_used false used slots cred file wanted free = all_used (λ slot. not (is_match cred file slot) || slot_gives wanted slot) used slots refl free
 
 -- what a list is, by its used slots
 only_free : (slots : Slots) → IsFreeFrom 0 slots → slots ≡ replicate (length slots) None

@@ -11,11 +11,11 @@ use Rattle.mf_rule.specs.declared.begun.Next.{Next}
 use Rattle.mf_rule.specs.declared.begun.Next.TheVariants as next
 use Rattle.mf_rule.specs.declared.begun.Begun.{Begun}
 use Rattle.mf_rule.specs.declared.fault.RuleFault.TheVariants.{BadRange}
-use Rattle.mf_rule.specs.Words.{range_in}
-use Rattle.mf_rule.specs.Canonical.{mark_text, range_text, id_text}
+use Rattle.mf_rule.specs.Words.{id_range_in}
+use Rattle.mf_rule.specs.Canonical.{mark_text, id_range_text, id_text}
 use Rattle.mf_rule.specs.RuleGrammar.{IsRange}
 use Rattle.mf_text.specs.Results.{and_then}
-use Rattle.mf_rule.specs.Reading.{goes_on, once, by_value, side_of, with_side, id_test, fitted, tested, named, read_from}
+use Rattle.mf_rule.specs.Reading.{reads_on, once, by_value, side_of, with_side, id_test, fitted, tested, named, read_from}
 use Rattle.mf_rule.proofs.Ranges.{range_back}
 
 abbrev pub all_free : List ℕ → Bool
@@ -76,28 +76,28 @@ mark_step part false rule ws = λ place. (place + 1, refl)
 -- ---- uid
 pub uid_name : (part : Part) (b : Bool) (rule : Rule) (ws : List (List ℕ)) → (side_of part rule).uid ≡ None → On (begun (open_at part b) rule) (codes "uid" ∷ ws) (begun (next.Uid part false) rule) ws
 unfolding read_from fitted tested named
-uid_name Subject true rule ws none = λ place. (place + 1, ap (λ t. and_then (once place t (goes_on (next.Uid Subject false) rule)) (λ more. read_from (place + 1) more ws)) none)
-uid_name Subject false rule ws none = λ place. (place + 1, ap (λ t. and_then (once place t (goes_on (next.Uid Subject false) rule)) (λ more. read_from (place + 1) more ws)) none)
-uid_name Object true rule ws none = λ place. (place + 1, ap (λ t. and_then (once place t (goes_on (next.Uid Object false) rule)) (λ more. read_from (place + 1) more ws)) none)
-uid_name Object false rule ws none = λ place. (place + 1, ap (λ t. and_then (once place t (goes_on (next.Uid Object false) rule)) (λ more. read_from (place + 1) more ws)) none)
+uid_name Subject true rule ws none = λ place. (place + 1, ap (λ t. and_then (once place t (reads_on (next.Uid Subject false) rule)) (λ more. read_from (place + 1) more ws)) none)
+uid_name Subject false rule ws none = λ place. (place + 1, ap (λ t. and_then (once place t (reads_on (next.Uid Subject false) rule)) (λ more. read_from (place + 1) more ws)) none)
+uid_name Object true rule ws none = λ place. (place + 1, ap (λ t. and_then (once place t (reads_on (next.Uid Object false) rule)) (λ more. read_from (place + 1) more ws)) none)
+uid_name Object false rule ws none = λ place. (place + 1, ap (λ t. and_then (once place t (reads_on (next.Uid Object false) rule)) (λ more. read_from (place + 1) more ws)) none)
 
 pub uid_marked : (part : Part) (rule : Rule) (ws : List (List ℕ)) → (side_of part rule).uid ≡ None → On (begun (next.Name part) rule) (codes "uid" ∷ ws) (begun (next.Uid part true) rule) ws
 unfolding read_from fitted named
-uid_marked part rule ws none = λ place. (place + 1, ap (λ t. and_then (once place t (goes_on (next.Uid part true) rule)) (λ more. read_from (place + 1) more ws)) none)
+uid_marked part rule ws none = λ place. (place + 1, ap (λ t. and_then (once place t (reads_on (next.Uid part true) rule)) (λ more. read_from (place + 1) more ws)) none)
 
 abbrev pub put_uid : Part → Rule → Option IdTest → Rule
 put_uid part rule test = with_side part rule (record (side_of part rule) { uid = test })
 
-pub uid_value : (part : Part) (turned : Bool) (rule : Rule) (w : List ℕ) (ends : ℕ × ℕ) (ws : List (List ℕ)) → range_in w ≡ Some ends
+pub uid_value : (part : Part) (turned : Bool) (rule : Rule) (w : List ℕ) (ends : ℕ × ℕ) (ws : List (List ℕ)) → id_range_in w ≡ Some ends
     → On (begun (next.Uid part turned) rule) (w ∷ ws) (begun (next.Test part) (put_uid part rule (Some (id_test turned ends)))) ws
 unfolding read_from fitted
 uid_value part turned rule w ends ws is = λ place.
-    (place + 1, ap (λ v. and_then (by_value (BadRange place) v (λ ends. goes_on (next.Test part) (put_uid part rule (Some (id_test turned ends))))) (λ more. read_from (place + 1) more ws)) is)
+    (place + 1, ap (λ v. and_then (by_value (BadRange place) v (λ ends. reads_on (next.Test part) (put_uid part rule (Some (id_test turned ends))))) (λ more. read_from (place + 1) more ws)) is)
 
 uid_some : (part : Part) (b : Bool) (rule : Rule) (turned : Bool) (least greatest : ℕ) (x : List ℕ) → Led x → (side_of part rule).uid ≡ None → least ≤ greatest → greatest ≤ 4294967295
-    → On (begun (open_at part b) rule) (tail ((mark_text turned ++ (codes " uid " ++ range_text least greatest)) ++ x)) (begun (next.Test part) (put_uid part rule (Some (id_test turned (least, greatest))))) (tail x)
+    → On (begun (open_at part b) rule) (tail ((mark_text turned ++ (codes " uid " ++ id_range_text least greatest)) ++ x)) (begun (next.Test part) (put_uid part rule (Some (id_test turned (least, greatest))))) (tail x)
 uid_some part b rule true least greatest x led none ordered below =
-    let w = range_text least greatest in
+    let w = id_range_text least greatest in
     let back = range_back least greatest ordered below in
     let ws = w ∷ tail x in
     let start = begun (open_at part b) rule in
@@ -108,7 +108,7 @@ uid_some part b rule true least greatest x led none ordered below =
     (on_trans start (begun (next.Name part) rule) after (codes "!" ∷ codes "uid" ∷ ws) (codes "uid" ∷ ws) (tail x) (mark_step part b rule (codes "uid" ∷ ws))
     (on_trans (begun (next.Name part) rule) (begun (next.Uid part true) rule) after (codes "uid" ∷ ws) ws (tail x) (uid_marked part rule ws none) (uid_value part true rule w (least, greatest) (tail x) back.0)))
 uid_some part b rule false least greatest x led none ordered below =
-    let w = range_text least greatest in
+    let w = id_range_text least greatest in
     let back = range_back least greatest ordered below in
     let ws = w ∷ tail x in
     let start = begun (open_at part b) rule in
@@ -126,28 +126,28 @@ uid_piece part b rule (Some test) x led none ok = (false, uid_some part b rule t
 -- ---- gid
 pub gid_name : (part : Part) (b : Bool) (rule : Rule) (ws : List (List ℕ)) → (side_of part rule).gid ≡ None → On (begun (open_at part b) rule) (codes "gid" ∷ ws) (begun (next.Gid part false) rule) ws
 unfolding read_from fitted tested named
-gid_name Subject true rule ws none = λ place. (place + 1, ap (λ t. and_then (once place t (goes_on (next.Gid Subject false) rule)) (λ more. read_from (place + 1) more ws)) none)
-gid_name Subject false rule ws none = λ place. (place + 1, ap (λ t. and_then (once place t (goes_on (next.Gid Subject false) rule)) (λ more. read_from (place + 1) more ws)) none)
-gid_name Object true rule ws none = λ place. (place + 1, ap (λ t. and_then (once place t (goes_on (next.Gid Object false) rule)) (λ more. read_from (place + 1) more ws)) none)
-gid_name Object false rule ws none = λ place. (place + 1, ap (λ t. and_then (once place t (goes_on (next.Gid Object false) rule)) (λ more. read_from (place + 1) more ws)) none)
+gid_name Subject true rule ws none = λ place. (place + 1, ap (λ t. and_then (once place t (reads_on (next.Gid Subject false) rule)) (λ more. read_from (place + 1) more ws)) none)
+gid_name Subject false rule ws none = λ place. (place + 1, ap (λ t. and_then (once place t (reads_on (next.Gid Subject false) rule)) (λ more. read_from (place + 1) more ws)) none)
+gid_name Object true rule ws none = λ place. (place + 1, ap (λ t. and_then (once place t (reads_on (next.Gid Object false) rule)) (λ more. read_from (place + 1) more ws)) none)
+gid_name Object false rule ws none = λ place. (place + 1, ap (λ t. and_then (once place t (reads_on (next.Gid Object false) rule)) (λ more. read_from (place + 1) more ws)) none)
 
 pub gid_marked : (part : Part) (rule : Rule) (ws : List (List ℕ)) → (side_of part rule).gid ≡ None → On (begun (next.Name part) rule) (codes "gid" ∷ ws) (begun (next.Gid part true) rule) ws
 unfolding read_from fitted named
-gid_marked part rule ws none = λ place. (place + 1, ap (λ t. and_then (once place t (goes_on (next.Gid part true) rule)) (λ more. read_from (place + 1) more ws)) none)
+gid_marked part rule ws none = λ place. (place + 1, ap (λ t. and_then (once place t (reads_on (next.Gid part true) rule)) (λ more. read_from (place + 1) more ws)) none)
 
 abbrev pub put_gid : Part → Rule → Option IdTest → Rule
 put_gid part rule test = with_side part rule (record (side_of part rule) { gid = test })
 
-pub gid_value : (part : Part) (turned : Bool) (rule : Rule) (w : List ℕ) (ends : ℕ × ℕ) (ws : List (List ℕ)) → range_in w ≡ Some ends
+pub gid_value : (part : Part) (turned : Bool) (rule : Rule) (w : List ℕ) (ends : ℕ × ℕ) (ws : List (List ℕ)) → id_range_in w ≡ Some ends
     → On (begun (next.Gid part turned) rule) (w ∷ ws) (begun (next.Test part) (put_gid part rule (Some (id_test turned ends)))) ws
 unfolding read_from fitted
 gid_value part turned rule w ends ws is = λ place.
-    (place + 1, ap (λ v. and_then (by_value (BadRange place) v (λ ends. goes_on (next.Test part) (put_gid part rule (Some (id_test turned ends))))) (λ more. read_from (place + 1) more ws)) is)
+    (place + 1, ap (λ v. and_then (by_value (BadRange place) v (λ ends. reads_on (next.Test part) (put_gid part rule (Some (id_test turned ends))))) (λ more. read_from (place + 1) more ws)) is)
 
 gid_some : (part : Part) (b : Bool) (rule : Rule) (turned : Bool) (least greatest : ℕ) (x : List ℕ) → Led x → (side_of part rule).gid ≡ None → least ≤ greatest → greatest ≤ 4294967295
-    → On (begun (open_at part b) rule) (tail ((mark_text turned ++ (codes " gid " ++ range_text least greatest)) ++ x)) (begun (next.Test part) (put_gid part rule (Some (id_test turned (least, greatest))))) (tail x)
+    → On (begun (open_at part b) rule) (tail ((mark_text turned ++ (codes " gid " ++ id_range_text least greatest)) ++ x)) (begun (next.Test part) (put_gid part rule (Some (id_test turned (least, greatest))))) (tail x)
 gid_some part b rule true least greatest x led none ordered below =
-    let w = range_text least greatest in
+    let w = id_range_text least greatest in
     let back = range_back least greatest ordered below in
     let ws = w ∷ tail x in
     let start = begun (open_at part b) rule in
@@ -158,7 +158,7 @@ gid_some part b rule true least greatest x led none ordered below =
     (on_trans start (begun (next.Name part) rule) after (codes "!" ∷ codes "gid" ∷ ws) (codes "gid" ∷ ws) (tail x) (mark_step part b rule (codes "gid" ∷ ws))
     (on_trans (begun (next.Name part) rule) (begun (next.Gid part true) rule) after (codes "gid" ∷ ws) ws (tail x) (gid_marked part rule ws none) (gid_value part true rule w (least, greatest) (tail x) back.0)))
 gid_some part b rule false least greatest x led none ordered below =
-    let w = range_text least greatest in
+    let w = id_range_text least greatest in
     let back = range_back least greatest ordered below in
     let ws = w ∷ tail x in
     let start = begun (open_at part b) rule in

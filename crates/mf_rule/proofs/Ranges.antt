@@ -7,8 +7,8 @@ use Rattle.std.specs.Char.{digit_value}
 use Rattle.mf_labeltext.specs.Reading.{◌>>=◌}
 use Rattle.mf_labeltext.proofs.Cutting.{IsFree, cut_free, cut_free_none}
 use Rattle.mf_labeltext.proofs.Numbers.{spells_number, digits_free}
-use Rattle.mf_rule.specs.Words.{id, ordered, range_from_halves, range_in}
-use Rattle.mf_rule.specs.Canonical.{range_text}
+use Rattle.mf_rule.specs.Words.{id, ordered, range_from_halves, id_range_in}
+use Rattle.mf_rule.specs.Canonical.{id_range_text}
 
 id_back : (n : ℕ) → n ≤ 4294967295 → id (decimal n) ≡ Some n
 id_back n fits =
@@ -24,24 +24,24 @@ free_append : (byte : ℕ) (w x : List ℕ) → IsFree byte w → IsFree byte x 
 free_append byte [] x first second = second
 free_append byte (c ∷ cs) x first second = (first.0, free_append byte cs x first.1 second)
 
-one_back : (least greatest : ℕ) → least ≡ greatest → least ≤ 4294967295 → range_in (decimal least) ≡ Some (least, greatest)
-unfolding range_in
+one_back : (least greatest : ℕ) → least ≡ greatest → least ≤ 4294967295 → id_range_in (decimal least) ≡ Some (least, greatest)
+unfolding id_range_in
 one_back least greatest same fits =
     ap (range_from_halves (decimal least)) (cut_free_none 58 (decimal least) (decimal_free 58 least (lit≤ tt) fits))
     ∙ ap (λ n. n >>= λ n. Some (n, n)) (id_back least fits)
     ∙ ap (λ n. Some (least, n)) same
 
-two_back : (least greatest : ℕ) → least ≤ greatest → greatest ≤ 4294967295 → range_in (decimal least ++ 58 ∷ decimal greatest) ≡ Some (least, greatest)
-unfolding range_in
+two_back : (least greatest : ℕ) → least ≤ greatest → greatest ≤ 4294967295 → id_range_in (decimal least ++ 58 ∷ decimal greatest) ≡ Some (least, greatest)
+unfolding id_range_in
 two_back least greatest rising below =
     ap (range_from_halves (decimal least ++ 58 ∷ decimal greatest)) (cut_free 58 (decimal least) (decimal greatest) (decimal_free 58 least (lit≤ tt) (omega arith)))
     ∙ ap (λ n. n >>= λ least. id (decimal greatest) >>= λ greatest. ordered least greatest) (id_back least (omega arith))
     ∙ ap (λ n. n >>= λ greatest. ordered least greatest) (id_back greatest below)
     ∙ ap (λ b. cond b (Some (least, greatest)) None) (le-leb least greatest rising)
 
-pub range_back : (least greatest : ℕ) → least ≤ greatest → greatest ≤ 4294967295 → (range_in (range_text least greatest) ≡ Some (least, greatest)) × IsFree 32 (range_text least greatest)
+pub range_back : (least greatest : ℕ) → least ≤ greatest → greatest ≤ 4294967295 → (id_range_in (id_range_text least greatest) ≡ Some (least, greatest)) × IsFree 32 (id_range_text least greatest)
 range_back least greatest rising below =
-    elim (eqb least greatest) as (λ b. eqb least greatest ≡ b → (range_in (cond b (decimal least) (decimal least ++ 58 ∷ decimal greatest)) ≡ Some (least, greatest)) × IsFree 32 (cond b (decimal least) (decimal least ++ 58 ∷ decimal greatest))) [
+    elim (eqb least greatest) as (λ b. eqb least greatest ≡ b → (id_range_in (cond b (decimal least) (decimal least ++ 58 ∷ decimal greatest)) ≡ Some (least, greatest)) × IsFree 32 (cond b (decimal least) (decimal least ++ 58 ∷ decimal greatest))) [
       | true ↦ λ same. (one_back least greatest (eqb-true least greatest same) (omega arith), decimal_free 32 least (lit≤ tt) (omega arith))
       | false ↦ λ other. (two_back least greatest rising below, free_append 32 (decimal least) (58 ∷ decimal greatest) (decimal_free 32 least (lit≤ tt) (omega arith)) ((λ e. cc), decimal_free 32 greatest (lit≤ tt) below))
     ] refl

@@ -10,10 +10,10 @@ use Rattle.mf_rule.specs.declared.begun.Next.{Next}
 use Rattle.mf_rule.specs.declared.begun.Next.TheVariants as next
 use Rattle.mf_rule.specs.declared.begun.Begun.{Begun}
 use Rattle.mf_rule.specs.declared.fault.RuleFault.TheVariants.{UnknownWord, BadRange, BadType, BadMode}
-use Rattle.mf_rule.specs.Words.{range_in, types_in, mode_in}
+use Rattle.mf_rule.specs.Words.{id_range_in, types_in, mode_in}
 use Rattle.mf_rule.specs.RuleGrammar.{marked, SpellsIdTest, SpellsObjectTest, SpellTests, Spells}
 use Rattle.mf_rule.specs.Parts.{Words, no_tests, no_object_tests}
-use Rattle.mf_rule.specs.Reading.{goes_on, once, side_of, with_not, id_test, no_rule, rule_in, read_from, fitted, tested, named, other_test, file_test, flagged, end_of, behind}
+use Rattle.mf_rule.specs.Reading.{reads_on, once, side_of, with_not, id_test, no_rule, rule_in, read_from, fitted, tested, named, other_test, file_test, flagged, closing_word, behind}
 use Rattle.mf_rule.proofs.Pieces.{begun, put_uid, put_gid}
 use Rattle.mf_rule.proofs.FilePieces.{put_suid, put_sgid, put_uid_of_subject, put_gid_of_subject, put_types, type_test}
 use Rattle.mf_rule.proofs.Spelled.{flat}
@@ -21,20 +21,20 @@ use Rattle.mf_rule.proofs.WordsBehind.{way, same_text, once_is, value_is, then_i
 
 -- ---- the name of a file test
 type_step : (place : ℕ) (turned : Bool) (r : Rule) (w : List ℕ) (b : Begun) (ws : Words) (rule : Rule)
-    → cond (bytes_eq w (codes "type")) (once place r.object.types (goes_on (next.Types turned) r)) (Err (UnknownWord place)) ≡ Ok b → After b ws rule → ObjectRest r.subject r.object (marked turned (w ∷ ws)) rule
+    → cond (bytes_eq w (codes "type")) (once place r.object.types (reads_on (next.Types turned) r)) (Err (UnknownWord place)) ≡ Ok b → After b ws rule → ObjectRest r.subject r.object (marked turned (w ∷ ws)) rule
 type_step place turned r w b ws rule is after =
-    elim (way (bytes_eq w (codes "type")) (once place r.object.types (goes_on (next.Types turned) r)) (Err (UnknownWord place)) (Ok b) is) [
+    elim (way (bytes_eq w (codes "type")) (once place r.object.types (reads_on (next.Types turned) r)) (Err (UnknownWord place)) (Ok b) is) [
       | inl hit ↦
-          let on = once_is place r.object.types (goes_on (next.Types turned) r) b hit.1 in
+          let on = once_is place r.object.types (reads_on (next.Types turned) r) b hit.1 in
           subst (λ w. ObjectRest r.subject r.object (marked turned (w ∷ ws)) rule) (sym (same_text w (codes "type") hit.0)) (came (next.Types turned) r b ws rule on.1 after on.0)
       | inr miss ↦ absurd (let no_way = miss.1 in cc)
     ]
 
 gid_of_subject_step : (place : ℕ) (turned : Bool) (r : Rule) (w : List ℕ) (b : Begun) (ws : Words) (rule : Rule)
-    → cond (bytes_eq w (codes "gid_of_subject")) (once place r.object.gid_of_subject (flagged (put_gid_of_subject r (Some (not turned))))) (cond (bytes_eq w (codes "type")) (once place r.object.types (goes_on (next.Types turned) r)) (Err (UnknownWord place))) ≡ Ok b
+    → cond (bytes_eq w (codes "gid_of_subject")) (once place r.object.gid_of_subject (flagged (put_gid_of_subject r (Some (not turned))))) (cond (bytes_eq w (codes "type")) (once place r.object.types (reads_on (next.Types turned) r)) (Err (UnknownWord place))) ≡ Ok b
     → After b ws rule → ObjectRest r.subject r.object (marked turned (w ∷ ws)) rule
 gid_of_subject_step place turned r w b ws rule is after =
-    elim (way (bytes_eq w (codes "gid_of_subject")) (once place r.object.gid_of_subject (flagged (put_gid_of_subject r (Some (not turned))))) (cond (bytes_eq w (codes "type")) (once place r.object.types (goes_on (next.Types turned) r)) (Err (UnknownWord place))) (Ok b) is) [
+    elim (way (bytes_eq w (codes "gid_of_subject")) (once place r.object.gid_of_subject (flagged (put_gid_of_subject r (Some (not turned))))) (cond (bytes_eq w (codes "type")) (once place r.object.types (reads_on (next.Types turned) r)) (Err (UnknownWord place))) (Ok b) is) [
       | inl hit ↦
           let on = once_is place r.object.gid_of_subject (flagged (put_gid_of_subject r (Some (not turned)))) b hit.1 in
           let none = on.0 in
@@ -45,10 +45,10 @@ gid_of_subject_step place turned r w b ws rule is after =
     ]
 
 uid_of_subject_step : (place : ℕ) (turned : Bool) (r : Rule) (w : List ℕ) (b : Begun) (ws : Words) (rule : Rule)
-    → cond (bytes_eq w (codes "uid_of_subject")) (once place r.object.uid_of_subject (flagged (put_uid_of_subject r (Some (not turned))))) (cond (bytes_eq w (codes "gid_of_subject")) (once place r.object.gid_of_subject (flagged (put_gid_of_subject r (Some (not turned))))) (cond (bytes_eq w (codes "type")) (once place r.object.types (goes_on (next.Types turned) r)) (Err (UnknownWord place)))) ≡ Ok b
+    → cond (bytes_eq w (codes "uid_of_subject")) (once place r.object.uid_of_subject (flagged (put_uid_of_subject r (Some (not turned))))) (cond (bytes_eq w (codes "gid_of_subject")) (once place r.object.gid_of_subject (flagged (put_gid_of_subject r (Some (not turned))))) (cond (bytes_eq w (codes "type")) (once place r.object.types (reads_on (next.Types turned) r)) (Err (UnknownWord place)))) ≡ Ok b
     → After b ws rule → ObjectRest r.subject r.object (marked turned (w ∷ ws)) rule
 uid_of_subject_step place turned r w b ws rule is after =
-    elim (way (bytes_eq w (codes "uid_of_subject")) (once place r.object.uid_of_subject (flagged (put_uid_of_subject r (Some (not turned))))) (cond (bytes_eq w (codes "gid_of_subject")) (once place r.object.gid_of_subject (flagged (put_gid_of_subject r (Some (not turned))))) (cond (bytes_eq w (codes "type")) (once place r.object.types (goes_on (next.Types turned) r)) (Err (UnknownWord place)))) (Ok b) is) [
+    elim (way (bytes_eq w (codes "uid_of_subject")) (once place r.object.uid_of_subject (flagged (put_uid_of_subject r (Some (not turned))))) (cond (bytes_eq w (codes "gid_of_subject")) (once place r.object.gid_of_subject (flagged (put_gid_of_subject r (Some (not turned))))) (cond (bytes_eq w (codes "type")) (once place r.object.types (reads_on (next.Types turned) r)) (Err (UnknownWord place)))) (Ok b) is) [
       | inl hit ↦
           let on = once_is place r.object.uid_of_subject (flagged (put_uid_of_subject r (Some (not turned)))) b hit.1 in
           let none = on.0 in
@@ -59,10 +59,10 @@ uid_of_subject_step place turned r w b ws rule is after =
     ]
 
 sgid_step : (place : ℕ) (turned : Bool) (r : Rule) (w : List ℕ) (b : Begun) (ws : Words) (rule : Rule)
-    → cond (bytes_eq w (codes "sgid")) (once place r.object.sgid (flagged (put_sgid r (Some (not turned))))) (cond (bytes_eq w (codes "uid_of_subject")) (once place r.object.uid_of_subject (flagged (put_uid_of_subject r (Some (not turned))))) (cond (bytes_eq w (codes "gid_of_subject")) (once place r.object.gid_of_subject (flagged (put_gid_of_subject r (Some (not turned))))) (cond (bytes_eq w (codes "type")) (once place r.object.types (goes_on (next.Types turned) r)) (Err (UnknownWord place))))) ≡ Ok b
+    → cond (bytes_eq w (codes "sgid")) (once place r.object.sgid (flagged (put_sgid r (Some (not turned))))) (cond (bytes_eq w (codes "uid_of_subject")) (once place r.object.uid_of_subject (flagged (put_uid_of_subject r (Some (not turned))))) (cond (bytes_eq w (codes "gid_of_subject")) (once place r.object.gid_of_subject (flagged (put_gid_of_subject r (Some (not turned))))) (cond (bytes_eq w (codes "type")) (once place r.object.types (reads_on (next.Types turned) r)) (Err (UnknownWord place))))) ≡ Ok b
     → After b ws rule → ObjectRest r.subject r.object (marked turned (w ∷ ws)) rule
 sgid_step place turned r w b ws rule is after =
-    elim (way (bytes_eq w (codes "sgid")) (once place r.object.sgid (flagged (put_sgid r (Some (not turned))))) (cond (bytes_eq w (codes "uid_of_subject")) (once place r.object.uid_of_subject (flagged (put_uid_of_subject r (Some (not turned))))) (cond (bytes_eq w (codes "gid_of_subject")) (once place r.object.gid_of_subject (flagged (put_gid_of_subject r (Some (not turned))))) (cond (bytes_eq w (codes "type")) (once place r.object.types (goes_on (next.Types turned) r)) (Err (UnknownWord place))))) (Ok b) is) [
+    elim (way (bytes_eq w (codes "sgid")) (once place r.object.sgid (flagged (put_sgid r (Some (not turned))))) (cond (bytes_eq w (codes "uid_of_subject")) (once place r.object.uid_of_subject (flagged (put_uid_of_subject r (Some (not turned))))) (cond (bytes_eq w (codes "gid_of_subject")) (once place r.object.gid_of_subject (flagged (put_gid_of_subject r (Some (not turned))))) (cond (bytes_eq w (codes "type")) (once place r.object.types (reads_on (next.Types turned) r)) (Err (UnknownWord place))))) (Ok b) is) [
       | inl hit ↦
           let on = once_is place r.object.sgid (flagged (put_sgid r (Some (not turned)))) b hit.1 in
           let none = on.0 in
@@ -73,10 +73,10 @@ sgid_step place turned r w b ws rule is after =
     ]
 
 suid_step : (place : ℕ) (turned : Bool) (r : Rule) (w : List ℕ) (b : Begun) (ws : Words) (rule : Rule)
-    → cond (bytes_eq w (codes "suid")) (once place r.object.suid (flagged (put_suid r (Some (not turned))))) (cond (bytes_eq w (codes "sgid")) (once place r.object.sgid (flagged (put_sgid r (Some (not turned))))) (cond (bytes_eq w (codes "uid_of_subject")) (once place r.object.uid_of_subject (flagged (put_uid_of_subject r (Some (not turned))))) (cond (bytes_eq w (codes "gid_of_subject")) (once place r.object.gid_of_subject (flagged (put_gid_of_subject r (Some (not turned))))) (cond (bytes_eq w (codes "type")) (once place r.object.types (goes_on (next.Types turned) r)) (Err (UnknownWord place)))))) ≡ Ok b
+    → cond (bytes_eq w (codes "suid")) (once place r.object.suid (flagged (put_suid r (Some (not turned))))) (cond (bytes_eq w (codes "sgid")) (once place r.object.sgid (flagged (put_sgid r (Some (not turned))))) (cond (bytes_eq w (codes "uid_of_subject")) (once place r.object.uid_of_subject (flagged (put_uid_of_subject r (Some (not turned))))) (cond (bytes_eq w (codes "gid_of_subject")) (once place r.object.gid_of_subject (flagged (put_gid_of_subject r (Some (not turned))))) (cond (bytes_eq w (codes "type")) (once place r.object.types (reads_on (next.Types turned) r)) (Err (UnknownWord place)))))) ≡ Ok b
     → After b ws rule → ObjectRest r.subject r.object (marked turned (w ∷ ws)) rule
 suid_step place turned r w b ws rule is after =
-    elim (way (bytes_eq w (codes "suid")) (once place r.object.suid (flagged (put_suid r (Some (not turned))))) (cond (bytes_eq w (codes "sgid")) (once place r.object.sgid (flagged (put_sgid r (Some (not turned))))) (cond (bytes_eq w (codes "uid_of_subject")) (once place r.object.uid_of_subject (flagged (put_uid_of_subject r (Some (not turned))))) (cond (bytes_eq w (codes "gid_of_subject")) (once place r.object.gid_of_subject (flagged (put_gid_of_subject r (Some (not turned))))) (cond (bytes_eq w (codes "type")) (once place r.object.types (goes_on (next.Types turned) r)) (Err (UnknownWord place)))))) (Ok b) is) [
+    elim (way (bytes_eq w (codes "suid")) (once place r.object.suid (flagged (put_suid r (Some (not turned))))) (cond (bytes_eq w (codes "sgid")) (once place r.object.sgid (flagged (put_sgid r (Some (not turned))))) (cond (bytes_eq w (codes "uid_of_subject")) (once place r.object.uid_of_subject (flagged (put_uid_of_subject r (Some (not turned))))) (cond (bytes_eq w (codes "gid_of_subject")) (once place r.object.gid_of_subject (flagged (put_gid_of_subject r (Some (not turned))))) (cond (bytes_eq w (codes "type")) (once place r.object.types (reads_on (next.Types turned) r)) (Err (UnknownWord place)))))) (Ok b) is) [
       | inl hit ↦
           let on = once_is place r.object.suid (flagged (put_suid r (Some (not turned)))) b hit.1 in
           let none = on.0 in
@@ -95,21 +95,21 @@ other_step Subject place turned r w b ws rule is after = absurd cc
 other_step Object place turned r w b ws rule is after = file_step place turned r w b ws rule is after
 
 gid_step : (part : Part) (place : ℕ) (turned : Bool) (r : Rule) (w : List ℕ) (b : Begun) (ws : Words) (rule : Rule)
-    → cond (bytes_eq w (codes "gid")) (once place (side_of part r).gid (goes_on (next.Gid part turned) r)) (other_test part place turned r w) ≡ Ok b → After b ws rule → PartRest part r (marked turned (w ∷ ws)) rule
+    → cond (bytes_eq w (codes "gid")) (once place (side_of part r).gid (reads_on (next.Gid part turned) r)) (other_test part place turned r w) ≡ Ok b → After b ws rule → PartRest part r (marked turned (w ∷ ws)) rule
 gid_step part place turned r w b ws rule is after =
-    elim (way (bytes_eq w (codes "gid")) (once place (side_of part r).gid (goes_on (next.Gid part turned) r)) (other_test part place turned r w) (Ok b) is) [
+    elim (way (bytes_eq w (codes "gid")) (once place (side_of part r).gid (reads_on (next.Gid part turned) r)) (other_test part place turned r w) (Ok b) is) [
       | inl hit ↦
-          let on = once_is place (side_of part r).gid (goes_on (next.Gid part turned) r) b hit.1 in
+          let on = once_is place (side_of part r).gid (reads_on (next.Gid part turned) r) b hit.1 in
           subst (λ w. PartRest part r (marked turned (w ∷ ws)) rule) (sym (same_text w (codes "gid") hit.0)) (came (next.Gid part turned) r b ws rule on.1 after on.0)
       | inr miss ↦ other_step part place turned r w b ws rule miss.1 after
     ]
 
 uid_step : (part : Part) (place : ℕ) (turned : Bool) (r : Rule) (w : List ℕ) (b : Begun) (ws : Words) (rule : Rule)
-    → cond (bytes_eq w (codes "uid")) (once place (side_of part r).uid (goes_on (next.Uid part turned) r)) (cond (bytes_eq w (codes "gid")) (once place (side_of part r).gid (goes_on (next.Gid part turned) r)) (other_test part place turned r w)) ≡ Ok b → After b ws rule → PartRest part r (marked turned (w ∷ ws)) rule
+    → cond (bytes_eq w (codes "uid")) (once place (side_of part r).uid (reads_on (next.Uid part turned) r)) (cond (bytes_eq w (codes "gid")) (once place (side_of part r).gid (reads_on (next.Gid part turned) r)) (other_test part place turned r w)) ≡ Ok b → After b ws rule → PartRest part r (marked turned (w ∷ ws)) rule
 uid_step part place turned r w b ws rule is after =
-    elim (way (bytes_eq w (codes "uid")) (once place (side_of part r).uid (goes_on (next.Uid part turned) r)) (cond (bytes_eq w (codes "gid")) (once place (side_of part r).gid (goes_on (next.Gid part turned) r)) (other_test part place turned r w)) (Ok b) is) [
+    elim (way (bytes_eq w (codes "uid")) (once place (side_of part r).uid (reads_on (next.Uid part turned) r)) (cond (bytes_eq w (codes "gid")) (once place (side_of part r).gid (reads_on (next.Gid part turned) r)) (other_test part place turned r w)) (Ok b) is) [
       | inl hit ↦
-          let on = once_is place (side_of part r).uid (goes_on (next.Uid part turned) r) b hit.1 in
+          let on = once_is place (side_of part r).uid (reads_on (next.Uid part turned) r) b hit.1 in
           subst (λ w. PartRest part r (marked turned (w ∷ ws)) rule) (sym (same_text w (codes "uid") hit.0)) (came (next.Uid part turned) r b ws rule on.1 after on.0)
       | inr miss ↦ gid_step part place turned r w b ws rule miss.1 after
     ]
@@ -119,7 +119,7 @@ unfolding named
 named_step part place turned r w b ws rule is after = uid_step part place turned r w b ws rule is after
 
 -- ---- the end of a part
-ended : (part : Part) (r : Rule) (ws : Words) (rule : Rule) → Holds (behind part) r ws rule → PartRest part r (end_of part ∷ ws) rule
+ended : (part : Part) (r : Rule) (ws : Words) (rule : Rule) → Holds (behind part) r ws rule → PartRest part r (closing_word part ∷ ws) rule
 ended Subject r ws rule rest = λ bare.
     let first = rest bare in
     record {
@@ -142,17 +142,17 @@ ended Object r ws rule rest =
     }
 
 end_step : (part : Part) (place : ℕ) (r : Rule) (w : List ℕ) (b : Begun) (ws : Words) (rule : Rule)
-    → cond (bytes_eq w (end_of part)) (goes_on (behind part) r) (named place part false r w) ≡ Ok b → After b ws rule → PartRest part r (w ∷ ws) rule
+    → cond (bytes_eq w (closing_word part)) (reads_on (behind part) r) (named place part false r w) ≡ Ok b → After b ws rule → PartRest part r (w ∷ ws) rule
 end_step part place r w b ws rule is after =
-    elim (way (bytes_eq w (end_of part)) (goes_on (behind part) r) (named place part false r w) (Ok b) is) [
-      | inl hit ↦ subst (λ w. PartRest part r (w ∷ ws) rule) (sym (same_text w (end_of part) hit.0)) (ended part r ws rule (came (behind part) r b ws rule hit.1 after))
+    elim (way (bytes_eq w (closing_word part)) (reads_on (behind part) r) (named place part false r w) (Ok b) is) [
+      | inl hit ↦ subst (λ w. PartRest part r (w ∷ ws) rule) (sym (same_text w (closing_word part) hit.0)) (ended part r ws rule (came (behind part) r b ws rule hit.1 after))
       | inr miss ↦ named_step part place false r w b ws rule miss.1 after
     ]
 
 test_step : (part : Part) (place : ℕ) (r : Rule) (w : List ℕ) (b : Begun) (ws : Words) (rule : Rule) → tested place part r w ≡ Ok b → After b ws rule → PartRest part r (w ∷ ws) rule
 unfolding tested
 test_step part place r w b ws rule is after =
-    elim (way (bytes_eq w (codes "!")) (goes_on (next.Name part) r) (cond (bytes_eq w (end_of part)) (goes_on (behind part) r) (named place part false r w)) (Ok b) is) [
+    elim (way (bytes_eq w (codes "!")) (reads_on (next.Name part) r) (cond (bytes_eq w (closing_word part)) (reads_on (behind part) r) (named place part false r w)) (Ok b) is) [
       | inl hit ↦ subst (λ w. PartRest part r (w ∷ ws) rule) (sym (same_text w (codes "!") hit.0)) (came (next.Name part) r b ws rule hit.1 after)
       | inr miss ↦ end_step part place r w b ws rule miss.1 after
     ]
@@ -224,7 +224,7 @@ first_test Object r ws rule rest = λ bare. first_object false r.subject ws rule
 step : (place : ℕ) (what : Next) (r : Rule) (w : List ℕ) (b : Begun) (ws : Words) (rule : Rule) → fitted place what r w ≡ Ok b → After b ws rule → Holds what r (w ∷ ws) rule
 unfolding fitted
 step place next.Start r w b ws rule is after =
-    elim (way (bytes_eq w (codes "subject")) (goes_on (next.First Subject) r) (Err (UnknownWord place)) (Ok b) is) [
+    elim (way (bytes_eq w (codes "subject")) (reads_on (next.First Subject) r) (Err (UnknownWord place)) (Ok b) is) [
       | inl hit ↦ λ bare.
           let first = came (next.First Subject) r b ws rule hit.1 after bare in
           record {
@@ -239,25 +239,25 @@ step place next.Start r w b ws rule is after =
       | inr miss ↦ absurd (let no_way = miss.1 in cc)
     ]
 step place (next.First part) r w b ws rule is after =
-    elim (way (bytes_eq w (codes "not")) (goes_on (next.Test part) (with_not part r)) (tested place part r w) (Ok b) is) [
+    elim (way (bytes_eq w (codes "not")) (reads_on (next.Test part) (with_not part r)) (tested place part r w) (Ok b) is) [
       | inl hit ↦ subst (λ w. FirstRest part r (w ∷ ws) rule) (sym (same_text w (codes "not") hit.0)) (first_not part r ws rule (came (next.Test part) (with_not part r) b ws rule hit.1 after))
       | inr miss ↦ first_test part r (w ∷ ws) rule (test_step part place r w b ws rule miss.1 after)
     ]
 step place (next.Test part) r w b ws rule is after = test_step part place r w b ws rule is after
 step place (next.Name part) r w b ws rule is after = named_step part place true r w b ws rule is after
 step place (next.Uid part turned) r w b ws rule is after = λ none.
-    let value = value_is (BadRange place) (range_in w) (λ ends. goes_on (next.Test part) (put_uid part r (Some (id_test turned ends)))) b is in
+    let value = value_is (BadRange place) (id_range_in w) (λ ends. reads_on (next.Test part) (put_uid part r (Some (id_test turned ends)))) b is in
     uid_more part turned r w value.0 ws rule value.1 none (came (next.Test part) (put_uid part r (Some (id_test turned value.0))) b ws rule value.2 after)
 step place (next.Gid part turned) r w b ws rule is after = λ none.
-    let value = value_is (BadRange place) (range_in w) (λ ends. goes_on (next.Test part) (put_gid part r (Some (id_test turned ends)))) b is in
+    let value = value_is (BadRange place) (id_range_in w) (λ ends. reads_on (next.Test part) (put_gid part r (Some (id_test turned ends)))) b is in
     gid_more part turned r w value.0 ws rule value.1 none (came (next.Test part) (put_gid part r (Some (id_test turned value.0))) b ws rule value.2 after)
 step place (next.Types turned) r w b ws rule is after = λ none.
-    let value = value_is (BadType place) (types_in w) (λ types. goes_on (next.Test Object) (put_types r (Some (type_test turned types)))) b is in
+    let value = value_is (BadType place) (types_in w) (λ types. reads_on (next.Test Object) (put_types r (Some (type_test turned types)))) b is in
     file_more (marked turned (codes "type" ∷ w ∷ [])) turned (codes "type" ∷ w ∷ []) r (record r.object { types = Some (type_test turned value.0) }) ws rule refl
     (turned, inr (inr (inr (inr (w, value.0, value.1, refl, none, refl)))))
     (came (next.Test Object) (put_types r (Some (type_test turned value.0))) b ws rule value.2 after)
 step place next.Letters r w b ws rule is after =
-    let value = value_is (BadMode place) (mode_in w) (λ mode. goes_on next.End (record r { mode = mode })) b is in
+    let value = value_is (BadMode place) (mode_in w) (λ mode. reads_on next.End (record r { mode = mode })) b is in
     let end = came next.End (record r { mode = value.0 }) b ws rule value.2 after in
     record { letters = w; parted = ap (λ ws. w ∷ ws) end.0; mode = value.0; is_mode = value.1; is = end.1 }
 step place next.End r w b ws rule is after = absurd cc

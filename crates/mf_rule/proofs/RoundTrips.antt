@@ -12,7 +12,7 @@ use Rattle.mf_rule.specs.declared.begun.Next.TheVariants as next
 use Rattle.mf_rule.specs.RuleGrammar.{AreRanges, IsRule}
 use Rattle.mf_rule.specs.Parts.{no_object_tests}
 use Rattle.mf_rule.specs.Words.{mode_letters, type_letters}
-use Rattle.mf_rule.specs.Canonical.{not_text, id_text, side_text, flag_text, flags_text, types_text, object_text, rule_text, range_text, letters_text}
+use Rattle.mf_rule.specs.Canonical.{not_text, id_text, side_text, flag_text, flags_text, types_text, object_text, rule_text, id_range_text, letters_text}
 use Rattle.mf_rule.specs.RoundTrip.{CanonicalTextStandsForItsRule}
 use Rattle.mf_rule.specs.Reading.{no_rule, nothing_read, rule_in, read_from, fitted}
 use Rattle.mf_rule.proofs.Pieces.{tail, Led, word_then, free_by, begun, open_at, On, on_trans, on_words, uid_piece, gid_piece, put_uid, put_gid}
@@ -21,7 +21,7 @@ use Rattle.mf_rule.proofs.FilePieces.{Ends, then_piece, led_mark, led_append, pu
 
 led_alone : (w : List ℕ) (test : Option IdTest) → ((r : List ℕ) → Led (w ++ r)) → Led (id_text w test)
 led_alone w None more = tt
-led_alone w (Some test) more = led_mark test.not (w ++ range_text test.least test.greatest) (more (range_text test.least test.greatest))
+led_alone w (Some test) more = led_mark test.not (w ++ id_range_text test.least test.greatest) (more (id_range_text test.least test.greatest))
 
 led_id : (w : List ℕ) (test : Option IdTest) (x : List ℕ) → Led x → ((r : List ℕ) → Led (w ++ r)) → Led (id_text w test ++ x)
 led_id w test x led more = led_append (id_text w test) x (led_alone w test more) led

@@ -7,7 +7,7 @@ use Rattle.mf_rule.specs.declared.rule.Rule.{Rule}
 use Rattle.mf_rule.specs.declared.begun.Part.{Part}
 use Rattle.mf_rule.specs.declared.begun.Part.TheVariants.{Subject, Object}
 use Rattle.mf_rule.specs.declared.begun.Next.TheVariants as next
-use Rattle.mf_rule.specs.Words.{range_in, types_in}
+use Rattle.mf_rule.specs.Words.{id_range_in, types_in}
 use Rattle.mf_rule.specs.RuleGrammar.{marked, SpellsIdTest, SpellsFileTest, SpellsObjectTest, SpellTests, with_not, SpellsSubject, SpellsObject, Spells}
 use Rattle.mf_rule.specs.Parts.{Words, no_object_tests}
 use Rattle.mf_rule.specs.Reading.{side_of, with_side, id_test, no_rule, nothing_read, rule_in, read_from}
@@ -15,7 +15,7 @@ use Rattle.mf_rule.proofs.Pieces.{begun, open_at, On, on_trans, on_words, mark_s
 use Rattle.mf_rule.proofs.FilePieces.{put_not, not_same, not_step, object_step, mode_step, letters_step, put_suid, suid_name, suid_marked, put_sgid, sgid_name, sgid_marked, put_uid_of_subject, uid_of_subject_name, uid_of_subject_marked, put_gid_of_subject, gid_of_subject_name, gid_of_subject_marked, put_types, type_name, type_marked, type_value, type_test}
 use Rattle.mf_rule.proofs.RoundTrips.{begins, ends}
 
-uid_words : (part : Part) (b turned : Bool) (rule : Rule) (w : List ℕ) (ends : ℕ × ℕ) (ws : Words) → (side_of part rule).uid ≡ None → range_in w ≡ Some ends
+uid_words : (part : Part) (b turned : Bool) (rule : Rule) (w : List ℕ) (ends : ℕ × ℕ) (ws : Words) → (side_of part rule).uid ≡ None → id_range_in w ≡ Some ends
     → On (begun (open_at part b) rule) (marked turned (codes "uid" ∷ w ∷ []) ++ ws) (begun (open_at part false) (put_uid part rule (Some (id_test turned ends)))) ws
 uid_words part b true rule w ends ws none is =
     let start = begun (open_at part b) rule in
@@ -26,7 +26,7 @@ uid_words part b false rule w ends ws none is =
     on_trans (begun (open_at part b) rule) (begun (next.Uid part false) rule) (begun (next.Test part) (put_uid part rule (Some (id_test false ends)))) (codes "uid" ∷ w ∷ ws) (w ∷ ws) ws
     (uid_name part b rule (w ∷ ws) none) (uid_value part false rule w ends ws is)
 
-gid_words : (part : Part) (b turned : Bool) (rule : Rule) (w : List ℕ) (ends : ℕ × ℕ) (ws : Words) → (side_of part rule).gid ≡ None → range_in w ≡ Some ends
+gid_words : (part : Part) (b turned : Bool) (rule : Rule) (w : List ℕ) (ends : ℕ × ℕ) (ws : Words) → (side_of part rule).gid ≡ None → id_range_in w ≡ Some ends
     → On (begun (open_at part b) rule) (marked turned (codes "gid" ∷ w ∷ []) ++ ws) (begun (open_at part false) (put_gid part rule (Some (id_test turned ends)))) ws
 gid_words part b true rule w ends ws none is =
     let start = begun (open_at part b) rule in

@@ -11,11 +11,11 @@ use Rattle.mf_rule.specs.declared.begun.Next.{Next}
 use Rattle.mf_rule.specs.declared.begun.Next.TheVariants as next
 use Rattle.mf_rule.specs.declared.begun.Begun.{Begun}
 use Rattle.mf_rule.specs.declared.fault.RuleFault.{RuleFault}
-use Rattle.mf_rule.specs.Words.{range_in, mode_in}
+use Rattle.mf_rule.specs.Words.{id_range_in, mode_in}
 use Rattle.mf_rule.specs.RuleGrammar.{marked, SpellsIdTest, SpellsFileTest, SpellsObjectTest, SpellTests, SpellsSubject, SpellsObject, Spells}
 use Rattle.mf_rule.specs.Parts.{Words, no_object_tests}
 use Rattle.mf_text.specs.Results.{and_then}
-use Rattle.mf_rule.specs.Reading.{OrFault, goes_on, once, by_value, side_of, id_test, no_rule}
+use Rattle.mf_rule.specs.Reading.{OrFault, reads_on, once, by_value, side_of, id_test, no_rule}
 use Rattle.mf_rule.proofs.Pieces.{begun, put_uid, put_gid}
 use Rattle.mf_rule.proofs.Spelled.{flat}
 
@@ -117,7 +117,7 @@ ok_is b c is = cc
 pub ok_rule : (r s : Rule) → ok r ≡ ok s → r ≡ s
 ok_rule r s is = cc
 
-pub came : (what : Next) (r : Rule) (b : Begun) (ws : Words) (rule : Rule) → goes_on what r ≡ Ok b → After b ws rule → Holds what r ws rule
+pub came : (what : Next) (r : Rule) (b : Begun) (ws : Words) (rule : Rule) → reads_on what r ≡ Ok b → After b ws rule → Holds what r ws rule
 came what r b ws rule is after = subst (λ b. After b ws rule) (sym (ok_is (begun what r) b is)) after
 
 -- ---- one test more in front
@@ -144,7 +144,7 @@ object_more test subject before mid ws rule spells rest =
       is_mode = rest.is_mode;
     }
 
-pub uid_more : (part : Part) (turned : Bool) (r : Rule) (w : List ℕ) (ends : ℕ × ℕ) (ws : Words) (rule : Rule) → range_in w ≡ Some ends → (side_of part r).uid ≡ None
+pub uid_more : (part : Part) (turned : Bool) (r : Rule) (w : List ℕ) (ends : ℕ × ℕ) (ws : Words) (rule : Rule) → id_range_in w ≡ Some ends → (side_of part r).uid ≡ None
     → PartRest part (put_uid part r (Some (id_test turned ends))) ws rule → PartRest part r (marked turned (codes "uid" ∷ w ∷ ws)) rule
 uid_more Subject turned r w ends ws rule is none rest = λ bare.
     subst (λ ws. SubjectRest r.subject ws rule) (marked_append turned (codes "uid" ∷ w ∷ []) ws)
@@ -154,7 +154,7 @@ uid_more Object turned r w ends ws rule is none rest =
     (object_more (marked turned (codes "uid" ∷ w ∷ [])) r.subject r.object (record r.object { side = record r.object.side { uid = Some (id_test turned ends) } }) ws rule
     (inl (record r.object.side { uid = Some (id_test turned ends) }, (turned, w, ends, is, inl (refl, none, refl)), refl)) rest)
 
-pub gid_more : (part : Part) (turned : Bool) (r : Rule) (w : List ℕ) (ends : ℕ × ℕ) (ws : Words) (rule : Rule) → range_in w ≡ Some ends → (side_of part r).gid ≡ None
+pub gid_more : (part : Part) (turned : Bool) (r : Rule) (w : List ℕ) (ends : ℕ × ℕ) (ws : Words) (rule : Rule) → id_range_in w ≡ Some ends → (side_of part r).gid ≡ None
     → PartRest part (put_gid part r (Some (id_test turned ends))) ws rule → PartRest part r (marked turned (codes "gid" ∷ w ∷ ws)) rule
 gid_more Subject turned r w ends ws rule is none rest = λ bare.
     subst (λ ws. SubjectRest r.subject ws rule) (marked_append turned (codes "gid" ∷ w ∷ []) ws)

@@ -22,11 +22,11 @@ abbrev pub mark_text : Bool → List ℕ
 mark_text turned = if turned then codes " !" else []
 
 -- one id, or two with a colon between them
-abbrev pub range_text : ℕ → ℕ → List ℕ
-range_text least greatest = if least == greatest then decimal least else decimal least ++ colon ∷ decimal greatest
+abbrev pub id_range_text : ℕ → ℕ → List ℕ
+id_range_text least greatest = if least == greatest then decimal least else decimal least ++ colon ∷ decimal greatest
 
 abbrev pub id_text : List ℕ → Option IdTest → List ℕ
-id_text name test = option_map_or (λ test. mark_text test.not ++ (name ++ range_text test.least test.greatest)) test []
+id_text name test = option_map_or (λ test. mark_text test.not ++ (name ++ id_range_text test.least test.greatest)) test []
 
 abbrev pub flag_text : List ℕ → Option Bool → List ℕ
 flag_text name wanted = option_map_or (λ wanted. mark_text (not wanted) ++ name) wanted []

@@ -6,7 +6,7 @@ use Rattle.std.specs.Prelude.{ℕ, ◌+◌, Bool, true, false, not, List, [], �
 use Rattle.std.specs.Option.{ok_or}
 use Rattle.std.specs.Str.{bytes_eq}
 use Rattle.mf_text.specs.Results.{and_then, ◌>>=◌}
-use Rattle.mf_rule.specs.Words.{range_in, mode_in, types_in}
+use Rattle.mf_rule.specs.Words.{id_range_in, mode_in, types_in}
 use Rattle.mf_rule.specs.Parts.{Words, no_tests, no_object_tests}
 use Rattle.mf_rule.specs.declared.rule.IdTest.{IdTest}
 use Rattle.mf_rule.specs.declared.rule.Side.{Side}
@@ -24,8 +24,8 @@ abbrev pub OrFault : Type 0 → Type 0
 OrFault A = Result A RuleFault
 
 -- this comes next, and the rule so far is this
-abbrev pub goes_on : Next → Rule → OrFault Begun
-goes_on what rule = Ok (record { next = what; rule = rule })
+abbrev pub reads_on : Next → Rule → OrFault Begun
+reads_on what rule = Ok (record { next = what; rule = rule })
 
 abbrev pub no_rule : Rule
 no_rule = record { subject = no_tests; object = no_object_tests; mode = 0 }
@@ -46,9 +46,9 @@ abbrev pub with_not : Part → Rule → Rule
 with_not part rule = with_side part rule (record (side_of part rule) { not = true })
 
 -- the word that ends a part, and what comes behind it
-abbrev pub end_of : Part → List ℕ
-end_of Subject = codes "object"
-end_of Object = codes "mode"
+abbrev pub closing_word : Part → List ℕ
+closing_word Subject = codes "object"
+closing_word Object = codes "mode"
 
 abbrev pub behind : Part → Next
 behind Subject = next.First Object
@@ -60,7 +60,7 @@ once place test more = if is_some test then Err (UnknownWord place) else more
 
 -- a file test without a value
 abbrev pub flagged : Rule → OrFault Begun
-flagged rule = goes_on (next.Test Object) rule
+flagged rule = reads_on (next.Test Object) rule
 
 -- the name of a test that only an object has
 unfoldable pub file_test : ℕ → Bool → Rule → List ℕ → OrFault Begun
@@ -69,7 +69,7 @@ file_test place turned rule w =
     else if bytes_eq w (codes "sgid") then once place rule.object.sgid (flagged (record rule { object = record rule.object { sgid = Some (not turned) } }))
     else if bytes_eq w (codes "uid_of_subject") then once place rule.object.uid_of_subject (flagged (record rule { object = record rule.object { uid_of_subject = Some (not turned) } }))
     else if bytes_eq w (codes "gid_of_subject") then once place rule.object.gid_of_subject (flagged (record rule { object = record rule.object { gid_of_subject = Some (not turned) } }))
-    else if bytes_eq w (codes "type") then once place rule.object.types (goes_on (next.Types turned) rule)
+    else if bytes_eq w (codes "type") then once place rule.object.types (reads_on (next.Types turned) rule)
     else Err (UnknownWord place)
 
 abbrev pub other_test : Part → ℕ → Bool → Rule → List ℕ → OrFault Begun
@@ -79,15 +79,15 @@ other_test Object place turned rule w = file_test place turned rule w
 -- the name of a test
 unfoldable pub named : ℕ → Part → Bool → Rule → List ℕ → OrFault Begun
 named place part turned rule w =
-    if bytes_eq w (codes "uid") then once place (side_of part rule).uid (goes_on (next.Uid part turned) rule)
-    else if bytes_eq w (codes "gid") then once place (side_of part rule).gid (goes_on (next.Gid part turned) rule)
+    if bytes_eq w (codes "uid") then once place (side_of part rule).uid (reads_on (next.Uid part turned) rule)
+    else if bytes_eq w (codes "gid") then once place (side_of part rule).gid (reads_on (next.Gid part turned) rule)
     else other_test part place turned rule w
 
 -- `!`, the name of a test, or the word that ends the part
 unfoldable pub tested : ℕ → Part → Rule → List ℕ → OrFault Begun
 tested place part rule w =
-    if bytes_eq w (codes "!") then goes_on (next.Name part) rule
-    else if bytes_eq w (end_of part) then goes_on (behind part) rule
+    if bytes_eq w (codes "!") then reads_on (next.Name part) rule
+    else if bytes_eq w (closing_word part) then reads_on (behind part) rule
     else named place part false rule w
 
 -- the value of a test, where the word is one
@@ -99,17 +99,17 @@ id_test turned ends = record { not = turned; least = ends.0; greatest = ends.1 }
 
 -- the rule so far with the word at a place added, by what has to come next
 unfoldable pub fitted : ℕ → Next → Rule → List ℕ → OrFault Begun
-fitted place next.Start rule w = if bytes_eq w (codes "subject") then goes_on (next.First Subject) rule else Err (UnknownWord place)
-fitted place (next.First part) rule w = if bytes_eq w (codes "not") then goes_on (next.Test part) (with_not part rule) else tested place part rule w
+fitted place next.Start rule w = if bytes_eq w (codes "subject") then reads_on (next.First Subject) rule else Err (UnknownWord place)
+fitted place (next.First part) rule w = if bytes_eq w (codes "not") then reads_on (next.Test part) (with_not part rule) else tested place part rule w
 fitted place (next.Test part) rule w = tested place part rule w
 fitted place (next.Name part) rule w = named place part true rule w
 fitted place (next.Uid part turned) rule w =
-    by_value (BadRange place) (range_in w) (λ ends. goes_on (next.Test part) (with_side part rule (record (side_of part rule) { uid = Some (id_test turned ends) })))
+    by_value (BadRange place) (id_range_in w) (λ ends. reads_on (next.Test part) (with_side part rule (record (side_of part rule) { uid = Some (id_test turned ends) })))
 fitted place (next.Gid part turned) rule w =
-    by_value (BadRange place) (range_in w) (λ ends. goes_on (next.Test part) (with_side part rule (record (side_of part rule) { gid = Some (id_test turned ends) })))
+    by_value (BadRange place) (id_range_in w) (λ ends. reads_on (next.Test part) (with_side part rule (record (side_of part rule) { gid = Some (id_test turned ends) })))
 fitted place (next.Types turned) rule w =
-    by_value (BadType place) (types_in w) (λ types. goes_on (next.Test Object) (record rule { object = record rule.object { types = Some (record { not = turned; types = types }) } }))
-fitted place next.Letters rule w = by_value (BadMode place) (mode_in w) (λ mode. goes_on next.End (record rule { mode = mode }))
+    by_value (BadType place) (types_in w) (λ types. reads_on (next.Test Object) (record rule { object = record rule.object { types = Some (record { not = turned; types = types }) } }))
+fitted place next.Letters rule w = by_value (BadMode place) (mode_in w) (λ mode. reads_on next.End (record rule { mode = mode }))
 fitted place next.End rule w = Err (UnknownWord place)
 
 abbrev pub with_word : ℕ → Begun → List ℕ → OrFault Begun

@@ -6,7 +6,7 @@
 -- is free. ugidfw(8) has `jailid`, `filesys` and names of users and groups too, which this model lacks.
 use Rattle.std.specs.Prelude.{◌≡◌, ◌≤◌, ◌<◌, ◌⊎◌, ℕ, Bool, not, List, [], ◌∷◌, ◌++◌, Some, None, IfSome, codes, if◌then◌else◌}
 use Rattle.std.specs.List.{flat_map}
-use Rattle.mf_rule.specs.Words.{range_in, mode_in, types_in}
+use Rattle.mf_rule.specs.Words.{id_range_in, mode_in, types_in}
 use Rattle.mf_rule.specs.declared.rule.TheConstants.{LAST_ID, ANY_TYPE}
 use Rattle.mf_rule.specs.declared.rule.IdTest.{IdTest}
 use Rattle.mf_rule.specs.declared.rule.Side.{Side}
@@ -21,7 +21,7 @@ marked turned words = if turned then codes "!" ∷ words else words
 -- the words are a test of ids: with it, before becomes after
 abbrev pub SpellsIdTest : Words → Side → Side → Type 0
 SpellsIdTest words before after =
-    (turned : Bool) × (w : List ℕ) × (ends : ℕ × ℕ) × (range_in w ≡ Some ends)
+    (turned : Bool) × (w : List ℕ) × (ends : ℕ × ℕ) × (id_range_in w ≡ Some ends)
     × (((words ≡ marked turned (codes "uid" ∷ w ∷ [])) × (before.uid ≡ None) × (after ≡ record before { uid = Some (record { not = turned; least = ends.0; greatest = ends.1 }) }))
     ⊎ ((words ≡ marked turned (codes "gid" ∷ w ∷ [])) × (before.gid ≡ None) × (after ≡ record before { gid = Some (record { not = turned; least = ends.0; greatest = ends.1 }) })))
 

@@ -24,10 +24,10 @@ abbrev pub is_match : Cred → FileView → Option Rule → Bool
 is_match cred file slot = option_map_or (λ rule. matches rule cred file) slot false
 
 -- the rule gives the letters, where there is one
-abbrev pub grants : ℕ → Option Rule → Bool
-grants wanted slot = option_map_or (λ rule. gives rule wanted) slot true
+abbrev pub slot_gives : ℕ → Option Rule → Bool
+slot_gives wanted slot = option_map_or (λ rule. gives rule wanted) slot true
 
 -- With first match the matching rule of the least number decides; without, every matching rule has to give the letters.
 abbrev pub verdict : Bool → Slots → Cred → FileView → ℕ → Bool
-verdict true slots cred file wanted = option_map_or (grants wanted) (find (is_match cred file) slots) true
-verdict false slots cred file wanted = list_all (λ slot. not (is_match cred file slot) || grants wanted slot) slots
+verdict true slots cred file wanted = option_map_or (slot_gives wanted) (find (is_match cred file) slots) true
+verdict false slots cred file wanted = list_all (λ slot. not (is_match cred file slot) || slot_gives wanted slot) slots

@@ -24,8 +24,8 @@ range_from_halves w (Some halves) = do
   ordered least greatest
 
 -- one id, or two with a colon between them
-unfoldable pub range_in : List ℕ → Option (ℕ × ℕ)
-range_in w = range_from_halves w (cut colon w)
+unfoldable pub id_range_in : List ℕ → Option (ℕ × ℕ)
+id_range_in w = range_from_halves w (cut colon w)
 
 -- each letter of a mode and its bit, where `n` is for none
 abbrev pub mode_letters : List (ℕ × ℕ)

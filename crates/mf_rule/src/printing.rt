@@ -113,7 +113,7 @@ fn push_id(name: &str, test: &Option<IdTest>, out: &mut String) -> Result<(), Al
 }
 
 fn push_range(least: u32, greatest: u32, out: &mut String) -> Result<(), AllocError>
-    ensures ok { OnOk result (string_bytes out.new ≡ string_bytes out.old ++ spec.range_text least greatest) }
+    ensures ok { OnOk result (string_bytes out.new ≡ string_bytes out.old ++ spec.id_range_text least greatest) }
     ensures err { OnErr result (Extends (string_bytes out.old) (string_bytes out.new)) }
 {
     if least == greatest {

@@ -11,8 +11,8 @@ use crate::fault::RuleFault;
 use crate::rule::{IdTest, Rule, TypeTest};
 use crate::values::{read_mode, read_range, read_types};
 
-fn goes_on(next: Next, rule: Rule) -> Result<Begun, RuleFault>
-    ensures { result ≡ spec.goes_on next rule }
+fn reads_on(next: Next, rule: Rule) -> Result<Begun, RuleFault>
+    ensures { result ≡ spec.reads_on next rule }
 {
     Ok(Begun { next, rule })
 }
@@ -72,7 +72,7 @@ fn start(place: usize, rule: Rule, word: &str) -> Result<Begun, RuleFault>
     ensures { result ≡ spec.fitted place next.Start rule word.now }
 {
     if word == "subject" {
-        goes_on(Next::First(Part::Subject), rule)
+        reads_on(Next::First(Part::Subject), rule)
     } else {
         Err(RuleFault::UnknownWord(place))
     }
@@ -89,11 +89,11 @@ fn first(place: usize, part: Part, rule: Rule, word: &str) -> Result<Begun, Rule
     let mut side = turned.side(part);
     side.not = true;
     turned.set_side(part, side);
-    goes_on(Next::Test(part), turned)
+    reads_on(Next::Test(part), turned)
 }
 
-fn end_of(part: Part) -> &'static str
-    ensures { result.now ≡ spec.end_of part }
+fn closing_word(part: Part) -> &'static str
+    ensures { result.now ≡ spec.closing_word part }
 {
     match part {
         Part::Subject => "object",
@@ -115,9 +115,9 @@ fn tested(place: usize, part: Part, rule: Rule, word: &str) -> Result<Begun, Rul
     ensures { result ≡ spec.tested place part rule word.now }
 {
     if word == "!" {
-        goes_on(Next::Name(part), rule)
-    } else if word == end_of(part) {
-        goes_on(behind(part), rule)
+        reads_on(Next::Name(part), rule)
+    } else if word == closing_word(part) {
+        reads_on(behind(part), rule)
     } else {
         named(place, part, false, rule, word)
     }
@@ -125,12 +125,12 @@ fn tested(place: usize, part: Part, rule: Rule, word: &str) -> Result<Begun, Rul
 
 /// What comes behind a test's name, unless that test was there before.
 fn once(place: usize, is_there: bool, next: Next, rule: Rule) -> Result<Begun, RuleFault>
-    ensures { result ≡ cond is_there (Err (UnknownWord place)) (spec.goes_on next rule) }
+    ensures { result ≡ cond is_there (Err (UnknownWord place)) (spec.reads_on next rule) }
 {
     if is_there {
         return Err(RuleFault::UnknownWord(place));
     }
-    goes_on(next, rule)
+    reads_on(next, rule)
 }
 
 #[tactic(auto, unfolding(crate::specs::Reading::named))]
@@ -189,7 +189,7 @@ fn with_uid(place: usize, part: Part, not: bool, rule: Rule, word: &str) -> Resu
         greatest,
     });
     more.set_side(part, side);
-    goes_on(Next::Test(part), more)
+    reads_on(Next::Test(part), more)
 }
 
 #[tactic(auto, unfolding(crate::specs::Reading::fitted))]
@@ -207,7 +207,7 @@ fn with_gid(place: usize, part: Part, not: bool, rule: Rule, word: &str) -> Resu
         greatest,
     });
     more.set_side(part, side);
-    goes_on(Next::Test(part), more)
+    reads_on(Next::Test(part), more)
 }
 
 #[tactic(auto, unfolding(crate::specs::Reading::fitted))]
@@ -219,7 +219,7 @@ fn with_types(place: usize, not: bool, rule: Rule, word: &str) -> Result<Begun, 
     };
     let mut more = rule;
     more.object.types = Some(TypeTest { not, types });
-    goes_on(Next::Test(Part::Object), more)
+    reads_on(Next::Test(Part::Object), more)
 }
 
 #[tactic(auto, unfolding(crate::specs::Reading::fitted))]
@@ -231,5 +231,5 @@ fn with_letters(place: usize, rule: Rule, word: &str) -> Result<Begun, RuleFault
     };
     let mut more = rule;
     more.mode = mode;
-    goes_on(Next::End, more)
+    reads_on(Next::End, more)
 }

@@ -184,8 +184,8 @@ fn is_match(slot: &Option<Rule>, cred: &Cred, file: &FileView) -> bool
     }
 }
 
-fn grants(slot: &Option<Rule>, wanted: u8) -> bool
-    ensures { result ≡ spec.grants wanted slot.now }
+fn slot_gives(slot: &Option<Rule>, wanted: u8) -> bool
+    ensures { result ≡ spec.slot_gives wanted slot.now }
 {
     match slot {
         None => true,
@@ -205,22 +205,22 @@ fn first_match<'a>(
 }
 
 fn by_first(slots: &[Option<Rule>], cred: &Cred, file: &FileView, wanted: u8) -> bool
-    ensures { result ≡ option_map_or (spec.grants wanted) (find (spec.is_match cred.now file.now) slots.now) true }
+    ensures { result ≡ option_map_or (spec.slot_gives wanted) (find (spec.is_match cred.now file.now) slots.now) true }
 {
     match first_match(slots, cred, file) {
         None => true,
-        Some(slot) => grants(slot, wanted),
+        Some(slot) => slot_gives(slot, wanted),
     }
 }
 
 fn allows(slot: &Option<Rule>, cred: &Cred, file: &FileView, wanted: u8) -> bool
-    ensures { result ≡ (not (spec.is_match cred.now file.now slot.now) || spec.grants wanted slot.now) }
+    ensures { result ≡ (not (spec.is_match cred.now file.now slot.now) || spec.slot_gives wanted slot.now) }
 {
-    !is_match(slot, cred, file) || grants(slot, wanted)
+    !is_match(slot, cred, file) || slot_gives(slot, wanted)
 }
 
 fn by_all(slots: &[Option<Rule>], cred: &Cred, file: &FileView, wanted: u8) -> bool
-    ensures { result ≡ list_all (λ slot. not (spec.is_match cred.now file.now slot) || spec.grants wanted slot) slots.now }
+    ensures { result ≡ list_all (λ slot. not (spec.is_match cred.now file.now slot) || spec.slot_gives wanted slot) slots.now }
 {
     slots.iter().all(|slot| allows(slot, cred, file, wanted))
 }

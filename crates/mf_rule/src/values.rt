@@ -36,9 +36,9 @@ fn ordered(least: u32, greatest: u32) -> Option<(u32, u32)>
 }
 
 /// The least and the greatest id of a range.
-#[tactic(auto, unfolding(crate::specs::Words::range_in))]
+#[tactic(auto, unfolding(crate::specs::Words::id_range_in))]
 pub fn read_range(word: &str) -> Option<(u32, u32)>
-    ensures { result ≡ spec.range_in word.now }
+    ensures { result ≡ spec.id_range_in word.now }
 {
     match split_once(word, ':') {
         None => {
