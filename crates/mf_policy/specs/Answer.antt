@@ -164,10 +164,6 @@ answer means.Partition slot item = partition_answer slot item
 answer (means.Bsdextended rules first) slot item = rules_answer rules first item
 answer means.Priority slot item = Success
 
--- one of the groups, where one is named
-abbrev pub in_some_group : Cred → Option ℕ → Bool
-in_some_group cred group = option_map_or (in_group cred) group false
-
 -- the group whose members mac_priority grants the privilege
 abbrev pub granted_group : Priv → Option ℕ
 granted_group privilege.SchedRtprio = Some 47
@@ -176,5 +172,5 @@ granted_group other = None
 
 -- whether a policy of this spec grants the privilege to a process of that credential
 abbrev pub grants : Spec → Cred → Priv → Bool
-grants means.Priority cred privilege = in_some_group cred (granted_group privilege)
+grants means.Priority cred privilege = option_map_or (in_group cred) (granted_group privilege) false
 grants other cred privilege = false

@@ -120,16 +120,11 @@ abbrev pub boot_value : Module → Kind → Request → LabelValue
 boot_value m kind request =
     if labels_kind m kind then boot_by (facts_of m).labels kind (range_asked m request) (number_asked m request) else Unset
 
--- the effective element alone
-abbrev pub effective_alone : LabelValue → LabelValue
-effective_alone Unset = Unset
-effective_alone (Range label) = Range (record label { range = None })
-effective_alone (Number n) = Number n
-
 -- A child process has its maker's whole element and range; another entity has the maker's effective element alone.
 abbrev pub inherited_range : Kind → LabelValue → LabelValue
 inherited_range kinds.Process value = value
-inherited_range other value = effective_alone value
+inherited_range other (Range label) = Range (record label { range = None })
+inherited_range other value = value
 
 -- the partition, where an unset one counts as 0
 abbrev pub inherited_partition : LabelValue → LabelValue
