@@ -11,6 +11,7 @@ use Rattle.mf_core.specs.declared.progress.Turn.{Turn}
 use Rattle.mf_core.specs.declared.progress.Turn.TheVariants as turn
 use Rattle.mf_core.specs.LegalHistory.{turn_at_line, IsLegal}
 use Rattle.mf_core.specs.CoreView.{CoreView, lines_at, turn_at}
+use Rattle.mf_share.specs.Weights.{entry_weight}
 
 -- the script without lines
 abbrev pub no_script : Script
@@ -41,11 +42,11 @@ pub record IsPass (s : Script) (task lines : ℕ) (out : Bool) (done_parts done_
   pub part_unless_out : busy_parts ≡ parts_beside out
   pub none_open : busy_amount ≡ 0
 
--- The share of a ticket: the part of the pass, with the amount 1.
-pub record IsTicket (s : Script) (task busy_parts busy_amount : ℕ) : Type 0 where
+-- The share of a ticket: the part of the pass, with what its entry weighs.
+pub record IsTicket (s : Script) (task : ℕ) (committed : Bool) (busy_parts busy_amount : ℕ) : Type 0 where
   pub task_is : task < length s.tasks
   pub one_part : busy_parts ≡ 1
-  pub one_open : busy_amount ≡ 1
+  pub weighed : busy_amount ≡ entry_weight task committed
 
 -- The kernel's own shares: one part of each ledger, with the amount 0. The other parts are those of the passes, one for each task.
 pub record IsOwn (s : Script) (done_all busy_all done_parts done_amount busy_parts busy_amount : ℕ) : Type 0 where

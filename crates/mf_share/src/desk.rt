@@ -13,6 +13,7 @@ ghost use Rattle.mf_core.specs.WithEvent.{with_event};
 ghost use Rattle.mf_core.specs.Policies.{StaysWhileWaiting};
 ghost use Rattle.mf_core.specs.CoreView.{specs_of, run_state, open_of, Changes, Commits};
 ghost use Rattle.mf_share.specs.Passes.{AgreesWithPass, AgreesWithTicket, IsCoreOf, pass_changed, pass_left, pass_turn, ticket_after, ticket_for};
+ghost use Rattle.mf_share.specs.Weights.{entry_weight};
 
 use crate::pass::{Job, Pass, Ticket};
 use crate::policies::Policies;
@@ -25,7 +26,7 @@ use std::alloc::{AllocError, Global};
 use std::marker::{Model, PhantomData};
 use std::sync::ledger::{Book, Ledger};
 
-/// A core of the script that `J` names, with the total of lines done and the number of open entries. Contracts see the
+/// A core of the script that `J` names, with the total of lines done and that of what open entries weigh. Contracts see the
 /// core. It agrees with a pass or a ticket where the core's turn of the task, and its lines done, are those that the
 /// pass or the ticket says.
 #[derive(Drop)]
@@ -37,13 +38,14 @@ pub struct Desk<'s, J: Job, B: Ledger> {
 
 impl<'s, J: Job, B: Ledger> Model for Desk<'s, J, B> {
     ghost use Rattle.std.specs.Prelude.{◌≡◌};
-    ghost use Rattle.mf_core.specs.CoreView.{CoreView, done_of, open_of};
+    ghost use Rattle.mf_core.specs.CoreView.{CoreView, done_of};
+    ghost use Rattle.mf_share.specs.Weights.{open_weight};
 
     ghost Value = { CoreView };
 
     ghost view = { λ d. d.core };
 
-    ghost invariant = { λ d. (d.core.script ≡ J.script) × (d.done.total ≡ done_of d.core) × (d.busy.total ≡ open_of d.core) };
+    ghost invariant = { λ d. (d.core.script ≡ J.script) × (d.done.total ≡ done_of d.core) × (d.busy.total ≡ open_weight J.script d.core) };
 }
 
 impl<'s, J: Job, B: Ledger> Desk<'s, J, B> {
@@ -73,7 +75,7 @@ impl<'s, J: Job, B: Ledger> Desk<'s, J, B> {
         }
         self.core.enter(task);
         let mut busy = pass.busy.split_off(1, 0);
-        self.busy.add(&mut busy, 1);
+        self.busy.add(&mut busy, weight_of(task, false));
         pass.out = true;
         Some(Ticket {
             task,
@@ -133,6 +135,7 @@ impl<'s, J: Job, B: Ledger> Desk<'s, J, B> {
         }
         let commit = self.core.done(alloc, task, list, plan, verdict)?;
         if commit == Commit::Done {
+            self.busy.add(&mut ticket.busy, weight_of(task, false));
             ticket.committed = true;
         }
         Ok(Some(commit))
@@ -169,7 +172,7 @@ impl<'s, J: Job, B: Ledger> Desk<'s, J, B> {
             mut busy,
             of: _,
         } = ticket;
-        self.busy.sub(&mut busy, 1);
+        self.busy.sub(&mut busy, weight_of(task, committed));
         pass.busy.merge(busy);
         pass.out = false;
         if committed {
@@ -231,4 +234,12 @@ impl<'s, J: Job, B: Ledger> Desk<'s, J, B> {
             }
         }
     }
+}
+
+/// What an open entry of the task weighs, before its commit or after.
+fn weight_of(task: u32, committed: bool) -> u64
+    ensures { result ≡ entry_weight task committed }
+{
+    let entered = 2 * u64::from(task) + 1;
+    if committed { 2 * entered } else { entered }
 }

@@ -1,0 +1,29 @@
+-- What an open entry weighs: what it counts in the ledger of open entries. No two tasks have the same weight, and none has one that is another's after
+-- its commit, so that an event of another task, or none, doesn't balance.
+use Rattle.std.specs.Prelude.{ℕ, zero, suc, ◌+◌, ◌*◌, Bool, true, false, List, length}
+use Rattle.mf_calls.specs.declared.script.Script.{Script}
+use Rattle.mf_core.specs.declared.progress.Phase.{Phase}
+use Rattle.mf_core.specs.declared.progress.Phase.TheVariants as phase
+use Rattle.mf_core.specs.declared.progress.Progress.{Progress}
+use Rattle.mf_core.specs.Progress.{progress_at}
+use Rattle.mf_core.specs.CoreView.{CoreView, progress_of}
+
+-- by the number of the task, and whether the call of the entry is done
+abbrev pub entry_weight : ℕ → Bool → ℕ
+entry_weight t false = 2 * t + 1
+entry_weight t true = 2 * (2 * t + 1)
+
+-- by the phase of the task: 0 where no entry of it is open
+abbrev pub weight_in : ℕ → Phase → ℕ
+weight_in t phase.Entered = entry_weight t false
+weight_in t phase.Done = entry_weight t true
+weight_in t other = 0
+
+-- of the first n tasks together
+abbrev pub weights : List Progress → ℕ → ℕ
+weights list zero = 0
+weights list (suc n) = weights list n + weight_in n (progress_at list n).phase
+
+-- of all tasks of the script
+abbrev pub open_weight : Script → CoreView → ℕ
+open_weight s run = weights (progress_of run) (length s.tasks)
