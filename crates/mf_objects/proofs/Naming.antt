@@ -1,14 +1,17 @@
 -- Entry names and paths, of the entities and as contracts see them.
-use Rattle.std.proofs.Common.{◌≡◌, ℕ, List, [], ◌∷◌, ◌++◌, Some, None, length, map, reverse, refl, ap, ◌∙◌, Bool, true, false, cond, arith, nat_eq, Result, Ok, Err, OnOk, is_ok, if◌then◌else◌}
+use Rattle.std.proofs.Common.{◌≡◌, ℕ, List, [], ◌∷◌, ◌++◌, Option, Some, None, length, map, reverse, refl, ap, sym, ◌∙◌, Bool, true, false, cond, arith, nat_eq, Result, Ok, Err, OnOk, is_ok, if◌then◌else◌}
 use Rattle.std.specs.declared.alloc.AllocError.{AllocError}
 use Rattle.std.proofs.lemmas.List.{map-append, reverse-append}
 use Rattle.std.specs.Prelude.{filter, codes}
 use Rattle.mf_slots.specs.Zones.{Contents}
 use Rattle.mf_objects.specs.declared.id.Id.{Id}
 use Rattle.mf_objects.specs.declared.entity.Entity.{Entity}
+use Rattle.mf_objects.specs.declared.entity.EntityData.{EntityData}
+use Rattle.mf_objects.specs.declared.entity.EntityData.TheVariants.{Process, Vnode, Pipe, Socket}
 use Rattle.mf_objects.specs.Live.{LiveEntity, is_entry}
-use Rattle.mf_objects.specs.Titles.{Link, path_in, below, parent_of, entry_names, link as live_link}
-use Rattle.mf_objects.specs.Sound.{seen, live_of, link}
+use Rattle.mf_objects.specs.Names.{prefix_of, own_name}
+use Rattle.mf_objects.specs.Titles.{path_in, below, parent_of, entry_names, title_of}
+use Rattle.mf_objects.specs.Sound.{seen, live_of, unlabelled}
 
 -- the names of the entries of a directory
 abbrev pub raw_names : Id → List Entity → List (List ℕ)
@@ -45,44 +48,76 @@ names_no dir (x ∷ es) e entry = one (is_entry dir x.what) (names_no dir es e e
     one true rest = ap (λ (ns : List (List ℕ)). x.name ∷ ns) rest
     one false rest = rest
 
-pub links_live : (zones : Contents) (es : List Entity) → map live_link (live_of zones es) ≡ map link es
-links_live zones [] = refl
-links_live zones (e ∷ es) = ap (λ (ls : List Link). link e ∷ ls) (links_live zones es)
+-- a path depends on no label
 
-pub path_push : (ls : List Link) (l : Link) (id : Id)
-    → path_in (reverse (ls ++ l ∷ [])) id ≡ cond (nat_eq l.id.0 id.0) (below (path_in (reverse ls)) l.parent l.name) (path_in (reverse ls) id)
+below_same : (path other : Id → List ℕ) → ((id : Id) → path id ≡ other id) → (parent : Option Id) (name : List ℕ) → below path parent name ≡ below other parent name
+below_same path other same None name = refl
+below_same path other same (Some dir) name = ap (λ (p : List ℕ). p ++ codes "/" ++ name) (same dir)
+
+path_seen : (zones : Contents) (es : List Entity) (id : Id) → path_in (map (seen zones) es) id ≡ path_in (map unlabelled es) id
 unfolding path_in
-path_push ls l id = ap (λ (xs : List Link). path_in xs id) (reverse-append ls (l ∷ []))
+path_seen zones [] id = refl
+path_seen zones (e ∷ es) id =
+    elim (nat_eq e.id.0 id.0)
+    as (λ b. cond b (below (path_in (map (seen zones) es)) (parent_of e.what) e.name) (path_in (map (seen zones) es) id)
+    ≡ cond b (below (path_in (map unlabelled es)) (parent_of e.what) e.name) (path_in (map unlabelled es) id)) [
+      | true ↦ below_same _ _ (path_seen zones es) (parent_of e.what) e.name
+      | false ↦ path_seen zones es id
+    ]
+
+reverse_map : (f : Entity → LiveEntity) (es : List Entity) → reverse (map f es) ≡ map f (reverse es)
+reverse_map f [] = refl
+reverse_map f (e ∷ es) =
+    reverse-append (f e ∷ []) (map f es) ∙ ap (λ (xs : List LiveEntity). xs ++ f e ∷ []) (reverse_map f es)
+    ∙ sym (ap (map f) (reverse-append (e ∷ []) es) ∙ map-append f (reverse es) (e ∷ []))
+
+pub path_live : (zones : Contents) (es : List Entity) (id : Id) → path_in (reverse (map unlabelled es)) id ≡ path_in (reverse (live_of zones es)) id
+path_live zones es id =
+    ap (λ (xs : List LiveEntity). path_in xs id) (reverse_map unlabelled es)
+    ∙ sym (path_seen zones (reverse es) id)
+    ∙ ap (λ (xs : List LiveEntity). path_in xs id) (sym (reverse_map (seen zones) es))
+
+pub path_push : (ls : List LiveEntity) (l : LiveEntity) (id : Id)
+    → path_in (reverse (ls ++ l ∷ [])) id ≡ cond (nat_eq l.id.0 id.0) (below (path_in (reverse ls)) (parent_of l.what) l.name) (path_in (reverse ls) id)
+unfolding path_in
+path_push ls l id = ap (λ (xs : List LiveEntity). path_in xs id) (reverse-append ls (l ∷ []))
 
 pub path_nothing : (id : Id) → path_in [] id ≡ []
 unfolding path_in
 path_nothing id = refl
 
-pub path_none : (es : List Entity) (id : Id) → length es ≡ 0 → path_in (reverse (map link es)) id ≡ []
+pub path_none : (es : List Entity) (id : Id) → length es ≡ 0 → path_in (reverse (map unlabelled es)) id ≡ []
 path_none [] id none = path_nothing id
 path_none (e ∷ es) id none = absurd (omega arith)
 
 path_last : (es older : List Entity) (e : Entity) (id : Id) → es ≡ older ++ e ∷ []
-    → path_in (reverse (map link es)) id
-    ≡ cond (nat_eq e.id.0 id.0) (below (path_in (reverse (map link older))) (parent_of e.what) e.name) (path_in (reverse (map link older)) id)
+    → path_in (reverse (map unlabelled es)) id
+    ≡ cond (nat_eq e.id.0 id.0) (below (path_in (reverse (map unlabelled older))) (parent_of e.what) e.name) (path_in (reverse (map unlabelled older)) id)
 path_last es older e id is =
-    ap (λ (xs : List Entity). path_in (reverse (map link xs)) id) is
-    ∙ ap (λ (ls : List Link). path_in (reverse ls) id) (map-append link older (e ∷ []))
-    ∙ path_push (map link older) (link e) id
+    ap (λ (xs : List Entity). path_in (reverse (map unlabelled xs)) id) is
+    ∙ ap (λ (ls : List LiveEntity). path_in (reverse ls) id) (map-append unlabelled older (e ∷ []))
+    ∙ path_push (map unlabelled older) (unlabelled e) id
 
 pub path_other : (es older : List Entity) (e : Entity) (id : Id) → es ≡ older ++ e ∷ [] → nat_eq e.id.0 id.0 ≡ false
-    → path_in (reverse (map link es)) id ≡ path_in (reverse (map link older)) id
+    → path_in (reverse (map unlabelled es)) id ≡ path_in (reverse (map unlabelled older)) id
 path_other es older e id is other = path_last es older e id is ∙ rw other refl
 
 pub path_root : (es older : List Entity) (e : Entity) (id : Id) → es ≡ older ++ e ∷ [] → nat_eq e.id.0 id.0 ≡ true → parent_of e.what ≡ None
-    → path_in (reverse (map link es)) id ≡ []
+    → path_in (reverse (map unlabelled es)) id ≡ []
 path_root es older e id is this none = path_last es older e id is ∙ rw (this, none) refl
 
 pub path_below : (es older : List Entity) (e : Entity) (id dir : Id) → es ≡ older ++ e ∷ [] → nat_eq e.id.0 id.0 ≡ true → parent_of e.what ≡ Some dir
-    → path_in (reverse (map link es)) id ≡ path_in (reverse (map link older)) dir ++ codes "/" ++ e.name
+    → path_in (reverse (map unlabelled es)) id ≡ path_in (reverse (map unlabelled older)) dir ++ codes "/" ++ e.name
 path_below es older e id dir is this some = path_last es older e id is ∙ rw (this, some) refl
 
 -- a text that grew by `push_str`, where memory was found
 pub pushed : (r : Result (Unit {0}) AllocError) (new old text whole : List ℕ) → new ≡ (if is_ok r then old ++ text else old) → text ≡ whole → OnOk r (new ≡ old ++ whole)
 pushed (Ok u) new old text whole is same = is ∙ ap (λ (bytes : List ℕ). old ++ bytes) same
 pushed (Err error) new old text whole is same = tt
+
+-- a title is its two parts
+pub title_parts : (path name : List ℕ) (what : EntityData) → prefix_of what ++ own_name path name what ≡ title_of path name what
+title_parts path name (Process cred) = refl
+title_parts path name (Vnode vnode) = refl
+title_parts path name (Pipe pipe) = refl
+title_parts path name (Socket socket) = refl

@@ -1,5 +1,5 @@
 -- The path of an entry is that of its directory, a slash and its name; that of the root is nothing.
-use Rattle.std.proofs.Common.{◌≡◌, ℕ, ◌<◌, ◌+◌, List, [], ◌∷◌, ◌++◌, Some, None, Option, map, reverse, refl, ap, sym, ◌∙◌, subst, arith, nat_eq, Bool, true, false, cond}
+use Rattle.std.proofs.Common.{◌≡◌, ℕ, ◌<◌, ◌+◌, List, [], ◌∷◌, ◌++◌, Some, None, Option, reverse, refl, ap, sym, ◌∙◌, subst, arith, nat_eq, Bool, true, false, cond}
 use Rattle.std.specs.Prelude.{All, find, codes, MatchOption}
 use Rattle.std.proofs.lemmas.Bool.Decides.{nat_tests}
 use Rattle.std.proofs.lemmas.List.{append-nil, append_assoc}
@@ -10,48 +10,48 @@ use Rattle.mf_objects.specs.declared.entity.EntityData.TheVariants.{Process, Vno
 use Rattle.mf_objects.specs.Live.{LiveEntity, Entities, has_id, live_at}
 use Rattle.mf_objects.specs.Lives.{is_directory}
 use Rattle.mf_objects.specs.Population.{Belongs, HasOlder, HasRoot, IsPopulation, IsRising}
-use Rattle.mf_objects.specs.Titles.{Link, link, parent_of, path_in, path_at, below}
+use Rattle.mf_objects.specs.Titles.{parent_of, path_in, path_at, below}
 use Rattle.mf_objects.proofs.Belonging.{belongs_at}
 use Rattle.mf_objects.proofs.Naming.{path_push}
 
 differs : (a b : ℕ) → a < b → nat_eq b a ≡ false
 differs a b less = grind (arith, nat_tests)
 
--- links of other ids
-abbrev pub NoneOf : Id → List Link → Type 0
-NoneOf id links = All (λ (l : Link). nat_eq l.id.0 id.0 ≡ false) links
+-- entities of other ids
+abbrev pub NoneOf : Id → List LiveEntity → Type 0
+NoneOf id front = All (λ (l : LiveEntity). nat_eq l.id.0 id.0 ≡ false) front
 
 -- entities that are younger change no path
-skip : (links more : List Link) (id : Id) → NoneOf id more → path_in (reverse (links ++ more)) id ≡ path_in (reverse links) id
-skip links [] id none = ap (λ (ls : List Link). path_in (reverse ls) id) (append-nil links)
-skip links (l ∷ more) id none =
-    let P : Link → Type 0 = λ x. nat_eq x.id.0 id.0 ≡ false in
+skip : (front more : List LiveEntity) (id : Id) → NoneOf id more → path_in (reverse (front ++ more)) id ≡ path_in (reverse front) id
+skip front [] id none = ap (λ (ls : List LiveEntity). path_in (reverse ls) id) (append-nil front)
+skip front (l ∷ more) id none =
+    let P : LiveEntity → Type 0 = λ x. nat_eq x.id.0 id.0 ≡ false in
     let here : nat_eq l.id.0 id.0 ≡ false = All-head P l more none in
-    ap (λ (ls : List Link). path_in (reverse ls) id) (sym (append_assoc links (l ∷ []) more))
-    ∙ skip (links ++ l ∷ []) more id (All-tail P l more none)
-    ∙ path_push links l id
-    ∙ ap (λ (b : Bool). cond b (below (path_in (reverse links)) l.parent l.name) (path_in (reverse links) id)) here
+    ap (λ (ls : List LiveEntity). path_in (reverse ls) id) (sym (append_assoc front (l ∷ []) more))
+    ∙ skip (front ++ l ∷ []) more id (All-tail P l more none)
+    ∙ path_push front l id
+    ∙ ap (λ (b : Bool). cond b (below (path_in (reverse front)) (parent_of l.what) l.name) (path_in (reverse front) id)) here
 
-younger : (id : Id) (least next : ℕ) (es : List LiveEntity) → id.0 < least → IsRising least next es → NoneOf id (map link es)
-younger id least next [] less rising = All-nil (λ (l : Link). nat_eq l.id.0 id.0 ≡ false)
+younger : (id : Id) (least next : ℕ) (es : List LiveEntity) → id.0 < least → IsRising least next es → NoneOf id es
+younger id least next [] less rising = All-nil (λ (l : LiveEntity). nat_eq l.id.0 id.0 ≡ false)
 younger id least next (e ∷ es) less rising =
-    All-cons (λ (l : Link). nat_eq l.id.0 id.0 ≡ false) (link e) (map link es) (differs id.0 e.id.0 (omega (arith, rising.0)))
+    All-cons (λ (l : LiveEntity). nat_eq l.id.0 id.0 ≡ false) e es (differs id.0 e.id.0 (omega (arith, rising.0)))
     (younger id (e.id.0 + 1) next es (omega (arith, rising.0)) rising.1)
 
--- the path of the entity that stands between some links and younger entities
-at_entity : (links : List Link) (e : LiveEntity) (es : List LiveEntity) (id : Id) (next : ℕ) → IsRising (e.id.0 + 1) next es → nat_eq e.id.0 id.0 ≡ true → id.0 < e.id.0 + 1
-    → path_in (reverse (links ++ link e ∷ map link es)) id ≡ below (path_in (reverse links)) (parent_of e.what) e.name
-at_entity links e es id next rising this older =
-    ap (λ (ls : List Link). path_in (reverse ls) id) (sym (append_assoc links (link e ∷ []) (map link es)))
-    ∙ skip (links ++ link e ∷ []) (map link es) id (younger id (e.id.0 + 1) next es older rising)
-    ∙ path_push links (link e) id
-    ∙ ap (λ (b : Bool). cond b (below (path_in (reverse links)) (parent_of e.what) e.name) (path_in (reverse links) id)) this
+-- the path of the entity that stands between some entities and younger ones
+at_entity : (front : List LiveEntity) (e : LiveEntity) (es : List LiveEntity) (id : Id) (next : ℕ) → IsRising (e.id.0 + 1) next es → nat_eq e.id.0 id.0 ≡ true → id.0 < e.id.0 + 1
+    → path_in (reverse (front ++ e ∷ es)) id ≡ below (path_in (reverse front)) (parent_of e.what) e.name
+at_entity front e es id next rising this older =
+    ap (λ (ls : List LiveEntity). path_in (reverse ls) id) (sym (append_assoc front (e ∷ []) es))
+    ∙ skip (front ++ e ∷ []) es id (younger id (e.id.0 + 1) next es older rising)
+    ∙ path_push front e id
+    ∙ ap (λ (b : Bool). cond b (below (path_in (reverse front)) (parent_of e.what) e.name) (path_in (reverse front) id)) this
 
-in_directory : (links : List Link) (least next : ℕ) (es : List LiveEntity) (id dir : Id) (e : LiveEntity) → IsRising least next es → find (has_id id) es ≡ Some e → parent_of e.what ≡ Some dir → dir.0 < e.id.0
-    → path_in (reverse (links ++ map link es)) id ≡ path_in (reverse (links ++ map link es)) dir ++ codes "/" ++ e.name
-in_directory links least next [] id dir e rising is parent older = cc
-in_directory links least next (x ∷ es) id dir e rising is parent older =
-    one (has_id id x) refl (in_directory (links ++ link x ∷ []) (x.id.0 + 1) next es id dir e rising.1) is
+in_directory : (front : List LiveEntity) (least next : ℕ) (es : List LiveEntity) (id dir : Id) (e : LiveEntity) → IsRising least next es → find (has_id id) es ≡ Some e → parent_of e.what ≡ Some dir → dir.0 < e.id.0
+    → path_in (reverse (front ++ es)) id ≡ path_in (reverse (front ++ es)) dir ++ codes "/" ++ e.name
+in_directory front least next [] id dir e rising is parent older = cc
+in_directory front least next (x ∷ es) id dir e rising is parent older =
+    one (has_id id x) refl (in_directory (front ++ x ∷ []) (x.id.0 + 1) next es id dir e rising.1) is
   where
     inside_some : (a b : LiveEntity) → Some a ≡ Some b → a ≡ b
     inside_some a b e = cc
@@ -61,23 +61,23 @@ in_directory links least next (x ∷ es) id dir e rising is parent older =
 
     one : (b : Bool) → has_id id x ≡ b
         → (find (has_id id) es ≡ Some e → parent_of e.what ≡ Some dir → dir.0 < e.id.0
-        → path_in (reverse ((links ++ link x ∷ []) ++ map link es)) id ≡ path_in (reverse ((links ++ link x ∷ []) ++ map link es)) dir ++ codes "/" ++ e.name)
+        → path_in (reverse ((front ++ x ∷ []) ++ es)) id ≡ path_in (reverse ((front ++ x ∷ []) ++ es)) dir ++ codes "/" ++ e.name)
         → cond b (Some x) (find (has_id id) es) ≡ Some e
-        → path_in (reverse (links ++ link x ∷ map link es)) id ≡ path_in (reverse (links ++ link x ∷ map link es)) dir ++ codes "/" ++ e.name
+        → path_in (reverse (front ++ x ∷ es)) id ≡ path_in (reverse (front ++ x ∷ es)) dir ++ codes "/" ++ e.name
     one true this later is =
         let same : x ≡ e = inside_some x e is in
         let up : parent_of x.what ≡ Some dir = ap (λ (l : LiveEntity). parent_of l.what) same ∙ parent in
         let before : dir.0 < x.id.0 = subst (λ (l : LiveEntity). dir.0 < l.id.0) (sym same) older in
-        let above : path_in (reverse (links ++ link x ∷ map link es)) dir ≡ path_in (reverse links) dir =
-        skip links (link x ∷ map link es) dir (All-cons (λ (l : Link). nat_eq l.id.0 dir.0 ≡ false) (link x) (map link es) (differs dir.0 x.id.0 before)
+        let above : path_in (reverse (front ++ x ∷ es)) dir ≡ path_in (reverse front) dir =
+        skip front (x ∷ es) dir (All-cons (λ (l : LiveEntity). nat_eq l.id.0 dir.0 ≡ false) x es (differs dir.0 x.id.0 before)
         (younger dir (x.id.0 + 1) next es (omega (arith, before)) rising.1)) in
-        at_entity links x es id next rising.1 this (omega (arith, same_number this))
-        ∙ ap (λ (o : Option Id). below (path_in (reverse links)) o x.name) up
+        at_entity front x es id next rising.1 this (omega (arith, same_number this))
+        ∙ ap (λ (o : Option Id). below (path_in (reverse front)) o x.name) up
         ∙ ap (λ (p : List ℕ). p ++ codes "/" ++ x.name) (sym above)
-        ∙ ap (λ (l : LiveEntity). path_in (reverse (links ++ link x ∷ map link es)) dir ++ codes "/" ++ l.name) same
+        ∙ ap (λ (l : LiveEntity). path_in (reverse (front ++ x ∷ es)) dir ++ codes "/" ++ l.name) same
     one false miss later is =
-        let joined : (links ++ link x ∷ []) ++ map link es ≡ links ++ link x ∷ map link es = append_assoc links (link x ∷ []) (map link es) in
-        subst (λ (ls : List Link). path_in (reverse ls) id ≡ path_in (reverse ls) dir ++ codes "/" ++ e.name) joined (later is parent older)
+        let joined : (front ++ x ∷ []) ++ es ≡ front ++ x ∷ es = append_assoc front (x ∷ []) es in
+        subst (λ (ls : List LiveEntity). path_in (reverse ls) id ≡ path_in (reverse ls) dir ++ codes "/" ++ e.name) joined (later is parent older)
 
 parent_older : (live : List LiveEntity) (n : ℕ) (w : EntityData) (dir : Id) → Belongs live n w → parent_of w ≡ Some dir → dir.0 < n
 parent_older live n (Process cred) dir belongs parent = cc
@@ -110,7 +110,7 @@ pub path_of_root : (objects : Entities) (id : Id) → IsPopulation objects → i
 path_of_root objects id population first = by_live objects.live population.rooted population.rising (λ e. belongs_at objects id e population)
   where
     by_live : (live : List LiveEntity) → HasRoot live → IsRising 0 objects.next live
-        → ((e : LiveEntity) → find (has_id id) live ≡ Some e → Belongs objects.live e.id.0 e.what) → path_in (reverse (map link live)) id ≡ []
+        → ((e : LiveEntity) → find (has_id id) live ≡ Some e → Belongs objects.live e.id.0 e.what) → path_in (reverse live) id ≡ []
     by_live [] root rising belongs = absurd root
     by_live (r ∷ es) root rising belongs =
         let this : nat_eq r.id.0 id.0 ≡ true = grind (arith, nat_tests, root.0, first) in

@@ -5,7 +5,7 @@ use Rattle.mf_cred.specs.declared.cred.FileView.{FileView}
 use Rattle.mf_objects.specs.declared.limits.TheConstants.{ROOT_MODE}
 use Rattle.mf_objects.specs.declared.id.Id.{Id}
 use Rattle.mf_objects.specs.declared.entity.EntityData.{EntityData}
-use Rattle.mf_objects.specs.declared.entity.EntityData.TheVariants.{Process, Vnode, Pipe, Socket}
+use Rattle.mf_objects.specs.declared.entity.EntityData.TheVariants.{Vnode, Pipe, Socket}
 use Rattle.mf_objects.specs.Live.{LiveEntity, Entities, has_id, is_made_by}
 
 -- the entity that a call makes: it gets the next id
@@ -37,10 +37,9 @@ with_what change e = record e { what = change e.what }
 
 -- bytes are appended to a file or a pipe
 abbrev pub appended : List ℕ → EntityData → EntityData
-appended text (Process cred) = Process cred
 appended text (Vnode vnode) = Vnode (record vnode { content = vnode.content ++ text })
 appended text (Pipe pipe) = Pipe (record pipe { bytes = pipe.bytes ++ text })
-appended text (Socket socket) = Socket socket
+appended text other = other
 
 -- a message is appended to those of a socket
 abbrev pub with_message : List ℕ → List (List ℕ) → List (List ℕ)
@@ -48,22 +47,16 @@ with_message message messages = messages ++ message ∷ []
 
 -- a pipe is emptied
 abbrev pub cleared : EntityData → EntityData
-cleared (Process cred) = Process cred
-cleared (Vnode vnode) = Vnode vnode
 cleared (Pipe pipe) = Pipe (record pipe { bytes = [] })
-cleared (Socket socket) = Socket socket
+cleared other = other
 
 abbrev pub with_messages : (List (List ℕ) → List (List ℕ)) → EntityData → EntityData
-with_messages change (Process cred) = Process cred
-with_messages change (Vnode vnode) = Vnode vnode
-with_messages change (Pipe pipe) = Pipe pipe
 with_messages change (Socket socket) = Socket (record socket { messages = change socket.messages })
+with_messages change other = other
 
 abbrev pub with_mode : ℕ → EntityData → EntityData
-with_mode mode (Process cred) = Process cred
 with_mode mode (Vnode vnode) = Vnode (record vnode { file = record vnode.file { mode = mode } })
-with_mode mode (Pipe pipe) = Pipe pipe
-with_mode mode (Socket socket) = Socket socket
+with_mode mode other = other
 
 -- What is made
 

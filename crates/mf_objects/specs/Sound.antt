@@ -6,7 +6,6 @@ use Rattle.mf_slots.specs.Zones.{Contents, Handles, handle, under, label_values,
 use Rattle.mf_objects.specs.declared.limits.TheConstants.{MOST_ENTITIES}
 use Rattle.mf_objects.specs.declared.entity.Entity.{Entity}
 use Rattle.mf_objects.specs.declared.id.Id.{Id}
-use Rattle.mf_objects.specs.Titles.{Link, parent_of}
 use Rattle.mf_objects.specs.Live.{LiveEntity, Entities, has_id, live_at}
 use Rattle.mf_objects.specs.Population.{IsPopulation}
 
@@ -62,6 +61,6 @@ pub record IsPlace (objects : Entities) (id : Id) (place : ℕ) : Type 0 where
 abbrev pub shown : List LabelValue → Entity → LiveEntity
 shown label e = record { id = e.id; name = e.name; label = label; what = e.what }
 
--- what the path of an entity is made of
-abbrev pub link : Entity → Link
-link e = record { id = e.id; parent = parent_of e.what; name = e.name }
+-- an entity without its label, which no path depends on
+abbrev pub unlabelled : Entity → LiveEntity
+unlabelled e = shown [] e

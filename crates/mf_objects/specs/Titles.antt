@@ -33,18 +33,9 @@ first_names most names = take most (in_byte_order names)
 unfoldable pub names_at : Entities → Id → List (List ℕ)
 names_at objects dir = first_names MOST_NAMES (entry_names dir objects.live)
 
--- what the path of an entity is made of: its id, the directory that holds it, and its name
-pub record Link : Type 0 where
-  pub id : Id
-  pub parent : Option Id
-  pub name : List ℕ
-
 abbrev pub parent_of : EntityData → Option Id
 parent_of (Vnode vnode) = vnode.parent
 parent_of other = None
-
-abbrev pub link : LiveEntity → Link
-link e = record { id = e.id; parent = parent_of e.what; name = e.name }
 
 -- the path of its directory, a slash and its name, or nothing for the root
 abbrev pub below : (Id → List ℕ) → Option Id → List ℕ → List ℕ
@@ -52,9 +43,9 @@ below path None name = []
 below path (Some dir) name = path dir ++ codes "/" ++ name
 
 -- The path of an id, where the newest entity comes first: a directory is older than what it holds.
-unfoldable pub path_in : List Link → Id → List ℕ
+unfoldable pub path_in : List LiveEntity → Id → List ℕ
 path_in [] id = []
-path_in (e ∷ older) id = if nat_eq e.id.0 id.0 then below (path_in older) e.parent e.name else path_in older id
+path_in (e ∷ older) id = if nat_eq e.id.0 id.0 then below (path_in older) (parent_of e.what) e.name else path_in older id
 
 -- the path of the root is a slash
 abbrev pub rooted_path : List ℕ → List ℕ
@@ -62,22 +53,14 @@ rooted_path [] = codes "/"
 rooted_path (byte ∷ bytes) = byte ∷ bytes
 
 abbrev pub path_at : Entities → Id → List ℕ
-path_at objects id = path_in (reverse (map link objects.live)) id
+path_at objects id = path_in (reverse objects.live) id
 
--- what titles begin with: the kind
-abbrev pub prefix_of : EntityData → List ℕ
-prefix_of (Process cred) = codes "proc:"
-prefix_of (Vnode vnode) = codes "vnode:"
-prefix_of (Pipe pipe) = codes "pipe:"
-prefix_of (Socket socket) = codes "socket:"
-
--- what follows: the name, or the path of a vnode
-abbrev pub own_name : List ℕ → List ℕ → EntityData → List ℕ
-own_name path name (Vnode vnode) = rooted_path path
-own_name path name other = name
-
+-- its kind, and its name or the path of a vnode
 abbrev pub title_of : List ℕ → List ℕ → EntityData → List ℕ
-title_of path name w = prefix_of w ++ own_name path name w
+title_of path name (Process cred) = codes "proc:" ++ name
+title_of path name (Vnode vnode) = codes "vnode:" ++ rooted_path path
+title_of path name (Pipe pipe) = codes "pipe:" ++ name
+title_of path name (Socket socket) = codes "socket:" ++ name
 
 abbrev pub title_in : List ℕ → Option LiveEntity → List ℕ
 title_in path None = []

@@ -3,8 +3,8 @@ ghost use Rattle.std.specs.Prelude.{◌≡◌, ◌++◌, IfOk, OnOk, OnErr, IsSo
 ghost use Rattle.mf_objects.specs.Live as live;
 ghost use Rattle.mf_objects.specs.Lives.{is_directory, IsLive};
 ghost use Rattle.mf_objects.specs.Titles as title;
-ghost use Rattle.mf_objects.specs.Names.{IsFirstNames, IsAppended};
-ghost use Rattle.mf_objects.specs.Sound.{link};
+ghost use Rattle.mf_objects.specs.Names.{IsFirstNames, IsAppended, prefix_of, own_name};
+ghost use Rattle.mf_objects.specs.Sound.{unlabelled};
 
 use super::Objects;
 use crate::entity::{Entity, EntityData};
@@ -76,7 +76,7 @@ fn listed(alloc: Global, names: &[&str]) -> Result<NameList, AllocError>
 
 /// What the titles of its kind begin with.
 fn prefix(what: &EntityData) -> &'static str
-    ensures { result.now ≡ title.prefix_of what.now }
+    ensures { result.now ≡ prefix_of what.now }
 {
     match what {
         EntityData::Process(_) => "proc:",
@@ -94,7 +94,7 @@ fn push_own_name(
     out: &mut String,
 ) -> Result<(), AllocError>
     ensures ok { OnOk result (string_bytes out.new
-        ≡ string_bytes out.old ++ title.own_name (title.path_in (reverse (map link entities.now)) id) entity.now.name entity.now.what) }
+        ≡ string_bytes out.old ++ own_name (title.path_in (reverse (map unlabelled entities.now)) id) entity.now.name entity.now.what) }
     ensures err { OnErr result (IsAppended (string_bytes out.old) (string_bytes out.new)) }
 {
     match entity.what {
@@ -107,7 +107,7 @@ fn push_own_name(
 
 /// Appends the path of an id, a slash for the root.
 fn push_rooted_path(entities: &[Entity], id: Id, out: &mut String) -> Result<(), AllocError>
-    ensures ok { OnOk result (string_bytes out.new ≡ string_bytes out.old ++ title.rooted_path (title.path_in (reverse (map link entities.now)) id)) }
+    ensures ok { OnOk result (string_bytes out.new ≡ string_bytes out.old ++ title.rooted_path (title.path_in (reverse (map unlabelled entities.now)) id)) }
     ensures err { OnErr result (IsAppended (string_bytes out.old) (string_bytes out.new)) }
 {
     let start = out.len();
@@ -120,7 +120,7 @@ fn push_rooted_path(entities: &[Entity], id: Id, out: &mut String) -> Result<(),
 
 /// Appends the path of an id, walking from the newest entity to its directory.
 fn push_path(entities: &[Entity], id: Id, out: &mut String) -> Result<(), AllocError>
-    ensures ok { OnOk result (string_bytes out.new ≡ string_bytes out.old ++ title.path_in (reverse (map link entities.now)) id) }
+    ensures ok { OnOk result (string_bytes out.new ≡ string_bytes out.old ++ title.path_in (reverse (map unlabelled entities.now)) id) }
     ensures err { OnErr result (IsAppended (string_bytes out.old) (string_bytes out.new)) }
 {
     match entities.split_last() {
