@@ -1,6 +1,13 @@
 //! Calls of t and its child c where mac_biba is listed: what they make, and what the policy refuses. There is nothing but the
 //! root, which is high, the process t and the process u.
+ghost use Rattle.std.specs.Prelude.{◌≡◌, ◌<◌, ◌≤◌, length, false};
+ghost use Rattle.mf_objects.specs.declared.limits.TheConstants.{ID_LIMIT};
+ghost use Rattle.mf_policy.specs.declared.registration.TheConstants.{MOST_LISTED};
+ghost use Rattle.mf_calls.specs.Tasks.{is_change};
 ghost use Rattle.mf_calls.specs.WellFormed.{IsFormedLine, IsName};
+ghost use Rattle.mf_plan.specs.declared.plan.Tail.TheVariants.{Do};
+ghost use Rattle.mf_plan.specs.Found.{found_of};
+ghost use Rattle.mf_plan.specs.Plan.{plan_of};
 
 use crate::scripts::{only_line, script_of};
 use mf_biba::Biba;
@@ -11,10 +18,10 @@ use mf_errno::Module;
 use mf_item::Kind;
 use mf_list::{Catalogue, PolicyList};
 use mf_objects::Objects;
-use mf_plan::{Plan, Reply, State};
+use mf_plan::{Found, Plan, Reply, State, Tail};
 use mf_policy::{Origin, Registration, Spec, SpecList, new_label};
 use mf_slots::SlotNumbers;
-use mf_step::{step, verdict_of};
+use mf_step::{payload_of, perform, refusal_of, verdict_of};
 use std::alloc::{AllocError, Global};
 use std::process::Abort;
 
@@ -94,7 +101,28 @@ fn booted(rt: &impl Abort, alloc: Global, t: Elem, u: Elem) -> Result<Machine, A
     })
 }
 
-/// Does the call of the line, where the policies are those of the state.
+/// Does the call of a line that nothing refuses.
+fn completed(
+    alloc: Global,
+    state: &mut State,
+    task: &str,
+    line: &Line,
+    found: Found,
+) -> Result<Reply, AllocError>
+    requires task { IsName task.now }
+    requires line { IsFormedLine line.now }
+    requires entry { is_change line.now.call ≡ false }
+    requires proceeds { (plan_of state.old task.now line.now.child line.now.call).tail ≡ Do }
+    requires found { found ≡ found_of state.old task.now line.now.child line.now.call }
+    requires few { length state.old.specs ≤ MOST_LISTED }
+    requires next { state.old.objects.next < ID_LIMIT }
+{
+    let payload = payload_of(alloc, state, found, &line.call)?;
+    perform(alloc, state, task, line, found)?;
+    Ok(Reply::Ok(payload))
+}
+
+/// Does the call of the line, which is no change, where the policies are those of the state.
 fn reply_of(
     rt: &impl Abort,
     alloc: Global,
@@ -111,15 +139,13 @@ fn reply_of(
     let mut plan = Plan::new();
     let found = plan.make(&machine.state, task, line.child_name(), &line.call);
     let verdict = verdict_of(list, &plan);
-    step(
-        alloc,
-        &mut machine.state,
-        task,
-        line,
-        found,
-        &plan,
-        &verdict,
-    )
+    match refusal_of(&plan, &verdict) {
+        Some(refusal) => Ok(refusal),
+        None => {
+            assert!(rt; plan.tail() == Tail::Do && !line.call.is_change());
+            completed(alloc, &mut machine.state, task, line, found)
+        }
+    }
 }
 
 fn reply_text(alloc: Global, reply: &Reply) -> Result<String, AllocError> {

@@ -84,7 +84,14 @@ module _ (s : Script) (r : RunState) (t : ℕ) (line : Line) (next : next_line s
         done_do plan (verdict_of r.state.specs plan) (step_payload r.state (name_of s t) line.child line.call) reply
         (same_reply (next_reply s r t) (reply_to plan (verdict_of r.state.specs plan) (step_payload r.state (name_of s t) line.child line.call)) reply (reply_by (verdict_of r.state.specs plan) refl) replies) done
 
--- the call of an entry leaves the list of policies as it is
+-- the call of an entry is no change
+pub entry_call : (s : Script) (h : History) (r : RunState) (t : ℕ) (line : Line) → IsConsistent s h r → turn_of s r.progress t ≡ turns.Entered
+    → next_line s r.progress t ≡ Some line → is_change line.call ≡ false
+entry_call s h r t line consistent turn next =
+    let found = entered_line s h r consistent t turn in
+    ap (λ (l : Line). is_change l.call) (same_line (next_line s r.progress t) line found.0 next found.1) ∙ found.2
+
+-- it leaves the list of policies as it is
 pub entry_specs : (s : Script) (h : History) (r : RunState) (t : ℕ) → IsConsistent s h r → turn_of s r.progress t ≡ turns.Entered → (next_state s r t).specs ≡ r.state.specs
 entry_specs s h r t consistent turn =
     let line = entered_line s h r consistent t turn in

@@ -3,7 +3,7 @@ ghost use Rattle.std.specs.Prelude.{◌≡◌, ◌<◌, ◌≤◌, ◌+◌, ◌�
 ghost use Rattle.mf_objects.specs.declared.limits.TheConstants.{ID_LIMIT};
 ghost use Rattle.mf_list.specs.Once.{IsListedOnce};
 ghost use Rattle.mf_calls.specs.declared.limits.TheConstants.{LINE_LIMIT};
-ghost use Rattle.mf_calls.specs.Tasks.{lines_of};
+ghost use Rattle.mf_calls.specs.Tasks.{is_change, lines_of};
 ghost use Rattle.mf_calls.specs.WellFormed.{IsFormedLine, IsName, IsWellFormed};
 ghost use Rattle.mf_plan.specs.declared.plan.Tail.TheVariants.{Do};
 ghost use Rattle.mf_plan.specs.Found.{found_of};
@@ -22,12 +22,11 @@ ghost use Rattle.mf_core.specs.Progress.{open_entries, progress_at};
 
 mod changing;
 
-use crate::history::Event;
 use crate::kept_reply::KeptReply;
 use crate::opening::opening_objects;
 use crate::progress::{Phase, ProgressList, Turn};
 use mf_calls::{Line, Script};
-use mf_plan::{Found, Plan, Reply, State, found_of};
+use mf_plan::{Found, Plan, Reply, State};
 use mf_policy::SpecList;
 use mf_slots::SlotNumbers;
 use mf_step::{Verdict, load, payload_of, perform, refusal_of};
@@ -123,17 +122,6 @@ impl<'s> Run<'s> {
         plan.is_of(&self.state, name, line.child_name(), &line.call)
     }
 
-    /// What the call of the task's next line is about.
-    pub(crate) fn found(&self, task: u32) -> Found
-        requires task { task < length self.now.script.tasks }
-        requires line { IsSome (next_line self.now.script self.now.run.progress task) }
-        ensures { next_found self.now.script self.now.run task ≡ Some result }
-    {
-        let line = self.line(task);
-        let name = self.script.name_of(task);
-        found_of(&self.state, name, line.child_name(), &line.call)
-    }
-
     /// The reply to the call of the task's next line. The plan, what was found as it was made, and the verdict of the state's
     /// policies on it must be those of the call.
     pub fn reply(
@@ -159,31 +147,8 @@ impl<'s> Run<'s> {
         KeptReply::new(alloc, Reply::Ok(payload))
     }
 
-    /// Goes on by an event that may come next. If memory runs out, nothing changes.
-    pub fn next(&mut self, alloc: Global, event: &Event) -> Result<(), AllocError>
-        requires { MayCome self.old.script self.old.run event.now }
-        ensures ok { OnOk result (self.new ≡ record self.old { run = after self.old.script self.old.run event.now }) }
-        ensures err { OnErr result (self.new ≡ self.old) }
-    {
-        match event {
-            Event::Enter(task) => {
-                self.enter(*task);
-                Ok(())
-            }
-            Event::Done(task, number, reply) => {
-                let found = self.found(*task);
-                self.commit(alloc, *task, *number, found, reply)
-            }
-            Event::Leave(task) => {
-                self.leave(*task);
-                Ok(())
-            }
-            Event::Changed(task, number, reply) => self.change(alloc, *task, *number, reply),
-        }
-    }
-
     /// The task begins an entry.
-    pub(crate) fn enter(&mut self, task: u32)
+    pub fn enter(&mut self, task: u32)
         requires { turn_of self.old.script self.old.run.progress task ≡ turn.Entry }
         ensures { self.new ≡ record self.old { run = after self.old.script self.old.run (event.Enter task) } }
     {
@@ -191,7 +156,7 @@ impl<'s> Run<'s> {
     }
 
     /// The task ends its entry.
-    pub(crate) fn leave(&mut self, task: u32)
+    pub fn leave(&mut self, task: u32)
         requires { (turn_of self.old.script self.old.run.progress task ≡ turn.Done) ⊎ (turn_of self.old.script self.old.run.progress task ≡ turn.Entered) }
         ensures { self.new ≡ record self.old { run = after self.old.script self.old.run (event.Leave task) } }
     {
@@ -272,6 +237,7 @@ fn redo(
 ) -> Result<(), AllocError>
     requires task { IsName task.now }
     requires line { IsFormedLine line.now }
+    requires entry { is_change line.now.call ≡ false }
     requires reply { reply.now ≡ step_reply state.old task.now line.now.child line.now.call }
     requires found { is_done reply.now ≡ true → found ≡ found_of state.old task.now line.now.child line.now.call }
     requires next { state.old.objects.next < ID_LIMIT }

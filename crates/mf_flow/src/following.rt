@@ -71,7 +71,15 @@ pub fn follow(
             create_in_both(alloc, next, objects, outline.found.caller, flows)?;
             give_in_both(alloc, objects, &asked, flows)
         }
-        Event::Enter(_) | Event::Leave(_) | Event::Changed(..) => run.next(alloc, event),
+        Event::Enter(task) => {
+            run.enter(*task);
+            Ok(())
+        }
+        Event::Leave(task) => {
+            run.leave(*task);
+            Ok(())
+        }
+        Event::Changed(task, number, reply) => run.change(alloc, *task, *number, reply),
     }
 }
 

@@ -18,7 +18,7 @@ mod state;
 mod target;
 mod views;
 
-pub use found::{Found, found_of};
+pub use found::Found;
 pub use last_label::LastLabel;
 pub use lookup::{Lookup, lookup_along, target_of};
 pub use names::{ChildName, caller_of, child_name};

@@ -4,7 +4,6 @@ pub mod Rooted
 pub mod RelabelChange
 pub mod StateChange
 pub mod EntityChange
-pub mod Relisting
 pub mod Replies
 mod Targets
 mod Effects

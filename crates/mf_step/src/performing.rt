@@ -1,4 +1,4 @@
-//! What a call changes.
+//! What the call of an entry changes: entities alone.
 ghost use Rattle.std.specs.Prelude.{◌≡◌, ◌+◌, ◌<◌, ◌≤◌, Some, IfSome, IsOk, OnOk, OnErr, false};
 ghost use Rattle.mf_objects.specs.declared.limits.TheConstants.{ID_LIMIT};
 ghost use Rattle.mf_objects.specs.Live.{is_process};
@@ -8,6 +8,7 @@ ghost use Rattle.mf_plan.specs.Found.{found_of, target_of};
 ghost use Rattle.mf_plan.specs.Plan.{plan_of};
 ghost use Rattle.mf_plan.specs.Relabels.{request_asked};
 ghost use Rattle.mf_plan.specs.declared.plan.Tail.TheVariants.{Do};
+ghost use Rattle.mf_calls.specs.Tasks.{is_change};
 ghost use Rattle.mf_calls.specs.WellFormed.{IsFormedCall, IsFormedLine, IsName};
 ghost use Rattle.mf_step.specs.Effect.{effect_of};
 ghost use Rattle.mf_step.specs.Memory.{change_takes_memory};
@@ -17,9 +18,7 @@ ghost use Rattle.mf_step.specs.Suits.{Suits};
 use crate::channels::{append, deliver, pipe, pread, recv, socket};
 use crate::files::{chmod, make_file, unlink};
 use crate::labels::relabel;
-use crate::modules::{kldload, kldunload};
 use crate::processes::{exit, fork};
-use crate::settings::change_setting;
 use mf_calls::{Call, DIRECTORY_MODE, FILE_MODE, Line};
 use mf_elem::Request;
 use mf_objects::Id;
@@ -27,7 +26,8 @@ use mf_plan::{Found, State};
 use std::alloc::{AllocError, Global};
 
 /// Does the call of a line of the task, which is about what was found. Its plan must end without a refusal, and no check of it
-/// be denied. If memory runs out, the state is unchanged.
+/// be denied; and it mustn't be a change of the policies, which is made by `listed_after` and `put_listed`. If memory runs out, the
+/// state is unchanged.
 pub fn perform(
     alloc: Global,
     state: &mut State,
@@ -37,6 +37,7 @@ pub fn perform(
 ) -> Result<(), AllocError>
     requires task { IsName task.now }
     requires line { IsFormedLine line.now }
+    requires entry { is_change line.now.call ≡ false }
     requires proceeds { (plan_of state.old task.now line.now.child line.now.call).tail ≡ Do }
     requires found { found ≡ found_of state.old task.now line.now.child line.now.call }
     requires next { state.old.objects.next < ID_LIMIT }
@@ -77,6 +78,7 @@ fn perform_by(
 ) -> Result<(), AllocError>
     requires task { IsName task.now }
     requires formed { IsFormedCall call.now }
+    requires entry { is_change call.now ≡ false }
     requires caller { IsLive is_process state.old.objects caller }
     requires can { CanDo state.old task.now call.now }
     requires target { target ≡ target_of state.old.objects (Some caller) call.now }
@@ -104,11 +106,6 @@ fn perform_by(
         Call::Pwrite(_, text) => append(state, target, text.as_slice())?,
         Call::Send(_, _, text) => deliver(alloc, state, target, text.as_slice())?,
         Call::Recv(_) => recv(state, target),
-        Call::Kldload(name) => kldload(alloc, state, name.as_str())?,
-        Call::Kldunload(name) => kldunload(state, name.as_str()),
-        Call::Sysctl(..) | Call::UgidfwAdd(_) | Call::UgidfwSet(..) | Call::UgidfwRemove(_) => {
-            change_setting(alloc, state, call)?
-        }
         Call::See(_)
         | Call::Signal(_)
         | Call::Debug(_)
@@ -124,6 +121,12 @@ fn perform_by(
         | Call::Seesock(_)
         | Call::Kldstat
         | Call::UgidfwList => {}
+        Call::Kldload(_)
+        | Call::Kldunload(_)
+        | Call::Sysctl(..)
+        | Call::UgidfwAdd(_)
+        | Call::UgidfwSet(..)
+        | Call::UgidfwRemove(_) => unreachable!(),
     }
     Ok(())
 }

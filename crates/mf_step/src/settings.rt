@@ -1,5 +1,5 @@
 //! What the calls that change a setting change.
-ghost use Rattle.std.specs.Prelude.{◌≡◌, IfOk, OnOk, OnErr};
+ghost use Rattle.std.specs.Prelude.{◌≡◌, IfOk};
 ghost use Rattle.mf_calls.specs.WellFormed.{IsFormedCall};
 ghost use Rattle.mf_plan.specs.Settings as settings;
 ghost use Rattle.mf_step.specs.Effect as spec;
@@ -8,22 +8,6 @@ use mf_calls::Call;
 use mf_plan::{State, setting};
 use mf_policy::SpecList;
 use std::alloc::{AllocError, Global};
-
-/// Makes the change that the call asks of a listed module's policy. If memory runs out, the state is unchanged.
-pub(crate) fn change_setting(
-    alloc: Global,
-    state: &mut State,
-    call: &Call,
-) -> Result<(), AllocError>
-    requires { IsFormedCall call.now }
-    ensures ok { OnOk result (state.new ≡ spec.with_setting state.old (settings.setting state.old.specs call.now)) }
-    ensures err { OnErr result (state.new ≡ state.old) }
-{
-    if let Some((module, change)) = setting(state, call) {
-        let _answer = state.specs.change(alloc, module, &change)?;
-    }
-    Ok(())
-}
 
 /// A copy of the listed specs, with the change that the call asks of a listed module's policy.
 pub(crate) fn listed_changed(

@@ -24,7 +24,7 @@ use std::alloc::{AllocError, Global};
 
 impl<'s> Run<'s> {
     /// The change of the task's line of that number is made with this reply. If memory runs out, nothing changes.
-    pub(crate) fn change(
+    pub fn change(
         &mut self,
         alloc: Global,
         task: u32,
