@@ -4,7 +4,7 @@ use Rattle.std.specs.Option.{option_map_or, option_or}
 use Rattle.std.specs.Prelude.{is_some, is_none}
 use Rattle.std.proofs.lemmas.Bool.{and_parts}
 use Rattle.mf_errno.specs.declared.module.Module.{Module}
-use Rattle.mf_errno.specs.declared.module.Module.TheVariants.{Biba, Mls, Partition, Bsdextended, Priority}
+use Rattle.mf_errno.specs.declared.module.Module.TheVariants.{Biba, Mls}
 use Rattle.mf_elem.specs.declared.elem.Elem.{Elem}
 use Rattle.mf_elem.specs.declared.label.TheConstants.{SLOTS}
 use Rattle.mf_elem.specs.declared.label.LabelValue.{LabelValue}
@@ -57,9 +57,7 @@ inherits Mls kinds.Pipe (Number n) lasting = refl
 inherits Mls kinds.Socket Unset lasting = refl
 inherits Mls kinds.Socket (Range label) lasting = refl
 inherits Mls kinds.Socket (Number n) lasting = refl
-inherits Partition kind value lasting = absurd lasting
-inherits Bsdextended kind value lasting = absurd lasting
-inherits Priority kind value lasting = absurd lasting
+inherits other kind value lasting = absurd lasting
 
 -- a new entity has its maker's element
 pub created_element : (r : Registration) (specs : List Entry) (given : ℕ) (kind : Kind) (maker : List LabelValue) → slot_of r < SLOTS → IsPinned (slot_of r) r specs given
@@ -96,9 +94,7 @@ valid_some Biba kind (Number n) lasting valid = cc
 valid_some Mls kind Unset lasting valid = cc
 valid_some Mls kind (Range label) lasting valid = suits_some kind label valid
 valid_some Mls kind (Number n) lasting valid = cc
-valid_some Partition kind value lasting valid = absurd lasting
-valid_some Bsdextended kind value lasting valid = absurd lasting
-valid_some Priority kind value lasting valid = absurd lasting
+valid_some other kind value lasting valid = absurd lasting
 
 -- each live entity has an element
 pub all_labelled : (r : Registration) (s : State) → IsHeld (slot_of r) r s → (id : Id) (e : LiveEntity) → live_at s.objects id ≡ Some e → HasElement (element_in r e.label)
@@ -120,9 +116,7 @@ keeps_element : (m : Module) (request : Request) (value : LabelValue) → IsLast
     → (range_label (value_after m request value)).effective ≡ (range_label value).effective
 keeps_element Biba request value lasting none = range_keeps request.biba value none
 keeps_element Mls request value lasting none = range_keeps request.mls value none
-keeps_element Partition request value lasting none = absurd lasting
-keeps_element Bsdextended request value lasting none = absurd lasting
-keeps_element Priority request value lasting none = absurd lasting
+keeps_element other request value lasting none = absurd lasting
 
 -- a relabel that asks for no element leaves it
 pub relabelled_element : (r : Registration) (specs : List Entry) (given : ℕ) (request : Request) (label : List LabelValue) → slot_of r < SLOTS → IsPinned (slot_of r) r specs given

@@ -91,10 +91,7 @@ elements_graphic (part ∷ next ∷ parts) all =
 
 some_behind : (m : Module) (value : LabelValue) (more : List ℕ) → is_some_text (element_text (m, value) ++ more) ≡ true
 some_behind Biba value more = refl
-some_behind Mls value more = refl
-some_behind Partition value more = refl
-some_behind Bsdextended value more = refl
-some_behind Priority value more = refl
+some_behind other value more = refl
 
 some_text : (parts : List Part) → is_some_text (elements_text (map element_text parts)) ≡ true
 some_text [] = refl

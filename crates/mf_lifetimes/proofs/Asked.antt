@@ -4,7 +4,7 @@ use Rattle.std.specs.Prelude.{fold}
 use Rattle.std.specs.List.{AllByRecursion, list_all}
 use Rattle.std.proofs.lemmas.Bool.{and_parts}
 use Rattle.mf_errno.specs.declared.module.Module.{Module}
-use Rattle.mf_errno.specs.declared.module.Module.TheVariants.{Biba, Mls, Partition, Bsdextended, Priority}
+use Rattle.mf_errno.specs.declared.module.Module.TheVariants.{Biba}
 use Rattle.mf_elem.specs.declared.label.Request.{Request}
 use Rattle.mf_elem.specs.Label.{no_request}
 use Rattle.mf_item.specs.declared.view.Kind.{Kind}
@@ -37,10 +37,7 @@ booted_let s kind request asked =
 -- any policy lets a script ask nothing for a file
 nothing_asked : (m : Module) → may_ask m kinds.Vnode no_request ≡ true
 nothing_asked Biba = refl
-nothing_asked Mls = refl
-nothing_asked Partition = refl
-nothing_asked Bsdextended = refl
-nothing_asked Priority = refl
+nothing_asked other = refl
 
 pub let_nothing : (listed : List Entry) → AllLetAsk kinds.Vnode no_request listed
 let_nothing [] = tt

@@ -5,7 +5,7 @@ use Rattle.std.specs.List.{list_all}
 use Rattle.std.proofs.lemmas.Bool.{and_parts}
 use Rattle.mf_errno.specs.Names.{all_modules}
 use Rattle.mf_errno.specs.declared.module.Module.{Module}
-use Rattle.mf_errno.specs.declared.module.Module.TheVariants.{Biba, Mls, Partition, Bsdextended, Priority}
+use Rattle.mf_errno.specs.declared.module.Module.TheVariants.{Biba, Mls, Partition}
 use Rattle.mf_elem.specs.declared.label.LabelValue.{LabelValue}
 use Rattle.mf_elem.specs.declared.label.LabelValue.TheVariants.{Unset, Range, Number}
 use Rattle.mf_elem.specs.declared.label.Request.{Request}
@@ -94,8 +94,7 @@ module_marks : (m : Module) (r : Registration) (kind : Kind) (request : Request)
 module_marks Biba r kind request value marks claimed valid agree = lasting_marks Biba kind value _ marks _ (valid tt) agree
 module_marks Mls r kind request value marks claimed valid agree = lasting_marks Mls kind value _ marks _ (valid tt) agree
 module_marks Partition r kind request value marks claimed valid agree = number_marks r kind request.partition value marks claimed agree
-module_marks Bsdextended r kind request value marks claimed valid agree = unchanged_marks value marks _ agree
-module_marks Priority r kind request value marks claimed valid agree = unchanged_marks value marks _ agree
+module_marks other r kind request value marks claimed valid agree = unchanged_marks value marks _ agree
 
 -- the slot of an entity that a claimed request relabels has its mark exactly where it is set then
 pub relabelled_marks : (found : Option Entry) (listed : List Entry) (kind : Kind) (request : Request) (value : LabelValue) (marks : List Mark)

@@ -5,7 +5,7 @@ use Rattle.std.specs.Prelude.{find, unwrap_or}
 use Rattle.std.proofs.lemmas.Bool.Decides.{nat_tests}
 use Rattle.mf_errno.specs.declared.errno.Errno.TheVariants.{Success}
 use Rattle.mf_errno.specs.declared.module.Module.{Module}
-use Rattle.mf_errno.specs.declared.module.Module.TheVariants.{Biba, Mls, Partition, Bsdextended, Priority}
+use Rattle.mf_errno.specs.declared.module.Module.TheVariants.{Biba, Mls, Partition}
 use Rattle.mf_elem.specs.declared.label.LabelValue.{LabelValue}
 use Rattle.mf_elem.specs.declared.label.LabelValue.TheVariants.{Unset, Range, Number}
 use Rattle.mf_elem.specs.declared.label.Request.{Request}
@@ -79,8 +79,7 @@ module_marks : (m : Module) (r : Registration) (kind : Kind) (value : LabelValue
 module_marks Biba r kind value valid = lasting_marks Biba r kind value tt (valid tt)
 module_marks Mls r kind value valid = lasting_marks Mls r kind value tt (valid tt)
 module_marks Partition r kind value valid = partition_marks r kind value
-module_marks Bsdextended r kind value valid = refl
-module_marks Priority r kind value valid = refl
+module_marks other r kind value valid = refl
 
 -- the slot of an entity that a process makes is set exactly where it is marked
 pub created_marks : (found : Option Entry) (kind : Kind) (maker : List LabelValue) (slot : ℕ)
@@ -97,8 +96,7 @@ module_boot Partition r kinds.Process request = (r, refl)
 module_boot Partition r kinds.Vnode request = refl
 module_boot Partition r kinds.Pipe request = refl
 module_boot Partition r kinds.Socket request = (r, refl)
-module_boot Bsdextended r kind request = refl
-module_boot Priority r kind request = refl
+module_boot other r kind request = refl
 
 found_boot : (found : Option Entry) (kind : Kind) (request : Request) (slot : ℕ) → AreMarksOf (value_of found kind (Boot request) slot) (map Made (by_holder kind found))
 found_boot None kind request slot = refl

@@ -6,7 +6,7 @@ use Rattle.std.specs.List.{AllByRecursion}
 use Rattle.std.proofs.lemmas.Bool.Decides.{nat_tests}
 use Rattle.mf_errno.specs.Same.{same_module}
 use Rattle.mf_errno.specs.declared.module.Module.{Module}
-use Rattle.mf_errno.specs.declared.module.Module.TheVariants.{Biba, Mls, Partition, Bsdextended, Priority}
+use Rattle.mf_errno.specs.declared.module.Module.TheVariants.{Biba, Mls}
 use Rattle.mf_item.specs.declared.view.Kind.{Kind}
 use Rattle.mf_policy.specs.declared.registration.Registration.{Registration}
 use Rattle.mf_policy.specs.declared.spec.Spec.{Spec}
@@ -99,52 +99,38 @@ find_without slot m x (e ∷ es) other found = one (is_of m e) (holds_slot slot 
 abbrev pub IsLasting : Module → Type 0
 IsLasting Biba = Unit {0}
 IsLasting Mls = Unit {0}
-IsLasting Partition = ⊥
-IsLasting Bsdextended = ⊥
-IsLasting Priority = ⊥
+IsLasting other = ⊥
 
 pub lasting_or_not : (m : Module) → IsLasting m ⊎ (IsLasting m → ⊥)
 lasting_or_not Biba = inl tt
 lasting_or_not Mls = inl tt
-lasting_or_not Partition = inr (λ no_more. no_more)
-lasting_or_not Bsdextended = inr (λ no_more. no_more)
-lasting_or_not Priority = inr (λ no_more. no_more)
+lasting_or_not other = inr (λ no_more. no_more)
 
 pub lasting_wants : (m : Module) → IsLasting m → wants_slot m ≡ true
 lasting_wants Biba lasting = refl
 lasting_wants Mls lasting = refl
-lasting_wants Partition lasting = absurd lasting
-lasting_wants Bsdextended lasting = absurd lasting
-lasting_wants Priority lasting = absurd lasting
+lasting_wants other lasting = absurd lasting
 
 pub lasting_labels : (m : Module) (kind : Kind) → IsLasting m → labels_kind m kind ≡ true
 lasting_labels Biba kind lasting = refl
 lasting_labels Mls kind lasting = refl
-lasting_labels Partition kind lasting = absurd lasting
-lasting_labels Bsdextended kind lasting = absurd lasting
-lasting_labels Priority kind lasting = absurd lasting
+lasting_labels other kind lasting = absurd lasting
 
 lasting_pinned : (m : Module) → IsLasting m → (facts_of m).unload_ok ≡ false
 lasting_pinned Biba lasting = refl
 lasting_pinned Mls lasting = refl
-lasting_pinned Partition lasting = absurd lasting
-lasting_pinned Bsdextended lasting = absurd lasting
-lasting_pinned Priority lasting = absurd lasting
+lasting_pinned other lasting = absurd lasting
 
 lasting_early : (m : Module) → IsLasting m → (facts_of m).not_late ≡ true
 lasting_early Biba lasting = refl
 lasting_early Mls lasting = refl
-lasting_early Partition lasting = absurd lasting
-lasting_early Bsdextended lasting = absurd lasting
-lasting_early Priority lasting = absurd lasting
+lasting_early other lasting = absurd lasting
 
 -- a registration before the end of boot that is fixed is of such a module
 pub fixed_lasting : (m : Module) → (not false && not ((facts_of m).unload_ok)) ≡ true → IsLasting m
 fixed_lasting Biba fixed = tt
 fixed_lasting Mls fixed = tt
-fixed_lasting Partition fixed = cc
-fixed_lasting Bsdextended fixed = cc
-fixed_lasting Priority fixed = cc
+fixed_lasting other fixed = cc
 
 -- what may be unloaded is another module than one that stays
 other_module : (m n : Module) → (facts_of m).unload_ok ≡ true → IsLasting n → same_module m n ≡ false

@@ -6,7 +6,7 @@ use Rattle.std.proofs.lemmas.Bool.{and_parts}
 use Rattle.mf_errno.specs.declared.errno.Errno.{Errno}
 use Rattle.mf_errno.specs.declared.errno.Errno.TheVariants.{Success, Einval, Eperm}
 use Rattle.mf_errno.specs.declared.module.Module.{Module}
-use Rattle.mf_errno.specs.declared.module.Module.TheVariants.{Biba, Mls, Partition, Bsdextended, Priority}
+use Rattle.mf_errno.specs.declared.module.Module.TheVariants.{Biba, Mls}
 use Rattle.mf_elem.specs.declared.elem.Elem.{Elem}
 use Rattle.mf_elem.specs.declared.elem.Elem.TheVariants.{Low, High}
 use Rattle.mf_elem.specs.declared.label.RangeLabel.{RangeLabel}
@@ -166,9 +166,7 @@ module _ (m : Module) (lasting : IsLasting m) (slot : ℕ) (item : Item) (reques
           → IsValidOf m kinds.Process (value_after m request (slice_index_or label slot Unset))
       one Biba lasting success valid = item_process High biba slot item request asked label test own success valid
       one Mls lasting success valid = item_process Low mls slot item request asked label test own success valid
-      one Partition lasting success valid = absurd lasting
-      one Bsdextended lasting success valid = absurd lasting
-      one Priority lasting success valid = absurd lasting
+      one other lasting success valid = absurd lasting
 
   -- and that of another entity after a process was let ask for that
   pub object_relabelled : (kind : Kind) (maker label : List LabelValue) (object : ObjectView) → (kind ≡ kinds.Process → ⊥) → (row_of item.op).test ≡ RelabelObject
@@ -184,6 +182,4 @@ module _ (m : Module) (lasting : IsLasting m) (slot : ℕ) (item : Item) (reques
       one Mls lasting success subject valid =
           other_kind Low kind _ no_process
           ∙ item_object Low mls slot item request asked maker label object test own there labelled success subject (sym (other_kind Low kind _ no_process) ∙ valid)
-      one Partition lasting success subject valid = absurd lasting
-      one Bsdextended lasting success subject valid = absurd lasting
-      one Priority lasting success subject valid = absurd lasting
+      one other lasting success subject valid = absurd lasting

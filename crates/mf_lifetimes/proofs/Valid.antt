@@ -4,7 +4,7 @@ use Rattle.std.specs.Option.{option_or}
 use Rattle.std.specs.Prelude.{is_some, is_none}
 use Rattle.std.proofs.lemmas.Bool.{and_parts}
 use Rattle.mf_errno.specs.declared.module.Module.{Module}
-use Rattle.mf_errno.specs.declared.module.Module.TheVariants.{Biba, Mls, Partition, Bsdextended, Priority}
+use Rattle.mf_errno.specs.declared.module.Module.TheVariants.{Biba, Mls}
 use Rattle.mf_elem.specs.declared.elem.Elem.{Elem}
 use Rattle.mf_elem.specs.declared.elem.Elem.TheVariants.{Low, High}
 use Rattle.mf_elem.specs.declared.label.RangeLabel.{RangeLabel}
@@ -76,9 +76,7 @@ boot_valid Biba kind request lasting may =
 boot_valid Mls kind request lasting may =
     let both = and_parts (takes Mls kind request) (is_valid_value (boot_value Mls kind request)) may in
     range_booted Low kind request.mls None both.0 both.1
-boot_valid Partition kind request lasting may = absurd lasting
-boot_valid Bsdextended kind request lasting may = absurd lasting
-boot_valid Priority kind request lasting may = absurd lasting
+boot_valid other kind request lasting may = absurd lasting
 
 -- At creation
 
@@ -104,6 +102,4 @@ inheritance_valid element kinds.Socket (Range label) valid = effective_there lab
 pub inherited_valid : (m : Module) (kind : Kind) (value : LabelValue) → IsLasting m → IsValidOf m kinds.Process value → IsValidOf m kind (inherited m kind value)
 inherited_valid Biba kind value lasting valid = inheritance_valid High kind value valid
 inherited_valid Mls kind value lasting valid = inheritance_valid Low kind value valid
-inherited_valid Partition kind value lasting valid = absurd lasting
-inherited_valid Bsdextended kind value lasting valid = absurd lasting
-inherited_valid Priority kind value lasting valid = absurd lasting
+inherited_valid other kind value lasting valid = absurd lasting

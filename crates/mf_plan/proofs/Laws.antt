@@ -202,14 +202,6 @@ relabels_pipe s me c name done =
 
 can_do_for : (s : State) (task : List ℕ) (me : SubjectView) (c : Call) → (plan_for s task me c).tail ≡ Do → CanDo s task c
 can_do_for s task me (call.Fork child) done = makes s.objects (live_named is_process s.objects (child_name task child)) done
-can_do_for s task me call.Exit done = tt
-can_do_for s task me (call.See name) done = tt
-can_do_for s task me (call.Signal name) done = tt
-can_do_for s task me (call.Debug name) done = tt
-can_do_for s task me (call.Sched name) done = tt
-can_do_for s task me (call.Priv p) done = tt
-can_do_for s task me call.Getpmac done = tt
-can_do_for s task me (call.Setpmac label) done = tt
 can_do_for s task me (call.Exec path) done = reads s.objects path (exec_row s.objects me) done
 can_do_for s task me (call.Create path) done = creates s.objects me path done
 can_do_for s task me (call.Mkdir path) done = creates s.objects me path done
@@ -229,16 +221,9 @@ can_do_for s task me (call.Pstat name) done = takes s.objects name (check_row s.
 can_do_for s task me (call.Setpipemac label name) done = relabels_pipe s me (call.Setpipemac label name) name done
 can_do_for s task me (call.Send from to text) done = delivers s.objects me from to done
 can_do_for s task me (call.Recv name) done = receives s.objects me name done
-can_do_for s task me (call.Seesock name) done = tt
-can_do_for s task me (call.Setsockmac label name) done = tt
-can_do_for s task me call.Kldstat done = tt
 can_do_for s task me (call.Kldload name) done = loads s me name (module_named name) refl done
 can_do_for s task me (call.Kldunload name) done = unloads s name (module_named name) refl (no_fault (unload_refusal s (module_named name)) proceed done)
-can_do_for s task me (call.Sysctl name value) done = tt
-can_do_for s task me call.UgidfwList done = tt
-can_do_for s task me (call.UgidfwAdd rule) done = tt
-can_do_for s task me (call.UgidfwSet n rule) done = tt
-can_do_for s task me (call.UgidfwRemove n) done = tt
+can_do_for s task me other done = tt
 
 by_caller : (s : State) (task : List ℕ) (c : Call) (caller : Option Id) → (plan_by s task c caller).tail ≡ Do → IsSome caller × CanDo s task c
 by_caller s task c None done = cc

@@ -104,40 +104,7 @@ relabel_asked s task me caller (call.Setpipemac label name) done =
     named_asked s me caller (call.Setpipemac label name) op.PipeRelabel (pipe_named s.objects name) done refl
 relabel_asked s task me caller (call.Setsockmac label name) done =
     named_asked s me caller (call.Setsockmac label name) op.SocketRelabel (socket_named s.objects name) done refl
-relabel_asked s task me caller (call.Fork child) done = tt
-relabel_asked s task me caller (call.See name) done = tt
-relabel_asked s task me caller (call.Signal name) done = tt
-relabel_asked s task me caller (call.Debug name) done = tt
-relabel_asked s task me caller (call.Sched name) done = tt
-relabel_asked s task me caller (call.Priv p) done = tt
-relabel_asked s task me caller (call.Exec path) done = tt
-relabel_asked s task me caller (call.Create path) done = tt
-relabel_asked s task me caller (call.Mkdir path) done = tt
-relabel_asked s task me caller (call.Read path) done = tt
-relabel_asked s task me caller (call.Write path text) done = tt
-relabel_asked s task me caller (call.Stat path) done = tt
-relabel_asked s task me caller (call.Getfmac path) done = tt
-relabel_asked s task me caller (call.Readdir path) done = tt
-relabel_asked s task me caller (call.Chmod path mode) done = tt
-relabel_asked s task me caller (call.Unlink path) done = tt
-relabel_asked s task me caller (call.Pipe name) done = tt
-relabel_asked s task me caller (call.Socket name) done = tt
-relabel_asked s task me caller (call.Pread name) done = tt
-relabel_asked s task me caller (call.Pwrite name text) done = tt
-relabel_asked s task me caller (call.Pstat name) done = tt
-relabel_asked s task me caller (call.Send from to text) done = tt
-relabel_asked s task me caller (call.Recv name) done = tt
-relabel_asked s task me caller (call.Seesock name) done = tt
-relabel_asked s task me caller (call.Kldload name) done = tt
-relabel_asked s task me caller (call.Kldunload name) done = tt
-relabel_asked s task me caller (call.Sysctl name value) done = tt
-relabel_asked s task me caller (call.UgidfwAdd rule) done = tt
-relabel_asked s task me caller (call.UgidfwSet n rule) done = tt
-relabel_asked s task me caller (call.UgidfwRemove n) done = tt
-relabel_asked s task me caller call.Exit done = tt
-relabel_asked s task me caller call.Getpmac done = tt
-relabel_asked s task me caller call.Kldstat done = tt
-relabel_asked s task me caller call.UgidfwList done = tt
+relabel_asked s task me caller other done = tt
 
 by_caller : (s : State) (task : List ℕ) (c : Call) (caller : Id) (holder : Option Id) → holder ≡ Some caller → (plan_by s task c holder).tail ≡ Do
     → AsksRelabel s (subject_of s.objects caller) caller c (plan_by s task c holder)

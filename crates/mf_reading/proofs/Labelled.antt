@@ -5,7 +5,7 @@ use Rattle.std.specs.Prelude.{find}
 use Rattle.std.specs.List.{AllByRecursion}
 use Rattle.std.proofs.lemmas.Bool.Decides.{nat_tests}
 use Rattle.mf_errno.specs.declared.module.Module.{Module}
-use Rattle.mf_errno.specs.declared.module.Module.TheVariants.{Biba, Mls, Partition, Bsdextended, Priority}
+use Rattle.mf_errno.specs.declared.module.Module.TheVariants.{Biba, Mls}
 use Rattle.mf_elem.specs.Bounds.{IsRequest}
 use Rattle.mf_elem.specs.declared.label.LabelValue.{LabelValue}
 use Rattle.mf_elem.specs.declared.label.LabelValue.TheVariants.{Unset}
@@ -145,9 +145,7 @@ module _ (specs : List Entry) (given : ℕ) (few : given ≤ SLOTS) (below : All
 late_unset : (m : Module) → (IsLasting m → ⊥) → FitsLabelling (facts_of m).labels Unset
 late_unset Biba late = absurd (late tt)
 late_unset Mls late = absurd (late tt)
-late_unset Partition late = tt
-late_unset Bsdextended late = tt
-late_unset Priority late = tt
+late_unset other late = tt
 
 new_fits : (m : Module) (booted : Bool) (given : ℕ) (label : List LabelValue) → (IsLasting m → ⊥) → IsUnsetFrom given label → Fits label (newest m booted given).0
 new_fits m booted given label late unset = one (wants_slot m)

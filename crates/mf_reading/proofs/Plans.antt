@@ -195,11 +195,8 @@ few_for s task me (call.Setsockmac label name) formed =
 few_for s task me call.Kldstat formed = omega arith
 few_for s task me (call.Kldload name) formed = omega (arith, few_loaded s me (module_named name))
 few_for s task me (call.Kldunload name) formed = omega (arith, few_by 0 (unload_refusal s (module_named name)) proceed (omega arith))
-few_for s task me (call.Sysctl name value) formed = few_set s me (call.Sysctl name value)
 few_for s task me call.UgidfwList formed = few_if 12 (not (is_listed modules.Bsdextended s.specs)) errno.Enoent proceed (omega arith)
-few_for s task me (call.UgidfwAdd rule) formed = few_set s me (call.UgidfwAdd rule)
-few_for s task me (call.UgidfwSet n rule) formed = few_set s me (call.UgidfwSet n rule)
-few_for s task me (call.UgidfwRemove n) formed = few_set s me (call.UgidfwRemove n)
+few_for s task me other formed = few_set s me other
 
 pub few_checks : (s : State) (task : List ℕ) (child : Option (List ℕ)) (c : Call) → IsFormedCall c → HasFew 12 (plan_of s task child c)
 few_checks s task child c formed =

@@ -75,10 +75,7 @@ slot_fits false given small = tt
 
 spec_rules : (spec : Spec) → IsBoundedSpec spec → IfSome (rules_of spec) AreRules
 spec_rules (means.Bsdextended rules first) fits = fits
-spec_rules means.Biba fits = tt
-spec_rules means.Mls fits = tt
-spec_rules means.Partition fits = tt
-spec_rules means.Priority fits = tt
+spec_rules other fits = tt
 
 rules_fit : (specs : List Entry) → AreBoundedSpecs specs → IfSome (listed_rules specs) AreRules
 rules_fit specs bounded = one (find (is_of modules.Bsdextended) specs) refl
@@ -103,10 +100,7 @@ change_number (means.Bsdextended slots first) (RuleSet n rule) fits = tt
 change_number (means.Bsdextended slots first) (RuleRemove n) fits =
     either_way (λ (c : Changed × Spec). IfSome c.0.number (λ n. n < 2 ^ 32)) (is_free (slice_index_or slots n None)) (no_setting, means.Bsdextended slots first)
     (done, means.Bsdextended (slice_set slots n None) first) tt tt
-change_number means.Biba change fits = tt
-change_number means.Mls change fits = tt
-change_number means.Partition change fits = tt
-change_number means.Priority change fits = tt
+change_number other change fits = tt
 
 number_fits : (m : Module) (change : Change) (specs : List Entry) → AreBoundedSpecs specs → IfSome (change_in m change specs).0.number (λ n. n < 2 ^ 32)
 number_fits m change specs bounded = one (find (is_of m) specs) refl

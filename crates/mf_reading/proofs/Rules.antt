@@ -62,10 +62,7 @@ change_bounded (means.Bsdextended rules first) (FirstMatch enabled) formed fits 
 change_bounded (means.Bsdextended rules first) (RuleAdd rule) formed fits = rule_added rules first rule (position is_free rules) formed fits
 change_bounded (means.Bsdextended rules first) (RuleSet n rule) formed fits = slot_set rules n (Some rule) formed fits
 change_bounded (means.Bsdextended rules first) (RuleRemove n) formed fits = rule_removed rules first n fits
-change_bounded means.Biba change formed fits = tt
-change_bounded means.Mls change formed fits = tt
-change_bounded means.Partition change formed fits = tt
-change_bounded means.Priority change formed fits = tt
+change_bounded other change formed fits = tt
 
 spec_set : (m : Module) (spec : Spec) (specs : List Entry) → IsBoundedSpec spec → AreBoundedSpecs specs → AreBoundedSpecs (with_spec m spec specs)
 spec_set m spec [] here all = tt

@@ -3,7 +3,7 @@ use Rattle.std.specs.Option.{option_or}
 use Rattle.std.proofs.Common.{◌≡◌, ℕ, ◌≤◌, Bool, true, false, cond, nat_eq, Option, Some, None, refl, arith}
 use Rattle.std.specs.Prelude.{IfSome, is_some, unwrap_or}
 use Rattle.mf_errno.specs.declared.module.Module.{Module}
-use Rattle.mf_errno.specs.declared.module.Module.TheVariants.{Biba, Mls, Partition, Bsdextended, Priority}
+use Rattle.mf_errno.specs.declared.module.Module.TheVariants.{Biba, Mls, Partition}
 use Rattle.mf_elem.specs.Bounds.{IsAskedLabel, IsElement, IsRequest}
 use Rattle.mf_elem.specs.declared.elem.Elem.{Elem}
 use Rattle.mf_elem.specs.declared.elem.Elem.TheVariants.{Low, High}
@@ -73,8 +73,7 @@ boot_fits Partition kinds.Process request is = number_boot request.partition is.
 boot_fits Partition kinds.Vnode request is = tt
 boot_fits Partition kinds.Pipe request is = tt
 boot_fits Partition kinds.Socket request is = number_boot request.partition is.partition
-boot_fits Bsdextended kind request is = tt
-boot_fits Priority kind request is = tt
+boot_fits other kind request is = tt
 
 -- At creation
 
@@ -103,8 +102,7 @@ inherited_fits Partition kinds.Process value fits = partition_inherited value fi
 inherited_fits Partition kinds.Vnode value fits = tt
 inherited_fits Partition kinds.Pipe value fits = tt
 inherited_fits Partition kinds.Socket value fits = partition_inherited value fits
-inherited_fits Bsdextended kind value fits = tt
-inherited_fits Priority kind value fits = tt
+inherited_fits other kind value fits = tt
 
 -- By a relabel
 
@@ -128,5 +126,4 @@ pub relabelled_fits : (m : Module) (request : Request) (value : LabelValue) → 
 relabelled_fits Biba request value is fits = range_relabelled High request.biba value is.biba fits
 relabelled_fits Mls request value is fits = range_relabelled Low request.mls value is.mls fits
 relabelled_fits Partition request value is fits = number_relabelled request.partition value is.partition fits
-relabelled_fits Bsdextended request value is fits = tt
-relabelled_fits Priority request value is fits = tt
+relabelled_fits other request value is fits = tt

@@ -118,26 +118,9 @@ target_lives o caller (call.Setpipemac label name) population lives = IfSome_the
 target_lives o caller (call.Send from to text) population lives = IfSome_then (socket_named o to) (named_lives is_socket o to population.rising) (some_live is_socket o)
 target_lives o caller (call.Recv name) population lives = IfSome_then (socket_named o name) (named_lives is_socket o name population.rising) (some_live is_socket o)
 target_lives o caller (call.Setsockmac label name) population lives = IfSome_then (socket_named o name) (named_lives is_socket o name population.rising) (some_live is_socket o)
-target_lives o caller (call.Fork child) population lives = tt
-target_lives o caller call.Exit population lives = tt
-target_lives o caller (call.See name) population lives = tt
-target_lives o caller (call.Signal name) population lives = tt
-target_lives o caller (call.Debug name) population lives = tt
-target_lives o caller (call.Sched name) population lives = tt
-target_lives o caller (call.Priv p) population lives = tt
 target_lives o caller call.Getpmac population lives = lives
 target_lives o caller (call.Setpmac label) population lives = lives
-target_lives o caller (call.Pipe name) population lives = tt
-target_lives o caller (call.Socket name) population lives = tt
-target_lives o caller (call.Seesock name) population lives = tt
-target_lives o caller call.Kldstat population lives = tt
-target_lives o caller (call.Kldload name) population lives = tt
-target_lives o caller (call.Kldunload name) population lives = tt
-target_lives o caller (call.Sysctl name value) population lives = tt
-target_lives o caller call.UgidfwList population lives = tt
-target_lives o caller (call.UgidfwAdd rule) population lives = tt
-target_lives o caller (call.UgidfwSet n rule) population lives = tt
-target_lives o caller (call.UgidfwRemove n) population lives = tt
+target_lives o caller other population lives = tt
 
 -- What a call is about suits it, where the call may be done
 
@@ -196,31 +179,7 @@ suits s task caller (call.Setpmac label) population lives can = target_lives s.o
 suits s task caller (call.Setfmac label path) population lives can = target_lives s.objects caller (call.Setfmac label path) population lives
 suits s task caller (call.Setpipemac label name) population lives can = target_lives s.objects caller (call.Setpipemac label name) population lives
 suits s task caller (call.Setsockmac label name) population lives can = target_lives s.objects caller (call.Setsockmac label name) population lives
-suits s task caller (call.Exec path) population lives can = anything (file_at_path s.objects path)
-suits s task caller (call.Read path) population lives can = anything (file_at_path s.objects path)
-suits s task caller (call.Stat path) population lives can = anything (file_at_path s.objects path)
-suits s task caller (call.Getfmac path) population lives can = anything (file_at_path s.objects path)
-suits s task caller (call.Readdir path) population lives can = anything (file_at_path s.objects path)
-suits s task caller (call.Pstat name) population lives can = anything (pipe_named s.objects name)
-suits s task caller (call.Fork child) population lives can = tt
-suits s task caller call.Exit population lives can = tt
-suits s task caller (call.See name) population lives can = tt
-suits s task caller (call.Signal name) population lives can = tt
-suits s task caller (call.Debug name) population lives can = tt
-suits s task caller (call.Sched name) population lives can = tt
-suits s task caller (call.Priv p) population lives can = tt
-suits s task caller call.Getpmac population lives can = anything caller
-suits s task caller (call.Pipe name) population lives can = tt
-suits s task caller (call.Socket name) population lives can = tt
-suits s task caller (call.Seesock name) population lives can = tt
-suits s task caller call.Kldstat population lives can = tt
-suits s task caller (call.Kldload name) population lives can = tt
-suits s task caller (call.Kldunload name) population lives can = tt
-suits s task caller (call.Sysctl name value) population lives can = tt
-suits s task caller call.UgidfwList population lives can = tt
-suits s task caller (call.UgidfwAdd rule) population lives can = tt
-suits s task caller (call.UgidfwSet n rule) population lives can = tt
-suits s task caller (call.UgidfwRemove n) population lives can = tt
+suits s task caller other population lives can = anything (target_of s.objects caller other)
 
 -- so does what was found, by its id
 
