@@ -24,6 +24,7 @@ use crate::settings::{change_setting, list_rules};
 use crate::state::State;
 use mf_calls::Call;
 use mf_cred::ArrayVec;
+use mf_elem::Request;
 use mf_errno::{Errno, Priv};
 use mf_item::CheckOp;
 use mf_objects::{Id, Objects};
@@ -42,14 +43,15 @@ pub fn plan_of(state: &State, task: &str, child: Option<&str>, call: &Call) -> P
 }
 
 impl Plan {
-    /// Becomes the plan of a call, as `plan_of` makes it, and says what the call is about where it may be done. A plan is
-    /// large: this one is made where it lies, and never moved.
+    /// Becomes the plan of a call, as `plan_of` makes it, and says who calls, and what the call is about where it may be done. A
+    /// plan is large: this one is made where it lies, and never moved.
     pub fn make(&mut self, state: &State, task: &str, child: Option<&str>, call: &Call) -> Found
         requires task { IsName task.now }
         requires child { IsFormedChild (option_copied child) }
         requires formed { IsFormedCall call.now }
         ensures plan { self.new ≡ spec.plan_of state.now task.now (option_copied child.entry) call.now }
         ensures found { self.new.tail ≡ Do → result ≡ found_of state.now task.now (option_copied child.entry) call.now }
+        ensures caller { result.caller ≡ process_named state.now.objects (caller_name task.now (option_copied child.entry)) }
     {
         self.label.keep(call);
         let outline = outline_of(state, task, child, call, &self.label);
@@ -57,7 +59,7 @@ impl Plan {
         outline.found
     }
 
-    /// What the call is about, where this is its plan in the present state. None where it isn't.
+    /// Who calls, and what the call is about, where this is its plan in the present state. None where it isn't.
     pub fn is_of(
         &self,
         state: &State,
@@ -70,6 +72,7 @@ impl Plan {
         requires formed { IsFormedCall call.now }
         ensures is { IsSome result ↔ (self.now ≡ spec.plan_of state.now task.now (option_copied child.entry) call.now) }
         ensures found { self.now.tail ≡ Do → IfSome result (λ found. found ≡ found_of state.now task.now (option_copied child.entry) call.now) }
+        ensures caller { IfSome result (λ found. found.caller ≡ process_named state.now.objects (caller_name task.now (option_copied child.entry))) }
     {
         let outline = outline_of(state, task, child, call, &self.label);
         if self.is_outlined(&state.objects, &outline) {
@@ -109,7 +112,15 @@ pub fn outline_of(
         tail: Tail::Refuse(Errno::Esrch),
     };
     if let Some(caller) = outline.found.caller {
-        let end = ask_for(state, task, caller, call, last, &mut outline);
+        let end = ask_for(
+            state,
+            task,
+            caller,
+            call,
+            last,
+            &mut outline.checks,
+            &mut outline.found.request,
+        );
         outline.found.target = end.ok().flatten();
         outline.tail = tail_of(end);
     }
@@ -150,27 +161,26 @@ fn ask_for(
     caller: Id,
     call: &Call,
     last: &LastLabel,
-    outline: &mut Outline,
+    checks: &mut Checks,
+    asked: &mut Option<Request>,
 ) -> Result<Option<Id>, Errno>
     requires task { IsName task.now }
     requires formed { IsFormedCall call.now }
-    requires empty { outline.old.checks ≡ [] }
-    requires unasked { outline.old.found.request ≡ None }
-    requires asking { outlines.IsAsking state.now.objects caller outline.old.checks }
-    ensures plan { ended (map (outlines.item_asking state.now.objects outline.new.found.request) outline.new.checks) result
+    requires empty { checks.old ≡ [] }
+    requires unasked { asked.old ≡ None }
+    requires asking { outlines.IsAsking state.now.objects caller checks.old }
+    ensures plan { ended (map (outlines.item_asking state.now.objects asked.new) checks.new) result
         ≡ spec.plan_for state.now task.now (subject_of state.now.objects caller) call.now }
     ensures target { IfOk result (λ target. target ≡ target_of state.now.objects (Some caller) call.now) }
-    ensures request { IfOk result (λ target. outline.new.found.request ≡ request_asked state.now.specs call.now) }
-    ensures asking { outlines.IsAsking state.now.objects caller outline.new.checks }
-    ensures caller { outline.new.found.caller ≡ outline.old.found.caller }
+    ensures request { IfOk result (λ target. asked.new ≡ request_asked state.now.specs call.now) }
+    ensures asking { outlines.IsAsking state.now.objects caller checks.new }
 {
     let objects = &state.objects;
-    let checks = &mut outline.checks;
     match call {
         Call::Fork(child) => fork(objects, task, child.as_str()),
         Call::Exit | Call::Kldstat => Ok(None),
         Call::Getpmac => Ok(Some(caller)),
-        Call::Setpmac(_) => relabel_caller(state, caller, call, last, outline),
+        Call::Setpmac(_) => relabel_caller(state, caller, call, last, checks, asked),
         Call::See(name) => on_process(objects, caller, CheckOp::ProcVisible, name, checks),
         Call::Signal(name) => on_process(objects, caller, CheckOp::ProcSignal, name, checks),
         Call::Debug(name) => on_process(objects, caller, CheckOp::ProcDebug, name, checks),
@@ -183,7 +193,7 @@ fn ask_for(
         Call::Stat(path) | Call::Getfmac(path) => {
             on_file(objects, caller, CheckOp::VnodeStat, path, checks)
         }
-        Call::Setfmac(_, path) => relabel_file(state, caller, call, path, last, outline),
+        Call::Setfmac(_, path) => relabel_file(state, caller, call, path, last, checks, asked),
         Call::Readdir(path) => readdir(objects, caller, path, checks),
         Call::Chmod(path, _) => on_file(objects, caller, CheckOp::VnodeSetmode, path, checks),
         Call::Unlink(path) => unlink(objects, caller, path, checks),
@@ -192,11 +202,11 @@ fn ask_for(
         Call::Pread(name) => pread(objects, caller, name.as_str(), checks),
         Call::Pwrite(name, text) => pwrite(objects, caller, name.as_str(), text.as_slice(), checks),
         Call::Pstat(name) => on_pipe(objects, caller, CheckOp::PipeStat, name.as_str(), checks),
-        Call::Setpipemac(_, name) => relabel_pipe(state, caller, call, name, last, outline),
+        Call::Setpipemac(_, name) => relabel_pipe(state, caller, call, name, last, checks, asked),
         Call::Send(from, to, _) => send(objects, caller, from.as_str(), to.as_str(), checks),
         Call::Recv(name) => recv(objects, caller, name.as_str(), checks),
         Call::Seesock(name) => seesock(objects, caller, name.as_str(), checks),
-        Call::Setsockmac(_, name) => relabel_socket(state, caller, call, name, last, outline),
+        Call::Setsockmac(_, name) => relabel_socket(state, caller, call, name, last, checks, asked),
         Call::Kldload(name) => kldload(state, caller, name.as_str(), checks),
         Call::Kldunload(name) => kldunload(state, caller, name.as_str(), checks),
         Call::Sysctl(..) | Call::UgidfwAdd(_) | Call::UgidfwSet(..) | Call::UgidfwRemove(_) => {

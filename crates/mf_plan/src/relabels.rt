@@ -12,7 +12,7 @@ ghost use Rattle.mf_plan.specs.Views as view;
 use crate::files::on_file;
 use crate::last_label::LastLabel;
 use crate::named::{on_pipe, on_socket};
-use crate::outline::{Outline, ask_alone};
+use crate::outline::{Checks, ask_alone};
 use crate::state::State;
 use mf_calls::Call;
 use mf_elem::Request;
@@ -105,25 +105,20 @@ pub(crate) fn relabel_caller(
     caller: Id,
     call: &Call,
     last: &LastLabel,
-    outline: &mut Outline,
+    checks: &mut Checks,
+    asked: &mut Option<Request>,
 ) -> Result<Option<Id>, Errno>
-    requires empty { outline.old.checks ≡ [] }
-    requires unasked { outline.old.found.request ≡ None }
-    requires asking { outlines.IsAsking state.now.objects caller outline.old.checks }
-    ensures plan { ended (map (outlines.item_asking state.now.objects outline.new.found.request) outline.new.checks) result
+    requires empty { checks.old ≡ [] }
+    requires unasked { asked.old ≡ None }
+    requires asking { outlines.IsAsking state.now.objects caller checks.old }
+    ensures plan { ended (map (outlines.item_asking state.now.objects asked.new) checks.new) result
         ≡ plan.asked_row state.now call.now (λ request. plan.relabel_row request (plan.of_subject (view.subject_of state.now.objects caller) op.CredRelabel)) }
     ensures target { IfOk result (λ target. target ≡ Some caller) }
-    ensures request { IfOk result (λ target. outline.new.found.request ≡ spec.request_asked state.now.specs call.now) }
-    ensures asking { outlines.IsAsking state.now.objects caller outline.new.checks }
-    ensures caller { outline.new.found.caller ≡ outline.old.found.caller }
+    ensures request { IfOk result (λ target. asked.new ≡ spec.request_asked state.now.specs call.now) }
+    ensures asking { outlines.IsAsking state.now.objects caller checks.new }
 {
-    judge(&state.specs, call, last, &mut outline.found.request)?;
-    ask_alone(
-        &state.objects,
-        caller,
-        CheckOp::CredRelabel,
-        &mut outline.checks,
-    );
+    judge(&state.specs, call, last, asked)?;
+    ask_alone(&state.objects, caller, CheckOp::CredRelabel, checks);
     Ok(Some(caller))
 }
 
@@ -134,28 +129,22 @@ pub(crate) fn relabel_file(
     call: &Call,
     path: &Path,
     last: &LastLabel,
-    outline: &mut Outline,
+    checks: &mut Checks,
+    asked: &mut Option<Request>,
 ) -> Result<Option<Id>, Errno>
-    requires empty { outline.old.checks ≡ [] }
-    requires unasked { outline.old.found.request ≡ None }
-    requires asking { outlines.IsAsking state.now.objects caller outline.old.checks }
-    ensures plan { ended (map (outlines.item_asking state.now.objects outline.new.found.request) outline.new.checks) result
+    requires empty { checks.old ≡ [] }
+    requires unasked { asked.old ≡ None }
+    requires asking { outlines.IsAsking state.now.objects caller checks.old }
+    ensures plan { ended (map (outlines.item_asking state.now.objects asked.new) checks.new) result
         ≡ plan.asked_row state.now call.now (λ request. plan.along state.now.objects (view.subject_of state.now.objects caller) found_at
         (λ id. plan.relabel_row request (plan.on state.now.objects (view.subject_of state.now.objects caller) op.VnodeRelabel id))
         (lookup_along state.now.objects path.now)) }
     ensures target { IfOk result (λ target. target ≡ file_at_path state.now.objects path.now) }
-    ensures request { IfOk result (λ target. outline.new.found.request ≡ spec.request_asked state.now.specs call.now) }
-    ensures asking { outlines.IsAsking state.now.objects caller outline.new.checks }
-    ensures caller { outline.new.found.caller ≡ outline.old.found.caller }
+    ensures request { IfOk result (λ target. asked.new ≡ spec.request_asked state.now.specs call.now) }
+    ensures asking { outlines.IsAsking state.now.objects caller checks.new }
 {
-    judge(&state.specs, call, last, &mut outline.found.request)?;
-    on_file(
-        &state.objects,
-        caller,
-        CheckOp::VnodeRelabel,
-        path,
-        &mut outline.checks,
-    )
+    judge(&state.specs, call, last, asked)?;
+    on_file(&state.objects, caller, CheckOp::VnodeRelabel, path, checks)
 }
 
 /// The check of a relabel of a pipe.
@@ -165,27 +154,27 @@ pub(crate) fn relabel_pipe(
     call: &Call,
     name: &Name,
     last: &LastLabel,
-    outline: &mut Outline,
+    checks: &mut Checks,
+    asked: &mut Option<Request>,
 ) -> Result<Option<Id>, Errno>
-    requires empty { outline.old.checks ≡ [] }
-    requires unasked { outline.old.found.request ≡ None }
-    requires asking { outlines.IsAsking state.now.objects caller outline.old.checks }
-    ensures plan { ended (map (outlines.item_asking state.now.objects outline.new.found.request) outline.new.checks) result
+    requires empty { checks.old ≡ [] }
+    requires unasked { asked.old ≡ None }
+    requires asking { outlines.IsAsking state.now.objects caller checks.old }
+    ensures plan { ended (map (outlines.item_asking state.now.objects asked.new) checks.new) result
         ≡ plan.asked_row state.now call.now (λ request. plan.found errno.Enoent
         (λ id. plan.relabel_row request (plan.on state.now.objects (view.subject_of state.now.objects caller) op.PipeRelabel id))
         (view.pipe_named state.now.objects name.now)) }
     ensures target { IfOk result (λ target. target ≡ view.pipe_named state.now.objects name.now) }
-    ensures request { IfOk result (λ target. outline.new.found.request ≡ spec.request_asked state.now.specs call.now) }
-    ensures asking { outlines.IsAsking state.now.objects caller outline.new.checks }
-    ensures caller { outline.new.found.caller ≡ outline.old.found.caller }
+    ensures request { IfOk result (λ target. asked.new ≡ spec.request_asked state.now.specs call.now) }
+    ensures asking { outlines.IsAsking state.now.objects caller checks.new }
 {
-    judge(&state.specs, call, last, &mut outline.found.request)?;
+    judge(&state.specs, call, last, asked)?;
     on_pipe(
         &state.objects,
         caller,
         CheckOp::PipeRelabel,
         name.as_str(),
-        &mut outline.checks,
+        checks,
     )
 }
 
@@ -196,26 +185,26 @@ pub(crate) fn relabel_socket(
     call: &Call,
     name: &Name,
     last: &LastLabel,
-    outline: &mut Outline,
+    checks: &mut Checks,
+    asked: &mut Option<Request>,
 ) -> Result<Option<Id>, Errno>
-    requires empty { outline.old.checks ≡ [] }
-    requires unasked { outline.old.found.request ≡ None }
-    requires asking { outlines.IsAsking state.now.objects caller outline.old.checks }
-    ensures plan { ended (map (outlines.item_asking state.now.objects outline.new.found.request) outline.new.checks) result
+    requires empty { checks.old ≡ [] }
+    requires unasked { asked.old ≡ None }
+    requires asking { outlines.IsAsking state.now.objects caller checks.old }
+    ensures plan { ended (map (outlines.item_asking state.now.objects asked.new) checks.new) result
         ≡ plan.asked_row state.now call.now (λ request. plan.found errno.Enoent
         (λ id. plan.relabel_row request (plan.on state.now.objects (view.subject_of state.now.objects caller) op.SocketRelabel id))
         (view.socket_named state.now.objects name.now)) }
     ensures target { IfOk result (λ target. target ≡ view.socket_named state.now.objects name.now) }
-    ensures request { IfOk result (λ target. outline.new.found.request ≡ spec.request_asked state.now.specs call.now) }
-    ensures asking { outlines.IsAsking state.now.objects caller outline.new.checks }
-    ensures caller { outline.new.found.caller ≡ outline.old.found.caller }
+    ensures request { IfOk result (λ target. asked.new ≡ spec.request_asked state.now.specs call.now) }
+    ensures asking { outlines.IsAsking state.now.objects caller checks.new }
 {
-    judge(&state.specs, call, last, &mut outline.found.request)?;
+    judge(&state.specs, call, last, asked)?;
     on_socket(
         &state.objects,
         caller,
         CheckOp::SocketRelabel,
         name.as_str(),
-        &mut outline.checks,
+        checks,
     )
 }
