@@ -23,7 +23,7 @@ use Rattle.mf_core.specs.Progress.{progress_at}
 use Rattle.mf_core.specs.LegalHistory.{RunState, next_line, reply_at, MayCome, after}
 use Rattle.mf_core.specs.NextFound.{found_at, next_found}
 use Rattle.mf_core.proofs.SameLists.{done_tail}
-use Rattle.mf_flow.specs.Movement.{passed}
+use Rattle.mf_step.specs.Passed.{passed}
 use Rattle.mf_flow.specs.declared.following.Flow.{Flow}
 use Rattle.mf_flow.specs.declared.following.Flows.{Flows}
 use Rattle.mf_flow.specs.Rows.{Rows, rows_moved, flows_moved, flows_created, flows_given, flows_after_line, flows_after_event}

@@ -32,7 +32,7 @@ use Rattle.mf_core.specs.RunView.{RunView}
 use Rattle.mf_step.proofs.StateChange.{Deed, StateChange}
 use Rattle.mf_step.proofs.EntityChange.{ChangesEntities, changes_entities}
 use Rattle.mf_lifetimes.proofs.Marked.{by_line, event_change}
-use Rattle.mf_flow.specs.Movement.{passed}
+use Rattle.mf_step.specs.Passed.{passed}
 use Rattle.mf_flow.specs.declared.following.Flow.{Flow}
 use Rattle.mf_flow.specs.declared.following.Flows.{Flows}
 use Rattle.mf_flow.specs.Rows.{Alike, AreKept, AreOwnRows, AreRows, IsBooted, IsFlowOf, IsKept, IsOpening, Rows, rows_moved, rows_created, rows_after_line, rows_after_event, flows_moved, flows_created, flows_given, flows_after_line, flows_after_event}

@@ -1,6 +1,5 @@
 pub mod Dominated
 pub mod Laws
-pub mod Movement
 pub mod Numbers
 pub mod Order
 pub mod Rows

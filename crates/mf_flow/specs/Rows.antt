@@ -34,7 +34,7 @@ use Rattle.mf_core.specs.declared.history.Event.TheVariants as event
 use Rattle.mf_core.specs.declared.history.History.{History}
 use Rattle.mf_core.specs.LegalHistory.{RunState, next_line, after, run_state_of}
 use Rattle.mf_flow.specs.Order.{union}
-use Rattle.mf_flow.specs.Movement.{passed}
+use Rattle.mf_step.specs.Passed.{passed}
 use Rattle.mf_flow.specs.Sources.{Sets, alone, held_by, has_element, caller_of, sources_of}
 use Rattle.mf_flow.specs.declared.following.Flow.{Flow}
 use Rattle.mf_flow.specs.declared.following.Flows.{Flows}

@@ -1,5 +1,6 @@
 pub mod Effect
 pub mod Memory
+pub mod Passed
 pub mod Refused
 pub mod Reply
 pub mod Step

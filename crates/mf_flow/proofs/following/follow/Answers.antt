@@ -15,7 +15,7 @@ use Rattle.mf_core.specs.declared.history.Event.{Event}
 use Rattle.mf_core.specs.LegalHistory.{after}
 use Rattle.mf_core.specs.NextFound.{next_found}
 use Rattle.mf_core.specs.RunView.{RunView}
-use Rattle.mf_flow.specs.Movement.{passed}
+use Rattle.mf_step.specs.Passed.{passed}
 use Rattle.mf_flow.proofs.DoneCalls.{done_asked, done_flows, done_found, done_line, passed_map, same_flows}
 use Rattle.mf_flow.proofs.following.follow.Goals as goal
 

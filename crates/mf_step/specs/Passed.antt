@@ -1,4 +1,4 @@
--- Which checks of a call move information: this model's own.
+-- Which checks of a call passed: this model's own.
 use Rattle.std.specs.Prelude.{◌-◌, List, take}
 use Rattle.mf_plan.specs.declared.reply.Reply.{Reply}
 use Rattle.mf_plan.specs.declared.reply.Reply.TheVariants as reply
