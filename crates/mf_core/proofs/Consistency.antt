@@ -104,7 +104,7 @@ past_turn s progress t places past =
     ap (λ (x : Progress). turn_in x.phase (slice_get (lines_of s t) x.lines)) first
     ∙ ap (λ (o : Option Task). turn_in phases.Idle (slice_get (unwrap_or (option_map (λ (task : Task). task.lines) o) []) 0)) none
 
-not_past : (t n : ℕ) → (n ≤ t → ⊥) → t < n
+pub not_past : (t n : ℕ) → (n ≤ t → ⊥) → t < n
 not_past t n absent = omega arith
 
 -- the task of an event
@@ -253,7 +253,7 @@ module _ (s : Script) (h : History) (r : RunState) (consistent : IsConsistent s 
 
 -- At the opening
 
-places_first : (ts : List Task) → length (map (λ (x : Task). first_progress) ts) ≡ length ts
+pub places_first : (ts : List Task) → length (map (λ (x : Task). first_progress) ts) ≡ length ts
 places_first [] = refl
 places_first (x ∷ ts) = ap suc (places_first ts)
 

@@ -9,5 +9,5 @@ pub mod Openings
 pub mod Kept
 pub mod Marked
 mod Leading
-mod Files
+pub mod Files
 mod Whole

@@ -24,7 +24,8 @@ use Rattle.mf_calls.specs.WellFormed.{IsText}
 use Rattle.mf_reading.proofs.Bounded.{AreBounded, IsAlone, IsBounded, IsBoundedData, IsNamed, RootIsFirst}
 use Rattle.mf_reading.proofs.Contents.{no_text}
 use Rattle.mf_reading.proofs.Finding.{all_own, found_with, later, other_id}
-use Rattle.mf_reading.proofs.Lists.{all_both, all_kept, all_mapped, all_push, few_kept}
+use Rattle.mf_lifetimes.proofs.Files.{all_both, all_push}
+use Rattle.mf_reading.proofs.Lists.{all_kept, all_mapped, few_kept}
 
 -- Changes of what one entity holds
 

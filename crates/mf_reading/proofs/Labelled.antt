@@ -32,7 +32,8 @@ use Rattle.mf_lifetimes.proofs.Kept.{four_values}
 use Rattle.mf_lifetimes.proofs.Listing.{AllBelow, AtMostOne, IsBelow, IsLasting, all_newest, all_without, newest, no_late}
 use Rattle.mf_lifetimes.proofs.Settings.{all_changed}
 use Rattle.mf_reading.proofs.Bounded.{AllFit, AreLabelled, AreListed, Fits, FitsLabelling, FitsSlot, IsUnsetFrom}
-use Rattle.mf_reading.proofs.Lists.{all_both, all_found, all_from, all_kept, all_mapped, all_push}
+use Rattle.mf_lifetimes.proofs.Files.{all_both, all_from, all_push}
+use Rattle.mf_reading.proofs.Lists.{all_found, all_kept, all_mapped}
 use Rattle.mf_reading.proofs.Values.{boot_fits, inherited_fits, relabelled_fits}
 
 -- Who holds a slot

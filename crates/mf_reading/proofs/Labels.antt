@@ -21,7 +21,8 @@ use Rattle.mf_plan.specs.declared.reply.LabelPart.{LabelPart}
 use Rattle.mf_step.specs.Reply.{label_part, label_parts, shown}
 use Rattle.mf_hist.specs.Lines.{IsLabel, number_part, range_part}
 use Rattle.mf_reading.proofs.Bounded.{AllFit, Fits, FitsLabelling, FitsSlot, IsSlotted, IsWhole}
-use Rattle.mf_reading.proofs.Lists.{all_both, all_found}
+use Rattle.mf_lifetimes.proofs.Files.{all_both}
+use Rattle.mf_reading.proofs.Lists.{all_found}
 
 -- the parts that are shown
 

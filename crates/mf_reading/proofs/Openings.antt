@@ -41,7 +41,8 @@ use Rattle.mf_reading.proofs.Effects.{last_component}
 use Rattle.mf_reading.proofs.Holding.{added_bounded}
 use Rattle.mf_reading.proofs.Labelled.{booted_fit, new_unset}
 use Rattle.mf_reading.proofs.Listed.{new_slotted}
-use Rattle.mf_reading.proofs.Lists.{all_push, by_place}
+use Rattle.mf_lifetimes.proofs.Files.{all_push}
+use Rattle.mf_reading.proofs.Lists.{by_place}
 use Rattle.mf_reading.proofs.Rules.{fresh_bounded}
 
 -- Policies

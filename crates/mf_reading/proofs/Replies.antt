@@ -40,6 +40,7 @@ use Rattle.mf_step.specs.declared.verdict.Denial.{Denial}
 use Rattle.mf_step.specs.Reply.{denied_reply, head, label, loaded, message, names, payload_of, payload_of_found, rule_number, rules, size, stat, tail_reply}
 use Rattle.mf_step.specs.Step.{step_payload, step_reply}
 use Rattle.mf_step.specs.Verdict.{denial_from, verdict_of}
+use Rattle.mf_hist.proofs.Legal.{slot_fits}
 use Rattle.mf_hist.specs.Lines.{AreRules, IsPayload, IsReply, IsSlot}
 use Rattle.mf_lifetimes.proofs.Listing.{IsBelow}
 use Rattle.mf_reading.proofs.Bounded.{AllFit, AreBounded, AreBoundedSpecs, IsBoundedSpec, IsBoundedState}
@@ -66,10 +67,6 @@ names_of o id bounded = one (is_dir o id) refl
 slots_fit : (given : ℕ) (r : Option ℕ) → given < 2 ^ 8 → IsBelow given r → IsSlot r
 slots_fit given None small below = tt
 slots_fit given (Some n) small below = omega (arith, small, below)
-
-slot_fits : (wanted : Bool) (given : ℕ) → given < 2 ^ 8 → IsSlot (slot_for wanted given)
-slot_fits true given small = small
-slot_fits false given small = tt
 
 -- Rules
 

@@ -9,11 +9,8 @@ use Rattle.mf_flow.specs.declared.table.Row.{Row}
 use Rattle.mf_flow.specs.SourcesText.{row_text, table_text}
 use Rattle.mf_flow.specs.Table.{table_of}
 use Rattle.mf_hist.specs.HistoryText.{boot_text, event_text}
-use Rattle.mf_hist.proofs.OneHistory.{HasNoEvent, enter_text, leave_text, done_text, changed_text, no_event, history_before}
+use Rattle.mf_hist.proofs.OneHistory.{HasNoEvent, heads, enter_text, leave_text, done_text, changed_text, no_event, history_before}
 use Rattle.mf_reading.specs.Laws.{SourcesAreNoLine, WholeTextTellsHistory}
-
-heads : (a b : ℕ) (x y : List ℕ) → a ∷ x ≡ b ∷ y → a ≡ b
-heads a b x y e = cc
 
 -- The byte is that of an s.
 

@@ -18,13 +18,13 @@ not_full false false true true none is = cc
 not_full false false true false none is = refl
 not_full false false false full none is = cc
 
-same_module : (a b : Module) → Some a ≡ Some b → a ≡ b
-same_module a b is = cc
+pub same_module_found : (a b : Module) → Some a ≡ Some b → a ≡ b
+same_module_found a b is = cc
 
 pub has_slot : (s : State) (name given : List ℕ) (wanted : Module) → CanLoad s name → given ≡ name → Some wanted ≡ module_named given
     → IsTrue (wants_slot wanted) → s.numbers < 4
 has_slot s name given wanted can is found wants =
-    let same : wanted ≡ can.wanted = same_module wanted can.wanted (found ∙ ap module_named is ∙ can.named) in
+    let same : wanted ≡ can.wanted = same_module_found wanted can.wanted (found ∙ ap module_named is ∙ can.named) in
     let m : Module = can.wanted in
     leb-false 4 s.numbers
     (not_full (s.booted && (facts_of m).not_late) (is_listed m s.specs) (wants_slot m) (nat_le 4 s.numbers) can.fault (ap wants_slot (sym same) ∙ wants))
