@@ -70,7 +70,7 @@ pub reaches : {A : Type 0} (row : A → Plan) (place : Result A Errno) → (or_r
 reaches row (Ok at) done = record { at = at; is = refl; rest = done }
 reaches row (Err e) done = cc
 
-free_target : (target : Target) (dir : Id) → free_at target ≡ Ok dir → target ≡ Name dir None
+pub free_target : (target : Target) (dir : Id) → free_at target ≡ Ok dir → target ≡ Name dir None
 free_target Root dir is = cc
 free_target (Name d None) dir is = cc
 free_target (Name d (Some id)) dir is = cc

@@ -14,3 +14,4 @@ pub mod Relabels
 pub mod Settings
 pub mod Viewing
 pub mod Views
+pub mod Ways

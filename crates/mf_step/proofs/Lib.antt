@@ -13,4 +13,9 @@ mod Denials
 mod LastName
 mod Given
 mod LabelParts
-mod Loads
+pub mod Loads
+mod RowDeeds
+mod RowPlans
+mod RowSteps
+mod RowSuiting
+mod RowTargets

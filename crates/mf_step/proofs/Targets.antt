@@ -63,7 +63,7 @@ module _ (o : Entities) (population : IsPopulation o) where
   path_lives : (path : List (List ℕ)) → IsTarget o (lookup_along o path).target
   path_lives path = walk_lives path root (root_lives o.live population.rooted)
 
-  file_lives : (path : List (List ℕ)) → IfSome (file_at_path o path) (λ id. IsLive is_vnode o id)
+  pub file_lives : (path : List (List ℕ)) → IfSome (file_at_path o path) (λ id. IsLive is_vnode o id)
   file_lives path = one (lookup_along o path).target (path_lives path)
     where
       one : (target : Target) → IsTarget o target → IfSome (result_ok (found_at target)) (λ id. IsLive is_vnode o id)
@@ -81,7 +81,7 @@ module _ (o : Entities) (population : IsPopulation o) where
       one (Name dir (Some id)) live = tt
       one (Nowhere errno) live = tt
 
-  removable_lives : (path : List (List ℕ)) → IfSome (entry_at_path o path) (λ id. IsLive is_vnode o id × (id.0 ≢ 0))
+  pub removable_lives : (path : List (List ℕ)) → IfSome (entry_at_path o path) (λ id. IsLive is_vnode o id × (id.0 ≢ 0))
   removable_lives path = one (lookup_along o path).target (path_lives path)
     where
       one : (target : Target) → IsTarget o target → IfSome (option_map (λ (place : Id × Id). place.1) (result_ok (entry_at target))) (λ id. IsLive is_vnode o id × (id.0 ≢ 0))
@@ -92,7 +92,7 @@ module _ (o : Entities) (population : IsPopulation o) where
 
 -- What a call is about lives
 
-some_live : (kind : EntityData → Bool) (o : Entities) (id : Id) → IsLive kind o id → IsSome (live_at o id)
+pub some_live : (kind : EntityData → Bool) (o : Entities) (id : Id) → IsLive kind o id → IsSome (live_at o id)
 some_live kind o id live = one (live_at o id) live
   where
     one : (found : Option LiveEntity) → IsTrue (passes kind found) → IsSome found

@@ -1,8 +1,13 @@
 pub mod Effect
+pub mod Effects
 pub mod Memory
 pub mod Passed
 pub mod Refused
 pub mod Reply
+pub mod Row
+pub mod RowLaws
+pub mod Rows
 pub mod Step
 pub mod Suits
 pub mod Verdict
+pub mod Whole
