@@ -40,6 +40,7 @@ SYNTAX = {
     "mf_rule Canonical": "rules as texts",
     "mf_words": "the lines and words of a text",
     "mf_calls Names": "which texts are names",
+    "mf_spelling": "how scripts are spelled",
     "mf_script": "scripts as texts",
     "mf_flow SourcesText": "the sources as a text",
     "mf_load Summary": "the summary of a load as a text",

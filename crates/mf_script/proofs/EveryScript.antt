@@ -15,10 +15,11 @@ use Rattle.mf_script.proofs.SoFar.{IsSoFar, starts, line_kept, ends}
 
 -- Lines are no longer than the text
 
-AreWithin : ℕ → List (List ℕ) → Type 0
+-- each line has at most so many bytes
+unfoldable pub AreWithin : ℕ → List (List ℕ) → Type 0
 AreWithin most lines = AllByRecursion (λ line. length line ≤ most) lines
 
-longer : (most more : ℕ) (lines : List (List ℕ)) → most ≤ more → AreWithin most lines → AreWithin more lines
+pub longer : (most more : ℕ) (lines : List (List ℕ)) → most ≤ more → AreWithin most lines → AreWithin more lines
 unfolding AreWithin
 longer most more [] le are = tt
 longer most more (line ∷ lines) le are = (omega (arith, are.0, le), longer most more lines le are.1)
@@ -28,7 +29,7 @@ unfolding AreWithin
 onto_line most b [] are = (omega arith, tt)
 onto_line most b (line ∷ lines) are = (omega (arith, are.0), longer most (suc most) lines (omega arith) are.1)
 
-lines_within : (bytes : List ℕ) → AreWithin (length bytes) (lines_in bytes)
+pub lines_within : (bytes : List ℕ) → AreWithin (length bytes) (lines_in bytes)
 unfolding AreWithin
 lines_within [] = tt
 lines_within (b ∷ bytes) = one (b == newline) (lines_within bytes) where
@@ -45,7 +46,7 @@ by_read : (s : Script) (p : Place) (n : ℕ) (line : List ℕ) (lines : List (Li
 by_read s p n line lines found (Ok next) few so more e is = more next.0 next.1 (line_kept s p line next.0 next.1 few so e) is
 by_read s p n line lines found (Err fault) few so more e is = cc
 
-from_formed : (lines : List (List ℕ)) (s : Script) (p : Place) (n : ℕ) (found : Script) → AreWithin SCRIPT_LIMIT lines → IsSoFar s p → script_from s p n lines ≡ Ok found → IsWellFormed found
+pub from_formed : (lines : List (List ℕ)) (s : Script) (p : Place) (n : ℕ) (found : Script) → AreWithin SCRIPT_LIMIT lines → IsSoFar s p → script_from s p n lines ≡ Ok found → IsWellFormed found
 unfolding script_from AreWithin
 from_formed [] s p n found few so is = ends s p n (Ok found) so is
 from_formed (line ∷ lines) s p n found few so is =

@@ -36,7 +36,8 @@ use Rattle.mf_calls.specs.Names.{is_name, is_process_name, is_component}
 use Rattle.mf_calls.specs.WellFormed.{IsWord, IsPrintable, IsAsked, IsPath, IsText}
 use Rattle.mf_script.specs.declared.error.ScriptFault.TheVariants.{Missing, BadNumber, BadLabel, BadRule, BadText}
 use Rattle.mf_script.specs.Readers.{Read, fails, or_fault, by_option}
-use Rattle.mf_script.specs.Parts.{all_added, number_of, with_group, groups_of, name_of, process_of, mode_of, with_component, components_of, behind_root, path_of, any_word, text_of, equals_sign, sides_of, rule_number_of, rule_of}
+use Rattle.mf_spelling.specs.Spelling.{equals_sign}
+use Rattle.mf_script.specs.Parts.{all_added, number_of, with_group, groups_of, name_of, process_of, mode_of, with_component, components_of, behind_root, path_of, any_word, text_of, sides_of, rule_number_of, rule_of}
 use Rattle.mf_script.specs.Grammar.{request_of, request_for}
 use Rattle.mf_script.proofs.EscapedBytes.{escaped_short, escaped_fit}
 use Rattle.mf_script.proofs.Numbers.{number_most}

@@ -11,7 +11,7 @@ use Rattle.mf_names.specs.declared.limits.TheConstants.{SCRIPT_LIMIT}
 use Rattle.mf_calls.specs.Names.{is_some_text}
 use Rattle.mf_calls.specs.WellFormed.{IsWord}
 use Rattle.mf_script.specs.Readers.{Read}
-use Rattle.mf_script.specs.Grammar.{is_plain}
+use Rattle.mf_spelling.specs.Spelling.{is_plain}
 use Rattle.mf_script.specs.Parts.{word_by, fixed, field}
 use Rattle.mf_script.proofs.Yields.{Yields, done, refused, chain, skip, checked}
 

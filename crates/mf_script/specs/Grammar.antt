@@ -4,7 +4,6 @@
 use Rattle.std.specs.Prelude.{ℕ, ◌+◌, Bool, not, ◌&&◌, ◌||◌, nat_lt, nat_le, if◌then◌else◌, List, [], ◌∷◌, ◌++◌, length, Result, Ok, Err, codes}
 use Rattle.std.specs.List.{list_all, list_any}
 use Rattle.std.specs.Str.{bytes_eq}
-use Rattle.std.specs.Char.{is_ascii_graphic}
 use Rattle.mf_errno.specs.declared.errno.Errno.TheVariants.{Enoent, Eexist}
 use Rattle.mf_errno.specs.declared.module.Module.{Module}
 use Rattle.mf_errno.specs.Names.{module_named}
@@ -14,7 +13,7 @@ use Rattle.mf_labeltext.specs.Reading.{request_in}
 use Rattle.mf_item.specs.declared.view.Kind.{Kind}
 use Rattle.mf_item.specs.declared.view.Kind.TheVariants as kinds
 use Rattle.mf_names.specs.declared.limits.TheConstants.{CONTENT_LIMIT}
-use Rattle.mf_words.specs.Words.{Words, lines_in, words_in, is_blank, is_comment}
+use Rattle.mf_words.specs.Words.{Words, lines_in, words_in, is_comment}
 use Rattle.mf_calls.specs.declared.limits.TheConstants.{FILE_LIMIT, TASK_LIMIT, LINE_LIMIT, RULE_LIST_LIMIT, STEP_LIMIT}
 use Rattle.mf_calls.specs.declared.script.Call.{Call}
 use Rattle.mf_calls.specs.declared.script.Task.{Task}
@@ -23,6 +22,7 @@ use Rattle.mf_calls.specs.declared.script.Script.{Script}
 use Rattle.mf_calls.specs.Paths.{is_same_path, is_root, directory_of, has_directory}
 use Rattle.mf_calls.specs.Boots.{is_booted, may_ask_for}
 use Rattle.mf_calls.specs.Tasks.{lists_rules}
+use Rattle.mf_spelling.specs.Spelling.{is_plain}
 use Rattle.mf_script.specs.declared.error.ScriptFault.TheVariants.{NotText, UnknownWord, BadLabel, BadPath, Duplicate, NoEnd, TooMany}
 use Rattle.mf_script.specs.declared.error.ScriptError.{ScriptError}
 use Rattle.mf_script.specs.declared.error.ScriptError.TheVariants as error
@@ -175,10 +175,6 @@ row_in s place.End w ws = fails UnknownWord
 unfoldable pub words_line : Script → Place → Words → Read State
 words_line s p [] = Ok (s, p)
 words_line s p (w ∷ ws) = if is_comment w then Ok (s, p) else row_in s p w ws
-
--- a byte that may stand in a line: a blank or a printable byte of ASCII
-abbrev pub is_plain : ℕ → Bool
-is_plain b = is_blank b || is_ascii_graphic b
 
 unfoldable pub line_read : Script → Place → List ℕ → Read State
 line_read s p line = unless NotText (list_all is_plain line) >>= λ u. words_line s p (words_in line)

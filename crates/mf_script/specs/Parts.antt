@@ -16,6 +16,7 @@ use Rattle.mf_rule.specs.Reading.{rule_in}
 use Rattle.mf_words.specs.Words.{Words}
 use Rattle.mf_calls.specs.declared.limits.TheConstants.{UID_MAX, MODE_LIMIT}
 use Rattle.mf_calls.specs.Names.{is_name, is_process_name, is_component}
+use Rattle.mf_spelling.specs.Spelling.{equals_sign}
 use Rattle.mf_script.specs.declared.error.ScriptFault.TheVariants.{UnknownWord, Missing, Extra, BadNumber, BadRule, BadPath, BadText}
 use Rattle.mf_script.specs.Readers.{Read, ◌>>=◌, fails, unless, or_fault, by_option}
 
@@ -84,9 +85,6 @@ is_directory_of w = one_of ((codes "reg", false) ∷ (codes "dir", true) ∷ [])
 -- the bytes that a text with escapes stands for
 unfoldable pub text_of : List ℕ → Read (List ℕ)
 text_of w = or_fault BadText (bytes_of w)
-
-abbrev pub equals_sign : ℕ
-equals_sign = 61
 
 -- a word of sysctl(8): what stands before its first `=`, and what stands behind it; either may be empty
 unfoldable pub sides_of : List ℕ → Read (List ℕ × List ℕ)

@@ -5,7 +5,8 @@ ghost use Rattle.std.specs.Str.{IsAscii};
 ghost use Rattle.mf_names.specs.declared.limits.TheConstants.{SCRIPT_LIMIT};
 ghost use Rattle.mf_calls.specs.WellFormed.{IsWellFormed};
 ghost use Rattle.mf_script.specs.Gives.{Gives};
-ghost use Rattle.mf_script.specs.Grammar.{is_plain, line_read, ended, script_of};
+ghost use Rattle.mf_spelling.specs.Spelling.{is_plain};
+ghost use Rattle.mf_script.specs.Grammar.{line_read, ended, script_of};
 ghost use Rattle.mf_script.specs.Outcome.{IsRefusedAt, IsScriptOf};
 
 use crate::error::{ScriptError, ScriptFault};

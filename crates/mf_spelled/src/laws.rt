@@ -1,0 +1,12 @@
+//! Laws of scripts and their spelling.
+ghost use Rattle.mf_spelled.specs.Laws.{FaultsAreFirst, ScriptsAreTheirTexts};
+
+/// Bytes are read as a script where they spell it and it is well formed, and only there.
+pub fn scripts_are_their_texts()
+    ensures { ScriptsAreTheirTexts }
+{}
+
+/// The first fault of a text is in the line that the reader names.
+pub fn faults_are_first()
+    ensures { FaultsAreFirst }
+{}
