@@ -15,7 +15,6 @@ use Rattle.mf_text.specs.Number.{number_in}
 use Rattle.mf_text.specs.Escape.{bytes_of}
 use Rattle.mf_labeltext.specs.Bytes.{comma, slash}
 use Rattle.mf_labeltext.specs.Reading.{parts, cut, request_in}
-use Rattle.mf_labeltext.proofs.Requests.{request_spells}
 use Rattle.mf_calls.specs.declared.limits.TheConstants.{UID_MAX, MODE_LIMIT}
 use Rattle.mf_script.specs.declared.error.ScriptFault.TheVariants as fault
 use Rattle.mf_script.specs.Readers.{or_fault}
@@ -137,4 +136,4 @@ unfolding request_of
 request_read w = by_test (bytes_eq w (codes "-")) (bytes_eq-Decides w (codes "-")).0 where
   by_test : (dash : Bool) → (dash ≡ true → w ≡ codes "-") → Yields (λ (request : Request). Spells w (Label request)) (if dash then Ok no_request else or_fault fault.BadLabel (request_in w))
   by_test true same = done (inl (same refl, refl))
-  by_test false other = if_ok fault.BadLabel (request_in w) (λ request e. inr (request_spells w request e))
+  by_test false other = if_ok fault.BadLabel (request_in w) (λ request e. inr e)

@@ -1,1 +1,3 @@
 pub mod Spelling
+pub mod Canonical
+pub mod Printed

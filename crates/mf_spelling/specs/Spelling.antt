@@ -11,8 +11,7 @@ use Rattle.mf_elem.specs.Label.{no_request}
 use Rattle.mf_text.specs.Number.{number_in}
 use Rattle.mf_text.specs.Escape.{bytes_of}
 use Rattle.mf_labeltext.specs.Bytes.{comma, slash}
-use Rattle.mf_labeltext.specs.Reading.{parts, cut}
-use Rattle.mf_labeltext.specs.LabelGrammar as label
+use Rattle.mf_labeltext.specs.Reading.{parts, cut, request_in}
 use Rattle.mf_rule.specs.declared.rule.Rule.{Rule}
 use Rattle.mf_rule.specs.declared.rule_list.TheConstants.{MAX_RULES}
 use Rattle.mf_rule.specs.RuleGrammar as rule
@@ -63,7 +62,7 @@ Spells w (Octal n) = number_in 8 0 MODE_LIMIT w ≡ Ok n
 Spells w (Groups groups) = map (number_in 10 0 UID_MAX) (parts comma w) ≡ map Ok groups
 Spells w (Text bytes) = bytes_of w ≡ Ok bytes
 Spells w (Setting name value) = cut equals_sign w ≡ Some (name, value)
-Spells w (Label request) = ((w ≡ codes "-") × (request ≡ no_request)) ⊎ label.Spells w request
+Spells w (Label request) = ((w ≡ codes "-") × (request ≡ no_request)) ⊎ (request_in w ≡ Ok request)
 Spells w (Rules r) = ⊥
 
 -- the words of a line spell its pieces

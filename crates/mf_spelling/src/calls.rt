@@ -1,0 +1,139 @@
+//! The line of a call.
+ghost use Rattle.std.specs.Prelude.{◌≡◌, ◌++◌, OnOk, OnErr, string_bytes};
+ghost use Rattle.mf_text.specs.Appending.{Extends};
+ghost use Rattle.mf_spelling.specs.Spelling.{call_pieces};
+ghost use Rattle.mf_spelling.specs.Canonical.{words_behind, words_text};
+ghost use Rattle.mf_spelling.specs.Printed.{behind_first, first_word};
+
+use crate::words::{
+    push_mode, push_number, push_path, push_rule, push_setting, push_text, push_word,
+};
+use mf_calls::Call;
+use std::alloc::AllocError;
+
+/// The words of a call.
+pub fn push_call(call: &Call, out: &mut String) -> Result<(), AllocError>
+    ensures ok { OnOk result (string_bytes out.new ≡ string_bytes out.old ++ words_text (call_pieces call.now)) }
+    ensures err { OnErr result (Extends (string_bytes out.old) (string_bytes out.new)) }
+{
+    out.push_str(call_name(call))?;
+    push_arguments(call, out)
+}
+
+/// The first word of a call.
+fn call_name(call: &Call) -> &'static str
+    ensures { result.now ≡ first_word (call_pieces call.now) }
+{
+    match call {
+        Call::Fork(_) => "fork",
+        Call::Exit => "exit",
+        Call::See(_) => "see",
+        Call::Signal(_) => "signal",
+        Call::Debug(_) => "debug",
+        Call::Sched(_) => "sched",
+        Call::Priv(_) => "priv",
+        Call::Getpmac => "getpmac",
+        Call::Setpmac(_) => "setpmac",
+        Call::Exec(_) => "exec",
+        Call::Create(_) => "create",
+        Call::Mkdir(_) => "mkdir",
+        Call::Read(_) => "read",
+        Call::Write(..) => "write",
+        Call::Stat(_) => "stat",
+        Call::Getfmac(_) => "getfmac",
+        Call::Setfmac(..) => "setfmac",
+        Call::Readdir(_) => "readdir",
+        Call::Chmod(..) => "chmod",
+        Call::Unlink(_) => "unlink",
+        Call::Pipe(_) => "pipe",
+        Call::Socket(_) => "socket",
+        Call::Pread(_) => "pread",
+        Call::Pwrite(..) => "pwrite",
+        Call::Pstat(_) => "pstat",
+        Call::Setpipemac(..) => "setpipemac",
+        Call::Send(..) => "send",
+        Call::Recv(_) => "recv",
+        Call::Seesock(_) => "seesock",
+        Call::Setsockmac(..) => "setsockmac",
+        Call::Kldstat => "kldstat",
+        Call::Kldload(_) => "kldload",
+        Call::Kldunload(_) => "kldunload",
+        Call::Sysctl(..) => "sysctl",
+        Call::UgidfwList | Call::UgidfwAdd(_) | Call::UgidfwSet(..) | Call::UgidfwRemove(_) => {
+            "ugidfw"
+        }
+    }
+}
+
+/// The words behind the first.
+fn push_arguments(call: &Call, out: &mut String) -> Result<(), AllocError>
+    ensures ok { OnOk result (string_bytes out.new ≡ string_bytes out.old ++ words_behind (behind_first (call_pieces call.now))) }
+    ensures err { OnErr result (Extends (string_bytes out.old) (string_bytes out.new)) }
+{
+    match call {
+        Call::Exit | Call::Getpmac | Call::Kldstat => Ok(()),
+        Call::Fork(name)
+        | Call::See(name)
+        | Call::Signal(name)
+        | Call::Debug(name)
+        | Call::Sched(name)
+        | Call::Pipe(name)
+        | Call::Socket(name)
+        | Call::Pread(name)
+        | Call::Pstat(name)
+        | Call::Recv(name)
+        | Call::Seesock(name) => push_word(name.as_str(), out),
+        Call::Setpmac(word) | Call::Kldload(word) | Call::Kldunload(word) => {
+            push_word(word.as_str(), out)
+        }
+        Call::Exec(path)
+        | Call::Create(path)
+        | Call::Mkdir(path)
+        | Call::Read(path)
+        | Call::Stat(path)
+        | Call::Getfmac(path)
+        | Call::Readdir(path)
+        | Call::Unlink(path) => push_path(path, out),
+        Call::Priv(privilege) => push_word(privilege.name(), out),
+        Call::Write(path, text) => {
+            push_path(path, out)?;
+            push_text(text.as_slice(), out)
+        }
+        Call::Setfmac(label, path) => {
+            push_word(label.as_str(), out)?;
+            push_path(path, out)
+        }
+        Call::Chmod(path, mode) => {
+            push_path(path, out)?;
+            push_mode(*mode, out)
+        }
+        Call::Pwrite(name, text) => {
+            push_word(name.as_str(), out)?;
+            push_text(text.as_slice(), out)
+        }
+        Call::Setpipemac(label, name) | Call::Setsockmac(label, name) => {
+            push_word(label.as_str(), out)?;
+            push_word(name.as_str(), out)
+        }
+        Call::Send(from, to, text) => {
+            push_word(from.as_str(), out)?;
+            push_word(to.as_str(), out)?;
+            push_text(text.as_slice(), out)
+        }
+        Call::Sysctl(name, value) => push_setting(name.as_str(), value.as_str(), out),
+        Call::UgidfwList => push_word("list", out),
+        Call::UgidfwAdd(rule) => {
+            push_word("add", out)?;
+            push_rule(rule, out)
+        }
+        Call::UgidfwSet(number, rule) => {
+            push_word("set", out)?;
+            push_number(*number, out)?;
+            push_rule(rule, out)
+        }
+        Call::UgidfwRemove(number) => {
+            push_word("remove", out)?;
+            push_number(*number, out)
+        }
+    }
+}
