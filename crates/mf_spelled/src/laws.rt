@@ -1,5 +1,5 @@
 //! Laws of scripts and their spelling.
-ghost use Rattle.mf_spelled.specs.Laws.{FaultsAreFirst, ScriptsAreTheirTexts};
+ghost use Rattle.mf_spelled.specs.Laws.{CanonicalTextsAreRead, CanonicalTextsSpell, FaultsAreFirst, ScriptsAreTheirTexts};
 
 /// Bytes are read as a script where they spell it and it is well formed, and only there.
 pub fn scripts_are_their_texts()
@@ -9,4 +9,11 @@ pub fn scripts_are_their_texts()
 /// The first fault of a text is in the line that the reader names.
 pub fn faults_are_first()
     ensures { FaultsAreFirst }
+{}
+
+/// The canonical text of a well-formed script that can be spelled is a text of it, and is read back as that script where it
+/// is no longer than a script may be.
+pub fn canonical_texts_are_read()
+    ensures spell { CanonicalTextsSpell }
+    ensures read { CanonicalTextsAreRead }
 {}

@@ -1,0 +1,75 @@
+-- Names, paths and the words of calls are words.
+use Rattle.std.proofs.Common.{◌≡◌, ℕ, true, not, ◌&&◌, ◌==◌, List, [], ◌∷◌, ◌++◌, length, refl, sym, ap, ◌∙◌, arith}
+use Rattle.std.specs.Prelude.{All, codes, nat_le}
+use Rattle.std.proofs.lemmas.Bool.Decides.{nat_tests}
+use Rattle.std.proofs.lemmas.List.Elements.{All-head, All-tail}
+use Rattle.std.specs.Char.{is_ascii_graphic}
+use Rattle.std.specs.List.{list_all, slice_split, join_with_byte}
+use Rattle.std.specs.Str.{bytes_eq}
+use Rattle.mf_labeltext.specs.Bytes.{slash}
+use Rattle.mf_labeltext.specs.Reading.{parts}
+use Rattle.mf_labeltext.proofs.Cutting.{join_parts}
+use Rattle.mf_calls.specs.Names.{dot, is_some_text, is_name, is_name_byte, is_component, is_component_byte, are_process_names, is_process_name}
+use Rattle.mf_calls.specs.WellFormed.{IsPath, IsPrintable, IsWord}
+use Rattle.mf_spelling.specs.Spelling.{equals_sign}
+use Rattle.mf_spelled.proofs.WordTexts.{is_word, both, join, all_append, all_map}
+use Rattle.mf_spelled.proofs.NumberTexts.{word_more}
+
+component_graphic : (b : ℕ) → is_component_byte b ≡ true → is_ascii_graphic b ≡ true
+component_graphic b h = grind (arith, nat_tests)
+
+name_graphic : (b : ℕ) → is_name_byte b ≡ true → is_ascii_graphic b ≡ true
+name_graphic b h = grind (arith, nat_tests)
+
+pub name_word : (w : List ℕ) → is_name w ≡ true → is_word w ≡ true
+name_word w h =
+    let a = both (is_some_text w && nat_le (length w) 32) (list_all is_name_byte w) h in
+    join (is_some_text w) (list_all is_ascii_graphic w) (both (is_some_text w) (nat_le (length w) 32) a.0).0 (all_map is_name_byte is_ascii_graphic w name_graphic a.1)
+
+component_bytes : (w : List ℕ) → is_component w ≡ true → list_all is_ascii_graphic w ≡ true
+component_bytes w h =
+    let a = both (is_some_text w && nat_le (length w) 32 && list_all is_component_byte w && not (bytes_eq w (codes "."))) (not (bytes_eq w (codes ".."))) h in
+    let b = both (is_some_text w && nat_le (length w) 32 && list_all is_component_byte w) (not (bytes_eq w (codes "."))) a.0 in
+    let c = both (is_some_text w && nat_le (length w) 32) (list_all is_component_byte w) b.0 in
+    all_map is_component_byte is_ascii_graphic w component_graphic c.1
+
+joined_bytes : (names : List (List ℕ)) → All (λ name. is_component name ≡ true) names → list_all is_ascii_graphic (join_with_byte slash names) ≡ true
+joined_bytes [] each = refl
+joined_bytes (name ∷ []) each = component_bytes name (All-head (λ name. is_component name ≡ true) name [] each)
+joined_bytes (name ∷ next ∷ names) each =
+    all_append is_ascii_graphic name (slash ∷ join_with_byte slash (next ∷ names)) (component_bytes name (All-head (λ name. is_component name ≡ true) name (next ∷ names) each))
+    (joined_bytes (next ∷ names) (All-tail (λ name. is_component name ≡ true) name (next ∷ names) each))
+
+pub path_word : (names : List (List ℕ)) → IsPath names → is_word (slash ∷ join_with_byte slash names) ≡ true
+path_word names formed = joined_bytes names formed.each
+
+-- the full name of a process: its task's name, and a dot and the child's behind it
+process_bytes : (names : List (List ℕ)) → are_process_names names ≡ true → is_word (join_with_byte dot names) ≡ true
+process_bytes [] e = absurd cc
+process_bytes (name ∷ []) e = name_word name e
+process_bytes (name ∷ child ∷ []) e =
+    let each = both (is_name name) (is_name child) e in
+    let behind = both (is_some_text child) (list_all is_ascii_graphic child) (name_word child each.1) in
+    word_more name (dot ∷ child) (name_word name each.0) behind.1
+process_bytes (name ∷ child ∷ other ∷ names) e = absurd cc
+
+pub process_word : (w : List ℕ) → is_process_name w ≡ true → is_word w ≡ true
+unfolding parts
+process_word w h = ap is_word (sym (join_parts dot w)) ∙ process_bytes (slice_split (λ b. b == dot) w) h
+
+all_graphic : (w : List ℕ) → All (λ b. is_ascii_graphic b ≡ true) w → list_all is_ascii_graphic w ≡ true
+all_graphic [] each = refl
+all_graphic (b ∷ w) each =
+    join (is_ascii_graphic b) (list_all is_ascii_graphic w) (All-head (λ b. is_ascii_graphic b ≡ true) b w each) (all_graphic w (All-tail (λ b. is_ascii_graphic b ≡ true) b w each))
+
+pub any_word : (w : List ℕ) → IsWord w → is_word w ≡ true
+any_word w word = join (is_some_text w) (list_all is_ascii_graphic w) word.some (all_graphic w word.each)
+
+some_behind : (name value : List ℕ) → is_some_text (name ++ equals_sign ∷ value) ≡ true
+some_behind [] value = refl
+some_behind (b ∷ name) value = refl
+
+pub setting_word : (name value : List ℕ) → IsPrintable name → IsPrintable value → is_word (name ++ equals_sign ∷ value) ≡ true
+setting_word name value named valued =
+    join (is_some_text (name ++ equals_sign ∷ value)) (list_all is_ascii_graphic (name ++ equals_sign ∷ value)) (some_behind name value)
+    (all_append is_ascii_graphic name (equals_sign ∷ value) (all_graphic name named.each) (all_graphic value valued.each))

@@ -1,0 +1,321 @@
+-- The canonical text of a script spells it.
+use Rattle.std.proofs.Common.{◌≡◌, ◌≢◌, ℕ, ◌<◌, ◌≤◌, Bool, true, false, ◌&&◌, List, [], ◌∷◌, ◌++◌, length, map, Option, Some, None, refl, sym, subst, arith, inl, inr, append-nil, lit<}
+use Rattle.std.specs.Prelude.{All, codes, not, if◌then◌else◌}
+use Rattle.std.proofs.lemmas.List.Elements.{All-head, All-tail}
+use Rattle.std.proofs.lemmas.List.Concat.{flat_map-cons}
+use Rattle.std.specs.List.{flat_map, list_all}
+use Rattle.mf_errno.specs.Names.{all_modules}
+use Rattle.mf_errno.specs.Privilege.{privilege_text}
+use Rattle.mf_errno.specs.declared.module.Module.{Module}
+use Rattle.mf_errno.specs.declared.module.Module.TheVariants as modules
+use Rattle.mf_errno.specs.declared.privilege.Priv.{Priv}
+use Rattle.mf_errno.specs.declared.privilege.Priv.TheVariants as privileges
+use Rattle.mf_elem.specs.declared.label.Request.{Request}
+use Rattle.mf_item.specs.declared.view.Kind.{Kind}
+use Rattle.mf_item.specs.declared.view.Kind.TheVariants as kinds
+use Rattle.mf_words.specs.Words.{lines_in}
+use Rattle.mf_calls.specs.Boots.{may_name}
+use Rattle.mf_calls.specs.Names.{is_name, is_some_text}
+use Rattle.mf_calls.specs.WellFormed.{IsAsked, IsFormedCall, IsFormedChild, IsFormedFile, IsFormedLine, IsFormedStep, IsFormedTask, IsWellFormed}
+use Rattle.mf_calls.specs.declared.script.Call.{Call}
+use Rattle.mf_calls.specs.declared.script.Call.TheVariants as call
+use Rattle.mf_calls.specs.declared.script.FileLine.{FileLine}
+use Rattle.mf_calls.specs.declared.script.Line.{Line}
+use Rattle.mf_calls.specs.declared.script.Step.{Step}
+use Rattle.mf_calls.specs.declared.script.StepKind.{StepKind}
+use Rattle.mf_calls.specs.declared.script.StepKind.TheVariants as steps
+use Rattle.mf_calls.specs.declared.script.Task.{Task}
+use Rattle.mf_calls.specs.declared.script.Script.{Script}
+use Rattle.mf_spelling.specs.Spelling.{Pieces, SpellLines, IsTextOf, sayings, is_plain, call_pieces, line_pieces, boot_pieces, file_pieces, text_pieces, task_pieces, step_pieces, task_rows, step_rows, front_rows, alone}
+use Rattle.mf_spelling.specs.Canonical.{line_text, lines_text, task_text, steps_text, script_text, IsSpellableCall, IsSpellable}
+use Rattle.mf_spelled.proofs.WordTexts.{is_word, both}
+use Rattle.mf_spelled.proofs.NameTexts.{name_word, path_word, process_word, any_word}
+use Rattle.mf_spelled.proofs.PieceTexts.{AreOfWords}
+use Rattle.mf_spelled.specs.Laws.{CanonicalTextsAreRead, CanonicalTextsSpell}
+use Rattle.mf_spelled.proofs.ScriptsBack.{spelled_read}
+use Rattle.mf_spelled.proofs.LineTexts.{IsRow, AreRows, no_rows, rows_append, one_row}
+
+-- Calls
+
+privilege_word : (p : Priv) → is_word (privilege_text p) ≡ true
+privilege_word privileges.KldLoad = refl
+privilege_word privileges.KldUnload = refl
+privilege_word privileges.MacPartition = refl
+privilege_word privileges.SchedRtprio = refl
+privilege_word privileges.SchedIdprio = refl
+
+call_row : (c : Call) → IsFormedCall c → IsSpellableCall c → IsRow (call_pieces c)
+call_row (call.Fork child) formed spellable = (refl, refl, (name_word child formed, tt))
+call_row call.Exit formed spellable = (refl, refl, tt)
+call_row (call.See process) formed spellable = (refl, refl, (process_word process formed, tt))
+call_row (call.Signal process) formed spellable = (refl, refl, (process_word process formed, tt))
+call_row (call.Debug process) formed spellable = (refl, refl, (process_word process formed, tt))
+call_row (call.Sched process) formed spellable = (refl, refl, (process_word process formed, tt))
+call_row (call.Priv p) formed spellable = (refl, refl, (privilege_word p, tt))
+call_row call.Getpmac formed spellable = (refl, refl, tt)
+call_row (call.Setpmac label) formed spellable = (refl, refl, (any_word label formed, tt))
+call_row (call.Exec p) formed spellable = (refl, refl, (path_word p formed, tt))
+call_row (call.Create p) formed spellable = (refl, refl, (path_word p formed, tt))
+call_row (call.Mkdir p) formed spellable = (refl, refl, (path_word p formed, tt))
+call_row (call.Read p) formed spellable = (refl, refl, (path_word p formed, tt))
+call_row (call.Write p text) formed spellable = (refl, refl, (path_word p formed.0, ((spellable, formed.1.each), tt)))
+call_row (call.Stat p) formed spellable = (refl, refl, (path_word p formed, tt))
+call_row (call.Getfmac p) formed spellable = (refl, refl, (path_word p formed, tt))
+call_row (call.Setfmac label p) formed spellable = (refl, refl, (any_word label formed.0, (path_word p formed.1, tt)))
+call_row (call.Readdir p) formed spellable = (refl, refl, (path_word p formed, tt))
+call_row (call.Chmod p mode) formed spellable = (refl, refl, (path_word p formed.0, (formed.1, tt)))
+call_row (call.Unlink p) formed spellable = (refl, refl, (path_word p formed, tt))
+call_row (call.Pipe name) formed spellable = (refl, refl, (name_word name formed, tt))
+call_row (call.Socket name) formed spellable = (refl, refl, (name_word name formed, tt))
+call_row (call.Pread name) formed spellable = (refl, refl, (name_word name formed, tt))
+call_row (call.Pwrite name text) formed spellable = (refl, refl, (name_word name formed.0, ((spellable, formed.1.each), tt)))
+call_row (call.Pstat name) formed spellable = (refl, refl, (name_word name formed, tt))
+call_row (call.Setpipemac label name) formed spellable = (refl, refl, (any_word label formed.0, (name_word name formed.1, tt)))
+call_row (call.Send from to text) formed spellable = (refl, refl, (name_word from formed.0, (name_word to formed.1, ((spellable, formed.2.each), tt))))
+call_row (call.Recv name) formed spellable = (refl, refl, (name_word name formed, tt))
+call_row (call.Seesock name) formed spellable = (refl, refl, (name_word name formed, tt))
+call_row (call.Setsockmac label name) formed spellable = (refl, refl, (any_word label formed.0, (name_word name formed.1, tt)))
+call_row call.Kldstat formed spellable = (refl, refl, tt)
+call_row (call.Kldload word) formed spellable = (refl, refl, (any_word word formed, tt))
+call_row (call.Kldunload word) formed spellable = (refl, refl, (any_word word formed, tt))
+call_row (call.Sysctl name value) formed spellable = (refl, refl, ((formed.0, formed.1, spellable), tt))
+call_row call.UgidfwList formed spellable = (refl, refl, (refl, tt))
+call_row (call.UgidfwAdd rule) formed spellable = (refl, refl, (refl, formed))
+call_row (call.UgidfwSet n rule) formed spellable = (refl, refl, (refl, ((lit< tt, omega (arith, formed.0)), formed.1)))
+call_row (call.UgidfwRemove n) formed spellable = (refl, refl, (refl, ((lit< tt, omega (arith, formed)), tt)))
+
+-- behind a child's name
+
+call_behind : (c : Call) → IsRow (call_pieces c) → AreOfWords (call_pieces c)
+call_behind (call.Fork child) row = (row.0, row.2)
+call_behind call.Exit row = (row.0, row.2)
+call_behind (call.See process) row = (row.0, row.2)
+call_behind (call.Signal process) row = (row.0, row.2)
+call_behind (call.Debug process) row = (row.0, row.2)
+call_behind (call.Sched process) row = (row.0, row.2)
+call_behind (call.Priv p) row = (row.0, row.2)
+call_behind call.Getpmac row = (row.0, row.2)
+call_behind (call.Setpmac label) row = (row.0, row.2)
+call_behind (call.Exec p) row = (row.0, row.2)
+call_behind (call.Create p) row = (row.0, row.2)
+call_behind (call.Mkdir p) row = (row.0, row.2)
+call_behind (call.Read p) row = (row.0, row.2)
+call_behind (call.Write p text) row = (row.0, row.2)
+call_behind (call.Stat p) row = (row.0, row.2)
+call_behind (call.Getfmac p) row = (row.0, row.2)
+call_behind (call.Setfmac label p) row = (row.0, row.2)
+call_behind (call.Readdir p) row = (row.0, row.2)
+call_behind (call.Chmod p mode) row = (row.0, row.2)
+call_behind (call.Unlink p) row = (row.0, row.2)
+call_behind (call.Pipe name) row = (row.0, row.2)
+call_behind (call.Socket name) row = (row.0, row.2)
+call_behind (call.Pread name) row = (row.0, row.2)
+call_behind (call.Pwrite name text) row = (row.0, row.2)
+call_behind (call.Pstat name) row = (row.0, row.2)
+call_behind (call.Setpipemac label name) row = (row.0, row.2)
+call_behind (call.Send from to text) row = (row.0, row.2)
+call_behind (call.Recv name) row = (row.0, row.2)
+call_behind (call.Seesock name) row = (row.0, row.2)
+call_behind (call.Setsockmac label name) row = (row.0, row.2)
+call_behind call.Kldstat row = (row.0, row.2)
+call_behind (call.Kldload word) row = (row.0, row.2)
+call_behind (call.Kldunload word) row = (row.0, row.2)
+call_behind (call.Sysctl name value) row = (row.0, row.2)
+call_behind call.UgidfwList row = (row.0, row.2)
+call_behind (call.UgidfwAdd rule) row = (row.0, row.2)
+call_behind (call.UgidfwSet n rule) row = (row.0, row.2)
+call_behind (call.UgidfwRemove n) row = (row.0, row.2)
+
+child_word : (child : List ℕ) → is_name child ≡ true → is_word (codes "@" ++ child) ≡ true
+child_word child named = (both (is_some_text child) _ (name_word child named)).1
+
+line_row : (line : Line) → IsFormedLine line → IsSpellableCall line.call → IsRow (line_pieces line)
+line_row line formed spellable = by_child line.child formed.child where
+  row : IsRow (call_pieces line.call)
+  row = call_row line.call formed.call spellable
+
+  by_child : (child : Option (List ℕ)) → IsFormedChild child → IsRow (line_pieces (record { child = child; call = line.call }))
+  by_child None named = row
+  by_child (Some child) named = (child_word child named, refl, call_behind line.call row)
+
+-- Boots, files, tasks and steps
+
+boot_row : (m : Module) → IsRow (boot_pieces m)
+boot_row modules.Biba = (refl, refl, (refl, tt))
+boot_row modules.Mls = (refl, refl, (refl, tt))
+boot_row modules.Partition = (refl, refl, (refl, tt))
+boot_row modules.Bsdextended = (refl, refl, (refl, tt))
+boot_row modules.Priority = (refl, refl, (refl, tt))
+
+kind_word : (dir : Bool) → is_word (if dir then codes "dir" else codes "reg") ≡ true
+kind_word true = refl
+kind_word false = refl
+
+-- a request that a script may make names no other policy
+names_no_other : (kind : Kind) (boots : List Module) (request : Request) → IsAsked kind boots request → request.other ≡ false
+names_no_other kind boots request asked = by_test request.other (both (list_all (may_name boots request) all_modules) _ (both (list_all (may_name boots request) all_modules && not request.other) _ asked.allowed).0).1 where
+  by_test : (other : Bool) → not other ≡ true → other ≡ false
+  by_test true e = absurd cc
+  by_test false e = refl
+
+text_words : (text : List ℕ) → All (λ byte. byte < 256) text → AreOfWords (text_pieces text)
+text_words [] each = tt
+text_words (b ∷ text) each = (refl, (((λ e. cc), each), tt))
+
+file_row : (boots : List Module) (f : FileLine) → IsFormedFile boots f → IsRow (file_pieces f)
+file_row boots f formed = (
+  refl,
+  refl,
+  (
+    path_word f.path formed.path,
+    (
+      kind_word f.file.dir,
+      (
+        refl,
+        (
+          (lit< tt, formed.uid),
+          (
+            refl,
+            (
+              (lit< tt, formed.gid),
+              (
+                refl,
+                (
+                  formed.mode,
+                  (refl, ((formed.label.spelled, names_no_other kinds.Vnode boots f.label formed.label), text_words f.text formed.text.each)),
+                ),
+              ),
+            ),
+          ),
+        ),
+      ),
+    ),
+  ),
+)
+
+some_groups : (groups : List ℕ) → 1 ≤ length groups → groups ≢ []
+some_groups [] some e = omega (arith, some)
+some_groups (group ∷ groups) some e = cc
+
+task_row : (boots : List Module) (t : Task) → IsFormedTask boots t → IsRow (task_pieces t)
+task_row boots t formed = (
+  refl,
+  refl,
+  (
+    name_word t.name formed.name,
+    (
+      refl,
+      (
+        (lit< tt, formed.cred.fits),
+        (
+          refl,
+          (
+            (some_groups t.cred.groups formed.cred.some, formed.cred.each),
+            (refl, ((formed.label.spelled, names_no_other kinds.Process boots t.label formed.label), tt)),
+          ),
+        ),
+      ),
+    ),
+  ),
+)
+
+step_row : (x : Step) → IsFormedStep x → IsRow (step_pieces x)
+step_row x formed = by_kind x.kind where
+  by_kind : (kind : StepKind) → IsRow (step_pieces (record { kind = kind; task = x.task }))
+  by_kind steps.Enter = (refl, refl, (name_word x.task formed, tt))
+  by_kind steps.Plan = (refl, refl, (name_word x.task formed, tt))
+  by_kind steps.Done = (refl, refl, (name_word x.task formed, tt))
+  by_kind steps.Leave = (refl, refl, (name_word x.task formed, tt))
+  by_kind steps.Change = (refl, refl, (name_word x.task formed, tt))
+
+-- Lists of them
+
+rows_of : {A : Type 0} (pieces : A → Pieces) (P : A → Type 0) → ((x : A) → P x → IsRow (pieces x)) → (items : List A) → All P items → AreRows (lines_text pieces items) (map pieces items)
+rows_of pieces P row [] each = no_rows
+rows_of pieces P row (x ∷ items) each =
+    subst (λ (text : List ℕ). AreRows text (pieces x ∷ map pieces items)) (sym (flat_map-cons (λ item. line_text (pieces item)) x items))
+    (rows_append (line_text (pieces x)) (lines_text pieces items) (pieces x ∷ []) (map pieces items) (one_row (pieces x) (row x (All-head P x items each))) (rows_of pieces P row items (All-tail P x items each)))
+
+end_rows : AreRows (codes "end\n") (alone (codes "end") ∷ [])
+end_rows = one_row (alone (codes "end")) (refl, refl, tt)
+
+-- a line that is formed and can be spelled
+IsLineToSpell : Line → Type 0
+IsLineToSpell line = IsFormedLine line × IsSpellableCall line.call
+
+lines_to_spell : (lines : List Line) → All IsFormedLine lines → All (λ (line : Line). IsSpellableCall line.call) lines → All IsLineToSpell lines
+unfolding IsLineToSpell
+lines_to_spell lines formed spellable = λ k d within. (formed k d within, spellable k d within)
+
+task_lines : (boots : List Module) (t : Task) → IsFormedTask boots t → All (λ (line : Line). IsSpellableCall line.call) t.lines → AreRows (task_text t) (task_rows t)
+unfolding IsLineToSpell
+task_lines boots t formed spellable =
+    rows_append (line_text (task_pieces t) ++ lines_text line_pieces t.lines) (codes "end\n") (task_pieces t ∷ map line_pieces t.lines) (alone (codes "end") ∷ [])
+    (rows_append (line_text (task_pieces t)) (lines_text line_pieces t.lines) (task_pieces t ∷ []) (map line_pieces t.lines)
+    (one_row (task_pieces t) (task_row boots t formed))
+    (rows_of line_pieces IsLineToSpell (λ line both. line_row line both.0 both.1) t.lines (lines_to_spell t.lines formed.lines spellable))) end_rows
+
+-- a task whose lines can be spelled
+abbrev CanSpell : Task → Type 0
+CanSpell task = All (λ (line : Line). IsSpellableCall line.call) task.lines
+
+tasks_lines : (boots : List Module) (tasks : List Task) → All (IsFormedTask boots) tasks → All CanSpell tasks
+    → AreRows (flat_map task_text tasks) (flat_map task_rows tasks)
+tasks_lines boots [] formed spellable = no_rows
+tasks_lines boots (t ∷ tasks) formed spellable =
+    subst (λ (text : List ℕ). AreRows text (flat_map task_rows (t ∷ tasks))) (sym (flat_map-cons task_text t tasks))
+    (subst (AreRows (task_text t ++ flat_map task_text tasks)) (sym (flat_map-cons task_rows t tasks))
+    (rows_append (task_text t) (flat_map task_text tasks) (task_rows t) (flat_map task_rows tasks)
+    (task_lines boots t (All-head (IsFormedTask boots) t tasks formed) (All-head CanSpell t tasks spellable))
+    (tasks_lines boots tasks (All-tail (IsFormedTask boots) t tasks formed) (All-tail CanSpell t tasks spellable))))
+
+front_text : Script → List ℕ
+front_text s = lines_text boot_pieces s.boots ++ lines_text file_pieces s.files ++ flat_map task_text s.tasks
+
+front_lines : (s : Script) → IsWellFormed s → IsSpellable s → AreRows (front_text s) (front_rows s)
+unfolding front_text
+front_lines s formed spellable =
+    rows_append (lines_text boot_pieces s.boots ++ lines_text file_pieces s.files) (flat_map task_text s.tasks) (map boot_pieces s.boots ++ map file_pieces s.files) (flat_map task_rows s.tasks)
+    (rows_append (lines_text boot_pieces s.boots) (lines_text file_pieces s.files) (map boot_pieces s.boots) (map file_pieces s.files)
+    (rows_of boot_pieces (λ m. Unit {0}) (λ m u. boot_row m) s.boots (λ k d within. tt))
+    (rows_of file_pieces (IsFormedFile s.boots) (file_row s.boots) s.files formed.each_file)) (tasks_lines s.boots s.tasks formed.each_task spellable)
+
+steps_lines : (first : Step) (more : List Step) → All IsFormedStep (first ∷ more) → AreRows (steps_text (first ∷ more)) (step_rows (first ∷ more))
+steps_lines first more formed =
+    rows_append (codes "steps\n" ++ lines_text step_pieces (first ∷ more)) (codes "end\n") (alone (codes "steps") ∷ map step_pieces (first ∷ more)) (alone (codes "end") ∷ [])
+    (rows_append (codes "steps\n") (lines_text step_pieces (first ∷ more)) (alone (codes "steps") ∷ []) (map step_pieces (first ∷ more))
+    (one_row (alone (codes "steps")) (refl, refl, tt))
+    (rows_of step_pieces IsFormedStep step_row (first ∷ more) formed)) end_rows
+
+-- The whole text
+
+front_then : (s : Script) → script_text s ≡ front_text s ++ steps_text s.steps
+unfolding front_text
+front_then s = refl
+
+whole : (text : List ℕ) (rows : List Pieces) → AreRows text rows → SpellLines (sayings (lines_in text)) rows
+whole text rows are = subst (λ (text : List ℕ). SpellLines (sayings (lines_in text)) rows) (append-nil text) (subst (SpellLines (sayings (lines_in (text ++ [])))) (append-nil rows) (are.spelled [] [] tt))
+
+whole_plain : (text : List ℕ) (rows : List Pieces) → AreRows text rows → list_all (λ line. list_all is_plain line) (lines_in text) ≡ true
+whole_plain text rows are = subst (λ (text : List ℕ). list_all (λ line. list_all is_plain line) (lines_in text) ≡ true) (append-nil text) (are.plain [] refl)
+
+pub canonical_spells : CanonicalTextsSpell
+canonical_spells s formed spellable = subst (λ text. IsTextOf text s) (sym (front_then s)) (by_steps s.steps refl formed.each_step) where
+  front : AreRows (front_text s) (front_rows s)
+  front = front_lines s formed spellable
+
+  by_steps : (steps : List Step) → s.steps ≡ steps → All IsFormedStep steps → IsTextOf (front_text s ++ steps_text steps) s
+  by_steps [] none each = record {
+    plain = subst (λ (text : List ℕ). list_all (λ line. list_all is_plain line) (lines_in text) ≡ true) (sym (append-nil (front_text s))) (whole_plain (front_text s) (front_rows s) front);
+    spelled = inr (none, subst (λ (text : List ℕ). SpellLines (sayings (lines_in text)) (front_rows s)) (sym (append-nil (front_text s))) (whole (front_text s) (front_rows s) front));
+  }
+  by_steps (first ∷ more) is each =
+      let rows = rows_append (front_text s) (steps_text (first ∷ more)) (front_rows s) (step_rows (first ∷ more)) front (steps_lines first more each) in
+      record {
+        plain = whole_plain (front_text s ++ steps_text (first ∷ more)) (front_rows s ++ step_rows (first ∷ more)) rows;
+        spelled = inl (subst (λ (steps : List Step). SpellLines (sayings (lines_in (front_text s ++ steps_text (first ∷ more)))) (front_rows s ++ step_rows steps)) (sym is)
+            (whole (front_text s ++ steps_text (first ∷ more)) (front_rows s ++ step_rows (first ∷ more)) rows));
+      }
+
+pub canonical_read : CanonicalTextsAreRead
+canonical_read s formed spellable few = spelled_read (script_text s) s formed (canonical_spells s formed spellable)
