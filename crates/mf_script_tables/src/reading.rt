@@ -8,7 +8,7 @@ use std::alloc::{AllocError, Global};
 use std::process::Abort;
 
 /// Every call, in the order in which the grammar names them.
-const CALLS: &[&str] = &[
+pub const CALLS: &[&str] = &[
     "fork c",
     "exit",
     "see t",
@@ -50,7 +50,7 @@ const CALLS: &[&str] = &[
 ];
 
 /// Scripts that are read.
-const GOOD_SCRIPTS: &[&str] = &[
+pub const GOOD_SCRIPTS: &[&str] = &[
     "boot mac_biba\ntask t uid 0 gid 0 label -\nend\n",
     "task t uid 0 gid 0 label -\nend",
     "boot mac_mls\nboot mac_biba\nfile /m reg uid 0 gid 0 mode 0 label mls/5 text x\ntask t uid 0 gid 0 label biba/9(1-9),mls/3\nend",
@@ -72,7 +72,7 @@ const GOOD_SCRIPTS: &[&str] = &[
 ];
 
 /// Reads a short script.
-fn script_of(rt: &impl Abort, alloc: Global, text: &str) -> Result<Script, ScriptError> {
+pub fn script_of(rt: &impl Abort, alloc: Global, text: &str) -> Result<Script, ScriptError> {
     assert!(rt; text.len() <= SCRIPT_LIMIT);
     read_script(alloc, text.as_bytes())
 }

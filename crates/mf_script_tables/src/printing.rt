@@ -1,0 +1,111 @@
+//! Canonical texts, and scripts that are printed and read back.
+
+use crate::reading::{CALLS, GOOD_SCRIPTS, script_of};
+use mf_calls::Script;
+use mf_script::{ScriptError, generate};
+use mf_spelling::print_script;
+use std::alloc::{AllocError, Global};
+use std::process::Abort;
+
+/// Scripts, each with its canonical text.
+const CANONICAL: &[(&str, &str)] = &[
+    ("", ""),
+    ("# nothing\n\n \t\n", ""),
+    ("steps\n# none\nend", ""),
+    (
+        "\t boot \t mac_mls \nboot mac_biba",
+        "boot mac_mls\nboot mac_biba\n",
+    ),
+    (
+        "file /a dir uid 007 gid 0 mode 00644 label -",
+        "file /a dir uid 7 gid 0 mode 644 label -\n",
+    ),
+    (
+        "file /a reg uid 0 gid 4294967295 mode 0 label - text \\41#\\5C\\20",
+        "file /a reg uid 0 gid 4294967295 mode 0 label - text A#\\5c\\20\n",
+    ),
+    (
+        "boot mac_biba\nfile /a.b reg uid 0 gid 0 mode 7777 label biba/eq",
+        "boot mac_biba\nfile /a.b reg uid 0 gid 0 mode 7777 label biba/equal\n",
+    ),
+    (
+        "boot mac_mls\nboot mac_biba\ntask t uid 1 gid 02,0,2 label mls/lo,biba/010:3+2+03(lo-hi)\nend",
+        "boot mac_mls\nboot mac_biba\ntask t uid 1 gid 2,0,2 label biba/10:2+3(low-high),mls/low\nend\n",
+    ),
+    (
+        "boot mac_partition\ntask t uid 0 gid 0 label partition/00\n  exit\n# gone\n@c\tread /\nend",
+        "boot mac_partition\ntask t uid 0 gid 0 label partition/none\nexit\n@c read /\nend\n",
+    ),
+    (
+        "task t uid 0 gid 0 label -\nugidfw set 007 subject uid 5:5 object mode wr\nend",
+        "task t uid 0 gid 0 label -\nugidfw set 7 subject uid 5 object mode rw\nend\n",
+    ),
+    (
+        "task t uid 0 gid 0 label -\nend\nsteps\n\n change\tt\n end \n",
+        "task t uid 0 gid 0 label -\nend\nsteps\nchange t\nend\n",
+    ),
+];
+
+fn text_of(alloc: Global, script: &Script) -> Result<String, AllocError> {
+    let mut text = String::new(alloc);
+    print_script(alloc, script, &mut text)?;
+    Ok(text)
+}
+
+/// The canonical text of the script of a short text.
+fn canonical(rt: &impl Abort, alloc: Global, text: &str) -> Result<String, ScriptError> {
+    let script = script_of(rt, alloc, text)?;
+    let text = text_of(alloc, &script)?;
+    Ok(text)
+}
+
+#[test]
+fn canonical_texts(rt: HostRuntime) -> Result<(), ScriptError> {
+    for (text, wanted) in CANONICAL {
+        let found = canonical(&rt, rt.alloc(), text)?;
+        assert!(rt; found.as_str() == *wanted, "{text}");
+    }
+    Ok(())
+}
+
+/// The call's line is its canonical text.
+fn prints_call(rt: &impl Abort, alloc: Global, call: &str) -> Result<(), ScriptError> {
+    let text = format!(in alloc; "task t uid 0 gid 0 label -\n{call}\n@c {call}\nend\n")?;
+    let found = canonical(rt, alloc, text.as_str())?;
+    assert!(rt; found.as_str() == text.as_str(), "{call}");
+    Ok(())
+}
+
+#[test]
+fn every_call_is_printed(rt: HostRuntime) -> Result<(), ScriptError> {
+    for call in CALLS {
+        prints_call(&rt, rt.alloc(), call)?;
+    }
+    Ok(())
+}
+
+/// The text is that of a script whose canonical text it is.
+fn is_canonical(rt: &impl Abort, alloc: Global, text: &str) -> Result<(), ScriptError> {
+    let again = canonical(rt, alloc, text)?;
+    assert!(rt; again.as_str() == text, "{text}");
+    Ok(())
+}
+
+#[test]
+fn printed_scripts_are_read_back(rt: HostRuntime) -> Result<(), ScriptError> {
+    for script in GOOD_SCRIPTS {
+        let text = canonical(&rt, rt.alloc(), script)?;
+        is_canonical(&rt, rt.alloc(), text.as_str())?;
+    }
+    Ok(())
+}
+
+#[test]
+fn loads_are_read_back(rt: HostRuntime) -> Result<(), ScriptError> {
+    for (lines, tasks) in [(0, 0), (1, 1), (40, 16)] {
+        let load = generate(rt.alloc(), lines, tasks)?;
+        let text = text_of(rt.alloc(), &load)?;
+        is_canonical(&rt, rt.alloc(), text.as_str())?;
+    }
+    Ok(())
+}
