@@ -1,19 +1,21 @@
 #!/usr/bin/env python3
-"""What has to be believed for the program's theorem: the definitions that its clauses reach.
+"""What has to be believed for the program's theorem: the definitions that its clauses reach, clause by clause.
 
-The names in the clauses of mf_top's public calls are followed through the `ghost use` lines of the .rt files and the `use` lines of
+First comes the clause `headline` of the program's call, with the signature and the premises of that call; then what each other clause of it
+adds, and what the other public calls of mf_top add. The names in them are followed through the `ghost use` lines of the .rt files and the `use` lines of
 crates/*/specs/*.antt, definition by definition. Types, constants and traits that the sources declare are followed by what contracts see of
 them: a type with a `Model` by its `Value`, any other by the types of its parts, a trait by the types of its ghost members. They are printed,
-and not counted. std's own definitions are neither. Not followed are the contracts of the traits that a public call is generic in, as
+and counted by themselves. std's own definitions are neither. Not followed are the contracts of the traits that a public call is generic in, as
 `Source` and `Policy`: they are premises, which each implementation is proved to meet.
 
 The lines of a definition are its own and those of the comments in it or directly above it. Nothing else counts: no import, no blank line,
 no comment at the head of a file, and none that a blank line parts from the definition.
 
-    believed.py              prints what is reached, and fails where the reading list of docs/THEOREM.md doesn't say so
-    believed.py --write      puts files and numbers into the reading list, and keeps what each row says
+    believed.py              prints what is reached and the figures, and fails where the reading list of docs/THEOREM.md doesn't say so
+    believed.py --write      puts files and figures into the reading list, and keeps what each row says
     believed.py --unreached  prints the definitions that aren't reached, and the files that have some of either
 """
+import re
 import sys
 
 sys.dont_write_bytecode = True
@@ -22,6 +24,8 @@ import definitions
 from definitions import CRATES, ROOT, SOURCES, SPECS
 
 PROGRAM = "mf_top"
+CALL = "macsim"
+OTHERS = "other calls"
 DOCUMENT = ROOT / "docs" / "THEOREM.md"
 SECTION = "## The reading list"
 TOTAL = "Together "
@@ -60,20 +64,64 @@ def title(file):
 # What is reached
 
 
-def reached_nodes():
-    """Every definition, type, constant and trait that the clauses reach, with what each names."""
-    reached, next_nodes = {}, list(map(definitions.settled, definitions.public_nodes(PROGRAM)))
-    while next_nodes:
-        node = next_nodes.pop()
+def clauses():
+    """The clauses of the program's call, each with what it names, the first with signature and premises too; last the other public calls."""
+    source = SOURCES[PROGRAM, "src/top.rt"]
+    call = next(match for match in definitions.FUNCTION.finditer(source.text) if match[2] == CALL)
+    contract = source.text[call.start() :].partition(f"\n{call[1]}{{\n")[0]
+    signature = re.split(r"\b(?:requires|ensures)\b", contract)[0]
+    bounds = re.findall(r"\b([A-Z]\w*): (\w+)", signature)
+    given = source.words_nodes(re.findall(r"\w+", signature)) + terms_nodes(source, contract, r"\brequires(?: \w+)?", bounds)
+    for name in re.findall(r"\bensures (\w+)", contract):
+        yield name, given + terms_nodes(source, contract, rf"\bensures {name}", bounds)
+        given = []
+    yield OTHERS, definitions.public_nodes(PROGRAM)
+
+
+def terms_nodes(source, contract, head, bounds):
+    return [node for term in definitions.inside(contract, head) for node in source.term_nodes(term, bounds)]
+
+
+def add_reached(names, reached):
+    """Adds every definition, type, constant and trait that these reach, with what each names."""
+    left = list(map(definitions.settled, names))
+    while left:
+        node = left.pop()
         if node not in reached:
             reached[node] = set(definitions.nodes_of(node)) - {node}
-            next_nodes += reached[node]
-    return reached
+            left += reached[node]
 
 
 class Reached:
+    """What the clauses reach, and what each of them adds to those before it."""
+
     def __init__(self):
-        self.nodes = reached_nodes()
+        self.nodes, self.added = {}, {}
+        for name, names in clauses():
+            before = set(self.nodes)
+            add_reached(names, self.nodes)
+            self.added[name] = Added(self, set(self.nodes) - before)
+        self.whole = Added(self, set(self.nodes))
+
+    def declared(self):
+        """Each type, constant and trait with its source, by crate, file and line."""
+        items = [(SOURCES[node[:2]], node.name) for node in self.nodes if node[:2] in SOURCES]
+        return sorted(items, key=lambda item: (CRATES.index(item[0].crate), item[0].file, item[0].line(item[1])))
+
+    def print(self):
+        for added in self.added.values():
+            for file in added.reading_order():
+                for definition in added.files[file]:
+                    print(f"crates/{file.crate}/{file.file}:{definition.line}: {definition.name}, {definition.count} lines")
+        for source, name in self.declared():
+            print(f"crates/{source.crate}/{source.file}:{source.line(name)}: {source.items[name][1]} {name}")
+
+
+class Added:
+    """Some of what is reached."""
+
+    def __init__(self, reached, nodes):
+        self.reached, self.nodes = reached, nodes
         self.files = {file: [d for d in file.definitions.values() if self.has(file, d)] for file in SPECS.values()}
         self.files = {file: found for file, found in self.files.items() if found}
 
@@ -82,11 +130,6 @@ class Reached:
 
     def lines(self, file):
         return sum(definition.count for definition in self.files.get(file, []))
-
-    def declared(self):
-        """Each type, constant and trait with its source, by crate, file and line."""
-        items = [(SOURCES[node[:2]], node.name) for node in self.nodes if node[:2] in SOURCES]
-        return sorted(items, key=lambda item: (CRATES.index(item[0].crate), item[0].file, item[0].line(item[1])))
 
     def reading_order(self):
         """The files crate by crate, and in a crate each behind those that it names."""
@@ -98,62 +141,77 @@ class Reached:
         return order
 
     def named_by(self, file):
-        """The other files that the reached definitions of this one name."""
-        named = [node for d in self.files[file] for node in self.nodes[definitions.Node(file.crate, file.file, d.name)]]
+        """The other files that these definitions of this one name."""
+        named = [node for d in self.files[file] for node in self.reached.nodes[definitions.Node(file.crate, file.file, d.name)]]
         return {SPECS[node[:2]] for node in named if node[:2] in SPECS} - {file}
 
     def counts(self):
-        """How many definitions there are, and the lines of the meaning and of the syntax."""
+        """How many definitions there are, the lines of the meaning and of the syntax, and how many types and constants."""
         syntax = sum(self.lines(file) for file in self.files if is_syntax(file))
-        return sum(map(len, self.files.values())), sum(map(self.lines, self.files)) - syntax, syntax
+        declared = sum(node[:2] in SOURCES for node in self.nodes)
+        return sum(map(len, self.files.values())), sum(map(self.lines, self.files)) - syntax, syntax, declared
 
-    def print(self):
-        for file in self.reading_order():
-            for definition in self.files[file]:
-                print(f"crates/{file.crate}/{file.file}:{definition.line}: {definition.name}, {definition.count} lines")
-        for source, name in self.declared():
-            print(f"crates/{source.crate}/{source.file}:{source.line(name)}: {source.items[name][1]} {name}")
+    def figures(self):
+        count, meaning, syntax, declared = self.counts()
+        return f"{count} definitions, {meaning + syntax} lines, of them meaning {meaning}, syntax {syntax}; {declared} types and constants"
 
 
 # The reading list
 
 
-def entry(reached, file):
+def entry(added, file):
     """How a row names a file: with the lines that are reached, and all, where they aren't the same."""
-    lines, whole = reached.lines(file), file.lines()
+    lines, whole = added.lines(file), file.lines()
     return title(file) if lines == whole else f"{title(file)} ({lines} of {whole})"
 
 
-def row(reached, crate, words):
-    files = [file for file in reached.reading_order() if file.crate == crate]
-    syntax = sum(reached.lines(file) for file in files if is_syntax(file))
-    meaning = sum(map(reached.lines, files)) - syntax
-    names = ", ".join(entry(reached, file) for file in files)
+def row(added, crate, words):
+    files = [file for file in added.reading_order() if file.crate == crate]
+    syntax = sum(added.lines(file) for file in files if is_syntax(file))
+    meaning = sum(map(added.lines, files)) - syntax
+    names = ", ".join(entry(added, file) for file in files)
     return f"| {crate} {names} | {meaning or ''} | {syntax or ''} | {words} |"
 
 
+def head(name, added):
+    """The row in front of what a clause adds."""
+    count, meaning, syntax, declared = added.counts()
+    return f"| **{name}**: {count} definitions, {declared} types and constants | {meaning or ''} | {syntax or ''} | |"
+
+
 def total(reached):
-    count, meaning, syntax = reached.counts()
-    return f"{TOTAL}{count} definitions on {meaning + syntax:,} lines, of them meaning {meaning:,}, syntax {syntax:,}."
+    count, meaning, syntax, declared = reached.whole.counts()
+    return f"{TOTAL}{count} definitions on {meaning + syntax:,} lines, of them meaning {meaning:,}, syntax {syntax:,}; and {declared} types and constants."
 
 
 class ReadingList:
-    """The rows of the list, one for each crate, and the line of the total, as the document has them."""
+    """The rows of the list, clause by clause one for each crate, and the line of the total, as the document has them."""
 
     def __init__(self):
         self.lines = DOCUMENT.read_text().splitlines()
         section = self.lines.index(SECTION)
-        self.places = [at for at, line in enumerate(self.lines) if at > section and line.startswith("| mf_")]
+        self.places = [at for at, line in enumerate(self.lines) if at > section and re.match(r"\| (mf_|\*\*)", line)]
         self.total_place = next(at for at, line in enumerate(self.lines) if at > section and line.startswith(TOTAL))
         self.rows = [self.lines[at] for at in self.places]
-        self.words = {row.split()[1]: row.split("|")[-2].strip() for row in self.rows}
+        self.words = dict(self.words_of_rows())
+
+    def words_of_rows(self):
+        clause = ""
+        for line in self.rows:
+            if line.startswith("| **"):
+                clause = line.split("**")[1]
+            else:
+                yield (clause, line.split()[1]), line.split("|")[-2].strip()
 
     def wanted_rows(self, reached):
-        crates = list(dict.fromkeys(file.crate for file in reached.reading_order()))
-        return [row(reached, crate, self.words.get(crate, "?")) for crate in crates]
+        for name, added in reached.added.items():
+            if added.files:
+                yield head(name, added)
+            for crate in dict.fromkeys(file.crate for file in added.reading_order()):
+                yield row(added, crate, self.words.get((name, crate), "?"))
 
     def faults(self, reached):
-        wanted = self.wanted_rows(reached)
+        wanted = list(self.wanted_rows(reached))
         yield from (f"wanted: {line}" for line in wanted if line not in self.rows)
         yield from (f"not wanted: {line}" for line in self.rows if line not in wanted)
         yield from (f"no words: {line}" for line in wanted if line.endswith("| ? |"))
@@ -164,18 +222,18 @@ class ReadingList:
 
     def write(self, reached):
         self.lines[self.total_place] = total(reached)
-        self.lines[self.places[0] : self.places[-1] + 1] = self.wanted_rows(reached)
+        self.lines[self.places[0] : self.places[-1] + 1] = list(self.wanted_rows(reached))
         DOCUMENT.write_text("\n".join(self.lines) + "\n")
 
 
 def print_unreached(reached):
     for file in SPECS.values():
-        left = [definition for definition in file.definitions.values() if not reached.has(file, definition)]
+        left = [definition for definition in file.definitions.values() if not reached.whole.has(file, definition)]
         for definition in left:
             print(f"crates/{file.crate}/{file.file}:{definition.line}: {definition.name}, {definition.count} lines")
     for file in SPECS.values():
-        if 0 < reached.lines(file) < file.lines():
-            print(f"crates/{file.crate}/{file.file}: {reached.lines(file)} of {file.lines()} lines are reached")
+        if 0 < reached.whole.lines(file) < file.lines():
+            print(f"crates/{file.crate}/{file.file}: {reached.whole.lines(file)} of {file.lines()} lines are reached")
 
 
 def main(mode=""):
@@ -189,8 +247,9 @@ def main(mode=""):
     faults = list(ReadingList().faults(reached))
     for fault in faults:
         print(f"docs/THEOREM.md: {fault}")
-    count, meaning, syntax = reached.counts()
-    print(f"believed: {count} definitions, {meaning + syntax} lines, of them meaning {meaning}, syntax {syntax}")
+    for name, added in reached.added.items():
+        print(f"{name}: {added.figures()}")
+    print(f"believed: {reached.whole.figures()}")
     return 1 if faults else 0
 
 

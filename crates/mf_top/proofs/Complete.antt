@@ -6,6 +6,7 @@ use Rattle.mf_script.specs.declared.error.ScriptError.{ScriptError}
 use Rattle.mf_script.specs.declared.error.ScriptError.TheVariants as script_error
 use Rattle.mf_script.specs.declared.error.ScriptFault.{ScriptFault}
 use Rattle.mf_script.specs.Grammar.{script_of}
+use Rattle.mf_spelled.proofs.FirstFault.{scripts_texts}
 use Rattle.mf_errno.specs.declared.errno.Errno.{Errno}
 use Rattle.mf_names.specs.declared.limits.TheConstants.{SCRIPT_LIMIT}
 use Rattle.mf_io.specs.Outside.{Seen, FaultsRose}
@@ -17,6 +18,7 @@ use Rattle.mf_top.specs.declared.command.Command.{Command}
 use Rattle.mf_top.specs.declared.command.Command.TheVariants as command
 use Rattle.mf_top.specs.Answers.{CanBeDone, HoldsScript, IsOutcomeOf, IsSourceRefusal, IsTooLong, IsWritten, status_of}
 use Rattle.mf_top.specs.Steps.{RefusesStep}
+use Rattle.mf_top.specs.Reading.{AreScript}
 use Rattle.mf_top.proofs.Known.{known}
 
 -- done, or memory ran out
@@ -29,17 +31,25 @@ no_script_fault s error e = cc
 ok_is : (read : Result Script ScriptError) (s t : Script) → read ≡ Ok s → read ≡ Ok t → s ≡ t
 ok_is read s t is was = cc
 
+-- what spells a script is read as that script
+
+is_read : (bytes : List ℕ) (s : Script) → AreScript bytes s → script_of bytes ≡ Ok s
+is_read bytes s are = (scripts_texts bytes s are.0).1 (are.1, are.2)
+
+one_script : (bytes : List ℕ) (s t : Script) → AreScript bytes s → AreScript bytes t → s ≡ t
+one_script bytes s t one other = ok_is (script_of bytes) s t (is_read bytes s one) (is_read bytes t other)
+
 -- a script isn't refused
 
 no_refusal : (before after : Option (List ℕ)) (line : ℕ) (fault : ScriptFault) (errno : Option Errno)
-    → IsSomeAnd before (λ bytes. (length bytes ≤ SCRIPT_LIMIT) × ((s : Script) × (script_of bytes ≡ Ok s)))
+    → IsSomeAnd before (λ bytes. (s : Script) × AreScript bytes s)
     → IfSome before (λ bytes. ((length bytes ≤ SCRIPT_LIMIT) × (script_of bytes ≡ Err (script_error.Fault line fault errno))) × (after ≡ Some [])) → ⊥
 no_refusal None after line fault errno holds cause = holds
-no_refusal (Some bytes) after line fault errno holds cause = no_script_fault holds.1.0 (script_error.Fault line fault errno) (sym holds.1.1 ∙ cause.0.1)
+no_refusal (Some bytes) after line fault errno holds cause = no_script_fault holds.0 (script_error.Fault line fault errno) (sym (is_read bytes holds.0 holds.1) ∙ cause.0.1)
 
-fits : (before after : Option (List ℕ)) → IsSomeAnd before (λ bytes. (length bytes ≤ SCRIPT_LIMIT) × ((s : Script) × (script_of bytes ≡ Ok s))) → IsTooLong before after → ⊥
+fits : (before after : Option (List ℕ)) → IsSomeAnd before (λ bytes. (s : Script) × AreScript bytes s) → IsTooLong before after → ⊥
 fits None after holds long = holds
-fits (Some bytes) after holds long = omega (arith, holds.0, long.0)
+fits (Some bytes) after holds long = omega (arith, holds.1.0, long.0)
 
 source_done : (source : Seen) (refused : Refusal) → HoldsScript source → ¬ FaultsRose source → IsSourceRefusal source refused → IsDoneOrNot (status_of (Err refused))
 source_done source refusal.Usage holds quiet cause = absurd cause
@@ -51,16 +61,16 @@ source_done source refusal.Memory holds quiet cause = inr refl
 
 -- and no step of one whose steps are all taken
 
-holds_script : (before : Option (List ℕ)) → IsSomeAnd before (λ bytes. (length bytes ≤ SCRIPT_LIMIT) × (s : Script) × (script_of bytes ≡ Ok s) × AreAllTaken s)
-    → IsSomeAnd before (λ bytes. (length bytes ≤ SCRIPT_LIMIT) × ((s : Script) × (script_of bytes ≡ Ok s)))
+holds_script : (before : Option (List ℕ)) → IsSomeAnd before (λ bytes. (s : Script) × AreScript bytes s × AreAllTaken s)
+    → IsSomeAnd before (λ bytes. (s : Script) × AreScript bytes s)
 holds_script None holds = holds
-holds_script (Some bytes) holds = (holds.0, (holds.1, holds.2))
+holds_script (Some bytes) holds = (holds.0, holds.1)
 
-no_step_refused : (before after : Option (List ℕ)) (number : ℕ) → IsSomeAnd before (λ bytes. (length bytes ≤ SCRIPT_LIMIT) × (s : Script) × (script_of bytes ≡ Ok s) × AreAllTaken s)
+no_step_refused : (before after : Option (List ℕ)) (number : ℕ) → IsSomeAnd before (λ bytes. (s : Script) × AreScript bytes s × AreAllTaken s)
     → IfSome before (λ bytes. RefusesStep bytes number × (after ≡ Some [])) → ⊥
 no_step_refused None after number holds cause = holds
 no_step_refused (Some bytes) after number holds cause =
-    one_way.not_both holds.1 number holds.3 (subst (λ s. IsFirstRefused s number) (ok_is (script_of bytes) cause.0.1 holds.1 cause.0.2 holds.2) cause.0.3)
+    one_way.not_both holds.0 number holds.2 (subst (λ s. IsFirstRefused s number) (one_script bytes cause.0.0 holds.0 cause.0.1 holds.1) cause.0.2)
 
 outcome_done : (asked : Option Command) (source : Seen) (outcome : Result (List ℕ) Refusal) → CanBeDone asked source → ¬ FaultsRose source → IsOutcomeOf asked source outcome
     → IsDoneOrNot (status_of outcome)

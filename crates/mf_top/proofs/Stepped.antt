@@ -16,8 +16,8 @@ step_refusal source refusal.TooLong cause = cause
 step_refusal source refusal.Memory cause = cause
 
 pub stepped : (source : Seen) (s : Script) (outcome : Result (List ℕ) Refusal) → IsRead source (Ok s) → AreStepped s outcome → IsStepOutcome source outcome
-stepped source s (Ok text) read is = (read.0, (read.1.0, read.1.1, (read.1.2.0, s, read.1.2.1, is)))
-stepped source s (Err (refusal.Step number)) read is = (read.0, (read.1.0, read.1.1, (read.1.2.0, s, read.1.2.1, is)))
+stepped source s (Ok text) read is = (read.0, (read.1.0, read.1.1, (s, read.1.2, is)))
+stepped source s (Err (refusal.Step number)) read is = (read.0, (read.1.0, read.1.1, (s, read.1.2, is)))
 stepped source s (Err refusal.Memory) read is = read.0
 stepped source s (Err refusal.Usage) read is = absurd is
 stepped source s (Err (refusal.Script line fault errno)) read is = absurd is

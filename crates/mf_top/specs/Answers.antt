@@ -23,7 +23,7 @@ use Rattle.mf_names.specs.declared.limits.TheConstants.{SCRIPT_LIMIT}
 use Rattle.mf_hist.specs.HistoryText.{history_text}
 use Rattle.mf_load.specs.Summary.{load_summary}
 use Rattle.mf_stepping.specs.StepText.{AreAllTaken}
-use Rattle.mf_top.specs.Reading.{Held}
+use Rattle.mf_top.specs.Reading.{Held, AreScript}
 use Rattle.mf_top.specs.Slots.{AreMarked}
 use Rattle.mf_top.specs.Steps.{IsStepText, RefusesStep}
 
@@ -34,9 +34,9 @@ abbrev pub IsRunOf : Script → List ℕ → Type 0
 IsRunOf s text =
     (h : History) × IsLegal s h × IsComplete s h × AreMadeOnce s h × AreMarked s h × AreInOrder s h × (text ≡ history_text s h ++ sources_text s h)
 
--- the bytes are a script and no more than one may have, and the text is that of a legal and complete history of it
+-- the bytes are a script, and the text is that of a legal and complete history of it
 abbrev pub IsRunText : List ℕ → List ℕ → Type 0
-IsRunText bytes text = (length bytes ≤ SCRIPT_LIMIT) × (s : Script) × (script_of bytes ≡ Ok s) × IsRunOf s text
+IsRunText bytes text = (s : Script) × AreScript bytes s × IsRunOf s text
 
 -- The source held a script to its end, and the sink took the text of one history that is legal and complete for it, and nothing else.
 abbrev pub WroteHistory : Seen → Seen → Type 0
@@ -145,11 +145,11 @@ IsWritten sink outcome status =
 
 -- the source holds a script
 abbrev pub HoldsScript : Seen → Type 0
-HoldsScript source = IsSomeAnd source.before (λ bytes. (length bytes ≤ SCRIPT_LIMIT) × ((s : Script) × (script_of bytes ≡ Ok s)))
+HoldsScript source = IsSomeAnd source.before (λ bytes. (s : Script) × AreScript bytes s)
 
 -- the source holds a script, each step of which is of one of its tasks and in turn
 abbrev pub HoldsSteps : Seen → Type 0
-HoldsSteps source = IsSomeAnd source.before (λ bytes. (length bytes ≤ SCRIPT_LIMIT) × (s : Script) × (script_of bytes ≡ Ok s) × AreAllTaken s)
+HoldsSteps source = IsSomeAnd source.before (λ bytes. (s : Script) × AreScript bytes s × AreAllTaken s)
 
 -- what the words ask for can be done: the source holds a script, where one is read
 abbrev pub CanBeDone : Option Command → Seen → Type 0

@@ -1,19 +1,17 @@
 -- What the reader of a source's script answers, and what its steps do; inner contracts alone cite this.
-use Rattle.std.specs.Prelude.{◌≡◌, ℕ, ◌≤◌, List, length, Result, Ok, Err}
+use Rattle.std.specs.Prelude.{ℕ, List, Result, Ok, Err}
 use Rattle.mf_calls.specs.declared.script.Script.{Script}
-use Rattle.mf_script.specs.Grammar.{script_of}
 use Rattle.mf_io.specs.Outside.{Seen, HadNoFault}
-use Rattle.mf_names.specs.declared.limits.TheConstants.{SCRIPT_LIMIT}
 use Rattle.mf_top.specs.declared.refusal.Refusal.{Refusal}
 use Rattle.mf_top.specs.declared.refusal.Refusal.TheVariants as refusal
 use Rattle.mf_top.specs.Answers.{IsSourceRefusal}
-use Rattle.mf_top.specs.Reading.{Held}
+use Rattle.mf_top.specs.Reading.{Held, AreScript}
 use Rattle.mf_top.specs.Steps.{IsStepsOf}
 use Rattle.mf_stepping.specs.StepText.{IsFirstRefused}
 
 -- the source held that script, to its end
 abbrev pub IsRead : Seen → Result Script Refusal → Type 0
-IsRead source (Ok s) = HadNoFault source × Held source (λ bytes. (length bytes ≤ SCRIPT_LIMIT) × (script_of bytes ≡ Ok s))
+IsRead source (Ok s) = HadNoFault source × Held source (λ bytes. AreScript bytes s)
 IsRead source (Err refused) = IsSourceRefusal source refused
 
 -- the text is that of the steps of the script; or a step is the first that is refused; or memory ran out
