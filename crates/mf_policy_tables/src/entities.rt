@@ -7,13 +7,13 @@ use mf_objects::{ID_LIMIT, Id, MOST_ENTITIES, Objects};
 use std::alloc::{AllocError, Global};
 use std::process::Abort;
 
-fn labelled(number: u32) -> [LabelValue; 4] {
+pub fn labelled(number: u32) -> [LabelValue; 4] {
     let unset = LabelValue::Unset;
     [LabelValue::Number(number), unset, unset, unset]
 }
 
 /// A file of the root with that name and the bytes `text`.
-fn add_file(
+pub fn add_file(
     rt: &impl Abort,
     alloc: Global,
     objects: &mut Objects,
@@ -34,7 +34,11 @@ fn add_file(
 }
 
 /// The process t.
-fn add_process(rt: &impl Abort, alloc: Global, objects: &mut Objects) -> Result<(), AllocError> {
+pub fn add_process(
+    rt: &impl Abort,
+    alloc: Global,
+    objects: &mut Objects,
+) -> Result<(), AllocError> {
     assert!(rt; objects.live() < MOST_ENTITIES && objects.next_id() < ID_LIMIT);
     if objects.process("t").is_none() {
         let t = objects.add_process(alloc, "t", &Cred::default(), &labelled(3))?;
@@ -78,7 +82,7 @@ fn names_in_byte_order(rt: HostRuntime) -> Result<(), AllocError> {
 }
 
 /// The empty pipe p of t.
-fn add_pipe(rt: &impl Abort, alloc: Global, objects: &mut Objects) -> Result<(), AllocError> {
+pub fn add_pipe(rt: &impl Abort, alloc: Global, objects: &mut Objects) -> Result<(), AllocError> {
     assert!(rt; objects.live() < MOST_ENTITIES && objects.next_id() < ID_LIMIT);
     if let Some(t) = objects.process("t") {
         if objects.pipe("p").is_none() {
@@ -101,7 +105,7 @@ fn is_labelled(rt: &impl Abort, alloc: Global, objects: &Objects) -> Result<(), 
 
 /// Fills the pipe p.
 #[tactic(auto, using(mf_objects::proofs::Laws::fits_pipe))]
-fn fill(rt: &impl Abort, objects: &mut Objects) -> Result<(), AllocError> {
+pub fn fill(rt: &impl Abort, objects: &mut Objects) -> Result<(), AllocError> {
     if let Some(p) = objects.pipe("p") {
         assert!(rt; objects.size(p) < 10);
         objects.append(p, b"text")?;
@@ -147,7 +151,7 @@ fn an_exit_takes_its_pipes(rt: HostRuntime) -> Result<(), AllocError> {
 }
 
 /// The socket s of t, without a message.
-fn add_socket(rt: &impl Abort, alloc: Global, objects: &mut Objects) -> Result<(), AllocError> {
+pub fn add_socket(rt: &impl Abort, alloc: Global, objects: &mut Objects) -> Result<(), AllocError> {
     assert!(rt; objects.live() < MOST_ENTITIES && objects.next_id() < ID_LIMIT);
     if let Some(t) = objects.process("t") {
         if objects.socket("s").is_none() {
@@ -159,7 +163,7 @@ fn add_socket(rt: &impl Abort, alloc: Global, objects: &mut Objects) -> Result<(
 
 /// Puts a short message into the socket s.
 #[tactic(auto, using(mf_objects::proofs::Laws::fits_message))]
-fn push_message(
+pub fn push_message(
     rt: &impl Abort,
     alloc: Global,
     objects: &mut Objects,
@@ -215,7 +219,7 @@ fn unset_leaves_a_slot_as_it_is(rt: HostRuntime) -> Result<(), AllocError> {
 
 /// Appends a byte to the file f of the root.
 #[tactic(auto, using(mf_objects::proofs::Laws::fits_file))]
-fn append(rt: &impl Abort, objects: &mut Objects) -> Result<(), AllocError> {
+pub fn append(rt: &impl Abort, objects: &mut Objects) -> Result<(), AllocError> {
     let root = objects.root();
     if let Some(f) = objects.child(root, "f") {
         assert!(rt; !objects.file(f).dir && objects.size(f) < 10);

@@ -10,6 +10,8 @@ mod bsdextended;
 #[cfg(test)]
 mod entities;
 #[cfg(test)]
+mod growths;
+#[cfg(test)]
 mod labels;
 #[cfg(test)]
 mod mls;

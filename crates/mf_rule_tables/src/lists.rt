@@ -95,6 +95,32 @@ fn copies_and_cleared_lists(rt: HostRuntime) -> Result<(), AllocError> {
     Ok(())
 }
 
+/// Copies a list, and fills it; where the copy is refused, the list has what it had, and it is done once more.
+fn copy_or_stay(
+    rt: &impl Abort,
+    alloc: Global,
+    rules: &RuleList,
+    rule: Rule,
+) -> Result<(), AllocError> {
+    let copy = match rules.copy(alloc) {
+        Ok(copy) => copy,
+        Err(AllocError) => {
+            assert!(rt; has(rules, 7, &rule) && rules.get(0).is_none());
+            rules.copy(alloc)?
+        }
+    };
+    assert!(rt; copy.same(rules) && has(&copy, 7, &rule));
+    Ok(())
+}
+
+#[test]
+fn a_list_after_a_refused_copy(rt: HostRuntime) -> Result<(), AllocError> {
+    let rule = rule(&rt, rt.alloc(), "subject uid 5 object mode n")?;
+    let mut rules = RuleList::new(rt.alloc())?;
+    rules.set(7, rule);
+    copy_or_stay(&rt, rt.alloc(), &rules, rule)
+}
+
 /// Whether each is the same as the other.
 fn are_same(rules: &RuleList, others: &RuleList) -> bool {
     rules.same(others) && others.same(rules)

@@ -49,7 +49,7 @@ const CANONICAL: [(&str, &str); 8] = [
 ];
 
 /// Words that are no rule, each with its first fault.
-const FAULTS: [(&str, RuleFault); 28] = [
+const FAULTS: [(&str, RuleFault); 30] = [
     ("", RuleFault::Missing(0)),
     ("subject", RuleFault::Missing(1)),
     ("subject object", RuleFault::Missing(2)),
@@ -80,12 +80,17 @@ const FAULTS: [(&str, RuleFault); 28] = [
         RuleFault::UnknownWord(4),
     ),
     ("subject object mode r r", RuleFault::UnknownWord(4)),
+    ("subject object mode r x", RuleFault::UnknownWord(4)),
     ("subject uid 9:5 object mode r", RuleFault::BadRange(2)),
     ("subject uid 5: object mode r", RuleFault::BadRange(2)),
     ("subject uid :5 object mode r", RuleFault::BadRange(2)),
     ("subject uid 1:2:3 object mode r", RuleFault::BadRange(2)),
     (
         "subject gid 4294967296 object mode r",
+        RuleFault::BadRange(2),
+    ),
+    (
+        "subject uid 4294967296 object mode r",
         RuleFault::BadRange(2),
     ),
     ("subject uid root object mode r", RuleFault::BadRange(2)),

@@ -40,3 +40,32 @@ fn a_slot_through_its_life(rt: HostRuntime) -> Result<(), AllocError> {
     zones.give_up(label);
     Ok(())
 }
+
+/// Makes a second label, and gives the first a value more; where one is refused, the first holds what it held, and it is done once more.
+fn grow_or_stay(rt: &impl Abort, zones: &mut Zones) -> Result<(), AllocError> {
+    let (one, two, unset) = (
+        LabelValue::Number(1),
+        LabelValue::Number(2),
+        LabelValue::Unset,
+    );
+    let mut first = zones.make_label(&[one, two, unset, unset])?;
+    let second = zones.make_label(&[two, unset, unset, one]);
+    assert!(rt; zones.holds(&first, &[one, two, unset, unset]));
+    if zones
+        .relabel(&mut first, &[two, unset, one, unset])
+        .is_err()
+    {
+        assert!(rt; zones.holds(&first, &[one, two, unset, unset]));
+        zones.relabel(&mut first, &[two, unset, one, unset])?;
+    }
+    assert!(rt; zones.holds(&first, &[two, two, one, unset]));
+    let second = second?;
+    assert!(rt; zones.holds(&second, &[two, unset, unset, one]));
+    Ok(())
+}
+
+#[test]
+fn labels_after_refused_growths(rt: HostRuntime) -> Result<(), AllocError> {
+    let mut zones = Zones::new(rt.alloc())?;
+    grow_or_stay(&rt, &mut zones)
+}

@@ -1,0 +1,218 @@
+//! Growths that are refused: what was there before is as it was, and done again they give the same. Where no memory is refused these tests show
+//! nothing but what comes of each growth; checks/memory.sh runs them with one allocation refused after another.
+ghost use Rattle.std.specs.Prelude.{◌≡◌, IsSome};
+ghost use Rattle.mf_objects.specs.Live.{live_at};
+
+use crate::entities;
+use crate::one_of::OneOf;
+use mf_biba::Biba;
+use mf_elem::LabelValue;
+use mf_errno::Module;
+use mf_list::{Catalogue, PolicyList};
+use mf_mls::Mls;
+use mf_objects::{Id, Objects};
+use mf_partition::Partition;
+use mf_policy::{Registration, Spec, SpecList};
+use std::alloc::{AllocError, Global};
+use std::process::Abort;
+
+/// What takes memory among the calls of `Objects`.
+#[derive(Clone, Copy)]
+enum Growth {
+    File(&'static str),
+    Process,
+    Pipe,
+    Socket,
+    Append,
+    Fill,
+    Message,
+    Relabel,
+}
+
+/// Every growth, some of them of what an earlier one made.
+const GROWTHS: &[Growth] = &[
+    Growth::File("f"),
+    Growth::File("g"),
+    Growth::Process,
+    Growth::Pipe,
+    Growth::Socket,
+    Growth::File("h"),
+    Growth::Append,
+    Growth::Fill,
+    Growth::Message,
+    Growth::Message,
+    Growth::Relabel,
+];
+
+/// What is read at the end: how many entities are live, and the next id; then of each its title, its size, its count, its mode, the lengths of its head
+/// and of its oldest message, and its label.
+const READING: &str = "7 7
+vnode:/ 0 3 755 0 0 7 2 3 0
+vnode:/f 5 0 644 5 0 1 0 0 0
+vnode:/g 4 0 644 4 0 1 0 0 0
+proc:t 0 0 0 0 0 3 0 0 0
+pipe:p 4 0 0 4 0 3 0 0 0
+socket:s 0 2 0 0 3 3 0 0 0
+vnode:/h 4 0 644 4 0 1 0 0 0
+";
+
+fn grow(
+    rt: &impl Abort,
+    alloc: Global,
+    objects: &mut Objects,
+    growth: Growth,
+) -> Result<(), AllocError> {
+    match growth {
+        Growth::File(name) => {
+            let _id = entities::add_file(rt, alloc, objects, name)?;
+            Ok(())
+        }
+        Growth::Process => entities::add_process(rt, alloc, objects),
+        Growth::Pipe => entities::add_pipe(rt, alloc, objects),
+        Growth::Socket => entities::add_socket(rt, alloc, objects),
+        Growth::Append => entities::append(rt, objects),
+        Growth::Fill => entities::fill(rt, objects),
+        Growth::Message => entities::push_message(rt, alloc, objects, b"one"),
+        Growth::Relabel => relabel(objects),
+    }
+}
+
+/// Gives the root two slots more.
+fn relabel(objects: &mut Objects) -> Result<(), AllocError> {
+    let (two, three, unset) = (
+        LabelValue::Number(2),
+        LabelValue::Number(3),
+        LabelValue::Unset,
+    );
+    let root = objects.root();
+    objects.relabel(root, &[unset, two, three, unset])
+}
+
+/// A part of a label, as a number.
+fn part(value: LabelValue) -> u32 {
+    match value {
+        LabelValue::Number(number) => number,
+        _ => 0,
+    }
+}
+
+/// Writes all that can be read of an entity.
+fn write_entity(objects: &Objects, id: Id, out: &mut String) -> Result<(), AllocError>
+    requires { IsSome (live_at objects.now id) }
+{
+    objects.title(id, out)?;
+    let (size, count, mode) = (objects.size(id), objects.count(id), objects.file(id).mode);
+    let (head, message) = (objects.head(id).len, objects.message(id).len);
+    write!(out, " {size} {count} {mode:o} {head} {message}")?;
+    for value in objects.label(id) {
+        let number = part(value);
+        write!(out, " {number}")?;
+    }
+    out.push_str("\n")
+}
+
+/// All that can be read of the entities.
+fn reading_of(alloc: Global, objects: &Objects) -> Result<String, AllocError> {
+    let (live, next) = (objects.live(), objects.next_id());
+    let mut text = format!(in alloc; "{live} {next}\n")?;
+    for number in 0..next {
+        if let Some(id) = objects.least_from(number) {
+            if id.number() == number {
+                write_entity(objects, id, &mut text)?;
+            }
+        }
+    }
+    Ok(text)
+}
+
+/// Grows by this; where that is refused, all can be read as before, and it is done once more.
+fn grow_or_stay(
+    rt: &impl Abort,
+    alloc: Global,
+    objects: &mut Objects,
+    growth: Growth,
+) -> Result<(), AllocError> {
+    let before = reading_of(alloc, objects)?;
+    if grow(rt, alloc, objects, growth).is_err() {
+        let after = reading_of(alloc, objects)?;
+        assert!(rt; after.as_str() == before.as_str());
+        grow(rt, alloc, objects, growth)?;
+    }
+    Ok(())
+}
+
+#[test]
+fn entities_after_refused_growths(rt: HostRuntime) -> Result<(), AllocError> {
+    let mut objects = Objects::new(rt.alloc(), &entities::labelled(7))?;
+    for growth in GROWTHS {
+        grow_or_stay(&rt, rt.alloc(), &mut objects, *growth)?;
+    }
+    assert_eq!(rt; reading_of(rt.alloc(), &objects)?.as_str(), READING);
+    Ok(())
+}
+
+/// Modules, each with its registration, in the order in which they are listed.
+const LISTED: &[Module] = &[
+    Module::Biba,
+    Module::Bsdextended,
+    Module::Mls,
+    Module::Partition,
+    Module::Priority,
+];
+
+/// Lists the module; where that is refused, the specs are those of the copy, and it is done once more.
+fn list_or_stay(
+    rt: &impl Abort,
+    alloc: Global,
+    specs: &mut SpecList,
+    module: Module,
+) -> Result<(), AllocError> {
+    let registration = Registration {
+        module,
+        slot: None,
+        fixed: module != Module::Partition,
+    };
+    let count = specs.len();
+    let spec = Spec::fresh(alloc, module)?;
+    if specs.list(registration, spec).is_err() {
+        assert!(rt; specs.len() == count && !specs.is_listed(module));
+        specs.list(registration, Spec::fresh(alloc, module)?)?;
+    }
+    assert!(rt; specs.len() == count.saturating_add(1) && specs.is_listed(module));
+    Ok(())
+}
+
+#[test]
+fn specs_after_refused_growths(rt: HostRuntime) -> Result<(), AllocError> {
+    let mut specs = SpecList::new(rt.alloc());
+    for module in LISTED {
+        list_or_stay(&rt, rt.alloc(), &mut specs, *module)?;
+    }
+    let copy = specs.copy(rt.alloc())?;
+    assert!(rt; copy.len() == specs.len() && copy.is_listed(Module::Partition));
+    Ok(())
+}
+
+/// Makes room in list and catalogue; where that is refused, both hold what they held, and it is done once more.
+fn ready_or_stay(
+    rt: &impl Abort,
+    list: &mut PolicyList<OneOf>,
+    catalogue: &mut Catalogue<OneOf>,
+) -> Result<(), AllocError> {
+    if list.ready(catalogue).is_err() {
+        assert!(rt; list.listed().len() == 0 && catalogue.knows(list, "mac_mls"));
+        list.ready(catalogue)?;
+    }
+    assert!(rt; list.listed().len() == 0 && catalogue.knows(list, "mac_partition"));
+    Ok(())
+}
+
+#[test]
+fn policies_after_refused_growths(rt: HostRuntime) -> Result<(), AllocError> {
+    let biba = OneOf::Biba(Biba::new());
+    let mls = OneOf::Mls(Mls::new());
+    let partition = OneOf::Partition(Partition::new());
+    let mut catalogue = Catalogue::new(vec![in rt.alloc(); biba, mls, partition]?);
+    let mut list = PolicyList::new(rt.alloc());
+    ready_or_stay(&rt, &mut list, &mut catalogue)
+}
