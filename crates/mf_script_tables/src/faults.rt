@@ -292,10 +292,11 @@ fn texts_have_a_limit(rt: HostRuntime) -> Result<(), AllocError> {
     has_limit(&rt, rt.alloc(), "\\61")
 }
 
-/// Two tasks on a machine with two policies.
+/// Two tasks on a machine with three policies.
 const MACHINE: &[&str] = &[
     "boot mac_biba",
     "boot mac_mls",
+    "boot mac_bsdextended",
     "file /home dir uid 0 gid 0 mode 755 label -",
     "file /home/alice dir uid 1001 gid 1001 mode 700 label biba/10,mls/5",
     "file /home/alice/n reg uid 1001 gid 1001 mode 600 label biba/10,mls/5 text note",
@@ -307,6 +308,7 @@ const MACHINE: &[&str] = &[
     "read /home/alice/n",
     "create /tmp/a",
     "create /home/x",
+    "setpmac biba/high",
     "see www",
     "end",
     "task www uid 80 gid 80 label biba/low(low-low),mls/low(low-low)",
@@ -321,7 +323,7 @@ const MACHINE: &[&str] = &[
 
 /// The fault of this script where it is cut after so many lines.
 fn fault_of_cut(alloc: Global, lines: usize) -> Result<String, AllocError> {
-    if (7..15).contains(&lines) || (16..23).contains(&lines) {
+    if (8..17).contains(&lines) || (18..25).contains(&lines) {
         format!(in alloc; "{} 10 NoEnd", lines.saturating_add(1))
     } else {
         String::from_str(alloc, NONE)
