@@ -1,33 +1,24 @@
 #!/bin/sh
-# Runs the program with one of its first allocations failing, as the words and the modules are made, since `main` has no contract: it ends
-# with the status of want of memory and prints nothing. Each number is a build of its own, half a minute long, so one stands for the first
-# dozen here; others can be given, as `checks/memory.sh 1 2 3`, and their runs go side by side. A line for each failure, then a count.
-cd "$(dirname "$0")/../crates/macsim" || exit 1
-folder=$(mktemp -d) || exit 1
-trap 'rm -rf "$folder"' EXIT
-passed=0
-failed=0
+# Refuses the program one allocation after another, and the tests of refused growths too. It takes a
+# sample, every 16th, another one each day; `checks/memory.sh --all` takes each, which is half a
+# minute's work, and `--every N --from K` every Nth, from number K + 1 on. Needs the kit's clang and
+# python3. A line for each script, then a count.
+. "$(dirname "$0")/refusing"
 
-[ $# -gt 0 ] || set -- 5
-
-# The run with the allocation of that number failing: what it prints, what the builder says, and its status.
-run_without() {
-    rt try --steps 1 --fail-alloc "$1" -- run <stdin >"$folder/$1.printed" 2>"$folder/$1.told"
-    echo "$?" >"$folder/$1.status"
+tests() {
+    echo "crates/$1/out/${1}_tests"
 }
 
-for number; do
-    run_without "$number" &
-done
-wait
+# The tests are built before the first of them is run, where the gate hasn't.
+build_tests() {
+    [ -x "$(tests "$1")" ] || (cd "crates/$1" && rt test) >"$folder/log" 2>&1 || {
+        tail "$folder/log"
+        exit 1
+    }
+}
 
-for number; do
-    if [ "$(cat "$folder/$number.status")" -eq 9 ] && [ ! -s "$folder/$number.printed" ] && grep -q '^run=ended status=9 ' "$folder/$number.told"; then
-        passed=$((passed + 1))
-    else
-        failed=$((failed + 1))
-        echo "macsim: not as wanted: allocation $number fails"
-    fi
+tested=$(grep -rl --include='*.rt' '^fn [a-z_]*after_refused' crates/*/src | cut -d/ -f2 | sort -u)
+for crate in $tested; do
+    build_tests "$crate"
 done
-echo "$passed passed, $failed failed"
-[ "$failed" -eq 0 ]
+python3 -B checks/memory.py --refusing "$refusing" --tested $tested "$@"

@@ -1,6 +1,7 @@
 #!/bin/sh
 # Runs the program with words and inputs at their edges, since `main` has no contract: of each run is wanted its exit status, its whole
-# standard output, and nothing on the standard error. A line for each failure, then a count. What ./macsim adds is for checks/wrapper.sh.
+# standard output, and nothing on the standard error. Devices that fail, stop or wait are those of
+# devices.py. A line for each failure, then a count. What ./macsim adds is for checks/wrapper.sh.
 . "$(dirname "$0")/counting"
 program=crates/macsim/out/macsim
 script=examples/01-plainest-denial.macsim
@@ -40,6 +41,17 @@ reads_nothing() {
 fails_to_write() {
     "$program" run <"$script" >/dev/full 2>"$folder/told"
     [ "$?" -eq 5 ] && [ ! -s "$folder/told" ]
+}
+
+# Whether a run over this device of checks/devices.py ends with the status.
+over() {
+    python3 -B checks/devices.py "$program" "$script" "$history" "$2"
+    [ "$?" -eq "$1" ]
+}
+
+# Whether a run over this device ends well, or is stopped by the system before it prints anything.
+runs_or_stops() {
+    over 0 "$1" || over 100 "$1"
 }
 
 # Counts a run that is refused for its words.
@@ -107,6 +119,22 @@ check 'step: a step of no task' ends 7 "$folder/no_task" "$folder/refused" step
 check 'step: a word that is none' ends 3 "$folder/bad" "$folder/unknown_word" step
 check 'step: one byte more' ends 6 "$folder/longer" "$folder/too_long" step
 check 'step: an input that cannot be read' ends 4 . "$folder/read_fault" step
+
+check 'run: a closed standard input' over 4 closed_input
+check 'run: an input that is open for writing' over 4 input_for_writing
+check 'run: a pipe that stops inside a task' over 3 pipe_that_stops
+check 'run: a pipe that waits' over 0 pipe_that_waits
+check 'run: a pipe without bytes that may not be waited for' over 4 input_without_waiting
+check 'run: two mebibytes' over 6 two_mebibytes
+check 'run: a terminal to read from' over 0 terminal_input
+check 'run: a closed standard output' over 5 closed_output
+check 'run: an output that is open for reading' over 5 output_for_reading
+check 'run: a pipe that nobody reads' over 5 pipe_without_reader
+check 'run: a full pipe that may not be waited for' over 5 output_without_waiting
+check 'run: a pipe that is read slowly' over 0 slow_reader
+check 'run: a terminal to write to' over 0 terminal_output
+check 'run: a stack of 512 KiB' over 0 small_stack
+check 'run: a stack of 64 KiB' runs_or_stops stack_of_64_kib
 
 check 'gen: a load' ends 0 "$folder/bad" "$folder/summary" gen 2 2
 check 'gen: leading zeros' ends 0 "$folder/bad" "$folder/summary" gen 002 02

@@ -114,7 +114,7 @@ fn copy_or_stay(
 }
 
 #[test]
-fn a_list_after_a_refused_copy(rt: HostRuntime) -> Result<(), AllocError> {
+fn rules_after_refused_copies(rt: HostRuntime) -> Result<(), AllocError> {
     let rule = rule(&rt, rt.alloc(), "subject uid 5 object mode n")?;
     let mut rules = RuleList::new(rt.alloc())?;
     rules.set(7, rule);

@@ -1,0 +1,59 @@
+"""Judges what the program printed of a script: by the tools, which follow a history through its
+script, and by the program's own steps, which make the history again. Is no part of the product."""
+import sys
+from pathlib import Path
+
+ROOT = Path(__file__).resolve().parent.parent
+sys.path.insert(0, str(ROOT / "tools"))
+
+from macsim_command import with_steps, word_for
+from macsim_replay import Replay
+from macsim_text import BadInput, events_of, script_of
+
+
+class Work:
+    """A script or a load, as the program is asked for it: its words, its input, and what it prints
+    where nothing is refused."""
+
+    def __init__(self, name, program, given, words=None):
+        self.name, self.program, self.given = name, program, given
+        self.script = None if words else script_of(given.decode("latin-1"), name)
+        self.words = words or [word_for(self.script)]
+        # Whether the same is printed each time.
+        self.is_settled = (
+            words is not None or self.script.steps is not None or len(self.script.tasks) < 2
+        )
+        self.usual = program.run(self.words, given)
+
+    def is_right(self, printed):
+        """Whether what a run that ended with 0 printed is right for the script."""
+        if self.is_settled:
+            return printed == self.usual.printed
+        return fault_of(self, printed.decode("latin-1")) is None
+
+
+def steps_of(event):
+    """The steps that make an event again."""
+    kinds = {"enter": "enter", "done": "plan done", "leave": "leave", "changed": "change"}
+    return [f"{kind} {event.task}" for kind in kinds.get(event.kind, "").split()]
+
+
+def fault_of(work, printed):
+    """What is wrong with the history of a run, or None."""
+    try:
+        events = events_of(printed, work.name)
+        for _ in Replay(work.script).follow(events, work.name):
+            pass
+    except BadInput as fault:
+        return str(fault)
+    steps = [step for event in events for step in steps_of(event)]
+    again = work.program.run(["step"], with_steps(work.script.lines, steps).encode("latin-1"))
+    is_same = again.status == 0 and again.printed.decode("latin-1") == printed
+    return None if is_same else "its steps make another history"
+
+
+def told_of(statuses):
+    """How often runs ended with each status, behind a colon."""
+    rows = sorted(statuses.items(), key=str)
+    told = ", ".join(f"{count} ended with {status}" for status, count in rows)
+    return f": {told}" if told else ""

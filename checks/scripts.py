@@ -1,0 +1,80 @@
+"""Scripts that several checks run: worked ones, by name, and loads of tasks that change the list of
+policies or a setting."""
+
+
+def script_of(front, *tasks):
+    """A script of these lines and tasks, each of them with what it is and its lines."""
+    lines = [*front]
+    for task, calls in tasks:
+        lines += [f"task {task}", *calls, "end"]
+    return "".join(f"{line}\n" for line in lines)
+
+
+ADD = "ugidfw add subject uid 5 object mode n"
+REMOVE = "ugidfw remove 0"
+WORKED = {
+    "a late partition": script_of(
+        ["boot mac_biba"],
+        (
+            "t uid 0 gid 0 label biba/equal",
+            ["kldload mac_partition", "see b", "setpmac partition/7", "see b", "fork c"]
+            + ["see t.c", "@c setpmac partition/8", "see t.c", "setpmac partition/none"]
+            + ["getpmac"],
+        ),
+        ("b uid 0 gid 0 label biba/equal", []),
+    ),
+    "a full rule list": script_of(
+        ["boot mac_bsdextended"],
+        ("t uid 0 gid 0 label -", [*[ADD] * 251, REMOVE, REMOVE, ADD]),
+    ),
+    "an ordinary machine": script_of(
+        [
+            "boot mac_biba",
+            "boot mac_mls",
+            "boot mac_bsdextended",
+            "file /home dir uid 0 gid 0 mode 755 label -",
+            "file /home/alice dir uid 1001 gid 1001 mode 700 label biba/10,mls/5",
+            "file /home/alice/n reg uid 1001 gid 1001 mode 600 label biba/10,mls/5 text note",
+            "file /tmp dir uid 0 gid 0 mode 1777 label biba/equal,mls/equal",
+        ],
+        (
+            "alice uid 1001 gid 1001 label biba/10(low-10),mls/5(low-5)",
+            ["readdir /home/alice", "read /home/alice/n", "write /home/alice/n !"]
+            + ["read /home/alice/n", "create /tmp/a", "create /home/x"]
+            + ["setpmac biba/high", "see www"],
+        ),
+        (
+            "www uid 80 gid 80 label biba/low(low-low),mls/low(low-low)",
+            ["read /home/alice/n", "create /tmp/w", "write /tmp/w x", "read /tmp/w"]
+            + ["unlink /tmp/w", "kldload mac_partition"],
+        ),
+    ),
+}
+# How many tasks a script may have.
+TASKS = 16
+EQUAL = "uid 0 gid 0 label biba/equal"
+
+
+def loaders():
+    """Sixteen tasks that load and unload a module."""
+    calls = ["kldload mac_partition", "kldunload mac_partition"] * 4
+    return script_of(["boot mac_biba"], *((f"t{number} {EQUAL}", calls) for number in range(TASKS)))
+
+
+def changers(changes):
+    """Sixteen tasks of so many changes each."""
+    first_match = "sysctl security.mac.bsdextended.firstmatch_enabled=0"
+    kinds = [ADD, first_match, "kldload mac_priority", REMOVE, "kldunload mac_priority"]
+    calls = lambda task: [kinds[(task + place) % len(kinds)] for place in range(changes)]
+    tasks = [(f"t{task} {EQUAL}", calls(task)) for task in range(TASKS)]
+    return script_of(["boot mac_biba", "boot mac_bsdextended"], *tasks)
+
+
+def mixed(lines):
+    """Eight tasks of changes, and eight whose entries let these wait."""
+    changes = ["kldload mac_partition", "kldunload mac_partition", ADD, REMOVE]
+    entries = ["read /f", "stat /f", "write /f x", "getpmac"]
+    calls = lambda task: ((changes if task % 2 else entries) * lines)[:lines]
+    file = "file /f reg uid 0 gid 0 mode 644 label biba/equal text hi"
+    tasks = [(f"t{task} {EQUAL}", calls(task)) for task in range(TASKS)]
+    return script_of(["boot mac_biba", "boot mac_bsdextended", file], *tasks)
