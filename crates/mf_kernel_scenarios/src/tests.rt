@@ -1,4 +1,5 @@
-//! Entries that meet, and a change that waits, over the modules that are built in.
+//! Entries that meet, a change that waits, and growths that are refused, over the modules that are built in.
 
+mod growths;
 mod kernel;
 mod steps;

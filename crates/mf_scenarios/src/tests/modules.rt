@@ -1,4 +1,4 @@
-//! A module that comes and goes while fifteen other tasks go on.
+//! Modules that come and go while other tasks go on, or load and unload them too.
 
 use crate::tests::run_script;
 use mf_io::{MemSink, OpenGate};
@@ -87,5 +87,54 @@ fn a_module_comes_and_goes(rt: HostRuntime) -> Result<(), Fail> {
     let changes = lines_from(rt.alloc(), text.as_str(), "changed ")?;
     assert!(rt; changes.as_str() == CHANGES);
     assert!(rt; count_reads(text.as_str()) == 15 * READS);
+    Ok(())
+}
+
+/// A task that loads and unloads.
+const LOADS: &str = "kldload mac_partition
+kldunload mac_partition
+kldload mac_partition
+kldunload mac_partition
+kldload mac_partition
+kldunload mac_partition
+kldload mac_partition
+kldunload mac_partition
+end
+";
+
+/// Sixteen tasks that load and unload.
+fn sixteen_loaders(alloc: Global) -> Result<String, AllocError> {
+    let mut script = String::from_str(alloc, "boot mac_biba\n")?;
+    for number in 0..16 {
+        write!(
+            script,
+            "task t{number} uid 0 gid 0 label biba/equal\n{LOADS}"
+        )?;
+    }
+    Ok(script)
+}
+
+/// The slots that were given, in the order of the history.
+fn slots_given(alloc: Global, text: &str) -> Result<String, AllocError> {
+    let mut slots = String::new(alloc);
+    for line in text.lines() {
+        if let Some((_, slot)) = line.split_once(" ok slot ") {
+            write!(slots, "{slot} ")?;
+        }
+    }
+    Ok(slots)
+}
+
+/// Whoever comes first, a slot is given once.
+#[test]
+fn sixteen_tasks_load_and_unload(rt: HostRuntime) -> Result<(), Fail> {
+    let alloc = rt.alloc();
+    let script = sixteen_loaders(alloc)?;
+    let mut sink = MemSink::new(alloc, 100_000, 100_000, Vec::new(alloc))?;
+    let status = run_script(&rt, alloc, script.as_str(), &mut sink, &OpenGate)?;
+    assert!(rt; status == 0);
+    let text = String::from_utf8_lossy(alloc, sink.taken())?;
+    let slots = slots_given(alloc, text.as_str())?;
+    assert!(rt; slots.as_str() == "1 2 3 ");
     Ok(())
 }

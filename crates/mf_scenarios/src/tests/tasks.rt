@@ -6,8 +6,10 @@ use std::alloc::{AllocError, Global};
 use std::process::Abort;
 use std::test::Fail;
 
-const SCRIPT: &str = "boot mac_biba
+/// Two tasks on a machine with three policies.
+pub const SCRIPT: &str = "boot mac_biba
 boot mac_mls
+boot mac_bsdextended
 file /home dir uid 0 gid 0 mode 755 label -
 file /home/alice dir uid 1001 gid 1001 mode 700 label biba/10,mls/5
 file /home/alice/n reg uid 1001 gid 1001 mode 600 label biba/10,mls/5 text note
