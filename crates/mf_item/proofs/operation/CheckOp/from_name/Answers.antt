@@ -1,5 +1,6 @@
-use Rattle.std.proofs.Common.{◌≢◌, sym}
+use Rattle.std.proofs.Common.{◌≢◌, sym, rules}
 use Rattle.mf_item.specs.Operation.{operation_text}
+use Rattle.mf_item.specs.Named.{operation_named}
 use Rattle.mf_item.specs.declared.operation.CheckOp.{CheckOp}
 use Rattle.mf_item.specs.declared.operation.CheckOp.TheVariants as op
 use Rattle.mf_item.proofs.Operations.{no_name}
@@ -42,3 +43,7 @@ returns-in_default c =
       | op.Priv ↦ other.not-priv
     ] in
     sym (no_name text each)
+
+pub returns-in-pipe_write : goal.returns-in-pipe_write
+unfolding operation_named
+returns-in-pipe_write c = search rules
