@@ -50,7 +50,7 @@ some_first : (c : ℕ) (more : Result (List ℕ) ℕ) → with_first c more ≡ 
 some_first c (Ok bytes) e = cc
 some_first c (Err place) e = cc
 
-some_bytes : (place : ℕ) (w : List ℕ) → bytes_from place w ≡ Ok [] → w ≡ []
+pub some_bytes : (place : ℕ) (w : List ℕ) → bytes_from place w ≡ Ok [] → w ≡ []
 unfolding bytes_from
 some_bytes place [] e = refl
 some_bytes place (c ∷ []) e = by_test (eqb c 92) e where

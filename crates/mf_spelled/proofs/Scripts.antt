@@ -201,11 +201,11 @@ words_add lines s p (w ∷ ws) some so = by_test (is_comment w) (widened (row_ad
   by_test true row = done (subst (λ (lines : List Words). IsSoFar lines s p) (sym (append-nil lines)) so)
   by_test false row = row
 
-some_words : (most : ℕ) (ws : Words) → AllByRecursion (IsWordOf (λ b. Unit {0}) most) ws → AreSome ws
+pub some_words : (most : ℕ) (ws : Words) → AllByRecursion (IsWordOf (λ b. Unit {0}) most) ws → AreSome ws
 some_words most [] are = tt
 some_words most (w ∷ ws) are = (λ none. let short : length w ≡ 0 = ap length none in omega (arith, are.0.some, short), some_words most ws are.1)
 
-any_bytes : (line : List ℕ) → AllByRecursion (λ b. Unit {0}) line
+pub any_bytes : (line : List ℕ) → AllByRecursion (λ b. Unit {0}) line
 any_bytes [] = tt
 any_bytes (b ∷ line) = (tt, any_bytes line)
 

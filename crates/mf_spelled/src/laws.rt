@@ -1,5 +1,5 @@
 //! Laws of scripts and their spelling.
-ghost use Rattle.mf_spelled.specs.Laws.{CanonicalTextsAreRead, CanonicalTextsSpell, FaultsAreFirst, ScriptsAreTheirTexts};
+ghost use Rattle.mf_spelled.specs.Laws.{CanonicalTextsAreRead, CanonicalTextsSpell, FaultsAreFirst, ReadScriptsAreSpellable, ScriptsAreTheirTexts};
 
 /// Bytes are read as a script where they spell it and it is well formed, and only there.
 pub fn scripts_are_their_texts()
@@ -16,4 +16,9 @@ pub fn faults_are_first()
 pub fn canonical_texts_are_read()
     ensures spell { CanonicalTextsSpell }
     ensures read { CanonicalTextsAreRead }
+{}
+
+/// Each script that is read can be spelled, so its canonical text is read back.
+pub fn read_scripts_are_spellable()
+    ensures { ReadScriptsAreSpellable }
 {}
