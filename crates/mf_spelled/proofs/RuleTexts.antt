@@ -7,7 +7,7 @@ use Rattle.std.specs.Prelude.{codes, nat_eq}
 use Rattle.std.specs.Char.{digit_value}
 use Rattle.std.specs.Fmt.{decimal}
 use Rattle.std.specs.Int.RustNames.{bit_and}
-use Rattle.std.specs.List.{AllByRecursion, list_all, slice_split, onto_first}
+use Rattle.std.specs.List.{AllByRecursion, flat_map, list_all, slice_split, onto_first}
 use Rattle.std.specs.Str.Parse.{AllDigits}
 use Rattle.mf_labeltext.specs.Reading.{parts, cut, number}
 use Rattle.mf_text.specs.Number.{number_in}
@@ -21,10 +21,11 @@ use Rattle.mf_rule.specs.declared.rule.Side.{Side}
 use Rattle.mf_rule.specs.declared.rule.ObjectSide.{ObjectSide}
 use Rattle.mf_rule.specs.declared.rule.TypeTest.{TypeTest}
 use Rattle.mf_rule.specs.declared.rule.Rule.{Rule}
-use Rattle.mf_rule.specs.Canonical.{not_text, mark_text, range_text, id_text, flag_text, letter_text, types_letters, types_text, mode_text, side_text, flags_text, object_text, rule_text}
-use Rattle.mf_rule.specs.Reading.{Read, and_then, with_word, file_test, tested, named, fitted, read_from, rule_in, nothing_read}
+use Rattle.mf_rule.specs.Canonical.{not_text, mark_text, id_range_text, id_text, flag_text, letter_text, letters_text, types_text, side_text, flags_text, object_text, rule_text}
+use Rattle.mf_text.specs.Results.{and_then}
+use Rattle.mf_rule.specs.Reading.{OrFault, with_word, file_test, tested, named, fitted, read_from, rule_in, nothing_read}
 use Rattle.mf_rule.specs.RuleGrammar.{IsRange, AreRanges, IsRule}
-use Rattle.mf_rule.specs.Words.{range_in, types_in, mode_in}
+use Rattle.mf_rule.specs.Words.{mode_letters, type_letters, id_range_in, letters_in, types_in, mode_in}
 use Rattle.mf_rule.proofs.RoundTrips.{canonical_text_reads}
 use Rattle.std.specs.Char.{is_ascii_graphic}
 use Rattle.mf_calls.specs.Names.{is_some_text}
@@ -69,7 +70,7 @@ mark_plain : (turned : Bool) → Plain (mark_text turned)
 mark_plain true = put (codes " !") refl
 mark_plain false = put [] refl
 
-range_plain : (least greatest : ℕ) → least ≤ 4294967295 → greatest ≤ 4294967295 → Plain (range_text least greatest)
+range_plain : (least greatest : ℕ) → least ≤ 4294967295 → greatest ≤ 4294967295 → Plain (id_range_text least greatest)
 range_plain least greatest low high = either (eqb least greatest) (id_plain least low) (then (id_plain least low) (then (put (codes ":") refl) (id_plain greatest high)))
 
 ids_plain : {name : List ℕ} (test : Option IdTest) → Plain name → IfSome test IsRange → Plain (id_text name test)
@@ -80,32 +81,27 @@ flag_plain : {name : List ℕ} (wanted : Option Bool) → Plain name → Plain (
 flag_plain None name = put [] refl
 flag_plain (Some wanted) name = then (mark_plain (not wanted)) name
 
-letter_plain : {letter : List ℕ} (bits bit : ℕ) → Plain letter → Plain (letter_text bits bit letter)
-letter_plain bits bit letter = either (eqb (bit_and bits bit) 0) (put [] refl) letter
+-- ---- letters
+letter_plain : (bits : ℕ) (row : ℕ × ℕ) → Plain (row.0 ∷ []) → Plain (letter_text bits row)
+letter_plain bits row letter = either (eqb (bit_and bits row.1) 0) (put [] refl) letter
 
-types_plain : (types : ℕ) → Plain (types_letters types)
-types_plain types =
-    let r = letter_plain types 1 (put (codes "r") refl) in
-    let d = letter_plain types 2 (put (codes "d") refl) in
-    let b = letter_plain types 4 (put (codes "b") refl) in
-    let c = letter_plain types 8 (put (codes "c") refl) in
-    let l = letter_plain types 16 (put (codes "l") refl) in
-    let s = letter_plain types 32 (put (codes "s") refl) in
-    let p = letter_plain types 64 (put (codes "p") refl) in
-    either (eqb types 127) (put (codes "a") refl) (then (then r d) (then (then b c) (then l (then s p))))
+each_plain : (bits : ℕ) (table : List (ℕ × ℕ)) → AllByRecursion (λ row. is_rule_byte row.0 ≡ true) table → Plain (flat_map (letter_text bits) table)
+each_plain bits [] all = put [] refl
+each_plain bits (row ∷ rows) all = then (letter_plain bits row (put (row.0 ∷ []) (join (is_rule_byte row.0) true all.0 refl))) (each_plain bits rows all.1)
+
+letters_plain : (table : List (ℕ × ℕ)) (bits : ℕ) → AllByRecursion (λ row. is_rule_byte row.0 ≡ true) table → Plain (letters_text table bits)
+letters_plain [] bits all = put [] refl
+letters_plain (whole ∷ others) bits all = either (eqb bits whole.1) (put (whole.0 ∷ []) (join (is_rule_byte whole.0) true all.0 refl)) (each_plain bits others all.1)
+
+types_plain : (types : ℕ) → Plain (letters_text type_letters types)
+types_plain types = letters_plain type_letters types (refl, (refl, (refl, (refl, (refl, (refl, (refl, (refl, tt))))))))
+
+mode_plain : (mode : ℕ) → Plain (letters_text mode_letters mode)
+mode_plain mode = letters_plain mode_letters mode (refl, (refl, (refl, (refl, (refl, (refl, tt))))))
 
 test_plain : (test : Option TypeTest) → Plain (types_text test)
 test_plain None = put [] refl
 test_plain (Some test) = then (mark_plain test.not) (then (put (codes " type ") refl) (types_plain test.types))
-
-mode_plain : (mode : ℕ) → Plain (mode_text mode)
-mode_plain mode =
-    let a = letter_plain mode 1 (put (codes "a") refl) in
-    let r = letter_plain mode 2 (put (codes "r") refl) in
-    let s = letter_plain mode 4 (put (codes "s") refl) in
-    let w = letter_plain mode 8 (put (codes "w") refl) in
-    let x = letter_plain mode 16 (put (codes "x") refl) in
-    either (eqb mode 0) (put (codes "n") refl) (then a (then r (then s (then w x))))
 
 side_plain : (side : Side) → AreRanges side → Plain (side_text side)
 side_plain side fits = then (not_plain side.not) (then (ids_plain side.uid (put (codes " uid ") refl) fits.uid) (ids_plain side.gid (put (codes " gid ") refl) fits.gid))
@@ -147,7 +143,7 @@ words_plain (c ∷ cs) plain =
     ]) refl
 
 -- no word is empty: where one is, nothing is read
-abbrev IsFault : {A : Type 0} → Read A → Type 0
+abbrev IsFault : {A : Type 0} → OrFault A → Type 0
 IsFault (Ok x) = ⊥
 IsFault (Err fault) = Unit {0}
 
@@ -162,7 +158,7 @@ empty_tested place Subject rule = empty_named place Subject false rule
 empty_tested place Object rule = empty_named place Object false rule
 
 empty_fitted : (place : ℕ) (what : Next) (rule : Rule) → IsFault (fitted place what rule [])
-unfolding fitted range_in cut number number_in types_in mode_in
+unfolding fitted id_range_in cut number number_in types_in mode_in letters_in
 empty_fitted place next.Start rule = tt
 empty_fitted place (next.First part) rule = empty_tested place part rule
 empty_fitted place (next.Test part) rule = empty_tested place part rule
@@ -173,12 +169,12 @@ empty_fitted place (next.Types turned) rule = tt
 empty_fitted place next.Letters rule = tt
 empty_fitted place next.End rule = tt
 
-fault_first : (first : Read Begun) (more : Begun → Read Rule) (rule : Rule) → IsFault first → and_then first more ≡ Ok rule → ⊥
+fault_first : (first : OrFault Begun) (more : Begun → OrFault Rule) (rule : Rule) → IsFault first → and_then first more ≡ Ok rule → ⊥
 fault_first (Ok begun) more rule fault is = fault
 fault_first (Err e) more rule fault is = cc
 
 -- more words are read behind the first
-rest_read : (first : Read Begun) (more : Begun → Read Rule) (rule : Rule) → and_then first more ≡ Ok rule → (begun : Begun) × (more begun ≡ Ok rule)
+rest_read : (first : OrFault Begun) (more : Begun → OrFault Rule) (rule : Rule) → and_then first more ≡ Ok rule → (begun : Begun) × (more begun ≡ Ok rule)
 rest_read (Ok begun) more rule is = (begun, is)
 rest_read (Err e) more rule is = absurd cc
 

@@ -8,7 +8,8 @@ use Rattle.std.proofs.lemmas.List.Splits.{join_with_byte-slice_split}
 use Rattle.std.proofs.lemmas.Slice.Eq.{bytes_eq-Decides}
 use Rattle.std.proofs.lemmas.Bool.{eqb-true}
 use Rattle.mf_errno.specs.Names.{module_named, module_text, all_modules}
-use Rattle.mf_errno.specs.Privilege.{privilege_named, privilege_text, all_privileges}
+use Rattle.mf_errno.specs.Privilege.{privilege_named, privilege_text}
+use Rattle.mf_errno.specs.declared.privilege.Priv.TheVariants.{KldLoad, KldUnload, MacPartition, SchedRtprio, SchedIdprio}
 use Rattle.mf_elem.specs.declared.label.Request.{Request}
 use Rattle.mf_elem.specs.Label.{no_request}
 use Rattle.mf_text.specs.Number.{number_in}
@@ -67,7 +68,7 @@ found_by text (y ∷ xs) w x e = by_test (bytes_eq (text y) w) refl (found_by te
 
 pub privilege_spells : Reads (λ p. Word (privilege_text p)) privilege_of
 unfolding privilege_of privilege_named
-privilege_spells w = if_some (privilege_named w) _ _ refused (λ p e. done (found_by privilege_text all_privileges w p e))
+privilege_spells w = if_some (privilege_named w) _ _ refused (λ p e. done (found_by privilege_text (KldLoad ∷ KldUnload ∷ MacPartition ∷ SchedRtprio ∷ SchedIdprio ∷ []) w p e))
 
 pub module_spells : (w : List ℕ) (m : _) → module_named w ≡ Some m → w ≡ module_text m
 unfolding module_named
