@@ -159,7 +159,7 @@ end
 const MOST: &[usize] = &[64, 1, 100_000];
 
 /// Runs the program over a source and a sink with so many bytes a call, which fail at these calls.
-fn watched_run<R: Threads + Wait + Sync>(
+fn watched_run<R: Abort + Threads + Wait + Sync>(
     rt: &R,
     alloc: Global,
     (words, script): (&[&str], &str),
@@ -167,6 +167,7 @@ fn watched_run<R: Threads + Wait + Sync>(
     reads: &[u64],
     writes: &[u64],
 ) -> Result<(u8, Watched<MemSource>, Watched<MemSink>), AllocError> {
+    assert!(rt; most > 0);
     let bytes = script.as_bytes().to_vec(alloc)?;
     let mut source = Watched::new(MemSource::new(bytes, most, reads.to_vec(alloc)?));
     let mut sink = Watched::new(MemSink::new(alloc, 100_000, most, writes.to_vec(alloc)?)?);
