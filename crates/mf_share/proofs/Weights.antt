@@ -1,7 +1,9 @@
 -- What open entries weigh: nothing exactly where none is open, and how that changes with each call of the core.
-use Rattle.std.proofs.Common.{◌≡◌, ◌≢◌, ℕ, zero, suc, ◌+◌, ◌<◌, ◌≤◌, Bool, true, false, ltb, List, [], ◌∷◌, length, refl, ◌∙◌, ap, subst, arith, below_more, ltb-true, ltb-false, length-set}
+use Rattle.std.proofs.Common.{◌≡◌, ◌≢◌, ℕ, zero, suc, ◌+◌, ◌^◌, ◌<◌, ◌≤◌, Bool, true, false, ltb, List, [], ◌∷◌, length, refl, ◌∙◌, ap, subst, arith, lit<, below_more, ltb-true, ltb-false, length-set}
+use Rattle.std.proofs.Math.Nat.{one-le-pow, pow-le-pow_right}
 use Rattle.std.proofs.lemmas.List.{length-map}
 use Rattle.std.proofs.lemmas.List.Sums.{sum_by-cons}
+use Rattle.mf_calls.specs.declared.limits.TheConstants.{TASK_LIMIT}
 use Rattle.mf_calls.specs.declared.script.Script.{Script}
 use Rattle.mf_core.specs.declared.progress.Phase.{Phase}
 use Rattle.mf_core.specs.declared.progress.Phase.TheVariants as phase
@@ -21,12 +23,23 @@ use Rattle.mf_core.proofs.Consistency.{change_phase, done_phase, entered_phase, 
 use Rattle.mf_share.specs.Passes.{ticket_turn}
 use Rattle.mf_share.specs.Weights.{entry_weight, weight_in, weights, open_weight}
 
+-- a task's entry weighs no more than that of the sixteenth
+pub weight_fits : (t : ℕ) → t < TASK_LIMIT → 3 ^ t ≤ 3 ^ 15
+weight_fits t lt = let last : t ≤ 15 = omega (arith, lt) in pow-le-pow_right (lit< tt) last
+
 -- An entry has a weight exactly where it is open
+
+unit_weighs : (t : ℕ) → 0 < 3 ^ t
+unit_weighs t = one-le-pow t 3 (lit< tt)
+
+weighs : (t : ℕ) (committed : Bool) → 0 < entry_weight t committed
+weighs t true = omega (arith, unit_weighs t)
+weighs t false = unit_weighs t
 
 closed_in : (t : ℕ) (p : Phase) → weight_in t p ≡ 0 → open_in p ≡ 0
 closed_in t phase.Idle none = refl
-closed_in t phase.Entered none = absurd (omega (arith, none))
-closed_in t phase.Done none = absurd (omega (arith, none))
+closed_in t phase.Entered none = absurd (omega (arith, none, weighs t false))
+closed_in t phase.Done none = absurd (omega (arith, none, weighs t true))
 closed_in t phase.Stopped none = refl
 
 weightless_in : (t : ℕ) (p : Phase) → open_in p ≡ 0 → weight_in t p ≡ 0
@@ -113,10 +126,6 @@ positive n absent = omega arith
 
 some_open : (s : Script) (run : CoreView) → 0 < open_weight s run → 0 < open_of run
 some_open s run some = positive (open_of run) (λ none. absurd (omega (arith, some, weightless (progress_of run) (length s.tasks) none)))
-
-weighs : (t : ℕ) (committed : Bool) → 0 < entry_weight t committed
-weighs t true = omega arith
-weighs t false = omega arith
 
 -- where the weight of an entry is a part of the whole, an entry is open
 pub ticket_open : (s : Script) (run : CoreView) (t : ℕ) (committed : Bool) → entry_weight t committed ≤ open_weight s run → 0 < open_of run

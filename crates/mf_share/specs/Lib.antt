@@ -1,3 +1,4 @@
+pub mod Laws
 pub mod Policies
 pub mod Weights
 pub mod Passes

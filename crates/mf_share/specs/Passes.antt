@@ -1,6 +1,7 @@
 -- What a pass and a ticket say, and where a core agrees with them.
-use Rattle.std.specs.Prelude.{◌≡◌, ℕ, ◌+◌, ◌<◌, Bool, true, false, List, [], length, slice_get, slice_index_or}
+use Rattle.std.specs.Prelude.{◌≡◌, ℕ, ◌+◌, ◌<◌, ◌≤◌, Bool, true, false, List, [], length, slice_get, slice_index_or}
 use Rattle.std.specs.List.{sum_by}
+use Rattle.mf_calls.specs.declared.limits.TheConstants.{TASK_LIMIT}
 use Rattle.mf_calls.specs.declared.script.Script.{Script}
 use Rattle.mf_calls.specs.Tasks.{lines_of}
 use Rattle.mf_core.specs.declared.progress.Commit.{Commit}
@@ -37,6 +38,7 @@ parts_beside false = 1
 
 pub record IsPass (s : Script) (task lines : ℕ) (out : Bool) (done_parts done_amount busy_parts busy_amount : ℕ) : Type 0 where
   pub task_is : task < length s.tasks
+  pub few_tasks : length s.tasks ≤ TASK_LIMIT
   pub one_part : done_parts ≡ 1
   pub all_lines : done_amount ≡ lines
   pub part_unless_out : busy_parts ≡ parts_beside out
@@ -45,6 +47,7 @@ pub record IsPass (s : Script) (task lines : ℕ) (out : Bool) (done_parts done_
 -- The share of a ticket: the part of the pass, with what its entry weighs.
 pub record IsTicket (s : Script) (task : ℕ) (committed : Bool) (busy_parts busy_amount : ℕ) : Type 0 where
   pub task_is : task < length s.tasks
+  pub few_tasks : length s.tasks ≤ TASK_LIMIT
   pub one_part : busy_parts ≡ 1
   pub weighed : busy_amount ≡ entry_weight task committed
 

@@ -1,6 +1,6 @@
--- What an open entry weighs: what it counts in the ledger of open entries. No two tasks have the same weight, and none has one that is another's after
--- its commit, so that an event of another task, or none, doesn't balance.
-use Rattle.std.specs.Prelude.{ℕ, zero, suc, ◌+◌, ◌*◌, Bool, true, false, List, length}
+-- What an open entry weighs: what it counts in the ledger of open entries. The weights are digits in base three, a place for each task, so that the total
+-- tells of each task whether an entry of it is open, and whether its call is done (Laws): no events of other tasks balance one's own.
+use Rattle.std.specs.Prelude.{ℕ, zero, suc, ◌+◌, ◌*◌, ◌^◌, Bool, true, false, List, length}
 use Rattle.mf_calls.specs.declared.script.Script.{Script}
 use Rattle.mf_core.specs.declared.progress.Phase.{Phase}
 use Rattle.mf_core.specs.declared.progress.Phase.TheVariants as phase
@@ -10,8 +10,8 @@ use Rattle.mf_core.specs.CoreView.{CoreView, progress_of}
 
 -- by the number of the task, and whether the call of the entry is done
 abbrev pub entry_weight : ℕ → Bool → ℕ
-entry_weight t false = 2 * t + 1
-entry_weight t true = 2 * (2 * t + 1)
+entry_weight t false = 3 ^ t
+entry_weight t true = 2 * 3 ^ t
 
 -- by the phase of the task: 0 where no entry of it is open
 abbrev pub weight_in : ℕ → Phase → ℕ

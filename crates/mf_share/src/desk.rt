@@ -1,5 +1,6 @@
 //! The value behind the kernel's lock: the core, with the books of lines done and of open entries.
 ghost use Rattle.std.specs.Prelude.{◌≡◌, ◌<◌, true, false, IfOk, IsOk, IfErr, IfNone, IfSome, IsTrue, OnErr, Some};
+ghost use Rattle.mf_calls.specs.declared.limits.TheConstants.{TASK_LIMIT};
 ghost use Rattle.mf_plan.specs.declared.reply.Payload.TheVariants as payload;
 ghost use Rattle.mf_plan.specs.declared.reply.Reply.{Reply};
 ghost use Rattle.mf_step.specs.Reply.{reply_to};
@@ -238,8 +239,9 @@ impl<'s, J: Job, B: Ledger> Desk<'s, J, B> {
 
 /// What an open entry of the task weighs, before its commit or after.
 fn weight_of(task: u32, committed: bool) -> u64
+    requires { task < TASK_LIMIT }
     ensures { result ≡ entry_weight task committed }
 {
-    let entered = 2 * u64::from(task) + 1;
+    let entered = 3u64.pow(task);
     if committed { 2 * entered } else { entered }
 }
