@@ -18,7 +18,7 @@ pub fn canonical_texts_are_read()
     ensures read { CanonicalTextsAreRead }
 {}
 
-/// Each script that is read can be spelled, so its canonical text is read back.
+/// Each script that is read can be spelled, so its canonical text is read back where it is no longer than a script may be.
 pub fn read_scripts_are_spellable()
     ensures { ReadScriptsAreSpellable }
 {}

@@ -50,7 +50,7 @@ abbrev pub SameTargets : Type 0
 SameTargets = (s : State) → (task : List ℕ) → (me : Id) → (c : Call) → (found : At (about_of s task me c).place) → (look_up s me (about_of s task me c).place).there ≡ Ok found
     → IfSome (target_of s.objects (Some me) c) (λ id. target_in (about_of s task me c).place found ≡ Some id)
 
--- what a call that may be done changes suits its change
+-- a call that may be done finds what its effect needs
 abbrev pub EffectsSuit : Type 0
 EffectsSuit = (s : State) → (task : List ℕ) → (me : Id) → (c : Call) → IsPopulation s.objects → IsLive is_process s.objects me
     → (row_for s task c me).tail ≡ Do → Suits s (row_for s task c me).effect

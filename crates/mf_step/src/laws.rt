@@ -21,12 +21,12 @@ pub fn same_states()
     ensures { SameStates }
 {}
 
-/// What a call is about is what is found in its place.
+/// Where the tables say what a call is about, it is what is found in its place.
 pub fn same_targets()
     ensures { SameTargets }
 {}
 
-/// What a call that may be done is about suits its change.
+/// A call that may be done finds what its effect needs.
 pub fn effects_suit()
     ensures { EffectsSuit }
 {}
