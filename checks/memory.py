@@ -54,7 +54,7 @@ def is_as_wanted(work, number, ended):
 
 def is_held(ended):
     """Whether a test holds, or says that memory ran out."""
-    lacks = re.search(rb"[Ee]rror: Alloc(Error|Failed)", ended.printed + ended.told)
+    lacks = re.search(rb"[Ee]rror: (Alloc(Error|Failed)|Memory)\b", ended.printed + ended.told)
     return ended.status == 0 or ended.status == 101 and lacks is not None
 
 
