@@ -152,7 +152,8 @@ def terminal_output(machine):
 
 def with_stack(machine, size):
     limits = (size, size)
-    return machine.run(preexec_fn=lambda: resource.setrlimit(resource.RLIMIT_STACK, limits))
+    # the environment lies in the stack too
+    return machine.run(env={}, preexec_fn=lambda: resource.setrlimit(resource.RLIMIT_STACK, limits))
 
 
 def small_stack(machine):

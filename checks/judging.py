@@ -11,6 +11,10 @@ from macsim_replay import Replay
 from macsim_text import BadInput, events_of, script_of
 
 
+# The allocations in which `main` begins; its words come behind them.
+FIRST_DOZEN = 12
+
+
 class Work:
     """A script or a load, as the program is asked for it: its words, its input, and what it prints
     where nothing is refused."""
@@ -30,6 +34,14 @@ class Work:
         if self.is_settled:
             return printed == self.usual.printed
         return fault_of(self, printed.decode("latin-1")) is None
+
+
+def lacks_memory(work, number, ended):
+    """Whether a run that ended with 9, where the allocation of that number was refused, says so.
+    Where its words weren't there yet it prints nothing."""
+    return ended.printed == b"macsim: no memory\n" or (
+        not ended.printed and number <= FIRST_DOZEN + len(work.words)
+    )
 
 
 def steps_of(event):

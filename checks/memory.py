@@ -13,12 +13,10 @@ import re
 import time
 from collections import Counter
 
-from judging import ROOT, Work, told_of
+from judging import FIRST_DOZEN, ROOT, Work, lacks_memory, told_of
 from running import NOTHING, Program, one
 from scripts import WORKED
 
-FIRST_DOZEN = 12
-NO_MEMORY = (b"", b"macsim: no memory\n")
 # What the names of the tests of refused growths have.
 OF_GROWTHS = "after_refused"
 
@@ -48,7 +46,7 @@ def is_as_wanted(work, number, ended):
     if ended.told or ended.status not in (0, 9):
         return False
     if ended.status == 9:
-        return ended.printed in NO_MEMORY
+        return lacks_memory(work, number, ended)
     return number > FIRST_DOZEN and work.is_right(ended.printed)
 
 

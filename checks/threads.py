@@ -11,7 +11,7 @@ import time
 from collections import Counter
 
 import scripts
-from judging import ROOT, Work, fault_of, told_of
+from judging import FIRST_DOZEN, ROOT, Work, fault_of, lacks_memory, told_of
 from running import ALL, ALL_PROCESSORS, NOTHING, Program, Refused, on_processors, one
 
 # How often each script is run on each number of processors.
@@ -46,11 +46,11 @@ class Runs:
         ]
         self.passed = self.failed = 0
 
-    def fault_of(self, work, ended, may_lack):
-        """What is wrong with a run, or None. A run may lack memory where that was refused."""
+    def fault_of(self, work, ended, refused):
+        """What is wrong with a run, or None. It may lack memory where an allocation was refused."""
         if ended.told:
             return repr(ended.told[:200])
-        if may_lack and (ended.status, ended.printed) == (9, b"macsim: no memory\n"):
+        if refused is not None and ended.status == 9 and lacks_memory(work, refused, ended):
             return None
         if ended.status != 0:
             return f"status {ended.status}: {ended.printed[-200:]!r}"
@@ -58,9 +58,10 @@ class Runs:
         slots = re.findall(r"^changed \S+ \d+ ok slot (\d)$", printed, re.M)
         return f"slots {slots}" if slots != LATE_SLOTS[: len(slots)] else fault_of(work, printed)
 
-    def try_run(self, name, work, allocations=NOTHING, threads=NOTHING):
+    def try_run(self, name, work, refused=None, threads=NOTHING):
+        allocations = NOTHING if refused is None else one(refused)
         ended = self.program.run(work.words, work.given, allocations=allocations, threads=threads)
-        fault = self.fault_of(work, ended, may_lack=allocations != NOTHING)
+        fault = self.fault_of(work, ended, refused)
         if fault is None:
             self.passed += 1
         else:
@@ -90,9 +91,10 @@ class Runs:
     def without_memory(self, every, start):
         for work in self.works:
             most, statuses = work.usual.allocations, Counter()
-            for number in range(start, most + 1, every):
+            first = range(1, FIRST_DOZEN + len(work.words) + 1)
+            for number in sorted({*first, *range(start, most + 1, every)}):
                 name = f"allocation {number} refused"
-                ended = self.try_run(name, work, allocations=one(number))
+                ended = self.try_run(name, work, refused=number)
                 statuses[ended.status] += 1
             refused = f"{sum(statuses.values())} of {most} allocations refused"
             print(f"{work.name}: {refused}{told_of(statuses)}")
