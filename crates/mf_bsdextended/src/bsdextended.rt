@@ -76,7 +76,7 @@ impl Policy for Bsdextended {
     }
 
     fn change(&mut self, _alloc: Global, change: &Change) -> Result<Changed, AllocError> {
-        Ok(change_rules(&mut self.rules, &mut self.first_match, change))
+        change_rules(&mut self.rules, &mut self.first_match, change)
     }
 
     fn reset(&mut self) {

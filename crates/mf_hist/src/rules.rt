@@ -66,7 +66,7 @@ fn add_rule(rules: &mut RuleList, words: &[&str]) -> Result<(), Unread>
     match read_rule(words) {
         Err(_) => Err(Unread::NoLine),
         Ok(rule) => {
-            rules.set(number, rule);
+            rules.set(number, rule)?;
             Ok(())
         }
     }

@@ -50,10 +50,10 @@ const BSDEXTENDED: Loaded = Loaded {
 fn two_rules(alloc: Global) -> Result<RuleList, AllocError> {
     let mut rules = RuleList::new(alloc)?;
     if let Ok(rule) = read_rule(&["subject", "object", "mode", "n"]) {
-        rules.set(249, rule);
+        rules.set(249, rule)?;
     }
     if let Ok(rule) = read_rule(&["subject", "uid", "5:5", "object", "mode", "r"]) {
-        rules.set(3, rule);
+        rules.set(3, rule)?;
     }
     Ok(rules)
 }

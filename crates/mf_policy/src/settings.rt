@@ -1,11 +1,12 @@
 //! The settings of policies, and changes of them. mac_bsdextended(4) alone has settings: its rules, and first match.
-ghost use Rattle.std.specs.Prelude.{◌≡◌};
+ghost use Rattle.std.specs.Prelude.{◌≡◌, IfOk, OnErr};
 ghost use Rattle.mf_policy.specs.Settings as spec;
 ghost use Rattle.mf_policy.specs.IsChange.{IsChange};
 ghost use Rattle.mf_policy.specs.declared.spec.Spec.TheVariants as means;
 
 use mf_errno::Errno;
 use mf_rule::{Rule, RuleList};
+use std::alloc::AllocError;
 
 /// A change of a setting.
 #[derive(Clone, Copy)]
@@ -67,27 +68,33 @@ pub(crate) fn answer_of_rules(rules: &RuleList, change: &Change) -> Changed
     }
 }
 
-/// Changes a setting of mac_bsdextended's policy, which has these rules and this first match.
-pub fn change_rules(rules: &mut RuleList, first_match: &mut bool, change: &Change) -> Changed
+/// Changes a setting of mac_bsdextended's policy, which has these rules and this first match. Where memory runs out, nothing
+/// is changed.
+pub fn change_rules(
+    rules: &mut RuleList,
+    first_match: &mut bool,
+    change: &Change,
+) -> Result<Changed, AllocError>
     requires { IsChange change.now }
-    ensures { (result, means.Bsdextended rules.new first_match.new) ≡ spec.change_of (means.Bsdextended rules.old first_match.old) change.now }
+    ensures ok { IfOk result (λ changed. (changed, means.Bsdextended rules.new first_match.new) ≡ spec.change_of (means.Bsdextended rules.old first_match.old) change.now) }
+    ensures err { OnErr result (means.Bsdextended rules.new first_match.new ≡ means.Bsdextended rules.old first_match.old) }
 {
     match change {
         Change::FirstMatch(enabled) => {
             *first_match = *enabled;
-            Changed::done()
+            Ok(Changed::done())
         }
-        Change::RuleAdd(rule) => match rules.add(*rule) {
-            Ok(number) => Changed::with(Errno::Success, Some(number)),
-            Err(_) => Changed::with(Errno::Enobufs, None),
+        Change::RuleAdd(rule) => match rules.add(*rule)? {
+            Some(number) => Ok(Changed::with(Errno::Success, Some(number))),
+            None => Ok(Changed::with(Errno::Enobufs, None)),
         },
         Change::RuleSet(number, rule) => {
-            rules.set(*number, *rule);
-            Changed::done()
+            rules.set(*number, *rule)?;
+            Ok(Changed::done())
         }
         Change::RuleRemove(number) => match rules.remove(*number) {
-            Ok(()) => Changed::done(),
-            Err(_) => Changed::with(Errno::Enoent, None),
+            Ok(()) => Ok(Changed::done()),
+            Err(_) => Ok(Changed::with(Errno::Enoent, None)),
         },
     }
 }

@@ -91,11 +91,7 @@ impl Spec {
         ensures err { OnErr result (self.new ≡ self.old) }
     {
         match self {
-            Spec::Bsdextended { rules, first_match } => Ok(change_rules(
-                rules,
-                first_match,
-                change,
-            )),
+            Spec::Bsdextended { rules, first_match } => change_rules(rules, first_match, change),
             Spec::Biba | Spec::Mls | Spec::Partition | Spec::Priority => Ok(Changed::no_setting()),
         }
     }

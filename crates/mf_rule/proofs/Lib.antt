@@ -3,9 +3,12 @@ pub mod Ranges
 pub mod Pieces
 pub mod Letters
 pub mod FilePieces
+pub mod Candidates
 pub mod RoundTrips
 pub mod Spelled
+pub mod Stretches
 pub mod WordsBehind
 pub mod ReadAsSpelled
 pub mod Formed
 pub mod FreeSlots
+pub mod Bits

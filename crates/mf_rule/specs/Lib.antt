@@ -1,9 +1,12 @@
+pub mod Candidates
 pub mod Canonical
 pub mod Flags
 pub mod Match
 pub mod Parts
 pub mod Reading
 pub mod RoundTrip
+pub mod RuleBits
 pub mod RuleGrammar
 pub mod RuleList
+pub mod UidIndex
 pub mod Words

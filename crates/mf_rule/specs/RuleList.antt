@@ -2,7 +2,7 @@
 --
 -- That the first match decides, or else every match, is mac_bsdextended(4)'s. That a list has at most 250 rules, where that page says 256, and
 -- that what no rule matches is allowed, is this model's own choice.
-use Rattle.std.specs.Prelude.{ℕ, Bool, true, false, not, ◌||◌, List, Option, Some, None, find}
+use Rattle.std.specs.Prelude.{ℕ, Bool, true, false, not, ◌||◌, List, Option, Some, None, find, slice_set}
 use Rattle.std.specs.List.{list_all}
 use Rattle.std.specs.Option.{option_map_or}
 use Rattle.mf_cred.specs.declared.cred.Cred.{Cred}
@@ -31,3 +31,8 @@ slot_gives wanted slot = option_map_or (λ rule. gives rule wanted) slot true
 abbrev pub verdict : Bool → Slots → Cred → FileView → ℕ → Bool
 verdict true slots cred file wanted = option_map_or (slot_gives wanted) (find (is_match cred file) slots) true
 verdict false slots cred file wanted = list_all (λ slot. not (is_match cred file slot) || slot_gives wanted slot) slots
+
+-- the list with the rule under the number, if there is one
+abbrev pub with_rule : Rule → Option ℕ → Slots → Slots
+with_rule rule None slots = slots
+with_rule rule (Some number) slots = slice_set slots number (Some rule)

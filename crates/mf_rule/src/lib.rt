@@ -8,7 +8,9 @@ mod law;
 mod printing;
 mod reading;
 mod rule;
+mod rule_bits;
 mod rule_list;
+mod uid_index;
 mod values;
 
 pub use fault::RuleFault;
@@ -19,4 +21,5 @@ pub use rule::{
     ADMINISTER, ANY_TYPE, BLOCK, CHARACTER, DIRECTORY, EXECUTE, FIFO, IdTest, LAST_ID, LINK,
     ObjectSide, READ, REGULAR, Rule, SOCKET, STAT, Side, TypeTest, WRITE,
 };
-pub use rule_list::{Full, MAX_RULES, NoRule, RuleList};
+pub use rule_bits::RuleBits;
+pub use rule_list::{MAX_RULES, NoRule, RuleList};

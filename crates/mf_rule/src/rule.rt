@@ -1,7 +1,9 @@
 //! Rules, and which subjects and files they match.
-ghost use Rattle.std.specs.Prelude.{◌≡◌, ◌↔◌, IsTrue, not};
+ghost use Rattle.std.specs.Prelude.{◌≡◌, ◌↔◌, ◌≤◌, ℕ, IsTrue, Some, not};
 ghost use Rattle.std.specs.List.{list_any};
+ghost use Rattle.mf_rule.specs.Candidates.{subject_may, object_may, may_match};
 ghost use Rattle.mf_rule.specs.Match as spec;
+ghost use Rattle.mf_rule.specs.UidIndex.{lone, is_within};
 ghost use Rattle.mf_rule.specs.Flags.{SameFlags};
 
 use mf_cred::{Cred, FileView};
@@ -45,6 +47,13 @@ pub struct IdTest {
     pub greatest: u32,
 }
 
+/// All ids.
+const ANYBODY: IdTest = IdTest {
+    not: false,
+    least: 0,
+    greatest: LAST_ID,
+};
+
 /// A test of a file's type: that it is among these; after `!` that it isn't.
 #[derive(Clone, Copy, PartialEq, Eq)]
 pub struct TypeTest {
@@ -86,7 +95,7 @@ fn turned(not: bool, holds: bool) -> bool
 }
 
 impl IdTest {
-    fn has(&self, id: u32) -> bool
+    pub fn has(&self, id: u32) -> bool
         ensures { result ≡ spec.has self.now id }
     {
         self.least <= id && id <= self.greatest
@@ -198,6 +207,16 @@ impl Side {
             subject_uid(&self.uid, cred) && subject_gid(&self.gid, cred),
         )
     }
+
+    /// The uids of the subjects that the part may match, by its test of uids alone.
+    fn reach(&self) -> IdTest
+        ensures { (uid : ℕ) → uid ≤ LAST_ID → subject_may self.now (lone uid) ≡ spec.has result uid }
+    {
+        match self.uid {
+            Some(test) if !self.not && !test.not => test,
+            _ => ANYBODY,
+        }
+    }
 }
 
 impl ObjectSide {
@@ -229,6 +248,13 @@ impl ObjectSide {
             && object_type(&self.types, file.dir)
     }
 
+    /// Whether the part may match a directory, or another file, by its test of the type alone.
+    fn may_match(&self, dir: bool) -> bool
+        ensures { result ≡ object_may self.now dir }
+    {
+        self.side.not || object_type(&self.types, dir)
+    }
+
     fn matches(&self, cred: &Cred, file: &FileView) -> bool
         ensures { result ≡ spec.object_matches self.now cred.now file.now }
     {
@@ -242,6 +268,17 @@ impl Rule {
         ensures { result ≡ spec.matches self.now cred.now file.now }
     {
         self.subject.matches(cred) && self.object.matches(cred, file)
+    }
+
+    /// The uids of the subjects that the rule may match with a directory, or with another file, if any.
+    pub(crate) fn reach(&self, dir: bool) -> Option<IdTest>
+        ensures { (uid : ℕ) → uid ≤ LAST_ID → may_match (lone uid) dir (Some self.now) ≡ is_within result uid }
+    {
+        if self.object.may_match(dir) {
+            Some(self.subject.reach())
+        } else {
+            None
+        }
     }
 
     /// Whether the rule gives all of these letters.

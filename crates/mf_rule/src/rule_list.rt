@@ -1,11 +1,14 @@
 //! Rule lists, and their verdict.
-ghost use Rattle.std.specs.Prelude.{◌≡◌, ◌↔◌, ◌<◌, ◌≤◌, ℕ, [], IsTrue, true, false, Some, None, find, option_copied, length, not, ◌||◌, position, replicate, slice_index_or, slice_set, IfOk, MatchResult};
-ghost use Rattle.std.specs.List.{list_all};
-ghost use Rattle.std.specs.Option.{option_map_or};
+ghost use Rattle.std.specs.Prelude.{◌≡◌, ◌↔◌, ◌<◌, ◌≤◌, ℕ, IsTrue, true, false, Some, None, length, not, ◌||◌, position, replicate, slice_index_or, slice_set, IfOk, OnOk, OnErr, MatchResult};
+ghost use Rattle.mf_rule.specs.Candidates.{may_match, candidates};
 ghost use Rattle.mf_rule.specs.RuleList as spec;
+ghost use Rattle.mf_rule.specs.UidIndex.{AreCandidates, is_within, lone};
 ghost use Rattle.mf_rule.specs.declared.rule.Rule.{Rule};
 
 use crate::Rule;
+use crate::rule::{IdTest, LAST_ID};
+use crate::rule_bits::{Bits, RuleBits};
+use crate::uid_index::UidIndex;
 use mf_cred::{Cred, FileView};
 use std::alloc::{AllocError, Global};
 use std::marker::Model;
@@ -13,33 +16,35 @@ use std::marker::Model;
 /// The most rules of a list; their numbers are below it.
 pub const MAX_RULES: u32 = 250;
 
-/// The refusal to add a rule where every number is used.
-#[derive(Clone, Copy, Debug, PartialEq, Eq)]
-pub struct Full;
-
 /// The refusal to remove a rule where the number is unused.
 #[derive(Clone, Copy, Debug, PartialEq, Eq)]
 pub struct NoRule;
 
 /// The rules of mac_bsdextended(4), each with a number below `MAX_RULES`. Contracts see, from number 0 on, the rule of each
-/// number, or None. Room for all of them is taken when the list is made, so that no change takes memory.
+/// number, or None. Room for all of them is taken when the list is made; a rule that is put in takes memory for the indexes
+/// alone.
 #[derive(Drop)]
 pub struct RuleList {
     slots: Vec<Option<Rule>>,
-    /// Every slot from this one on is free, so that a verdict and a comparison look at those before it alone.
+    /// Every slot from this one on is free, so that a copy and a comparison look at those before it alone.
     used: usize,
+    /// Which rules may match a subject of a uid, and a file that is no directory.
+    files: UidIndex,
+    /// The same, and a directory.
+    directories: UidIndex,
 }
 
 impl Model for RuleList {
-    ghost use Rattle.std.specs.Prelude.{◌≡◌, ◌≤◌, ℕ, None, length, slice_index_or};
+    ghost use Rattle.std.specs.Prelude.{◌≡◌, ◌≤◌, ℕ, true, false, None, length, slice_index_or};
     ghost use Rattle.mf_rule.specs.RuleList.{Slots};
+    ghost use Rattle.mf_rule.specs.UidIndex.{IsIndexOf};
     ghost use Rattle.mf_rule.specs.declared.rule_list.TheConstants.{MAX_RULES};
 
     ghost Value = { Slots };
 
     ghost view = { λ list. list.slots.items };
 
-    ghost invariant = { λ list. (length list.slots.items ≡ MAX_RULES) × (list.used ≤ MAX_RULES) × ((number : ℕ) → list.used ≤ number → slice_index_or list.slots.items number None ≡ None) };
+    ghost invariant = { λ list. (length list.slots.items ≡ MAX_RULES) × (list.used ≤ MAX_RULES) × ((number : ℕ) → list.used ≤ number → slice_index_or list.slots.items number None ≡ None) × IsIndexOf list.slots.items false list.files × IsIndexOf list.slots.items true list.directories };
 }
 
 impl RuleList {
@@ -47,21 +52,27 @@ impl RuleList {
     pub fn new(alloc: Global) -> Result<RuleList, AllocError>
         ensures { IfOk result (λ list. list ≡ replicate MAX_RULES None) }
     {
-        let mut slots = Vec::with_capacity(alloc, MAX_RULES as usize)?;
-        slots.resize(MAX_RULES as usize, None)?;
-        Ok(RuleList { slots, used: 0 })
+        let slots = free_slots(alloc)?;
+        Ok(RuleList {
+            slots,
+            used: 0,
+            files: UidIndex::new(alloc),
+            directories: UidIndex::new(alloc),
+        })
     }
 
-    /// Adds a rule under the lowest number that is free, and answers with it.
-    pub fn add(&mut self, rule: Rule) -> Result<u32, Full>
-        ensures { MatchResult result (λ n. (position spec.is_free self.old ≡ Some n) × (self.new ≡ slice_set self.old n (Some rule))) (λ e. (position spec.is_free self.old ≡ None) × (self.new ≡ self.old)) }
+    /// Adds a rule under the lowest number that is free, and answers with it; where none is free, nothing changes.
+    pub fn add(&mut self, rule: Rule) -> Result<Option<u32>, AllocError>
+        ensures number { IfOk result (λ number. number ≡ position spec.is_free self.old) }
+        ensures ok { IfOk result (λ number. self.new ≡ spec.with_rule rule number self.old) }
+        ensures err { OnErr result (self.new ≡ self.old) }
     {
         let Some(number) = first_free(&self.slots) else {
-            return Err(Full);
+            return Ok(None);
         };
         let number = number as u32;
-        self.set(number, rule);
-        Ok(number)
+        self.set(number, rule)?;
+        Ok(Some(number))
     }
 
     /// The lowest number that is free.
@@ -73,22 +84,33 @@ impl RuleList {
     }
 
     /// Puts a rule under a number, in place of the one that it has.
-    pub fn set(&mut self, number: u32, rule: Rule)
+    pub fn set(&mut self, number: u32, rule: Rule) -> Result<(), AllocError>
         requires { number < MAX_RULES }
-        ensures { self.new ≡ slice_set self.old number (Some rule) }
+        ensures ok { OnOk result (self.new ≡ slice_set self.old number (Some rule)) }
+        ensures err { OnErr result (self.new ≡ self.old) }
     {
-        let number = number as usize;
-        self.slots[number] = Some(rule);
-        self.used = self.used.max(number + 1);
+        let (of_files, of_directories) = (rule.reach(false), rule.reach(true));
+        self.files.cut_around(&of_files)?;
+        self.directories.cut_around(&of_directories)?;
+        let place = number as usize;
+        let old = self.slots[place];
+        self.files.replace(number, &reach(&old, false), &of_files);
+        self.directories
+            .replace(number, &reach(&old, true), &of_directories);
+        self.slots[place] = Some(rule);
+        self.used = self.used.max(place + 1);
+        Ok(())
     }
 
     /// Takes the rule of a number away.
     pub fn remove(&mut self, number: u32) -> Result<(), NoRule>
         ensures { MatchResult result (λ u. (spec.is_free (slice_index_or self.old number None) ≡ false) × (self.new ≡ slice_set self.old number None)) (λ e. (spec.is_free (slice_index_or self.old number None) ≡ true) × (self.new ≡ self.old)) }
     {
-        if self.get(number).is_none() {
+        let Some(rule) = self.get(number) else {
             return Err(NoRule);
-        }
+        };
+        self.files.replace(number, &rule.reach(false), &None);
+        self.directories.replace(number, &rule.reach(true), &None);
         self.slots[number as usize] = None;
         self.used = end_of_rules(&self.slots[..self.used]);
         Ok(())
@@ -121,6 +143,8 @@ impl RuleList {
             self.used -= 1;
             self.slots[self.used] = None;
         }
+        self.files.clear();
+        self.directories.clear();
     }
 
     /// Whether the two have the same rules.
@@ -141,20 +165,59 @@ impl RuleList {
         Ok(RuleList {
             slots,
             used: self.used,
+            files: self.files.copy(alloc)?,
+            directories: self.directories.copy(alloc)?,
         })
     }
 
-    /// Whether the rules let the subject do what these letters stand for to the file.
+    /// The numbers of the rules that may match, by their tests of the subject's uids and of the type alone. It takes no
+    /// memory.
+    pub fn candidates(&self, cred: &Cred, dir: bool) -> RuleBits
+        ensures { result ≡ candidates self.now cred.now dir }
+    {
+        RuleBits::of(self.candidate_bits(cred, dir))
+    }
+
+    fn candidate_bits(&self, cred: &Cred, dir: bool) -> Bits
+        ensures { AreCandidates self.now cred.now dir result }
+    {
+        let (uid, ruid, svuid) = (cred.uid, cred.ruid, cred.svuid);
+        if dir {
+            self.directories.at_any(uid, ruid, svuid)
+        } else {
+            self.files.at_any(uid, ruid, svuid)
+        }
+    }
+
+    /// Whether the rules let the subject do what these letters stand for to the file. It looks at the candidates alone.
     pub fn verdict(&self, first_match: bool, cred: &Cred, file: &FileView, wanted: u8) -> bool
         ensures { result ≡ spec.verdict first_match self.now cred.now file.now wanted }
     {
-        let slots = &self.slots[..self.used];
+        let candidates = self.candidate_bits(cred, file.dir);
         if first_match {
-            by_first(slots, cred, file, wanted)
+            by_first(&self.slots, candidates, cred, file, wanted)
         } else {
-            by_all(slots, cred, file, wanted)
+            by_all(&self.slots, candidates, cred, file, wanted)
         }
     }
+}
+
+/// The uids of the subjects that the rule of a slot may match with a directory, or with another file, if any.
+fn reach(slot: &Option<Rule>, dir: bool) -> Option<IdTest>
+    ensures { (uid : ℕ) → uid ≤ LAST_ID → may_match (lone uid) dir slot.now ≡ is_within result uid }
+{
+    match slot {
+        None => None,
+        Some(rule) => rule.reach(dir),
+    }
+}
+
+fn free_slots(alloc: Global) -> Result<Vec<Option<Rule>>, AllocError>
+    ensures { IfOk result (λ slots. slots.items ≡ replicate MAX_RULES None) }
+{
+    let mut slots = Vec::with_capacity(alloc, MAX_RULES as usize)?;
+    slots.resize(MAX_RULES as usize, None)?;
+    Ok(slots)
 }
 
 fn first_free(slots: &[Option<Rule>]) -> Option<usize>
@@ -193,36 +256,46 @@ fn slot_gives(slot: &Option<Rule>, wanted: u8) -> bool
     }
 }
 
-/// The matching rule of the least number.
-fn first_match<'a>(
-    slots: &'a [Option<Rule>],
+/// The matching rule of the least number decides.
+fn by_first(
+    slots: &[Option<Rule>],
+    mut candidates: Bits,
     cred: &Cred,
     file: &FileView,
-) -> Option<&'a Option<Rule>>
-    ensures { option_copied result ≡ find (spec.is_match cred.now file.now) slots.now }
+    wanted: u8,
+) -> bool
+    requires len { length slots.now ≡ MAX_RULES }
+    requires candidates { AreCandidates slots.now cred.now file.now.dir candidates }
+    ensures { result ≡ spec.verdict true slots.now cred.now file.now wanted }
 {
-    slots.iter().find(|slot| is_match(slot, cred, file))
-}
-
-fn by_first(slots: &[Option<Rule>], cred: &Cred, file: &FileView, wanted: u8) -> bool
-    ensures { result ≡ option_map_or (spec.slot_gives wanted) (find (spec.is_match cred.now file.now) slots.now) true }
-{
-    match first_match(slots, cred, file) {
-        None => true,
-        Some(slot) => slot_gives(slot, wanted),
+    while let Some(number) = candidates.take_least() {
+        let slot = &slots[number as usize];
+        if is_match(slot, cred, file) {
+            return slot_gives(slot, wanted);
+        }
     }
+    true
 }
 
-fn allows(slot: &Option<Rule>, cred: &Cred, file: &FileView, wanted: u8) -> bool
-    ensures { result ≡ (not (spec.is_match cred.now file.now slot.now) || spec.slot_gives wanted slot.now) }
+/// Every matching rule has to give the letters.
+fn by_all(
+    slots: &[Option<Rule>],
+    mut candidates: Bits,
+    cred: &Cred,
+    file: &FileView,
+    wanted: u8,
+) -> bool
+    requires len { length slots.now ≡ MAX_RULES }
+    requires candidates { AreCandidates slots.now cred.now file.now.dir candidates }
+    ensures { result ≡ spec.verdict false slots.now cred.now file.now wanted }
 {
-    !is_match(slot, cred, file) || slot_gives(slot, wanted)
-}
-
-fn by_all(slots: &[Option<Rule>], cred: &Cred, file: &FileView, wanted: u8) -> bool
-    ensures { result ≡ list_all (λ slot. not (spec.is_match cred.now file.now slot) || spec.slot_gives wanted slot) slots.now }
-{
-    slots.iter().all(|slot| allows(slot, cred, file, wanted))
+    while let Some(number) = candidates.take_least() {
+        let slot = &slots[number as usize];
+        if is_match(slot, cred, file) && !slot_gives(slot, wanted) {
+            return false;
+        }
+    }
+    true
 }
 
 fn same_slot(slot: &Option<Rule>, other: &Option<Rule>) -> bool

@@ -1,6 +1,9 @@
-//! Rules about files, as tables: their texts, what they match, and lists of them: tests, and nothing else.
+//! Rules about files, as tables: their texts, what they match, lists of them, and which of a list may match: tests, and nothing
+//! else.
 #![tactic(auto)]
 
+#[cfg(test)]
+mod candidates;
 #[cfg(test)]
 mod lists;
 #[cfg(test)]

@@ -3,12 +3,12 @@
 use crate::matches::{FILE, subject};
 use crate::texts::rule_of;
 use mf_cred::{Cred, FileView};
-use mf_rule::{ADMINISTER, EXECUTE, Full, MAX_RULES, NoRule, READ, Rule, RuleList, STAT, WRITE};
+use mf_rule::{ADMINISTER, EXECUTE, MAX_RULES, NoRule, READ, Rule, RuleList, STAT, WRITE};
 use std::alloc::{AllocError, Global};
 use std::process::Abort;
 
 /// The rule of these words.
-fn rule(rt: &impl Abort, alloc: Global, text: &str) -> Result<Rule, AllocError> {
+pub fn rule(rt: &impl Abort, alloc: Global, text: &str) -> Result<Rule, AllocError> {
     match rule_of(alloc, text)? {
         Some(rule) => Ok(rule),
         None => panic!(rt; "no rule: {text}"),
@@ -30,7 +30,7 @@ fn first_match_and_all_match(rt: HostRuntime) -> Result<(), AllocError> {
     let none = rule(&rt, rt.alloc(), "subject uid 0 object type r mode n")?;
     let mut rules = RuleList::new(rt.alloc())?;
     gives_root(&rt, &rules, &[(true, READ | WRITE | ADMINISTER, true)]);
-    assert!(rt; [rules.add(reads), rules.add(none)] == [Ok(0), Ok(1)]);
+    assert!(rt; [rules.add(reads)?, rules.add(none)?] == [Some(0), Some(1)]);
     let rows = [
         (true, READ, true),
         (true, WRITE, false),
@@ -49,15 +49,15 @@ fn rule_a_and_rule_b_of_mac_bsdextended_4(rt: HostRuntime) -> Result<(), AllocEr
     let allows = rule(&rt, rt.alloc(), "subject uid 2 object uid 3 mode r")?;
     let blocks = rule(&rt, rt.alloc(), "subject uid 2 object uid 3 mode n")?;
     let mut rules = RuleList::new(rt.alloc())?;
-    rules.set(3, allows);
-    rules.set(4, blocks);
+    rules.set(3, allows)?;
+    rules.set(4, blocks)?;
     let first = rules.verdict(true, &subject(), &FILE, READ);
     assert!(rt; first && !rules.verdict(false, &subject(), &FILE, READ));
     Ok(())
 }
 
 /// Whether the list has this rule under the number.
-fn has(rules: &RuleList, number: u32, rule: &Rule) -> bool {
+pub fn has(rules: &RuleList, number: u32, rule: &Rule) -> bool {
     match rules.get(number) {
         Some(found) => found.same(rule),
         None => false,
@@ -65,13 +65,14 @@ fn has(rules: &RuleList, number: u32, rule: &Rule) -> bool {
 }
 
 /// Sets rule 1 twice, adds two, and removes rule 1 twice.
-fn set_add_and_remove(rt: &impl Abort, rules: &mut RuleList, rule: Rule) {
-    rules.set(1, rule);
-    rules.set(1, rule);
+fn set_add_and_remove(rt: &impl Abort, rules: &mut RuleList, rule: Rule) -> Result<(), AllocError> {
+    rules.set(1, rule)?;
+    rules.set(1, rule)?;
     assert!(rt; has(rules, 1, &rule) && rules.free() == Some(0));
-    assert!(rt; [rules.add(rule), rules.add(rule)] == [Ok(0), Ok(2)]);
+    assert!(rt; [rules.add(rule)?, rules.add(rule)?] == [Some(0), Some(2)]);
     assert!(rt; rules.remove(1) == Ok(()) && rules.get(1).is_none());
     assert!(rt; rules.remove(1) == Err(NoRule));
+    Ok(())
 }
 
 /// The calls of libugidfw(3): `bsde_set_rule`, `bsde_get_rule`, `bsde_delete_rule` and `bsde_add_rule`.
@@ -79,15 +80,14 @@ fn set_add_and_remove(rt: &impl Abort, rules: &mut RuleList, rule: Rule) {
 fn calls_of_libugidfw_3(rt: HostRuntime) -> Result<(), AllocError> {
     let rule = rule(&rt, rt.alloc(), "subject uid 5 object mode n")?;
     let mut rules = RuleList::new(rt.alloc())?;
-    set_add_and_remove(&rt, &mut rules, rule);
-    Ok(())
+    set_add_and_remove(&rt, &mut rules, rule)
 }
 
 #[test]
 fn copies_and_cleared_lists(rt: HostRuntime) -> Result<(), AllocError> {
     let rule = rule(&rt, rt.alloc(), "subject uid 5 object mode n")?;
     let mut rules = RuleList::new(rt.alloc())?;
-    rules.set(7, rule);
+    rules.set(7, rule)?;
     let copy = rules.copy(rt.alloc())?;
     let was_same = copy.same(&rules);
     rules.clear();
@@ -117,7 +117,7 @@ fn copy_or_stay(
 fn rules_after_refused_copies(rt: HostRuntime) -> Result<(), AllocError> {
     let rule = rule(&rt, rt.alloc(), "subject uid 5 object mode n")?;
     let mut rules = RuleList::new(rt.alloc())?;
-    rules.set(7, rule);
+    rules.set(7, rule)?;
     copy_or_stay(&rt, rt.alloc(), &rules, rule)
 }
 
@@ -131,10 +131,8 @@ fn differ(rules: &RuleList, others: &RuleList) -> bool {
     !rules.same(others) && !others.same(rules)
 }
 
-/// Sets the last rule and rule 3, which deny all, and removes them. While the second is there nothing may be read.
-fn set_and_empty(rt: &impl Abort, rules: &mut RuleList, empty: &RuleList, rule: Rule) {
-    rules.set(MAX_RULES - 1, rule);
-    rules.set(3, rule);
+/// Removes the last rule and rule 3, which deny all. While the second is there nothing may be read.
+fn remove_both(rt: &impl Abort, rules: &mut RuleList, empty: &RuleList) {
     assert!(rt; differ(rules, empty) && rules.remove(MAX_RULES - 1) == Ok(()));
     assert!(rt; !rules.verdict(true, &subject(), &FILE, READ));
     assert!(rt; rules.remove(3) == Ok(()) && are_same(rules, empty));
@@ -146,12 +144,14 @@ fn lists_that_were_emptied(rt: HostRuntime) -> Result<(), AllocError> {
     let rule = rule(&rt, rt.alloc(), "subject object mode n")?;
     let empty = RuleList::new(rt.alloc())?;
     let mut rules = RuleList::new(rt.alloc())?;
-    set_and_empty(&rt, &mut rules, &empty, rule);
+    rules.set(MAX_RULES - 1, rule)?;
+    rules.set(3, rule)?;
+    remove_both(&rt, &mut rules, &empty);
     Ok(())
 }
 
 /// Removes rules of a full list, two of them where there are none, and adds rules until it is full again.
-fn remove_and_add(rt: &impl Abort, rules: &mut RuleList, rule: Rule) {
+fn remove_and_add(rt: &impl Abort, rules: &mut RuleList, rule: Rule) -> Result<(), AllocError> {
     let removed = [
         rules.remove(0),
         rules.remove(0),
@@ -159,8 +159,9 @@ fn remove_and_add(rt: &impl Abort, rules: &mut RuleList, rule: Rule) {
         rules.remove(7),
     ];
     assert!(rt; removed == [Ok(()), Err(NoRule), Err(NoRule), Ok(())]);
-    let added = [rules.add(rule), rules.add(rule), rules.add(rule)];
-    assert!(rt; added == [Ok(0), Ok(7), Err(Full)]);
+    let added = [rules.add(rule)?, rules.add(rule)?, rules.add(rule)?];
+    assert!(rt; added == [Some(0), Some(7), None]);
+    Ok(())
 }
 
 #[test]
@@ -168,9 +169,8 @@ fn a_full_list(rt: HostRuntime) -> Result<(), AllocError> {
     let rule = rule(&rt, rt.alloc(), "subject uid 5 object mode n")?;
     let mut rules = RuleList::new(rt.alloc())?;
     for number in 0..MAX_RULES {
-        assert!(rt; rules.add(rule) == Ok(number));
+        assert!(rt; rules.add(rule)? == Some(number));
     }
-    assert!(rt; rules.add(rule) == Err(Full));
-    remove_and_add(&rt, &mut rules, rule);
-    Ok(())
+    assert!(rt; rules.add(rule)? == None);
+    remove_and_add(&rt, &mut rules, rule)
 }
