@@ -37,7 +37,7 @@ grade_allowed kinds.Pipe grade = refl
 grade_allowed kinds.Socket grade = refl
 
 pub grade_asked : (kind : Kind) (grade : ℕ) → grade ≤ 65535 → IsAsked kind (Biba ∷ []) (asked (plain_grade grade))
-grade_asked kind grade fits = is_asked kind (plain_grade grade) (record { fits = fits; are_words = no_words }) (grade_allowed kind grade)
+grade_asked kind grade fits = is_asked kind (plain_grade grade) (fits, no_words) (grade_allowed kind grade)
 
 equal_allowed : (kind : Kind) → may_ask_for kind (Biba ∷ []) (asked Equal) ≡ true
 equal_allowed kinds.Process = refl

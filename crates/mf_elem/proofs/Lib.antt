@@ -1,3 +1,2 @@
 pub mod CompsLaws
-pub mod SameElement
 pub mod Valid

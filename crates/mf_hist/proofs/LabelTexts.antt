@@ -14,7 +14,8 @@ use Rattle.mf_elem.specs.declared.label.RangeLabel.{RangeLabel}
 use Rattle.mf_elem.specs.declared.label.Request.{Request}
 use Rattle.mf_errno.specs.declared.module.Module.{Module}
 use Rattle.mf_errno.specs.declared.module.Module.TheVariants.{Biba, Mls, Partition, Bsdextended, Priority}
-use Rattle.mf_labeltext.specs.Canonical.{rising, comps_text, elem_text, effective_text, range_text, label_text, partition_text, element_text, parts_of, in_order, elements_text, canonical_label}
+use Rattle.mf_labeltext.proofs.CanonicalSpelling.{effective_text}
+use Rattle.mf_labeltext.specs.Canonical.{rising, comps_text, elem_text, range_text, label_text, partition_text, element_text, parts_of, in_order, elements_text, canonical_label}
 use Rattle.mf_labeltext.specs.Reading.{request_in}
 use Rattle.mf_labeltext.specs.RoundTrip.{request_of, AreParts}
 use Rattle.mf_labeltext.specs.declared.fault.LabelFault.{LabelFault}
@@ -58,7 +59,7 @@ elem_graphic Low fits = refl
 elem_graphic High fits = refl
 elem_graphic Equal fits = refl
 elem_graphic (Grade grade comps) fits =
-    all_append is_graphic (decimal grade) (comps_text (rising comps)) (number_graphic grade (omega (arith, fits.fits))) (comps_graphic (rising comps) (rising_are comps))
+    all_append is_graphic (decimal grade) (comps_text (rising comps)) (number_graphic grade (omega (arith, fits.0))) (comps_graphic (rising comps) (rising_are comps))
 
 effective_graphic : (effective : Option Elem) → IfSome effective IsElement → IsGraphic (effective_text effective)
 effective_graphic None fits = refl

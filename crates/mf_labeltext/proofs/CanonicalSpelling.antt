@@ -16,13 +16,13 @@ use Rattle.mf_elem.specs.declared.label.RangeLabel.{RangeLabel}
 use Rattle.mf_elem.specs.declared.label.LabelValue.{LabelValue}
 use Rattle.mf_elem.specs.declared.label.LabelValue.TheVariants.{Unset, Range, Number}
 use Rattle.mf_elem.specs.declared.label.Request.{Request}
+use Rattle.std.specs.Option.{option_map_or}
 use Rattle.mf_labeltext.specs.LabelGrammar.{SpellsNumber, SpellEach, SpellsGrade, SpellsElem, SpellsParts, SpellsLabel, SpellsPartition, IsName, SpellsElement}
-use Rattle.mf_labeltext.specs.Reading.{is_policy_name_byte}
-use Rattle.mf_labeltext.specs.Canonical.{rising, comps_text, elem_text, effective_text, range_text, label_text, partition_text, element_text}
+use Rattle.mf_labeltext.specs.Canonical.{rising, comps_text, elem_text, range_text, label_text, partition_text, element_text}
 use Rattle.mf_labeltext.specs.RoundTrip.{range_of, number_of, IsValueOf}
 use Rattle.mf_labeltext.proofs.Cutting.{IsFree}
 use Rattle.mf_labeltext.proofs.Spelling.{elem_inner, inner_free}
-use Rattle.mf_labeltext.proofs.Requests.{name_bytes_are}
+use Rattle.mf_labeltext.proofs.Requests.{name_bytes_are, is_policy_name_byte}
 use Rattle.mf_labeltext.proofs.Rising.{IsCompartment, rising_again, rising_are}
 
 -- ---- numbers
@@ -36,6 +36,9 @@ each_decimal [] all = tt
 each_decimal (n ∷ ns) all = (decimal_spells 1 256 n (lit< tt) all.0.0 all.0.1, each_decimal ns all.1)
 
 -- ---- elements
+abbrev pub effective_text : Option Elem → List ℕ
+effective_text element = option_map_or elem_text element []
+
 grade_text_spells : (grade : ℕ) (comps : Comps) (ns : List ℕ) → grade ≤ 65535 → comps ≡ comps_of (set.from_list ns) → AllByRecursion IsCompartment ns → SpellsGrade (decimal grade ++ comps_text ns) grade comps
 grade_text_spells grade comps [] fits is all =
     subst (λ text. SpellsGrade text grade comps) (sym (append-nil (decimal grade))) (inl (decimal_spells 0 65535 grade (lit< tt) (omega arith) fits, is))
@@ -52,7 +55,7 @@ elem_text_spells : (element : Elem) → IsElement element → SpellsElem (elem_t
 elem_text_spells Low is = inl refl
 elem_text_spells High is = inl refl
 elem_text_spells Equal is = inl refl
-elem_text_spells (Grade grade comps) is = grade_text_spells grade comps (rising comps) is.fits (rising_again comps is.are_words) (rising_are comps)
+elem_text_spells (Grade grade comps) is = grade_text_spells grade comps (rising comps) is.0 (rising_again comps is.1) (rising_are comps)
 
 -- ---- the value of biba and mls
 abbrev AreEnds : Elem × Elem → Type 0

@@ -32,8 +32,8 @@ elem_formed : (text : List ℕ) (element : Elem) → SpellsElem text element →
 elem_formed text Low spells = tt
 elem_formed text High spells = tt
 elem_formed text Equal spells = tt
-elem_formed text (Grade grade comps) (inl alone) = record { fits = alone.0.below; are_words = comps_are_words comps set.empty alone.1 }
-elem_formed text (Grade grade comps) (inr both) = record { fits = both.3.below; are_words = comps_are_words comps (set.from_list both.4.numbers) both.4.set }
+elem_formed text (Grade grade comps) (inl alone) = (alone.0.below, comps_are_words comps set.empty alone.1)
+elem_formed text (Grade grade comps) (inr both) = (both.3.below, comps_are_words comps (set.from_list both.4.numbers) both.4.set)
 
 parts_formed : (text : List ℕ) (effective : Option Elem) (range : Option (Elem × Elem)) → SpellsParts text effective range → IsAskedLabel (record { effective = effective; range = range })
 parts_formed text None None spells = absurd spells

@@ -9,9 +9,9 @@ use Rattle.std.specs.FinSet as set
 use Rattle.std.specs.FinSet.{from_list_push, nat_cmp-IsAntisymmetric}
 use Rattle.std.specs.Cmp.{nat_cmp_total}
 use Rattle.std.specs.Ordering.{nat_cmp}
-use Rattle.mf_text.specs.Number.{number_in, within, unless_other}
+use Rattle.mf_text.specs.Number.{number_in}
 use Rattle.mf_text.specs.declared.number.NumberFault.TheVariants.{OutOfRange}
-use Rattle.mf_text.proofs.Numerals.{all_digits}
+use Rattle.mf_text.proofs.Numerals.{all_digits, within, unless_other}
 use Rattle.mf_elem.specs.Comps.{comps_of}
 use Rattle.mf_elem.specs.declared.comps.Comps.{Comps}
 use Rattle.mf_labeltext.specs.LabelGrammar.{SpellsNumber, SpellEach, SpellsComps}

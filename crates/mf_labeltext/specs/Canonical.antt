@@ -4,9 +4,10 @@ use Rattle.std.specs.List.{join_with_byte}
 use Rattle.std.specs.Option.{option_map_or}
 use Rattle.std.specs.Fmt.{decimal}
 use Rattle.std.specs.FinSet as set
+use Rattle.mf_errno.specs.Names.{policy_text}
 use Rattle.mf_errno.specs.Same.{same_module}
 use Rattle.mf_errno.specs.declared.module.Module.{Module}
-use Rattle.mf_errno.specs.declared.module.Module.TheVariants.{Biba, Mls, Partition, Bsdextended, Priority}
+use Rattle.mf_errno.specs.declared.module.Module.TheVariants.{Biba, Mls, Partition}
 use Rattle.mf_elem.specs.Comps.{compartments_of}
 use Rattle.mf_elem.specs.declared.comps.Comps.{Comps}
 use Rattle.mf_elem.specs.declared.comps.TheConstants.{LAST_COMPARTMENT}
@@ -38,14 +39,11 @@ elem_text High = codes "high"
 elem_text Equal = codes "equal"
 elem_text (Grade grade comps) = decimal grade ++ comps_text (rising comps)
 
-abbrev pub effective_text : Option Elem → List ℕ
-effective_text element = option_map_or elem_text element []
-
 abbrev pub range_text : Option (Elem × Elem) → List ℕ
 range_text range = option_map_or (λ ends. open_parenthesis ∷ elem_text ends.0 ++ (dash ∷ elem_text ends.1 ++ close_parenthesis ∷ [])) range []
 
 abbrev pub label_text : RangeLabel → List ℕ
-label_text label = effective_text label.effective ++ range_text label.range
+label_text label = option_map_or elem_text label.effective [] ++ range_text label.range
 
 abbrev pub partition_text : ℕ → List ℕ
 partition_text n = if n == 0 then codes "none" else decimal n
@@ -55,13 +53,6 @@ abbrev pub value_text : LabelValue → List ℕ
 value_text Unset = partition_text 0
 value_text (Range label) = label_text label
 value_text (Number n) = partition_text n
-
-abbrev pub policy_text : Module → List ℕ
-policy_text Biba = codes "biba"
-policy_text Mls = codes "mls"
-policy_text Partition = codes "partition"
-policy_text Bsdextended = codes "bsdextended"
-policy_text Priority = codes "priority"
 
 -- the policy, a slash and the value
 abbrev pub element_text : Module × LabelValue → List ℕ

@@ -4,7 +4,8 @@ ghost use Rattle.std.specs.Fmt.{decimal};
 ghost use Rattle.std.specs.List.{join_with_byte};
 ghost use Rattle.mf_text.specs.Appending.{Extends};
 ghost use Rattle.mf_labeltext.specs.Bytes.{comma, dash};
-ghost use Rattle.mf_labeltext.specs.Canonical.{rising, comps_text, elem_text, range_text, label_text, partition_text, value_text, policy_text, element_text, parts_of, in_order, elements_text, canonical_label};
+ghost use Rattle.mf_errno.specs.Names.{policy_text};
+ghost use Rattle.mf_labeltext.specs.Canonical.{rising, comps_text, elem_text, range_text, label_text, partition_text, value_text, element_text, parts_of, in_order, elements_text, canonical_label};
 ghost use Rattle.mf_labeltext.specs.Commas.{comma_behind};
 ghost use Rattle.mf_labeltext.specs.RoundTrip.{CanonicalTextSpellsItsParts};
 
