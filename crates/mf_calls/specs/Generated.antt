@@ -7,7 +7,7 @@ use Rattle.mf_errno.specs.declared.module.Module.TheVariants.{Biba}
 use Rattle.mf_elem.specs.declared.elem.Elem.{Elem}
 use Rattle.mf_elem.specs.declared.elem.Elem.TheVariants.{Equal, Grade}
 use Rattle.mf_elem.specs.declared.label.Request.{Request}
-use Rattle.mf_elem.specs.Comps.{comps_of}
+use Rattle.mf_elem.specs.Comps.{no_comps}
 use Rattle.mf_cred.specs.declared.cred.Cred.{Cred}
 use Rattle.mf_cred.specs.declared.cred.TheConstants.{FILE_MODE, DIRECTORY_MODE}
 use Rattle.mf_calls.specs.declared.script.Call.{Call}
@@ -97,7 +97,7 @@ load_lines k (suc i) = load_lines k i ++ load_line k (drawn_at k i) ∷ []
 
 -- an element without compartments
 abbrev pub plain_grade : ℕ → Elem
-plain_grade grade = Grade grade (comps_of set.empty)
+plain_grade grade = Grade grade no_comps
 
 -- what a label text `biba/..` with this element asks for
 abbrev pub asked : Elem → Request

@@ -1,7 +1,7 @@
 -- What a range label says of its subject, which label is valid, and what a label text can ask for: ranges and the privilege of a subject are those
 -- of mac_biba(4) and mac_mls(4).
 use Rattle.std.specs.Option.{option_map_or, option_or}
-use Rattle.std.specs.Prelude.{Bool, true, false, ◌&&◌, ◌||◌, Option, Some, None}
+use Rattle.std.specs.Prelude.{Bool, true, false, ◌||◌, Option, Some, None}
 pub use Rattle.mf_elem.specs.Elem.{is_equal}
 use Rattle.mf_elem.specs.Elem.{in_range, range_in_range}
 use Rattle.mf_elem.specs.declared.elem.Elem.{Elem}

@@ -7,7 +7,8 @@ use Rattle.std.specs.Fmt.{decimal}
 use Rattle.std.specs.FinSet as set
 use Rattle.mf_errno.specs.declared.module.Module.{Module}
 use Rattle.mf_errno.specs.declared.module.Module.TheVariants.{Biba, Mls, Partition, Bsdextended, Priority}
-use Rattle.mf_elem.specs.Comps.{comps_of}
+use Rattle.mf_elem.specs.Comps.{rising}
+use Rattle.mf_elem.specs.OfSets.{comps_of}
 use Rattle.mf_elem.specs.Bounds.{IsElement, IsAskedLabel}
 use Rattle.mf_elem.specs.declared.comps.Comps.{Comps}
 use Rattle.mf_elem.specs.declared.elem.Elem.{Elem}
@@ -18,7 +19,7 @@ use Rattle.mf_elem.specs.declared.label.LabelValue.TheVariants.{Unset, Range, Nu
 use Rattle.mf_elem.specs.declared.label.Request.{Request}
 use Rattle.std.specs.Option.{option_map_or}
 use Rattle.mf_labeltext.specs.LabelGrammar.{SpellsNumber, SpellEach, SpellsGrade, SpellsElem, SpellsParts, SpellsLabel, SpellsPartition, IsName, SpellsElement}
-use Rattle.mf_labeltext.specs.Canonical.{rising, comps_text, elem_text, range_text, label_text, partition_text, element_text}
+use Rattle.mf_labeltext.specs.Canonical.{comps_text, elem_text, range_text, label_text, partition_text, element_text}
 use Rattle.mf_labeltext.specs.RoundTrip.{range_of, number_of, IsValueOf}
 use Rattle.mf_labeltext.proofs.Cutting.{IsFree}
 use Rattle.mf_labeltext.proofs.Spelling.{elem_inner, inner_free}

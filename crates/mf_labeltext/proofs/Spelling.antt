@@ -9,8 +9,8 @@ use Rattle.std.specs.Option.{option_zip}
 use Rattle.std.specs.Char.{digit_value}
 use Rattle.std.specs.Str.{bytes_eq}
 use Rattle.std.specs.Str.Parse.{AllDigits}
-use Rattle.std.specs.FinSet as set
-use Rattle.mf_elem.specs.Comps.{comps_of}
+use Rattle.mf_elem.specs.Comps.{no_comps}
+use Rattle.mf_elem.proofs.CompsLaws.{none_is}
 use Rattle.mf_elem.specs.declared.comps.Comps.{Comps}
 use Rattle.mf_elem.specs.declared.elem.Elem.{Elem}
 use Rattle.mf_elem.specs.declared.elem.Elem.TheVariants.{Low, High, Equal, Grade}
@@ -39,8 +39,8 @@ one_of_two text a b is =
 -- ---- elements
 grade_spells : (text : List ℕ) (halves : Option (List ℕ × List ℕ)) (element : Elem) → cut 58 text ≡ halves → grade_from_halves text halves ≡ Some element → SpellsElem text element
 grade_spells text None element none is =
-    let read = bind_some (number 0 65535 text) (λ grade. Some (Grade grade (comps_of set.empty))) element is in
-    subst (SpellsElem text) (some_is (Grade read.0 (comps_of set.empty)) element read.2) (inl (number_spells 0 65535 text read.0 read.1, refl))
+    let read = bind_some (number 0 65535 text) (λ grade. Some (Grade grade no_comps)) element is in
+    subst (SpellsElem text) (some_is (Grade read.0 no_comps) element read.2) (inl (number_spells 0 65535 text read.0 read.1, none_is))
 grade_spells text (Some halves) element some is =
     let read = bind_some (number 0 65535 halves.0) (λ grade. comps_in halves.1 >>= λ comps. Some (Grade grade comps)) element is in
     let comps = bind_some (comps_in halves.1) (λ comps. Some (Grade read.0 comps)) element read.2 in
@@ -99,8 +99,8 @@ spells_grade text grade comps (inl alone) =
     ∙ starts_with_digit text [] spells.numeral.1 spells.numeral.0
     ∙ ap grade_in (append-nil text)
     ∙ ap (grade_from_halves text) (cut_free_none 58 text (digits_free 58 text (lit≤ tt) spells.numeral.1))
-    ∙ ap (λ read. read >>= λ grade. Some (Grade grade (comps_of set.empty))) (spells_number 0 65535 text grade spells)
-    ∙ ap (λ comps. Some (Grade grade comps)) (sym alone.1)
+    ∙ ap (λ read. read >>= λ grade. Some (Grade grade no_comps)) (spells_number 0 65535 text grade spells)
+    ∙ ap (λ comps. Some (Grade grade comps)) (none_is ∙ sym alone.1)
 spells_grade text grade comps (inr both) =
     let digits = both.0 in
     let others = both.1 in

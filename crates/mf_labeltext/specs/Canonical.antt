@@ -3,30 +3,17 @@ use Rattle.std.specs.Prelude.{ℕ, List, [], ◌∷◌, ◌++◌, Option, map, f
 use Rattle.std.specs.List.{join_with_byte}
 use Rattle.std.specs.Option.{option_map_or}
 use Rattle.std.specs.Fmt.{decimal}
-use Rattle.std.specs.FinSet as set
 use Rattle.mf_errno.specs.Names.{policy_text}
 use Rattle.mf_errno.specs.Same.{same_module}
 use Rattle.mf_errno.specs.declared.module.Module.{Module}
 use Rattle.mf_errno.specs.declared.module.Module.TheVariants.{Biba, Mls, Partition}
-use Rattle.mf_elem.specs.Comps.{compartments_of}
-use Rattle.mf_elem.specs.declared.comps.Comps.{Comps}
-use Rattle.mf_elem.specs.declared.comps.TheConstants.{LAST_COMPARTMENT}
+use Rattle.mf_elem.specs.Comps.{rising}
 use Rattle.mf_elem.specs.declared.elem.Elem.{Elem}
 use Rattle.mf_elem.specs.declared.elem.Elem.TheVariants.{Low, High, Equal, Grade}
 use Rattle.mf_elem.specs.declared.label.RangeLabel.{RangeLabel}
 use Rattle.mf_elem.specs.declared.label.LabelValue.{LabelValue}
 use Rattle.mf_elem.specs.declared.label.LabelValue.TheVariants.{Unset, Range, Number}
-use Prim.Native.Nat.{suc, zero}
 use Rattle.mf_labeltext.specs.Bytes.{close_parenthesis, colon, comma, dash, open_parenthesis, plus, slash}
-
--- the numbers from 1 up to n
-abbrev pub numbers_to : ℕ → List ℕ
-numbers_to zero = []
-numbers_to (suc n) = numbers_to n ++ suc n ∷ []
-
--- the compartments of a set, rising
-unfoldable pub rising : Comps → List ℕ
-rising comps = filter (set.contains (compartments_of comps)) (numbers_to LAST_COMPARTMENT)
 
 -- a colon and the compartments with a plus between each two; nothing where there are none
 abbrev pub comps_text : List ℕ → List ℕ

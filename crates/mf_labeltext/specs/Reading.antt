@@ -5,12 +5,9 @@ use Rattle.std.specs.Char.{is_ascii_digit, is_ascii_lowercase}
 use Rattle.std.specs.Option.{ok_or, option_zip}
 use Rattle.std.specs.Result.{result_ok}
 use Rattle.std.specs.Str.{bytes_eq}
-use Rattle.std.specs.FinSet as set
-use Rattle.std.specs.FinSet.{FinSet}
-use Rattle.std.specs.Ordering.{nat_cmp}
 use Rattle.mf_text.specs.Number.{number_in}
 use Rattle.mf_text.specs.Results.{and_then}
-use Rattle.mf_elem.specs.Comps.{comps_of}
+use Rattle.mf_elem.specs.Comps.{no_comps, with_compartment}
 use Rattle.mf_elem.specs.declared.comps.Comps.{Comps}
 use Rattle.mf_elem.specs.declared.comps.TheConstants.{LAST_COMPARTMENT}
 use Rattle.mf_elem.specs.declared.elem.TheConstants.{LAST_GRADE}
@@ -42,17 +39,17 @@ unfoldable pub number : ℕ → ℕ → List ℕ → Option ℕ
 number least greatest text = result_ok (number_in 10 least greatest text)
 
 -- the compartments so far, and those that the texts spell
-unfoldable pub comps_from : FinSet nat_cmp → List (List ℕ) → Option Comps
-comps_from comps [] = Some (comps_of comps)
-comps_from comps (text ∷ texts) = number 1 LAST_COMPARTMENT text >>= λ n. comps_from (set.insert comps n) texts
+unfoldable pub comps_from : Comps → List (List ℕ) → Option Comps
+comps_from comps [] = Some comps
+comps_from comps (text ∷ texts) = number 1 LAST_COMPARTMENT text >>= λ n. comps_from (with_compartment comps n) texts
 
 -- compartments with a plus between each two
 unfoldable pub comps_in : List ℕ → Option Comps
-comps_in text = comps_from set.empty (parts plus text)
+comps_in text = comps_from no_comps (parts plus text)
 
 -- a grade, and the compartments behind its colon where there is one
 abbrev pub grade_from_halves : List ℕ → Option (List ℕ × List ℕ) → Option Elem
-grade_from_halves text None = number 0 LAST_GRADE text >>= λ grade. Some (Grade grade (comps_of set.empty))
+grade_from_halves text None = number 0 LAST_GRADE text >>= λ grade. Some (Grade grade no_comps)
 grade_from_halves text (Some halves) = do
   grade ← number 0 LAST_GRADE halves.0
   comps ← comps_in halves.1
