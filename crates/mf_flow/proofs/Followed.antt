@@ -12,8 +12,8 @@ use Rattle.mf_item.specs.Item.{Item}
 use Rattle.mf_policy.specs.declared.registration.Registration.{Registration}
 use Rattle.mf_policy.specs.Answer.{LatticePolicy, lattice_answer}
 use Rattle.mf_list.specs.Asked.{slot_of}
+use Rattle.mf_objects.proofs.Entities.{label_of as values_of}
 use Rattle.mf_objects.specs.Live.{LiveEntity, Entities}
-use Rattle.mf_objects.specs.Live.{label_of as values_of}
 use Rattle.mf_calls.specs.declared.script.Line.{Line}
 use Rattle.mf_calls.specs.declared.script.Script.{Script}
 use Rattle.mf_calls.specs.Tasks.{name_of}

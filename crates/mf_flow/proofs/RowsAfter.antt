@@ -6,10 +6,10 @@ use Rattle.mf_elem.specs.declared.elem.Elem.{Elem}
 use Rattle.mf_elem.specs.declared.label.Request.{Request}
 use Rattle.mf_policy.specs.declared.registration.Registration.{Registration}
 use Rattle.mf_list.specs.Asked.{slot_of}
+use Rattle.mf_objects.proofs.Entities.{label_of as values_of}
 use Rattle.mf_objects.specs.declared.id.Id.{Id}
 use Rattle.mf_objects.specs.Live.{LiveEntity, live_at}
 use Rattle.mf_objects.specs.Lives.{is_from}
-use Rattle.mf_objects.specs.Live.{label_of as values_of}
 use Rattle.mf_objects.specs.Population.{IsRising}
 use Rattle.mf_plan.specs.declared.state.State.{State}
 use Rattle.mf_objects.proofs.Finding.{find_given}

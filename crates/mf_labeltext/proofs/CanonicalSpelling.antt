@@ -19,7 +19,7 @@ use Rattle.mf_elem.specs.declared.label.LabelValue.TheVariants.{Unset, Range, Nu
 use Rattle.mf_elem.specs.declared.label.Request.{Request}
 use Rattle.std.specs.Option.{option_map_or}
 use Rattle.mf_labeltext.specs.LabelGrammar.{SpellsNumber, SpellEach, SpellsGrade, SpellsElem, SpellsParts, SpellsLabel, SpellsPartition, IsName, SpellsElement}
-use Rattle.mf_labeltext.specs.Canonical.{comps_text, elem_text, range_text, label_text, partition_text, element_text}
+use Rattle.mf_labeltext.specs.Canonical.{comps_text, elem_text, range_text, label_text, value_text, element_text}
 use Rattle.mf_labeltext.specs.RoundTrip.{range_of, number_of, IsValueOf}
 use Rattle.mf_labeltext.proofs.Cutting.{IsFree}
 use Rattle.mf_labeltext.proofs.Spelling.{elem_inner, inner_free}
@@ -74,6 +74,9 @@ label_text_spells : (label : RangeLabel) → IsAskedLabel label → SpellsLabel 
 label_text_spells label is = parts_spell label.effective label.range is.effective is.range is.not_empty
 
 -- ---- the value of partition
+abbrev pub partition_text : ℕ → List ℕ
+partition_text n = value_text (Number n)
+
 pub partition_spells : (n : ℕ) → n ≤ 2147483647 → SpellsPartition (partition_text n) n
 partition_spells n fits =
     elim (eqb n 0) as (λ b. eqb n 0 ≡ b → SpellsPartition (cond b (codes "none") (decimal n)) n) [

@@ -10,11 +10,11 @@ use Rattle.mf_elem.specs.declared.label.LabelValue.TheVariants.{Unset, Range, Nu
 use Rattle.mf_elem.specs.declared.label.Request.{Request}
 use Rattle.mf_labeltext.specs.LabelGrammar.{SpellElements, HasNoComma, Spells}
 use Rattle.mf_elem.specs.Label.{no_request}
-use Rattle.mf_labeltext.specs.Canonical.{label_text, partition_text, element_text, parts_of, in_order, elements_text, canonical_label}
+use Rattle.mf_labeltext.specs.Canonical.{label_text, element_text, parts_of, in_order, elements_text, canonical_label}
 use Rattle.mf_labeltext.specs.RoundTrip.{value_of, range_of, number_of, request_of, IsValueOf, IsPart, AreParts}
 use Rattle.mf_labeltext.proofs.Cutting.{IsFree}
 use Rattle.mf_labeltext.proofs.Spelling.{inner_free, partition_inner}
-use Rattle.mf_labeltext.proofs.CanonicalSpelling.{with_value, element_spells, free_both, label_free, partition_spells}
+use Rattle.mf_labeltext.proofs.CanonicalSpelling.{with_value, element_spells, free_both, label_free, partition_spells, partition_text}
 
 abbrev Part : Type 0
 Part = Module × LabelValue

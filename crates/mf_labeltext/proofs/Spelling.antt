@@ -181,7 +181,7 @@ inner_free byte (c ∷ cs) outer inner =
     (inner_other byte c outer parts.0, inner_free byte cs outer parts.1)
 
 -- ---- ranges
-zipped : {A B : Type 0} (x : Option A) (y : Option B) (pair : A × B) → option_zip x y ≡ Some pair → (x ≡ Some pair.0) × (y ≡ Some pair.1)
+pub zipped : {A B : Type 0} (x : Option A) (y : Option B) (pair : A × B) → option_zip x y ≡ Some pair → (x ≡ Some pair.0) × (y ≡ Some pair.1)
 zipped None y pair is = absurd cc
 zipped (Some a) None pair is = absurd cc
 zipped (Some a) (Some b) pair is = let same = some_is (a, b) pair is in (ap (λ p. Some p.0) same, ap (λ p. Some p.1) same)

@@ -32,14 +32,11 @@ range_text range = option_map_or (λ ends. open_parenthesis ∷ elem_text ends.0
 abbrev pub label_text : RangeLabel → List ℕ
 label_text label = option_map_or elem_text label.effective [] ++ range_text label.range
 
-abbrev pub partition_text : ℕ → List ℕ
-partition_text n = if n == 0 then codes "none" else decimal n
-
 -- an Unset partition is none
 abbrev pub value_text : LabelValue → List ℕ
-value_text Unset = partition_text 0
+value_text Unset = codes "none"
 value_text (Range label) = label_text label
-value_text (Number n) = partition_text n
+value_text (Number n) = if n == 0 then codes "none" else decimal n
 
 -- the policy, a slash and the value
 abbrev pub element_text : Module × LabelValue → List ℕ

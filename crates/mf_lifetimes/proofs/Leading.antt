@@ -9,7 +9,8 @@ use Rattle.mf_errno.specs.declared.errno.Errno.TheVariants.{Enotdir}
 use Rattle.mf_objects.specs.declared.id.Id.{Id}
 use Rattle.mf_objects.specs.declared.entity.EntityData.{EntityData}
 use Rattle.mf_objects.specs.declared.entity.EntityData.TheVariants.{Process, Vnode, Pipe, Socket}
-use Rattle.mf_objects.specs.Live.{LiveEntity, Entities, id_of, has_id, is_process, is_entry, is_held_by, is_child, reading, file_of, no_file, live_at}
+use Rattle.mf_objects.specs.Live.{LiveEntity, Entities, id_of, has_id, is_process, is_entry, is_child, reading, file_of, no_file, live_at}
+use Rattle.mf_objects.specs.Lives.{is_held_by}
 use Rattle.mf_objects.specs.Population.{IsRising}
 use Rattle.mf_calls.specs.Paths.{directory_of, is_same_path}
 use Rattle.mf_plan.specs.declared.target.Target.TheVariants.{Name}

@@ -20,10 +20,11 @@ use Rattle.mf_policy.specs.Registration.{Entry, entries_without, given_after, ho
 use Rattle.mf_policy.specs.Settings.{change_in}
 use Rattle.mf_policy.specs.Relabelled.{relabelled, relabelled_value}
 use Rattle.mf_policy.specs.Relabelled.{value_of as relabelled_by}
+use Rattle.mf_objects.proofs.Entities.{label_of, changed_at}
 use Rattle.mf_objects.specs.declared.id.Id.{Id}
 use Rattle.mf_objects.specs.declared.entity.EntityData.{EntityData}
-use Rattle.mf_objects.specs.Live.{LiveEntity, has_id, kind_of, label_at, label_of, live_at}
-use Rattle.mf_objects.specs.Changes.{changed_at, made, with_change, with_what}
+use Rattle.mf_objects.specs.Live.{LiveEntity, has_id, kind_of, label_at, live_at}
+use Rattle.mf_objects.specs.Changes.{made, with_change, with_what}
 use Rattle.mf_plan.specs.declared.state.State.{State}
 use Rattle.mf_step.specs.Effect.{with_created, with_loaded, with_objects}
 use Rattle.mf_step.proofs.StateChange.{Deed, StateChange}

@@ -1,5 +1,6 @@
 -- The reply to a call fits its fields, where the state is within the bounds.
 use Rattle.std.proofs.Common.{◌≡◌, ℕ, ◌<◌, ◌≤◌, ◌^◌, Bool, true, false, List, [], length, map, Option, Some, None, refl, ap, sym, subst, arith}
+use Rattle.std.specs.Option.{is_none}
 use Rattle.std.specs.Prelude.{if◌then◌else◌, find, position, option_and_then, slice_index_or, slice_set, IfSome}
 use Rattle.std.proofs.lemmas.List.{length-map}
 use Rattle.std.proofs.lemmas.List.Quantifiers.{position-Some}
@@ -14,11 +15,12 @@ use Rattle.mf_policy.specs.declared.spec.Spec.TheVariants as means
 use Rattle.mf_policy.specs.Modules.{wants_slot}
 use Rattle.mf_policy.specs.Registration.{Entry, is_of, slot_for}
 use Rattle.mf_policy.specs.Settings.{change_at, change_in, change_of, done, listed_rules, no_setting, rules_of, with_rule}
-use Rattle.mf_rule.specs.RuleList.{Slots, is_free}
+use Rattle.mf_rule.specs.RuleList.{Slots}
 use Rattle.mf_list.proofs.Counts.{listed_few}
 use Rattle.mf_names.specs.declared.limits.TheConstants.{CONTENT_LIMIT, SCRIPT_LIMIT}
+use Rattle.mf_objects.proofs.Entities.{label_of}
 use Rattle.mf_objects.specs.declared.id.Id.{Id}
-use Rattle.mf_objects.specs.Live.{LiveEntity, Entities, content_at, count_at, has_id, is_named, is_process, kind_at, label_at, label_of, live_at, messages_at}
+use Rattle.mf_objects.specs.Live.{LiveEntity, Entities, content_at, count_at, has_id, is_named, is_process, kind_at, label_at, live_at, messages_at}
 use Rattle.mf_objects.specs.Titles.{names_at}
 use Rattle.mf_objects.proofs.Finding.{found_live}
 use Rattle.mf_calls.specs.declared.script.Call.{Call}
@@ -88,14 +90,14 @@ listed_fit (Some slots) fits = fits
 -- the number of a rule that is added is one of a rule list
 change_number : (spec : Spec) (change : Change) → IsBoundedSpec spec → IfSome (change_of spec change).0.number (λ n. n < 2 ^ 32)
 change_number (means.Bsdextended slots first) (FirstMatch enabled) fits = tt
-change_number (means.Bsdextended slots first) (RuleAdd rule) fits = one (position is_free slots) refl
+change_number (means.Bsdextended slots first) (RuleAdd rule) fits = one (position is_none slots) refl
   where
-    one : (place : Option ℕ) → position is_free slots ≡ place → IfSome (with_rule slots first rule place).0.number (λ n. n < 2 ^ 32)
+    one : (place : Option ℕ) → position is_none slots ≡ place → IfSome (with_rule slots first rule place).0.number (λ n. n < 2 ^ 32)
     one None is = tt
-    one (Some n) is = omega (arith, (position-Some is_free slots n None is).0, fits.all)
+    one (Some n) is = omega (arith, (position-Some is_none slots n None is).0, fits.all)
 change_number (means.Bsdextended slots first) (RuleSet n rule) fits = tt
 change_number (means.Bsdextended slots first) (RuleRemove n) fits =
-    either_way (λ (c : Changed × Spec). IfSome c.0.number (λ n. n < 2 ^ 32)) (is_free (slice_index_or slots n None)) (no_setting, means.Bsdextended slots first)
+    either_way (λ (c : Changed × Spec). IfSome c.0.number (λ n. n < 2 ^ 32)) (is_none (slice_index_or slots n None)) (no_setting, means.Bsdextended slots first)
     (done, means.Bsdextended (slice_set slots n None) first) tt tt
 change_number other change fits = tt
 

@@ -2,7 +2,7 @@
 --
 -- That the first match decides, or else every match, is mac_bsdextended(4)'s. That a list has at most 250 rules, where that page says 256, and
 -- that what no rule matches is allowed, is this model's own choice.
-use Rattle.std.specs.Prelude.{ℕ, Bool, true, false, not, ◌||◌, List, Option, Some, None, find}
+use Rattle.std.specs.Prelude.{ℕ, Bool, true, false, not, ◌||◌, List, Option, find}
 use Rattle.std.specs.List.{list_all}
 use Rattle.std.specs.Option.{option_map_or}
 use Rattle.mf_cred.specs.declared.cred.Cred.{Cred}
@@ -13,11 +13,6 @@ use Rattle.mf_rule.specs.declared.rule.Rule.{Rule}
 -- the rule of each number, from 0 on
 abbrev pub Slots : Type 0
 Slots = List (Option Rule)
-
--- no rule has the number
-abbrev pub is_free : Option Rule → Bool
-is_free None = true
-is_free (Some rule) = false
 
 -- a rule has the number, and matches
 abbrev pub is_match : Cred → FileView → Option Rule → Bool

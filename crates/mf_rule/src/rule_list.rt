@@ -1,7 +1,7 @@
 //! Rule lists, and their verdict.
 ghost use Rattle.std.specs.Prelude.{◌≡◌, ◌↔◌, ◌<◌, ◌≤◌, ℕ, [], IsTrue, true, false, Some, None, find, option_copied, length, not, ◌||◌, position, replicate, slice_index_or, slice_set, IfOk, MatchResult};
 ghost use Rattle.std.specs.List.{list_all};
-ghost use Rattle.std.specs.Option.{option_map_or};
+ghost use Rattle.std.specs.Option.{is_none, option_map_or};
 ghost use Rattle.mf_rule.specs.RuleList as spec;
 ghost use Rattle.mf_rule.specs.declared.rule.Rule.{Rule};
 
@@ -54,7 +54,7 @@ impl RuleList {
 
     /// Adds a rule under the lowest number that is free, and answers with it.
     pub fn add(&mut self, rule: Rule) -> Result<u32, Full>
-        ensures { MatchResult result (λ n. (position spec.is_free self.old ≡ Some n) × (self.new ≡ slice_set self.old n (Some rule))) (λ e. (position spec.is_free self.old ≡ None) × (self.new ≡ self.old)) }
+        ensures { MatchResult result (λ n. (position is_none self.old ≡ Some n) × (self.new ≡ slice_set self.old n (Some rule))) (λ e. (position is_none self.old ≡ None) × (self.new ≡ self.old)) }
     {
         let Some(number) = first_free(&self.slots) else {
             return Err(Full);
@@ -66,7 +66,7 @@ impl RuleList {
 
     /// The lowest number that is free.
     pub fn free(&self) -> Option<u32>
-        ensures { result ≡ position spec.is_free self.now }
+        ensures { result ≡ position is_none self.now }
     {
         let number = first_free(&self.slots)?;
         Some(number as u32)
@@ -84,7 +84,7 @@ impl RuleList {
 
     /// Takes the rule of a number away.
     pub fn remove(&mut self, number: u32) -> Result<(), NoRule>
-        ensures { MatchResult result (λ u. (spec.is_free (slice_index_or self.old number None) ≡ false) × (self.new ≡ slice_set self.old number None)) (λ e. (spec.is_free (slice_index_or self.old number None) ≡ true) × (self.new ≡ self.old)) }
+        ensures { MatchResult result (λ u. (is_none (slice_index_or self.old number None) ≡ false) × (self.new ≡ slice_set self.old number None)) (λ e. (is_none (slice_index_or self.old number None) ≡ true) × (self.new ≡ self.old)) }
     {
         if self.get(number).is_none() {
             return Err(NoRule);
@@ -158,7 +158,7 @@ impl RuleList {
 }
 
 fn first_free(slots: &[Option<Rule>]) -> Option<usize>
-    ensures { result ≡ position spec.is_free slots.now }
+    ensures { result ≡ position is_none slots.now }
 {
     slots.iter().position(|slot| slot.is_none())
 }

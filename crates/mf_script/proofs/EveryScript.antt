@@ -1,9 +1,9 @@
 -- Each script that is read is well formed.
 use Rattle.std.proofs.Common.{◌≡◌, ℕ, suc, ◌+◌, ◌≤◌, Bool, true, false, if◌then◌else◌, List, [], ◌∷◌, length, Ok, Err, refl, arith}
 use Rattle.std.specs.Prelude.{◌==◌}
-use Rattle.std.specs.List.{AllByRecursion}
+use Rattle.std.specs.List.{AllByRecursion, onto_first}
 use Rattle.mf_names.specs.declared.limits.TheConstants.{SCRIPT_LIMIT}
-use Rattle.mf_words.specs.Words.{lines_in, newline, onto_first}
+use Rattle.mf_words.specs.Words.{lines_in, newline}
 use Rattle.mf_calls.specs.declared.script.Script.{Script}
 use Rattle.mf_calls.specs.WellFormed.{IsWellFormed}
 use Rattle.mf_script.specs.declared.rows.Place.{Place}

@@ -4,6 +4,7 @@ use Rattle.std.specs.Prelude.{codes}
 use Rattle.std.specs.Char.{is_ascii_graphic}
 use Rattle.std.specs.Fmt.{decimal}
 use Rattle.std.specs.List.{AllByRecursion, join_with_byte, list_all}
+use Rattle.mf_elem.specs.Comps.{rising}
 use Rattle.mf_elem.specs.Bounds.{IsElement, IsAskedLabel, IsRequest}
 use Rattle.mf_elem.specs.declared.elem.Elem.{Elem}
 use Rattle.mf_elem.specs.declared.elem.Elem.TheVariants.{Low, High, Equal, Grade}
@@ -12,8 +13,8 @@ use Rattle.mf_elem.specs.declared.label.RangeLabel.{RangeLabel}
 use Rattle.mf_elem.specs.declared.label.Request.{Request}
 use Rattle.mf_errno.specs.declared.module.Module.{Module}
 use Rattle.mf_errno.specs.declared.module.Module.TheVariants.{Biba, Mls, Partition, Bsdextended, Priority}
-use Rattle.mf_labeltext.proofs.CanonicalSpelling.{effective_text}
-use Rattle.mf_labeltext.specs.Canonical.{rising, comps_text, elem_text, range_text, label_text, partition_text, element_text, parts_of, in_order, elements_text, canonical_label}
+use Rattle.mf_labeltext.proofs.CanonicalSpelling.{effective_text, partition_text}
+use Rattle.mf_labeltext.specs.Canonical.{comps_text, elem_text, range_text, label_text, element_text, parts_of, in_order, elements_text, canonical_label}
 use Rattle.mf_labeltext.specs.Reading.{request_in}
 use Rattle.mf_labeltext.specs.RoundTrip.{request_of, AreParts}
 use Rattle.mf_labeltext.proofs.PartsSpelling.{canonical_spells}

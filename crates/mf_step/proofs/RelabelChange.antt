@@ -15,10 +15,10 @@ use Rattle.mf_policy.specs.Claims.{is_claimed}
 use Rattle.mf_policy.specs.Operations.{row_of}
 use Rattle.mf_policy.specs.Registration.{Entry}
 use Rattle.mf_policy.specs.declared.operations.Test.TheVariants.{RelabelObject}
+use Rattle.mf_objects.proofs.Entities.{label_of, changed_at}
 use Rattle.mf_objects.specs.declared.id.Id.{Id}
-use Rattle.mf_objects.specs.Changes.{changed_at}
 use Rattle.mf_objects.specs.declared.entity.EntityData.{EntityData}
-use Rattle.mf_objects.specs.Live.{LiveEntity, Entities, has_id, id_of, is_pipe, is_process, is_socket, kind_of, label_of, live_at, live_named}
+use Rattle.mf_objects.specs.Live.{LiveEntity, Entities, has_id, id_of, is_pipe, is_process, is_socket, kind_of, live_at, live_named}
 use Rattle.mf_objects.specs.Lives.{IsLive}
 use Rattle.mf_calls.specs.declared.script.Call.{Call}
 use Rattle.mf_calls.specs.declared.script.Call.TheVariants as call
