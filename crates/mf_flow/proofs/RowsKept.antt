@@ -26,7 +26,8 @@ use Rattle.mf_objects.proofs.Rising.{id_is}
 use Rattle.mf_objects.proofs.Finding.{find_before, find_given}
 use Rattle.mf_flow.specs.Order.{union}
 use Rattle.mf_flow.specs.Rows.{AreKept, AreRows, Rows, row, element_of, element_at as row_element, may_come, joined, received as row_received, rows_between, rows_with, rows_moved}
-use Rattle.mf_flow.specs.Sources.{Sets, element_in, element_at, held_by, is_id, received, moved, moved_with, moved_by, moved_by_all}
+use Rattle.mf_flow.specs.Sources.{Sets, element_in, element_at, held_by, is_id, received, moved, moved_by}
+use Rattle.mf_flow.proofs.Across.{moved_with, moved_by_all}
 use Rattle.mf_flow.proofs.Orders.{IsFlowPolicy}
 use Rattle.mf_flow.proofs.Bounds.{Fit, FitBy, AllowedBy, allows}
 use Rattle.mf_flow.proofs.Placing.{union_nothing}

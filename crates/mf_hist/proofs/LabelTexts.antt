@@ -1,6 +1,7 @@
 -- The canonical text of a label is a word, and is read back.
 use Rattle.std.proofs.Common.{◌≡◌, ◌≢◌, ℕ, ◌≤◌, Bool, true, false, cond, eqb, List, [], ◌∷◌, ◌++◌, length, map, Option, Some, None, Result, Ok, Err, IfSome, refl, sym, ap, ◌∙◌, arith, subst, append-nil}
-use Rattle.std.specs.Prelude.{codes}
+use Rattle.std.specs.Prelude.{codes, nat_le}
+use Rattle.std.proofs.lemmas.Bool.{leb-true}
 use Rattle.std.specs.Fmt.{decimal}
 use Rattle.std.specs.List.{AllByRecursion, join_with_byte, list_all}
 use Rattle.std.specs.Result.{result_ok}
@@ -14,7 +15,9 @@ use Rattle.mf_elem.specs.declared.label.LabelValue.{LabelValue}
 use Rattle.mf_elem.specs.declared.label.RangeLabel.{RangeLabel}
 use Rattle.mf_elem.specs.declared.label.Request.{Request}
 use Rattle.mf_errno.specs.declared.module.Module.{Module}
-use Rattle.mf_errno.specs.declared.module.Module.TheVariants.{Biba, Mls, Partition, Bsdextended, Priority}
+use Rattle.mf_errno.specs.declared.module.Module.TheVariants.{Biba, Mls, Partition}
+use Rattle.mf_errno.specs.Names.{all_modules}
+use Rattle.mf_errno.proofs.Modules.{each_passes}
 use Rattle.mf_labeltext.proofs.CanonicalSpelling.{effective_text, partition_text}
 use Rattle.mf_labeltext.specs.Canonical.{comps_text, elem_text, range_text, label_text, element_text, parts_of, in_order, elements_text, canonical_label}
 use Rattle.mf_labeltext.specs.Reading.{request_in}
@@ -151,15 +154,8 @@ label_word parts is =
 
 -- They are read back
 
-abbrev IsFew : List Part → Module → Type 0
-IsFew parts policy = length (parts_of policy parts) ≤ 1
-
-few : (parts : List Part) → IsFew parts Biba → IsFew parts Mls → IsFew parts Partition → IsFew parts Bsdextended → IsFew parts Priority → (policy : Module) → IsFew parts policy
-few parts b m p e r Biba = b
-few parts b m p e r Mls = m
-few parts b m p e r Partition = p
-few parts b m p e r Bsdextended = e
-few parts b m p e r Priority = r
+few : (parts : List Part) → list_all (λ policy. nat_le (length (parts_of policy parts)) 1) all_modules ≡ true → (policy : Module) → length (parts_of policy parts) ≤ 1
+few parts all policy = leb-true _ _ (each_passes (λ policy. nat_le (length (parts_of policy parts)) 1) all policy)
 
 -- one or more parts are read back from their text, which is no dash
 spelled : (parts : List Part) (request : Request) → AreParts parts → parts ≢ [] → request_of parts ≡ request → bytes_eq (canonical_label parts) (codes "-") ≡ false
@@ -186,25 +182,25 @@ back_by : (biba mls : Option RangeLabel) (partition : Option ℕ) → IfSome bib
 back_by None None None b m p = none_back
 back_by None None (Some n) b m p =
     let parts = pairs_by None None (Some n) in
-    spelled parts (asking None None (Some n)) (record { each = (p, tt); once = few parts (omega arith) (omega arith) (omega arith) (omega arith) (omega arith) }) (λ e. cc) refl (no_dash None None (Some n) refl)
+    spelled parts (asking None None (Some n)) (record { each = (p, tt); once = few parts refl }) (λ e. cc) refl (no_dash None None (Some n) refl)
 back_by None (Some mls) None b m p =
     let parts = pairs_by None (Some mls) None in
-    spelled parts (asking None (Some mls) None) (record { each = (m, tt); once = few parts (omega arith) (omega arith) (omega arith) (omega arith) (omega arith) }) (λ e. cc) refl (no_dash None (Some mls) None refl)
+    spelled parts (asking None (Some mls) None) (record { each = (m, tt); once = few parts refl }) (λ e. cc) refl (no_dash None (Some mls) None refl)
 back_by None (Some mls) (Some n) b m p =
     let parts = pairs_by None (Some mls) (Some n) in
-    spelled parts (asking None (Some mls) (Some n)) (record { each = (m, (p, tt)); once = few parts (omega arith) (omega arith) (omega arith) (omega arith) (omega arith) }) (λ e. cc) refl (no_dash None (Some mls) (Some n) refl)
+    spelled parts (asking None (Some mls) (Some n)) (record { each = (m, (p, tt)); once = few parts refl }) (λ e. cc) refl (no_dash None (Some mls) (Some n) refl)
 back_by (Some biba) None None b m p =
     let parts = pairs_by (Some biba) None None in
-    spelled parts (asking (Some biba) None None) (record { each = (b, tt); once = few parts (omega arith) (omega arith) (omega arith) (omega arith) (omega arith) }) (λ e. cc) refl (no_dash (Some biba) None None refl)
+    spelled parts (asking (Some biba) None None) (record { each = (b, tt); once = few parts refl }) (λ e. cc) refl (no_dash (Some biba) None None refl)
 back_by (Some biba) None (Some n) b m p =
     let parts = pairs_by (Some biba) None (Some n) in
-    spelled parts (asking (Some biba) None (Some n)) (record { each = (b, (p, tt)); once = few parts (omega arith) (omega arith) (omega arith) (omega arith) (omega arith) }) (λ e. cc) refl (no_dash (Some biba) None (Some n) refl)
+    spelled parts (asking (Some biba) None (Some n)) (record { each = (b, (p, tt)); once = few parts refl }) (λ e. cc) refl (no_dash (Some biba) None (Some n) refl)
 back_by (Some biba) (Some mls) None b m p =
     let parts = pairs_by (Some biba) (Some mls) None in
-    spelled parts (asking (Some biba) (Some mls) None) (record { each = (b, (m, tt)); once = few parts (omega arith) (omega arith) (omega arith) (omega arith) (omega arith) }) (λ e. cc) refl (no_dash (Some biba) (Some mls) None refl)
+    spelled parts (asking (Some biba) (Some mls) None) (record { each = (b, (m, tt)); once = few parts refl }) (λ e. cc) refl (no_dash (Some biba) (Some mls) None refl)
 back_by (Some biba) (Some mls) (Some n) b m p =
     let parts = pairs_by (Some biba) (Some mls) (Some n) in
-    spelled parts (asking (Some biba) (Some mls) (Some n)) (record { each = (b, (m, (p, tt))); once = few parts (omega arith) (omega arith) (omega arith) (omega arith) (omega arith) }) (λ e. cc) refl (no_dash (Some biba) (Some mls) (Some n) refl)
+    spelled parts (asking (Some biba) (Some mls) (Some n)) (record { each = (b, (m, (p, tt))); once = few parts refl }) (λ e. cc) refl (no_dash (Some biba) (Some mls) (Some n) refl)
 
 pub label_back : (parts : List LabelPart) → IsLabel parts → label_of (printed.label_text parts) ≡ Some parts
 label_back parts is =

@@ -6,7 +6,7 @@ use Rattle.std.specs.List.{list_all, AllByRecursion, join_with_byte}
 use Rattle.std.specs.Fmt.{decimal}
 use Rattle.std.specs.FinSet as set
 use Rattle.mf_errno.specs.declared.module.Module.{Module}
-use Rattle.mf_errno.specs.declared.module.Module.TheVariants.{Biba, Mls, Partition, Bsdextended, Priority}
+use Rattle.mf_errno.specs.declared.module.Module.TheVariants.{Biba, Mls, Partition}
 use Rattle.mf_elem.specs.Comps.{rising}
 use Rattle.mf_elem.specs.OfSets.{comps_of}
 use Rattle.mf_elem.specs.Bounds.{IsElement, IsAskedLabel}
@@ -109,8 +109,7 @@ element_spells Partition Unset before is =
 element_spells Partition (Range label) before is = absurd is
 element_spells Partition (Number n) before is =
     (codes "partition", partition_text n, refl, name_is 112 (97 ∷ 114 ∷ 116 ∷ 105 ∷ 116 ∷ 105 ∷ 111 ∷ 110 ∷ []) refl, inr (inr (inl (refl, n, partition_spells n is, refl))))
-element_spells Bsdextended value before is = absurd is
-element_spells Priority value before is = absurd is
+element_spells other value before is = absurd is
 
 -- ---- no comma stands in an element
 pub free_both : (front back : List ℕ) → IsFree 44 front → IsFree 44 back → IsFree 44 (front ++ back)

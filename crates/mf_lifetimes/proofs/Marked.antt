@@ -24,7 +24,8 @@ use Rattle.mf_core.specs.declared.history.Event.{Event}
 use Rattle.mf_core.specs.declared.history.Event.TheVariants as event
 use Rattle.mf_core.specs.Opening.{opening_state, booted_specs, given_by}
 use Rattle.mf_core.specs.LegalHistory.{RunState, opening, next_line, state_at, after, run_state_after}
-use Rattle.mf_lifetimes.specs.Marks.{Mark, made_marks, ends, is_registered, value_in, added, marks_across, marks_at_opening, marks_after, marks_of}
+use Rattle.std.specs.List.{filter_map}
+use Rattle.mf_lifetimes.specs.Marks.{Mark, made_marks, end_of, is_registered, value_in, added, marks_across, marks_at_opening, marks_after, marks_of}
 use Rattle.mf_lifetimes.specs.Marks.Mark.{Made, Ended, Left}
 use Rattle.mf_lifetimes.specs.Laws.{state_of, SlotsAreMadeOnce, AreMarksOf, SetSlotsAreMarked, GoneSlotsHaveEnded, holds_valid, LabelsAll, BootedPoliciesLast}
 use Rattle.mf_lifetimes.specs.Once.{AreOnce}
@@ -58,6 +59,10 @@ pub record IsMarked (slot : ℕ) (id : Id) (s : State) (marks : List Mark) : Typ
 pub record HaveEnded (marks : List Mark) : Type 0 where
   pub once : AreOnce marks
   pub over : (r : Registration) → marks ≢ Made r ∷ []
+
+-- the ends of a slot that has these marks
+abbrev ends : List Entry → List Mark → List Mark
+ends specs marks = filter_map (end_of specs) marks
 
 made_ended : (specs : List Entry) (r : Registration) → HaveEnded (Made r ∷ ends specs (Made r ∷ []))
 made_ended specs r = one (is_registered r specs)

@@ -5,13 +5,15 @@ use Rattle.std.specs.Prelude.{find}
 use Rattle.std.specs.List.{AllByRecursion}
 use Rattle.std.proofs.lemmas.Bool.Decides.{nat_tests}
 use Rattle.mf_errno.specs.declared.module.Module.{Module}
-use Rattle.mf_errno.specs.declared.module.Module.TheVariants.{Biba, Mls}
 use Rattle.mf_elem.specs.Bounds.{IsRequest}
 use Rattle.mf_elem.specs.declared.label.LabelValue.{LabelValue}
 use Rattle.mf_elem.specs.declared.label.LabelValue.TheVariants.{Unset}
 use Rattle.mf_elem.specs.declared.label.Request.{Request}
 use Rattle.mf_elem.specs.declared.label.TheConstants.{SLOTS}
 use Rattle.mf_item.specs.declared.view.Kind.{Kind}
+use Rattle.mf_policy.specs.declared.modules.Labelling.{Labelling}
+use Rattle.mf_policy.specs.declared.modules.Labelling.TheVariants.{Ranges}
+use Rattle.mf_policy.proofs.EachModule.{has_elements}
 use Rattle.mf_policy.specs.declared.labels.Origin.{Origin}
 use Rattle.mf_policy.specs.declared.labels.Origin.TheVariants.{Boot, Maker}
 use Rattle.mf_policy.specs.Modules.{facts_of, wants_slot}
@@ -144,16 +146,15 @@ module _ (specs : List Entry) (given : ℕ) (few : given ≤ SLOTS) (below : All
 
 -- Policies that come
 
-late_unset : (m : Module) → (IsLasting m → ⊥) → FitsLabelling (facts_of m).labels Unset
-late_unset Biba late = absurd (late tt)
-late_unset Mls late = absurd (late tt)
+late_unset : (labels : Labelling) → (has_elements labels ≡ true → ⊥) → FitsLabelling labels Unset
+late_unset (Ranges process other) late = absurd (late refl)
 late_unset other late = tt
 
 new_fits : (m : Module) (booted : Bool) (given : ℕ) (label : List LabelValue) → (IsLasting m → ⊥) → IsUnsetFrom given label → Fits label (newest m booted given).0
 new_fits m booted given label late unset = one (wants_slot m)
   where
     one : (wants : Bool) → FitsSlot m (slot_for wants given) label
-    one true = subst (FitsLabelling (facts_of m).labels) (sym (unset given (omega arith))) (late_unset m late)
+    one true = subst (FitsLabelling (facts_of m).labels) (sym (unset given (omega arith))) (late_unset (facts_of m).labels late)
     one false = tt
 
 fewer_unset : (given : ℕ) (m : Module) (label : List LabelValue) → IsUnsetFrom given label → IsUnsetFrom (given_after given m) label

@@ -5,7 +5,7 @@ use Rattle.std.specs.Prelude.{find, position, replicate, slice_index_or, slice_s
 use Rattle.std.proofs.lemmas.List.{length-replicate, length-set}
 use Rattle.std.proofs.lemmas.List.Elements.{All-from_recursion, All-replicate, All-set, recursion_from_All}
 use Rattle.mf_errno.specs.declared.module.Module.{Module}
-use Rattle.mf_errno.specs.declared.module.Module.TheVariants.{Biba, Mls, Partition, Bsdextended, Priority}
+use Rattle.mf_errno.specs.declared.module.Module.TheVariants.{Bsdextended}
 use Rattle.mf_policy.specs.declared.settings.Change.{Change}
 use Rattle.mf_policy.specs.declared.settings.Change.TheVariants.{FirstMatch, RuleAdd, RuleSet, RuleRemove}
 use Rattle.mf_policy.specs.declared.settings.Changed.{Changed}
@@ -27,14 +27,11 @@ no_rule = None
 
 -- a policy in its initial state
 pub fresh_bounded : (m : Module) → IsBoundedSpec (fresh_of m)
-fresh_bounded Biba = tt
-fresh_bounded Mls = tt
-fresh_bounded Partition = tt
 fresh_bounded Bsdextended = record {
   all = length-replicate MAX_RULES no_rule;
   each = recursion_from_All (λ (slot : Option Rule). IfSome slot IsRule) (replicate MAX_RULES no_rule) (All-replicate (λ (slot : Option Rule). IfSome slot IsRule) MAX_RULES no_rule tt);
 }
-fresh_bounded Priority = tt
+fresh_bounded other = tt
 
 -- a change with a rule that words can stand for, where it has one
 abbrev pub IsFormedChange : Change → Type 0
