@@ -24,10 +24,10 @@ boot_words ws = do
   Ok name.0
 
 -- of a regular file [ "text" TEXT ], of a directory nothing
-unfoldable pub file_text : Bool → Words → Read (List ℕ × Words)
-file_text dir [] = Ok ([], [])
-file_text true (w ∷ ws) = fails (if bytes_eq w (codes "text") then UnknownWord else Extra)
-file_text false (w ∷ ws) = field (codes "text") text_of (w ∷ ws)
+unfoldable pub file_content : Bool → Words → Read (List ℕ × Words)
+file_content dir [] = Ok ([], [])
+file_content true (w ∷ ws) = fails (if bytes_eq w (codes "text") then UnknownWord else Extra)
+file_content false (w ∷ ws) = field (codes "text") text_of (w ∷ ws)
 
 -- KIND "uid" N "gid" N "mode" OCTAL
 unfoldable pub file_view : Words → Read (FileView × Words)
@@ -44,7 +44,7 @@ file_words ws = do
   path ← word_by path_of ws
   file ← file_view path.1
   label ← field (codes "label") any_word file.1
-  text ← file_text file.0.dir label.1
+  text ← file_content file.0.dir label.1
   u ← no_more text.1
   Ok (record { path = path.0; file = file.0; label = label.0; text = text.0 })
 
@@ -90,13 +90,13 @@ step_kinds =
     ∷ (codes "change", step.Change)
     ∷ []
 
-unfoldable pub kind_of : List ℕ → Read StepKind
-kind_of w = one_of step_kinds w Ok
+unfoldable pub step_kind_of : List ℕ → Read StepKind
+step_kind_of w = one_of step_kinds w Ok
 
 -- a step, by its first word: KIND NAME
 unfoldable pub step_words : List ℕ → Words → Read Step
 step_words w ws = do
-  kind ← kind_of w
+  kind ← step_kind_of w
   task ← word_by name_of ws
   u ← no_more task.1
   Ok (record { kind = kind; task = task.0 })
