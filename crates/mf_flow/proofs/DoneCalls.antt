@@ -20,7 +20,7 @@ use Rattle.mf_step.specs.Step.{step_reply}
 use Rattle.mf_core.specs.declared.history.Event.{Event}
 use Rattle.mf_core.specs.declared.history.Event.TheVariants as event
 use Rattle.mf_core.specs.Progress.{progress_at}
-use Rattle.mf_core.specs.LegalHistory.{RunState, next_line, reply_at, MayCome, after}
+use Rattle.mf_core.specs.LegalHistory.{RunState, next_line, MayCome, after}
 use Rattle.mf_core.specs.NextFound.{found_at, next_found}
 use Rattle.mf_core.proofs.SameLists.{done_tail}
 use Rattle.mf_step.specs.Passed.{passed}
@@ -29,8 +29,8 @@ use Rattle.mf_flow.specs.declared.following.Flows.{Flows}
 use Rattle.mf_flow.specs.Rows.{Rows, rows_moved, flows_moved, flows_created, flows_given, flows_after_line, flows_after_event}
 use Rattle.mf_flow.specs.Sources.{caller_of}
 use Rattle.std.specs.Option.{option_zip}
+use Rattle.mf_core.proofs.LookedUp.{reply_at}
 use Rattle.mf_elem.specs.declared.label.Request.{Request}
-use Rattle.mf_plan.specs.Relabels.{request_asked}
 use Rattle.mf_plan.proofs.Zipped.{zipped}
 use Rattle.mf_step.specs.Step.{after_reply}
 use Rattle.mf_flow.specs.Rows.{asked_of, flow_moved, rows_by}
