@@ -1,7 +1,8 @@
 -- The words of each kind of line, from left to right, and no more, as the grammar in docs/MANUAL.md (THE SCRIPT) has them. What the words ask
 -- for is judged afterwards.
-use Rattle.std.specs.Prelude.{ℕ, Bool, true, false, ◌==◌, if◌then◌else◌, List, [], ◌∷◌, Option, Some, None, Ok, codes}
+use Rattle.std.specs.Prelude.{ℕ, Bool, true, false, ◌==◌, if◌then◌else◌, List, [], ◌∷◌, map, Option, Some, None, Ok, codes}
 use Rattle.std.specs.Str.{bytes_eq}
+use Rattle.mf_spelling.specs.Spelling.{step_word}
 use Rattle.mf_cred.specs.declared.cred.Cred.{Cred}
 use Rattle.mf_cred.specs.declared.cred.FileView.{FileView}
 use Rattle.mf_words.specs.Words.{Words}
@@ -82,13 +83,7 @@ line_words w ws = by_option (behind_at w) (do
     Ok (record { child = Some child; call = call }))
 
 abbrev pub step_kinds : List (List ℕ × StepKind)
-step_kinds =
-    (codes "enter", step.Enter)
-    ∷ (codes "plan", step.Plan)
-    ∷ (codes "done", step.Done)
-    ∷ (codes "leave", step.Leave)
-    ∷ (codes "change", step.Change)
-    ∷ []
+step_kinds = map (λ kind. (step_word kind, kind)) (step.Enter ∷ step.Plan ∷ step.Done ∷ step.Leave ∷ step.Change ∷ [])
 
 unfoldable pub step_kind_of : List ℕ → Read StepKind
 step_kind_of w = one_of step_kinds w Ok

@@ -31,7 +31,7 @@ use Rattle.mf_script.specs.declared.rows.Place.{Place}
 use Rattle.mf_script.specs.declared.rows.Place.TheVariants as place
 use Rattle.mf_script.specs.Readers.{Read, and_then, unless}
 use Rattle.mf_script.specs.Grammar as grammar
-use Rattle.mf_script.specs.Grammar.{Reading, has_path, has_name, with_list, judged_boot, judged_file, judged_task, boot_in, file_in, task_in, line_in, step_in, behind_tasks, behind_files, behind_boots, in_task, in_steps, row_in, words_line, blank, ended, script_from, script_of}
+use Rattle.mf_script.specs.Grammar.{Reading, has_path, has_name, with_list, judged_task, boot_in, file_in, task_in, line_in, step_in, behind_tasks, behind_files, behind_boots, in_task, in_steps, row_in, words_line, blank, ended, script_from, script_of}
 use Rattle.mf_spelling.specs.Spelling.{SpellLine, boot_pieces, file_pieces, task_pieces, line_pieces, step_pieces, step_word, task_rows, step_rows, front_rows, sayings, SpellScript, IsTextOf, Word}
 use Rattle.mf_spelled.proofs.CallsBack.{none, line_back, no_words}
 use Rattle.mf_spelled.proofs.LinesBack.{boot_back, file_back, file_judged, task_back, step_back, request_judged}
