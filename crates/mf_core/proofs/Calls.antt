@@ -1,5 +1,6 @@
 -- What the call of a task's next line makes of a run: the reply, the state, and the list of policies after it.
 use Rattle.std.proofs.Common.{◌≡◌, ℕ, false, true, List, Option, Some, None, refl, sym, ◌∙◌, ap, subst}
+use Rattle.mf_core.proofs.LookedUp.{reply_at, state_at}
 use Rattle.mf_objects.specs.declared.id.Id.{Id}
 use Rattle.mf_calls.specs.declared.script.Line.{Line}
 use Rattle.mf_calls.specs.declared.script.Script.{Script}
@@ -23,7 +24,7 @@ use Rattle.mf_step.specs.Step.{performed, step_payload, step_reply, step_state}
 use Rattle.mf_step.specs.Verdict.{verdict_of}
 use Rattle.mf_core.specs.declared.history.History.{History}
 use Rattle.mf_core.specs.declared.progress.Turn.TheVariants as turns
-use Rattle.mf_core.specs.LegalHistory.{RunState, next_line, next_reply, next_state, reply_at, state_at, turn_of}
+use Rattle.mf_core.specs.LegalHistory.{RunState, next_line, next_reply, next_state, turn_of}
 use Rattle.mf_core.specs.NextFound.{found_at, next_found}
 use Rattle.mf_core.specs.Next.{next_plan, plan_at}
 use Rattle.mf_core.specs.Consistency.{IsConsistent}

@@ -1,5 +1,6 @@
 -- Between what contracts see of a core, its script and history, and the run that lies inside.
 use Rattle.std.proofs.Common.{◌≡◌, ℕ, ◌<◌, ◌⊎◌, inl, inr, List, [], ◌∷◌, ◌++◌, length, set, Option, IsSome, refl, sym, ◌∙◌, ap, subst, arith, get_or-set_same, get_or-set_other}
+use Rattle.std.proofs.lemmas.List.Sums.{fold-append}
 use Rattle.mf_calls.specs.declared.script.Line.{Line}
 use Rattle.mf_calls.specs.declared.script.Script.{Script}
 use Rattle.mf_core.specs.declared.progress.Progress.{Progress}
@@ -18,7 +19,6 @@ use Rattle.mf_core.specs.Consistency.{IsConsistent}
 use Rattle.mf_core.specs.RunView.{RunView}
 use Rattle.mf_core.specs.CoreView.{CoreView, progress_of, run_state, specs_of, turn_at}
 use Rattle.mf_core.proofs.Consistency.{change_line, consistent_next, entered_line}
-use Rattle.mf_core.proofs.Laws.{run_state_after-append}
 
 module _ (k : CoreView) (v : RunView) (h : History) (is : record { script = v.script; history = h } ≡ k) (consistent : IsConsistent v.script h v.run) where
   -- the state of the run is the one that the history determines
@@ -84,7 +84,7 @@ module _ (k : CoreView) (v : RunView) (h : History) (is : record { script = v.sc
 
 module _ (k k' : CoreView) (e : Event) (grown : k' ≡ record k { history = with_event k.history e }) where
   pub state_on : run_state k' ≡ after k.script (run_state k) e
-  state_on = ap run_state grown ∙ run_state_after-append k.script (opening k.script) k.history.events.list e
+  state_on = ap run_state grown ∙ fold-append (after k.script) (opening k.script) k.history.events.list (e ∷ [])
 
   pub specs_on : (specs : List _) → (after k.script (run_state k) e).state.specs ≡ specs → specs_of k' ≡ specs
   specs_on specs same = ap (λ (r : RunState). r.state.specs) state_on ∙ same

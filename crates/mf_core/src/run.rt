@@ -1,5 +1,5 @@
 //! A run of a script: the state of the framework, and how far each task is.
-ghost use Rattle.std.specs.Prelude.{◌≡◌, ◌<◌, ◌≤◌, ◌+◌, ◌⊎◌, ◌↔◌, length, true, false, IfOk, IsOk, IfSome, IsSome, OnOk, OnErr, Some};
+ghost use Rattle.std.specs.Prelude.{◌≡◌, ◌<◌, ◌≤◌, ◌+◌, ◌⊎◌, ◌↔◌, length, fold, true, false, IfOk, IsOk, IfSome, IsSome, OnOk, OnErr, Some};
 ghost use Rattle.mf_objects.specs.declared.limits.TheConstants.{ID_LIMIT};
 ghost use Rattle.mf_list.specs.Once.{IsListedOnce};
 ghost use Rattle.mf_calls.specs.declared.limits.TheConstants.{LINE_LIMIT};
@@ -17,7 +17,8 @@ ghost use Rattle.mf_core.specs.declared.progress.Turn.TheVariants as turn;
 ghost use Rattle.mf_core.specs.LegalHistory.{after, next_line, next_reply, opening, turn_of, MayCome};
 ghost use Rattle.mf_core.specs.NextFound.{next_found};
 ghost use Rattle.mf_core.specs.Next.{next_plan};
-ghost use Rattle.mf_core.specs.Opening.{booted_specs, given_by};
+ghost use Rattle.mf_policy.specs.Registration.{given_after};
+ghost use Rattle.mf_core.specs.Opening.{booted_specs};
 ghost use Rattle.mf_core.specs.Progress.{open_entries, progress_at};
 
 mod changing;
@@ -214,7 +215,7 @@ impl<'s> Run<'s> {
 fn booted(alloc: Global, script: &Script) -> Result<(SpecList, SlotNumbers), AllocError>
     requires { IsWellFormed script.now }
     ensures specs { IfOk result (λ r. r.0 ≡ booted_specs script.now) }
-    ensures numbers { IfOk result (λ r. r.1 ≡ given_by script.now.boots) }
+    ensures numbers { IfOk result (λ r. r.1 ≡ fold given_after 0 script.now.boots) }
     ensures once { IfOk result (λ r. IsListedOnce r.0) }
 {
     let mut specs = SpecList::new(alloc);

@@ -21,7 +21,7 @@ use Rattle.mf_step.specs.Step.{step_reply}
 use Rattle.mf_core.specs.declared.history.Event.{Event}
 use Rattle.mf_core.specs.declared.history.Event.TheVariants as event
 use Rattle.mf_core.specs.Progress.{progress_at}
-use Rattle.mf_core.specs.LegalHistory.{RunState, next_line, reply_at, MayCome, after}
+use Rattle.mf_core.specs.LegalHistory.{RunState, next_line, MayCome, after}
 use Rattle.mf_core.specs.NextFound.{found_at, next_found}
 use Rattle.mf_core.proofs.SameLists.{done_tail}
 use Rattle.mf_step.specs.Passed.{passed}
@@ -29,6 +29,7 @@ use Rattle.mf_flow.specs.declared.following.Flow.{Flow}
 use Rattle.mf_flow.specs.Rows.{Rows, rows_moved, rows_after_line, flow_moved, flow_settled, flow_after_event, asked_of, rows_by}
 use Rattle.mf_flow.specs.Sources.{caller_of}
 use Rattle.std.specs.Option.{option_zip}
+use Rattle.mf_core.proofs.LookedUp.{reply_at}
 use Rattle.mf_elem.specs.declared.label.Request.{Request}
 use Rattle.mf_plan.proofs.Zipped.{zipped}
 use Rattle.mf_step.specs.Step.{after_reply}

@@ -3,6 +3,7 @@ use Rattle.std.proofs.Common.{◌≡◌, ℕ, ◌<◌, ◌+◌, suc, List, [], �
 use Rattle.std.specs.Prelude.{OnOk, fold}
 use Rattle.std.specs.List.{AllByRecursion}
 use Rattle.std.proofs.Math.Seq.{drop-cons}
+use Rattle.mf_core.proofs.LookedUp.{reply_at, state_at}
 use Rattle.mf_errno.specs.declared.errno.Errno.TheVariants.{Success}
 use Rattle.mf_elem.specs.declared.label.TheConstants.{SLOTS}
 use Rattle.mf_item.specs.Item.{Item}
@@ -24,7 +25,7 @@ use Rattle.mf_core.specs.declared.history.Event.TheVariants as event
 use Rattle.mf_core.specs.declared.history.History.{History}
 use Rattle.mf_core.specs.Opening.{opening_state}
 use Rattle.mf_core.specs.Progress.{progress_at}
-use Rattle.mf_core.specs.LegalHistory.{RunState, opening, next_line, reply_at, state_at, MayCome, after, AllMayCome, run_state_after, run_state_of, IsLegal}
+use Rattle.mf_core.specs.LegalHistory.{RunState, opening, next_line, MayCome, after, AllMayCome, run_state_of, IsLegal}
 use Rattle.mf_core.specs.RunView.{RunView}
 use Rattle.mf_step.proofs.StateChange.{Deed, StateChange}
 use Rattle.mf_step.proofs.EntityChange.{ChangesEntities, changes_entities}
@@ -101,7 +102,7 @@ kept_rows o sets rows rows' kept are =
 pub record IsReplayed (s : Script) (es : List Event) (n : ℕ) (replay : RunView) : Type 0 where
   pub script : replay.script ≡ s
   pub may : AllMayCome s replay.run (drop n es)
-  pub run : run_state_after s replay.run (drop n es) ≡ run_state_after s (opening s) es
+  pub run : fold (after s) replay.run (drop n es) ≡ fold (after s) (opening s) es
 
 -- the sources so far, and how the rest leads to those of the history
 pub record Followed (p : LatticePolicy) (s : Script) (r : Registration) (es : List Event) (n : ℕ) (replay : RunView) (rows : Rows) : Type 0 where
@@ -186,7 +187,7 @@ replayed_more s es n replay replay' e d within so_far is next =
     let place : suc n ≡ n + 1 = omega arith in
     subst (λ (k : ℕ). IsReplayed s es k replay') place
     (subst (λ (x : RunView). IsReplayed s es (suc n) x) (sym next)
-    (record { script = refl; may = may.1; run = sym (ap (run_state_after s replay.run) rest) ∙ so_far.run }))
+    (record { script = refl; may = may.1; run = sym (ap (fold (after s) replay.run) rest) ∙ so_far.run }))
 
 followed_more : (s : Script) (r : Registration) (es : List Event) (n : ℕ) (replay replay' : RunView) (rows rows' rows'' : Rows) (e d : Event) → n < length es
     → IsReplayed s es n replay → IsFollowed s r es n replay rows → e ≡ get_or es n d → replay' ≡ record { script = s; run = after s replay.run e }
@@ -261,7 +262,7 @@ pub all_replayed : (s : Script) (h : History) (es : List Event) (n : ℕ) (repla
     → replay.run ≡ run_state_of s h.events.list
 all_replayed s h es n replay all is replayed =
     let none : drop n es ≡ [] = ap (λ (k : ℕ). drop k es) is ∙ nothing_left es in
-    sym (ap (run_state_after s replay.run) none) ∙ replayed.run ∙ ap (run_state_of s) all
+    sym (ap (fold (after s) replay.run) none) ∙ replayed.run ∙ ap (run_state_of s) all
 
 pub all_flows : (s : Script) (h : History) (es : List Event) (n : ℕ) (replay : RunView) (flows : List Flow) → es ≡ h.events.list → n ≡ length es
     → IsReplayed s es n replay → AllByRecursion (IsFlow s es n replay) flows → AllByRecursion (IsFlowOf s h) flows

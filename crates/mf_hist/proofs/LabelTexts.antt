@@ -30,7 +30,6 @@ use Rattle.mf_labeltext.proofs.Rising.{IsCompartment, rising_are}
 use Rattle.mf_calls.specs.Names.{is_some_text}
 use Rattle.mf_plan.specs.declared.reply.LabelPart.{LabelPart}
 use Rattle.mf_hist.specs.Lines.{IsLabel, range_part, number_part, parts_asked}
-use Rattle.mf_hist.specs.ReplyText as printed
 use Rattle.mf_hist.specs.Reading.{and_then, label_of}
 use Rattle.mf_hist.proofs.FieldTexts.{all_append}
 use Rattle.mf_hist.proofs.Numbers.{decimal_word}
@@ -114,7 +113,7 @@ abbrev parts_by : Option RangeLabel → Option RangeLabel → Option ℕ → Lis
 parts_by biba mls partition = range_part Biba biba ++ range_part Mls mls ++ number_part Partition partition
 
 abbrev pairs_by : Option RangeLabel → Option RangeLabel → Option ℕ → List Part
-pairs_by biba mls partition = map printed.pair_of (parts_by biba mls partition)
+pairs_by biba mls partition = map (λ (part : LabelPart). (part.module, part.value)) (parts_by biba mls partition)
 
 abbrev IsNumber : Option ℕ → Type 0
 IsNumber partition = IfSome partition (λ n. n ≤ 2147483647)
@@ -145,10 +144,10 @@ text_is : (biba mls : Option RangeLabel) (partition : Option ℕ) → canonical_
 unfolding canonical_label
 text_is biba mls partition = ap (λ parts. elements_text (map element_text parts)) (ordered biba mls partition)
 
-pub label_word : (parts : List LabelPart) → IsLabel parts → is_word (printed.label_text parts) ≡ true
+pub label_word : (parts : List LabelPart) → IsLabel parts → is_word (canonical_label (map (λ (part : LabelPart). (part.module, part.value)) parts)) ≡ true
 label_word parts is =
     let r = is.request in
-    ap (λ parts. is_word (printed.label_text parts)) is.asked
+    ap (λ (parts : List LabelPart). is_word (canonical_label (map (λ (part : LabelPart). (part.module, part.value)) parts))) is.asked
     ∙ ap is_word (text_is r.biba r.mls r.partition)
     ∙ elements_word (pairs_by r.biba r.mls r.partition) (each_graphic r.biba r.mls r.partition is.fits.biba is.fits.mls is.fits.partition)
 
@@ -202,10 +201,10 @@ back_by (Some biba) (Some mls) (Some n) b m p =
     let parts = pairs_by (Some biba) (Some mls) (Some n) in
     spelled parts (asking (Some biba) (Some mls) (Some n)) (record { each = (b, (m, (p, tt))); once = few parts refl }) (λ e. cc) refl (no_dash (Some biba) (Some mls) (Some n) refl)
 
-pub label_back : (parts : List LabelPart) → IsLabel parts → label_of (printed.label_text parts) ≡ Some parts
+pub label_back : (parts : List LabelPart) → IsLabel parts → label_of (canonical_label (map (λ (part : LabelPart). (part.module, part.value)) parts)) ≡ Some parts
 label_back parts is =
     let r = is.request in
-    ap (λ parts. label_of (printed.label_text parts)) is.asked
+    ap (λ (parts : List LabelPart). label_of (canonical_label (map (λ (part : LabelPart). (part.module, part.value)) parts))) is.asked
     ∙ back_by r.biba r.mls r.partition is.fits.biba is.fits.mls is.fits.partition
     ∙ ap Some (sym is.asked)
 

@@ -1,7 +1,7 @@
 //! The plan of a call.
 ghost use Rattle.std.specs.Prelude.{◌≡◌, ◌↔◌, [], map, Some, None, IfOk, IfSome, IsSome};
 ghost use Rattle.std.specs.Option.{option_copied};
-ghost use Rattle.mf_calls.specs.WellFormed.{IsFormedCall, IsFormedChild, IsName};
+ghost use Rattle.mf_calls.specs.WellFormed.{IsFormedCall, IsName};
 ghost use Rattle.mf_plan.specs.declared.plan.Tail.TheVariants.{Do};
 ghost use Rattle.mf_plan.specs.Found.{found_of, target_of};
 ghost use Rattle.mf_plan.specs.Outline as outlines;
@@ -33,7 +33,7 @@ use mf_objects::{Id, Objects};
 /// has no check and ends with ESRCH.
 pub fn plan_of(state: &State, task: &str, child: Option<&str>, call: &Call) -> Plan
     requires task { IsName task.now }
-    requires child { IsFormedChild (option_copied child) }
+    requires child { IfSome (option_copied child) IsName }
     requires formed { IsFormedCall call.now }
     ensures { result ≡ spec.plan_of state.now task.now (option_copied child.entry) call.now }
 {
@@ -47,7 +47,7 @@ impl Plan {
     /// plan is large: this one is made where it lies, and never moved.
     pub fn make(&mut self, state: &State, task: &str, child: Option<&str>, call: &Call) -> Found
         requires task { IsName task.now }
-        requires child { IsFormedChild (option_copied child) }
+        requires child { IfSome (option_copied child) IsName }
         requires formed { IsFormedCall call.now }
         ensures plan { self.new ≡ spec.plan_of state.now task.now (option_copied child.entry) call.now }
         ensures found { self.new.tail ≡ Do → result ≡ found_of state.now task.now (option_copied child.entry) call.now }
@@ -68,7 +68,7 @@ impl Plan {
         call: &Call,
     ) -> Option<Found>
         requires task { IsName task.now }
-        requires child { IsFormedChild (option_copied child) }
+        requires child { IfSome (option_copied child) IsName }
         requires formed { IsFormedCall call.now }
         ensures is { IsSome result ↔ (self.now ≡ spec.plan_of state.now task.now (option_copied child.entry) call.now) }
         ensures found { self.now.tail ≡ Do → IfSome result (λ found. found ≡ found_of state.now task.now (option_copied child.entry) call.now) }
@@ -93,7 +93,7 @@ pub fn outline_of(
     last: &LastLabel,
 ) -> Outline
     requires task { IsName task.now }
-    requires child { IsFormedChild (option_copied child) }
+    requires child { IfSome (option_copied child) IsName }
     requires formed { IsFormedCall call.now }
     ensures plan { outlines.plan_in state.now.objects result
         ≡ spec.plan_of state.now task.now (option_copied child.entry) call.now }

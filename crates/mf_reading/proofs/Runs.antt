@@ -3,6 +3,7 @@ use Rattle.std.proofs.Common.{◌≡◌, ℕ, ◌<◌, List, [], ◌∷◌, leng
 use Rattle.std.specs.Prelude.{All, option_map, slice_get, unwrap_or}
 use Rattle.std.specs.List.{AllByRecursion}
 use Rattle.std.proofs.lemmas.Option.{slice_get-get_or, slice_get_within}
+use Rattle.mf_core.proofs.LookedUp.{reply_at, state_at}
 use Rattle.mf_objects.specs.declared.id.Id.{Id}
 use Rattle.mf_calls.specs.declared.script.Call.{Call}
 use Rattle.mf_calls.specs.declared.script.Line.{Line}
@@ -25,7 +26,7 @@ use Rattle.mf_step.proofs.StateChange.{step_change}
 use Rattle.mf_core.specs.declared.history.Event.{Event}
 use Rattle.mf_core.specs.declared.history.Event.TheVariants as event
 use Rattle.mf_core.specs.Progress.{progress_at}
-use Rattle.mf_core.specs.LegalHistory.{AllMayCome, MayCome, RunState, after, next_line, next_reply, next_state, opening, reply_at, state_at}
+use Rattle.mf_core.specs.LegalHistory.{AllMayCome, MayCome, RunState, after, next_line, next_reply, next_state, opening}
 use Rattle.mf_core.proofs.SameLists.{ok_do, step_once}
 use Rattle.mf_hist.specs.Legal.{HasReply}
 use Rattle.mf_hist.specs.Lines.{IsReply}
