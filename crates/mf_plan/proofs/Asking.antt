@@ -8,7 +8,7 @@ use Rattle.mf_objects.specs.declared.id.Id.{Id}
 use Rattle.mf_objects.specs.Live.{Entities}
 use Rattle.mf_plan.specs.declared.outline.Check.{Check}
 use Rattle.mf_plan.specs.Outline.{item_asking, item_of}
-use Rattle.mf_plan.specs.Plan.{on, privileged, of_subject}
+use Rattle.mf_plan.specs.Tables.{on, privileged, of_subject}
 use Rattle.mf_plan.specs.Views.{subject_of, sender_of}
 
 abbrev pub check_of : CheckOp → Id → Id → Option Id → Option Priv → Check

@@ -32,7 +32,7 @@ use Rattle.mf_policy.specs.Registration.{is_listed}
 use Rattle.mf_plan.specs.Names.{caller_name, child_name}
 use Rattle.mf_plan.specs.Path.{lookup_along, found_at, free_at, entry_at}
 use Rattle.mf_plan.specs.Relabels.{request_asked}
-use Rattle.mf_plan.specs.Plan.{ask, on, found, or_refuse, refuse_if, refuse_by, proceed, make_row, create_row, write_row, unlink_row, deliver_row, send_row, load_row, exec_row, read_row, readdir_row, check_row, pread_row, pwrite_row, recv_row, along, relabel_row, asked_row, plan_for, plan_by, plan_of}
+use Rattle.mf_plan.specs.Tables.{ask, on, found, or_refuse, refuse_if, refuse_by, proceed, make_row, create_row, write_row, unlink_row, deliver_row, send_row, load_row, exec_row, read_row, readdir_row, check_row, pread_row, pwrite_row, recv_row, along, relabel_row, asked_row, plan_for, plan_by, planned_of}
 use Rattle.mf_plan.specs.Views.{subject_of, process_named, pipe_named, socket_named, is_full, is_dir, has_entries, overfills, is_full_socket, is_empty_socket}
 use Rattle.mf_plan.proofs.LookingUp.{free_name}
 
@@ -230,10 +230,10 @@ by_caller s task c None done = cc
 by_caller s task c (Some caller) done = (refl, can_do_for s task (subject_of s.objects caller) c done)
 
 -- the process that makes a call that is done lives
-pub caller_lives : (s : State) (task : List ℕ) (child : Option (List ℕ)) (c : Call) → (plan_of s task child c).tail ≡ Do
+pub caller_lives : (s : State) (task : List ℕ) (child : Option (List ℕ)) (c : Call) → (planned_of s task child c).tail ≡ Do
     → IsSome (process_named s.objects (caller_name task child))
 caller_lives s task child c done = (by_caller s task c (process_named s.objects (caller_name task child)) done).0
 
 -- a call that is done can be done
-pub can_do : (s : State) (task : List ℕ) (child : Option (List ℕ)) (c : Call) → (plan_of s task child c).tail ≡ Do → CanDo s task c
+pub can_do : (s : State) (task : List ℕ) (child : Option (List ℕ)) (c : Call) → (planned_of s task child c).tail ≡ Do → CanDo s task c
 can_do s task child c done = (by_caller s task c (process_named s.objects (caller_name task child)) done).1

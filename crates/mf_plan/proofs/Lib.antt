@@ -3,5 +3,6 @@ pub mod Asking
 pub mod Laws
 pub mod RelabelLaws
 mod Relabelling
+pub mod SamePlans
 mod Viewing
 pub mod Zipped

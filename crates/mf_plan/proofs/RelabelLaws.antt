@@ -17,7 +17,7 @@ use Rattle.mf_plan.specs.declared.state.State.{State}
 use Rattle.mf_plan.specs.Found.{target_of}
 use Rattle.mf_plan.specs.Names.{caller_name}
 use Rattle.mf_plan.specs.Path.{file_at_path, lookup_along, found_at}
-use Rattle.mf_plan.specs.Plan.{asked_row, asking_for, found, of_subject, on, or_refuse, relabel_row, plan_by, plan_for, plan_of}
+use Rattle.mf_plan.specs.Tables.{asked_row, asking_for, found, of_subject, on, or_refuse, relabel_row, plan_by, plan_for, planned_of}
 use Rattle.mf_plan.specs.Relabels.{request_asked}
 use Rattle.mf_plan.specs.Views.{subject_of, process_named, pipe_named, socket_named}
 use Rattle.mf_plan.proofs.Laws.{finds, reaches, file_relabel, named_relabel}
@@ -116,6 +116,6 @@ by_caller s task c caller (Some id) is done =
 
 -- the same of the call of a task's own process or child
 pub relabel_planned : (s : State) (task : List ℕ) (child : Option (List ℕ)) (c : Call) (caller : Id)
-    → process_named s.objects (caller_name task child) ≡ Some caller → (plan_of s task child c).tail ≡ Do
-    → AsksRelabel s (subject_of s.objects caller) caller c (plan_of s task child c)
+    → process_named s.objects (caller_name task child) ≡ Some caller → (planned_of s task child c).tail ≡ Do
+    → AsksRelabel s (subject_of s.objects caller) caller c (planned_of s task child c)
 relabel_planned s task child c caller is done = by_caller s task c caller (process_named s.objects (caller_name task child)) is done

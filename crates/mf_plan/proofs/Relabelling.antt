@@ -16,7 +16,7 @@ use Rattle.mf_plan.specs.declared.state.State.{State}
 use Rattle.mf_plan.specs.Ended.{ended}
 use Rattle.mf_plan.specs.Outline.{item_asking, item_of, request_for}
 use Rattle.mf_plan.specs.Path.{found_at}
-use Rattle.mf_plan.specs.Plan.{along, asked_row, check_row, found, on, or_refuse, relabel_row}
+use Rattle.mf_plan.specs.Tables.{along, asked_row, check_row, found, on, or_refuse, relabel_row}
 use Rattle.mf_plan.specs.Planned.{Plan}
 use Rattle.mf_plan.specs.Relabels.{request_asked}
 

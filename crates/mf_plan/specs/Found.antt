@@ -1,5 +1,5 @@
 -- What a call is about.
-use Rattle.std.specs.Prelude.{ℕ, List, Option, None}
+use Rattle.std.specs.Prelude.{◌≡◌, ℕ, List, Option, Some, None, Ok}
 use Rattle.mf_objects.specs.declared.id.Id.{Id}
 use Rattle.mf_objects.specs.Live.{Entities}
 use Rattle.mf_calls.specs.declared.script.Call.{Call}
@@ -10,6 +10,8 @@ use Rattle.mf_plan.specs.Names.{caller_name}
 use Rattle.mf_plan.specs.Path.{file_at_path}
 use Rattle.mf_plan.specs.Places.{free_dir_at, entry_at_path}
 use Rattle.mf_plan.specs.Relabels.{request_asked}
+use Rattle.mf_plan.specs.Rows.{about_of}
+use Rattle.mf_plan.specs.Ways.{At, look_up, request_in, target_in}
 use Rattle.mf_plan.specs.Views.{process_named, pipe_named, socket_named}
 
 -- the file, pipe or socket that a call reads or changes, or the directory in which it makes a file; the caller of `getpmac` and `setpmac`
@@ -43,3 +45,17 @@ found_by s call caller = record { caller = caller; target = target_of s.objects 
 -- the process that makes a call, what the call is about, and what it asks of a label
 abbrev pub found_of : State → List ℕ → Option (List ℕ) → Call → Found
 found_of s task child call = found_by s call (process_named s.objects (caller_name task child))
+
+-- what a call of this process is about, as it was found
+pub record IsFound (s : State) (task : List ℕ) (me : Id) (c : Call) (found : Found) : Type 0 where
+  pub what : At (about_of s task me c).place
+  pub there : (look_up s me (about_of s task me c).place).there ≡ Ok what
+  pub target : found.target ≡ target_in (about_of s task me c).place what
+  pub request : found.request ≡ request_in (about_of s task me c).place what
+
+-- who calls, and what the call is about, as they were found
+pub record AreFound (s : State) (task : List ℕ) (child : Option (List ℕ)) (c : Call) (found : Found) : Type 0 where
+  pub me : Id
+  pub caller : found.caller ≡ Some me
+  pub named : process_named s.objects (caller_name task child) ≡ Some me
+  pub is : IsFound s task me c found

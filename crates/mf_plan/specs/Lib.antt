@@ -1,4 +1,6 @@
+pub mod Checks
 pub mod Doing
+pub mod Effect
 pub mod Ended
 pub mod Found
 pub mod Items
@@ -7,11 +9,15 @@ pub mod Loading
 pub mod Names
 pub mod Outline
 pub mod Path
+pub mod Payloads
 pub mod Places
 pub mod Plan
 pub mod Planned
 pub mod Relabels
+pub mod Row
+pub mod Rows
 pub mod Settings
+pub mod Tables
 pub mod Viewing
 pub mod Views
 pub mod Ways

@@ -44,8 +44,8 @@ abbrev pub item_of : Entities → Check → Item
 item_of objects check = item_asking objects None check
 
 -- the plan as policies see it
-abbrev pub plan_in : Entities → Outline → Plan
-plan_in objects outline = record { items = map (item_asking objects outline.found.request) outline.checks; tail = outline.tail }
+abbrev pub outlined : Entities → Outline → Plan
+outlined objects outline = record { items = map (item_asking objects outline.found.request) outline.checks; tail = outline.tail }
 
 -- all that the check names is live
 pub record IsLiveCheck (objects : Entities) (check : Check) : Type 0 where

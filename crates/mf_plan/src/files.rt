@@ -6,7 +6,7 @@ ghost use Rattle.mf_plan.specs.Outline as outline;
 ghost use Rattle.mf_plan.specs.Path as paths;
 ghost use Rattle.mf_plan.specs.Places.{free_dir_at, entry_at_path, IsTarget};
 ghost use Rattle.mf_plan.specs.Path.{lookup_along};
-ghost use Rattle.mf_plan.specs.Plan as spec;
+ghost use Rattle.mf_plan.specs.Tables as spec;
 ghost use Rattle.mf_plan.specs.Ended.{ended};
 ghost use Rattle.mf_plan.specs.Views as view;
 

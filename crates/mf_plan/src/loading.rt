@@ -5,7 +5,7 @@ ghost use Rattle.mf_errno.specs.declared.privilege.Priv.TheVariants as privilege
 ghost use Rattle.mf_item.specs.declared.operation.CheckOp.TheVariants as op;
 ghost use Rattle.mf_plan.specs.Loading as spec;
 ghost use Rattle.mf_plan.specs.Outline as outline;
-ghost use Rattle.mf_plan.specs.Plan as plan;
+ghost use Rattle.mf_plan.specs.Tables as plan;
 ghost use Rattle.mf_plan.specs.Ended.{ended};
 ghost use Rattle.mf_plan.specs.Views as view;
 

@@ -5,7 +5,7 @@ ghost use Rattle.mf_item.specs.declared.operation.CheckOp.TheVariants as op;
 ghost use Rattle.mf_calls.specs.WellFormed.{IsName};
 ghost use Rattle.mf_plan.specs.Names.{child_name};
 ghost use Rattle.mf_plan.specs.Outline as outline;
-ghost use Rattle.mf_plan.specs.Plan as spec;
+ghost use Rattle.mf_plan.specs.Tables as spec;
 ghost use Rattle.mf_plan.specs.Ended.{ended};
 ghost use Rattle.mf_plan.specs.Views as view;
 

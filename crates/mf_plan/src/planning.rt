@@ -5,7 +5,8 @@ ghost use Rattle.mf_calls.specs.WellFormed.{IsFormedCall, IsFormedChild, IsName}
 ghost use Rattle.mf_plan.specs.declared.plan.Tail.TheVariants.{Do};
 ghost use Rattle.mf_plan.specs.Found.{found_of, target_of};
 ghost use Rattle.mf_plan.specs.Outline as outlines;
-ghost use Rattle.mf_plan.specs.Plan as spec;
+ghost use Rattle.mf_plan.specs.Plan as plans;
+ghost use Rattle.mf_plan.specs.Tables as spec;
 ghost use Rattle.mf_plan.specs.Relabels.{request_asked};
 ghost use Rattle.mf_plan.specs.Ended.{tail_of, ended};
 ghost use Rattle.mf_plan.specs.Names.{caller_name};
@@ -35,7 +36,7 @@ pub fn plan_of(state: &State, task: &str, child: Option<&str>, call: &Call) -> P
     requires task { IsName task.now }
     requires child { IsFormedChild (option_copied child) }
     requires formed { IsFormedCall call.now }
-    ensures { result ≡ spec.plan_of state.now task.now (option_copied child.entry) call.now }
+    ensures { result ≡ plans.plan_of state.now task.now (option_copied child.entry) call.now }
 {
     let mut plan = Plan::new();
     plan.make(state, task, child, call);
@@ -49,7 +50,7 @@ impl Plan {
         requires task { IsName task.now }
         requires child { IsFormedChild (option_copied child) }
         requires formed { IsFormedCall call.now }
-        ensures plan { self.new ≡ spec.plan_of state.now task.now (option_copied child.entry) call.now }
+        ensures plan { self.new ≡ plans.plan_of state.now task.now (option_copied child.entry) call.now }
         ensures found { self.new.tail ≡ Do → result ≡ found_of state.now task.now (option_copied child.entry) call.now }
         ensures caller { result.caller ≡ process_named state.now.objects (caller_name task.now (option_copied child.entry)) }
     {
@@ -70,7 +71,7 @@ impl Plan {
         requires task { IsName task.now }
         requires child { IsFormedChild (option_copied child) }
         requires formed { IsFormedCall call.now }
-        ensures is { IsSome result ↔ (self.now ≡ spec.plan_of state.now task.now (option_copied child.entry) call.now) }
+        ensures is { IsSome result ↔ (self.now ≡ plans.plan_of state.now task.now (option_copied child.entry) call.now) }
         ensures found { self.now.tail ≡ Do → IfSome result (λ found. found ≡ found_of state.now task.now (option_copied child.entry) call.now) }
         ensures caller { IfSome result (λ found. found.caller ≡ process_named state.now.objects (caller_name task.now (option_copied child.entry))) }
     {
@@ -95,8 +96,8 @@ pub fn outline_of(
     requires task { IsName task.now }
     requires child { IsFormedChild (option_copied child) }
     requires formed { IsFormedCall call.now }
-    ensures plan { outlines.plan_in state.now.objects result
-        ≡ spec.plan_of state.now task.now (option_copied child.entry) call.now }
+    ensures plan { outlines.outlined state.now.objects result
+        ≡ plans.plan_of state.now task.now (option_copied child.entry) call.now }
     ensures live { outlines.AreLive state.now.objects result.checks }
     ensures caller { result.found.caller ≡ process_named state.now.objects (caller_name task.now (option_copied child.entry)) }
     ensures found { result.tail ≡ Do → result.found ≡ found_of state.now task.now (option_copied child.entry) call.now }

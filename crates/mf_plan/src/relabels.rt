@@ -5,7 +5,7 @@ ghost use Rattle.mf_item.specs.declared.operation.CheckOp.TheVariants as op;
 ghost use Rattle.mf_plan.specs.Ended.{ended};
 ghost use Rattle.mf_plan.specs.Outline as outlines;
 ghost use Rattle.mf_plan.specs.Path.{file_at_path, found_at, lookup_along};
-ghost use Rattle.mf_plan.specs.Plan as plan;
+ghost use Rattle.mf_plan.specs.Tables as plan;
 ghost use Rattle.mf_plan.specs.Relabels as spec;
 ghost use Rattle.mf_plan.specs.Views as view;
 

@@ -3,7 +3,7 @@ ghost use Rattle.std.specs.Prelude.{◌≡◌, [], IfOk, IfSome, IsSome, None};
 ghost use Rattle.mf_calls.specs.WellFormed.{IsFormedCall};
 ghost use Rattle.mf_policy.specs.IsChange.{IsChange};
 ghost use Rattle.mf_objects.specs.Live.{live_at};
-ghost use Rattle.mf_plan.specs.Plan as plan;
+ghost use Rattle.mf_plan.specs.Tables as plan;
 ghost use Rattle.mf_plan.specs.Ended.{ended};
 ghost use Rattle.mf_plan.specs.Settings as spec;
 ghost use Rattle.mf_plan.specs.Views as view;

@@ -1,7 +1,7 @@
 use Rattle.std.proofs.Common.{◌≡◌, length, map, take}
 use Rattle.mf_item.specs.declared.operation.CheckOp.TheVariants as op
 use Rattle.mf_plan.specs.Outline.{item_of, IsAsking}
-use Rattle.mf_plan.specs.Plan as spec
+use Rattle.mf_plan.specs.Tables as spec
 use Rattle.mf_plan.specs.Views.{subject_of}
 use Rattle.mf_plan.proofs.files.ask_lookups.Given as goal
 

@@ -1,6 +1,6 @@
 use Rattle.std.proofs.Common.{rules, Some, Ok, refl}
 use Rattle.mf_item.specs.declared.operation.CheckOp.TheVariants as op
-use Rattle.mf_plan.specs.Plan.{ask, of_subject, proceed, relabel_row}
+use Rattle.mf_plan.specs.Tables.{ask, of_subject, proceed, relabel_row}
 use Rattle.mf_plan.specs.Views.{subject_of}
 use Rattle.mf_plan.proofs.Relabelling.{asked_plan}
 use Rattle.mf_plan.proofs.relabels.relabel_caller.Goals as goal

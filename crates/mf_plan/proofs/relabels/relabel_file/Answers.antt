@@ -1,6 +1,6 @@
 use Rattle.mf_item.specs.declared.operation.CheckOp.TheVariants as op
 use Rattle.mf_plan.specs.Path.{found_at, lookup_along}
-use Rattle.mf_plan.specs.Plan.{along, check_row}
+use Rattle.mf_plan.specs.Tables.{along, check_row}
 use Rattle.mf_plan.specs.Views.{subject_of}
 use Rattle.mf_plan.proofs.Laws.{file_relabel}
 use Rattle.mf_plan.proofs.Relabelling.{asked_plan, file_asking}

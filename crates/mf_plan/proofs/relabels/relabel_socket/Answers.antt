@@ -1,6 +1,6 @@
 use Rattle.mf_errno.specs.declared.errno.Errno.TheVariants as errno
 use Rattle.mf_item.specs.declared.operation.CheckOp.TheVariants as op
-use Rattle.mf_plan.specs.Plan.{check_row, found}
+use Rattle.mf_plan.specs.Tables.{check_row, found}
 use Rattle.mf_plan.specs.Views.{subject_of, socket_named}
 use Rattle.mf_plan.proofs.Laws.{named_relabel}
 use Rattle.mf_plan.proofs.Relabelling.{asked_plan, socket_asking}
