@@ -1,7 +1,7 @@
 pub mod LookingUp
-pub mod Asking
 pub mod Laws
 pub mod RelabelLaws
+pub mod Finding
 mod Relabelling
 pub mod SamePlans
 mod Viewing

@@ -14,7 +14,7 @@ use Rattle.mf_calls.specs.declared.script.Call.TheVariants as call
 use Rattle.mf_plan.specs.Planned.{Plan}
 use Rattle.mf_plan.specs.declared.plan.Tail.TheVariants.{Do}
 use Rattle.mf_plan.specs.declared.state.State.{State}
-use Rattle.mf_plan.specs.Found.{target_of}
+use Rattle.mf_plan.specs.Tables.{target_of}
 use Rattle.mf_plan.specs.Names.{caller_name}
 use Rattle.mf_plan.specs.Path.{file_at_path, lookup_along, found_at}
 use Rattle.mf_plan.specs.Tables.{asked_row, asking_for, found, of_subject, on, or_refuse, relabel_row, plan_by, plan_for, planned_of}

@@ -6,7 +6,7 @@ use Rattle.mf_objects.specs.declared.id.Id.{Id}
 use Rattle.mf_calls.specs.declared.script.Call.{Call}
 use Rattle.mf_calls.specs.declared.script.Call.TheVariants as call
 use Rattle.mf_plan.specs.declared.state.State.{State}
-use Rattle.mf_plan.specs.Found.{target_of}
+use Rattle.mf_plan.specs.Tables.{target_of}
 use Rattle.mf_plan.specs.Relabels.{request_asked, relabel_of}
 
 none_asked : (target : Option Id) → option_zip {U = Request} target None ≡ None

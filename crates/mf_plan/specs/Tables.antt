@@ -29,9 +29,11 @@ use Rattle.mf_plan.specs.declared.target.Target.{Target}
 use Rattle.mf_plan.specs.Loading.{load_refusal, unload_refusal}
 use Rattle.mf_policy.specs.Registration.{is_listed}
 use Rattle.mf_plan.specs.Relabels.{request_asked}
+use Rattle.mf_plan.specs.declared.found.Found.{Found}
+use Rattle.mf_plan.specs.Places.{free_dir_at, entry_at_path}
 use Rattle.mf_plan.specs.Settings.{setting_refusal}
 use Rattle.mf_plan.specs.Names.{caller_name, child_name}
-use Rattle.mf_plan.specs.Path.{lookup_along, found_at, free_at, entry_at}
+use Rattle.mf_plan.specs.Path.{file_at_path, lookup_along, found_at, free_at, entry_at}
 use Rattle.mf_plan.specs.declared.lookup.Lookup.{Lookup}
 use Rattle.mf_plan.specs.Views.{subject_of, object_of, sender_of, process_named, pipe_named, socket_named, is_full, is_dir, has_entries, overfills, is_empty_pipe, is_full_socket, is_empty_socket}
 
@@ -202,3 +204,35 @@ plan_by s task call caller = found errno.Esrch (λ id. plan_for s task (subject_
 -- the plan of a call of the task's own process, or of its child of that name
 abbrev pub planned_of : State → List ℕ → Option (List ℕ) → Call → Plan
 planned_of s task child call = plan_by s task call (process_named s.objects (caller_name task child))
+
+-- the file, pipe or socket that a call reads or changes, or the directory in which it makes a file; the caller of `getpmac` and `setpmac`
+abbrev pub target_of : Entities → Option Id → Call → Option Id
+target_of objects caller call.Getpmac = caller
+target_of objects caller (call.Setpmac label) = caller
+target_of objects caller (call.Exec path) = file_at_path objects path
+target_of objects caller (call.Create path) = free_dir_at objects path
+target_of objects caller (call.Mkdir path) = free_dir_at objects path
+target_of objects caller (call.Read path) = file_at_path objects path
+target_of objects caller (call.Write path text) = file_at_path objects path
+target_of objects caller (call.Stat path) = file_at_path objects path
+target_of objects caller (call.Getfmac path) = file_at_path objects path
+target_of objects caller (call.Setfmac label path) = file_at_path objects path
+target_of objects caller (call.Readdir path) = file_at_path objects path
+target_of objects caller (call.Chmod path mode) = file_at_path objects path
+target_of objects caller (call.Unlink path) = entry_at_path objects path
+target_of objects caller (call.Pread name) = pipe_named objects name
+target_of objects caller (call.Pwrite name text) = pipe_named objects name
+target_of objects caller (call.Pstat name) = pipe_named objects name
+target_of objects caller (call.Setpipemac label name) = pipe_named objects name
+target_of objects caller (call.Send from to text) = socket_named objects to
+target_of objects caller (call.Recv name) = socket_named objects name
+target_of objects caller (call.Setsockmac label name) = socket_named objects name
+target_of objects caller other = None
+
+-- the call of that process, what it is about, and what it asks of a label
+abbrev pub found_by : State → Call → Option Id → Found
+found_by s call caller = record { caller = caller; target = target_of s.objects caller call; request = request_asked s.specs call }
+
+-- the process that makes a call, what the call is about, and what it asks of a label
+abbrev pub found_of : State → List ℕ → Option (List ℕ) → Call → Found
+found_of s task child call = found_by s call (process_named s.objects (caller_name task child))

@@ -3,7 +3,7 @@ ghost use Rattle.std.specs.Prelude.{◌≡◌, ◌↔◌, ◌<◌, ◌≤◌, le
 ghost use Rattle.mf_item.specs.Item.{Item};
 ghost use Rattle.mf_objects.specs.Live.{Entities};
 ghost use Rattle.mf_plan.specs.Outline as outlines;
-ghost use Rattle.mf_plan.specs.Tables.{proceed};
+ghost use Rattle.mf_plan.specs.Planned.{proceed};
 
 use crate::last_label::LastLabel;
 use crate::outline::Outline;
