@@ -1,13 +1,12 @@
 -- By place what is found lives and is as the place says; and by call what a call that may be done changes suits its change.
-use Rattle.std.proofs.Common.{◌≡◌, ◌≢◌, ℕ, Bool, true, false, not, List, Option, Some, None, is_some, option_map, length, Result, Ok, Err, refl, ap, subst, ◌∙◌, if◌then◌else◌, arith}
+use Rattle.std.proofs.Common.{◌≡◌, ◌≢◌, ℕ, Bool, true, false, not, List, Option, Some, None, IsSome, is_some, option_map, length, Result, Ok, Err, refl, ap, sym, subst, ◌∙◌, if◌then◌else◌, arith}
 use Rattle.std.specs.Prelude.{find, IfSome}
 use Rattle.std.specs.Option.{option_map_or}
-use Rattle.std.specs.Result.{result_ok}
 use Rattle.std.proofs.lemmas.Bool.{eqb-false, leb-false, ltb-false}
 use Rattle.mf_errno.specs.declared.errno.Errno.{Errno}
 use Rattle.mf_errno.specs.declared.errno.Errno.TheVariants as errno
 use Rattle.mf_elem.specs.declared.label.Request.{Request}
-use Rattle.mf_item.specs.Item.{Item}
+use Rattle.mf_plan.specs.declared.outline.Check.{Check}
 use Rattle.mf_item.specs.declared.operation.CheckOp.TheVariants as op
 use Rattle.mf_item.specs.declared.view.Kind.{Kind}
 use Rattle.mf_item.specs.declared.view.Kind.TheVariants as kinds
@@ -15,34 +14,32 @@ use Rattle.mf_names.specs.declared.limits.TheConstants.{CONTENT_LIMIT}
 use Rattle.mf_objects.specs.declared.limits.TheConstants.{PIPE_LIMIT}
 use Rattle.mf_objects.specs.declared.id.Id.{Id}
 use Rattle.mf_objects.specs.declared.entity.EntityData.{EntityData}
-use Rattle.mf_objects.specs.Live.{LiveEntity, Entities, id_of, is_child, is_pipe, is_process, is_socket, live_named}
-use Rattle.mf_objects.specs.Lives.{IsLive, is_vnode}
+use Rattle.mf_objects.specs.Live.{LiveEntity, Entities, id_of, is_child, is_pipe, is_process, is_socket, live_at, live_named}
+use Rattle.mf_objects.specs.Lives.{IsLive, is_directory, is_vnode}
 use Rattle.mf_objects.specs.Population.{IsPopulation}
 use Rattle.mf_objects.proofs.Laws.{fits_file, fits_pipe, fits_message, has_message, vnode_count}
 use Rattle.mf_policy.specs.Loading.{load_fault, load_errno, unload_fault, unload_errno}
-use Rattle.mf_policy.specs.Modules.{facts_of}
-use Rattle.mf_policy.specs.Registration.{is_listed}
-use Rattle.mf_policy.specs.declared.loading.UnloadFault.TheVariants.{NotLoaded, Pinned}
 use Rattle.mf_calls.specs.declared.script.Call.{Call}
 use Rattle.mf_calls.specs.declared.script.Call.TheVariants as call
-use Rattle.mf_plan.proofs.Laws.{free_target}
-use Rattle.mf_plan.proofs.LookingUp.{free_name}
 use Rattle.mf_plan.specs.declared.state.State.{State}
 use Rattle.mf_plan.specs.declared.plan.Tail.{Tail}
 use Rattle.mf_plan.specs.declared.plan.Tail.TheVariants.{Do, Refuse}
 use Rattle.mf_plan.specs.Loading.{load_refusal, unload_refusal}
-use Rattle.mf_plan.specs.Plan.{on}
+use Rattle.mf_plan.specs.declared.found.Found.{Found}
+use Rattle.mf_plan.specs.Checks.{on}
+use Rattle.mf_plan.specs.Found.{AreFound}
+use Rattle.mf_plan.specs.Names.{caller_name}
+use Rattle.mf_plan.specs.Plan.{row_for}
 use Rattle.mf_plan.specs.Path.{entry_at, found_at, last_name, lookup_along}
 use Rattle.mf_plan.specs.Relabels.{claimed_in}
-use Rattle.mf_plan.specs.Views.{is_dir, is_full, has_entries, overfills, is_empty_socket, is_full_socket, pipe_named, process_named, socket_named, subject_of}
+use Rattle.mf_plan.specs.Views.{is_dir, is_full, has_entries, overfills, is_empty_socket, is_full_socket, pipe_named, process_named, socket_named}
 use Rattle.mf_step.proofs.Rooted.{named_lives}
-use Rattle.mf_step.proofs.Targets.{file_lives, removable_lives, some_live}
-use Rattle.mf_step.specs.Effects.{Suits}
+use Rattle.mf_step.proofs.Leading.{caller_lives, dir_lives, file_lives, removable_lives, some_live}
+use Rattle.mf_step.specs.Suits.{Suits}
 use Rattle.mf_plan.specs.Ways.Place.{Asking, Caller, Entry, File, Free, Named, Sockets, Unused}
-use Rattle.mf_plan.specs.Ways.{At, Place, asking, look_up, or_fail, straight, go_on, then_way, with_first}
-use Rattle.mf_step.specs.Row.{Row, through}
-use Rattle.mf_step.specs.Rows.{about_of}
-use Rattle.mf_step.specs.Whole.{row_for}
+use Rattle.mf_plan.specs.Ways.{At, Place, asking, look_up, or_fail, straight, go_on, then_way, with_first, target_in}
+use Rattle.mf_plan.specs.Row.{Row, through}
+use Rattle.mf_plan.specs.Rows.{about_of}
 
 -- By place: what is found there lives, and is of the kind.
 
@@ -59,7 +56,7 @@ Holds o (Unused kinds.Process name) free = live_named is_process o name ≡ None
 Holds o (Unused kinds.Pipe name) free = live_named is_pipe o name ≡ None
 Holds o (Unused kinds.Socket name) free = live_named is_socket o name ≡ None
 Holds o (File path) id = IsLive is_vnode o id
-Holds o (Free path) dir = find (is_child dir (last_name path)) o.live ≡ None
+Holds o (Free path) dir = IsLive is_directory o dir × (find (is_child dir (last_name path)) o.live ≡ None)
 Holds o (Entry path) entry = IsLive is_vnode o entry.1 × (entry.1.0 ≢ 0)
 Holds o (Sockets from to) ends = IsLive is_socket o ends.1
 Holds o (Asking kind text place) asked = Holds o place asked.1
@@ -69,17 +66,9 @@ found_so : {A : Type 0} (P : A → Type 0) (e : Errno) (holder : Option A) (a : 
 found_so P e None a holds is = cc
 found_so P e (Some x) a holds is = let same : x ≡ a = cc in subst P same holds
 
-result_so : {A : Type 0} (P : A → Type 0) (there : Result A Errno) (a : A) → IfSome (result_ok there) P → there ≡ Ok a → P a
-result_so P (Ok x) a holds is = let same : x ≡ a = cc in subst P same holds
-result_so P (Err e) a holds is = cc
-
 none_held : (holder : Option LiveEntity) (free : Unit {0}) → (if is_some (id_of holder) then Err errno.Eexist else Ok tt) ≡ Ok free → holder ≡ None
 none_held None free is = refl
 none_held (Some e) free is = cc
-
-entry_so : (P : Id → Type 0) (there : Result (Id × Id) Errno) (entry : Id × Id) → IfSome (option_map (λ (e : Id × Id). e.1) (result_ok there)) P → there ≡ Ok entry → P entry.1
-entry_so P (Ok x) entry holds is = let same : x.1 ≡ entry.1 = cc in subst P same holds
-entry_so P (Err e) entry holds is = cc
 
 no_refusal : (fault : Option Errno) → (option_map_or Refuse fault Do) ≡ Do → fault ≡ None
 no_refusal None done = refl
@@ -88,11 +77,6 @@ no_refusal (Some e) done = cc
 no_errno : {F : Type 0} (errno : F → Errno) (fault : Option F) → option_map errno fault ≡ None → fault ≡ None
 no_errno errno None none = refl
 no_errno errno (Some f) none = cc
-
-may_unload : (listed ok : Bool) → (if not listed then Some NotLoaded else if ok then None else Some Pinned) ≡ None → ok ≡ true
-may_unload true true none = refl
-may_unload true false some = cc
-may_unload false ok some = cc
 
 module _ (s : State) (me : Id) (population : IsPopulation s.objects) (lives : IsLive is_process s.objects me) where
   sockets_so : (from to : Option Id) (ends : Id × Id) → IfSome to (λ id. IsLive is_socket s.objects id)
@@ -103,12 +87,12 @@ module _ (s : State) (me : Id) (population : IsPopulation s.objects) (lives : Is
   sockets_so None to ends holds is = cc
 
   same_there : (from to : Option Id) (ends : Id × Id)
-      → (then_way (or_fail errno.Enoent from) (λ from. asking (on s.objects (subject_of s.objects me) op.SocketSend from) (straight (go_on (or_fail errno.Enoent to) (λ to. Ok (from, to)))))).there ≡ Ok ends
+      → (then_way (or_fail errno.Enoent from) (λ from. asking (on me op.SocketSend from) (straight (go_on (or_fail errno.Enoent to) (λ to. Ok (from, to)))))).there ≡ Ok ends
       → (then_way (or_fail errno.Enoent from) (λ from. straight (go_on (or_fail errno.Enoent to) (λ to. Ok (from, to))))).there ≡ Ok ends
   same_there (Some from) to ends is = is
   same_there None to ends is = cc
 
-  asked_holds : (place : Place) → ((b : At place) → (look_up s me place).there ≡ Ok b → Holds s.objects place b) → (request : Option Request) (checks : List Item) (there : Result (At place) Errno) (found : Request × At place) → (look_up s me place).there ≡ there
+  asked_holds : (place : Place) → ((b : At place) → (look_up s me place).there ≡ Ok b → Holds s.objects place b) → (request : Option Request) (checks : List Check) (there : Result (At place) Errno) (found : Request × At place) → (look_up s me place).there ≡ there
       → (then_way (or_fail errno.Einval request) (λ r. with_first r (record { checks = checks; there = there }))).there ≡ Ok found → Holds s.objects place found.1
   asked_holds place here (Some r) checks (Ok b) found at is = let same : b ≡ found.1 = cc in here found.1 (at ∙ ap Ok same)
   asked_holds place here (Some r) checks (Err e) found at is = cc
@@ -123,10 +107,9 @@ module _ (s : State) (me : Id) (population : IsPopulation s.objects) (lives : Is
   place_holds (Unused kinds.Process name) free is = none_held (live_named is_process s.objects name) free is
   place_holds (Unused kinds.Pipe name) free is = none_held (live_named is_pipe s.objects name) free is
   place_holds (Unused kinds.Socket name) free is = none_held (live_named is_socket s.objects name) free is
-  place_holds (File path) id is = result_so (λ x. IsLive is_vnode s.objects x) (found_at (lookup_along s.objects path).target) id (file_lives s.objects population path) is
-  place_holds (Free path) dir is = free_name s.objects path dir (free_target (lookup_along s.objects path).target dir is)
-  place_holds (Entry path) entry is =
-      entry_so (λ x. IsLive is_vnode s.objects x × (x.0 ≢ 0)) (entry_at (lookup_along s.objects path).target) entry (removable_lives s.objects population path) is
+  place_holds (File path) id is = file_lives s.objects population path id is
+  place_holds (Free path) dir is = dir_lives s.objects population path dir is
+  place_holds (Entry path) entry is = removable_lives s.objects population path entry is
   place_holds (Sockets from to) ends is =
       sockets_so (socket_named s.objects from) (socket_named s.objects to) ends (named_lives is_socket s.objects to population.rising)
       (same_there (socket_named s.objects from) (socket_named s.objects to) ends is)
@@ -134,7 +117,7 @@ module _ (s : State) (me : Id) (population : IsPopulation s.objects) (lives : Is
   place_holds other found is = tt
 
   -- so what is said of a row with what holds there is said of the call
-  by_row : {A : Type 0} (checks : List Item) (there : Result A Errno) (rest : A → Row)
+  by_row : {A : Type 0} (checks : List Check) (there : Result A Errno) (rest : A → Row)
       → ((a : A) → there ≡ Ok a → (rest a).tail ≡ Do → Suits s (rest a).effect) → (through (record { checks = checks; there = there }) rest).tail ≡ Do
       → Suits s (through (record { checks = checks; there = there }) rest).effect
   by_row checks (Ok a) rest suits done = suits a refl done
@@ -172,8 +155,7 @@ module _ (s : State) (me : Id) (population : IsPopulation s.objects) (lives : Is
     row_suits (call.Setpipemac text name) asked holds done = some_live is_pipe s.objects asked.1 holds
     row_suits (call.Setsockmac text name) asked holds done = some_live is_socket s.objects asked.1 holds
     row_suits (call.Kldload name) m holds done = no_errno load_errno (load_fault s.booted s.specs s.numbers m) (no_refusal (load_refusal s m) done)
-    row_suits (call.Kldunload name) m holds done =
-        may_unload (is_listed m s.specs) ((facts_of m).unload_ok) (no_errno unload_errno (unload_fault s.specs m) (no_refusal (unload_refusal s (Some m)) done))
+    row_suits (call.Kldunload name) m holds done = no_errno unload_errno (unload_fault s.specs m) (no_refusal (unload_refusal s (Some m)) done)
     row_suits other found holds done = tt
 
     call_suits : (c : Call) → (row_for s task c me).tail ≡ Do → Suits s (row_for s task c me).effect
@@ -184,3 +166,22 @@ module _ (s : State) (me : Id) (population : IsPopulation s.objects) (lives : Is
 pub effect_suits : (s : State) (task : List ℕ) (me : Id) (c : Call) → IsPopulation s.objects → IsLive is_process s.objects me
     → (row_for s task c me).tail ≡ Do → Suits s (row_for s task c me).effect
 effect_suits s task me c population lives done = call_suits s me population lives task c done
+
+-- what is found lives
+pub target_lives : (o : Entities) (place : Place) (found : At place) → Holds o place found → IfSome (target_in place found) (λ id. IsSome (live_at o id))
+target_lives o Caller id holds = some_live is_process o id holds
+target_lives o (Named kind name) id holds = some_live (kind_test kind) o id holds
+target_lives o (File path) id holds = some_live is_vnode o id holds
+target_lives o (Free path) dir holds = some_live is_directory o dir holds.0
+target_lives o (Entry path) entry holds = some_live is_vnode o entry.1 holds.0
+target_lives o (Sockets from to) ends holds = some_live is_socket o ends.1 holds
+target_lives o (Asking kind text place) asked holds = target_lives o place asked.1 holds
+target_lives o other found holds = tt
+
+pub found_lives : (s : State) (task : List ℕ) (child : Option (List ℕ)) (c : Call) (found : Found) → IsPopulation s.objects → AreFound s task child c found
+    → IfSome found.target (λ id. IsSome (live_at s.objects id))
+found_lives s task child c found population are =
+    let place = (about_of s task are.me c).place in
+    subst (λ (target : Option Id). IfSome target (λ id. IsSome (live_at s.objects id))) (sym are.is.target)
+    (target_lives s.objects place are.is.what
+    (place_holds s are.me population (caller_lives s.objects are.me (caller_name task child) population (sym are.named)) place are.is.what are.is.there))
