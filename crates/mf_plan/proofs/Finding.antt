@@ -101,14 +101,14 @@ nothing_asked {A = A} row none way = by_there way.there ∙ none_done (through w
     by_there (Err e) = refl
 
 relabel_asks : (claim : Option Request) (way : Way Id) (check : Id → Check)
-    → request_of (through (then_way (or_fail errno.Einval claim) (λ r. with_first r way)) (λ asked. relabel_by (check asked.1) asked.0 asked.1)).effect
-    ≡ where_done (through (then_way (or_fail errno.Einval claim) (λ r. with_first r way)) (λ asked. relabel_by (check asked.1) asked.0 asked.1)).tail claim
+    → request_of (through (then_way (or_fail errno.Einval claim) (λ r. with_first r way)) (relabel_by check)).effect
+    ≡ where_done (through (then_way (or_fail errno.Einval claim) (λ r. with_first r way)) (relabel_by check)).tail claim
 relabel_asks None way check = refl
 relabel_asks (Some r) way check = by_there way.there
   where
     by_there : (there : Result Id Errno)
-        → request_of (through (with_first r (record { checks = way.checks; there = there })) (λ asked. relabel_by (check asked.1) asked.0 asked.1)).effect
-        ≡ where_done (through (with_first r (record { checks = way.checks; there = there })) (λ asked. relabel_by (check asked.1) asked.0 asked.1)).tail (Some r)
+        → request_of (through (with_first r (record { checks = way.checks; there = there })) (relabel_by check)).effect
+        ≡ where_done (through (with_first r (record { checks = way.checks; there = there })) (relabel_by check)).tail (Some r)
     by_there (Ok id) = refl
     by_there (Err e) = refl
 

@@ -15,14 +15,14 @@ use Rattle.mf_plan.specs.Ways.{Way, or_fail, then_way, with_first}
 -- the row of a relabel, by what its text asks for and the way to what it relabels
 abbrev pub relabel_end : Option Request → Way Id → (Id → Check) → Ended
 relabel_end claim way check =
-    end_of (through (then_way (or_fail errno.Einval claim) (λ request. with_first request way)) (λ asked. relabel_by (check asked.1) asked.0 asked.1))
+    end_of (through (then_way (or_fail errno.Einval claim) (λ request. with_first request way)) (relabel_by check))
 
 by_claim : (claim : Option Request) (way : Way Id) (check : Id → Check) → IsSome claim → end_of (through way (λ id. ask (check id) done)) ≡ relabel_end claim way check
 by_claim None way check some = cc
 by_claim (Some request) way check some = by_there way.there
   where
     by_there : (there : Result Id Errno) → end_of (through (record { checks = way.checks; there = there }) (λ id. ask (check id) done))
-        ≡ end_of (through (with_first request (record { checks = way.checks; there = there })) (λ asked. relabel_by (check asked.1) asked.0 asked.1))
+        ≡ end_of (through (with_first request (record { checks = way.checks; there = there })) (relabel_by check))
     by_there (Ok id) = refl
     by_there (Err e) = refl
 

@@ -47,9 +47,13 @@ use Rattle.mf_objects.specs.Changes.{new_pipe, new_socket}
 use Rattle.mf_objects.specs.declared.entity.EntityData.TheVariants.{Process}
 use Rattle.mf_plan.specs.Outline.{item_asking}
 use Rattle.mf_plan.specs.Plan.{plan_in, plan_of, row_by, row_for, row_of}
-use Rattle.mf_plan.specs.Row.{Row, ask, asking_first, changes, done, gives, refuse, refuse_if, refuse_by, through}
+use Rattle.mf_plan.specs.Row.{Row, ask, changes, done, gives, refuse, refuse_if, refuse_by, through}
 use Rattle.mf_plan.specs.Rows.{about_of, set}
 use Rattle.mf_policy.specs.declared.settings.Change.TheVariants.{FirstMatch, RuleAdd, RuleSet, RuleRemove}
+
+-- these checks come first
+abbrev asking_first : List Check → Row → Row
+asking_first checks rest = record rest { checks = checks ++ rest.checks }
 
 module _ (s : State) (me : Id) where
   abbrev my_view : SubjectView
@@ -129,7 +133,7 @@ module _ (s : State) (me : Id) where
   -- a setting
 
   abbrev set_row : (Module × Change → Payload) → Module × Change → Row
-  set_row shown asked = set s asked (gives (shown asked) (Set asked.0 asked.1))
+  set_row shown asked = set s (shown asked) asked
 
   by_listed : (shown : Module × Change → Payload) (b : Bool) (m : Module) (change : Option Change)
       → plan_in s (through (straight (if not b then Err errno.Enoent else go_on (or_fail errno.Einval change) (λ change. Ok (m, change)))) (set_row shown))

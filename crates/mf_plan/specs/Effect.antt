@@ -6,28 +6,19 @@ use Rattle.mf_objects.specs.declared.id.Id.{Id}
 use Rattle.mf_objects.specs.declared.entity.EntityData.{EntityData}
 use Rattle.mf_policy.specs.declared.settings.Change.{Change}
 
--- what a call changes
 pub data Effect : Type 0 where
-  -- nothing
+  -- nothing; one entity more, with the label that its maker's gives it
   Unchanged : Effect
-  -- one entity more, with the label that its maker's gives it
   Make : List ℕ → EntityData → Effect
-  -- bytes go into a file or a pipe, or a message into a socket
-  Append : Id → List ℕ → Effect
-  Deliver : Id → List ℕ → Effect
-  -- a pipe is emptied, and a socket's oldest message taken
-  Empty : Id → Effect
-  Receive : Id → Effect
-  -- a file has another mode
+  -- bytes go into a file or a pipe; a message into a socket
+  Append Deliver : Id → List ℕ → Effect
+  -- a pipe is emptied; a socket's oldest message is taken; a file goes; a process goes, with its pipes and sockets
+  Empty Receive Unlink End : Id → Effect
+  -- a file has another mode; an entity the label that it is asked to have
   SetMode : Id → ℕ → Effect
-  -- a file goes; a process goes, with its pipes and sockets
-  Unlink : Id → Effect
-  End : Id → Effect
-  -- an entity has the label that it is asked to have
   Relabel : Id → Request → Effect
-  -- a module is registered, is taken off the list, or has another setting
-  Load : Module → Effect
-  Unload : Module → Effect
+  -- a module is registered; one is taken off the list; one has another setting
+  Load Unload : Module → Effect
   Set : Module → Change → Effect
 
 -- the entity that is relabelled, and what is asked for it

@@ -57,17 +57,13 @@ abbrev pub if_room : State → Row → Row
 if_room s rest = refuse_if (is_full s.objects) errno.Enfile rest
 
 -- the check of a relabel, and the relabel
-abbrev pub relabel_by : Check → Request → Id → Row
-relabel_by check request id = ask check (changes (Relabel id request))
+abbrev pub relabel_by : (Id → Check) → Request × Id → Row
+relabel_by check asked = ask (check asked.1) (changes (Relabel asked.1 asked.0))
 
--- what is so of what is there, or else of nothing
+-- what is so of what is there, and else by the errno
 abbrev pub if_there : {A B : Type 0} → (A → B) → (Errno → B) → Result A Errno → B
 if_there so other (Ok found) = so found
 if_there so other (Err e) = other e
-
--- these checks come first
-abbrev pub asking_first : List Check → Row → Row
-asking_first checks rest = record rest { checks = checks ++ rest.checks }
 
 -- the whole of a call: the checks on the way to what it is about, and then its row
 abbrev pub through : {A : Type 0} → Way A → (A → Row) → Row

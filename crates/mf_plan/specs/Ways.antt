@@ -5,7 +5,6 @@ use Rattle.mf_errno.specs.Names.{module_named}
 use Rattle.mf_errno.specs.declared.errno.Errno.{Errno}
 use Rattle.mf_errno.specs.declared.errno.Errno.TheVariants as errno
 use Rattle.mf_errno.specs.declared.module.Module.{Module}
-use Rattle.mf_errno.specs.declared.module.Module.TheVariants as modules
 use Rattle.mf_errno.specs.declared.privilege.Priv.TheVariants as privilege
 use Rattle.mf_elem.specs.declared.label.Request.{Request}
 use Rattle.mf_item.specs.declared.operation.CheckOp.TheVariants as op
@@ -27,34 +26,21 @@ use Rattle.mf_plan.specs.Views.{process_named, pipe_named, socket_named}
 -- What a call is about
 
 pub data Place : Type 0 where
-  -- nothing
-  Nothing : Place
-  -- the process that calls
-  Caller : Place
-  -- the process, pipe or socket of a name
-  Named : Kind → List ℕ → Place
-  -- a name that no process, pipe or socket has
-  Unused : Kind → List ℕ → Place
-  -- a file or directory
-  File : List (List ℕ) → Place
-  -- a free name in a directory
-  Free : List (List ℕ) → Place
-  -- a directory and its entry
-  Entry : List (List ℕ) → Place
+  -- nothing; the process that calls
+  Nothing Caller : Place
+  -- the process, pipe or socket of a name; a name that none of that kind has
+  Named Unused : Kind → List ℕ → Place
+  -- a file or directory; a free name in a directory; a directory and its entry
+  File Free Entry : List (List ℕ) → Place
   -- one socket, and another that it reaches
   Sockets : List ℕ → List ℕ → Place
   -- a module that is listed; one to be loaded; one to be unloaded
   Listed : Module → Place
-  Loading : List ℕ → Place
-  Unloading : List ℕ → Place
+  Loading Unloading : List ℕ → Place
   -- a module's setting, and the change that it is to have
   Setting : Option Module → Option Change → Place
   -- what a text asks of the label of an entity of that kind
   Asking : Kind → List ℕ → Place → Place
-
--- a change of the rules about files
-abbrev pub rules_changed : Change → Place
-rules_changed change = Setting (Some modules.Bsdextended) (Some change)
 
 -- what is found in a place
 abbrev pub At : Place → Type 0

@@ -1,14 +1,16 @@
 //! Calls that change a policy's setting.
-ghost use Rattle.std.specs.Prelude.{◌≡◌, [], IfOk, IfSome, IsSome, None};
+ghost use Rattle.std.specs.Prelude.{◌≡◌, [], IfOk, IfSome, IsSome, None, Some};
 ghost use Rattle.mf_calls.specs.WellFormed.{IsFormedCall};
 ghost use Rattle.mf_policy.specs.IsChange.{IsChange};
 ghost use Rattle.mf_objects.specs.Live.{live_at};
 ghost use Rattle.mf_calls.specs.declared.script.Call.TheVariants as call;
+ghost use Rattle.mf_errno.specs.declared.module.Module.TheVariants as modules;
+ghost use Rattle.mf_plan.specs.declared.reply.Payload.TheVariants as payload;
 ghost use Rattle.mf_plan.specs.Ended.{ended, end_of, end_for};
 ghost use Rattle.mf_plan.specs.Row as row;
 ghost use Rattle.mf_plan.specs.Rows.{set};
 ghost use Rattle.mf_plan.specs.Settings as spec;
-ghost use Rattle.mf_plan.specs.Ways.{look_up, rules_changed};
+ghost use Rattle.mf_plan.specs.Ways.{look_up};
 ghost use Rattle.mf_plan.specs.Ways.Place.{Setting};
 
 use crate::state::State;
@@ -98,7 +100,7 @@ fn change_setting(
 ) -> Result<Option<Id>, Errno>
     requires lives { IsSome (live_at state.now.objects caller) }
     ensures row { ended [] result
-        ≡ end_of (row.through (look_up state.now caller (Setting «module» change)) (λ asked. set state.now asked row.done)) }
+        ≡ end_of (row.through (look_up state.now caller (Setting «module» change)) (set state.now payload.None)) }
     ensures target { IfOk result (λ target. target ≡ None) }
 {
     if !state.objects.cred(caller).is_root() {
@@ -134,7 +136,7 @@ pub(crate) fn sysctl(
 pub(crate) fn change_rules(state: &State, caller: Id, change: Change) -> Result<Option<Id>, Errno>
     requires lives { IsSome (live_at state.now.objects caller) }
     ensures row { ended [] result
-        ≡ end_of (row.through (look_up state.now caller (rules_changed change)) (λ asked. set state.now asked row.done)) }
+        ≡ end_of (row.through (look_up state.now caller (Setting (Some modules.Bsdextended) (Some change))) (set state.now payload.None)) }
     ensures target { IfOk result (λ target. target ≡ None) }
 {
     change_setting(state, caller, Some(Module::Bsdextended), Some(change))

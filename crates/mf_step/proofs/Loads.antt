@@ -26,9 +26,9 @@ use Rattle.mf_plan.specs.Effect.Effect.{Load, Unload, Set}
 use Rattle.mf_plan.specs.Loading.{load_refusal, unload_refusal}
 use Rattle.mf_plan.specs.Plan.{row_for}
 use Rattle.mf_plan.specs.Payloads.{rule_number}
-use Rattle.mf_plan.specs.Row.{Row, changes, gives, through}
-use Rattle.mf_plan.specs.Rows.{about_of, set}
-use Rattle.mf_plan.specs.Settings.{both, if_listed, setting, switch, sysctl_module}
+use Rattle.mf_plan.specs.Row.{Row, changes, gives, refuse_by, through}
+use Rattle.mf_plan.specs.Rows.{about_of}
+use Rattle.mf_plan.specs.Settings.{both, if_listed, setting, switch, sysctl_module, unless_success}
 use Rattle.mf_policy.specs.Settings.{change_in}
 use Rattle.mf_calls.specs.Tasks.{is_change}
 use Rattle.mf_step.specs.declared.relisting.Relisting.{Relisting}
@@ -89,7 +89,7 @@ found_module checks row effect same (Some m) done = ap (λ (e : Effect). Some e)
 
 module _ (s : State) (me : Id) (rest : Module × Change → Row) (same : (asked : Module × Change) → (rest asked).effect ≡ Set asked.0 asked.1) where
   abbrev set_row : Module × Change → Row
-  set_row asked = set s asked (rest asked)
+  set_row asked = refuse_by (unless_success (change_in asked.0 asked.1 s.specs).0.errno) (rest asked)
 
   abbrev to_set : Module × Change → Effect
   to_set asked = Set asked.0 asked.1
