@@ -57,7 +57,7 @@ module _ (s : State) (me : Id) where
   sockets_there (Some from) None ends is = cc
   sockets_there None to ends is = cc
 
-  target_there : (place : Place) (found : At place) → (look_up s me place).there ≡ Ok found → target_at s me place ≡ target_in place found
+  pub target_there : (place : Place) (found : At place) → (look_up s me place).there ≡ Ok found → target_at s me place ≡ target_in place found
   target_there Caller id is = cc
   target_there (Named kind name) id is = is_there (missing kind) (named s.objects kind name) id is
   target_there (File path) id is = ap result_ok is
@@ -68,7 +68,7 @@ module _ (s : State) (me : Id) where
       target_there place found.1 (are_asked (claimed_in s.specs kind text) (look_up s me place).checks (look_up s me place).there found is).on_the_way
   target_there other found is = refl
 
-  request_there : (place : Place) (found : At place) → (look_up s me place).there ≡ Ok found → asked_at s place ≡ request_in place found
+  pub request_there : (place : Place) (found : At place) → (look_up s me place).there ≡ Ok found → asked_at s place ≡ request_in place found
   request_there (Asking kind text place) found is = (are_asked (claimed_in s.specs kind text) (look_up s me place).checks (look_up s me place).there found is).claimed
   request_there other found is = refl
 

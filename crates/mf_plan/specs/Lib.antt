@@ -1,5 +1,4 @@
 pub mod Checks
-pub mod Doing
 pub mod Effect
 pub mod Ended
 pub mod Found
@@ -17,7 +16,6 @@ pub mod Relabels
 pub mod Row
 pub mod Rows
 pub mod Settings
-pub mod Tables
 pub mod Viewing
 pub mod Views
 pub mod Ways
