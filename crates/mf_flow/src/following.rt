@@ -66,7 +66,7 @@ pub fn follow(
             let checks = passed(said, outline.checks.as_slice());
             move_in_both(alloc, &state.objects, checks, flows)?;
             let asked = asked_of(said, &outline);
-            run.commit(alloc, *task, *number, outline.found, reply)?;
+            run.commit(alloc, *task, *number, &outline.found, reply)?;
             let objects = &run.state().objects;
             create_in_both(alloc, next, objects, outline.found.caller, flows)?;
             give_in_both(alloc, objects, &asked, flows)

@@ -5,7 +5,7 @@ use Rattle.mf_calls.specs.declared.script.Script.{Script}
 use Rattle.mf_plan.specs.Planned.{Plan}
 use Rattle.mf_plan.specs.declared.plan.Tail.TheVariants.{Do}
 use Rattle.mf_plan.specs.declared.reply.Reply.{Reply}
-use Rattle.mf_plan.specs.Found.{found_of}
+use Rattle.mf_plan.specs.Found.{AreFound}
 use Rattle.mf_plan.specs.Names.{caller_name}
 use Rattle.mf_plan.specs.Outline.{item_asking}
 use Rattle.mf_plan.specs.Plan.{plan_of}
@@ -13,7 +13,7 @@ use Rattle.mf_plan.specs.Views.{process_named}
 use Rattle.mf_step.specs.Step.{after_reply}
 use Rattle.mf_core.specs.declared.history.Event.{Event}
 use Rattle.mf_core.specs.LegalHistory.{after}
-use Rattle.mf_core.specs.NextFound.{next_found}
+use Rattle.mf_core.specs.NextFound.{IsNextFound}
 use Rattle.mf_core.specs.RunView.{RunView}
 use Rattle.mf_step.specs.Passed.{passed}
 use Rattle.mf_flow.proofs.DoneCalls.{done_asked, done_flows, done_found, done_line, passed_map, same_flows}
@@ -49,7 +49,8 @@ returns-in_ok-create_in_both-in-Done-clause-flows c =
     (c.outline_of-outline.ensures.caller ∙ ap (λ (child : Option (List ℕ)). process_named state.objects (caller_name task child)) c.child_name.ensures)
     (c.asked_of-asked.ensures ∙ ap (λ (said : Reply). after_reply said None (option_zip outline.found.target outline.found.request)) said_is
     ∙ done_asked s run e c.in-Done.task c.in-Done.number c.in-Done.reply state task line outline.found c.in-Done.is c.requires.may c.state-state.ensures c.name_of-name.ensures next_is
-    (λ tail. c.outline_of-outline.ensures.found (outline_tail tail) ∙ ap (λ (child : Option (List ℕ)). found_of state task child line.call) c.child_name.ensures))
+    (λ tail. subst (λ (child : Option (List ℕ)). AreFound state task child line.call outline.found) c.child_name.ensures
+    (c.outline_of-outline.ensures.found (outline_tail tail))))
     c.in_ok-create_in_both-in-Done.ensures.created
     given) c.give_in_both.ensures
 
@@ -62,10 +63,11 @@ commit-requires-clause-found c =
     let state = c.state-state.result.now in
     let task = c.name_of-name.result.now in
     let line = c.line_at-line.result.now in
-    λ done. subst (λ (x : Script). next_found x run c.in-Done.task ≡ Some c.outline_of-outline.result.found) (sym c.requires.script)
+    λ done. subst (λ (x : Script). IsNextFound x run c.in-Done.task c.outline_of-outline.result.found) (sym c.requires.script)
     (done_found s run e c.in-Done.task c.in-Done.number c.in-Done.reply state task line c.outline_of-outline.result.found c.in-Done.is c.requires.may
     c.state-state.ensures c.name_of-name.ensures
     (done_line s run e c.in-Done.task c.in-Done.number c.in-Done.reply line c.in-Done.is c.requires.may c.line_at-line.ensures)
-    (λ tail. c.outline_of-outline.ensures.found
+    (λ tail. subst (λ (child : Option (List ℕ)). AreFound state task child line.call c.outline_of-outline.result.found) c.child_name.ensures
+    (c.outline_of-outline.ensures.found
     (ap (λ (p : Plan). p.tail) c.outline_of-outline.ensures.plan ∙ ap (λ (child : Option (List ℕ)). (plan_of state task child line.call).tail) c.child_name.ensures ∙ tail)
-    ∙ ap (λ (child : Option (List ℕ)). found_of state task child line.call) c.child_name.ensures) done)
+    )) done)
