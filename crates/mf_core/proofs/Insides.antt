@@ -13,7 +13,8 @@ use Rattle.mf_core.specs.Progress.{progress_at, first_progress}
 use Rattle.mf_core.specs.Advances.{Advances}
 use Rattle.mf_core.specs.LegalHistory.{RunState, MayCome, after, next_line, opening, turn_of}
 use Rattle.mf_core.specs.WithEvent.{with_event}
-use Rattle.mf_core.specs.NextFound.{next_found}
+use Rattle.mf_plan.specs.declared.found.Found.{Found}
+use Rattle.mf_core.specs.NextFound.{IsNextFound}
 use Rattle.mf_core.specs.Next.{next_plan}
 use Rattle.mf_core.specs.Consistency.{IsConsistent}
 use Rattle.mf_core.specs.RunView.{RunView}
@@ -56,9 +57,9 @@ module _ (k : CoreView) (v : RunView) (h : History) (is : record { script = v.sc
   plan_same t =
       ap (λ (m : RunState). next_plan k.script m t) run_state_here ∙ ap (λ (s : Script). next_plan s v.run t) script_here
 
-  pub found_same : (t : ℕ) → next_found k.script (run_state k) t ≡ next_found v.script v.run t
-  found_same t =
-      ap (λ (m : RunState). next_found k.script m t) run_state_here ∙ ap (λ (s : Script). next_found s v.run t) script_here
+  pub found_same : (t : ℕ) (found : Found) → IsNextFound k.script (run_state k) t found → IsNextFound v.script v.run t found
+  found_same t found is =
+      subst (λ (s : Script). IsNextFound s v.run t found) script_here (subst (λ (m : RunState). IsNextFound k.script m t found) run_state_here is)
 
   pub left_here : (t : ℕ) → (turn_at k t ≡ turns.Done) ⊎ (turn_at k t ≡ turns.Entered)
       → (turn_of v.script v.run.progress t ≡ turns.Done) ⊎ (turn_of v.script v.run.progress t ≡ turns.Entered)

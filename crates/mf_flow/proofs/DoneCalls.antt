@@ -14,7 +14,7 @@ use Rattle.mf_plan.specs.declared.reply.Reply.{Reply}
 use Rattle.mf_plan.specs.declared.reply.Reply.TheVariants as reply
 use Rattle.mf_plan.specs.declared.found.Found.{Found}
 use Rattle.mf_plan.specs.declared.plan.Tail.TheVariants.{Do}
-use Rattle.mf_plan.specs.Found.{found_of}
+use Rattle.mf_plan.specs.Found.{AreFound}
 use Rattle.mf_plan.specs.Plan.{plan_of}
 use Rattle.mf_step.specs.Refused.{is_done}
 use Rattle.mf_step.specs.Step.{step_reply}
@@ -22,7 +22,7 @@ use Rattle.mf_core.specs.declared.history.Event.{Event}
 use Rattle.mf_core.specs.declared.history.Event.TheVariants as event
 use Rattle.mf_core.specs.Progress.{progress_at}
 use Rattle.mf_core.specs.LegalHistory.{RunState, next_line, MayCome, after}
-use Rattle.mf_core.specs.NextFound.{found_at, next_found}
+use Rattle.mf_core.specs.NextFound.{FoundAt, IsNextFound}
 use Rattle.mf_core.proofs.SameLists.{done_tail}
 use Rattle.mf_step.specs.Passed.{passed}
 use Rattle.mf_flow.specs.declared.following.Flow.{Flow}
@@ -31,7 +31,7 @@ use Rattle.mf_flow.specs.Sources.{caller_of}
 use Rattle.std.specs.Option.{option_zip}
 use Rattle.mf_core.proofs.LookedUp.{reply_at}
 use Rattle.mf_elem.specs.declared.label.Request.{Request}
-use Rattle.mf_plan.proofs.Zipped.{zipped}
+use Rattle.mf_flow.proofs.Relabels.{zipped}
 use Rattle.mf_step.specs.Step.{after_reply}
 use Rattle.mf_plan.specs.declared.outline.Check.{Check}
 use Rattle.mf_plan.specs.Outline.{item_asking, item_of}
@@ -112,25 +112,23 @@ done_ends s run e t number said state task line is may here task_is line_is done
 -- what a call that is done is about was found as its plan was made
 pub done_found : (s : Script) (run : RunState) (e : Event) (t number : ℕ) (said : Reply) (state : State) (task : List ℕ) (line : Line) (found : Found) → e ≡ event.Done t number said → MayCome s run e
     → state ≡ run.state → task ≡ name_of s t → next_line s run.progress t ≡ Some line
-    → ((plan_of state task line.child line.call).tail ≡ Do → found ≡ found_of state task line.child line.call) → is_done said ≡ true → next_found s run t ≡ Some found
+    → ((plan_of state task line.child line.call).tail ≡ Do → AreFound state task line.child line.call found) → is_done said ≡ true → IsNextFound s run t found
 done_found s run e t number said state task line found is may here task_is line_is found_is done =
-    let found_here : found ≡ found_of run.state (name_of s t) line.child line.call =
-    found_is (done_ends s run e t number said state task line is may here task_is line_is done)
-    ∙ ap (λ (x : State). found_of x task line.child line.call) here ∙ ap (λ (x : List ℕ). found_of run.state x line.child line.call) task_is in
-    ap (found_at s run t) line_is ∙ ap (λ (f : Found). Some f) (sym found_here)
+    let found_here : AreFound run.state (name_of s t) line.child line.call found =
+    subst (λ (x : List ℕ). AreFound run.state x line.child line.call found) task_is
+    (subst (λ (x : State). AreFound x task line.child line.call found) here (found_is (done_ends s run e t number said state task line is may here task_is line_is done))) in
+    subst (λ (l : Option Line). FoundAt s run t l found) (sym line_is) found_here
 
 -- and so was what it asks of whose label
 pub done_asked : (s : Script) (run : RunState) (e : Event) (t number : ℕ) (said : Reply) (state : State) (task : List ℕ) (line : Line) (found : Found)
     → e ≡ event.Done t number said → MayCome s run e → state ≡ run.state → task ≡ name_of s t → next_line s run.progress t ≡ Some line
-    → ((plan_of state task line.child line.call).tail ≡ Do → found ≡ found_of state task line.child line.call)
+    → ((plan_of state task line.child line.call).tail ≡ Do → AreFound state task line.child line.call found)
     → after_reply said None (option_zip found.target found.request) ≡ asked_of state task line said
 done_asked s run e t number said state task line found is may here task_is line_is found_is =
     one said (done_ends s run e t number said state task line is may here task_is line_is)
   where
     one : (said : Reply) → (is_done said ≡ true → (plan_of state task line.child line.call).tail ≡ Do) → after_reply said None (option_zip found.target found.request) ≡ asked_of state task line said
     one (reply.Ok payload) ends =
-        let tail : (plan_of state task line.child line.call).tail ≡ Do = ends refl in
-        ap (λ (x : Found). option_zip x.target x.request) (found_is tail)
-        ∙ zipped state (caller_of state task line) line.call
+        zipped state task line.child line.call found (found_is (ends refl))
     one (reply.Denied errno op item by) ends = refl
     one (reply.Refused errno) ends = refl

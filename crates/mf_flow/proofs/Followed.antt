@@ -18,7 +18,7 @@ use Rattle.mf_calls.specs.Tasks.{name_of}
 use Rattle.mf_calls.specs.WellFormed.{IsWellFormed}
 use Rattle.mf_plan.specs.declared.state.State.{State}
 use Rattle.mf_plan.specs.declared.reply.Reply.{Reply}
-use Rattle.mf_plan.specs.Plan.{plan_of}
+use Rattle.mf_plan.specs.Plan.{plan_of, row_of as call_row}
 use Rattle.mf_step.specs.Step.{step_payload, step_reply, step_state}
 use Rattle.mf_core.specs.declared.history.Event.{Event}
 use Rattle.mf_core.specs.declared.history.Event.TheVariants as event
@@ -59,7 +59,7 @@ call_rows p r s s' task line said sets rows of is after_is shape flowing are =
     subst (λ (x : Reply). AllByRecursion (IsGranted s.specs) (passed x (plan_of s task line.child line.call).items)) is
     (passed_granted s.specs (plan_of s task line.child line.call) (step_payload s task line.child line.call)) in
     let copied : AllByRecursion (IsCopied s.objects) items =
-    all_passed (IsCopied s.objects) said (plan_of s task line.child line.call).items (plan_copied s task line.call by.caller) in
+    all_passed (IsCopied s.objects) said (plan_of s task line.child line.call).items (plan_copied s (call_row s task line.child line.call)) in
     let success : AllByRecursion (λ (item : Item). lattice_answer p (slot_of r) item ≡ Success) items = own_answer p r s.specs s.numbers items of flowing.held.pinned granted in
     let moved : Sets = moved_by_all r s.objects sets items in
     let moved_rows : Rows = fold (rows_moved (slot_of r) s.objects) rows items in

@@ -132,7 +132,7 @@ line_ordered r s s' task None said sets all id = all id
 line_ordered r s s' task (Some line) said sets all id =
     let items : List Item = passed said (plan_of s task line.child line.call).items in
     let by : Option Id = caller_of s task line in
-    after_ordered r (live_at s.objects id) (live_at s'.objects id) (relabels r s by line.call said id) (moved_by_all r s.objects sets items id)
+    after_ordered r (live_at s.objects id) (live_at s'.objects id) (relabels r s task line said id) (moved_by_all r s.objects sets items id)
     (set_of by (moved_by_all r s.objects sets items)) (items_ordered r s.objects sets items all id)
     (of_ordered by (moved_by_all r s.objects sets items) (items_ordered r s.objects sets items all))
 

@@ -69,7 +69,7 @@ pub fn follow(
             let checks = passed(said, outline.checks.as_slice());
             move_in_each(alloc, &state.objects, checks, flows)?;
             let asked = asked_of(said, &outline);
-            run.commit(alloc, *task, *number, outline.found, reply)?;
+            run.commit(alloc, *task, *number, &outline.found, reply)?;
             let objects = &run.state().objects;
             settle_each(alloc, next, objects, outline.found.caller, &asked, flows)
         }

@@ -5,7 +5,7 @@ use Rattle.mf_calls.specs.declared.script.Script.{Script}
 use Rattle.mf_plan.specs.Planned.{Plan}
 use Rattle.mf_plan.specs.declared.plan.Tail.TheVariants.{Do}
 use Rattle.mf_plan.specs.declared.reply.Reply.{Reply}
-use Rattle.mf_plan.specs.Found.{found_of}
+use Rattle.mf_plan.specs.Found.{AreFound}
 use Rattle.mf_plan.specs.Names.{caller_name}
 use Rattle.mf_plan.specs.Outline.{item_asking, item_of}
 use Rattle.mf_plan.specs.declared.state.State.{State}
@@ -15,7 +15,7 @@ use Rattle.mf_plan.specs.Views.{process_named}
 use Rattle.mf_step.specs.Step.{after_reply}
 use Rattle.mf_core.specs.declared.history.Event.{Event}
 use Rattle.mf_core.specs.LegalHistory.{after}
-use Rattle.mf_core.specs.NextFound.{next_found}
+use Rattle.mf_core.specs.NextFound.{IsNextFound}
 use Rattle.mf_core.specs.RunView.{RunView}
 use Rattle.mf_step.specs.Passed.{passed}
 use Rattle.mf_flow.specs.declared.following.Flow.{Flow}
@@ -58,7 +58,8 @@ returns-in_ok-commit-in-Done-clause-flows c =
     let asked_is =
     c.asked_of-asked.ensures ∙ ap (λ (said : Reply). after_reply said None (option_zip outline.found.target request)) said_is
     ∙ done_asked s run e c.in-Done.task c.in-Done.number c.in-Done.reply state task line outline.found c.in-Done.is c.requires.may c.state-state.ensures c.name_of-name.ensures next_is
-    (λ tail. c.outline_of-outline.ensures.found (outline_tail tail) ∙ ap (λ (child : Option (List ℕ)). found_of state task child line.call) c.child_name.ensures) in
+    (λ tail. subst (λ (child : Option (List ℕ)). AreFound state task child line.call outline.found) c.child_name.ensures
+    (c.outline_of-outline.ensures.found (outline_tail tail))) in
     on_ok_weaker c.settle_each.result (λ settled.
     becomes_along (λ (f new : Flow). new ≡ flow_moved state.objects (map (item_of state.objects) checks) f)
     (λ (f new : Flow). IsKept state'.objects (flow_settled next state'.objects caller asked f) new)
@@ -98,10 +99,11 @@ commit-requires-clause-found c =
     let state = c.state-state.result.now in
     let task = c.name_of-name.result.now in
     let line = c.line_at-line.result.now in
-    λ done. subst (λ (x : Script). next_found x run c.in-Done.task ≡ Some c.outline_of-outline.result.found) (sym c.requires.script)
+    λ done. subst (λ (x : Script). IsNextFound x run c.in-Done.task c.outline_of-outline.result.found) (sym c.requires.script)
     (done_found s run e c.in-Done.task c.in-Done.number c.in-Done.reply state task line c.outline_of-outline.result.found c.in-Done.is c.requires.may
     c.state-state.ensures c.name_of-name.ensures
     (done_line s run e c.in-Done.task c.in-Done.number c.in-Done.reply line c.in-Done.is c.requires.may c.line_at-line.ensures)
-    (λ tail. c.outline_of-outline.ensures.found
+    (λ tail. subst (λ (child : Option (List ℕ)). AreFound state task child line.call c.outline_of-outline.result.found) c.child_name.ensures
+    (c.outline_of-outline.ensures.found
     (ap (λ (p : Plan). p.tail) c.outline_of-outline.ensures.plan ∙ ap (λ (child : Option (List ℕ)). (plan_of state task child line.call).tail) c.child_name.ensures ∙ tail)
-    ∙ ap (λ (child : Option (List ℕ)). found_of state task child line.call) c.child_name.ensures) done)
+    )) done)
