@@ -13,7 +13,7 @@ use Rattle.mf_script.specs.declared.rows.Place.TheVariants as place
 use Rattle.mf_script.specs.Readers.{Read, and_then, unless}
 use Rattle.mf_script.specs.Gives.{Fails, Gives}
 use Rattle.mf_script.specs.Lines.{line_words}
-use Rattle.mf_script.specs.Grammar.{State, with_list, line_in}
+use Rattle.mf_script.specs.Grammar.{Reading, with_list, line_in}
 use Rattle.mf_script.proofs.rows.line_row.Goals as goal
 
 -- the line, and how many lines list the rules with it
@@ -21,10 +21,10 @@ abbrev next : ℕ → ℕ → List ℕ → Words → Read (Line × ℕ)
 next count lists w ws =
     and_then (line_words w ws) (λ line. and_then (and_then (unless TooMany (nat_lt count LINE_LIMIT)) (λ u. with_list line.call lists)) (λ n. Ok (line, n)))
 
-abbrev added : Script → Task → Line → ℕ → State
+abbrev added : Script → Task → Line → ℕ → Reading
 added s t line n = (s, place.Task (record t { lines = t.lines ++ line ∷ [] }) n)
 
-abbrev adds : Script → Task → Line × ℕ → Read State
+abbrev adds : Script → Task → Line × ℕ → Read Reading
 adds s t found = Ok (added s t found.0 found.1)
 
 paired : {A C : Type 0} (a : A) (read : Read ℕ) (k : A → ℕ → C) (more : A × ℕ → Read C) → ((x : A) (n : ℕ) → more (x, n) ≡ Ok (k x n)) → and_then read (λ n. Ok (k a n)) ≡ and_then (and_then {B = A × ℕ} read (λ n. Ok (a, n))) more
@@ -49,7 +49,7 @@ row_added : (s : Script) (t : Task) (lists : ℕ) (w : List ℕ) (ws : Words) (l
 unfolding and_then
 row_added s t lists w ws line n (Ok p) is ok err =
     line_in_next s t lists w ws ∙ ap (λ (r : Read (Line × ℕ)). and_then r (adds s t)) is ∙ ap (λ (q : Place). Ok (s, q)) (sym ok)
-row_added s t lists w ws line n (Err refusal) is ok err = subst (λ (e : Refusal). Fails {Y = State} e (line_in s t lists w ws)) (sym err) tt
+row_added s t lists w ws line n (Err refusal) is ok err = subst (λ (e : Refusal). Fails {Y = Reading} e (line_in s t lists w ws)) (sym err) tt
 
 row_refused : (s : Script) (t : Task) (lists : ℕ) (w : List ℕ) (ws : Words) (refusal : Refusal) → Fails refusal (next (length t.lines) lists w ws) → Fails refusal (line_in s t lists w ws)
 unfolding and_then
