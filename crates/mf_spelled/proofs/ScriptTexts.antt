@@ -143,10 +143,7 @@ line_row line formed spellable = by_child line.child formed.child where
 
 boot_row : (m : Module) → IsRow (boot_pieces m)
 boot_row modules.Biba = (refl, refl, (refl, tt))
-boot_row modules.Mls = (refl, refl, (refl, tt))
-boot_row modules.Partition = (refl, refl, (refl, tt))
-boot_row modules.Bsdextended = (refl, refl, (refl, tt))
-boot_row modules.Priority = (refl, refl, (refl, tt))
+boot_row other = (refl, refl, (refl, tt))
 
 kind_word : (dir : Bool) → is_word (if dir then codes "dir" else codes "reg") ≡ true
 kind_word true = refl
