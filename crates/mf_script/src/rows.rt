@@ -1,23 +1,18 @@
 //! Which line may stand where, and what it adds to the script.
 #![tactic(auto, unfolding(crate::specs::Readers::and_then))]
 
-ghost use Rattle.std.specs.Prelude.{◌≡◌, ◌++◌, ◌∷◌, [], Ok, IfOk, IfErr, nat_lt};
-ghost use Rattle.mf_calls.specs.declared.limits.TheConstants.{LINE_LIMIT};
-ghost use Rattle.mf_script.specs.declared.error.ScriptFault.TheVariants.{TooMany};
-ghost use Rattle.mf_script.specs.declared.refusal.Refusal.TheVariants.{Memory};
-ghost use Rattle.mf_script.specs.Readers.{and_then, unless};
-ghost use Rattle.mf_script.specs.Lines.{line_words};
+ghost use Rattle.std.specs.Prelude.{◌≡◌, ◌++◌, ◌∷◌, []};
 ghost use Rattle.mf_script.specs.Gives.{Gives};
 ghost use Rattle.mf_script.specs.declared.rows.Place.TheVariants as place;
-ghost use Rattle.mf_script.specs.Grammar.{booted_after, boot_in, file_in, task_in, with_list, line_in, step_in, nothing_behind, behind_tasks, behind_files, behind_boots, in_task, in_steps, row_in, words_line};
+ghost use Rattle.mf_script.specs.Grammar.{booted_after, boot_in, file_in, task_in, line_in, step_in, nothing_behind, behind_tasks, behind_files, behind_boots, in_task, in_steps, row_in, words_line};
 
 use crate::error::ScriptFault;
 use crate::refusal::{Refusal, faulty};
 use crate::{Words, judging, lines, parts};
-use mf_calls::{Call, LINE_LIMIT, Line, STEP_LIMIT, Script, Task};
+use mf_calls::{LINE_LIMIT, STEP_LIMIT, Script, Task};
 use mf_errno::Module;
 use mf_words::is_comment;
-use std::alloc::{AllocError, Global};
+use std::alloc::Global;
 
 /// Where the next line stands. Among tasks it is known how many of their lines list the rules.
 #[derive(Drop)]
@@ -83,60 +78,25 @@ fn task_row(
     Ok(Place::Task(task, lists))
 }
 
-/// How many lines list the rules with this call, where the task has so many lines before it.
-fn with_room(count: usize, call: &Call, lists: usize) -> Result<usize, Refusal>
-    ensures { Gives (λ n. n) result (and_then (unless TooMany (nat_lt count LINE_LIMIT)) (λ u. with_list call.now lists)) }
-{
-    if count >= LINE_LIMIT {
-        return Err(faulty(ScriptFault::TooMany));
-    }
-    judging::with_list(call, lists)
-}
-
-/// The line by its first word, and how many lines list the rules with it. No task is owned over a refusal here.
-fn next_line(
-    alloc: Global,
-    count: usize,
-    lists: usize,
-    first: &str,
-    words: &mut Words,
-) -> Result<(Line, usize), Refusal>
-    ensures { Gives (λ found. found) result (and_then (line_words first.now words.old)
-        (λ line. and_then (and_then (unless TooMany (nat_lt count LINE_LIMIT)) (λ u. with_list line.call lists)) (λ n. Ok (line, n)))) }
-{
-    let line = lines::line_words(alloc, first, words)?;
-    match with_room(count, &line.call, lists) {
-        Ok(lists) => Ok((line, lists)),
-        Err(refusal) => parts::refused(line, refusal),
-    }
-}
-
-/// The place inside the task with one line more.
-fn longer(mut task: Task, line: Line, lists: usize) -> Result<Place, Refusal>
-    ensures ok { IfOk result (λ p. p ≡ place.Task (record task { lines = task.lines ++ line ∷ [] }) lists) }
-    ensures err { IfErr result (λ refusal. refusal ≡ Memory) }
-{
-    match task.lines.push(line) {
-        Ok(()) => Ok(Place::Task(task, lists)),
-        Err(AllocError) => parts::refused(task, Refusal::Memory),
-    }
-}
-
 /// Takes a line of the task, by its first word.
+#[tactic(auto, unfolding(crate::specs::Grammar::line_in, crate::specs::Readers::and_then))]
 fn line_row(
     alloc: Global,
     script: &Script,
-    task: Task,
+    mut task: Task,
     lists: usize,
     first: &str,
     words: &mut Words,
 ) -> Result<Place, Refusal>
     ensures { Gives (λ p. (script.now, p)) result (line_in script.now task lists first.now words.old) }
 {
-    match next_line(alloc, task.lines.len(), lists, first, words) {
-        Ok((line, lists)) => longer(task, line, lists),
-        Err(refusal) => parts::refused(task, refusal),
+    let line = lines::line_words(alloc, first, words)?;
+    if task.lines.len() >= LINE_LIMIT {
+        return Err(faulty(ScriptFault::TooMany));
     }
+    let lists = judging::with_list(&line.call, lists)?;
+    task.lines.push(line)?;
+    Ok(Place::Task(task, lists))
 }
 
 /// Takes a step, by its first word.
