@@ -27,6 +27,7 @@ PROGRAM = "mf_top"
 CALL = "macsim"
 OTHERS = "other calls"
 DOCUMENT = ROOT / "docs" / "THEOREM.md"
+ORDER = "| What one wants to believe | Crates | Lines | Minutes |"
 SECTION = "## The reading list"
 TOTAL = "Together "
 
@@ -50,6 +51,24 @@ SYNTAX = {
     "mf_load Summary": "the summary of a load as a text",
     "mf_hist": "histories as texts",
     "mf_top Commands": "the program's words",
+}
+
+
+# How many lines of definitions are read in a minute, where each is to be understood.
+LINES_A_MINUTE = 10
+
+# What one may want to believe of the headline, from its clause down, each with the crates whose definitions say it.
+PARTS = {
+    "what was read and what was written": ["mf_top", "mf_io"],
+    "which histories are legal and complete": ["mf_core"],
+    "what one call does: its checks, its reply, its effect": ["mf_step", "mf_plan"],
+    "what the policies answer, and when they are listed": ["mf_policy", "mf_list", "mf_compose", "mf_item", "mf_errno"],
+    "what a call works on: live entities, credentials, labels": ["mf_objects", "mf_cred", "mf_elem"],
+    "which bytes are a script": ["mf_calls", "mf_spelling", "mf_words", "mf_text"],
+    "what label texts and rules say": ["mf_labeltext", "mf_rule"],
+    "that each label slot is made and ended once": ["mf_lifetimes"],
+    "that each source dominates": ["mf_flow"],
+    "what the text of a history is": ["mf_hist"],
 }
 
 
@@ -156,6 +175,25 @@ class Added:
         return f"{count} definitions, {meaning + syntax} lines, of them meaning {meaning}, syntax {syntax}; {declared} types and constants"
 
 
+# The reading order
+
+
+def order_row(words, crates, lines):
+    return f"| {words} | {', '.join(crates)} | {lines:,} | {-(-lines // LINES_A_MINUTE)} |"
+
+
+def order_rows(reached):
+    """What one may want to believe, part by part and clause by clause, each with its lines and the minutes that they take."""
+    headline = next(iter(reached.added.values()))
+    left = {file.crate for file in headline.files} - {crate for crates in PARTS.values() for crate in crates}
+    if left:
+        raise definitions.Unreadable(f"no part of the headline has {', '.join(sorted(left))}")
+    for words, crates in PARTS.items():
+        yield order_row(words, crates, sum(headline.lines(file) for file in headline.files if file.crate in crates))
+    for name, added in reached.added.items():
+        yield order_row(f"**{name}**", [], sum(map(added.lines, added.files)))
+
+
 # The reading list
 
 
@@ -185,13 +223,15 @@ def total(reached):
 
 
 class ReadingList:
-    """The rows of the list, clause by clause one for each crate, and the line of the total, as the document has them."""
+    """The rows of the order and of the list, in this clause by clause one for each crate, and the line of the total, as the document has them."""
 
     def __init__(self):
         self.lines = DOCUMENT.read_text().splitlines()
         section = self.lines.index(SECTION)
         self.places = [at for at, line in enumerate(self.lines) if at > section and re.match(r"\| (mf_|\*\*)", line)]
         self.total_place = next(at for at, line in enumerate(self.lines) if at > section and line.startswith(TOTAL))
+        head = self.lines.index(ORDER)
+        self.order = slice(head + 2, next(at for at in range(head, section) if not self.lines[at].startswith("|")))
         self.rows = [self.lines[at] for at in self.places]
         self.words = dict(self.words_of_rows())
 
@@ -217,12 +257,15 @@ class ReadingList:
         yield from (f"no words: {line}" for line in wanted if line.endswith("| ? |"))
         if sorted(wanted) == sorted(self.rows) and wanted != self.rows:
             yield "the rows are not in the order " + ", ".join(line.split()[1] for line in wanted)
+        if self.lines[self.order] != list(order_rows(reached)):
+            yield "wanted as the reading order:\n" + "\n".join(order_rows(reached))
         if self.lines[self.total_place] != total(reached):
             yield f"wanted: {total(reached)}"
 
     def write(self, reached):
         self.lines[self.total_place] = total(reached)
         self.lines[self.places[0] : self.places[-1] + 1] = list(self.wanted_rows(reached))
+        self.lines[self.order] = order_rows(reached)
         DOCUMENT.write_text("\n".join(self.lines) + "\n")
 
 

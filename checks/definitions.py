@@ -205,7 +205,8 @@ class Definition:
             self.pieces.append(text)
 
     def constructors(self):
-        return re.findall(rf"(?m)^ +({NAME}) +:", self.pieces[0]) if self.kind == "data" else []
+        lines = re.findall(rf"(?m)^ +({NAME}(?: {NAME})*) +:", self.pieces[0]) if self.kind == "data" else []
+        return [name for line in lines for name in line.split()]
 
     def nodes(self, names):
         """What is named in the signature and in the clauses."""

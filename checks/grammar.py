@@ -32,7 +32,7 @@ PIECES = [
 ]
 
 # What a word of a call may be, and the names that the manual has for it.
-WORDS = {"IsName": ("NAME", "FROM", "TO"), "IsProcessName": ("PROCESS",), "IsWord": ("LABEL", "MODULE")}
+WORDS = {"IsName": ("NAME", "FROM", "TO"), "is_process_name": ("PROCESS",), "IsWord": ("LABEL", "MODULE")}
 
 
 def pieces_of(name):
@@ -67,7 +67,7 @@ def forms():
     for call, variables, body in re.findall(r"(?m)^call_pieces \(?call\.(\w+)([ \w]*)\)? = (.*)", SPELLING):
         formed = re.search(rf"(?m)^IsFormedCall \(?call\.{call}([ \w]*)\)? = (.*)", WELL_FORMED)
         positions = dict(zip(variables.split(), formed[1].split()))
-        predicates = {variable: predicate for predicate, variable in re.findall(r"(Is\w+) (\w+)", formed[2])}
+        predicates = {variable: predicate for predicate, variable in re.findall(r"([Ii]s_?\w+) (\w+)", formed[2])}
         words = []
         for piece in body.removesuffix(" ∷ []").split(" ∷ "):
             word = re.fullmatch(r"Word (\w+)", piece)

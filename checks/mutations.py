@@ -2,7 +2,7 @@
 limit and one past it. Each run ends with 0 or 3 and tells nothing on the standard error, within a
 second. The line that a fault names is the first that is wrong, by the program itself: the lines
 before it are a script, with `end` where a task or the steps are open, and no script begins with
-these and it. A line for each failure, then the counts.
+these and it. A line for each failure, with the smallest script that still fails, then the counts.
 
     checks/mutations.sh [--scripts N] [--all]
 """
@@ -15,6 +15,7 @@ from judging import ROOT, told_of
 from limits import limits
 from running import Program
 from scripts import WORKED
+from smallest import smallest
 
 SEED = 37
 ALL_SCRIPTS = 20_000
@@ -119,6 +120,11 @@ class Judge:
             return fault.decode()
         return self.fault_of_line(text, line, fault) if status == 3 else None
 
+    def smallest_of(self, text):
+        """The fewest lines of a failing text that fail too."""
+        other = Judge(self.program)
+        return smallest(text, lambda shorter: other.fault_in(shorter) is not None)
+
     def fault_of_line(self, text, line, fault):
         lines = text.split(b"\n")
         before = b"".join(part + b"\n" for part in lines[: line - 1])
@@ -143,12 +149,14 @@ def main():
     passed = failed = 0
     count = ALL_SCRIPTS if given.all else given.scripts
     for name, text, wanted in [*limits(), *mutations(count)]:
-        fault = judge.fault_in(text)
-        if fault is None and wanted not in (None, judge.end_of(text)[2]):
+        fault, shown = judge.fault_in(text), text[:400]
+        if fault is not None:
+            shown = judge.smallest_of(text)
+        elif wanted not in (None, judge.end_of(text)[2]):
             fault = f"{judge.end_of(text)} in place of {wanted!r}"
         passed, failed = passed + (fault is None), failed + (fault is not None)
         if fault is not None:
-            print(f"mutations: {name}: {fault}: {text[:400]!r}")
+            print(f"mutations: {name}: {fault}: {shown!r}")
     print(f"{passed + failed} scripts{told_of(judge.statuses)}")
     print(f"{judge.runs} runs, of which the longest took {judge.longest:.2f} s")
     print(f"{passed} passed, {failed} failed")

@@ -6,7 +6,7 @@ ghost use Rattle.mf_policy.specs.declared.registration.TheConstants.{MOST_LISTED
 ghost use Rattle.mf_calls.specs.Tasks.{is_change};
 ghost use Rattle.mf_calls.specs.WellFormed.{IsFormedLine, IsName};
 ghost use Rattle.mf_plan.specs.declared.plan.Tail.TheVariants.{Do};
-ghost use Rattle.mf_plan.specs.Found.{found_of};
+ghost use Rattle.mf_plan.specs.Found.{AreFound};
 ghost use Rattle.mf_plan.specs.Plan.{plan_of};
 
 use crate::scripts::{only_line, script_of};
@@ -107,13 +107,13 @@ fn completed(
     state: &mut State,
     task: &str,
     line: &Line,
-    found: Found,
+    found: &Found,
 ) -> Result<Reply, AllocError>
     requires task { IsName task.now }
     requires line { IsFormedLine line.now }
     requires entry { is_change line.now.call ≡ false }
     requires proceeds { (plan_of state.old task.now line.now.child line.now.call).tail ≡ Do }
-    requires found { found ≡ found_of state.old task.now line.now.child line.now.call }
+    requires found { AreFound state.old task.now line.now.child line.now.call found.now }
     requires few { length state.old.specs ≤ MOST_LISTED }
     requires next { state.old.objects.next < ID_LIMIT }
 {
@@ -143,7 +143,7 @@ fn reply_of(
         Some(refusal) => Ok(refusal),
         None => {
             assert!(rt; plan.tail() == Tail::Do && !line.call.is_change());
-            completed(alloc, &mut machine.state, task, line, found)
+            completed(alloc, &mut machine.state, task, line, &found)
         }
     }
 }

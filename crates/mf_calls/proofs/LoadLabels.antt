@@ -1,30 +1,20 @@
 -- What the lines of a load ask of mac_biba, which is booted.
-use Rattle.std.proofs.Common.{◌≡◌, ℕ, zero, suc, ◌≤◌, ◌<◌, ◌+◌, ◌*◌, ◌^◌, true, [], ◌∷◌, slice_index, refl, lit<}
+use Rattle.std.proofs.Common.{◌≡◌, ℕ, ◌≤◌, true, [], ◌∷◌, refl, sym, subst}
 use Rattle.std.specs.FinSet as set
-use Rattle.std.specs.FinSet.{FinSet}
-use Rattle.std.specs.Ordering.{nat_cmp}
 use Rattle.mf_errno.specs.declared.module.Module.TheVariants.{Biba}
-use Rattle.mf_elem.specs.Comps.{words_of, comps_of}
+use Rattle.mf_elem.specs.Comps.{no_comps}
 use Rattle.mf_elem.specs.Bounds.{AreWords, IsElement}
 use Rattle.mf_elem.specs.declared.elem.Elem.{Elem}
 use Rattle.mf_elem.specs.declared.elem.Elem.TheVariants.{Equal}
-use Rattle.mf_elem.proofs.CompsLaws.{bits_with}
+use Rattle.mf_elem.proofs.CompsLaws.{none_is, set_are_words}
 use Rattle.mf_item.specs.declared.view.Kind.{Kind}
 use Rattle.mf_item.specs.declared.view.Kind.TheVariants as kinds
 use Rattle.mf_calls.specs.WellFormed.{IsAsked}
 use Rattle.mf_calls.specs.Boots.{may_ask_for}
 use Rattle.mf_calls.specs.Generated.{asked, plain_grade}
 
-words_fit : (s : FinSet nat_cmp) (k : ℕ) → slice_index (words_of s) k < 2 ^ 64
-words_fit s zero = bits_with (λ i. set.contains s (64 * 0 + i + 1)) 64
-words_fit s (suc zero) = bits_with (λ i. set.contains s (64 * 1 + i + 1)) 64
-words_fit s (suc (suc zero)) = bits_with (λ i. set.contains s (64 * 2 + i + 1)) 64
-words_fit s (suc (suc (suc zero))) = bits_with (λ i. set.contains s (64 * 3 + i + 1)) 64
-words_fit s (suc (suc (suc (suc k)))) = lit< tt
-
-no_words : AreWords (comps_of set.empty).words
-unfolding comps_of
-no_words = record { four = refl; fit = words_fit set.empty }
+no_words : AreWords no_comps.words
+no_words = subst (λ comps. AreWords comps.words) (sym none_is) (set_are_words set.empty)
 
 -- a request of an element alone
 is_asked : (kind : Kind) (e : Elem) → IsElement e → may_ask_for kind (Biba ∷ []) (asked e) ≡ true → IsAsked kind (Biba ∷ []) (asked e)
@@ -37,7 +27,7 @@ grade_allowed kinds.Pipe grade = refl
 grade_allowed kinds.Socket grade = refl
 
 pub grade_asked : (kind : Kind) (grade : ℕ) → grade ≤ 65535 → IsAsked kind (Biba ∷ []) (asked (plain_grade grade))
-grade_asked kind grade fits = is_asked kind (plain_grade grade) (record { fits = fits; are_words = no_words }) (grade_allowed kind grade)
+grade_asked kind grade fits = is_asked kind (plain_grade grade) (fits, no_words) (grade_allowed kind grade)
 
 equal_allowed : (kind : Kind) → may_ask_for kind (Biba ∷ []) (asked Equal) ≡ true
 equal_allowed kinds.Process = refl

@@ -1,6 +1,8 @@
 -- The script of a load: its tasks and lines by their numbers, and that it is well formed.
 use Rattle.std.proofs.Common.{◌≡◌, ◌≢◌, ℕ, zero, suc, ◌<◌, ◌≤◌, ◌+◌, ◌/◌, ◌%◌, nat_eq, nat_lt, Bool, true, false, cond, ◌||◌, List, [], ◌∷◌, ◌++◌, Option, Some, None, option_map, unwrap_or, slice_get, length, get_or, length-append, append_assoc, refl, ap, sym, ◌∙◌, subst, arith, All, AllPairs}
+use Rattle.std.specs.Cmp.Lexicographic.{pointwise}
 use Rattle.std.specs.List.{list_any, sum_by}
+use Rattle.std.specs.Str.{bytes_eq}
 use Rattle.std.proofs.lemmas.Bool.Decides.{nat_tests}
 use Rattle.std.proofs.lemmas.Bool.{or_right}
 use Rattle.std.proofs.lemmas.List.Elements.{All-nil, All-cons, All-push}
@@ -13,11 +15,11 @@ use Rattle.mf_calls.specs.declared.script.Line.{Line}
 use Rattle.mf_calls.specs.declared.script.Task.{Task}
 use Rattle.mf_calls.specs.declared.script.FileLine.{FileLine}
 use Rattle.mf_calls.specs.Names.{is_component}
-use Rattle.mf_calls.specs.Paths.{directory_of, has_directory, is_directory_at, is_same_path}
+use Rattle.mf_calls.specs.Paths.{directory_of, has_directory, is_directory_at}
 use Rattle.mf_item.specs.declared.view.Kind.TheVariants as kinds
 use Rattle.mf_calls.specs.WellFormed.{AreBoots, rule_list_count, IsPath, IsText, IsFormedFile, AreInDirectories, IsFormedCall, IsFormedLine, IsFormedTask, IsWellFormed}
 use Rattle.mf_calls.specs.Tasks.{lines_of, lists_rules, name_of}
-use Rattle.mf_calls.specs.Generated.{LoadCall, load_call, drawn, drawn_at, number_at, call_of, load_line, load_lines, load_directory, load_file, load_files, load_task, load_tasks, task_grade, is_even, task_name, directory_name, file_name, scratch_name, directory_path, path_in, generated}
+use Rattle.mf_calls.specs.Generated.{LoadCall, load_call, drawn, drawn_at, number_at, call_of, load_line, load_lines, load_directory, load_file, load_files, load_task, load_tasks, task_grade, is_even, task_name, directory_name, file_name, scratch_name, directory_path, path_under, generated}
 use Rattle.mf_calls.specs.Generated.{LoadCall as load}
 use Rattle.mf_calls.proofs.Directories.{same_path, last_in_directory}
 use Rattle.mf_calls.proofs.LoadLabels.{grade_asked, equal_asked}
@@ -174,7 +176,7 @@ directory_is_path : (k : ℕ) → k < 100 → IsPath (directory_path k)
 directory_is_path k few =
     record { few = omega arith; each = All-cons (λ name. is_component name ≡ true) (directory_name k) [] (directory_component k few) (All-nil _) }
 
-is_path_in : (k : ℕ) (name : List ℕ) → k < 100 → is_component name ≡ true → IsPath (path_in k name)
+is_path_in : (k : ℕ) (name : List ℕ) → k < 100 → is_component name ≡ true → IsPath (path_under k name)
 is_path_in k name few is =
     record {
       few = omega arith;
@@ -318,13 +320,13 @@ all_by P Q xs gives all i d within = gives (get_or xs i d) (all i d within)
 in_root : (files : List FileLine) (k : ℕ) → has_directory files (directory_of (directory_path k)) ≡ true
 in_root files k = refl
 
-in_directory : (files : List FileLine) (k : ℕ) → has_directory (files ++ load_directory k ∷ []) (directory_of (path_in k file_name)) ≡ true
+in_directory : (files : List FileLine) (k : ℕ) → has_directory (files ++ load_directory k ∷ []) (directory_of (path_under k file_name)) ≡ true
 in_directory files k =
-    let same : is_same_path (directory_path k) (directory_path k) ≡ true = same_path (directory_path k) in
+    let same : pointwise bytes_eq (directory_path k) (directory_path k) ≡ true = same_path (directory_path k) in
     list_any-append (is_directory_at (directory_path k)) files (load_directory k ∷ [])
     ∙ or_right (list_any (is_directory_at (directory_path k)) files) _ (ap (λ (b : Bool). b || false) same)
 
-longer_path : (k : ℕ) → directory_path k ≢ path_in k file_name
+longer_path : (k : ℕ) → directory_path k ≢ path_under k file_name
 longer_path k same = let lengths : 1 ≡ 2 = ap (λ (p : List (List ℕ)). length p) same in omega (arith, lengths)
 
 loaded_more : (k : ℕ) (files : List FileLine) → k < 16 → AreLoaded k files → AreLoaded (suc k) ((files ++ load_directory k ∷ []) ++ load_file k ∷ [])
@@ -335,8 +337,8 @@ loaded_more k files few are =
       paths = all_pairs_push (λ (f g : FileLine). f.path ≢ g.path) (files ++ load_directory k ∷ []) (load_file k)
           (all_pairs_push (λ (f g : FileLine). f.path ≢ g.path) files (load_directory k) are.paths
           (all_by (IsBelow k) (λ (f : FileLine). f.path ≢ directory_path k) files (λ f below. other_path k f [] (omega arith) below) are.below))
-          (All-push (λ (f : FileLine). f.path ≢ path_in k file_name) files (load_directory k)
-          (all_by (IsBelow k) (λ (f : FileLine). f.path ≢ path_in k file_name) files (λ f below. other_path k f (file_name ∷ []) (omega arith) below) are.below)
+          (All-push (λ (f : FileLine). f.path ≢ path_under k file_name) files (load_directory k)
+          (all_by (IsBelow k) (λ (f : FileLine). f.path ≢ path_under k file_name) files (λ f below. other_path k f (file_name ∷ []) (omega arith) below) are.below)
           (longer_path k));
       each = All-push (IsFormedFile (Biba ∷ [])) (files ++ load_directory k ∷ []) (load_file k)
           (All-push (IsFormedFile (Biba ∷ [])) files (load_directory k) are.each (directory_formed k (omega arith))) (file_formed k (omega arith));

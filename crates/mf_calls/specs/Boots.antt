@@ -8,7 +8,6 @@ use Rattle.mf_elem.specs.declared.label.Request.{Request}
 use Rattle.mf_item.specs.declared.view.Kind.{Kind}
 use Rattle.mf_policy.specs.Modules.{is_named, may_ask}
 
--- one of the modules is this one
 abbrev pub is_booted : List Module → Module → Bool
 is_booted boots m = list_any (same_module m) boots
 
@@ -16,7 +15,6 @@ is_booted boots m = list_any (same_module m) boots
 abbrev pub may_name : List Module → Request → Module → Bool
 may_name boots request m = not (is_named m request) || is_booted boots m
 
--- each policy that the request names is booted
 abbrev pub names_booted : List Module → Request → Bool
 names_booted boots request = list_all (may_name boots request) all_modules && not request.other
 

@@ -7,7 +7,7 @@ use Rattle.mf_errno.specs.declared.module.Module.TheVariants.{Biba}
 use Rattle.mf_elem.specs.declared.elem.Elem.{Elem}
 use Rattle.mf_elem.specs.declared.elem.Elem.TheVariants.{Equal, Grade}
 use Rattle.mf_elem.specs.declared.label.Request.{Request}
-use Rattle.mf_elem.specs.Comps.{comps_of}
+use Rattle.mf_elem.specs.Comps.{no_comps}
 use Rattle.mf_cred.specs.declared.cred.Cred.{Cred}
 use Rattle.mf_cred.specs.declared.cred.TheConstants.{FILE_MODE, DIRECTORY_MODE}
 use Rattle.mf_calls.specs.declared.script.Call.{Call}
@@ -37,19 +37,19 @@ scratch_name j = codes "g" ++ decimal j
 abbrev pub directory_path : ℕ → List (List ℕ)
 directory_path k = directory_name k ∷ []
 
-abbrev pub path_in : ℕ → List ℕ → List (List ℕ)
-path_in k name = directory_name k ∷ name ∷ []
+abbrev pub path_under : ℕ → List ℕ → List (List ℕ)
+path_under k name = directory_name k ∷ name ∷ []
 
 -- Lines
 
 -- the number after this one in the sequence
-abbrev pub next_number : ℕ → ℕ
-next_number x = (1103515245 * x + 12345) % 2147483648
+abbrev pub number_after : ℕ → ℕ
+number_after x = (1103515245 * x + 12345) % 2147483648
 
 -- the number of a task before its first line, and after so many
 unfoldable pub number_at : ℕ → ℕ → ℕ
 number_at k zero = k + 1
-number_at k (suc i) = next_number (number_at k i)
+number_at k (suc i) = number_after (number_at k i)
 
 -- what a line of the load does, in the directory of its task
 pub data LoadCall : Type 0 where
@@ -74,12 +74,12 @@ unfoldable pub drawn : ℕ → LoadCall
 drawn x = load_call (x / 65536 % 6) (x / 65536 / 6 % 4)
 
 abbrev pub call_of : ℕ → LoadCall → Call
-call_of k Write = call.Write (path_in k file_name) (codes "x")
-call_of k Read = call.Read (path_in k file_name)
-call_of k Stat = call.Stat (path_in k file_name)
+call_of k Write = call.Write (path_under k file_name) (codes "x")
+call_of k Read = call.Read (path_under k file_name)
+call_of k Stat = call.Stat (path_under k file_name)
 call_of k Readdir = call.Readdir (directory_path k)
-call_of k (Create j) = call.Create (path_in k (scratch_name j))
-call_of k (Unlink j) = call.Unlink (path_in k (scratch_name j))
+call_of k (Create j) = call.Create (path_under k (scratch_name j))
+call_of k (Unlink j) = call.Unlink (path_under k (scratch_name j))
 
 -- what the line of this index does, from 0
 abbrev pub drawn_at : ℕ → ℕ → LoadCall
@@ -97,7 +97,7 @@ load_lines k (suc i) = load_lines k i ++ load_line k (drawn_at k i) ∷ []
 
 -- an element without compartments
 abbrev pub plain_grade : ℕ → Elem
-plain_grade grade = Grade grade (comps_of set.empty)
+plain_grade grade = Grade grade no_comps
 
 -- what a label text `biba/..` with this element asks for
 abbrev pub asked : Elem → Request
@@ -107,7 +107,7 @@ abbrev pub load_directory : ℕ → FileLine
 load_directory k = record { path = directory_path k; file = record { uid = 0; gid = 0; mode = DIRECTORY_MODE; dir = true }; label = asked Equal; text = [] }
 
 abbrev pub load_file : ℕ → FileLine
-load_file k = record { path = path_in k file_name; file = record { uid = 0; gid = 0; mode = FILE_MODE; dir = false }; label = asked (plain_grade 15); text = [] }
+load_file k = record { path = path_under k file_name; file = record { uid = 0; gid = 0; mode = FILE_MODE; dir = false }; label = asked (plain_grade 15); text = [] }
 
 -- the directory and the file of each of the first tasks
 unfoldable pub load_files : ℕ → List FileLine

@@ -2,24 +2,18 @@
 use Rattle.std.specs.Prelude.{ℕ, Bool, true, false, not, ◌&&◌, ◌||◌, ◌==◌, nat_le, List, [], ◌∷◌, length, codes}
 use Rattle.std.specs.List.{list_all, slice_split}
 use Rattle.std.specs.Str.{bytes_eq}
-use Rattle.std.specs.Char.{is_ascii_alphanumeric}
+use Rattle.std.specs.Char.{is_ascii_alphanumeric, char_set_contains}
 use Rattle.mf_names.specs.declared.limits.TheConstants.{NAME_LIMIT}
-
-abbrev pub dash : ℕ
-dash = 45
 
 abbrev pub dot : ℕ
 dot = 46
-
-abbrev pub underscore : ℕ
-underscore = 95
 
 abbrev pub is_some_text : List ℕ → Bool
 is_some_text [] = false
 is_some_text (b ∷ bs) = true
 
 abbrev pub is_name_byte : ℕ → Bool
-is_name_byte b = is_ascii_alphanumeric b || b == underscore || b == dash
+is_name_byte b = is_ascii_alphanumeric b || char_set_contains (codes "_-") b
 
 -- a name is 1 to 32 letters, digits, `_` and `-`
 abbrev pub is_name : List ℕ → Bool

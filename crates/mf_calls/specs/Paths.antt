@@ -1,15 +1,9 @@
 -- Paths as lists of components, and the directories that files stand in, by docs/MANUAL.md (THE SCRIPT).
 use Rattle.std.specs.Prelude.{ℕ, Bool, true, false, ◌&&◌, ◌||◌, ◌-◌, List, [], ◌∷◌, length, take}
+use Rattle.std.specs.Cmp.Lexicographic.{pointwise}
 use Rattle.std.specs.List.{list_any}
 use Rattle.std.specs.Str.{bytes_eq}
 use Rattle.mf_calls.specs.declared.script.FileLine.{FileLine}
-
--- whether two paths have the same components
-abbrev pub is_same_path : List (List ℕ) → List (List ℕ) → Bool
-is_same_path [] [] = true
-is_same_path [] (w ∷ ws) = false
-is_same_path (v ∷ vs) [] = false
-is_same_path (v ∷ vs) (w ∷ ws) = bytes_eq v w && is_same_path vs ws
 
 abbrev pub is_root : List (List ℕ) → Bool
 is_root [] = true
@@ -21,7 +15,7 @@ directory_of path = take (length path - 1) path
 
 -- the line is that of the directory of this path
 abbrev pub is_directory_at : List (List ℕ) → FileLine → Bool
-is_directory_at path f = f.file.dir && is_same_path f.path path
+is_directory_at path f = f.file.dir && pointwise bytes_eq f.path path
 
 -- the root, or a directory of one of these lines
 abbrev pub has_directory : List FileLine → List (List ℕ) → Bool

@@ -29,7 +29,6 @@ is_change (call.UgidfwSet n rule) = true
 is_change (call.UgidfwRemove n) = true
 is_change other = false
 
--- whether the call lists the rules about files
 abbrev pub lists_rules : Call → Bool
 lists_rules call.UgidfwList = true
 lists_rules other = false

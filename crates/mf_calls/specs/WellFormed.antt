@@ -1,5 +1,5 @@
 -- Which scripts are well formed, by the grammar and the limits of docs/MANUAL.md (THE SCRIPT, LIMITS).
-use Rattle.std.specs.Prelude.{◌≡◌, ◌≢◌, ℕ, ◌<◌, ◌≤◌, true, IsTrue, List, [], ◌∷◌, ◌++◌, length, Option, Some, None, All, AllPairs}
+use Rattle.std.specs.Prelude.{◌≡◌, ◌≢◌, ℕ, ◌<◌, ◌≤◌, true, IsTrue, List, [], ◌∷◌, ◌++◌, length, IfSome, All, AllPairs}
 use Rattle.std.specs.List.{sum_by, count_by}
 use Rattle.std.specs.Char.{is_ascii_graphic}
 use Rattle.mf_errno.specs.declared.module.Module.{Module}
@@ -16,7 +16,6 @@ use Rattle.mf_calls.specs.declared.script.FileLine.{FileLine}
 use Rattle.mf_calls.specs.declared.script.Line.{Line}
 use Rattle.mf_calls.specs.declared.script.Task.{Task}
 use Rattle.mf_calls.specs.declared.script.Script.{Script}
-use Rattle.mf_calls.specs.declared.script.Step.{Step}
 use Rattle.mf_calls.specs.Names.{is_some_text, is_name, is_process_name, is_component}
 use Rattle.mf_calls.specs.Paths.{directory_of, has_directory}
 use Rattle.mf_calls.specs.Tasks.{lists_rules}
@@ -38,7 +37,6 @@ pub record IsAsked (kind : Kind) (boots : List Module) (request : Request) : Typ
 abbrev pub line_count : Task → ℕ
 line_count task = length task.lines
 
--- how many lines of a task list the rules
 abbrev pub rule_list_count : Task → ℕ
 rule_list_count task = count_by (λ line. lists_rules line.call) task.lines
 
@@ -58,7 +56,6 @@ pub record IsPath (path : List (List ℕ)) : Type 0 where
   pub few : length path ≤ PATH_LIMIT
   pub each : All (λ name. is_component name ≡ true) path
 
--- at most so many bytes
 pub record IsText (most : ℕ) (text : List ℕ) : Type 0 where
   pub few : length text ≤ most
   pub each : All (λ byte. byte < 256) text
@@ -92,18 +89,14 @@ pub record IsFormedCred (cred : Cred) : Type 0 where
 abbrev pub IsName : List ℕ → Type 0
 IsName name = is_name name ≡ true
 
--- the full name of a process
-abbrev pub IsProcessName : List ℕ → Type 0
-IsProcessName name = is_process_name name ≡ true
-
 -- what a call may name, and how much it may write
 abbrev pub IsFormedCall : Call → Type 0
 IsFormedCall (call.Fork child) = IsName child
 IsFormedCall call.Exit = Unit {0}
-IsFormedCall (call.See process) = IsProcessName process
-IsFormedCall (call.Signal process) = IsProcessName process
-IsFormedCall (call.Debug process) = IsProcessName process
-IsFormedCall (call.Sched process) = IsProcessName process
+IsFormedCall (call.See process) = is_process_name process ≡ true
+IsFormedCall (call.Signal process) = is_process_name process ≡ true
+IsFormedCall (call.Debug process) = is_process_name process ≡ true
+IsFormedCall (call.Sched process) = is_process_name process ≡ true
 IsFormedCall (call.Priv privilege) = Unit {0}
 IsFormedCall call.Getpmac = Unit {0}
 IsFormedCall (call.Setpmac label) = IsWord label
@@ -137,17 +130,10 @@ IsFormedCall (call.UgidfwAdd rule) = IsRule rule
 IsFormedCall (call.UgidfwSet n rule) = (n < MAX_RULES) × IsRule rule
 IsFormedCall (call.UgidfwRemove n) = n < MAX_RULES
 
--- no child, or one of such a name
-abbrev pub IsFormedChild : Option (List ℕ) → Type 0
-IsFormedChild None = Unit {0}
-IsFormedChild (Some child) = IsName child
-
--- a line that a task may have
 pub record IsFormedLine (line : Line) : Type 0 where
-  pub child : IsFormedChild line.child
+  pub child : IfSome line.child IsName
   pub call : IsFormedCall line.call
 
--- a task that a script may have with these modules booted
 pub record IsFormedTask (boots : List Module) (task : Task) : Type 0 where
   pub name : IsName task.name
   pub cred : IsFormedCred task.cred
@@ -155,12 +141,8 @@ pub record IsFormedTask (boots : List Module) (task : Task) : Type 0 where
   pub few : length task.lines ≤ LINE_LIMIT
   pub lines : All IsFormedLine task.lines
 
--- a step names a task, which the script need not have
-abbrev pub IsFormedStep : Step → Type 0
-IsFormedStep step = IsName step.task
-
--- The script boots what a boot line may name and is within the limits; paths of files differ, and so do names of tasks; each file,
--- each task and each step is one that a line may say, and each file stands in the root or in a directory of an earlier line.
+-- The script is within the limits; paths of files differ, and so do names of tasks; each file and each task is one that a line may say, each
+-- file stands in the root or in a directory of an earlier line, and a step names a task, which the script need not have.
 pub record IsWellFormed (s : Script) : Type 0 where
   pub boots : AreBoots s.boots
   pub files : length s.files ≤ FILE_LIMIT
@@ -172,4 +154,4 @@ pub record IsWellFormed (s : Script) : Type 0 where
   pub each_task : All (IsFormedTask s.boots) s.tasks
   pub rule_lists : sum_by rule_list_count s.tasks ≤ RULE_LIST_LIMIT
   pub steps : length s.steps ≤ STEP_LIMIT
-  pub each_step : All IsFormedStep s.steps
+  pub each_step : All (λ step. IsName step.task) s.steps

@@ -6,7 +6,7 @@ ghost use Rattle.mf_names.specs.Paths.{HasNoSlash};
 ghost use Rattle.mf_calls.specs.declared.limits.TheConstants.{LINE_LIMIT, TASK_LIMIT};
 ghost use Rattle.mf_calls.specs.declared.script.Call.TheVariants as calls;
 ghost use Rattle.mf_calls.specs.WellFormed.{IsWellFormed};
-ghost use Rattle.mf_calls.specs.Generated.{next_number, drawn, call_of, load_lines, load_directory, load_file, load_files, load_cred, load_task, load_tasks, asked, plain_grade, task_grade, task_name, file_name, scratch_name, directory_path, path_in, generated};
+ghost use Rattle.mf_calls.specs.Generated.{number_after, drawn, call_of, load_lines, load_directory, load_file, load_files, load_cred, load_task, load_tasks, asked, plain_grade, task_grade, task_name, file_name, scratch_name, directory_path, path_under, generated};
 
 use crate::script::{Call, FileLine, Line, Script, Task};
 use crate::{DIRECTORY_MODE, FILE_MODE};
@@ -156,7 +156,7 @@ fn load_lines(alloc: Global, task: u32, count: u32) -> Result<Listing<Line>, All
     let mut lines = Listing::new(alloc);
     let mut number = u64::from(task) + 1;
     for _line in 0..count {
-        number = next_number(number);
+        number = number_after(number);
         let call = load_call(alloc, task, number)?;
         lines.push(Line { child: None, call })?;
     }
@@ -164,9 +164,9 @@ fn load_lines(alloc: Global, task: u32, count: u32) -> Result<Listing<Line>, All
 }
 
 /// The number after this one in the sequence.
-fn next_number(number: u64) -> u64
+fn number_after(number: u64) -> u64
     requires { number < 2147483648 }
-    ensures value { result ≡ next_number number }
+    ensures value { result ≡ number_after number }
     ensures below { result < 2147483648 }
 {
     (1103515245 * number + 12345) % 2147483648
@@ -192,7 +192,7 @@ fn load_call(alloc: Global, task: u32, number: u64) -> Result<Call, AllocError>
 
 /// The call that appends one letter to the task's file.
 fn load_write(alloc: Global, task: u32) -> Result<Call, AllocError>
-    ensures { IfOk result (λ call. call ≡ calls.Write (path_in task file_name) (codes "x")) }
+    ensures { IfOk result (λ call. call ≡ calls.Write (path_under task file_name) (codes "x")) }
 {
     let path = file_path(alloc, task)?;
     let text = Bytes::copy_of(alloc, b"x")?;
@@ -210,9 +210,9 @@ fn directory_path(alloc: Global, task: u32) -> Result<Path, AllocError>
 }
 
 /// The path of a file in a task's directory.
-fn path_in(alloc: Global, task: u32, name: &str) -> Result<Path, AllocError>
+fn path_under(alloc: Global, task: u32, name: &str) -> Result<Path, AllocError>
     requires { HasNoSlash name.now }
-    ensures { IfOk result (λ path. path ≡ path_in task name.now) }
+    ensures { IfOk result (λ path. path ≡ path_under task name.now) }
 {
     let mut path = directory_path(alloc, task)?;
     path.push(name)?;
@@ -221,15 +221,15 @@ fn path_in(alloc: Global, task: u32, name: &str) -> Result<Path, AllocError>
 
 /// The path of the file in a task's directory that is there at boot.
 fn file_path(alloc: Global, task: u32) -> Result<Path, AllocError>
-    ensures { IfOk result (λ path. path ≡ path_in task file_name) }
+    ensures { IfOk result (λ path. path ≡ path_under task file_name) }
 {
-    path_in(alloc, task, "f")
+    path_under(alloc, task, "f")
 }
 
 /// The path of one of the files that a task makes and removes.
 fn scratch_path(alloc: Global, task: u32, number: u64) -> Result<Path, AllocError>
-    ensures { IfOk result (λ path. path ≡ path_in task (scratch_name number)) }
+    ensures { IfOk result (λ path. path ≡ path_under task (scratch_name number)) }
 {
     let name = format!(in alloc; "g{number}")?;
-    path_in(alloc, task, name.as_str())
+    path_under(alloc, task, name.as_str())
 }

@@ -1,12 +1,14 @@
 //! Paths as lists of components.
 ghost use Rattle.std.specs.Prelude.{◌≡◌};
-ghost use Rattle.mf_calls.specs.Paths.{is_same_path, directory_of};
+ghost use Rattle.std.specs.Cmp.Lexicographic.{pointwise};
+ghost use Rattle.std.specs.Str.{bytes_eq};
+ghost use Rattle.mf_calls.specs.Paths.{directory_of};
 
 use mf_names::{Components, Path};
 
 /// Whether the two have the same components.
 pub fn is_same_path(path: &Components<'_>, other: &Components<'_>) -> bool
-    ensures { result ≡ is_same_path path.now other.now }
+    ensures { result ≡ pointwise bytes_eq path.now other.now }
 {
     path.is_same(other)
 }

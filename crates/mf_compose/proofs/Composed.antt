@@ -6,7 +6,8 @@ use Rattle.std.proofs.lemmas.List.{take_more}
 use Rattle.mf_errno.specs.declared.errno.Errno.{Errno}
 use Rattle.mf_errno.specs.declared.errno.Errno.TheVariants.{Success}
 use Rattle.mf_errno.specs.Same.{is_same}
-use Rattle.mf_errno.specs.Selection.{precedence, stands_in, first_standing}
+use Rattle.mf_errno.specs.Selection.{precedence, first_standing}
+use Rattle.mf_errno.proofs.Standing.{stands_in}
 use Rattle.mf_errno.specs.OfTwo.{select}
 use Rattle.mf_errno.proofs.Errors.{is_same-is, is_same-refl}
 use Rattle.mf_compose.specs.Composition.{last_failure, composition, decider}

@@ -1,6 +1,7 @@
 -- What the call of a task's next line makes of a run: the reply, the state, and the list of policies after it.
 use Rattle.std.proofs.Common.{◌≡◌, ℕ, false, true, List, Option, Some, None, refl, sym, ◌∙◌, ap, subst}
-use Rattle.mf_objects.specs.declared.id.Id.{Id}
+use Rattle.mf_core.proofs.LookedUp.{reply_at, state_at}
+use Rattle.std.specs.Prelude.{IfSome}
 use Rattle.mf_calls.specs.declared.script.Line.{Line}
 use Rattle.mf_calls.specs.declared.script.Script.{Script}
 use Rattle.mf_calls.specs.Tasks.{is_change, name_of}
@@ -11,24 +12,25 @@ use Rattle.mf_plan.specs.declared.plan.Tail.TheVariants.{Do, Refuse}
 use Rattle.mf_plan.specs.declared.reply.Payload.{Payload}
 use Rattle.mf_plan.specs.declared.reply.Reply.{Reply}
 use Rattle.mf_plan.specs.declared.state.State.{State}
-use Rattle.mf_plan.specs.Doing.{CanDo}
-use Rattle.mf_plan.specs.Found.{found_of}
+use Rattle.mf_plan.specs.Found.{AreFound}
 use Rattle.mf_plan.specs.Plan.{plan_of}
 use Rattle.mf_step.specs.declared.verdict.Denial.{Denial}
 use Rattle.mf_step.specs.declared.verdict.Verdict.{Verdict}
-use Rattle.mf_step.specs.Effect.{effect_of}
+use Rattle.mf_step.specs.declared.relisting.Relisting.{Relisting}
+use Rattle.mf_step.specs.Relisting.{relisting_in, IsFormed}
 use Rattle.mf_step.specs.Reply.{denied_reply, reply_to, tail_reply}
 use Rattle.mf_step.specs.Refused.{is_done}
 use Rattle.mf_step.specs.Step.{performed, step_payload, step_reply, step_state}
 use Rattle.mf_step.specs.Verdict.{verdict_of}
 use Rattle.mf_core.specs.declared.history.History.{History}
 use Rattle.mf_core.specs.declared.progress.Turn.TheVariants as turns
-use Rattle.mf_core.specs.LegalHistory.{RunState, next_line, next_reply, next_state, reply_at, state_at, turn_of}
-use Rattle.mf_core.specs.NextFound.{found_at, next_found}
+use Rattle.mf_core.specs.LegalHistory.{RunState, next_line, next_reply, next_state, turn_of}
+use Rattle.mf_core.specs.NextFound.{FoundAt, IsNextFound}
 use Rattle.mf_core.specs.Next.{next_plan, plan_at}
 use Rattle.mf_core.specs.Consistency.{IsConsistent}
+use Rattle.mf_core.specs.Relisted.{IsMade}
 use Rattle.mf_core.proofs.Consistency.{change_line, entered_line}
-use Rattle.mf_core.proofs.SameLists.{Keeps, change_can, change_effect, change_keeps, done_do, entry_keeps, refused_only}
+use Rattle.mf_core.proofs.SameLists.{Keeps, change_keeps, change_made, done_do, entry_keeps, refused_only}
 
 same_line : (next : Option Line) (a b : Line) → next ≡ Some a → next ≡ Some b → a ≡ b
 same_line next a b is_a is_b = cc
@@ -38,9 +40,6 @@ same_reply next a b is_a is_b = cc
 
 same_plan : (next : Option Plan) (a b : Plan) → next ≡ Some a → next ≡ Some b → a ≡ b
 same_plan next a b is_a is_b = cc
-
-same_found : (next : Option Found) (a b : Found) → next ≡ Some a → next ≡ Some b → a ≡ b
-same_found next a b is_a is_b = cc
 
 refused_tail : (tail : Tail) (p q : Payload) → is_done (tail_reply tail p) ≡ false → is_done (tail_reply tail q) ≡ false
 refused_tail Do p q is = cc
@@ -57,8 +56,11 @@ module _ (s : Script) (r : RunState) (t : ℕ) (line : Line) (next : next_line s
   pub moved : next_state s r t ≡ step_state r.state (name_of s t) line.child line.call
   moved = ap (state_at s r t) next
 
-  pub found_is : (found : Found) → next_found s r t ≡ Some found → found ≡ found_of r.state (name_of s t) line.child line.call
-  found_is found is = same_found (next_found s r t) found (found_of r.state (name_of s t) line.child line.call) is (ap (found_at s r t) next)
+  pub found_is : (found : Found) → IsNextFound s r t found → AreFound r.state (name_of s t) line.child line.call found
+  found_is found is = subst (λ (l : Option Line). FoundAt s r t l found) next is
+
+  pub found_next : (found : Found) → AreFound r.state (name_of s t) line.child line.call found → IsNextFound s r t found
+  found_next found is = subst (λ (l : Option Line). FoundAt s r t l found) (sym next) is
 
   module _ (plan : Plan) (planned : next_plan s r t ≡ Some plan) where
     plan_is : plan_of r.state (name_of s t) line.child line.call ≡ plan
@@ -123,9 +125,9 @@ module _ (s : Script) (h : History) (r : RunState) (t : ℕ) (line : Line) (repl
       moved s r t line next
       ∙ refused_only (step_reply r.state (name_of s t) line.child line.call) r.state (performed r.state (name_of s t) line.child line.call) (ap is_done reply_is ∙ refused)
 
-  module _ (done : is_done reply ≡ true) where
-    pub line_can : (task : List ℕ) → CanDo r.state task line.call
-    line_can task = change_can r.state (name_of s t) line.child line.call is_a_change reply reply_is done task
-
-    pub line_effect : (task : List ℕ) (caller : Id) → next_state s r t ≡ effect_of r.state task caller line.call
-    line_effect task caller = moved s r t line next ∙ change_effect r.state (name_of s t) line.child line.call is_a_change reply reply_is done task caller
+  -- it is made, where it is done
+  pub line_made : (relisting : Option Relisting) → is_done reply ≡ true → relisting ≡ relisting_in r.state.specs line.call → IfSome relisting IsFormed
+      → IsMade r.state (next_state s r t) reply relisting
+  line_made relisting done is formed =
+      subst (λ (x : State). IsMade r.state x reply relisting) (sym (moved s r t line next))
+      (change_made r.state (name_of s t) line.call line.child reply relisting reply_is done is_a_change is formed)

@@ -3,7 +3,7 @@ use Rattle.std.proofs.Common.{◌≡◌, ◌≢◌, ℕ, zero, suc, ◌+◌, ◌
 use Rattle.std.specs.Prelude.{if◌then◌else◌}
 use Rattle.std.specs.List.{sum_by}
 use Rattle.std.proofs.Math.ListN.{get_or-eq_default}
-use Rattle.std.proofs.lemmas.List.Sums.{sum_by-cons}
+use Rattle.std.proofs.lemmas.List.Sums.{sum_by-cons, fold-append}
 use Rattle.std.proofs.lemmas.Option.{slice_get_past, slice_get_within}
 use Rattle.mf_calls.specs.declared.script.Line.{Line}
 use Rattle.mf_calls.specs.declared.script.Task.{Task}
@@ -24,7 +24,7 @@ use Rattle.mf_core.specs.Progress.{progress_at, first_progress, left, left_at}
 use Rattle.mf_core.specs.LegalHistory.{RunState, MayCome, AllMayCome, after, run_state_of, opening, turn_at_line, turn_in, turn_of, next_line}
 use Rattle.mf_core.specs.WithEvent.{with_event}
 use Rattle.mf_core.specs.Consistency.{IsAtEntry, IsConsistent, HasLine, events_left, events_by}
-use Rattle.mf_core.proofs.Laws.{AllMayCome-append, run_state_after-append, progress_at-first, line_at_entry, line_at_change}
+use Rattle.mf_core.proofs.Laws.{AllMayCome-append, progress_at-first, line_at_entry, line_at_change}
 
 -- one event less is left where at least one more came at a task
 pub events_left-set : (ts : List Task) (xs : List Progress) (t : ℕ) (y : Progress) → t < length ts → length xs ≡ length ts
@@ -244,7 +244,7 @@ module _ (s : Script) (h : History) (r : RunState) (consistent : IsConsistent s 
       record {
         formed = consistent.formed;
         legal = record { boots = consistent.legal.boots; events = AllMayCome-append s (opening s) h.events.list e consistent.legal.events (subst M (sym consistent.here) may) };
-        here = run_state_after-append s (opening s) h.events.list e ∙ ap (λ m. after s m e) consistent.here;
+        here = fold-append (after s) (opening s) h.events.list (e ∷ []) ∙ ap (λ m. after s m e) consistent.here;
         places = ap length goes_on.next ∙ (length-set r.progress t y ∙ consistent.places);
         lines = subst (Each P) (sym goes_on.next) (each-set P r.progress t y (length s.tasks) places consistent.lines goes_on.on.has);
         entries = subst (Each Q) (sym goes_on.next) (each-set Q r.progress t y (length s.tasks) places consistent.entries goes_on.on.at);

@@ -3,18 +3,13 @@ use Rattle.std.proofs.Common.{◌≡◌, ◌≢◌, ℕ, zero, suc, ◌+◌, ◌
 use Rattle.std.specs.List.{list_any}
 use Rattle.mf_errno.specs.Same.{same_module}
 use Rattle.mf_errno.specs.declared.module.Module.{Module}
-use Rattle.mf_errno.specs.declared.module.Module.TheVariants.{Biba}
 use Rattle.mf_list.specs.Held.{how_many}
 use Rattle.mf_list.specs.Once.{are_distinct}
-use Rattle.mf_errno.proofs.Modules.{same_module-is}
+use Rattle.mf_errno.proofs.Modules.{same_module-is, same_module-self}
 use Rattle.mf_core.specs.AllModules.{AreAllModules}
 use Rattle.mf_core.specs.Policies.{AreOf}
 use Rattle.mf_list.specs.Lists.{ListView, CatalogueView, IsReady}
 use Rattle.mf_policy.specs.Registration.{is_of}
-
-pub same_module-self : (m : Module) → same_module m m ≡ true
-same_module-self Biba = refl
-same_module-self other = refl
 
 pub same_module-other : (a b : Module) → a ≢ b → same_module a b ≡ false
 same_module-other a b other =

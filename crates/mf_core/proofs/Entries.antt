@@ -1,9 +1,9 @@
 -- What stays while an entry of a task is open.
 use Rattle.std.proofs.Common.{◌≡◌, ◌≢◌, ℕ, ◌*◌, ◌<◌, List, [], ◌∷◌, ◌++◌, length, get_or, set, refl, sym, ◌∙◌, ap, subst, arith, get_or-set_same}
 use Rattle.std.specs.Prelude.{All}
-use Rattle.std.specs.List.{sum_by}
+use Rattle.std.specs.List.{sum_by, fold}
 use Rattle.std.proofs.lemmas.List.Elements.{All-head, All-tail}
-use Rattle.std.proofs.lemmas.List.Sums.{get_or-le-sum_by}
+use Rattle.std.proofs.lemmas.List.Sums.{get_or-le-sum_by, fold-append}
 use Rattle.mf_calls.specs.declared.script.Script.{Script}
 use Rattle.mf_calls.specs.WellFormed.{IsWellFormed, line_count}
 use Rattle.mf_core.specs.declared.progress.Phase.TheVariants as phases
@@ -13,7 +13,7 @@ use Rattle.mf_core.specs.declared.history.Event.TheVariants as events
 use Rattle.mf_core.specs.declared.history.History.{History}
 use Rattle.mf_core.specs.Opening.{boots_of}
 use Rattle.mf_core.specs.Progress.{progress_at, first_progress, open_in, open_entries}
-use Rattle.mf_core.specs.LegalHistory.{RunState, MayCome, AllMayCome, after, opening, run_state_after}
+use Rattle.mf_core.specs.LegalHistory.{RunState, MayCome, AllMayCome, after, opening}
 use Rattle.mf_core.specs.WithEvent.{with_event}
 use Rattle.mf_core.specs.Consistency.{IsConsistent}
 use Rattle.mf_core.specs.Laws.{PoliciesStayInEntries}
@@ -22,14 +22,10 @@ use Rattle.mf_core.proofs.Consistency.{consistent_first, consistent_next, each-s
 
 -- events one after the other
 
-may_come-split : (s : Script) (r : RunState) (xs ys : List Event) → AllMayCome s r (xs ++ ys) → AllMayCome s r xs × AllMayCome s (run_state_after s r xs) ys
+may_come-split : (s : Script) (r : RunState) (xs ys : List Event) → AllMayCome s r (xs ++ ys) → AllMayCome s r xs × AllMayCome s (fold (after s) r xs) ys
 may_come-split s r [] ys all = (tt, all)
 may_come-split s r (x ∷ xs) ys all =
     let rest = may_come-split s (after s r x) xs ys all.1 in ((all.0, rest.0), rest.1)
-
-run_state_after-both : (s : Script) (r : RunState) (xs ys : List Event) → run_state_after s r (xs ++ ys) ≡ run_state_after s (run_state_after s r xs) ys
-run_state_after-both s r [] ys = refl
-run_state_after-both s r (x ∷ xs) ys = run_state_after-both s (after s r x) xs ys
 
 -- Some history is consistent with this state of the run.
 record IsMet (s : Script) (r : RunState) : Type 0 where
@@ -44,7 +40,7 @@ met_first s formed =
 met_next : (s : Script) (r : RunState) (e : Event) → IsMet s r → MayCome s r e → IsMet s (after s r e)
 met_next s r e met may = record { history = with_event met.history e; consistent = consistent_next s met.history r met.consistent e may }
 
-met_after : (s : Script) (r : RunState) (es : List Event) → IsMet s r → AllMayCome s r es → IsMet s (run_state_after s r es)
+met_after : (s : Script) (r : RunState) (es : List Event) → IsMet s r → AllMayCome s r es → IsMet s (fold (after s) r es)
 met_after s r [] met all = met
 met_after s r (e ∷ es) met all = met_after s (after s r e) es (met_next s r e met all.0) all.1
 
@@ -87,7 +83,7 @@ module _ (s : Script) (t : ℕ) (lt : t < length s.tasks) where
     same_next (events.Changed u n reply) may = absurd (some_open may.0)
 
   same_after : (r : RunState) (es : List Event) → IsMet s r → IsIn r → AllMayCome s r es → All (λ e. e ≢ events.Leave t) es
-      → (run_state_after s r es).state.specs ≡ r.state.specs
+      → (fold (after s) r es).state.specs ≡ r.state.specs
   same_after r [] met inside all others = refl
   same_after r (e ∷ es) met inside all others =
       let other = All-head (λ (x : Event). x ≢ events.Leave t) e es others in
@@ -96,7 +92,7 @@ module _ (s : Script) (t : ℕ) (lt : t < length s.tasks) where
 
 -- from a task's Enter on
 since_enter : (s : Script) (t : ℕ) (r : RunState) (since later : List Event) → IsMet s r → AllMayCome s r (events.Enter t ∷ (since ++ later))
-    → All (λ e. e ≢ events.Leave t) since → (run_state_after s r (events.Enter t ∷ since)).state.specs ≡ r.state.specs
+    → All (λ e. e ≢ events.Leave t) since → (fold (after s) r (events.Enter t ∷ since)).state.specs ≡ r.state.specs
 since_enter s t r since later met all others =
     let enter : Event = events.Enter t in
     let lt : t < length s.tasks = task_within s met.history r met.consistent enter all.0 in
@@ -110,6 +106,6 @@ since_enter s t r since later met all others =
 pub policies_stay : PoliciesStayInEntries
 policies_stay s h t before since later formed legal is others =
     let all = may_come-split s (opening s) before (events.Enter t ∷ (since ++ later)) (subst (λ (es : List Event). AllMayCome s (opening s) es) is legal.events) in
-    let r : RunState = run_state_after s (opening s) before in
-    ap (λ (r : RunState). r.state.specs) (run_state_after-both s (opening s) before (events.Enter t ∷ since))
+    let r : RunState = fold (after s) (opening s) before in
+    ap (λ (r : RunState). r.state.specs) (fold-append (after s) (opening s) before (events.Enter t ∷ since))
     ∙ since_enter s t r since later (met_after s (opening s) before (met_first s formed) all.0) all.1 others

@@ -1,5 +1,6 @@
 -- Between what contracts see of a core, its script and history, and the run that lies inside.
 use Rattle.std.proofs.Common.{◌≡◌, ℕ, ◌<◌, ◌⊎◌, inl, inr, List, [], ◌∷◌, ◌++◌, length, set, Option, IsSome, refl, sym, ◌∙◌, ap, subst, arith, get_or-set_same, get_or-set_other}
+use Rattle.std.proofs.lemmas.List.Sums.{fold-append}
 use Rattle.mf_calls.specs.declared.script.Line.{Line}
 use Rattle.mf_calls.specs.declared.script.Script.{Script}
 use Rattle.mf_core.specs.declared.progress.Progress.{Progress}
@@ -12,13 +13,13 @@ use Rattle.mf_core.specs.Progress.{progress_at, first_progress}
 use Rattle.mf_core.specs.Advances.{Advances}
 use Rattle.mf_core.specs.LegalHistory.{RunState, MayCome, after, next_line, opening, turn_of}
 use Rattle.mf_core.specs.WithEvent.{with_event}
-use Rattle.mf_core.specs.NextFound.{next_found}
+use Rattle.mf_plan.specs.declared.found.Found.{Found}
+use Rattle.mf_core.specs.NextFound.{IsNextFound}
 use Rattle.mf_core.specs.Next.{next_plan}
 use Rattle.mf_core.specs.Consistency.{IsConsistent}
 use Rattle.mf_core.specs.RunView.{RunView}
 use Rattle.mf_core.specs.CoreView.{CoreView, progress_of, run_state, specs_of, turn_at}
 use Rattle.mf_core.proofs.Consistency.{change_line, consistent_next, entered_line}
-use Rattle.mf_core.proofs.Laws.{run_state_after-append}
 
 module _ (k : CoreView) (v : RunView) (h : History) (is : record { script = v.script; history = h } ≡ k) (consistent : IsConsistent v.script h v.run) where
   -- the state of the run is the one that the history determines
@@ -56,9 +57,9 @@ module _ (k : CoreView) (v : RunView) (h : History) (is : record { script = v.sc
   plan_same t =
       ap (λ (m : RunState). next_plan k.script m t) run_state_here ∙ ap (λ (s : Script). next_plan s v.run t) script_here
 
-  pub found_same : (t : ℕ) → next_found k.script (run_state k) t ≡ next_found v.script v.run t
-  found_same t =
-      ap (λ (m : RunState). next_found k.script m t) run_state_here ∙ ap (λ (s : Script). next_found s v.run t) script_here
+  pub found_same : (t : ℕ) (found : Found) → IsNextFound k.script (run_state k) t found → IsNextFound v.script v.run t found
+  found_same t found is =
+      subst (λ (s : Script). IsNextFound s v.run t found) script_here (subst (λ (m : RunState). IsNextFound k.script m t found) run_state_here is)
 
   pub left_here : (t : ℕ) → (turn_at k t ≡ turns.Done) ⊎ (turn_at k t ≡ turns.Entered)
       → (turn_of v.script v.run.progress t ≡ turns.Done) ⊎ (turn_of v.script v.run.progress t ≡ turns.Entered)
@@ -84,7 +85,7 @@ module _ (k : CoreView) (v : RunView) (h : History) (is : record { script = v.sc
 
 module _ (k k' : CoreView) (e : Event) (grown : k' ≡ record k { history = with_event k.history e }) where
   pub state_on : run_state k' ≡ after k.script (run_state k) e
-  state_on = ap run_state grown ∙ run_state_after-append k.script (opening k.script) k.history.events.list e
+  state_on = ap run_state grown ∙ fold-append (after k.script) (opening k.script) k.history.events.list (e ∷ [])
 
   pub specs_on : (specs : List _) → (after k.script (run_state k) e).state.specs ≡ specs → specs_of k' ≡ specs
   specs_on specs same = ap (λ (r : RunState). r.state.specs) state_on ∙ same

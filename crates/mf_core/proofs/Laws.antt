@@ -1,6 +1,7 @@
 -- Laws of legal histories: what one more event makes of the state of a run, and what turns say.
 use Rattle.std.proofs.Common.{◌≡◌, ℕ, zero, suc, Bool, true, false, List, [], ◌∷◌, ◌++◌, map, Option, Some, None, refl}
 use Rattle.std.specs.Prelude.{if◌then◌else◌}
+use Rattle.std.specs.List.{fold}
 use Rattle.mf_calls.specs.declared.script.Line.{Line}
 use Rattle.mf_calls.specs.declared.script.Task.{Task}
 use Rattle.mf_calls.specs.declared.script.Script.{Script}
@@ -8,15 +9,11 @@ use Rattle.mf_calls.specs.Tasks.{is_change}
 use Rattle.mf_core.specs.declared.progress.Turn.TheVariants as turn
 use Rattle.mf_core.specs.declared.history.Event.{Event}
 use Rattle.mf_core.specs.Progress.{progress_at, first_progress}
-use Rattle.mf_core.specs.LegalHistory.{RunState, MayCome, AllMayCome, after, run_state_after, turn_at_line}
+use Rattle.mf_core.specs.LegalHistory.{RunState, MayCome, AllMayCome, after, turn_at_line}
 
-pub AllMayCome-append : (s : Script) (r : RunState) (es : List Event) (e : Event) → AllMayCome s r es → MayCome s (run_state_after s r es) e → AllMayCome s r (es ++ e ∷ [])
+pub AllMayCome-append : (s : Script) (r : RunState) (es : List Event) (e : Event) → AllMayCome s r es → MayCome s (fold (after s) r es) e → AllMayCome s r (es ++ e ∷ [])
 AllMayCome-append s r [] e all may = (may, tt)
 AllMayCome-append s r (x ∷ es) e all may = (all.0, AllMayCome-append s (after s r x) es e all.1 may)
-
-pub run_state_after-append : (s : Script) (r : RunState) (es : List Event) (e : Event) → run_state_after s r (es ++ e ∷ []) ≡ after s (run_state_after s r es) e
-run_state_after-append s r [] e = refl
-run_state_after-append s r (x ∷ es) e = run_state_after-append s (after s r x) es e
 
 -- at the opening each task is before its first line
 pub progress_at-first : (ts : List Task) (t : ℕ) → progress_at (map (λ (x : Task). first_progress) ts) t ≡ first_progress

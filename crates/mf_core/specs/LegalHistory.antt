@@ -1,6 +1,6 @@
 -- Which histories are legal for a script, and the state that a history determines: this model's own.
 use Rattle.std.specs.Option.{option_map_or}
-use Rattle.std.specs.Prelude.{◌≡◌, ◌⊎◌, ℕ, ◌+◌, ◌<◌, if◌then◌else◌, List, [], ◌∷◌, length, map, Option, Some, None, slice_get, option_map}
+use Rattle.std.specs.Prelude.{◌≡◌, ◌⊎◌, ℕ, ◌+◌, ◌<◌, if◌then◌else◌, List, [], ◌∷◌, length, map, fold, Option, Some, None, slice_get, option_map}
 use Rattle.mf_calls.specs.declared.script.Line.{Line}
 use Rattle.mf_calls.specs.declared.script.Script.{Script}
 use Rattle.mf_calls.specs.Tasks.{is_change, lines_of, name_of}
@@ -46,19 +46,13 @@ turn_in phase.Stopped next = turn.Stopped
 abbrev pub turn_of : Script → List Progress → ℕ → Turn
 turn_of s list t = turn_in (progress_at list t).phase (next_line s list t)
 
--- The plan of the call of a task's next line, what the call is about, the reply to it, and the state after it
-
-abbrev pub reply_at : Script → RunState → ℕ → Option Line → Option Reply
-reply_at s r t line = option_map (λ line. step_reply r.state (name_of s t) line.child line.call) line
+-- The reply to the call of a task's next line, and the state after it
 
 abbrev pub next_reply : Script → RunState → ℕ → Option Reply
-next_reply s r t = reply_at s r t (next_line s r.progress t)
-
-abbrev pub state_at : Script → RunState → ℕ → Option Line → State
-state_at s r t line = option_map_or (λ line. step_state r.state (name_of s t) line.child line.call) line r.state
+next_reply s r t = option_map (λ line. step_reply r.state (name_of s t) line.child line.call) (next_line s r.progress t)
 
 abbrev pub next_state : Script → RunState → ℕ → State
-next_state s r t = state_at s r t (next_line s r.progress t)
+next_state s r t = option_map_or (λ line. step_state r.state (name_of s t) line.child line.call) (next_line s r.progress t) r.state
 
 -- Events
 
@@ -84,13 +78,9 @@ abbrev pub AllMayCome : Script → RunState → List Event → Type 0
 AllMayCome s r [] = Unit {0}
 AllMayCome s r (e ∷ es) = MayCome s r e × AllMayCome s (after s r e) es
 
-abbrev pub run_state_after : Script → RunState → List Event → RunState
-run_state_after s r [] = r
-run_state_after s r (e ∷ es) = run_state_after s (after s r e) es
-
 -- the state of the run that its events determine
 abbrev pub run_state_of : Script → List Event → RunState
-run_state_of s es = run_state_after s (opening s) es
+run_state_of s es = fold (after s) (opening s) es
 
 -- Histories
 

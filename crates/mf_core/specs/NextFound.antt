@@ -1,14 +1,15 @@
--- What the call that comes next for a task is about; inner contracts alone cite this.
-use Rattle.std.specs.Prelude.{ℕ, Option, option_map}
+-- What was found for the call that comes next for a task; inner contracts alone cite this.
+use Rattle.std.specs.Prelude.{ℕ, Option, Some, None}
 use Rattle.mf_calls.specs.declared.script.Line.{Line}
 use Rattle.mf_calls.specs.declared.script.Script.{Script}
 use Rattle.mf_calls.specs.Tasks.{name_of}
 use Rattle.mf_plan.specs.declared.found.Found.{Found}
-use Rattle.mf_plan.specs.Found.{found_of}
+use Rattle.mf_plan.specs.Found.{AreFound}
 use Rattle.mf_core.specs.LegalHistory.{RunState, next_line}
 
-abbrev pub found_at : Script → RunState → ℕ → Option Line → Option Found
-found_at s r t line = option_map (λ line. found_of r.state (name_of s t) line.child line.call) line
+abbrev pub FoundAt : Script → RunState → ℕ → Option Line → Found → Type 0
+FoundAt s r t None found = ⊥
+FoundAt s r t (Some line) found = AreFound r.state (name_of s t) line.child line.call found
 
-abbrev pub next_found : Script → RunState → ℕ → Option Found
-next_found s r t = found_at s r t (next_line s r.progress t)
+abbrev pub IsNextFound : Script → RunState → ℕ → Found → Type 0
+IsNextFound s r t found = FoundAt s r t (next_line s r.progress t) found

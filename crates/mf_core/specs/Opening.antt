@@ -1,6 +1,6 @@
 -- The registrations at boot, and the opening state of a script, by docs/MANUAL.md (THE SCRIPT).
 use Rattle.std.specs.Option.{option_map_or}
-use Rattle.std.specs.Prelude.{ℕ, false, true, List, [], ◌∷◌, fold, Option, None}
+use Rattle.std.specs.Prelude.{ℕ, false, true, List, [], ◌∷◌, fold, None}
 use Rattle.mf_errno.specs.declared.module.Module.{Module}
 use Rattle.mf_elem.specs.Label.{no_request}
 use Rattle.mf_item.specs.declared.view.Kind.TheVariants as kinds
@@ -8,7 +8,6 @@ use Rattle.mf_policy.specs.declared.registration.Registration.{Registration}
 use Rattle.mf_policy.specs.declared.labels.Origin.TheVariants.{Boot}
 use Rattle.mf_policy.specs.NewLabels.{new_label}
 use Rattle.mf_policy.specs.Registration.{Entry, given_after, registration_of, with_registered}
-use Rattle.mf_objects.specs.declared.id.Id.{Id}
 use Rattle.mf_objects.specs.declared.entity.EntityData.TheVariants.{Process}
 use Rattle.mf_objects.specs.Live.{Entities}
 use Rattle.mf_objects.specs.Changes as objects
@@ -32,17 +31,9 @@ registrations_from given (m ∷ ms) = registration_of m false given ∷ registra
 abbrev pub boots_of : Script → List Registration
 boots_of s = registrations_from 0 s.boots
 
--- how many slot numbers these modules take
-abbrev pub given_by : List Module → ℕ
-given_by modules = fold given_after 0 modules
-
--- the list of policies after these registrations
-abbrev pub listed_by : List Registration → List Entry
-listed_by boots = fold with_registered [] boots
-
 -- the policies that are listed at the end of boot, in walk order
 abbrev pub booted_specs : Script → List Entry
-booted_specs s = listed_by (boots_of s)
+booted_specs s = fold with_registered [] (boots_of s)
 
 -- Entities
 
@@ -60,11 +51,9 @@ abbrev pub with_file : List Entry → Entities → FileLine → Entities
 with_file listed o f = with_file_at listed o f (lookup_along o f.path).target
 
 -- The process of a task is made under its name, which in a well-formed script is free.
-abbrev pub with_task_at : List Entry → Entities → Task → Option Id → Entities
-with_task_at listed o t found = option_map_or (λ id. o) found (objects.with_entity o t.name (new_label listed kinds.Process (Boot t.label)) (Process t.cred))
-
 abbrev pub with_task : List Entry → Entities → Task → Entities
-with_task listed o t = with_task_at listed o t (process_named o t.name)
+with_task listed o t =
+    option_map_or (λ id. o) (process_named o t.name) (objects.with_entity o t.name (new_label listed kinds.Process (Boot t.label)) (Process t.cred))
 
 -- the root, then the files one after another, then the processes of the tasks
 abbrev pub opening_objects : List Entry → Script → Entities
@@ -72,10 +61,4 @@ opening_objects listed s = fold (with_task listed) (fold (with_file listed) (roo
 
 -- the state at the end of boot
 abbrev pub opening_state : Script → State
-opening_state s =
-    record {
-      objects = opening_objects (booted_specs s) s;
-      specs = booted_specs s;
-      numbers = given_by s.boots;
-      booted = true;
-    }
+opening_state s = record { objects = opening_objects (booted_specs s) s; specs = booted_specs s; numbers = fold given_after 0 s.boots; booted = true }

@@ -24,10 +24,6 @@ abbrev pub StaysWhileWaiting : ChangeOutcome → ListView → ListView → Catal
 StaysWhileWaiting outcome.Done list list' catalogue catalogue' = Unit {0}
 StaysWhileWaiting (outcome.Waits n) list list' catalogue catalogue' = (list' ≡ list) × (catalogue' ≡ catalogue)
 
--- the listed specs after a change that is done, where this is the state after it; none where it is denied or refused
-abbrev pub AreListedAfter : State → Reply → Option (List Entry) → Type 0
-AreListedAfter next reply (Some specs) = (is_done reply ≡ true) × (specs ≡ next.specs)
-AreListedAfter next reply None = is_done reply ≡ false
 
 -- A module can be registered at boot: it is there, it isn't listed, and a slot number is left where it wants one.
 pub record CanBoot (m : Module) (list : ListView) (catalogue : CatalogueView) (given : ℕ) : Type 0 where

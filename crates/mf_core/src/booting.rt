@@ -1,6 +1,7 @@
 //! Registration at boot.
-ghost use Rattle.std.specs.Prelude.{◌≡◌, [], false, All, IfOk, map};
+ghost use Rattle.std.specs.Prelude.{◌≡◌, [], false, All, IfOk, fold, map};
 ghost use Rattle.mf_policy.specs.Modules.{module_of};
+ghost use Rattle.mf_policy.specs.Registration.{with_registered};
 ghost use Rattle.mf_list.specs.Lists.{IsReady};
 ghost use Rattle.mf_list.specs.Fresh.{IsFresh};
 ghost use Rattle.mf_list.specs.Registration.{Registers, registration_of};
@@ -27,7 +28,7 @@ pub fn boot<P: Policy>(
     requires modules { AreAllModules (map (λ p. module_of (P.spec p)) policies.items) }
     requires fresh { All (λ p. IsFresh (P.spec p)) policies.items }
     ensures boots { IfOk result (λ r. r.0 ≡ spec.registrations_from 0 modules.now) }
-    ensures policies { IfOk result (λ r. AreOf (spec.listed_by r.0) r.1 r.2) }
+    ensures policies { IfOk result (λ r. AreOf (fold with_registered [] r.0) r.1 r.2) }
 {
     let (mut list, mut catalogue) = unlisted(alloc, policies)?;
     let boots = register_boots(alloc, modules, &mut list, &mut catalogue)?;
@@ -59,7 +60,7 @@ fn register_boots<P: Policy>(
     requires boots { AreBoots modules.now }
     requires policies { AreOf [] list.old catalogue.old }
     ensures boots { IfOk result (λ boots. boots ≡ spec.registrations_from 0 modules.now) }
-    ensures policies { IfOk result (λ boots. AreOf (spec.listed_by boots) list.new catalogue.new) }
+    ensures policies { IfOk result (λ boots. AreOf (fold with_registered [] boots) list.new catalogue.new) }
 {
     let mut boots = Listing::new(alloc);
     let mut numbers = SlotNumbers::new();

@@ -1,12 +1,12 @@
 //! A run of a script: the state of the framework, and how far each task is.
-ghost use Rattle.std.specs.Prelude.{◌≡◌, ◌<◌, ◌≤◌, ◌+◌, ◌⊎◌, ◌↔◌, length, true, false, IfOk, IsOk, IfSome, IsSome, OnOk, OnErr, Some};
+ghost use Rattle.std.specs.Prelude.{◌≡◌, ◌<◌, ◌≤◌, ◌+◌, ◌⊎◌, ◌↔◌, length, fold, true, false, IfOk, IsOk, IfSome, IsSome, OnOk, OnErr, Some};
 ghost use Rattle.mf_objects.specs.declared.limits.TheConstants.{ID_LIMIT};
 ghost use Rattle.mf_list.specs.Once.{IsListedOnce};
 ghost use Rattle.mf_calls.specs.declared.limits.TheConstants.{LINE_LIMIT};
 ghost use Rattle.mf_calls.specs.Tasks.{is_change, lines_of};
 ghost use Rattle.mf_calls.specs.WellFormed.{IsFormedLine, IsName, IsWellFormed};
 ghost use Rattle.mf_plan.specs.declared.plan.Tail.TheVariants.{Do};
-ghost use Rattle.mf_plan.specs.Found.{found_of};
+ghost use Rattle.mf_plan.specs.Found.{AreFound};
 ghost use Rattle.mf_plan.specs.declared.reply.Payload.TheVariants as payload;
 ghost use Rattle.mf_step.specs.Reply.{reply_to};
 ghost use Rattle.mf_step.specs.Refused.{is_done};
@@ -15,9 +15,10 @@ ghost use Rattle.mf_step.specs.Verdict.{verdict_of};
 ghost use Rattle.mf_core.specs.declared.history.Event.TheVariants as event;
 ghost use Rattle.mf_core.specs.declared.progress.Turn.TheVariants as turn;
 ghost use Rattle.mf_core.specs.LegalHistory.{after, next_line, next_reply, opening, turn_of, MayCome};
-ghost use Rattle.mf_core.specs.NextFound.{next_found};
+ghost use Rattle.mf_core.specs.NextFound.{IsNextFound};
 ghost use Rattle.mf_core.specs.Next.{next_plan};
-ghost use Rattle.mf_core.specs.Opening.{booted_specs, given_by};
+ghost use Rattle.mf_policy.specs.Registration.{given_after};
+ghost use Rattle.mf_core.specs.Opening.{booted_specs};
 ghost use Rattle.mf_core.specs.Progress.{open_entries, progress_at};
 
 mod changing;
@@ -103,7 +104,7 @@ impl<'s> Run<'s> {
         requires task { task < length self.now.script.tasks }
         requires line { IsSome (next_line self.now.script self.now.run.progress task) }
         ensures plan { next_plan self.now.script self.now.run task ≡ Some plan.new }
-        ensures found { plan.new.tail ≡ Do → next_found self.now.script self.now.run task ≡ Some result }
+        ensures found { plan.new.tail ≡ Do → IsNextFound self.now.script self.now.run task result }
     {
         let line = self.line(task);
         let name = self.script.name_of(task);
@@ -115,7 +116,7 @@ impl<'s> Run<'s> {
         requires task { task < length self.now.script.tasks }
         requires line { IsSome (next_line self.now.script self.now.run.progress task) }
         ensures is { IsSome result ↔ (next_plan self.now.script self.now.run task ≡ Some plan.now) }
-        ensures found { plan.now.tail ≡ Do → IfSome result (λ found. next_found self.now.script self.now.run task ≡ Some found) }
+        ensures found { plan.now.tail ≡ Do → IfSome result (λ found. IsNextFound self.now.script self.now.run task found) }
     {
         let line = self.line(task);
         let name = self.script.name_of(task);
@@ -129,12 +130,12 @@ impl<'s> Run<'s> {
         alloc: Global,
         task: u32,
         plan: &Plan,
-        found: Found,
+        found: &Found,
         verdict: &Verdict,
     ) -> Result<KeptReply, AllocError>
         requires task { task < length self.now.script.tasks }
         requires plan { next_plan self.now.script self.now.run task ≡ Some plan.now }
-        requires found { plan.now.tail ≡ Do → next_found self.now.script self.now.run task ≡ Some found }
+        requires found { plan.now.tail ≡ Do → IsNextFound self.now.script self.now.run task found.now }
         requires verdict { verdict.now ≡ verdict_of self.now.run.state.specs plan.now }
         ensures value { IfOk result (λ reply. next_reply self.now.script self.now.run task ≡ Some reply) }
         ensures memory { is_done (reply_to plan.now verdict.now payload.None) ≡ false → IsOk result }
@@ -169,11 +170,11 @@ impl<'s> Run<'s> {
         alloc: Global,
         task: u32,
         number: u32,
-        found: Found,
+        found: &Found,
         reply: &KeptReply,
     ) -> Result<(), AllocError>
         requires may { MayCome self.old.script self.old.run (event.Done task number reply.now) }
-        requires found { is_done reply.now ≡ true → next_found self.old.script self.old.run task ≡ Some found }
+        requires found { is_done reply.now ≡ true → IsNextFound self.old.script self.old.run task found.now }
         ensures ok { OnOk result (self.new ≡ record self.old { run = after self.old.script self.old.run (event.Done task number reply.now) }) }
         ensures err { OnErr result (self.new ≡ self.old) }
         ensures memory { is_done reply.now ≡ false → IsOk result }
@@ -214,7 +215,7 @@ impl<'s> Run<'s> {
 fn booted(alloc: Global, script: &Script) -> Result<(SpecList, SlotNumbers), AllocError>
     requires { IsWellFormed script.now }
     ensures specs { IfOk result (λ r. r.0 ≡ booted_specs script.now) }
-    ensures numbers { IfOk result (λ r. r.1 ≡ given_by script.now.boots) }
+    ensures numbers { IfOk result (λ r. r.1 ≡ fold given_after 0 script.now.boots) }
     ensures once { IfOk result (λ r. IsListedOnce r.0) }
 {
     let mut specs = SpecList::new(alloc);
@@ -232,14 +233,14 @@ fn redo(
     state: &mut State,
     task: &str,
     line: &Line,
-    found: Found,
+    found: &Found,
     reply: &KeptReply,
 ) -> Result<(), AllocError>
     requires task { IsName task.now }
     requires line { IsFormedLine line.now }
     requires entry { is_change line.now.call ≡ false }
     requires reply { reply.now ≡ step_reply state.old task.now line.now.child line.now.call }
-    requires found { is_done reply.now ≡ true → found ≡ found_of state.old task.now line.now.child line.now.call }
+    requires found { is_done reply.now ≡ true → AreFound state.old task.now line.now.child line.now.call found.now }
     requires next { state.old.objects.next < ID_LIMIT }
     ensures state { OnOk result (state.new ≡ step_state state.old task.now line.now.child line.now.call) }
     ensures err { OnErr result (state.new ≡ state.old) }

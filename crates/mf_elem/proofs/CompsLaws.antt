@@ -1,52 +1,64 @@
 -- What a set of compartments contains, and that its words are those that it came from.
-use Rattle.std.proofs.Common.{◌≡◌, ℕ, ◌+◌, ◌-◌, ◌*◌, ◌/◌, ◌%◌, ◌^◌, ◌<◌, ◌≤◌, Bool, true, false, cond, eqb, ltb, ◌&&◌, List, [], ◌∷◌, length, get_or, set as set_at, bit_or, bit_and, min, length-set, ◌⊎◌, ◌≢◌, w64, refl, sym, ap, ◌∙◌, subst, arith, suc, zero, inl, inr, lit<, add-one}
-use Rattle.std.proofs.lemmas.Bool.{cases_lt, cases_eq, ltb-true, eqb-true}
+use Rattle.std.proofs.Common.{◌≡◌, ℕ, ◌+◌, ◌-◌, ◌*◌, ◌/◌, ◌%◌, ◌^◌, ◌<◌, ◌≤◌, Bool, true, false, cond, eqb, ltb, ◌&&◌, List, [], ◌∷◌, length, get_or, set as set_at, bit_or, bit_and, filter, min, length-set, ◌⊎◌, ◌≢◌, w64, refl, sym, ap, ◌∙◌, subst, arith, suc, zero, inl, inr, lit<, add-one}
+use Rattle.std.proofs.lemmas.Bool.{cases_lt, cases_eq, ltb-true, eqb-true, lt-ltb, le-ltb}
+use Rattle.std.proofs.Math.Nat.{mod-eq_of_lt}
+use Rattle.std.proofs.Math.Pow.{pow-lt}
 use Rattle.std.proofs.lemmas.Nat.{or_lt, and_le_l}
 use Rattle.std.proofs.lemmas.Grind.{common_steps, same_number_lists}
 use Rattle.std.specs.Int.{bit_at}
 use Rattle.std.specs.Ordering.{nat_cmp}
 use Rattle.std.specs.FinSet as set
-use Rattle.std.specs.FinSet.{FinSet, members, contains-empty, contains-is_subset, is_subset-contains, same_set, nat_cmp-IsAntisymmetric}
+use Rattle.std.specs.FinSet.{FinSet, members, contains-from_list_nat, contains-empty, contains-is_subset, is_subset-contains, same_set, nat_cmp-IsAntisymmetric}
 use Rattle.std.specs.Cmp.{nat_cmp_total}
 use Rattle.std.proofs.lemmas.Nat.Bits.{same_from_bits_below, bit_at-lt, bit_at_cat_low, bit_at_cat_high, bit_at-zero, bit_at_set_same, bit_at_set_other, bit_at_and}
 use Rattle.std.proofs.lemmas.List.{get_or-set_same, get_or-set_other}
-use Rattle.mf_elem.specs.Comps.{is_bit, numbers_below, numbers_of, number_with, word_of, words_of, comps_of}
+use Rattle.mf_elem.specs.Comps.{is_there, numbers_to, rising, compartments_of, no_comps, with_compartment}
+use Rattle.mf_elem.specs.OfSets.{number_with, word_of, words_of, comps_of}
+use Rattle.mf_elem.specs.declared.comps.Comps.{Comps}
+use Rattle.mf_elem.proofs.Among.{among_is, above, zero_not_among, filter_same}
 use Rattle.mf_elem.specs.Bounds.{AreWords}
 
-with_new : (f : ℕ → Bool) (i j : ℕ) (s : FinSet nat_cmp) → set.contains s (suc j) ≡ (ltb j i && f j) → f i ≡ true
-    → set.contains (set.insert s (suc i)) (suc j) ≡ (ltb j (suc i) && f j)
-with_new f i j s below here = grind (arith, common_steps, members, below, here)
+-- whether the bit of this place is set, counted through the words
+abbrev pub is_bit : List ℕ → ℕ → Bool
+is_bit words i = eqb (bit_at (get_or words (i / 64) 0) (i % 64)) 1
 
-without_new : (f : ℕ → Bool) (i j : ℕ) (b : Bool) → b ≡ (ltb j i && f j) → f i ≡ false → b ≡ (ltb j (suc i) && f j)
-without_new f i j b below here = grind (arith, common_steps, below, here)
+-- the set that four words stand for
+abbrev pub numbers_of : List ℕ → FinSet nat_cmp
+numbers_of words = compartments_of (record { words = words })
 
-none_below : (j : ℕ) (b : Bool) → set.contains (set.empty {K = ℕ} {R = nat_cmp}) (suc j) ≡ (ltb j 0 && b)
-none_below j b = grind (arith, common_steps, members)
+there_is_bit : (words : List ℕ) (m : ℕ) → is_there words (suc m) ≡ is_bit words m
+there_is_bit words m = let e : suc m - 1 ≡ m = omega arith in ap (is_bit words) e
 
--- what the set below k contains
-pub contains_below : (f : ℕ → Bool) (k j : ℕ) → set.contains (numbers_below f k) (suc j) ≡ (ltb j k && f j)
-unfolding numbers_below
-contains_below f zero j = none_below j (f j)
-contains_below f (suc i) j =
-    elim (f i) as (λ b. f i ≡ b → set.contains (cond b (set.insert (numbers_below f i) (suc i)) (numbers_below f i)) (suc j) ≡ (ltb j (suc i) && f j)) [
-      | true ↦ λ h. with_new f i j (numbers_below f i) (contains_below f i j) h
-      | false ↦ λ h. without_new f i j (set.contains (numbers_below f i) (suc j)) (contains_below f i j) h
-    ] refl
+all_within : (m : ℕ) (b : Bool) → ltb m 256 ≡ true → (ltb m 256 && b) ≡ b
+all_within m b h = rw h refl
 
-zero_not_new : (i : ℕ) (s : FinSet nat_cmp) → set.contains s 0 ≡ false → set.contains (set.insert s (suc i)) 0 ≡ false
-zero_not_new i s h = grind (arith, common_steps, members, h)
+none_over : (m : ℕ) (b : Bool) → ltb m 256 ≡ false → (ltb m 256 && b) ≡ false
+none_over m b h = rw h refl
 
-zero_not_empty : set.contains (set.empty {K = ℕ} {R = nat_cmp}) 0 ≡ false
-zero_not_empty = grind (arith, members)
+-- ---- what the set contains, number by number
+pub contains_suc : (words : List ℕ) (m : ℕ) → set.contains (numbers_of words) (suc m) ≡ (ltb m 256 && is_bit words m)
+unfolding rising
+contains_suc words m =
+    contains-from_list_nat (filter (is_there words) (numbers_to 256)) (suc m)
+    ∙ (elim (cases_lt m 256) [
+      | inl within ↦
+          among_is (is_there words) 256 (suc m) (omega arith) (omega (arith, within))
+          ∙ there_is_bit words m
+          ∙ sym (all_within m (is_bit words m) (lt-ltb m 256 within))
+      | inr over ↦ above (is_there words) 256 (suc m) (omega (arith, over)) ∙ sym (none_over m (is_bit words m) (le-ltb m 256 over))
+    ])
 
-pub no_zero_below : (f : ℕ → Bool) (k : ℕ) → set.contains (numbers_below f k) 0 ≡ false
-unfolding numbers_below
-no_zero_below f zero = zero_not_empty
-no_zero_below f (suc i) =
-    elim (f i) as (λ b. set.contains (cond b (set.insert (numbers_below f i) (suc i)) (numbers_below f i)) 0 ≡ false) [
-      | true ↦ zero_not_new i (numbers_below f i) (no_zero_below f i)
-      | false ↦ no_zero_below f i
-    ]
+pub contains_zero : (words : List ℕ) → set.contains (numbers_of words) 0 ≡ false
+unfolding rising
+contains_zero words = contains-from_list_nat (filter (is_there words) (numbers_to 256)) 0 ∙ zero_not_among (is_there words) 256
+
+-- the rising compartments are those that the set contains
+pub rising_contained : (comps : Comps) → rising comps ≡ filter (set.contains (compartments_of comps)) (numbers_to 256)
+unfolding rising
+rising_contained comps =
+    let test : ℕ → Bool = is_there comps.words in
+    filter_same test (set.contains (set.from_list (filter test (numbers_to 256)))) 256 (λ q least most.
+    sym (contains-from_list_nat (filter test (numbers_to 256)) q ∙ among_is test 256 q least most))
 
 -- the number fits
 one_more_bit : (n i c : ℕ) → n < 2 ^ i → c ≤ 2 ^ i → n + c < 2 ^ suc i
@@ -102,11 +114,10 @@ within_all m b h = grind (arith, common_steps)
 
 -- whether the set has the number of a place
 pub contains_at : (words : List ℕ) (k i : ℕ) → k < 4 → i < 64 → set.contains (numbers_of words) (64 * k + i + 1) ≡ eqb (bit_at (get_or words k 0) i) 1
-unfolding numbers_of
 contains_at words k i hk hi =
     let m : ℕ = 64 * k + i in
-    ap (set.contains (numbers_below (is_bit words) 256)) (add-one m)
-    ∙ contains_below (is_bit words) 256 m
+    ap (set.contains (numbers_of words)) (add-one m)
+    ∙ contains_suc words m
     ∙ within_all m (is_bit words m) (omega arith)
     ∙ is_bit_at words k i hi
 
@@ -136,15 +147,6 @@ pub words_again : (words : List ℕ) → AreWords words → words_of (numbers_of
 words_again words are =
     let s : FinSet nat_cmp = numbers_of words in
     same_number_lists (words_of s) words (sym are.four) (λ k h. four_words s k h ∙ word_again words are k h)
-
--- ---- what the set contains, number by number
-pub contains_suc : (words : List ℕ) (m : ℕ) → set.contains (numbers_of words) (suc m) ≡ (ltb m 256 && is_bit words m)
-unfolding numbers_of
-contains_suc words m = contains_below (is_bit words) 256 m
-
-pub contains_zero : (words : List ℕ) → set.contains (numbers_of words) 0 ≡ false
-unfolding numbers_of
-contains_zero words = no_zero_below (is_bit words) 256
 
 pub contains_number : (words : List ℕ) (m : ℕ) → m < 256 → set.contains (numbers_of words) (m + 1) ≡ is_bit words m
 contains_number words m h = ap (set.contains (numbers_of words)) (add-one m) ∙ contains_suc words m ∙ within_all m (is_bit words m) h
@@ -308,5 +310,89 @@ comps_again words are s is = ap (λ ws. record { words = ws }) (sym (words_again
 zeros_are : AreWords zeros
 zeros_are = record { four = refl; fit = λ k. subst (λ w. w < 2 ^ 64) (sym (zero_words k)) (lit< tt) }
 
-pub no_comps : record { words = zeros } ≡ comps_of set.empty
-no_comps = comps_again zeros zeros_are (set.empty {K = ℕ} {R = nat_cmp}) none_of
+pub none_is : no_comps ≡ comps_of set.empty
+none_is = comps_again zeros zeros_are (set.empty {K = ℕ} {R = nat_cmp}) none_of
+
+-- ---- one compartment more
+one_bit : (m : ℕ) → 1 * 2 ^ (m % 64) % 2 ^ 64 ≡ 2 ^ (m % 64)
+one_bit m =
+    let small : m % 64 < 64 = omega arith in
+    let one : 1 * 2 ^ (m % 64) ≡ 2 ^ (m % 64) = omega arith in
+    ap (λ n. n % 2 ^ 64) one ∙ mod-eq_of_lt (pow-lt small)
+
+pub with_is : (comps : Comps) (m w : ℕ) → w ≡ bit_or (get_or comps.words (m / 64) 0) (1 * 2 ^ (m % 64) % 2 ^ 64)
+    → record { words = set_at comps.words (m / 64) w } ≡ with_compartment comps (m + 1)
+unfolding with_compartment
+with_is comps m w is =
+    let e : m + 1 - 1 ≡ m = omega arith in
+    ap (λ v. record { words = set_at comps.words (m / 64) v }) (is ∙ ap (bit_or (get_or comps.words (m / 64) 0)) (one_bit m))
+    ∙ ap (λ k. record { words = set_at comps.words (k / 64) (bit_or (get_or comps.words (k / 64) 0) (2 ^ (k % 64))) }) (sym e)
+
+-- ---- the words of two sets with the same numbers up to 256
+number_same : (f g : ℕ → Bool) (k : ℕ) → ((i : ℕ) → i < k → f i ≡ g i) → number_with f k ≡ number_with g k
+unfolding number_with
+number_same f g zero same = refl
+number_same f g (suc k) same = rw (number_same f g k (λ i h. same i (omega (arith, h)))) (rw (same k (omega arith)) refl)
+
+word_same : (s t : FinSet nat_cmp) (k : ℕ) → k < 4 → ((q : ℕ) → 1 ≤ q → q ≤ 256 → set.contains s q ≡ set.contains t q) → word_of s k ≡ word_of t k
+word_same s t k small same =
+    number_same (λ i. set.contains s (64 * k + i + 1)) (λ i. set.contains t (64 * k + i + 1)) 64 (λ i h. same (64 * k + i + 1) (omega arith) (omega arith))
+
+words_same : (s t : FinSet nat_cmp) → ((q : ℕ) → 1 ≤ q → q ≤ 256 → set.contains s q ≡ set.contains t q) → words_of s ≡ words_of t
+words_same s t same =
+    ap (λ w. w ∷ word_of s 1 ∷ word_of s 2 ∷ word_of s 3 ∷ []) (word_same s t 0 (omega arith) same)
+    ∙ ap (λ w. word_of t 0 ∷ w ∷ word_of s 2 ∷ word_of s 3 ∷ []) (word_same s t 1 (omega arith) same)
+    ∙ ap (λ w. word_of t 0 ∷ word_of t 1 ∷ w ∷ word_of s 3 ∷ []) (word_same s t 2 (omega arith) same)
+    ∙ ap (λ w. word_of t 0 ∷ word_of t 1 ∷ word_of t 2 ∷ w ∷ []) (word_same s t 3 (omega arith) same)
+
+pub comps_same : (s t : FinSet nat_cmp) → ((q : ℕ) → 1 ≤ q → q ≤ 256 → set.contains s q ≡ set.contains t q) → comps_of s ≡ comps_of t
+unfolding comps_of
+comps_same s t same = ap (λ ws. record { words = ws }) (words_same s t same)
+
+-- ---- the value of a set
+words_fit : (s : FinSet nat_cmp) (k : ℕ) → get_or (words_of s) k 0 < 2 ^ 64
+words_fit s zero = bits_with (λ i. set.contains s (64 * 0 + i + 1)) 64
+words_fit s (suc zero) = bits_with (λ i. set.contains s (64 * 1 + i + 1)) 64
+words_fit s (suc (suc zero)) = bits_with (λ i. set.contains s (64 * 2 + i + 1)) 64
+words_fit s (suc (suc (suc zero))) = bits_with (λ i. set.contains s (64 * 3 + i + 1)) 64
+words_fit s (suc (suc (suc (suc k)))) = lit< tt
+
+pub set_are_words : (s : FinSet nat_cmp) → AreWords (comps_of s).words
+unfolding comps_of
+set_are_words s = record { four = refl; fit = words_fit s }
+
+bit_is : (b : Bool) → eqb (cond b 1 0) 1 ≡ b
+bit_is true = refl
+bit_is false = refl
+
+bit_of_set : (s : FinSet nat_cmp) (m : ℕ) → m < 256 → is_bit (words_of s) m ≡ set.contains s (suc m)
+bit_of_set s m h =
+    let k : ℕ = m / 64 in
+    let i : ℕ = m % 64 in
+    let place : 64 * k + i + 1 ≡ suc m = omega arith in
+    ap (λ w. eqb (bit_at w i) 1) (four_words s k (omega arith))
+    ∙ ap (λ b. eqb b 1) (bit_at_with (λ i. set.contains s (64 * k + i + 1)) 64 i (omega arith))
+    ∙ bit_is (set.contains s (64 * k + i + 1))
+    ∙ ap (set.contains s) place
+
+set_again : (s : FinSet nat_cmp) (q : ℕ) → 1 ≤ q → q ≤ 256 → set.contains (numbers_of (words_of s)) q ≡ set.contains s q
+set_again s zero least most = absurd (omega arith)
+set_again s (suc m) least most = contains_suc (words_of s) m ∙ within_all m (is_bit (words_of s) m) (omega (arith, most)) ∙ bit_of_set s m (omega (arith, most))
+
+insert_same : (s t : FinSet nat_cmp) (n q : ℕ) → set.contains s q ≡ set.contains t q → set.contains (set.insert s n) q ≡ set.contains (set.insert t n) q
+insert_same s t n q same = grind (arith, common_steps, members, same)
+
+-- one number more in a set is one compartment more in its value
+pub with_of_set : (s : FinSet nat_cmp) (n : ℕ) → 1 ≤ n → n ≤ 256 → with_compartment (comps_of s) n ≡ comps_of (set.insert s n)
+unfolding comps_of
+with_of_set s n least most =
+    let m : ℕ = n - 1 in
+    let words : List ℕ = words_of s in
+    let w : ℕ = bit_or (get_or words (m / 64) 0) (1 * 2 ^ (m % 64) % 2 ^ 64) in
+    let sets : SetsBit words m w = record { within = omega arith; four = refl; is = refl } in
+    let next : m + 1 ≡ n = omega arith in
+    ap (with_compartment (record { words = words })) (sym next)
+    ∙ sym (with_is (record { words = words }) m w refl)
+    ∙ ap (λ ws. record { words = ws }) (words_set words m w sets (record { four = refl; fit = words_fit s })
+    ∙ words_same (set.insert (numbers_of words) (m + 1)) (set.insert s (m + 1)) (λ q l h. insert_same (numbers_of words) s (m + 1) q (set_again s q l h)))
+    ∙ ap (λ k. comps_of (set.insert s k)) next

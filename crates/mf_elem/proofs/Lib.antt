@@ -1,3 +1,3 @@
+pub mod Among
 pub mod CompsLaws
-pub mod SameElement
 pub mod Valid

@@ -1,6 +1,5 @@
 -- Which values of these types are in bounds, and which requests a label text can spell.
 use Rattle.std.specs.Prelude.{◌≡◌, ℕ, ◌^◌, ◌<◌, List, length, slice_index, ◌≤◌, true, ◌||◌, is_some, IfSome}
-use Rattle.mf_elem.specs.declared.comps.Comps.{Comps}
 use Rattle.mf_elem.specs.declared.elem.TheConstants.{LAST_GRADE}
 use Rattle.mf_elem.specs.declared.label.TheConstants.{LAST_PARTITION}
 use Rattle.mf_elem.specs.declared.elem.Elem.{Elem}
@@ -13,14 +12,9 @@ pub record AreWords (words : List ℕ) : Type 0 where
   pub four : length words ≡ 4
   pub fit : (k : ℕ) → slice_index words k < 2 ^ 64
 
--- a grade of 16 bits, with compartments of the numbers that there are
-pub record IsGrade (grade : ℕ) (comps : Comps) : Type 0 where
-  pub fits : grade ≤ LAST_GRADE
-  pub are_words : AreWords comps.words
-
--- an element that a label text can spell
+-- an element that a label text can spell: a grade has 16 bits, and compartments of the numbers that there are
 abbrev pub IsElement : Elem → Type 0
-IsElement (Grade grade comps) = IsGrade grade comps
+IsElement (Grade grade comps) = (grade ≤ LAST_GRADE) × AreWords comps.words
 IsElement other = Unit
 
 -- a label that it can ask for: such an effective element, a range of such elements, or both

@@ -1,6 +1,6 @@
 -- Dominance of elements, and ranges, as mac_biba(4) and mac_mls(4) have them. That elements of one level have the same
 -- compartments too is this model's own choice.
-use Rattle.std.specs.Prelude.{Bool, true, false, nat_le, nat_eq, ◌&&◌, ◌||◌}
+use Rattle.std.specs.Prelude.{Bool, true, false, nat_le, ◌&&◌}
 use Rattle.std.specs.FinSet as set
 use Rattle.mf_elem.specs.Comps.{compartments_of}
 use Rattle.mf_elem.specs.declared.elem.Elem.{Elem}
@@ -19,17 +19,9 @@ abbrev pub is_equal : Elem → Bool
 is_equal Equal = true
 is_equal other = false
 
--- whether two elements are one, where compartments are compared as sets
-abbrev pub is_same_element : Elem → Elem → Bool
-is_same_element Low Low = true
-is_same_element High High = true
-is_same_element Equal Equal = true
-is_same_element (Grade grade comps) (Grade other others) = nat_eq grade other && set.is_subset (compartments_of others) (compartments_of comps) && set.is_subset (compartments_of comps) (compartments_of others)
-is_same_element a b = false
-
--- Whether two elements are of the same level: one is equal, or they are the same element, its compartments too.
+-- Whether two elements are of the same level: each dominates the other, as where one is equal, or they are the same, their compartments too.
 abbrev pub same_level : Elem → Elem → Bool
-same_level a b = is_equal a || is_equal b || is_same_element a b
+same_level a b = dominates a b && dominates b a
 
 -- the high end dominates the element, and the element the low end
 abbrev pub in_range : Elem → Elem → Elem → Bool

@@ -1,9 +1,9 @@
 -- What a range label says of its subject, which label is valid, and what a label text can ask for: ranges and the privilege of a subject are those
 -- of mac_biba(4) and mac_mls(4).
 use Rattle.std.specs.Option.{option_map_or, option_or}
-use Rattle.std.specs.Prelude.{Bool, true, false, ◌&&◌, ◌||◌, Option, Some, None}
+use Rattle.std.specs.Prelude.{Bool, true, false, ◌||◌, Option, Some, None}
 pub use Rattle.mf_elem.specs.Elem.{is_equal}
-use Rattle.mf_elem.specs.Elem.{in_range, is_same_element}
+use Rattle.mf_elem.specs.Elem.{in_range, range_in_range}
 use Rattle.mf_elem.specs.declared.elem.Elem.{Elem}
 use Rattle.mf_elem.specs.declared.elem.Elem.TheVariants.{Low, High}
 use Rattle.mf_elem.specs.declared.label.RangeLabel.{RangeLabel}
@@ -16,10 +16,10 @@ has_equal_effective effective = option_map_or is_equal effective false
 abbrev pub has_equal : RangeLabel → Bool
 has_equal label = has_equal_effective label.effective || option_map_or (λ ends. is_equal ends.0 || is_equal ends.1) label.range false
 
--- A subject with this label is privileged, since some part is `equal`, or its range is exactly low to high: it may ask for `equal` in a
+-- A subject with this label is privileged, since some part is `equal`, or its range goes from low to high: it may ask for `equal` in a
 -- relabel, and mac_biba lets it load modules. Privilege alone doesn't exempt it from the other checks.
 abbrev pub is_privileged : RangeLabel → Bool
-is_privileged label = has_equal label || option_map_or (λ ends. is_same_element ends.0 Low && is_same_element ends.1 High) label.range false
+is_privileged label = has_equal label || option_map_or (λ ends. range_in_range Low High ends.0 ends.1) label.range false
 
 -- the effective element is there, and lies in the range where that is there too
 abbrev pub is_valid : RangeLabel → Bool

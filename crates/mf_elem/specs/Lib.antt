@@ -2,3 +2,4 @@ pub mod Bounds
 pub mod Comps
 pub mod Elem
 pub mod Label
+pub mod OfSets

@@ -1,7 +1,7 @@
 //! Compartments: a set of numbers from 1 to 256.
 ghost use Rattle.std.specs.Prelude.{◌≡◌, ◌+◌, ◌<◌, ◌≤◌, length};
 ghost use Rattle.std.specs.FinSet as set;
-ghost use Rattle.mf_elem.specs.Comps.{numbers_of, words_of, compartments_of, comps_of};
+ghost use Rattle.mf_elem.specs.Comps.{compartments_of, no_comps, with_compartment};
 
 /// The greatest compartment; the least is 1.
 pub const LAST_COMPARTMENT: u16 = 256;
@@ -17,7 +17,7 @@ impl Comps {
     /// No compartments.
     pub fn empty() -> Comps
         ensures set { compartments_of result ≡ set.empty }
-        ensures value { result ≡ comps_of set.empty }
+        ensures value { result ≡ no_comps }
     {
         Comps { words: [0; 4] }
     }
@@ -27,7 +27,7 @@ impl Comps {
         requires least { 1 ≤ n }
         requires greatest { n ≤ LAST_COMPARTMENT }
         ensures set { compartments_of result ≡ set.insert (compartments_of self) n }
-        ensures value { result ≡ comps_of (set.insert (compartments_of self) n) }
+        ensures value { result ≡ with_compartment self n }
     {
         set_bit(&mut self.words, (n - 1) as usize);
         self
@@ -55,8 +55,8 @@ impl Comps {
 fn set_bit(words: &mut [u64], place: usize)
     requires four { length words.old ≡ 4 }
     requires within { place < LAST_COMPARTMENT }
-    ensures set { numbers_of words.new ≡ set.insert (numbers_of words.old) (place + 1) }
-    ensures value { words.new ≡ words_of (set.insert (numbers_of words.old) (place + 1)) }
+    ensures set { compartments_of (record { words = words.new }) ≡ set.insert (compartments_of (record { words = words.old })) (place + 1) }
+    ensures value { with_compartment (record { words = words.old }) (place + 1) ≡ record { words = words.new } }
 {
     words[place / 64] |= 1 << (place % 64);
 }
@@ -65,7 +65,7 @@ fn set_bit(words: &mut [u64], place: usize)
 fn is_covered(theirs: &[u64], mine: &[u64]) -> bool
     requires four { length theirs.now ≡ 4 }
     requires four_too { length mine.now ≡ 4 }
-    ensures { result ≡ set.is_subset (numbers_of theirs.now) (numbers_of mine.now) }
+    ensures { result ≡ set.is_subset (compartments_of (record { words = theirs.now })) (compartments_of (record { words = mine.now })) }
 {
     for k in 0..4 {
         if theirs[k] & mine[k] != theirs[k] {

@@ -1,3 +1,4 @@
 pub mod Errors
 pub mod Modules
 pub mod Privileges
+pub mod Standing

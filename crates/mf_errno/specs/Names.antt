@@ -1,5 +1,5 @@
 -- The names of the errors, as errno(2) has them, and of the modules, as their manual pages have them. The name of success is this model's own.
-use Rattle.std.specs.Prelude.{ℕ, List, [], ◌∷◌, Option, find, codes}
+use Rattle.std.specs.Prelude.{ℕ, List, [], ◌∷◌, ◌++◌, Option, find, codes}
 use Rattle.std.specs.Str.{bytes_eq}
 use Rattle.mf_errno.specs.declared.errno.Errno.{Errno}
 use Rattle.mf_errno.specs.declared.errno.Errno.TheVariants.{Success, Eperm, Enoent, Esrch, Edeadlk, Enomem, Eacces, Ebusy, Eexist, Enotdir, Eisdir, Einval, Enfile, Efbig, Eagain, Enobufs, Enotempty}
@@ -30,12 +30,16 @@ text_of Enotempty = codes "ENOTEMPTY"
 abbrev pub all_errors : List Errno
 all_errors = Success ∷ Eperm ∷ Enoent ∷ Esrch ∷ Edeadlk ∷ Enomem ∷ Eacces ∷ Ebusy ∷ Eexist ∷ Enotdir ∷ Eisdir ∷ Einval ∷ Enfile ∷ Efbig ∷ Eagain ∷ Enobufs ∷ Enotempty ∷ []
 
+-- the policy of a module, as label texts name it
+abbrev pub policy_text : Module → List ℕ
+policy_text Biba = codes "biba"
+policy_text Mls = codes "mls"
+policy_text Partition = codes "partition"
+policy_text Bsdextended = codes "bsdextended"
+policy_text Priority = codes "priority"
+
 abbrev pub module_text : Module → List ℕ
-module_text Biba = codes "mac_biba"
-module_text Mls = codes "mac_mls"
-module_text Partition = codes "mac_partition"
-module_text Bsdextended = codes "mac_bsdextended"
-module_text Priority = codes "mac_priority"
+module_text m = codes "mac_" ++ policy_text m
 
 -- all of them
 abbrev pub all_modules : List Module

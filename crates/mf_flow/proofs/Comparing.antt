@@ -9,9 +9,9 @@ use Rattle.std.specs.Cmp.{tied_itself}
 use Rattle.std.specs.Cmp.Lexicographic.{slice_cmp, nat_list_cmp_total, pointwise, same_text}
 use Rattle.std.specs.FinSet as set
 use Rattle.std.proofs.lemmas.Bool.Decides.{nat_tests}
-use Rattle.mf_elem.specs.Comps.{compartments_of}
+use Rattle.mf_elem.specs.Comps.{compartments_of, numbers_to, rising}
+use Rattle.mf_elem.proofs.CompsLaws.{rising_contained}
 use Rattle.mf_elem.specs.declared.comps.Comps.{Comps}
-use Rattle.mf_labeltext.specs.Canonical.{numbers_to, rising}
 use Rattle.mf_flow.specs.Numbers.{with_number}
 
 -- so many numbers from the one behind this on
@@ -154,12 +154,13 @@ compared_more f g most place order some others_some a b within so_far a_is b_is 
 pub all_compared : (comps others : Comps) (place : ℕ) (order : Ordering) (some others_some : Bool) → place ≡ 256
     → AreCompared (set.contains (compartments_of comps)) (set.contains (compartments_of others)) 256 place order some others_some
     → order ≡ slice_cmp nat_cmp (rising comps) (rising others)
-unfolding rising
 all_compared comps others place order some others_some is compared =
     let f : ℕ → Bool = set.contains (compartments_of comps) in
     let g : ℕ → Bool = set.contains (compartments_of others) in
     let last : AreCompared f g 256 256 order some others_some = subst (λ (k : ℕ). AreCompared f g 256 k order some others_some) is compared in
     last.ordered ∙ sym (ap (λ (ns : List ℕ). slice_cmp nat_cmp (filter f ns) (filter g ns)) (numbers_are 256))
+    ∙ ap (λ (ns : List ℕ). slice_cmp nat_cmp ns (filter g (numbers_to 256))) (sym (rising_contained comps))
+    ∙ ap (slice_cmp nat_cmp (rising comps)) (sym (rising_contained others))
 
 -- equal sets have equal lists
 pub equal_lists : (comps others : Comps) → true ≡ pointwise nat_eq comps.words others.words → Equal ≡ slice_cmp nat_cmp (rising comps) (rising others)

@@ -1,10 +1,9 @@
 -- The effective elements of entities: each has one, a new one has its maker's, and a relabel that asks for none leaves it.
-use Rattle.std.proofs.Common.{◌≡◌, ℕ, ◌<◌, true, false, List, Option, Some, None, slice_index_or, refl, ap, ◌∙◌}
+use Rattle.std.proofs.Common.{◌≡◌, ℕ, ◌<◌, true, false, if◌then◌else◌, List, Option, Some, None, slice_index_or, refl, ap, ◌∙◌}
 use Rattle.std.specs.Option.{option_map_or, option_or}
 use Rattle.std.specs.Prelude.{is_some, is_none}
 use Rattle.std.proofs.lemmas.Bool.{and_parts}
 use Rattle.mf_errno.specs.declared.module.Module.{Module}
-use Rattle.mf_errno.specs.declared.module.Module.TheVariants.{Biba, Mls}
 use Rattle.mf_elem.specs.declared.elem.Elem.{Elem}
 use Rattle.mf_elem.specs.declared.label.TheConstants.{SLOTS}
 use Rattle.mf_elem.specs.declared.label.LabelValue.{LabelValue}
@@ -15,13 +14,16 @@ use Rattle.mf_elem.specs.Label.{is_valid}
 use Rattle.mf_elem.proofs.Valid.{is_valid_for}
 use Rattle.mf_item.specs.declared.view.Kind.{Kind}
 use Rattle.mf_item.specs.declared.view.Kind.TheVariants as kinds
+use Rattle.mf_policy.specs.declared.modules.Labelling.{Labelling}
+use Rattle.mf_policy.specs.declared.modules.Labelling.TheVariants.{Ranges}
+use Rattle.mf_policy.proofs.EachModule.{has_elements}
 use Rattle.mf_policy.specs.declared.registration.Registration.{Registration}
 use Rattle.mf_policy.specs.Answer.{range_label}
-use Rattle.mf_policy.specs.Modules.{facts_of, inherited}
+use Rattle.mf_policy.specs.Modules.{facts_of, inherited, inherited_by, inherited_range, labels_by, number_asked, range_asked}
 use Rattle.mf_policy.specs.declared.labels.Origin.TheVariants.{Maker}
 use Rattle.mf_policy.specs.NewLabels.{new_label, new_value, value_of}
 use Rattle.mf_policy.specs.Registration.{Entry}
-use Rattle.mf_policy.specs.Relabelled.{range_after, relabelled, relabelled_value, value_after}
+use Rattle.mf_policy.specs.Relabelled.{after_by, range_after, relabelled, relabelled_value, value_after}
 use Rattle.mf_policy.specs.Relabelled.{value_of as relabelled_by}
 use Rattle.mf_list.specs.Asked.{slot_of}
 use Rattle.mf_objects.specs.declared.id.Id.{Id}
@@ -36,28 +38,25 @@ use Rattle.mf_flow.specs.Sources.{element_in, has_element}
 
 -- Elements as they are made
 
+range_inherits : (kind : Kind) (value : LabelValue) → (range_label (inherited_range kind value)).effective ≡ (range_label value).effective
+range_inherits kinds.Process value = refl
+range_inherits kinds.Vnode Unset = refl
+range_inherits kinds.Vnode (Range label) = refl
+range_inherits kinds.Vnode (Number n) = refl
+range_inherits kinds.Pipe Unset = refl
+range_inherits kinds.Pipe (Range label) = refl
+range_inherits kinds.Pipe (Number n) = refl
+range_inherits kinds.Socket Unset = refl
+range_inherits kinds.Socket (Range label) = refl
+range_inherits kinds.Socket (Number n) = refl
+
 inherits : (m : Module) (kind : Kind) (value : LabelValue) → IsLasting m → (range_label (inherited m kind value)).effective ≡ (range_label value).effective
-inherits Biba kinds.Process value lasting = refl
-inherits Biba kinds.Vnode Unset lasting = refl
-inherits Biba kinds.Vnode (Range label) lasting = refl
-inherits Biba kinds.Vnode (Number n) lasting = refl
-inherits Biba kinds.Pipe Unset lasting = refl
-inherits Biba kinds.Pipe (Range label) lasting = refl
-inherits Biba kinds.Pipe (Number n) lasting = refl
-inherits Biba kinds.Socket Unset lasting = refl
-inherits Biba kinds.Socket (Range label) lasting = refl
-inherits Biba kinds.Socket (Number n) lasting = refl
-inherits Mls kinds.Process value lasting = refl
-inherits Mls kinds.Vnode Unset lasting = refl
-inherits Mls kinds.Vnode (Range label) lasting = refl
-inherits Mls kinds.Vnode (Number n) lasting = refl
-inherits Mls kinds.Pipe Unset lasting = refl
-inherits Mls kinds.Pipe (Range label) lasting = refl
-inherits Mls kinds.Pipe (Number n) lasting = refl
-inherits Mls kinds.Socket Unset lasting = refl
-inherits Mls kinds.Socket (Range label) lasting = refl
-inherits Mls kinds.Socket (Number n) lasting = refl
-inherits other kind value lasting = absurd lasting
+inherits m kind value lasting = by_labels (facts_of m).labels lasting
+  where
+    by_labels : (labels : Labelling) → has_elements labels ≡ true
+        → (range_label (if labels_by labels kind then inherited_by labels kind value else Unset)).effective ≡ (range_label value).effective
+    by_labels (Ranges process other) elements = range_inherits kind value
+    by_labels other elements = cc
 
 -- a new entity has its maker's element
 pub created_element : (r : Registration) (specs : List Entry) (given : ℕ) (kind : Kind) (maker : List LabelValue) → slot_of r < SLOTS → IsPinned (slot_of r) r specs given
@@ -87,18 +86,16 @@ suits_some kinds.Vnode label suits = there_some label.effective (and_parts (is_s
 suits_some kinds.Pipe label suits = there_some label.effective (and_parts (is_some label.effective) (is_none label.range) suits).0
 suits_some kinds.Socket label suits = there_some label.effective (and_parts (is_some label.effective) (is_none label.range) suits).0
 
-valid_some : (m : Module) (kind : Kind) (value : LabelValue) → IsLasting m → holds_valid (facts_of m).labels kind value ≡ true → HasElement (range_label value).effective
-valid_some Biba kind Unset lasting valid = cc
-valid_some Biba kind (Range label) lasting valid = suits_some kind label valid
-valid_some Biba kind (Number n) lasting valid = cc
-valid_some Mls kind Unset lasting valid = cc
-valid_some Mls kind (Range label) lasting valid = suits_some kind label valid
-valid_some Mls kind (Number n) lasting valid = cc
-valid_some other kind value lasting valid = absurd lasting
+valid_some : (labels : Labelling) (kind : Kind) (value : LabelValue) → has_elements labels ≡ true → holds_valid labels kind value ≡ true
+    → HasElement (range_label value).effective
+valid_some (Ranges process other) kind Unset elements valid = cc
+valid_some (Ranges process other) kind (Range label) elements valid = suits_some kind label valid
+valid_some (Ranges process other) kind (Number n) elements valid = cc
+valid_some labels kind value elements valid = cc
 
 -- each live entity has an element
 pub all_labelled : (r : Registration) (s : State) → IsHeld (slot_of r) r s → (id : Id) (e : LiveEntity) → live_at s.objects id ≡ Some e → HasElement (element_in r e.label)
-all_labelled r s held id e live = valid_some r.module (kind_of e.what) (value_in (slot_of r) e) held.pinned.lasting (held.valid id e live)
+all_labelled r s held id e live = valid_some (facts_of r.module).labels (kind_of e.what) (value_in (slot_of r) e) held.pinned.lasting (held.valid id e live)
 
 -- Elements as they are asked
 
@@ -114,9 +111,12 @@ range_keeps (Some asked) value none = one asked.effective none
 
 keeps_element : (m : Module) (request : Request) (value : LabelValue) → IsLasting m → has_element m request ≡ false
     → (range_label (value_after m request value)).effective ≡ (range_label value).effective
-keeps_element Biba request value lasting none = range_keeps request.biba value none
-keeps_element Mls request value lasting none = range_keeps request.mls value none
-keeps_element other request value lasting none = absurd lasting
+keeps_element m request value lasting none = by_labels (facts_of m).labels lasting
+  where
+    by_labels : (labels : Labelling) → has_elements labels ≡ true
+        → (range_label (after_by labels (range_asked m request) (number_asked m request) value)).effective ≡ (range_label value).effective
+    by_labels (Ranges process other) elements = range_keeps (range_asked m request) value none
+    by_labels other elements = cc
 
 -- a relabel that asks for no element leaves it
 pub relabelled_element : (r : Registration) (specs : List Entry) (given : ℕ) (request : Request) (label : List LabelValue) → slot_of r < SLOTS → IsPinned (slot_of r) r specs given

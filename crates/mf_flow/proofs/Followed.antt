@@ -1,51 +1,52 @@
 -- The rows that are kept while a history is gone through are its sources.
-use Rattle.std.proofs.Common.{◌≡◌, ℕ, ◌<◌, ◌+◌, suc, List, [], ◌∷◌, length, drop, get_or, Option, Some, None, refl, ap, sym, ◌∙◌, subst, arith}
-use Rattle.std.specs.Prelude.{IfSome}
-use Rattle.std.specs.Prelude.{fold}
+use Rattle.std.proofs.Common.{◌≡◌, ℕ, ◌<◌, ◌+◌, suc, List, [], ◌∷◌, length, drop, get_or, map, Option, Some, None, Result, Ok, Err, refl, ap, sym, ◌∙◌, subst, arith}
+use Rattle.std.specs.Prelude.{OnOk, fold}
 use Rattle.std.specs.List.{AllByRecursion}
 use Rattle.std.proofs.Math.Seq.{drop-cons}
+use Rattle.mf_core.proofs.LookedUp.{reply_at, state_at}
 use Rattle.mf_errno.specs.declared.errno.Errno.TheVariants.{Success}
-use Rattle.mf_errno.specs.declared.module.Module.{Module}
-use Rattle.mf_errno.specs.declared.module.Module.TheVariants.{Biba, Mls}
 use Rattle.mf_elem.specs.declared.label.TheConstants.{SLOTS}
 use Rattle.mf_item.specs.Item.{Item}
 use Rattle.mf_policy.specs.declared.registration.Registration.{Registration}
 use Rattle.mf_policy.specs.Answer.{LatticePolicy, lattice_answer}
 use Rattle.mf_list.specs.Asked.{slot_of}
+use Rattle.mf_objects.proofs.Entities.{label_of as values_of}
 use Rattle.mf_objects.specs.Live.{LiveEntity, Entities}
-use Rattle.mf_objects.specs.Live.{label_of as values_of}
 use Rattle.mf_calls.specs.declared.script.Line.{Line}
 use Rattle.mf_calls.specs.declared.script.Script.{Script}
 use Rattle.mf_calls.specs.Tasks.{name_of}
 use Rattle.mf_calls.specs.WellFormed.{IsWellFormed}
 use Rattle.mf_plan.specs.declared.state.State.{State}
 use Rattle.mf_plan.specs.declared.reply.Reply.{Reply}
-use Rattle.mf_plan.specs.Plan.{plan_of}
+use Rattle.mf_plan.specs.Plan.{plan_of, row_of as call_row}
 use Rattle.mf_step.specs.Step.{step_payload, step_reply, step_state}
 use Rattle.mf_core.specs.declared.history.Event.{Event}
 use Rattle.mf_core.specs.declared.history.Event.TheVariants as event
 use Rattle.mf_core.specs.declared.history.History.{History}
 use Rattle.mf_core.specs.Opening.{opening_state}
 use Rattle.mf_core.specs.Progress.{progress_at}
-use Rattle.mf_core.specs.LegalHistory.{RunState, opening, next_line, reply_at, state_at, MayCome, after, AllMayCome, run_state_after, run_state_of, IsLegal}
+use Rattle.mf_core.specs.LegalHistory.{RunState, opening, next_line, MayCome, after, AllMayCome, run_state_of, IsLegal}
 use Rattle.mf_core.specs.RunView.{RunView}
 use Rattle.mf_step.proofs.StateChange.{Deed, StateChange}
 use Rattle.mf_step.proofs.EntityChange.{ChangesEntities, changes_entities}
 use Rattle.mf_lifetimes.proofs.Marked.{by_line, event_change}
 use Rattle.mf_step.specs.Passed.{passed}
 use Rattle.mf_flow.specs.declared.following.Flow.{Flow}
-use Rattle.mf_flow.specs.declared.following.Flows.{Flows}
-use Rattle.mf_flow.specs.Rows.{Alike, AreKept, AreOwnRows, AreRows, IsBooted, IsFlowOf, IsKept, IsOpening, Rows, rows_moved, rows_created, rows_after_line, rows_after_event, flows_moved, flows_created, flows_given, flows_after_line, flows_after_event}
-use Rattle.mf_flow.specs.Sources.{Sets, alone, element_in, moved_by_all, sets_after_line, sets_after_event, opening_sets, sets_after, sources_of}
+use Rattle.mf_flow.specs.Rows.{AreKept, AreOwnRows, AreRows, EachBecomes, HasSlot, IsFlowOf, IsKept, IsOpening, Rows, rows_moved, rows_created, rows_after_line, rows_after_event, flow_after_event}
+use Rattle.mf_flow.specs.Sources.{Sets, alone, element_in, sets_after_line, sets_after_event, opening_sets, sets_after, sources_of}
+use Rattle.mf_flow.proofs.Across.{moved_by_all}
 use Rattle.mf_step.proofs.Granted.{IsGranted}
 use Rattle.mf_flow.proofs.Granted.{passed_granted, all_passed}
 use Rattle.mf_flow.proofs.Copies.{IsCopied, plan_copied}
 use Rattle.mf_flow.proofs.Elements.{all_labelled}
 use Rattle.mf_flow.proofs.Relabels.{relabel_state}
 use Rattle.mf_flow.proofs.Flowing.{IsFlowing, IsOf, deed_of, own_answer, line_objects, event_flowing, opening_flowing}
-use Rattle.mf_flow.proofs.RowsKept.{items_rows}
+use Rattle.mf_flow.proofs.RowsKept.{items_rows, kept_itself}
 use Rattle.mf_flow.proofs.RowsAfter.{change_next, created_rows, given_rows}
-use Rattle.mf_flow.proofs.Dominating.{IsBootedFor, AreBootedFor}
+use Rattle.mf_flow.specs.Table.{sourced}
+use Rattle.mf_lifetimes.proofs.Files.{all_both, all_from}
+use Rattle.mf_flow.proofs.Becoming.{all_becoming, becomes_itself, by_registration, same_registrations}
+use Rattle.mf_flow.proofs.Dominating.{IsBootedFor, IsSourced, all_sourced}
 
 call_rows : (p : LatticePolicy) (r : Registration) (s s' : State) (task : List ℕ) (line : Line) (said : Reply) (sets : Sets) (rows : Rows) → IsOf p r
     → step_reply s task line.child line.call ≡ said → s' ≡ step_state s task line.child line.call → StateChange (deed_of s task line said) s s' → IsFlowing p r s sets → AreRows s.objects sets rows
@@ -58,7 +59,7 @@ call_rows p r s s' task line said sets rows of is after_is shape flowing are =
     subst (λ (x : Reply). AllByRecursion (IsGranted s.specs) (passed x (plan_of s task line.child line.call).items)) is
     (passed_granted s.specs (plan_of s task line.child line.call) (step_payload s task line.child line.call)) in
     let copied : AllByRecursion (IsCopied s.objects) items =
-    all_passed (IsCopied s.objects) said (plan_of s task line.child line.call).items (plan_copied s task line.call by.caller) in
+    all_passed (IsCopied s.objects) said (plan_of s task line.child line.call).items (plan_copied s (call_row s task line.child line.call)) in
     let success : AllByRecursion (λ (item : Item). lattice_answer p (slot_of r) item ≡ Success) items = own_answer p r s.specs s.numbers items of flowing.held.pinned granted in
     let moved : Sets = moved_by_all r s.objects sets items in
     let moved_rows : Rows = fold (rows_moved (slot_of r) s.objects) rows items in
@@ -101,26 +102,24 @@ kept_rows o sets rows rows' kept are =
 pub record IsReplayed (s : Script) (es : List Event) (n : ℕ) (replay : RunView) : Type 0 where
   pub script : replay.script ≡ s
   pub may : AllMayCome s replay.run (drop n es)
-  pub run : run_state_after s replay.run (drop n es) ≡ run_state_after s (opening s) es
+  pub run : fold (after s) replay.run (drop n es) ≡ fold (after s) (opening s) es
 
 -- the sources so far, and how the rest leads to those of the history
-record Followed (p : LatticePolicy) (s : Script) (r : Registration) (es : List Event) (n : ℕ) (replay : RunView) (rows : Rows) : Type 0 where
+pub record Followed (p : LatticePolicy) (s : Script) (r : Registration) (es : List Event) (n : ℕ) (replay : RunView) (rows : Rows) : Type 0 where
   sets : Sets
   flows : sets_after s r replay.run sets (drop n es) ≡ sources_of s r es
   flowing : IsFlowing p r replay.run.state sets
   kept : AreRows replay.run.state.objects sets rows
 
 -- the same for the policy that is booted so
-record IsFollowed (s : Script) (r : Registration) (es : List Event) (n : ℕ) (replay : RunView) (rows : Rows) : Type 0 where
+pub record IsFollowed (s : Script) (r : Registration) (es : List Event) (n : ℕ) (replay : RunView) (rows : Rows) : Type 0 where
   policy : LatticePolicy
   of : IsOf policy r
   followed : Followed policy s r es n replay rows
 
--- the same for the sources by a policy that is the module's
-pub record IsFlow (m : Module) (s : Script) (es : List Event) (n : ℕ) (replay : RunView) (r : Registration) (f : Flow) : Type 0 where
-  slot : f.slot ≡ slot_of r
-  of_module : r.module ≡ m
-  rows : IsFollowed s r es n replay f.sets
+-- the same for the sources that are kept by a policy
+abbrev pub IsFlow : Script → List Event → ℕ → RunView → Flow → Type 0
+IsFlow s es n replay f = IsFollowed s f.registration es n replay f.sets
 
 -- At the opening
 
@@ -155,21 +154,22 @@ own_sources_rows s r o rows here own =
       each = λ id e live. at.each id e live ∙ ap (λ (found : Option LiveEntity). alone (element_in r (values_of found))) (sym live);
     }
 
-pub opening_flows : (p : LatticePolicy) (m : Module) (s : Script) (h : History) (r : Option Registration) (es : List Event) (replay : RunView) (state : State) (flow : Option Flow) → AreBootedFor p m s h
-    → es ≡ h.events.list → IsWellFormed s → IfSome r (IsBooted m h) → replay ≡ record { script = s; run = opening s } → state ≡ replay.run.state → Alike (IsOpening state.objects) r flow
-    → Alike (IsFlow m s es 0 replay) r flow
-opening_flows p m s h None es replay state flow policies all formed booted is here none = none
-opening_flows p m s h (Some r) es replay state flow policies all formed booted is here opened =
+pub opening_flows : (s : Script) (h : History) (booted : List Registration) (es : List Event) (replay : RunView) (state : State) (flows : List Flow)
+    → IsWellFormed s → IsLegal s h → booted ≡ sourced h.boots → es ≡ h.events.list → replay ≡ record { script = s; run = opening s } → state ≡ replay.run.state
+    → map (λ (f : Flow). f.registration) flows ≡ booted → AllByRecursion (IsOpening state.objects) flows → AllByRecursion (IsFlow s es 0 replay) flows
+opening_flows s h booted es replay state flows formed legal are all is here registered opened =
     let at : state.objects ≡ (opening_state s).objects = ap (λ (x : State). x.objects) (here ∙ ap (λ (x : RunView). x.run.state) is) in
-    let f : Flow = opened.0 in (
-      f,
-      opened.1,
-      record {
-        slot = opened.2.0;
-        of_module = booted.1;
-        rows = opening_followed p s h r es replay f.sets (policies r booted) all formed is (own_sources_rows s r state.objects f.sets at opened.2.1);
-      },
-    )
+    all_from (λ (f : Flow). IsSourced s f.registration × IsOpening state.objects f) (IsFlow s es 0 replay) flows
+    (λ f both. opening_followed both.0.policy s h f.registration es replay f.sets both.0.booted all formed is (own_sources_rows s f.registration state.objects f.sets at both.1))
+    (all_both (λ (f : Flow). IsSourced s f.registration) (IsOpening state.objects) flows
+    (by_registration (IsSourced s) flows (subst (AllByRecursion (IsSourced s)) (sym (registered ∙ are)) (all_sourced s h formed legal))) opened)
+
+-- the slots of the policies that were booted
+pub slots_within : (s : Script) (h : History) (booted : List Registration) → IsWellFormed s → IsLegal s h → booted ≡ sourced h.boots
+    → AllByRecursion (λ r. slot_of r < SLOTS) booted
+slots_within s h booted formed legal are =
+    all_from (IsSourced s) (λ r. slot_of r < SLOTS) booted (λ r sourced. sourced.booted.of.within)
+    (subst (AllByRecursion (IsSourced s)) (sym are) (all_sourced s h formed legal))
 
 -- The next event
 
@@ -187,7 +187,7 @@ replayed_more s es n replay replay' e d within so_far is next =
     let place : suc n ≡ n + 1 = omega arith in
     subst (λ (k : ℕ). IsReplayed s es k replay') place
     (subst (λ (x : RunView). IsReplayed s es (suc n) x) (sym next)
-    (record { script = refl; may = may.1; run = sym (ap (run_state_after s replay.run) rest) ∙ so_far.run }))
+    (record { script = refl; may = may.1; run = sym (ap (fold (after s) replay.run) rest) ∙ so_far.run }))
 
 followed_more : (s : Script) (r : Registration) (es : List Event) (n : ℕ) (replay replay' : RunView) (rows rows' rows'' : Rows) (e d : Event) → n < length es
     → IsReplayed s es n replay → IsFollowed s r es n replay rows → e ≡ get_or es n d → replay' ≡ record { script = s; run = after s replay.run e }
@@ -214,93 +214,43 @@ followed_more s r es n replay replay' rows rows' rows'' e d within replayed foll
       };
     }))
 
--- the sources by one policy after an event
+-- what the sources by a policy become, once those of what is gone may be emptied
+abbrev pub Becomes : Script → RunState → Event → Flow → Flow → Type 0
+Becomes s run e f new = IsKept (after s run e).state.objects (flow_after_event s run e f) new
 
-abbrev flow_after_line : Module → State → State → List ℕ → Option Line → Reply → Option Flow → Option Flow
-flow_after_line m s s' task next said None = None
-flow_after_line m s s' task next said (Some f) = Some (record f { sets = rows_after_line f.slot m s s' task next said f.sets })
+-- an event that moves nothing
+pub unmoved : (s : Script) (run : RunState) (e e' : Event) (flows : List Flow) → e ≡ e' → ((f : Flow) → flow_after_event s run e' f ≡ f) → EachBecomes (Becomes s run e) flows flows
+unmoved s run e e' flows is same =
+    subst (λ (x : Event). EachBecomes (Becomes s run x) flows flows) (sym is)
+    (becomes_itself (Becomes s run e') flows (λ f.
+    subst (λ (x : Flow). IsKept (after s run e').state.objects x f) (sym (same f)) (record { registration = refl; sets = kept_itself (after s run e').state.objects f.sets })))
 
-abbrev pub flow_after_event : Module → Script → RunState → Event → Option Flow → Option Flow
-flow_after_event m s run e None = None
-flow_after_event m s run e (Some f) = Some (record f { sets = rows_after_event s f.slot m run e f.sets })
+-- what is so anyway is so of a value, where there is one
+pub where_ok : {T E P : Type 0} (r : Result T E) → P → OnOk r P
+where_ok (Ok value) so = so
+where_ok (Err error) so = tt
 
-line_biba : (s s' : State) (task : List ℕ) (next : Option Line) (said : Reply) (biba mls : Option Flow)
-    → (flows_after_line s s' task next said (record { biba = biba; mls = mls })).biba ≡ flow_after_line Biba s s' task next said biba
-unfolding flows_moved flows_created flows_given
-line_biba s s' task None said None mls = refl
-line_biba s s' task None said (Some f) mls = refl
-line_biba s s' task (Some next) said None mls = refl
-line_biba s s' task (Some next) said (Some f) mls = refl
+flow_more : (s : Script) (es : List Event) (n : ℕ) (replay replay' : RunView) (e d : Event) (f new : Flow) → n < length es → IsReplayed s es n replay → e ≡ get_or es n d
+    → replay' ≡ record { script = s; run = after s replay.run e } → Becomes s replay.run e f new → IsFlow s es n replay f → IsFlow s es (n + 1) replay' new
+flow_more s es n replay replay' e d f new within replayed is next becomes so_far =
+    subst (λ (r : Registration). IsFollowed s r es (n + 1) replay' new.sets) (sym becomes.registration)
+    (followed_more s f.registration es n replay replay' f.sets (flow_after_event s replay.run e f).sets new.sets e d within replayed so_far is next refl becomes.sets)
 
-line_mls : (s s' : State) (task : List ℕ) (next : Option Line) (said : Reply) (biba mls : Option Flow)
-    → (flows_after_line s s' task next said (record { biba = biba; mls = mls })).mls ≡ flow_after_line Mls s s' task next said mls
-unfolding flows_moved flows_created flows_given
-line_mls s s' task None said biba None = refl
-line_mls s s' task None said biba (Some f) = refl
-line_mls s s' task (Some next) said biba None = refl
-line_mls s s' task (Some next) said biba (Some f) = refl
+pub flows_more : (s : Script) (es : List Event) (n : ℕ) (replay replay' : RunView) (e d : Event) (flows flows' : List Flow) → n < length es → IsReplayed s es n replay
+    → e ≡ get_or es n d → replay' ≡ record { script = s; run = after s replay.run e } → EachBecomes (Becomes s replay.run e) flows flows'
+    → AllByRecursion (IsFlow s es n replay) flows → AllByRecursion (IsFlow s es (n + 1) replay') flows'
+flows_more s es n replay replay' e d flows flows' within replayed is next become all =
+    all_becoming (Becomes s replay.run e) (IsFlow s es n replay) (IsFlow s es (n + 1) replay') flows flows'
+    (λ f new becomes so_far. flow_more s es n replay replay' e d f new within replayed is next becomes so_far) become all
 
-pub biba_after : (s : Script) (run : RunState) (e : Event) (flows : Flows) → (flows_after_event s run e flows).biba ≡ flow_after_event Biba s run e flows.biba
-biba_after s run e flows = one e flows.biba flows.mls
-  where
-    one : (e : Event) (biba mls : Option Flow) → (flows_after_event s run e (record { biba = biba; mls = mls })).biba ≡ flow_after_event Biba s run e biba
-    one (event.Enter t) None mls = refl
-    one (event.Enter t) (Some f) mls = refl
-    one (event.Done t line said) None mls =
-        line_biba run.state (after s run (event.Done t line said)).state (name_of s t) (next_line s run.progress t) said None mls
-    one (event.Done t line said) (Some f) mls =
-        line_biba run.state (after s run (event.Done t line said)).state (name_of s t) (next_line s run.progress t) said (Some f) mls
-    one (event.Leave t) None mls = refl
-    one (event.Leave t) (Some f) mls = refl
-    one (event.Changed t line said) None mls = refl
-    one (event.Changed t line said) (Some f) mls = refl
+-- of the same policies
+pub still_registered : (s : Script) (run : RunState) (e : Event) (flows flows' : List Flow) → EachBecomes (Becomes s run e) flows flows'
+    → map (λ (f : Flow). f.registration) flows' ≡ map (λ (f : Flow). f.registration) flows
+still_registered s run e flows flows' become = same_registrations (Becomes s run e) flows flows' (λ f new becomes. becomes.registration) become
 
-pub mls_after : (s : Script) (run : RunState) (e : Event) (flows : Flows) → (flows_after_event s run e flows).mls ≡ flow_after_event Mls s run e flows.mls
-mls_after s run e flows = one e flows.biba flows.mls
-  where
-    one : (e : Event) (biba mls : Option Flow) → (flows_after_event s run e (record { biba = biba; mls = mls })).mls ≡ flow_after_event Mls s run e mls
-    one (event.Enter t) biba None = refl
-    one (event.Enter t) biba (Some f) = refl
-    one (event.Done t line said) biba None =
-        line_mls run.state (after s run (event.Done t line said)).state (name_of s t) (next_line s run.progress t) said biba None
-    one (event.Done t line said) biba (Some f) =
-        line_mls run.state (after s run (event.Done t line said)).state (name_of s t) (next_line s run.progress t) said biba (Some f)
-    one (event.Leave t) biba None = refl
-    one (event.Leave t) biba (Some f) = refl
-    one (event.Changed t line said) biba None = refl
-    one (event.Changed t line said) biba (Some f) = refl
-
-pub flow_more : (m : Module) (s : Script) (r : Option Registration) (es : List Event) (n : ℕ) (replay replay' : RunView) (state : State) (flow flow' flow'' : Option Flow) (e d : Event) → n < length es
-    → IsReplayed s es n replay → Alike (IsFlow m s es n replay) r flow → e ≡ get_or es n d → replay' ≡ record { script = s; run = after s replay.run e } → state ≡ replay'.run.state
-    → flow' ≡ flow_after_event m s replay.run e flow → Alike (IsKept state.objects) flow' flow'' → Alike (IsFlow m s es (n + 1) replay') r flow''
-flow_more m s None es n replay replay' state flow flow' flow'' e d within replayed none is next here then kept =
-    let still : flow' ≡ None = then ∙ ap (flow_after_event m s replay.run e) none in
-    subst (λ (x : Option Flow). Alike (IsKept state.objects) x flow'') still kept
-flow_more m s (Some r) es n replay replay' state flow flow' flow'' e d within replayed so_far is next here then kept =
-    let f : Flow = so_far.0 in
-    let f' : Flow = record f { sets = rows_after_event s f.slot m replay.run e f.sets } in
-    let now : flow' ≡ Some f' = then ∙ ap (flow_after_event m s replay.run e) so_far.1 in
-    let left = subst (λ (x : Option Flow). Alike (IsKept state.objects) x flow'') now kept in
-    let at : state.objects ≡ (after s replay.run e).state.objects = ap (λ (x : State). x.objects) (here ∙ ap (λ (x : RunView). x.run.state) next) in (
-      left.0,
-      left.1,
-      record {
-        slot = left.2.0 ∙ so_far.2.slot;
-        of_module = so_far.2.of_module;
-        rows = followed_more s r es n replay replay' f.sets f'.sets left.0.sets e d within replayed so_far.2.rows is next
-            (ap (λ (k : ℕ). rows_after_event s k m replay.run e f.sets) so_far.2.slot
-            ∙ ap (λ (x : Module). rows_after_event s (slot_of r) x replay.run e f.sets) (sym so_far.2.of_module))
-            (subst (λ (o : Entities). AreKept o f'.sets left.0.sets) at left.2.1);
-      },
-    )
-
--- the policy's slot
-pub flow_slot : (m : Module) (s : Script) (r : Option Registration) (es : List Event) (n : ℕ) (replay : RunView) (flow : Option Flow) → Alike (IsFlow m s es n replay) r flow
-    → IfSome flow (λ f. f.slot < SLOTS)
-flow_slot m s None es n replay flow none = subst (λ (x : Option Flow). IfSome x (λ f. f.slot < SLOTS)) (sym none) tt
-flow_slot m s (Some r) es n replay flow so_far =
-    let within : slot_of r < SLOTS = so_far.2.rows.of.within in
-    subst (λ (x : Option Flow). IfSome x (λ f. f.slot < SLOTS)) (sym so_far.1) (omega (arith, so_far.2.slot, within))
+-- the policies' slots
+pub flow_slots : (s : Script) (es : List Event) (n : ℕ) (replay : RunView) (flows : List Flow) → AllByRecursion (IsFlow s es n replay) flows → AllByRecursion HasSlot flows
+flow_slots s es n replay flows all = all_from (IsFlow s es n replay) HasSlot flows (λ f so_far. so_far.of.within) all
 
 -- At the end
 
@@ -312,19 +262,18 @@ pub all_replayed : (s : Script) (h : History) (es : List Event) (n : ℕ) (repla
     → replay.run ≡ run_state_of s h.events.list
 all_replayed s h es n replay all is replayed =
     let none : drop n es ≡ [] = ap (λ (k : ℕ). drop k es) is ∙ nothing_left es in
-    sym (ap (run_state_after s replay.run) none) ∙ replayed.run ∙ ap (run_state_of s) all
+    sym (ap (fold (after s) replay.run) none) ∙ replayed.run ∙ ap (run_state_of s) all
 
-pub all_flows : (m : Module) (s : Script) (h : History) (r : Option Registration) (es : List Event) (n : ℕ) (replay : RunView) (flow : Option Flow) → es ≡ h.events.list → n ≡ length es
-    → IsReplayed s es n replay → Alike (IsFlow m s es n replay) r flow → Alike (IsFlowOf s h) r flow
-all_flows m s h None es n replay flow all is replayed none = none
-all_flows m s h (Some r) es n replay flow all is replayed so_far =
-    let followed = so_far.2.rows.followed in
-    let rows : Rows = so_far.0.sets in
-    let run : replay.run ≡ run_state_of s h.events.list = all_replayed s h es n replay all is replayed in
-    let none : drop n es ≡ [] = ap (λ (k : ℕ). drop k es) is ∙ nothing_left es in
-    let flows : followed.sets ≡ sources_of s r h.events.list = sym (ap (sets_after s r replay.run followed.sets) none) ∙ followed.flows ∙ ap (sources_of s r) all in (
-      so_far.0,
-      so_far.1,
-      subst (λ (x : RunState). AreRows x.state.objects (sources_of s r h.events.list) rows) run
-          (subst (λ (x : Sets). AreRows replay.run.state.objects x rows) flows followed.kept),
-    )
+pub all_flows : (s : Script) (h : History) (es : List Event) (n : ℕ) (replay : RunView) (flows : List Flow) → es ≡ h.events.list → n ≡ length es
+    → IsReplayed s es n replay → AllByRecursion (IsFlow s es n replay) flows → AllByRecursion (IsFlowOf s h) flows
+all_flows s h es n replay flows all is replayed so_far = all_from (IsFlow s es n replay) (IsFlowOf s h) flows one so_far
+  where
+    one : (f : Flow) → IsFlow s es n replay f → IsFlowOf s h f
+    one f so_far =
+        let followed = so_far.followed in
+        let r : Registration = f.registration in
+        let run : replay.run ≡ run_state_of s h.events.list = all_replayed s h es n replay all is replayed in
+        let none : drop n es ≡ [] = ap (λ (k : ℕ). drop k es) is ∙ nothing_left es in
+        let flows : followed.sets ≡ sources_of s r h.events.list = sym (ap (sets_after s r replay.run followed.sets) none) ∙ followed.flows ∙ ap (sources_of s r) all in
+        subst (λ (x : RunState). AreRows x.state.objects (sources_of s r h.events.list) f.sets) run
+        (subst (λ (x : Sets). AreRows replay.run.state.objects x f.sets) flows followed.kept)

@@ -1,16 +1,16 @@
 -- Rows of live entities, one after another.
-use Rattle.std.proofs.Common.{◌≡◌, ℕ, ◌<◌, ◌≤◌, ◌+◌, zero, suc, Bool, true, false, cond, nat_le, List, [], ◌∷◌, ◌++◌, append_assoc, length, map, take, get_or, slice_get, Option, Some, None, IfSome, IsSome, refl, ap, sym, ◌∙◌, subst, arith, length-append, ◌⊎◌, inl, inr}
-use Rattle.std.specs.Prelude.{find, Contains}
+use Rattle.std.proofs.Common.{◌≡◌, ℕ, ◌<◌, ◌≤◌, ◌+◌, zero, suc, Bool, true, false, cond, nat_le, List, [], ◌∷◌, ◌++◌, append_assoc, length, map, take, get_or, slice_get, Option, Some, None, IfSome, IsSome, Result, Ok, Err, refl, ap, sym, ◌∙◌, subst, arith, length-append, ◌⊎◌, inl, inr}
+use Rattle.std.specs.Prelude.{find, IfOk}
+use Rattle.std.specs.declared.alloc.AllocError.{AllocError}
+use Rattle.std.specs.List.{AllByRecursion, flat_map}
+use Rattle.std.proofs.lemmas.List.{flat_map_more}
+use Rattle.std.proofs.lemmas.List.Elements.{All-from_recursion}
+use Rattle.std.proofs.lemmas.List.Folds.{flat_map-map}
 use Rattle.std.proofs.lemmas.Bool.Decides.{nat_tests}
-use Rattle.mf_errno.specs.Same.{same_module}
 use Rattle.mf_errno.specs.declared.module.Module.{Module}
-use Rattle.mf_errno.proofs.Modules.{same_module-is}
 use Rattle.mf_elem.specs.declared.elem.Elem.{Elem}
-use Rattle.mf_elem.specs.declared.label.TheConstants.{SLOTS}
 use Rattle.mf_elem.specs.Label.{is_equal}
 use Rattle.mf_policy.specs.declared.registration.Registration.{Registration}
-use Rattle.mf_policy.specs.Answer.{LatticePolicy}
-use Rattle.mf_list.specs.Asked.{slot_of}
 use Rattle.mf_objects.specs.declared.id.Id.{Id}
 use Rattle.mf_objects.specs.Live.{LiveEntity, Entities, has_id, id_of, live_at}
 use Rattle.mf_objects.specs.Lives.{is_from}
@@ -19,14 +19,15 @@ use Rattle.mf_objects.specs.Titles.{title_at}
 use Rattle.mf_objects.proofs.Rising.{id_differs}
 use Rattle.mf_calls.specs.declared.script.Script.{Script}
 use Rattle.mf_core.specs.declared.history.History.{History}
+use Rattle.mf_core.specs.LegalHistory.{run_state_of}
 use Rattle.mf_objects.proofs.Finding.{find_given}
+use Rattle.mf_flow.specs.declared.following.Flow.{Flow}
 use Rattle.mf_flow.specs.declared.table.Row.{Row}
 use Rattle.mf_flow.specs.Order.{union}
-use Rattle.mf_flow.specs.Rows.{AreOwnRows, AreRows, IsBooted, Rows, row, element_of, new_row}
-use Rattle.mf_flow.specs.Sources.{Sets, alone, held_by}
-use Rattle.mf_flow.specs.Table.{booted_as, row_of, rows_in}
+use Rattle.mf_flow.specs.Rows.{AreOwnRows, AreRows, IsFlowOf, Rows, row, element_of, new_row}
+use Rattle.mf_flow.specs.Sources.{Sets, alone, held_by, sources_of}
+use Rattle.mf_flow.specs.Table.{row_of, rows_for, rows_in, sourced, table_of}
 use Rattle.mf_flow.proofs.RowsKept.{first_from, former_row, last_row}
-use Rattle.mf_flow.proofs.Dominating.{AreBootedFor}
 
 -- Own elements
 
@@ -257,26 +258,40 @@ all_sources m o rows before table from n sets rising so_far all are =
     all_listed m o rows before table from n so_far all
     ∙ ap (λ (xs : List Row). before ++ xs) (same_rows m o sets rows 0 o.next o.live rising (λ e found. are.each e.id e found))
 
--- The policies that were booted
+-- The policies, one after another
 
--- the slot of a policy that was booted
-pub slot_within : (p : LatticePolicy) (m : Module) (s : Script) (h : History) (r : Option Registration) → AreBootedFor p m s h → IfSome r (IsBooted m h) → IfSome r (λ x. slot_of x < SLOTS)
-slot_within p m s h None all booted = tt
-slot_within p m s h (Some r) all booted = (all r booted).of.within
-
--- the registration that is found was made at boot, and is the module's
-found_booted : (m : Module) (boots : List Registration) (r : Registration) → Some r ≡ booted_as boots m → Contains boots r × (r.module ≡ m)
-found_booted m [] r found = cc
-found_booted m (x ∷ boots) r found = one (same_module m x.module) refl found (found_booted m boots r)
+-- the rows of one policy more
+pub policy_listed : (s : Script) (h : History) (o : Entities) (flows : List Flow) (n : ℕ) (table table' : List Row) (f : Flow) → n < length flows → f ≡ get_or flows n f
+    → o ≡ (run_state_of s h.events.list).state.objects → AllByRecursion (IsFlowOf s h) flows
+    → table ≡ flat_map (λ (f : Flow). rows_for s h f.registration) (take n flows)
+    → ((sets : Sets) → AreRows o sets f.sets → table' ≡ table ++ rows_in f.registration.module o sets)
+    → table' ≡ flat_map (λ (f : Flow). rows_for s h f.registration) (take (n + 1) flows)
+policy_listed s h o flows n table table' f within at here all so_far listed =
+    let sets : Sets = sources_of s f.registration h.events.list in
+    let own : IsFlowOf s h f = subst (IsFlowOf s h) (sym at) (All-from_recursion (IsFlowOf s h) flows all n f within) in
+    listed sets (subst (λ (x : Entities). AreRows x sets f.sets) (sym here) own)
+    ∙ ap (λ (x : Entities). table ++ rows_in f.registration.module x sets) here
+    ∙ ap (λ (xs : List Row). xs ++ rows_of f) so_far ∙ flat_map_more rows_of [] (take n flows) f
+    ∙ ap (flat_map rows_of) (sym (taken_more flows n f (there_at flows n f within at)))
   where
-    one : (b : Bool) → same_module m x.module ≡ b → Some r ≡ cond b (Some x) (booted_as boots m) → (Some r ≡ booted_as boots m → Contains boots r × (r.module ≡ m))
-        → Contains (x ∷ boots) r × (r.module ≡ m)
-    one true hit here rest =
-        let same : x ≡ r = cc in
-        let of : m ≡ r.module = same_module-is m x.module hit ∙ ap (λ (q : Registration). q.module) same in
-        ((0, omega arith, same), sym of)
-    one false miss later rest = let found = rest later in ((suc found.0.0, omega (arith, found.0.1), found.0.2), found.1)
+    rows_of : Flow → List Row
+    rows_of f = rows_for s h f.registration
 
-pub all_booted : (m : Module) (h : History) (found : Option Registration) → found ≡ booted_as h.boots m → IfSome found (IsBooted m h)
-all_booted m h None is = tt
-all_booted m h (Some r) is = found_booted m h.boots r is
+    there_at : (fs : List Flow) (n : ℕ) (f : Flow) → n < length fs → f ≡ get_or fs n f → slice_get fs n ≡ Some f
+    there_at [] n f within at = absurd (omega arith)
+    there_at (g ∷ fs) zero f within at = ap (λ (x : Flow). Some x) (sym at)
+    there_at (g ∷ fs) (suc n) f within at = there_at fs n f (omega (arith, within)) at
+
+-- the whole table
+pub policies_listed : (s : Script) (h : History) (flows : List Flow) (n : ℕ) (table : List Row) → n ≡ length flows
+    → table ≡ flat_map (λ (f : Flow). rows_for s h f.registration) (take n flows) → table ≡ flat_map (λ (f : Flow). rows_for s h f.registration) flows
+policies_listed s h flows n table all so_far =
+    so_far ∙ ap (flat_map (λ (f : Flow). rows_for s h f.registration)) (ap (λ (k : ℕ). take k flows) all ∙ whole flows)
+
+pub whole_table : (s : Script) (h : History) (booted : List Registration) (flows : List Flow) (table : Result (List Row) AllocError) → booted ≡ sourced h.boots
+    → map (λ (f : Flow). f.registration) flows ≡ booted → IfOk table (λ table. table ≡ flat_map (λ (f : Flow). rows_for s h f.registration) flows)
+    → IfOk table (λ table. table ≡ table_of s h)
+whole_table s h booted flows (Err error) are registered listed = tt
+whole_table s h booted flows (Ok table) are registered listed =
+    listed ∙ sym (flat_map-map (rows_for s h) (λ (f : Flow). f.registration) flows)
+    ∙ ap (flat_map (rows_for s h)) (registered ∙ are)

@@ -6,10 +6,10 @@ use Rattle.mf_elem.specs.declared.elem.Elem.{Elem}
 use Rattle.mf_elem.specs.declared.label.Request.{Request}
 use Rattle.mf_policy.specs.declared.registration.Registration.{Registration}
 use Rattle.mf_list.specs.Asked.{slot_of}
+use Rattle.mf_objects.proofs.Entities.{label_of as values_of}
 use Rattle.mf_objects.specs.declared.id.Id.{Id}
 use Rattle.mf_objects.specs.Live.{LiveEntity, live_at}
 use Rattle.mf_objects.specs.Lives.{is_from}
-use Rattle.mf_objects.specs.Live.{label_of as values_of}
 use Rattle.mf_objects.specs.Population.{IsRising}
 use Rattle.mf_plan.specs.declared.state.State.{State}
 use Rattle.mf_objects.proofs.Finding.{find_given}
@@ -19,7 +19,8 @@ use Rattle.mf_step.proofs.StateChange.{Deed, StateChange}
 use Rattle.mf_step.proofs.StateChange.StateChange.{same as still, created, changed, relabels, removed, loaded, unloaded, set_to}
 use Rattle.mf_flow.specs.Order.{union}
 use Rattle.mf_flow.specs.Rows.{AreRows, Rows, row, element_of, element_at as row_element, new_row, maker_row, rows_created, rows_given}
-use Rattle.mf_flow.specs.Sources.{Sets, element_in, held_by, alone, is_id, has_element, gives_element, set_after, set_of, sets_across}
+use Rattle.mf_flow.specs.Sources.{Sets, element_in, held_by, alone, is_id, has_element, set_after}
+use Rattle.mf_flow.proofs.Across.{gives_element, set_of, sets_across}
 use Rattle.mf_flow.proofs.Flowing.{same_id}
 use Rattle.mf_flow.proofs.RowsKept.{first_from, former_row, last_row}
 

@@ -17,16 +17,17 @@ use Rattle.mf_policy.specs.Operations.{row_of}
 use Rattle.mf_policy.specs.declared.operations.Movement.{Movement}
 use Rattle.mf_policy.specs.declared.operations.Movement.TheVariants.{Still, ToSubject, ToObject, BothWays}
 use Rattle.mf_list.specs.Asked.{slot_of}
+use Rattle.mf_objects.proofs.Entities.{label_of as values_of}
 use Rattle.mf_objects.specs.declared.id.Id.{Id}
 use Rattle.mf_objects.specs.Live.{LiveEntity, Entities, has_id, id_of, live_at}
 use Rattle.mf_objects.specs.Lives.{is_from}
-use Rattle.mf_objects.specs.Live.{label_of as values_of}
 use Rattle.mf_objects.specs.Population.{IsRising}
 use Rattle.mf_objects.proofs.Rising.{id_is}
 use Rattle.mf_objects.proofs.Finding.{find_before, find_given}
 use Rattle.mf_flow.specs.Order.{union}
 use Rattle.mf_flow.specs.Rows.{AreKept, AreRows, Rows, row, element_of, element_at as row_element, may_come, joined, received as row_received, rows_between, rows_with, rows_moved}
-use Rattle.mf_flow.specs.Sources.{Sets, element_in, element_at, held_by, is_id, received, moved, moved_with, moved_by, moved_by_all}
+use Rattle.mf_flow.specs.Sources.{Sets, element_in, element_at, held_by, is_id, received, moved, moved_by}
+use Rattle.mf_flow.proofs.Across.{moved_with, moved_by_all}
 use Rattle.mf_flow.proofs.Orders.{IsFlowPolicy}
 use Rattle.mf_flow.proofs.Bounds.{Fit, FitBy, AllowedBy, allows}
 use Rattle.mf_flow.proofs.Placing.{union_nothing}

@@ -28,7 +28,8 @@ use Rattle.mf_core.specs.Opening.{opening_state}
 use Rattle.mf_core.specs.LegalHistory.{RunState, opening, next_line, after}
 use Rattle.mf_flow.specs.Order.{place_of, elem_cmp, union}
 use Rattle.mf_step.specs.Passed.{passed}
-use Rattle.mf_flow.specs.Sources.{Sets, element_in, element_at, held_by, alone, is_id, received, moved, moved_with, moved_by, moved_by_all, relabels, set_after, set_of, caller_of, sets_after_line, sets_after_event, opening_sets, sets_after, sources_of}
+use Rattle.mf_flow.specs.Sources.{Sets, element_in, element_at, held_by, alone, is_id, received, moved, moved_by, relabels, set_after, caller_of, sets_after_line, sets_after_event, opening_sets, sets_after, sources_of}
+use Rattle.mf_flow.proofs.Across.{moved_with, moved_by_all, set_of}
 use Rattle.mf_flow.specs.Dominated.{SourcesAreSorted}
 use Rattle.mf_flow.proofs.Bounds.{all_union}
 
@@ -131,7 +132,7 @@ line_ordered r s s' task None said sets all id = all id
 line_ordered r s s' task (Some line) said sets all id =
     let items : List Item = passed said (plan_of s task line.child line.call).items in
     let by : Option Id = caller_of s task line in
-    after_ordered r (live_at s.objects id) (live_at s'.objects id) (relabels r s by line.call said id) (moved_by_all r s.objects sets items id)
+    after_ordered r (live_at s.objects id) (live_at s'.objects id) (relabels r s task line said id) (moved_by_all r s.objects sets items id)
     (set_of by (moved_by_all r s.objects sets items)) (items_ordered r s.objects sets items all id)
     (of_ordered by (moved_by_all r s.objects sets items) (items_ordered r s.objects sets items all))
 

@@ -6,7 +6,7 @@ use Rattle.std.specs.Cmp.Lexicographic.{slice_cmp}
 use Rattle.std.specs.Set.{sorted_merge}
 use Rattle.mf_elem.specs.declared.elem.Elem.{Elem}
 use Rattle.mf_elem.specs.declared.elem.Elem.TheVariants.{Low, High, Equal, Grade}
-use Rattle.mf_labeltext.specs.Canonical.{rising}
+use Rattle.mf_elem.specs.Comps.{rising}
 
 -- low comes first, then the grades by grade and by their rising compartments, then high; equal, which is no source, comes last
 abbrev pub place_of : Elem → List ℕ

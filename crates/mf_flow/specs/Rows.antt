@@ -1,7 +1,6 @@
 -- The sources as a list by the numbers of ids, as they are kept while a history is gone through.
-use Rattle.std.specs.Prelude.{◌≡◌, ◌<◌, Contains, IfSome, ℕ, Bool, false, not, nat_lt, List, [], ◌∷◌, ◌++◌, Option, Some, None, find, fold, length, slice_index_or, slice_set, if◌then◌else◌}
+use Rattle.std.specs.Prelude.{◌≡◌, ◌<◌, ℕ, Bool, false, not, nat_lt, List, [], ◌∷◌, ◌++◌, Option, Some, None, find, fold, length, slice_index_or, slice_set, if◌then◌else◌}
 use Rattle.mf_errno.specs.declared.module.Module.{Module}
-use Rattle.mf_errno.specs.declared.module.Module.TheVariants.{Biba, Mls}
 use Rattle.mf_elem.specs.declared.elem.Elem.{Elem}
 use Rattle.mf_elem.specs.declared.label.TheConstants.{SLOTS}
 use Rattle.mf_elem.specs.declared.label.LabelValue.{LabelValue}
@@ -14,7 +13,6 @@ use Rattle.mf_policy.specs.Answer.{range_label}
 use Rattle.mf_policy.specs.Operations.{row_of}
 use Rattle.mf_policy.specs.declared.operations.Movement.{Movement}
 use Rattle.mf_policy.specs.declared.operations.Movement.TheVariants.{Still, ToSubject, ToObject, BothWays}
-use Rattle.mf_policy.specs.declared.registration.Registration.{Registration}
 use Rattle.mf_list.specs.Asked.{slot_of}
 use Rattle.mf_objects.specs.declared.id.Id.{Id}
 use Rattle.mf_objects.specs.Live.{LiveEntity, Entities, label_at, live_at}
@@ -26,8 +24,8 @@ use Rattle.mf_plan.specs.declared.outline.Check.{Check}
 use Rattle.mf_plan.specs.declared.reply.Reply.{Reply}
 use Rattle.mf_plan.specs.declared.state.State.{State}
 use Rattle.mf_plan.specs.Outline.{item_of}
-use Rattle.mf_plan.specs.Plan.{plan_of}
-use Rattle.mf_plan.specs.Relabels.{relabel_of}
+use Rattle.mf_plan.specs.Plan.{plan_of, row_of as call_row}
+use Rattle.mf_plan.specs.Effect.{relabels}
 use Rattle.mf_step.specs.Step.{after_reply}
 use Rattle.mf_core.specs.declared.history.Event.{Event}
 use Rattle.mf_core.specs.declared.history.Event.TheVariants as event
@@ -37,7 +35,6 @@ use Rattle.mf_flow.specs.Order.{union}
 use Rattle.mf_step.specs.Passed.{passed}
 use Rattle.mf_flow.specs.Sources.{Sets, alone, held_by, has_element, caller_of, sources_of}
 use Rattle.mf_flow.specs.declared.following.Flow.{Flow}
-use Rattle.mf_flow.specs.declared.following.Flows.{Flows}
 
 abbrev pub Rows : Type 0
 Rows = List (List Elem)
@@ -112,7 +109,7 @@ rows_given slot m objects (Some asked) rows =
 
 -- what a call with that reply asks of whose label; one that isn't done asks nothing
 abbrev pub asked_of : State → List ℕ → Line → Reply → Option (Id × Request)
-asked_of s task line reply = after_reply reply None (relabel_of s (caller_of s task line) line.call)
+asked_of s task line reply = after_reply reply None (relabels (call_row s task line.child line.call).effect)
 
 abbrev pub rows_after_line : ℕ → Module → State → State → List ℕ → Option Line → Reply → Rows → Rows
 rows_after_line slot m s s' task None reply rows = rows
@@ -126,50 +123,24 @@ rows_after_event s slot m run (event.Done t line reply) rows =
     rows_after_line slot m run.state (after s run (event.Done t line reply)).state (name_of s t) (next_line s run.progress t) reply rows
 rows_after_event s slot m run other rows = rows
 
--- Both policies
+-- Each policy
 
--- what stands for an option, by a fact for each of its values
-abbrev pub Alike : {A B : Type 0} → (A → B → Type 0) → Option A → Option B → Type 0
-Alike Fact None flow = flow ≡ None
-Alike {A} {B} Fact (Some x) flow = (y : B) × (flow ≡ Some y) × Fact x y
+-- the policy's label slot is one that there is
+abbrev pub HasSlot : Flow → Type 0
+HasSlot f = slot_of f.registration < SLOTS
 
-abbrev pub flow_moved : Entities → List Item → Option Flow → Option Flow
-flow_moved objects items None = None
-flow_moved objects items (Some f) = Some (record f { sets = fold (rows_moved f.slot objects) f.sets items })
+-- the sources by the policy after checks that passed
+abbrev pub flow_moved : Entities → List Item → Flow → Flow
+flow_moved objects items f = record f { sets = fold (rows_moved (slot_of f.registration) objects) f.sets items }
 
-abbrev pub flow_created : ℕ → Entities → Option Id → Option Flow → Option Flow
-flow_created next objects caller None = None
-flow_created next objects caller (Some f) = Some (record f { sets = rows_created f.slot next objects caller f.sets })
+-- and then after a call, where an entity may have come or been relabelled
+abbrev pub flow_settled : ℕ → Entities → Option Id → Option (Id × Request) → Flow → Flow
+flow_settled next objects caller asked f =
+    let slot = slot_of f.registration in
+    record f { sets = rows_given slot f.registration.module objects asked (rows_created slot next objects caller f.sets) }
 
-abbrev pub flow_given : Module → Entities → Option (Id × Request) → Option Flow → Option Flow
-flow_given m objects asked None = None
-flow_given m objects asked (Some f) = Some (record f { sets = rows_given f.slot m objects asked f.sets })
-
--- each policy has a label slot
-pub record HaveSlots (flows : Flows) : Type 0 where
-  pub biba : IfSome flows.biba (λ f. f.slot < SLOTS)
-  pub mls : IfSome flows.mls (λ f. f.slot < SLOTS)
-
-unfoldable pub flows_moved : Entities → List Item → Flows → Flows
-flows_moved objects items flows = record { biba = flow_moved objects items flows.biba; mls = flow_moved objects items flows.mls }
-
-unfoldable pub flows_created : ℕ → Entities → Option Id → Flows → Flows
-flows_created next objects caller flows = record { biba = flow_created next objects caller flows.biba; mls = flow_created next objects caller flows.mls }
-
-unfoldable pub flows_given : Entities → Option (Id × Request) → Flows → Flows
-flows_given objects asked flows = record { biba = flow_given Biba objects asked flows.biba; mls = flow_given Mls objects asked flows.mls }
-
-abbrev pub flows_after_line : State → State → List ℕ → Option Line → Reply → Flows → Flows
-flows_after_line s s' task None reply flows = flows
-flows_after_line s s' task (Some line) reply flows =
-    flows_given s'.objects (asked_of s task line reply)
-    (flows_created s.objects.next s'.objects (caller_of s task line) (flows_moved s.objects (passed reply (plan_of s task line.child line.call).items) flows))
-
--- the sources by both policies after the event
-abbrev pub flows_after_event : Script → RunState → Event → Flows → Flows
-flows_after_event s run (event.Done t line reply) flows =
-    flows_after_line run.state (after s run (event.Done t line reply)).state (name_of s t) (next_line s run.progress t) reply flows
-flows_after_event s run other flows = flows
+abbrev pub flow_after_event : Script → RunState → Event → Flow → Flow
+flow_after_event s run e f = record f { sets = rows_after_event s (slot_of f.registration) f.registration.module run e f.sets }
 
 -- Rows and sources
 
@@ -178,8 +149,16 @@ pub record AreKept (o : Entities) (old new : Rows) : Type 0 where
   pub count : length new ≡ length old
   pub each : (id : Id) (e : LiveEntity) → live_at o id ≡ Some e → row new id.0 ≡ row old id.0
 
-abbrev pub IsKept : Entities → Flow → Flow → Type 0
-IsKept o f f' = (f'.slot ≡ f.slot) × AreKept o f.sets f'.sets
+-- so are those of each policy
+pub record IsKept (o : Entities) (f f' : Flow) : Type 0 where
+  pub registration : f'.registration ≡ f.registration
+  pub sets : AreKept o f.sets f'.sets
+
+-- each policy's sources stand so to those of the other list
+abbrev pub EachBecomes : (Flow → Flow → Type 0) → List Flow → List Flow → Type 0
+EachBecomes R [] [] = Unit {0}
+EachBecomes R (f ∷ fs) (f' ∷ fs') = R f f' × EachBecomes R fs fs'
+EachBecomes R fs fs' = ⊥
 
 -- there is a row for each id that was given, and those of live entities have their sources
 pub record AreRows (o : Entities) (sets : Sets) (rows : Rows) : Type 0 where
@@ -191,14 +170,10 @@ pub record AreOwnRows (slot : ℕ) (o : Entities) (rows : Rows) : Type 0 where
   pub count : length rows ≡ o.next
   pub each : (id : Id) (e : LiveEntity) → live_at o id ≡ Some e → row rows id.0 ≡ alone (element_of slot e.label)
 
--- the sources of a policy that was booted so, at the opening and at the end of a history
+-- the sources by a policy that was booted, at the opening and at the end of a history
 
-abbrev pub IsOpening : Entities → Registration → Flow → Type 0
-IsOpening o r f = (f.slot ≡ slot_of r) × AreOwnRows (slot_of r) o f.sets
+abbrev pub IsOpening : Entities → Flow → Type 0
+IsOpening o f = AreOwnRows (slot_of f.registration) o f.sets
 
-abbrev pub IsFlowOf : Script → History → Registration → Flow → Type 0
-IsFlowOf s h r f = AreRows (run_state_of s h.events.list).state.objects (sources_of s r h.events.list) f.sets
-
--- it was booted, and is the module's
-abbrev pub IsBooted : Module → History → Registration → Type 0
-IsBooted m h r = Contains h.boots r × (r.module ≡ m)
+abbrev pub IsFlowOf : Script → History → Flow → Type 0
+IsFlowOf s h f = AreRows (run_state_of s h.events.list).state.objects (sources_of s f.registration h.events.list) f.sets

@@ -1,7 +1,9 @@
 //! The sources after each event of a history.
-ghost use Rattle.std.specs.Prelude.{◌≡◌, ◌<◌, IfOk, IfSome, OnOk, find, map};
+ghost use Rattle.std.specs.Prelude.{◌≡◌, ◌<◌, IfOk, OnOk, find, map};
+ghost use Rattle.std.specs.List.{AllByRecursion};
 ghost use Rattle.mf_elem.specs.declared.label.TheConstants.{SLOTS};
 ghost use Rattle.mf_plan.specs.Outline.{item_of};
+ghost use Rattle.mf_list.specs.Asked.{slot_of};
 ghost use Rattle.mf_objects.specs.Lives.{is_from};
 ghost use Rattle.mf_calls.specs.WellFormed.{IsWellFormed};
 ghost use Rattle.mf_core.specs.LegalHistory.{after, MayCome};
@@ -12,29 +14,29 @@ ghost use Rattle.mf_flow.specs.Sources.{alone, held_by};
 use crate::elem_set::ElemSet;
 use crate::moving::{move_all, passed};
 use crate::relabelling::{asked_of, give};
-use crate::set_list::SetList;
+use crate::set_list::{SetList, sweep};
 use mf_calls::Script;
 use mf_core::{Event, Run};
 use mf_elem::{Elem, Request};
-use mf_errno::Module;
 use mf_objects::{Id, Objects};
 use mf_plan::{Check, LastLabel, outline_of};
-use mf_policy::slot_label;
+use mf_policy::{Registration, slot_label};
 use std::alloc::{AllocError, Global};
 
 /// The sources by a policy that was booted, while a history is gone through.
 #[derive(Drop)]
 pub struct Flow {
-    /// The policy's label slot.
-    pub slot: u8,
+    pub registration: Registration,
     pub sets: SetList,
 }
 
-/// The sources by mac_biba and by mac_mls, where they were booted.
-#[derive(Drop)]
-pub struct Flows {
-    pub biba: Option<Flow>,
-    pub mls: Option<Flow>,
+impl Flow {
+    /// The policy's label slot.
+    fn slot(&self) -> u8
+        ensures { result ≡ slot_of self.now.registration }
+    {
+        self.registration.slot.unwrap_or(0)
+    }
 }
 
 /// The state and the sources after an event that may come.
@@ -42,16 +44,17 @@ pub fn follow(
     alloc: Global,
     script: &Script,
     run: &mut Run,
-    flows: &mut Flows,
+    flows: &mut Vec<Flow>,
     last: &mut LastLabel,
     event: &Event,
 ) -> Result<(), AllocError>
-    requires slots { spec.HaveSlots flows.old }
+    requires slots { AllByRecursion spec.HasSlot flows.old.items }
     requires script { run.old.script ≡ script.now }
     requires formed { IsWellFormed script.now }
     requires may { MayCome script.now run.old.run event.now }
     ensures run { OnOk result (run.new ≡ record { script = script.now; run = after script.now run.old.run event.now }) }
-    ensures flows { OnOk result (flows.new ≡ spec.flows_after_event script.now run.old.run event.now flows.old) }
+    ensures flows { OnOk result (spec.EachBecomes (λ f new. spec.IsKept (after script.now run.old.run event.now).state.objects
+        (spec.flow_after_event script.now run.old.run event.now f) new) flows.old.items flows.new.items) }
 {
     match event {
         Event::Done(task, number, reply) => {
@@ -64,12 +67,11 @@ pub fn follow(
             let lent = reply.lend();
             let said = lent.get();
             let checks = passed(said, outline.checks.as_slice());
-            move_in_both(alloc, &state.objects, checks, flows)?;
+            move_in_each(alloc, &state.objects, checks, flows)?;
             let asked = asked_of(said, &outline);
-            run.commit(alloc, *task, *number, outline.found, reply)?;
+            run.commit(alloc, *task, *number, &outline.found, reply)?;
             let objects = &run.state().objects;
-            create_in_both(alloc, next, objects, outline.found.caller, flows)?;
-            give_in_both(alloc, objects, &asked, flows)
+            settle_each(alloc, next, objects, outline.found.caller, &asked, flows)
         }
         Event::Enter(task) => {
             run.enter(*task);
@@ -84,103 +86,69 @@ pub fn follow(
 }
 
 /// What checks that passed move, by each policy.
-#[tactic(auto, unfolding(crate::specs::Rows::flows_moved))]
-fn move_in_both(
+fn move_in_each(
     alloc: Global,
     objects: &Objects,
     checks: &[Check],
-    flows: &mut Flows,
+    flows: &mut Vec<Flow>,
 ) -> Result<(), AllocError>
-    requires { spec.HaveSlots flows.old }
-    ensures moved { OnOk result (flows.new ≡ spec.flows_moved objects.now (map (item_of objects.now) checks.now) flows.old) }
-    ensures slots { OnOk result (spec.HaveSlots flows.new) }
+    requires { AllByRecursion spec.HasSlot flows.old.items }
+    ensures { OnOk result (spec.EachBecomes (λ f new. new ≡ spec.flow_moved objects.now (map (item_of objects.now) checks.now) f) flows.old.items flows.new.items) }
 {
-    move_in(alloc, objects, checks, &mut flows.biba)?;
-    move_in(alloc, objects, checks, &mut flows.mls)
+    for place in 0..flows.len() {
+        move_in(alloc, objects, checks, &mut flows[place])?;
+    }
+    Ok(())
 }
 
-/// The sources of an entity that came under this number, by each policy.
-#[tactic(auto, unfolding(crate::specs::Rows::flows_created))]
-fn create_in_both(
-    alloc: Global,
-    next: u32,
-    objects: &Objects,
-    caller: Option<Id>,
-    flows: &mut Flows,
-) -> Result<(), AllocError>
-    requires { spec.HaveSlots flows.old }
-    ensures created { OnOk result (flows.new ≡ spec.flows_created next objects.now caller flows.old) }
-    ensures slots { OnOk result (spec.HaveSlots flows.new) }
-{
-    create_in(alloc, next, objects, caller, &mut flows.biba)?;
-    create_in(alloc, next, objects, caller, &mut flows.mls)
-}
-
-/// The sources of an entity that was relabelled, by each policy.
-#[tactic(auto, unfolding(crate::specs::Rows::flows_given))]
-fn give_in_both(
-    alloc: Global,
-    objects: &Objects,
-    asked: &Option<(Id, Request)>,
-    flows: &mut Flows,
-) -> Result<(), AllocError>
-    requires { spec.HaveSlots flows.old }
-    ensures { OnOk result (flows.new ≡ spec.flows_given objects.now asked.now flows.old) }
-{
-    give_in(alloc, Module::Biba, objects, asked, &mut flows.biba)?;
-    give_in(alloc, Module::Mls, objects, asked, &mut flows.mls)
-}
-
-/// What checks that passed move, where the policy was booted.
 fn move_in(
     alloc: Global,
     objects: &Objects,
     checks: &[Check],
-    flow: &mut Option<Flow>,
+    flow: &mut Flow,
 ) -> Result<(), AllocError>
-    requires { IfSome flow.old (λ f. f.slot < SLOTS) }
-    ensures moved { OnOk result (flow.new ≡ spec.flow_moved objects.now (map (item_of objects.now) checks.now) flow.old) }
-    ensures slot { OnOk result (IfSome flow.new (λ f. f.slot < SLOTS)) }
+    requires { spec.HasSlot flow.old }
+    ensures { OnOk result (flow.new ≡ spec.flow_moved objects.now (map (item_of objects.now) checks.now) flow.old) }
 {
-    match flow {
-        None => Ok(()),
-        Some(flow) => move_all(alloc, flow.slot, objects, &mut flow.sets, checks),
-    }
+    move_all(alloc, flow.slot(), objects, &mut flow.sets, checks)
 }
 
-/// The sources of an entity that came under this number, where the policy was booted.
-fn create_in(
+/// What is left of a call, by each policy: the sources of an entity that came under this number, and of one that was relabelled.
+/// Now and then those of entities that are gone are freed.
+fn settle_each(
     alloc: Global,
     next: u32,
     objects: &Objects,
     caller: Option<Id>,
-    flow: &mut Option<Flow>,
+    asked: &Option<(Id, Request)>,
+    flows: &mut Vec<Flow>,
 ) -> Result<(), AllocError>
-    requires { IfSome flow.old (λ f. f.slot < SLOTS) }
-    ensures created { OnOk result (flow.new ≡ spec.flow_created next objects.now caller flow.old) }
-    ensures slot { OnOk result (IfSome flow.new (λ f. f.slot < SLOTS)) }
+    requires { AllByRecursion spec.HasSlot flows.old.items }
+    ensures { OnOk result (spec.EachBecomes (λ f new. spec.IsKept objects.now (spec.flow_settled next objects.now caller asked.now f) new) flows.old.items flows.new.items) }
 {
-    match flow {
-        None => Ok(()),
-        Some(flow) => create(alloc, flow.slot, next, objects, caller, &mut flow.sets),
+    for place in 0..flows.len() {
+        settle(alloc, next, objects, caller, asked, &mut flows[place])?;
     }
+    Ok(())
 }
 
-/// The sources of an entity that was relabelled, by the module's policy, where it was booted.
-fn give_in(
+fn settle(
     alloc: Global,
-    module: Module,
+    next: u32,
     objects: &Objects,
+    caller: Option<Id>,
     asked: &Option<(Id, Request)>,
-    flow: &mut Option<Flow>,
+    flow: &mut Flow,
 ) -> Result<(), AllocError>
-    requires { IfSome flow.old (λ f. f.slot < SLOTS) }
-    ensures { OnOk result (flow.new ≡ spec.flow_given «module» objects.now asked.now flow.old) }
+    requires { spec.HasSlot flow.old }
+    ensures { OnOk result (spec.IsKept objects.now (spec.flow_settled next objects.now caller asked.now flow.old) flow.new) }
 {
-    match flow {
-        None => Ok(()),
-        Some(flow) => give(alloc, flow.slot, module, objects, asked, &mut flow.sets),
-    }
+    let slot = flow.slot();
+    create(alloc, slot, next, objects, caller, &mut flow.sets)?;
+    let module = flow.registration.module;
+    give(alloc, slot, module, objects, asked, &mut flow.sets)?;
+    sweep(alloc, objects, &mut flow.sets);
+    Ok(())
 }
 
 /// The sources of an entity that came under this number, made by that process, where one came.

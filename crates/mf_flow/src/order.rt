@@ -2,7 +2,7 @@
 ghost use Rattle.std.specs.Prelude.{◌≡◌, ◌||◌};
 ghost use Rattle.std.specs.Ordering.{nat_cmp};
 ghost use Rattle.std.specs.Cmp.Lexicographic.{slice_cmp};
-ghost use Rattle.mf_labeltext.specs.Canonical.{rising};
+ghost use Rattle.mf_elem.specs.Comps.{rising};
 ghost use Rattle.mf_flow.specs.Order as spec;
 ghost use Rattle.mf_flow.specs.Numbers.{with_number};
 

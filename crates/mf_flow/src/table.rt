@@ -1,7 +1,7 @@
 //! The table of the sources of a history.
-ghost use Rattle.std.specs.Prelude.{◌≡◌, ◌<◌, ◌++◌, map, IfOk, IfSome, IsSome, OnOk};
+ghost use Rattle.std.specs.Prelude.{◌≡◌, ◌<◌, ◌++◌, [], map, IfOk, IsSome, OnOk};
+ghost use Rattle.std.specs.List.{AllByRecursion, cons_option, flat_map};
 ghost use Rattle.std.specs.Option.{option_copied};
-ghost use Rattle.mf_errno.specs.declared.module.Module.TheVariants.{Biba, Mls};
 ghost use Rattle.mf_elem.specs.declared.label.TheConstants.{SLOTS};
 ghost use Rattle.mf_list.specs.Asked.{slot_of};
 ghost use Rattle.mf_objects.specs.Live.{live_at};
@@ -11,13 +11,13 @@ ghost use Rattle.mf_calls.specs.WellFormed.{IsWellFormed};
 ghost use Rattle.mf_core.specs.declared.history.History.{History as HistoryValue};
 ghost use Rattle.mf_core.specs.LegalHistory.{run_state_of, IsLegal};
 ghost use Rattle.mf_flow.specs.Laws.{AreInOrder};
-ghost use Rattle.mf_flow.specs.Rows.{Alike, AreOwnRows, AreRows, IsBooted, IsFlowOf, IsKept, IsOpening, row};
+ghost use Rattle.mf_flow.specs.Rows.{AreOwnRows, AreRows, IsFlowOf, IsOpening, row};
 ghost use Rattle.mf_flow.specs.Sources.{Sets};
 ghost use Rattle.mf_flow.specs.Table as spec;
 
 use crate::elem_set::ElemSet;
-use crate::following::{Flow, Flows, follow, new_sources};
-use crate::set_list::{SetList, sweep};
+use crate::following::{Flow, follow, new_sources};
+use crate::set_list::SetList;
 use mf_calls::Script;
 use mf_core::{BootList, History, Run};
 use mf_errno::Module;
@@ -48,17 +48,36 @@ pub fn sources(alloc: Global, script: &Script, history: &History) -> Result<Tabl
     ensures table { IfOk result (λ table. table ≡ spec.table_of script.now history.now) }
     ensures order { OnOk result (AreInOrder script.now history.now) }
 {
-    let biba = booted_as(&history.boots, Module::Biba);
-    let mls = booted_as(&history.boots, Module::Mls);
-    let mut table = Listing::new(alloc);
-    if biba.is_none() && mls.is_none() {
-        return Ok(table);
+    let booted = sourced(alloc, &history.boots)?;
+    if booted.is_empty() {
+        return Ok(Listing::new(alloc));
     }
-    let (run, flows) = followed(alloc, script, history, biba, mls)?;
-    let objects = &run.state().objects;
-    add_rows(alloc, biba, objects, &flows.biba, &mut table)?;
-    add_rows(alloc, mls, objects, &flows.mls, &mut table)?;
-    Ok(table)
+    let (run, flows) = followed(alloc, script, history, &booted)?;
+    list_flows(alloc, &run.state().objects, &flows)
+}
+
+/// The policies that bound what may move and were booted, in the order of their table.
+fn sourced(alloc: Global, boots: &BootList) -> Result<Vec<Registration>, AllocError>
+    ensures { IfOk result (λ booted. booted.items ≡ spec.sourced boots.now) }
+{
+    let mut booted = Vec::new(alloc);
+    push_booted(boots, Module::Biba, &mut booted)?;
+    push_booted(boots, Module::Mls, &mut booted)?;
+    Ok(booted)
+}
+
+/// Appends the registration of the module at boot, where it was booted.
+fn push_booted(
+    boots: &BootList,
+    module: Module,
+    booted: &mut Vec<Registration>,
+) -> Result<(), AllocError>
+    ensures { OnOk result (booted.new.items ≡ booted.old.items ++ cons_option (spec.booted_as boots.now «module») []) }
+{
+    if let Some(registration) = booted_as(boots, module) {
+        booted.push(*registration)?;
+    }
+    Ok(())
 }
 
 /// The registration of the module at boot.
@@ -71,81 +90,61 @@ fn booted_as(boots: &BootList, module: Module) -> Option<&Registration>
         .find(|registration| module.is(registration.module))
 }
 
-/// The state at the end of the history, and the sources by each of the two policies that was booted.
+/// The state at the end of the history, and the sources by each of these policies.
 fn followed<'s>(
     alloc: Global,
     script: &'s Script,
     history: &History,
-    biba: Option<&Registration>,
-    mls: Option<&Registration>,
-) -> Result<(Run<'s>, Flows), AllocError>
+    booted: &[Registration],
+) -> Result<(Run<'s>, Vec<Flow>), AllocError>
     requires formed { IsWellFormed script.now }
     requires legal { IsLegal script.now history.now }
-    requires biba { IfSome (option_copied biba) (IsBooted Biba history.now) }
-    requires mls { IfSome (option_copied mls) (IsBooted Mls history.now) }
+    requires booted { booted.now ≡ spec.sourced history.now.boots }
     ensures run { IfOk result (λ r. r.0.run ≡ run_state_of script.now history.now.events.list) }
-    ensures biba { IfOk result (λ r. Alike (IsFlowOf script.now history.now) (option_copied biba.entry) r.1.biba) }
-    ensures mls { IfOk result (λ r. Alike (IsFlowOf script.now history.now) (option_copied mls.entry) r.1.mls) }
+    ensures registrations { IfOk result (λ r. map (λ flow. flow.registration) r.1.items ≡ booted.now) }
+    ensures flows { IfOk result (λ r. AllByRecursion (IsFlowOf script.now history.now) r.1.items) }
 {
     let mut run = Run::new(alloc, script)?;
-    let mut flows = Flows {
-        biba: opening_flow(alloc, biba, &run.state().objects)?,
-        mls: opening_flow(alloc, mls, &run.state().objects)?,
-    };
+    let mut flows = opening_flows(alloc, booted, &run.state().objects)?;
     let mut last = LastLabel::new();
     for event in history.events.as_slice() {
         follow(alloc, script, &mut run, &mut flows, &mut last, event)?;
-        free_gone(alloc, &run.state().objects, &mut flows.biba);
-        free_gone(alloc, &run.state().objects, &mut flows.mls);
     }
     Ok((run, flows))
 }
 
-/// The sources in the opening state by a policy, where it was booted.
-fn opening_flow(
+/// The sources in the opening state by each of these policies.
+fn opening_flows(
     alloc: Global,
-    registration: Option<&Registration>,
+    booted: &[Registration],
     objects: &Objects,
-) -> Result<Option<Flow>, AllocError>
-    requires { IfSome (option_copied registration) (λ r. slot_of r < SLOTS) }
-    ensures { IfOk result (λ flow. Alike (IsOpening objects.now) (option_copied registration.entry) flow) }
+) -> Result<Vec<Flow>, AllocError>
+    requires { AllByRecursion (λ r. slot_of r < SLOTS) booted.now }
+    ensures registrations { IfOk result (λ flows. map (λ flow. flow.registration) flows.items ≡ booted.now) }
+    ensures opening { IfOk result (λ flows. AllByRecursion (IsOpening objects.now) flows.items) }
 {
-    match registration {
-        None => Ok(None),
-        Some(registration) => {
-            let slot = registration.slot.unwrap_or(0);
-            let sets = own_sources(alloc, slot, objects)?;
-            Ok(Some(Flow { slot, sets }))
-        }
+    let mut flows = Vec::new(alloc);
+    for registration in booted {
+        let sets = own_sources(alloc, registration.slot.unwrap_or(0), objects)?;
+        flows.push(Flow {
+            registration: *registration,
+            sets,
+        })?;
     }
+    Ok(flows)
 }
 
-/// Frees the sources of entities that are gone, now and then, where the policy was booted.
-fn free_gone(alloc: Global, objects: &Objects, flow: &mut Option<Flow>)
-    ensures { Alike (IsKept objects.now) flow.old flow.new }
+/// The rows of each policy in turn.
+fn list_flows(alloc: Global, objects: &Objects, flows: &[Flow]) -> Result<Table, AllocError>
+    ensures { (s : ScriptValue) (h : HistoryValue) → objects.now ≡ (run_state_of s h.events.list).state.objects → AllByRecursion (IsFlowOf s h) flows.now
+        → IfOk result (λ table. table ≡ flat_map (λ flow. spec.rows_for s h flow.registration) flows.now) }
 {
-    if let Some(flow) = flow {
-        sweep(alloc, objects, &mut flow.sets);
+    let mut table = Listing::new(alloc);
+    for flow in flows {
+        let module = flow.registration.module;
+        list_rows(alloc, module, objects, &flow.sets, &mut table)?;
     }
-}
-
-/// Appends the rows of a policy, where it was booted.
-fn add_rows(
-    alloc: Global,
-    registration: Option<&Registration>,
-    objects: &Objects,
-    flow: &Option<Flow>,
-    table: &mut Table,
-) -> Result<(), AllocError>
-    ensures { (s : ScriptValue) (h : HistoryValue) → objects.now ≡ (run_state_of s h.events.list).state.objects → Alike (IsFlowOf s h) (option_copied registration.entry) flow.now
-        → OnOk result (table.new ≡ table.old ++ spec.rows_for s h (option_copied registration.entry)) }
-{
-    match (registration, flow) {
-        (Some(registration), Some(flow)) => {
-            list_rows(alloc, registration.module, objects, &flow.sets, table)
-        }
-        _ => Ok(()),
-    }
+    Ok(table)
 }
 
 /// The own element of each live entity.

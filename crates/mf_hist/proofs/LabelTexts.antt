@@ -1,10 +1,12 @@
 -- The canonical text of a label is a word, and is read back.
 use Rattle.std.proofs.Common.{◌≡◌, ◌≢◌, ℕ, ◌≤◌, Bool, true, false, cond, eqb, List, [], ◌∷◌, ◌++◌, length, map, Option, Some, None, Result, Ok, Err, IfSome, refl, sym, ap, ◌∙◌, arith, subst, append-nil}
-use Rattle.std.specs.Prelude.{codes}
+use Rattle.std.specs.Prelude.{codes, nat_le}
+use Rattle.std.proofs.lemmas.Bool.{leb-true}
 use Rattle.std.specs.Fmt.{decimal}
 use Rattle.std.specs.List.{AllByRecursion, join_with_byte, list_all}
 use Rattle.std.specs.Result.{result_ok}
 use Rattle.std.specs.Str.{bytes_eq}
+use Rattle.mf_elem.specs.Comps.{rising}
 use Rattle.mf_elem.specs.Bounds.{IsElement, IsAskedLabel}
 use Rattle.mf_elem.specs.Label.{no_request}
 use Rattle.mf_elem.specs.declared.elem.Elem.{Elem}
@@ -13,8 +15,11 @@ use Rattle.mf_elem.specs.declared.label.LabelValue.{LabelValue}
 use Rattle.mf_elem.specs.declared.label.RangeLabel.{RangeLabel}
 use Rattle.mf_elem.specs.declared.label.Request.{Request}
 use Rattle.mf_errno.specs.declared.module.Module.{Module}
-use Rattle.mf_errno.specs.declared.module.Module.TheVariants.{Biba, Mls, Partition, Bsdextended, Priority}
-use Rattle.mf_labeltext.specs.Canonical.{rising, comps_text, elem_text, effective_text, range_text, label_text, partition_text, element_text, parts_of, in_order, elements_text, canonical_label}
+use Rattle.mf_errno.specs.declared.module.Module.TheVariants.{Biba, Mls, Partition}
+use Rattle.mf_errno.specs.Names.{all_modules}
+use Rattle.mf_errno.proofs.Modules.{each_passes}
+use Rattle.mf_labeltext.proofs.CanonicalSpelling.{effective_text, partition_text}
+use Rattle.mf_labeltext.specs.Canonical.{comps_text, elem_text, range_text, label_text, element_text, parts_of, in_order, elements_text, canonical_label}
 use Rattle.mf_labeltext.specs.Reading.{request_in}
 use Rattle.mf_labeltext.specs.RoundTrip.{request_of, AreParts}
 use Rattle.mf_labeltext.specs.declared.fault.LabelFault.{LabelFault}
@@ -25,7 +30,6 @@ use Rattle.mf_labeltext.proofs.Rising.{IsCompartment, rising_are}
 use Rattle.mf_calls.specs.Names.{is_some_text}
 use Rattle.mf_plan.specs.declared.reply.LabelPart.{LabelPart}
 use Rattle.mf_hist.specs.Lines.{IsLabel, range_part, number_part, parts_asked}
-use Rattle.mf_hist.specs.ReplyText as printed
 use Rattle.mf_hist.specs.Reading.{and_then, label_of}
 use Rattle.mf_hist.proofs.FieldTexts.{all_append}
 use Rattle.mf_hist.proofs.Numbers.{decimal_word}
@@ -58,7 +62,7 @@ elem_graphic Low fits = refl
 elem_graphic High fits = refl
 elem_graphic Equal fits = refl
 elem_graphic (Grade grade comps) fits =
-    all_append is_graphic (decimal grade) (comps_text (rising comps)) (number_graphic grade (omega (arith, fits.fits))) (comps_graphic (rising comps) (rising_are comps))
+    all_append is_graphic (decimal grade) (comps_text (rising comps)) (number_graphic grade (omega (arith, fits.0))) (comps_graphic (rising comps) (rising_are comps))
 
 effective_graphic : (effective : Option Elem) → IfSome effective IsElement → IsGraphic (effective_text effective)
 effective_graphic None fits = refl
@@ -109,7 +113,7 @@ abbrev parts_by : Option RangeLabel → Option RangeLabel → Option ℕ → Lis
 parts_by biba mls partition = range_part Biba biba ++ range_part Mls mls ++ number_part Partition partition
 
 abbrev pairs_by : Option RangeLabel → Option RangeLabel → Option ℕ → List Part
-pairs_by biba mls partition = map printed.pair_of (parts_by biba mls partition)
+pairs_by biba mls partition = map (λ (part : LabelPart). (part.module, part.value)) (parts_by biba mls partition)
 
 abbrev IsNumber : Option ℕ → Type 0
 IsNumber partition = IfSome partition (λ n. n ≤ 2147483647)
@@ -140,24 +144,17 @@ text_is : (biba mls : Option RangeLabel) (partition : Option ℕ) → canonical_
 unfolding canonical_label
 text_is biba mls partition = ap (λ parts. elements_text (map element_text parts)) (ordered biba mls partition)
 
-pub label_word : (parts : List LabelPart) → IsLabel parts → is_word (printed.label_text parts) ≡ true
+pub label_word : (parts : List LabelPart) → IsLabel parts → is_word (canonical_label (map (λ (part : LabelPart). (part.module, part.value)) parts)) ≡ true
 label_word parts is =
     let r = is.request in
-    ap (λ parts. is_word (printed.label_text parts)) is.asked
+    ap (λ (parts : List LabelPart). is_word (canonical_label (map (λ (part : LabelPart). (part.module, part.value)) parts))) is.asked
     ∙ ap is_word (text_is r.biba r.mls r.partition)
     ∙ elements_word (pairs_by r.biba r.mls r.partition) (each_graphic r.biba r.mls r.partition is.fits.biba is.fits.mls is.fits.partition)
 
 -- They are read back
 
-abbrev IsFew : List Part → Module → Type 0
-IsFew parts policy = length (parts_of policy parts) ≤ 1
-
-few : (parts : List Part) → IsFew parts Biba → IsFew parts Mls → IsFew parts Partition → IsFew parts Bsdextended → IsFew parts Priority → (policy : Module) → IsFew parts policy
-few parts b m p e r Biba = b
-few parts b m p e r Mls = m
-few parts b m p e r Partition = p
-few parts b m p e r Bsdextended = e
-few parts b m p e r Priority = r
+few : (parts : List Part) → list_all (λ policy. nat_le (length (parts_of policy parts)) 1) all_modules ≡ true → (policy : Module) → length (parts_of policy parts) ≤ 1
+few parts all policy = leb-true _ _ (each_passes (λ policy. nat_le (length (parts_of policy parts)) 1) all policy)
 
 -- one or more parts are read back from their text, which is no dash
 spelled : (parts : List Part) (request : Request) → AreParts parts → parts ≢ [] → request_of parts ≡ request → bytes_eq (canonical_label parts) (codes "-") ≡ false
@@ -184,30 +181,30 @@ back_by : (biba mls : Option RangeLabel) (partition : Option ℕ) → IfSome bib
 back_by None None None b m p = none_back
 back_by None None (Some n) b m p =
     let parts = pairs_by None None (Some n) in
-    spelled parts (asking None None (Some n)) (record { each = (p, tt); once = few parts (omega arith) (omega arith) (omega arith) (omega arith) (omega arith) }) (λ e. cc) refl (no_dash None None (Some n) refl)
+    spelled parts (asking None None (Some n)) (record { each = (p, tt); once = few parts refl }) (λ e. cc) refl (no_dash None None (Some n) refl)
 back_by None (Some mls) None b m p =
     let parts = pairs_by None (Some mls) None in
-    spelled parts (asking None (Some mls) None) (record { each = (m, tt); once = few parts (omega arith) (omega arith) (omega arith) (omega arith) (omega arith) }) (λ e. cc) refl (no_dash None (Some mls) None refl)
+    spelled parts (asking None (Some mls) None) (record { each = (m, tt); once = few parts refl }) (λ e. cc) refl (no_dash None (Some mls) None refl)
 back_by None (Some mls) (Some n) b m p =
     let parts = pairs_by None (Some mls) (Some n) in
-    spelled parts (asking None (Some mls) (Some n)) (record { each = (m, (p, tt)); once = few parts (omega arith) (omega arith) (omega arith) (omega arith) (omega arith) }) (λ e. cc) refl (no_dash None (Some mls) (Some n) refl)
+    spelled parts (asking None (Some mls) (Some n)) (record { each = (m, (p, tt)); once = few parts refl }) (λ e. cc) refl (no_dash None (Some mls) (Some n) refl)
 back_by (Some biba) None None b m p =
     let parts = pairs_by (Some biba) None None in
-    spelled parts (asking (Some biba) None None) (record { each = (b, tt); once = few parts (omega arith) (omega arith) (omega arith) (omega arith) (omega arith) }) (λ e. cc) refl (no_dash (Some biba) None None refl)
+    spelled parts (asking (Some biba) None None) (record { each = (b, tt); once = few parts refl }) (λ e. cc) refl (no_dash (Some biba) None None refl)
 back_by (Some biba) None (Some n) b m p =
     let parts = pairs_by (Some biba) None (Some n) in
-    spelled parts (asking (Some biba) None (Some n)) (record { each = (b, (p, tt)); once = few parts (omega arith) (omega arith) (omega arith) (omega arith) (omega arith) }) (λ e. cc) refl (no_dash (Some biba) None (Some n) refl)
+    spelled parts (asking (Some biba) None (Some n)) (record { each = (b, (p, tt)); once = few parts refl }) (λ e. cc) refl (no_dash (Some biba) None (Some n) refl)
 back_by (Some biba) (Some mls) None b m p =
     let parts = pairs_by (Some biba) (Some mls) None in
-    spelled parts (asking (Some biba) (Some mls) None) (record { each = (b, (m, tt)); once = few parts (omega arith) (omega arith) (omega arith) (omega arith) (omega arith) }) (λ e. cc) refl (no_dash (Some biba) (Some mls) None refl)
+    spelled parts (asking (Some biba) (Some mls) None) (record { each = (b, (m, tt)); once = few parts refl }) (λ e. cc) refl (no_dash (Some biba) (Some mls) None refl)
 back_by (Some biba) (Some mls) (Some n) b m p =
     let parts = pairs_by (Some biba) (Some mls) (Some n) in
-    spelled parts (asking (Some biba) (Some mls) (Some n)) (record { each = (b, (m, (p, tt))); once = few parts (omega arith) (omega arith) (omega arith) (omega arith) (omega arith) }) (λ e. cc) refl (no_dash (Some biba) (Some mls) (Some n) refl)
+    spelled parts (asking (Some biba) (Some mls) (Some n)) (record { each = (b, (m, (p, tt))); once = few parts refl }) (λ e. cc) refl (no_dash (Some biba) (Some mls) (Some n) refl)
 
-pub label_back : (parts : List LabelPart) → IsLabel parts → label_of (printed.label_text parts) ≡ Some parts
+pub label_back : (parts : List LabelPart) → IsLabel parts → label_of (canonical_label (map (λ (part : LabelPart). (part.module, part.value)) parts)) ≡ Some parts
 label_back parts is =
     let r = is.request in
-    ap (λ parts. label_of (printed.label_text parts)) is.asked
+    ap (λ (parts : List LabelPart). label_of (canonical_label (map (λ (part : LabelPart). (part.module, part.value)) parts))) is.asked
     ∙ back_by r.biba r.mls r.partition is.fits.biba is.fits.mls is.fits.partition
     ∙ ap Some (sym is.asked)
 

@@ -24,7 +24,7 @@ use Rattle.mf_rule.specs.RuleList.{Slots}
 use Rattle.mf_rule.proofs.Formed.{read_is_rule}
 use Rattle.mf_rule.proofs.RoundTrips.{canonical_text_reads}
 use Rattle.mf_hist.specs.Lines.{AreRules}
-use Rattle.mf_hist.specs.ReplyText.{numbered_from, numbered, numbered_text}
+use Rattle.mf_hist.specs.ReplyText.{numbered_from, numbered_text}
 use Rattle.mf_hist.specs.Reading.{greatest_u32, and_then, only_if, word_by, number_of, all_added, no_rules, by_semicolons, with_rule, rules_of}
 use Rattle.mf_hist.proofs.Added.{each_added}
 use Rattle.mf_hist.proofs.Words.{is_word, AreWords, behind}
@@ -41,7 +41,7 @@ abbrev pub numbered_words : ℕ × Rule → Words
 numbered_words r = codes ";" ∷ group r
 
 abbrev pub rules_words : Slots → Words
-rules_words slots = decimal (length (numbered slots)) ∷ flat_map numbered_words (numbered slots)
+rules_words slots = decimal (length (numbered_from 0 slots)) ∷ flat_map numbered_words (numbered_from 0 slots)
 
 -- ---- the text is that of the words
 behind_append : (a b : Words) → behind (a ++ b) ≡ behind a ++ behind b
@@ -69,7 +69,7 @@ are_numbered n [] fits all = tt
 are_numbered n (None ∷ slots) fits all = are_numbered (n + 1) slots (omega (arith, fits)) all.1
 are_numbered n (Some rule ∷ slots) fits all = (record { number = omega (arith, fits); rule = all.0 }, are_numbered (n + 1) slots (omega (arith, fits)) all.1)
 
-pub rules_are_numbered : (slots : Slots) → AreRules slots → AllByRecursion IsNumbered (numbered slots)
+pub rules_are_numbered : (slots : Slots) → AreRules slots → AllByRecursion IsNumbered (numbered_from 0 slots)
 rules_are_numbered slots are = are_numbered 0 slots (omega (arith, are.all)) are.each
 
 number_word : (n : ℕ) → n < MAX_RULES → is_word (decimal n) ≡ true
@@ -92,7 +92,7 @@ count_most n (Some rule ∷ slots) = let more = count_most (n + 1) slots in omeg
 pub rules_are_words : (slots : Slots) → AreRules slots → AreWords (rules_words slots)
 rules_are_words slots are =
     let most = count_most 0 slots in
-    (decimal_word (length (numbered slots)) (omega (arith, most, are.all)), numbered_are_words (numbered slots) (rules_are_numbered slots are))
+    (decimal_word (length (numbered_from 0 slots)) (omega (arith, most, are.all)), numbered_are_words (numbered_from 0 slots) (rules_are_numbered slots are))
 
 -- ---- they are read back
 decimal_semicolon : (n : ℕ) → n < 2 ^ 64 → is_semicolon (decimal n) ≡ false
@@ -144,11 +144,11 @@ fills front (Some rule ∷ slots) fits all =
     then_is (with_rule free (group (length front, rule))) (front ++ Some rule ∷ replicate (length slots) None) (λ more. all_added with_rule more (map group (numbered_from (length front + 1) slots))) put
     ∙ one_done front slots (Some rule) (fills (front ++ Some rule ∷ []) slots (omega (arith, fits, length-append front (Some rule ∷ []))) all.1)
 
-pub rules_back : (slots : Slots) → AreRules slots → rules_of (flat_map numbered_words (numbered slots)) ≡ Some slots
+pub rules_back : (slots : Slots) → AreRules slots → rules_of (flat_map numbered_words (numbered_from 0 slots)) ≡ Some slots
 unfolding no_rules
 rules_back slots are =
-    added_in_turn (numbered slots) (rules_are_numbered slots are)
-    ∙ ap (λ n. all_added with_rule (replicate n None) (map group (numbered slots))) (sym are.all)
+    added_in_turn (numbered_from 0 slots) (rules_are_numbered slots are)
+    ∙ ap (λ n. all_added with_rule (replicate n None) (map group (numbered_from 0 slots))) (sym are.all)
     ∙ fills [] slots (omega (arith, are.all)) are.each
 
 -- ---- what is read is a list of rules

@@ -6,8 +6,9 @@ use Rattle.std.specs.List.{list_all, AllByRecursion, join_with_byte}
 use Rattle.std.specs.Fmt.{decimal}
 use Rattle.std.specs.FinSet as set
 use Rattle.mf_errno.specs.declared.module.Module.{Module}
-use Rattle.mf_errno.specs.declared.module.Module.TheVariants.{Biba, Mls, Partition, Bsdextended, Priority}
-use Rattle.mf_elem.specs.Comps.{comps_of}
+use Rattle.mf_errno.specs.declared.module.Module.TheVariants.{Biba, Mls, Partition}
+use Rattle.mf_elem.specs.Comps.{rising}
+use Rattle.mf_elem.specs.OfSets.{comps_of}
 use Rattle.mf_elem.specs.Bounds.{IsElement, IsAskedLabel}
 use Rattle.mf_elem.specs.declared.comps.Comps.{Comps}
 use Rattle.mf_elem.specs.declared.elem.Elem.{Elem}
@@ -16,13 +17,13 @@ use Rattle.mf_elem.specs.declared.label.RangeLabel.{RangeLabel}
 use Rattle.mf_elem.specs.declared.label.LabelValue.{LabelValue}
 use Rattle.mf_elem.specs.declared.label.LabelValue.TheVariants.{Unset, Range, Number}
 use Rattle.mf_elem.specs.declared.label.Request.{Request}
+use Rattle.std.specs.Option.{option_map_or}
 use Rattle.mf_labeltext.specs.LabelGrammar.{SpellsNumber, SpellEach, SpellsGrade, SpellsElem, SpellsParts, SpellsLabel, SpellsPartition, IsName, SpellsElement}
-use Rattle.mf_labeltext.specs.Reading.{is_policy_name_byte}
-use Rattle.mf_labeltext.specs.Canonical.{rising, comps_text, elem_text, effective_text, range_text, label_text, partition_text, element_text}
+use Rattle.mf_labeltext.specs.Canonical.{comps_text, elem_text, range_text, label_text, value_text, element_text}
 use Rattle.mf_labeltext.specs.RoundTrip.{range_of, number_of, IsValueOf}
 use Rattle.mf_labeltext.proofs.Cutting.{IsFree}
 use Rattle.mf_labeltext.proofs.Spelling.{elem_inner, inner_free}
-use Rattle.mf_labeltext.proofs.Requests.{name_bytes_are}
+use Rattle.mf_labeltext.proofs.Requests.{name_bytes_are, is_policy_name_byte}
 use Rattle.mf_labeltext.proofs.Rising.{IsCompartment, rising_again, rising_are}
 
 -- ---- numbers
@@ -36,6 +37,9 @@ each_decimal [] all = tt
 each_decimal (n ∷ ns) all = (decimal_spells 1 256 n (lit< tt) all.0.0 all.0.1, each_decimal ns all.1)
 
 -- ---- elements
+abbrev pub effective_text : Option Elem → List ℕ
+effective_text element = option_map_or elem_text element []
+
 grade_text_spells : (grade : ℕ) (comps : Comps) (ns : List ℕ) → grade ≤ 65535 → comps ≡ comps_of (set.from_list ns) → AllByRecursion IsCompartment ns → SpellsGrade (decimal grade ++ comps_text ns) grade comps
 grade_text_spells grade comps [] fits is all =
     subst (λ text. SpellsGrade text grade comps) (sym (append-nil (decimal grade))) (inl (decimal_spells 0 65535 grade (lit< tt) (omega arith) fits, is))
@@ -52,7 +56,7 @@ elem_text_spells : (element : Elem) → IsElement element → SpellsElem (elem_t
 elem_text_spells Low is = inl refl
 elem_text_spells High is = inl refl
 elem_text_spells Equal is = inl refl
-elem_text_spells (Grade grade comps) is = grade_text_spells grade comps (rising comps) is.fits (rising_again comps is.are_words) (rising_are comps)
+elem_text_spells (Grade grade comps) is = grade_text_spells grade comps (rising comps) is.0 (rising_again comps is.1) (rising_are comps)
 
 -- ---- the value of biba and mls
 abbrev AreEnds : Elem × Elem → Type 0
@@ -70,6 +74,9 @@ label_text_spells : (label : RangeLabel) → IsAskedLabel label → SpellsLabel 
 label_text_spells label is = parts_spell label.effective label.range is.effective is.range is.not_empty
 
 -- ---- the value of partition
+abbrev pub partition_text : ℕ → List ℕ
+partition_text n = value_text (Number n)
+
 pub partition_spells : (n : ℕ) → n ≤ 2147483647 → SpellsPartition (partition_text n) n
 partition_spells n fits =
     elim (eqb n 0) as (λ b. eqb n 0 ≡ b → SpellsPartition (cond b (codes "none") (decimal n)) n) [
@@ -102,8 +109,7 @@ element_spells Partition Unset before is =
 element_spells Partition (Range label) before is = absurd is
 element_spells Partition (Number n) before is =
     (codes "partition", partition_text n, refl, name_is 112 (97 ∷ 114 ∷ 116 ∷ 105 ∷ 116 ∷ 105 ∷ 111 ∷ 110 ∷ []) refl, inr (inr (inl (refl, n, partition_spells n is, refl))))
-element_spells Bsdextended value before is = absurd is
-element_spells Priority value before is = absurd is
+element_spells other value before is = absurd is
 
 -- ---- no comma stands in an element
 pub free_both : (front back : List ℕ) → IsFree 44 front → IsFree 44 back → IsFree 44 (front ++ back)

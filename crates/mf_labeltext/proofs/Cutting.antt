@@ -3,14 +3,19 @@ use Rattle.std.proofs.Common.{◌≡◌, ◌≢◌, ℕ, ◌+◌, ◌<◌, suc, 
 use Rattle.std.proofs.lemmas.Bool.{eqb-true, eqb-false, eq-eqb, ne_eqb}
 use Rattle.std.proofs.lemmas.Str.{IsUtf8-drop, IsCharBoundary-after_ascii}
 use Rattle.std.specs.Str.{IsUtf8}
+use Rattle.std.specs.Prelude.{option_map}
 use Rattle.std.proofs.lemmas.Str.Pattern.{IsSplitOnceResult, split_parts}
 use Rattle.std.proofs.lemmas.List.Splits.{join_with_byte-slice_split}
 use Rattle.std.specs.List.{slice_split, onto_first, AllByRecursion, join_with_byte}
-use Rattle.mf_labeltext.specs.Reading.{cut, parts, with_first}
+use Rattle.mf_labeltext.specs.Reading.{cut, parts}
 
 -- the byte doesn't stand in the text
 abbrev pub IsFree : ℕ → List ℕ → Type 0
 IsFree byte text = AllByRecursion (λ c. c ≢ byte) text
+
+-- the halves of a text with one byte more in front
+abbrev with_first : ℕ → Option (List ℕ × List ℕ) → Option (List ℕ × List ℕ)
+with_first c halves = option_map (λ halves. (c ∷ halves.0, halves.1)) halves
 
 cut_hit : (byte c : ℕ) (cs : List ℕ) → eqb c byte ≡ true → cut byte (c ∷ cs) ≡ Some ([], cs)
 unfolding cut

@@ -1,9 +1,9 @@
 -- What a label text asks for is of the ranges that there are.
-use Rattle.std.proofs.Common.{◌≡◌, ℕ, ◌+◌, ◌*◌, ◌^◌, ◌<◌, ◌≤◌, zero, suc, List, [], ◌∷◌, Option, Some, None, Result, Ok, Err, IfOk, refl, sym, subst, arith, lit<, inl, inr, slice_index}
+use Rattle.std.proofs.Common.{◌≡◌, ℕ, ◌≤◌, List, [], ◌∷◌, Option, Some, None, Result, Ok, Err, IfOk, refl, sym, subst, arith, inl, inr}
 use Rattle.std.specs.FinSet as set
 use Rattle.std.specs.FinSet.{FinSet}
 use Rattle.std.specs.Ordering.{nat_cmp}
-use Rattle.mf_elem.specs.Comps.{words_of, comps_of}
+use Rattle.mf_elem.specs.OfSets.{comps_of}
 use Rattle.mf_elem.specs.Bounds.{AreWords, IsElement, IsAskedLabel, IsRequest}
 use Rattle.mf_elem.specs.Label.{no_request}
 use Rattle.mf_elem.specs.declared.comps.Comps.{Comps}
@@ -11,29 +11,21 @@ use Rattle.mf_elem.specs.declared.elem.Elem.{Elem}
 use Rattle.mf_elem.specs.declared.elem.Elem.TheVariants.{Low, High, Equal, Grade}
 use Rattle.mf_elem.specs.declared.label.RangeLabel.{RangeLabel}
 use Rattle.mf_elem.specs.declared.label.Request.{Request}
-use Rattle.mf_elem.proofs.CompsLaws.{bits_with}
+use Rattle.mf_elem.proofs.CompsLaws.{set_are_words}
 use Rattle.mf_labeltext.specs.LabelGrammar.{SpellsElem, SpellsParts, SpellsLabel, SpellsPartition, Asks, SpellElements, Spells}
 use Rattle.mf_labeltext.specs.declared.fault.LabelFault.{LabelFault}
 
 -- ---- compartments
-words_fit : (s : FinSet nat_cmp) (k : ℕ) → slice_index (words_of s) k < 2 ^ 64
-words_fit s zero = bits_with (λ i. set.contains s (64 * 0 + i + 1)) 64
-words_fit s (suc zero) = bits_with (λ i. set.contains s (64 * 1 + i + 1)) 64
-words_fit s (suc (suc zero)) = bits_with (λ i. set.contains s (64 * 2 + i + 1)) 64
-words_fit s (suc (suc (suc zero))) = bits_with (λ i. set.contains s (64 * 3 + i + 1)) 64
-words_fit s (suc (suc (suc (suc k)))) = lit< tt
-
 comps_are_words : (comps : Comps) (s : FinSet nat_cmp) → comps ≡ comps_of s → AreWords comps.words
-unfolding comps_of
-comps_are_words comps s is = subst (λ comps. AreWords comps.words) (sym is) (record { four = refl; fit = words_fit s })
+comps_are_words comps s is = subst (λ comps. AreWords comps.words) (sym is) (set_are_words s)
 
 -- ---- elements
 elem_formed : (text : List ℕ) (element : Elem) → SpellsElem text element → IsElement element
 elem_formed text Low spells = tt
 elem_formed text High spells = tt
 elem_formed text Equal spells = tt
-elem_formed text (Grade grade comps) (inl alone) = record { fits = alone.0.below; are_words = comps_are_words comps set.empty alone.1 }
-elem_formed text (Grade grade comps) (inr both) = record { fits = both.3.below; are_words = comps_are_words comps (set.from_list both.4.numbers) both.4.set }
+elem_formed text (Grade grade comps) (inl alone) = (alone.0.below, comps_are_words comps set.empty alone.1)
+elem_formed text (Grade grade comps) (inr both) = (both.3.below, comps_are_words comps (set.from_list both.4.numbers) both.4.set)
 
 parts_formed : (text : List ℕ) (effective : Option Elem) (range : Option (Elem × Elem)) → SpellsParts text effective range → IsAskedLabel (record { effective = effective; range = range })
 parts_formed text None None spells = absurd spells

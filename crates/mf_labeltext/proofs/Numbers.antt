@@ -8,11 +8,12 @@ use Rattle.std.specs.Result.{result_ok}
 use Rattle.std.specs.FinSet as set
 use Rattle.std.specs.FinSet.{from_list_push, nat_cmp-IsAntisymmetric}
 use Rattle.std.specs.Cmp.{nat_cmp_total}
-use Rattle.std.specs.Ordering.{nat_cmp}
-use Rattle.mf_text.specs.Number.{number_in, within, unless_other}
+use Rattle.mf_text.specs.Number.{number_in}
 use Rattle.mf_text.specs.declared.number.NumberFault.TheVariants.{OutOfRange}
-use Rattle.mf_text.proofs.Numerals.{all_digits}
-use Rattle.mf_elem.specs.Comps.{comps_of}
+use Rattle.mf_text.proofs.Numerals.{all_digits, within, unless_other}
+use Rattle.mf_elem.specs.Comps.{with_compartment}
+use Rattle.mf_elem.specs.OfSets.{comps_of}
+use Rattle.mf_elem.proofs.CompsLaws.{none_is, with_of_set}
 use Rattle.mf_elem.specs.declared.comps.Comps.{Comps}
 use Rattle.mf_labeltext.specs.LabelGrammar.{SpellsNumber, SpellEach, SpellsComps}
 use Rattle.mf_labeltext.specs.Reading.{number, comps_from, comps_in, parts, ◌>>=◌}
@@ -71,8 +72,8 @@ spells_number least greatest (c ∷ cs) n spells =
     ∙ ap result_ok (within_ok least greatest (digits_value 10 (c ∷ cs)) n spells.value spells.above spells.below)
 
 -- ---- compartments, one after another
-push : (numbers : List ℕ) (n : ℕ) → set.insert (set.from_list {R = nat_cmp} numbers) n ≡ set.from_list (numbers ++ n ∷ [])
-push numbers n = sym (from_list_push nat_cmp_total nat_cmp-IsAntisymmetric numbers n)
+push : (numbers : List ℕ) (n : ℕ) → 1 ≤ n → n ≤ 256 → with_compartment (comps_of (set.from_list numbers)) n ≡ comps_of (set.from_list (numbers ++ n ∷ []))
+push numbers n least most = with_of_set (set.from_list numbers) n least most ∙ ap comps_of (sym (from_list_push nat_cmp_total nat_cmp-IsAntisymmetric numbers n))
 
 -- what the texts spell behind the numbers so far
 pub record Reads (numbers : List ℕ) (texts : List (List ℕ)) (comps : Comps) : Type 0 where
@@ -80,35 +81,36 @@ pub record Reads (numbers : List ℕ) (texts : List (List ℕ)) (comps : Comps) 
   pub each : SpellEach texts others
   pub set : comps ≡ comps_of (set.from_list (numbers ++ others))
 
-comps_reads : (numbers : List ℕ) (texts : List (List ℕ)) (comps : Comps) → comps_from (set.from_list numbers) texts ≡ Some comps → Reads numbers texts comps
+comps_reads : (numbers : List ℕ) (texts : List (List ℕ)) (comps : Comps) → comps_from (comps_of (set.from_list numbers)) texts ≡ Some comps → Reads numbers texts comps
 unfolding comps_from
 comps_reads numbers [] comps is =
     record { others = []; each = tt; set = sym (some_is (comps_of (set.from_list numbers)) comps is) ∙ ap (λ all. comps_of (set.from_list all)) (sym (append-nil numbers)) }
 comps_reads numbers (text ∷ texts) comps is =
-    let first = bind_some (number 1 256 text) (λ n. comps_from (set.insert (set.from_list numbers) n) texts) comps is in
+    let first = bind_some (number 1 256 text) (λ n. comps_from (with_compartment (comps_of (set.from_list numbers)) n) texts) comps is in
     let n = first.0 in
-    let reads = comps_reads (numbers ++ n ∷ []) texts comps (ap (λ s. comps_from s texts) (sym (push numbers n)) ∙ first.2) in
+    let spells = number_spells 1 256 text n first.1 in
+    let reads = comps_reads (numbers ++ n ∷ []) texts comps (ap (λ s. comps_from s texts) (sym (push numbers n spells.above spells.below)) ∙ first.2) in
     record {
       others = n ∷ reads.others;
-      each = (number_spells 1 256 text n first.1, reads.each);
+      each = (spells, reads.each);
       set = reads.set ∙ ap (λ all. comps_of (set.from_list all)) (append_assoc numbers (n ∷ []) reads.others);
     }
 
-reads_comps : (numbers : List ℕ) (texts : List (List ℕ)) (others : List ℕ) → SpellEach texts others → comps_from (set.from_list numbers) texts ≡ Some (comps_of (set.from_list (numbers ++ others)))
+reads_comps : (numbers : List ℕ) (texts : List (List ℕ)) (others : List ℕ) → SpellEach texts others → comps_from (comps_of (set.from_list numbers)) texts ≡ Some (comps_of (set.from_list (numbers ++ others)))
 unfolding comps_from
 reads_comps numbers [] [] each = ap (λ all. Some (comps_of (set.from_list all))) (sym (append-nil numbers))
 reads_comps numbers [] (n ∷ others) each = absurd each
 reads_comps numbers (text ∷ texts) [] each = absurd each
 reads_comps numbers (text ∷ texts) (n ∷ others) each =
-    ap (λ read. read >>= λ n. comps_from (set.insert (set.from_list numbers) n) texts) (spells_number 1 256 text n each.0)
-    ∙ ap (λ s. comps_from s texts) (push numbers n)
+    ap (λ read. read >>= λ n. comps_from (with_compartment (comps_of (set.from_list numbers)) n) texts) (spells_number 1 256 text n each.0)
+    ∙ ap (λ s. comps_from s texts) (push numbers n each.0.above each.0.below)
     ∙ reads_comps (numbers ++ n ∷ []) texts others each.1
     ∙ ap (λ all. Some (comps_of (set.from_list all))) (append_assoc numbers (n ∷ []) others)
 
 pub comps_spells : (text : List ℕ) (comps : Comps) → comps_in text ≡ Some comps → SpellsComps text comps
 unfolding comps_in
 comps_spells text comps is =
-    let reads = comps_reads [] (parts 43 text) comps is in
+    let reads = comps_reads [] (parts 43 text) comps (ap (λ s. comps_from s (parts 43 text)) (sym none_is) ∙ is) in
     record { texts = parts 43 text; some = parts_are_some 43 text; parted = sym (join_parts 43 text); numbers = reads.others; each = reads.each; set = reads.set }
 
 -- ---- which bytes a text of digits is free of
@@ -127,7 +129,8 @@ each_free byte (text ∷ texts) (n ∷ numbers) other each = (digits_free byte t
 pub spells_comps : (text : List ℕ) (comps : Comps) → SpellsComps text comps → comps_in text ≡ Some comps
 unfolding comps_in
 spells_comps text comps spells =
-    ap (λ t. comps_from set.empty (parts 43 t)) spells.parted
-    ∙ ap (comps_from set.empty) (parts_join 43 spells.texts spells.some (each_free 43 spells.texts spells.numbers (lit≤ tt) spells.each))
+    ap (λ s. comps_from s (parts 43 text)) none_is
+    ∙ ap (λ t. comps_from (comps_of set.empty) (parts 43 t)) spells.parted
+    ∙ ap (comps_from (comps_of set.empty)) (parts_join 43 spells.texts spells.some (each_free 43 spells.texts spells.numbers (lit≤ tt) spells.each))
     ∙ reads_comps [] spells.texts spells.numbers spells.each
     ∙ ap Some (sym spells.set)

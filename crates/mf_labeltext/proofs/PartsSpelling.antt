@@ -3,18 +3,18 @@ use Rattle.std.proofs.Common.{◌≡◌, ◌≢◌, ℕ, ◌≤◌, true, false,
 use Rattle.std.specs.List.{AllByRecursion, join_with_byte}
 use Rattle.mf_errno.specs.Same.{same_module}
 use Rattle.mf_errno.specs.declared.module.Module.{Module}
-use Rattle.mf_errno.specs.declared.module.Module.TheVariants.{Biba, Mls, Partition, Bsdextended, Priority}
+use Rattle.mf_errno.specs.declared.module.Module.TheVariants.{Biba, Mls, Partition}
 use Rattle.mf_elem.specs.declared.label.RangeLabel.{RangeLabel}
 use Rattle.mf_elem.specs.declared.label.LabelValue.{LabelValue}
 use Rattle.mf_elem.specs.declared.label.LabelValue.TheVariants.{Unset, Range, Number}
 use Rattle.mf_elem.specs.declared.label.Request.{Request}
 use Rattle.mf_labeltext.specs.LabelGrammar.{SpellElements, HasNoComma, Spells}
 use Rattle.mf_elem.specs.Label.{no_request}
-use Rattle.mf_labeltext.specs.Canonical.{label_text, partition_text, element_text, parts_of, in_order, elements_text, canonical_label}
+use Rattle.mf_labeltext.specs.Canonical.{label_text, element_text, parts_of, in_order, elements_text, canonical_label}
 use Rattle.mf_labeltext.specs.RoundTrip.{value_of, range_of, number_of, request_of, IsValueOf, IsPart, AreParts}
 use Rattle.mf_labeltext.proofs.Cutting.{IsFree}
 use Rattle.mf_labeltext.proofs.Spelling.{inner_free, partition_inner}
-use Rattle.mf_labeltext.proofs.CanonicalSpelling.{with_value, element_spells, free_both, label_free, partition_spells}
+use Rattle.mf_labeltext.proofs.CanonicalSpelling.{with_value, element_spells, free_both, label_free, partition_spells, partition_text}
 
 abbrev Part : Type 0
 Part = Module × LabelValue
@@ -36,8 +36,7 @@ element_free Mls (Number n) is = absurd is
 element_free Partition Unset is = inner_free 44 (codes "partition/none") refl refl
 element_free Partition (Range label) is = absurd is
 element_free Partition (Number n) is = free_both (codes "partition/") (partition_text n) (inner_free 44 (codes "partition/") refl refl) (partition_free n is)
-element_free Bsdextended value is = absurd is
-element_free Priority value is = absurd is
+element_free other value is = absurd is
 
 -- ---- one part after another
 asked_after : Request → Parts → Request
@@ -95,27 +94,18 @@ asking biba mls partition = record { biba = biba; mls = mls; partition = partiti
 with_biba : (policy : Module) (value : LabelValue) → same_module Biba policy ≡ true → with_value no_request policy value ≡ asking (range_of (Some value)) None None
 unfolding with_value
 with_biba Biba value same = refl
-with_biba Mls value same = absurd cc
-with_biba Partition value same = absurd cc
-with_biba Bsdextended value same = absurd cc
-with_biba Priority value same = absurd cc
+with_biba other value same = absurd cc
 
 with_mls : (biba : Option RangeLabel) (policy : Module) (value : LabelValue) → same_module Mls policy ≡ true → with_value (asking biba None None) policy value ≡ asking biba (range_of (Some value)) None
 unfolding with_value
-with_mls biba Biba value same = absurd cc
 with_mls biba Mls value same = refl
-with_mls biba Partition value same = absurd cc
-with_mls biba Bsdextended value same = absurd cc
-with_mls biba Priority value same = absurd cc
+with_mls biba other value same = absurd cc
 
 with_partition : (biba mls : Option RangeLabel) (policy : Module) (value : LabelValue) → same_module Partition policy ≡ true
     → with_value (asking biba mls None) policy value ≡ asking biba mls (number_of (Some value))
 unfolding with_value
-with_partition biba mls Biba value same = absurd cc
-with_partition biba mls Mls value same = absurd cc
 with_partition biba mls Partition value same = refl
-with_partition biba mls Bsdextended value same = absurd cc
-with_partition biba mls Priority value same = absurd cc
+with_partition biba mls other value same = absurd cc
 
 after_biba : (parts : Parts) → AreOf Biba parts → length parts ≤ 1 → asked_after no_request parts ≡ asking (range_of (first_value parts)) None None
 unfolding asked_after
@@ -175,8 +165,7 @@ unfolding in_order
 some_with Biba value parts is none = cc
 some_with Mls value parts is none = some_within (parts_of Biba parts) (Mls, value) (parts_of Mls parts) (parts_of Partition parts) none
 some_with Partition value parts is none = some_behind (parts_of Biba parts ++ parts_of Mls parts) (Partition, value) (parts_of Partition parts) none
-some_with Bsdextended value parts is none = is
-some_with Priority value parts is none = is
+some_with other value parts is none = is
 
 some_in_order : (parts : Parts) → AllByRecursion IsPart parts → parts ≢ [] → in_order parts ≢ []
 some_in_order [] all some = absurd (some refl)

@@ -5,10 +5,11 @@ use Rattle.std.proofs.lemmas.Bool.{ne_eqb}
 use Rattle.std.proofs.lemmas.List.Elements.{filter-append}
 use Rattle.std.specs.List.{join_with_byte}
 use Rattle.std.specs.Fmt.{decimal}
-use Rattle.mf_labeltext.specs.Canonical.{numbers_to, rising, comps_text}
+use Rattle.mf_labeltext.specs.Canonical.{comps_text}
 use Rattle.mf_labeltext.specs.Commas.{comma_behind}
 use Rattle.std.specs.FinSet as set
-use Rattle.mf_elem.specs.Comps.{compartments_of}
+use Rattle.mf_elem.specs.Comps.{compartments_of, numbers_to, rising}
+use Rattle.mf_elem.proofs.CompsLaws.{rising_contained}
 use Rattle.mf_elem.specs.declared.comps.Comps.{Comps}
 
 -- what stands in front of one compartment more
@@ -103,6 +104,6 @@ pub nothing_printed : (test : ℕ → Bool) (before : List ℕ) → Printed test
 nothing_printed test before = record { text = sym (append-nil before); separator_is = refl; ascii = lit< tt }
 
 pub all_printed : (comps : Comps) (before after : List ℕ) (separator n : ℕ) → Printed (set.contains (compartments_of comps)) before after separator n → n ≡ 256 → after ≡ before ++ comps_text (rising comps)
-unfolding rising
 all_printed comps before after separator n printed end =
     printed.text ∙ ap (λ k. before ++ comps_text (filter (set.contains (compartments_of comps)) (numbers_to k))) end
+    ∙ ap (λ ns. before ++ comps_text ns) (sym (rising_contained comps))

@@ -9,7 +9,8 @@ use Rattle.mf_elem.specs.declared.label.Request.{Request}
 use Rattle.mf_labeltext.specs.LabelGrammar.{IsNameByte, IsName, Asks, SpellsElement, SpellElements, Spells}
 use Rattle.mf_elem.specs.Label.{no_request}
 use Rattle.mf_text.specs.Results.{and_then}
-use Rattle.mf_labeltext.specs.Reading.{cut, parts, label_in, partition_in, with_part, is_policy_name_byte, is_policy_name, element_from_halves, element_in, elements_in, request_in, ◌>>=◌}
+use Rattle.std.specs.Char.{is_ascii_digit, is_ascii_lowercase}
+use Rattle.mf_labeltext.specs.Reading.{cut, parts, label_in, partition_in, with_part, is_policy_name, element_from_halves, element_in, elements_in, request_in, ◌>>=◌}
 use Rattle.mf_labeltext.specs.declared.fault.LabelFault.{LabelFault}
 use Rattle.mf_labeltext.specs.declared.fault.LabelFault.TheVariants.{NoSlash, BadValue}
 use Rattle.mf_labeltext.proofs.Cutting.{IsFree, cut_is, cut_free, parts_free, parts_are_some, parts_join, join_parts}
@@ -17,6 +18,9 @@ use Rattle.mf_labeltext.proofs.Numbers.{bind_some, some_is}
 use Rattle.mf_labeltext.proofs.Spelling.{chosen, either, each_true, both_true, same_text, label_spells, spells_label, partition_spells, spells_partition}
 
 -- ---- names
+abbrev pub is_policy_name_byte : ℕ → Bool
+is_policy_name_byte byte = is_ascii_lowercase byte || (is_ascii_digit byte || eqb byte 95)
+
 name_byte_is : (byte : ℕ) → is_policy_name_byte byte ≡ true → IsNameByte byte
 name_byte_is byte is =
     elim (either (leb 97 byte && leb byte 122) ((leb 48 byte && leb byte 57) || eqb byte 95) is) [

@@ -5,17 +5,18 @@ use Rattle.std.proofs.lemmas.List.{nil_from_length}
 use Rattle.std.proofs.lemmas.Slice.Eq.{bytes_eq-Decides}
 use Rattle.std.proofs.lemmas.Str.Parse.{digit_from_value}
 use Rattle.std.specs.List.{list_all, join_with_byte}
+use Rattle.std.specs.Option.{option_zip}
 use Rattle.std.specs.Char.{digit_value}
 use Rattle.std.specs.Str.{bytes_eq}
 use Rattle.std.specs.Str.Parse.{AllDigits}
-use Rattle.std.specs.FinSet as set
-use Rattle.mf_elem.specs.Comps.{comps_of}
+use Rattle.mf_elem.specs.Comps.{no_comps}
+use Rattle.mf_elem.proofs.CompsLaws.{none_is}
 use Rattle.mf_elem.specs.declared.comps.Comps.{Comps}
 use Rattle.mf_elem.specs.declared.elem.Elem.{Elem}
 use Rattle.mf_elem.specs.declared.elem.Elem.TheVariants.{Low, High, Equal, Grade}
 use Rattle.mf_elem.specs.declared.label.RangeLabel.{RangeLabel}
 use Rattle.mf_labeltext.specs.LabelGrammar.{SpellEach, SpellsGrade, SpellsElem, SpellsRange, SpellsParts, SpellsLabel, SpellsPartition}
-use Rattle.mf_labeltext.specs.Reading.{cut, number, comps_in, grade_from_halves, grade_in, elem_in, without_close, range_in, effective_in, label_from_halves, label_in, partition_in, ◌>>=◌}
+use Rattle.mf_labeltext.specs.Reading.{cut, number, comps_in, grade_from_halves, grade_in, elem_in, range_in, effective_in, label_from_halves, label_in, partition_in, ◌>>=◌}
 use Rattle.mf_labeltext.proofs.Cutting.{IsFree, cut_is, cut_free, cut_free_none}
 use Rattle.mf_labeltext.proofs.Numbers.{bind_some, some_is, number_spells, spells_number, comps_spells, spells_comps, digits_free}
 
@@ -38,8 +39,8 @@ one_of_two text a b is =
 -- ---- elements
 grade_spells : (text : List ℕ) (halves : Option (List ℕ × List ℕ)) (element : Elem) → cut 58 text ≡ halves → grade_from_halves text halves ≡ Some element → SpellsElem text element
 grade_spells text None element none is =
-    let read = bind_some (number 0 65535 text) (λ grade. Some (Grade grade (comps_of set.empty))) element is in
-    subst (SpellsElem text) (some_is (Grade read.0 (comps_of set.empty)) element read.2) (inl (number_spells 0 65535 text read.0 read.1, refl))
+    let read = bind_some (number 0 65535 text) (λ grade. Some (Grade grade no_comps)) element is in
+    subst (SpellsElem text) (some_is (Grade read.0 no_comps) element read.2) (inl (number_spells 0 65535 text read.0 read.1, none_is))
 grade_spells text (Some halves) element some is =
     let read = bind_some (number 0 65535 halves.0) (λ grade. comps_in halves.1 >>= λ comps. Some (Grade grade comps)) element is in
     let comps = bind_some (comps_in halves.1) (λ comps. Some (Grade read.0 comps)) element read.2 in
@@ -98,8 +99,8 @@ spells_grade text grade comps (inl alone) =
     ∙ starts_with_digit text [] spells.numeral.1 spells.numeral.0
     ∙ ap grade_in (append-nil text)
     ∙ ap (grade_from_halves text) (cut_free_none 58 text (digits_free 58 text (lit≤ tt) spells.numeral.1))
-    ∙ ap (λ read. read >>= λ grade. Some (Grade grade (comps_of set.empty))) (spells_number 0 65535 text grade spells)
-    ∙ ap (λ comps. Some (Grade grade comps)) (sym alone.1)
+    ∙ ap (λ read. read >>= λ grade. Some (Grade grade no_comps)) (spells_number 0 65535 text grade spells)
+    ∙ ap (λ comps. Some (Grade grade comps)) (none_is ∙ sym alone.1)
 spells_grade text grade comps (inr both) =
     let digits = both.0 in
     let others = both.1 in
@@ -180,33 +181,32 @@ inner_free byte (c ∷ cs) outer inner =
     (inner_other byte c outer parts.0, inner_free byte cs outer parts.1)
 
 -- ---- ranges
-close_is : (halves : Option (List ℕ × List ℕ)) (text high : List ℕ) → cut 41 text ≡ halves → without_close halves ≡ Some high → text ≡ high ++ 41 ∷ []
-close_is None text high none is = absurd cc
-close_is (Some halves) text high some is =
-    elim (chosen (eqb (length halves.1) 0) (Some halves.0) None (Some high) is) [
-      | inl end ↦
-          let cut = cut_is 41 text halves.0 halves.1 some in
-          let ended : halves.1 ≡ [] = nil_from_length halves.1 (eqb-true (length halves.1) 0 end.0) in
-          cut.whole ∙ ap (λ back. halves.0 ++ 41 ∷ back) ended ∙ ap (λ front. front ++ 41 ∷ []) (some_is halves.0 high end.1)
-      | inr more ↦ absurd (let e = more.1 in cc)
-    ]
+pub zipped : {A B : Type 0} (x : Option A) (y : Option B) (pair : A × B) → option_zip x y ≡ Some pair → (x ≡ Some pair.0) × (y ≡ Some pair.1)
+zipped None y pair is = absurd cc
+zipped (Some a) None pair is = absurd cc
+zipped (Some a) (Some b) pair is = let same = some_is (a, b) pair is in (ap (λ p. Some p.0) same, ap (λ p. Some p.1) same)
 
 pub range_spells : (text : List ℕ) (ends : Elem × Elem) → range_in text ≡ Some ends → SpellsRange (40 ∷ text) ends
 unfolding range_in
 range_spells text ends is =
     let halves = bind_some (cut 45 text) _ ends is in
-    let high = bind_some (without_close (cut 41 halves.0.1)) _ ends halves.2 in
-    let low_end = bind_some (elem_in halves.0.0) _ ends high.2 in
-    let high_end = bind_some (elem_in high.0) _ ends low_end.2 in
-    let parted = cut_is 45 text halves.0.0 halves.0.1 halves.1 in
-    let close = close_is (cut 41 halves.0.1) halves.0.1 high.0 refl high.1 in
-    subst (SpellsRange (40 ∷ text)) (some_is (low_end.0, high_end.0) ends high_end.2) (
-      halves.0.0,
-      high.0,
-      ap (λ t. 40 ∷ t) (parted.whole ∙ ap (λ back. halves.0.0 ++ 45 ∷ back) close),
-      elem_spells halves.0.0 low_end.0 low_end.1,
-      elem_spells high.0 high_end.0 high_end.1,
-    )
+    let low = halves.0.0 in
+    let high = bind_some (cut 41 halves.0.1) _ ends halves.2 in
+    let read : Option (Elem × Elem) = option_zip (elem_in low) (elem_in high.0.0) in
+    elim (chosen (eqb (length high.0.1) 0) read None (Some ends) high.2) [
+      | inl end ↦
+          let both = zipped (elem_in low) (elem_in high.0.0) ends end.1 in
+          let ended : high.0.1 ≡ [] = nil_from_length high.0.1 (eqb-true (length high.0.1) 0 end.0) in
+          let close = (cut_is 41 halves.0.1 high.0.0 high.0.1 high.1).whole ∙ ap (λ back. high.0.0 ++ 41 ∷ back) ended in
+          let parted = cut_is 45 text low halves.0.1 halves.1 in (
+            low,
+            high.0.0,
+            ap (λ t. 40 ∷ t) (parted.whole ∙ ap (λ back. low ++ 45 ∷ back) close),
+            elem_spells low ends.0 both.0,
+            elem_spells high.0.0 ends.1 both.1,
+          )
+      | inr more ↦ absurd (let e = more.1 in cc)
+    ]
 
 -- a range is its "(" and a text that is read as one
 pub spells_range : (text : List ℕ) (ends : Elem × Elem) → SpellsRange text ends → (rest : List ℕ) × (text ≡ 40 ∷ rest) × (range_in rest ≡ Some ends)
@@ -214,15 +214,14 @@ unfolding range_in
 spells_range text ends spells =
     let low = spells.0 in
     let high = spells.1 in
-    let both : Elem → Elem → Option (Elem × Elem) = λ low_end high_end. Some (low_end, high_end) in (
+    let ended : List ℕ × List ℕ → Option (Elem × Elem) = λ close. cond (eqb (length close.1) 0) (option_zip (elem_in low) (elem_in close.0)) None in (
       low ++ (45 ∷ high ++ 41 ∷ []),
       spells.2,
-      ap (λ halves. halves >>= λ halves. without_close (cut 41 halves.1) >>= λ high. elem_in halves.0 >>= λ low_end. elem_in high >>= λ high_end. both low_end high_end)
+      ap (λ ends. ends >>= λ ends. cut 41 ends.1 >>= λ high. cond (eqb (length high.1) 0) (option_zip (elem_in ends.0) (elem_in high.0)) None)
           (cut_free 45 low (high ++ 41 ∷ []) (inner_free 45 low refl (elem_inner low ends.0 spells.3)))
-          ∙ ap (λ halves. without_close halves >>= λ high. elem_in low >>= λ low_end. elem_in high >>= λ high_end. both low_end high_end)
-          (cut_free 41 high [] (inner_free 41 high refl (elem_inner high ends.1 spells.4)))
-          ∙ ap (λ low_end. low_end >>= λ low_end. elem_in high >>= λ high_end. both low_end high_end) (spells_elem low ends.0 spells.3)
-          ∙ ap (λ high_end. high_end >>= λ high_end. both ends.0 high_end) (spells_elem high ends.1 spells.4),
+          ∙ ap (λ close. close >>= ended) (cut_free 41 high [] (inner_free 41 high refl (elem_inner high ends.1 spells.4)))
+          ∙ ap (λ low_end. option_zip low_end (elem_in high)) (spells_elem low ends.0 spells.3)
+          ∙ ap (option_zip (Some ends.0)) (spells_elem high ends.1 spells.4),
     )
 
 -- ---- the value of biba and mls

@@ -3,29 +3,17 @@ use Rattle.std.specs.Prelude.{ℕ, List, [], ◌∷◌, ◌++◌, Option, map, f
 use Rattle.std.specs.List.{join_with_byte}
 use Rattle.std.specs.Option.{option_map_or}
 use Rattle.std.specs.Fmt.{decimal}
-use Rattle.std.specs.FinSet as set
+use Rattle.mf_errno.specs.Names.{policy_text}
 use Rattle.mf_errno.specs.Same.{same_module}
 use Rattle.mf_errno.specs.declared.module.Module.{Module}
-use Rattle.mf_errno.specs.declared.module.Module.TheVariants.{Biba, Mls, Partition, Bsdextended, Priority}
-use Rattle.mf_elem.specs.Comps.{compartments_of}
-use Rattle.mf_elem.specs.declared.comps.Comps.{Comps}
-use Rattle.mf_elem.specs.declared.comps.TheConstants.{LAST_COMPARTMENT}
+use Rattle.mf_errno.specs.declared.module.Module.TheVariants.{Biba, Mls, Partition}
+use Rattle.mf_elem.specs.Comps.{rising}
 use Rattle.mf_elem.specs.declared.elem.Elem.{Elem}
 use Rattle.mf_elem.specs.declared.elem.Elem.TheVariants.{Low, High, Equal, Grade}
 use Rattle.mf_elem.specs.declared.label.RangeLabel.{RangeLabel}
 use Rattle.mf_elem.specs.declared.label.LabelValue.{LabelValue}
 use Rattle.mf_elem.specs.declared.label.LabelValue.TheVariants.{Unset, Range, Number}
-use Prim.Native.Nat.{suc, zero}
 use Rattle.mf_labeltext.specs.Bytes.{close_parenthesis, colon, comma, dash, open_parenthesis, plus, slash}
-
--- the numbers from 1 up to n
-abbrev pub numbers_to : ℕ → List ℕ
-numbers_to zero = []
-numbers_to (suc n) = numbers_to n ++ suc n ∷ []
-
--- the compartments of a set, rising
-unfoldable pub rising : Comps → List ℕ
-rising comps = filter (set.contains (compartments_of comps)) (numbers_to LAST_COMPARTMENT)
 
 -- a colon and the compartments with a plus between each two; nothing where there are none
 abbrev pub comps_text : List ℕ → List ℕ
@@ -38,30 +26,17 @@ elem_text High = codes "high"
 elem_text Equal = codes "equal"
 elem_text (Grade grade comps) = decimal grade ++ comps_text (rising comps)
 
-abbrev pub effective_text : Option Elem → List ℕ
-effective_text element = option_map_or elem_text element []
-
 abbrev pub range_text : Option (Elem × Elem) → List ℕ
 range_text range = option_map_or (λ ends. open_parenthesis ∷ elem_text ends.0 ++ (dash ∷ elem_text ends.1 ++ close_parenthesis ∷ [])) range []
 
 abbrev pub label_text : RangeLabel → List ℕ
-label_text label = effective_text label.effective ++ range_text label.range
-
-abbrev pub partition_text : ℕ → List ℕ
-partition_text n = if n == 0 then codes "none" else decimal n
+label_text label = option_map_or elem_text label.effective [] ++ range_text label.range
 
 -- an Unset partition is none
 abbrev pub value_text : LabelValue → List ℕ
-value_text Unset = partition_text 0
+value_text Unset = codes "none"
 value_text (Range label) = label_text label
-value_text (Number n) = partition_text n
-
-abbrev pub policy_text : Module → List ℕ
-policy_text Biba = codes "biba"
-policy_text Mls = codes "mls"
-policy_text Partition = codes "partition"
-policy_text Bsdextended = codes "bsdextended"
-policy_text Priority = codes "priority"
+value_text (Number n) = if n == 0 then codes "none" else decimal n
 
 -- the policy, a slash and the value
 abbrev pub element_text : Module × LabelValue → List ℕ

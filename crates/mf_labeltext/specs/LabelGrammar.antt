@@ -8,7 +8,7 @@ use Rattle.std.specs.List.{join_with_byte, AllByRecursion}
 use Rattle.std.specs.Int.{IsInRange}
 use Rattle.std.specs.Str.Parse.{IsNumeral, digits_value}
 use Rattle.std.specs.FinSet as set
-use Rattle.mf_elem.specs.Comps.{comps_of}
+use Rattle.mf_elem.specs.OfSets.{comps_of}
 use Rattle.mf_elem.specs.Label.{no_request}
 use Rattle.mf_elem.specs.declared.comps.Comps.{Comps}
 use Rattle.mf_elem.specs.declared.comps.TheConstants.{LAST_COMPARTMENT}

@@ -1,15 +1,13 @@
 -- Reading a label text of maclabel(7) from left to right: what it asks for, or its first fault. The faults and their order are this model's own.
-use Rattle.std.specs.Prelude.{ℕ, ◌+◌, List, [], ◌∷◌, length, Option, Some, None, Result, Ok, Err, Bool, true, false, nat_le, ◌==◌, ◌&&◌, ◌||◌, if◌then◌else◌, codes, option_map, option_and_then}
+use Rattle.std.specs.Prelude.{ℕ, ◌+◌, List, [], ◌∷◌, length, Option, Some, None, Result, Ok, Err, Bool, true, false, ◌==◌, ◌||◌, if◌then◌else◌, codes, option_map, option_and_then}
 use Rattle.std.specs.List.{slice_split, list_all}
-use Rattle.std.specs.Option.{ok_or}
+use Rattle.std.specs.Char.{is_ascii_digit, is_ascii_lowercase}
+use Rattle.std.specs.Option.{ok_or, option_zip}
 use Rattle.std.specs.Result.{result_ok}
 use Rattle.std.specs.Str.{bytes_eq}
-use Rattle.std.specs.FinSet as set
-use Rattle.std.specs.FinSet.{FinSet}
-use Rattle.std.specs.Ordering.{nat_cmp}
 use Rattle.mf_text.specs.Number.{number_in}
 use Rattle.mf_text.specs.Results.{and_then}
-use Rattle.mf_elem.specs.Comps.{comps_of}
+use Rattle.mf_elem.specs.Comps.{no_comps, with_compartment}
 use Rattle.mf_elem.specs.declared.comps.Comps.{Comps}
 use Rattle.mf_elem.specs.declared.comps.TheConstants.{LAST_COMPARTMENT}
 use Rattle.mf_elem.specs.declared.elem.TheConstants.{LAST_GRADE}
@@ -27,14 +25,10 @@ infixl 10 ◌>>=◌
 abbrev pub ◌>>=◌ : {A B : Type 0} → Option A → (A → Option B) → Option B
 found >>= more = option_and_then more found
 
--- the halves of a text with one byte more in front
-abbrev pub with_first : ℕ → Option (List ℕ × List ℕ) → Option (List ℕ × List ℕ)
-with_first c halves = option_map (λ halves. (c ∷ halves.0, halves.1)) halves
-
 -- the text in front of the first such byte, and the text behind it
 unfoldable pub cut : ℕ → List ℕ → Option (List ℕ × List ℕ)
 cut byte [] = None
-cut byte (c ∷ cs) = if c == byte then Some ([], cs) else with_first c (cut byte cs)
+cut byte (c ∷ cs) = if c == byte then Some ([], cs) else option_map (λ halves. (c ∷ halves.0, halves.1)) (cut byte cs)
 
 -- the texts between such bytes
 unfoldable pub parts : ℕ → List ℕ → List (List ℕ)
@@ -45,17 +39,17 @@ unfoldable pub number : ℕ → ℕ → List ℕ → Option ℕ
 number least greatest text = result_ok (number_in 10 least greatest text)
 
 -- the compartments so far, and those that the texts spell
-unfoldable pub comps_from : FinSet nat_cmp → List (List ℕ) → Option Comps
-comps_from comps [] = Some (comps_of comps)
-comps_from comps (text ∷ texts) = number 1 LAST_COMPARTMENT text >>= λ n. comps_from (set.insert comps n) texts
+unfoldable pub comps_from : Comps → List (List ℕ) → Option Comps
+comps_from comps [] = Some comps
+comps_from comps (text ∷ texts) = number 1 LAST_COMPARTMENT text >>= λ n. comps_from (with_compartment comps n) texts
 
 -- compartments with a plus between each two
 unfoldable pub comps_in : List ℕ → Option Comps
-comps_in text = comps_from set.empty (parts plus text)
+comps_in text = comps_from no_comps (parts plus text)
 
 -- a grade, and the compartments behind its colon where there is one
 abbrev pub grade_from_halves : List ℕ → Option (List ℕ × List ℕ) → Option Elem
-grade_from_halves text None = number 0 LAST_GRADE text >>= λ grade. Some (Grade grade (comps_of set.empty))
+grade_from_halves text None = number 0 LAST_GRADE text >>= λ grade. Some (Grade grade no_comps)
 grade_from_halves text (Some halves) = do
   grade ← number 0 LAST_GRADE halves.0
   comps ← comps_in halves.1
@@ -72,18 +66,12 @@ elem_in text =
     else if bytes_eq text (codes "equal") || bytes_eq text (codes "eq") then Some Equal
     else grade_in text
 
--- the text in front of a last ")", which is the only one
-abbrev pub without_close : Option (List ℕ × List ℕ) → Option (List ℕ)
-without_close halves = option_and_then (λ halves. if length halves.1 == 0 then Some halves.0 else None) halves
-
 -- a range behind its "("
 unfoldable pub range_in : List ℕ → Option (Elem × Elem)
 range_in text = do
-  halves ← cut dash text
-  high ← without_close (cut close_parenthesis halves.1)
-  low_end ← elem_in halves.0
-  high_end ← elem_in high
-  Some (low_end, high_end)
+  ends ← cut dash text
+  high ← cut close_parenthesis ends.1
+  if length high.1 == 0 then option_zip (elem_in ends.0) (elem_in high.0) else None
 
 -- the effective element in front of a range, where there is one
 abbrev pub effective_in : List ℕ → Option (Option Elem)
@@ -113,14 +101,10 @@ with_part name value request =
     else if bytes_eq name (codes "partition") then (partition_in value >>= λ n. Some (record request { partition = Some n }))
     else Some (record request { other = true })
 
--- a lower-case letter, a digit or an underscore
-abbrev pub is_policy_name_byte : ℕ → Bool
-is_policy_name_byte byte = (nat_le 97 byte && nat_le byte 122) || ((nat_le 48 byte && nat_le byte 57) || byte == 95)
-
--- one or more of these bytes
+-- one or more lower-case letters, digits and underscores
 abbrev pub is_policy_name : List ℕ → Bool
 is_policy_name [] = false
-is_policy_name (c ∷ cs) = list_all is_policy_name_byte (c ∷ cs)
+is_policy_name name = list_all (λ c. is_ascii_lowercase c || (is_ascii_digit c || c == 95)) name
 
 -- an element of which the name and the value were parted at the first slash
 abbrev pub element_from_halves : ℕ → Request → Option (List ℕ × List ℕ) → Result Request LabelFault
@@ -131,7 +115,7 @@ element_from_halves place request (Some halves) =
 -- the request with the element at a place added
 unfoldable pub element_in : ℕ → Request → List ℕ → Result Request LabelFault
 element_in place request [] = Err (EmptyElement place)
-element_in place request (c ∷ cs) = element_from_halves place request (cut slash (c ∷ cs))
+element_in place request element = element_from_halves place request (cut slash element)
 
 -- the request with the elements added, of which the first stands at a place
 unfoldable pub elements_in : ℕ → Request → List (List ℕ) → Result Request LabelFault

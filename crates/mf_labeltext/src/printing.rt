@@ -4,7 +4,10 @@ ghost use Rattle.std.specs.Fmt.{decimal};
 ghost use Rattle.std.specs.List.{join_with_byte};
 ghost use Rattle.mf_text.specs.Appending.{Extends};
 ghost use Rattle.mf_labeltext.specs.Bytes.{comma, dash};
-ghost use Rattle.mf_labeltext.specs.Canonical.{rising, comps_text, elem_text, range_text, label_text, partition_text, value_text, policy_text, element_text, parts_of, in_order, elements_text, canonical_label};
+ghost use Rattle.mf_errno.specs.Names.{policy_text};
+ghost use Rattle.mf_elem.specs.Comps.{rising};
+ghost use Rattle.mf_elem.specs.declared.label.LabelValue.TheVariants.{Number};
+ghost use Rattle.mf_labeltext.specs.Canonical.{comps_text, elem_text, range_text, label_text, value_text, element_text, parts_of, in_order, elements_text, canonical_label};
 ghost use Rattle.mf_labeltext.specs.Commas.{comma_behind};
 ghost use Rattle.mf_labeltext.specs.RoundTrip.{CanonicalTextSpellsItsParts};
 
@@ -161,7 +164,7 @@ fn push_value(value: &LabelValue, out: &mut String) -> Result<(), AllocError>
 }
 
 fn push_partition(number: u32, out: &mut String) -> Result<(), AllocError>
-    ensures ok { OnOk result (string_bytes out.new ≡ string_bytes out.old ++ partition_text number) }
+    ensures ok { OnOk result (string_bytes out.new ≡ string_bytes out.old ++ value_text (Number number)) }
     ensures err { OnErr result (Extends (string_bytes out.old) (string_bytes out.new)) }
 {
     if number == 0 {
@@ -217,7 +220,6 @@ fn push_elem(element: &Elem, out: &mut String) -> Result<(), AllocError>
 }
 
 /// A colon and the compartments, rising, with a plus between each two.
-#[tactic(auto, unfolding(crate::specs::Canonical::rising))]
 fn push_comps(comps: &Comps, out: &mut String) -> Result<(), AllocError>
     ensures ok { OnOk result (string_bytes out.new ≡ string_bytes out.old ++ comps_text (rising comps.now)) }
     ensures err { OnErr result (Extends (string_bytes out.old) (string_bytes out.new)) }

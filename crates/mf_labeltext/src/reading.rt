@@ -1,10 +1,11 @@
 //! Reading what a label text asks for.
-ghost use Rattle.std.specs.Prelude.{◌≡◌, ◌↔◌, ◌+◌, ◌^◌, ◌<◌, length, Ok, Err, IfOk};
+ghost use Rattle.std.specs.Prelude.{◌≡◌, ◌↔◌, ◌+◌, ◌^◌, ◌<◌, ◌==◌, ◌||◌, length, Ok, Err, IfOk};
+ghost use Rattle.std.specs.Char.{is_ascii_digit, is_ascii_lowercase};
 ghost use Rattle.std.specs.List.{list_all};
 ghost use Rattle.mf_elem.specs.Bounds.{IsRequest};
 ghost use Rattle.mf_elem.specs.declared.label.Request.{Request};
 ghost use Rattle.mf_labeltext.specs.LabelGrammar.{Spells};
-ghost use Rattle.mf_labeltext.specs.Reading.{is_policy_name_byte, is_policy_name, with_part, element_in, request_in};
+ghost use Rattle.mf_labeltext.specs.Reading.{is_policy_name, with_part, element_in, request_in};
 ghost use Rattle.mf_labeltext.specs.FirstFault.{IsFirstLabelFault};
 ghost use Rattle.mf_labeltext.specs.declared.fault.LabelFault.{LabelFault};
 
@@ -77,7 +78,7 @@ fn with_part(name: &str, value: &str, request: &Request) -> Option<Request>
 }
 
 fn is_policy_name_byte(byte: u8) -> bool
-    ensures { result ≡ is_policy_name_byte byte }
+    ensures { result ≡ (is_ascii_lowercase byte || (is_ascii_digit byte || byte == 95)) }
 {
     matches!(byte, b'a'..=b'z' | b'0'..=b'9' | b'_')
 }
@@ -89,7 +90,7 @@ fn is_policy_name(text: &str) -> bool
 }
 
 fn are_name_bytes(text: &[u8]) -> bool
-    ensures { result ≡ list_all is_policy_name_byte text.now }
+    ensures { result ≡ list_all (λ c. is_ascii_lowercase c || (is_ascii_digit c || c == 95)) text.now }
 {
     text.iter().all(|byte| is_policy_name_byte(*byte))
 }

@@ -7,7 +7,7 @@ use Rattle.mf_policy.specs.declared.registration.Registration.{Registration}
 use Rattle.mf_policy.specs.Modules.{wants_slot}
 use Rattle.mf_policy.specs.Registration.{Entry, given_after, slot_for, registration_of, with_newest, with_registered}
 use Rattle.mf_calls.specs.declared.script.Script.{Script}
-use Rattle.mf_core.specs.Opening.{registrations_from, boots_of, given_by, booted_specs}
+use Rattle.mf_core.specs.Opening.{registrations_from, boots_of, booted_specs}
 use Rattle.mf_lifetimes.proofs.Listing.{IsLasting, lasting_or_not, fixed_lasting, IsPinned, IsPassing, NoneLasting, AllBelow, newest, all_newest, pinned_newest, pinned_own, own_slot, lasting_wants, below_newest, AtMostOne, single_newest}
 
 -- A policy that stays holds the slot, or none that holds it stays.
@@ -73,16 +73,16 @@ single_after slot (m ∷ ms) specs given below single =
 
 -- the slot numbers of the booted policies are given, and no two of the policies hold one slot
 
-pub boots_below : (s : Script) → AllBelow (given_by s.boots) (booted_specs s)
+pub boots_below : (s : Script) → AllBelow (fold given_after 0 s.boots) (booted_specs s)
 boots_below s = below_after s.boots [] 0 tt
 
 pub boots_single : (s : Script) (slot : ℕ) → AtMostOne slot (booted_specs s)
 boots_single s slot = single_after slot s.boots [] 0 tt tt
 
-pub boots_standing : (s : Script) (slot : ℕ) → Standing slot (booted_specs s) (given_by s.boots)
+pub boots_standing : (s : Script) (slot : ℕ) → Standing slot (booted_specs s) (fold given_after 0 s.boots)
 boots_standing s slot = standing_after slot s.boots [] 0 tt (inr tt)
 
 -- a policy of the static list that was booted with a slot holds it
 pub boots_pinned : (s : Script) (slot : ℕ) (r : Registration) → Contains (boots_of s) r → r.fixed ≡ true → r.slot ≡ Some slot
-    → IsPinned slot r (booted_specs s) (given_by s.boots)
+    → IsPinned slot r (booted_specs s) (fold given_after 0 s.boots)
 boots_pinned s slot r there fixed at = pinned_among slot r s.boots [] 0 there.0 tt there.1 there.2 fixed at

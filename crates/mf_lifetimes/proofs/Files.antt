@@ -6,6 +6,7 @@ use Rattle.std.specs.List.{AllByRecursion, list_any}
 use Rattle.std.proofs.lemmas.Bool.Decides.{nat_tests}
 use Rattle.std.proofs.lemmas.Slice.Eq.{bytes_eq-Decides}
 use Rattle.std.proofs.lemmas.List.{length-append}
+use Rattle.std.specs.Cmp.Lexicographic.{pointwise}
 use Rattle.mf_policy.specs.declared.labels.Origin.TheVariants.{Boot}
 use Rattle.mf_policy.specs.NewLabels.{new_label}
 use Rattle.mf_policy.specs.Registration.{Entry}
@@ -17,7 +18,7 @@ use Rattle.mf_objects.specs.Changes.{made, with_entity, new_vnode}
 use Rattle.mf_objects.specs.Population.{IsRising}
 use Rattle.mf_objects.proofs.Rising.{rising_push, below_next}
 use Rattle.mf_calls.specs.declared.script.FileLine.{FileLine}
-use Rattle.mf_calls.specs.Paths.{directory_of, is_same_path, is_root, is_directory_at, has_directory}
+use Rattle.mf_calls.specs.Paths.{directory_of, is_root, is_directory_at, has_directory}
 use Rattle.mf_plan.specs.declared.target.Target.TheVariants.{Name}
 use Rattle.mf_plan.specs.Path.{root, entry_of, last_name, lookup_along}
 use Rattle.mf_plan.specs.Views.{is_dir}
@@ -143,7 +144,7 @@ directory_among : (earlier : List FileLine) (f : FileLine) (path : List (List �
     → (has_directory earlier path ≡ true) ⊎ ((f.file.dir ≡ true) × (f.path ≡ path))
 directory_among earlier f path there = one (is_root path) there
   where
-    both : (dir same : Bool) → f.file.dir ≡ dir → is_same_path f.path path ≡ same → (dir && same) ≡ true → (f.file.dir ≡ true) × (f.path ≡ path)
+    both : (dir same : Bool) → f.file.dir ≡ dir → pointwise bytes_eq f.path path ≡ same → (dir && same) ≡ true → (f.file.dir ≡ true) × (f.path ≡ path)
     both true true dir same is = (dir, same_path-is f.path path same)
     both true false dir same is = cc
     both false same dir other is = cc
@@ -151,7 +152,7 @@ directory_among earlier f path there = one (is_root path) there
     two : (list_any (is_directory_at path) earlier ≡ true) ⊎ (is_directory_at path f ≡ true)
         → (list_any (is_directory_at path) earlier ≡ true) ⊎ ((f.file.dir ≡ true) × (f.path ≡ path))
     two (inl before) = inl before
-    two (inr here) = inr (both f.file.dir (is_same_path f.path path) refl refl here)
+    two (inr here) = inr (both f.file.dir (pointwise bytes_eq f.path path) refl refl here)
 
     one : (b : Bool) → (b || list_any (is_directory_at path) (earlier ++ f ∷ [])) ≡ true
         → ((b || list_any (is_directory_at path) earlier) ≡ true) ⊎ ((f.file.dir ≡ true) × (f.path ≡ path))

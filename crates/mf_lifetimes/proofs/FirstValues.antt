@@ -5,20 +5,24 @@ use Rattle.std.specs.List.{list_all}
 use Rattle.std.proofs.lemmas.Bool.{and_parts}
 use Rattle.mf_errno.specs.Names.{all_modules}
 use Rattle.mf_errno.specs.declared.module.Module.{Module}
-use Rattle.mf_errno.specs.declared.module.Module.TheVariants.{Biba, Mls, Partition}
+use Rattle.mf_errno.proofs.Modules.{each_passes}
+use Rattle.mf_elem.specs.declared.label.RangeLabel.{RangeLabel}
 use Rattle.mf_elem.specs.declared.label.LabelValue.{LabelValue}
 use Rattle.mf_elem.specs.declared.label.LabelValue.TheVariants.{Unset, Range, Number}
 use Rattle.mf_elem.specs.declared.label.Request.{Request}
 use Rattle.mf_item.specs.declared.view.Kind.{Kind}
 use Rattle.mf_item.specs.declared.view.Kind.TheVariants as kinds
+use Rattle.mf_policy.specs.declared.modules.Labelling.{Labelling}
+use Rattle.mf_policy.specs.declared.modules.Labelling.TheVariants.{Nothing, Ranges, Partitions}
 use Rattle.mf_policy.specs.declared.registration.Registration.{Registration}
-use Rattle.mf_policy.specs.Claims.{claims_part, is_claimed}
-use Rattle.mf_policy.specs.Modules.{facts_of, is_process, labels_kind}
+use Rattle.mf_policy.specs.Claims.{claims_part, is_claimed, takes_by, takes_requests}
+use Rattle.mf_policy.specs.Modules.{facts_of, has_partition, is_named, is_process, labels_by, number_asked, range_asked}
 use Rattle.mf_policy.specs.Registration.{Entry, is_listed}
-use Rattle.mf_policy.specs.Relabelled.{number_after, value_after, value_of}
+use Rattle.mf_policy.specs.Relabelled.{after_by, number_after, value_after, value_of}
+use Rattle.mf_policy.proofs.EachModule.{has_elements}
 use Rattle.mf_lifetimes.specs.Marks.{Mark, is_set, is_first}
 use Rattle.mf_lifetimes.specs.Marks.Mark.{Made}
-use Rattle.mf_lifetimes.specs.Laws.{AreMarksOf}
+use Rattle.mf_lifetimes.specs.Laws.{AreMarksOf, holds_valid}
 use Rattle.mf_lifetimes.proofs.Listing.{IsLasting, by_holder}
 use Rattle.mf_lifetimes.proofs.Valid.{IsValidOf, valid_set}
 
@@ -53,10 +57,10 @@ first_marks Unset (Number n) r marks is agree = (r, rw agree refl)
 first_marks (Range label) new r marks is agree = set_marks (Range label) new marks (Made r ∷ []) refl is agree
 first_marks (Number n) new r marks is agree = set_marks (Number n) new marks (Made r ∷ []) refl is agree
 
--- mac_partition's values: a partition is asked for processes alone, which it labels
+-- A number: it is asked for processes alone, which have one
 
 number_marks : (r : Registration) (kind : Kind) (asked : Option ℕ) (value : LabelValue) (marks : List Mark) → (is_some asked ≡ true → is_process kind ≡ true)
-    → AreMarksOf value marks → AreMarksOf (number_after asked value) (with_first marks value (number_after asked value) (map Made (if labels_kind Partition kind then r ∷ [] else [])))
+    → AreMarksOf value marks → AreMarksOf (number_after asked value) (with_first marks value (number_after asked value) (map Made (if has_partition kind then r ∷ [] else [])))
 number_marks r kind None value marks claimed agree = unchanged_marks value marks _ agree
 number_marks r kinds.Process (Some n) value marks claimed agree = one (nat_eq n 0)
   where
@@ -67,34 +71,28 @@ number_marks r kinds.Vnode (Some n) value marks claimed agree = let process = cl
 number_marks r kinds.Pipe (Some n) value marks claimed agree = let process = claimed refl in cc
 number_marks r kinds.Socket (Some n) value marks claimed agree = let process = claimed refl in cc
 
--- a claimed partition is a process's
-claimed_process : (listed : List Entry) (kind : Kind) (request : Request) → is_claimed listed kind request ≡ true → is_some request.partition ≡ true → is_process kind ≡ true
-claimed_process listed kind request claimed asked =
+-- what a claimed request asks of a policy, this takes for that kind
+claimed_taken : (listed : List Entry) (kind : Kind) (request : Request) (m : Module) → is_claimed listed kind request ≡ true → is_named m request ≡ true
+    → takes_requests m kind ≡ true
+claimed_taken listed kind request m claimed named =
     let each = (and_parts (not request.other) (list_all (claims_part listed kind request) all_modules) claimed).1 in
-    let later = (and_parts (claims_part listed kind request Biba) _ each).1 in
-    let last = (and_parts (claims_part listed kind request Mls) _ later).1 in
-    let part = (and_parts (claims_part listed kind request Partition) _ last).0 in
-    one (is_some request.partition) asked part
+    one (is_named m request) named (each_passes (claims_part listed kind request) each m)
   where
-    one : (named : Bool) → named ≡ true → (not named || (is_listed Partition listed && is_process kind)) ≡ true → is_process kind ≡ true
-    one true is part = (and_parts (is_listed Partition listed) (is_process kind) part).1
+    one : (named : Bool) → named ≡ true → (not named || (is_listed m listed && takes_requests m kind)) ≡ true → takes_requests m kind ≡ true
+    one true is part = (and_parts (is_listed m listed) (takes_requests m kind) part).1
     one false not_named part = cc
 
-lasting_marks : (m : Module) (kind : Kind) (old new : LabelValue) (marks made : List Mark) → IsValidOf m kind old × IsValidOf m kind new → AreMarksOf old marks
-    → AreMarksOf new (with_first marks old new made)
-lasting_marks m kind old new marks made valid agree =
-    set_marks old new marks made (valid_set (facts_of m).labels kind old valid.0) (valid_set (facts_of m).labels kind new valid.1) agree
-
--- any module's, where its labels are valid if it stays
-module_marks : (m : Module) (r : Registration) (kind : Kind) (request : Request) (value : LabelValue) (marks : List Mark)
-    → (is_some request.partition ≡ true → is_process kind ≡ true)
-    → (IsLasting m → IsValidOf m kind value × IsValidOf m kind (value_after m request value))
+-- by the labels, where those with elements are valid
+marks_by : (labels : Labelling) (range : Option RangeLabel) (number : Option ℕ) (r : Registration) (kind : Kind) (value : LabelValue) (marks : List Mark)
+    → (is_some number ≡ true → takes_by labels kind ≡ true)
+    → (has_elements labels ≡ true → (holds_valid labels kind value ≡ true) × (holds_valid labels kind (after_by labels range number value) ≡ true))
     → AreMarksOf value marks
-    → AreMarksOf (value_after m request value) (with_first marks value (value_after m request value) (map Made (if labels_kind m kind then r ∷ [] else [])))
-module_marks Biba r kind request value marks claimed valid agree = lasting_marks Biba kind value _ marks _ (valid tt) agree
-module_marks Mls r kind request value marks claimed valid agree = lasting_marks Mls kind value _ marks _ (valid tt) agree
-module_marks Partition r kind request value marks claimed valid agree = number_marks r kind request.partition value marks claimed agree
-module_marks other r kind request value marks claimed valid agree = unchanged_marks value marks _ agree
+    → AreMarksOf (after_by labels range number value) (with_first marks value (after_by labels range number value) (map Made (if labels_by labels kind then r ∷ [] else [])))
+marks_by Nothing range number r kind value marks taken valid agree = unchanged_marks value marks _ agree
+marks_by (Ranges process other) range number r kind value marks taken valid agree =
+    let both = valid refl in
+    set_marks value _ marks _ (valid_set (Ranges process other) kind value both.0) (valid_set (Ranges process other) kind _ both.1) agree
+marks_by Partitions range number r kind value marks taken valid agree = number_marks r kind number value marks taken agree
 
 -- the slot of an entity that a claimed request relabels has its mark exactly where it is set then
 pub relabelled_marks : (found : Option Entry) (listed : List Entry) (kind : Kind) (request : Request) (value : LabelValue) (marks : List Mark)
@@ -103,4 +101,10 @@ pub relabelled_marks : (found : Option Entry) (listed : List Entry) (kind : Kind
     → AreMarksOf value marks → AreMarksOf (value_of found request value) (with_first marks value (value_of found request value) (map Made (by_holder kind found)))
 relabelled_marks None listed kind request value marks claimed valid agree = unchanged_marks value marks [] agree
 relabelled_marks (Some x) listed kind request value marks claimed valid agree =
-    module_marks x.0.module x.0 kind request value marks (claimed_process listed kind request claimed) (valid x refl) agree
+    let m : Module = x.0.module in
+    marks_by (facts_of m).labels (range_asked m request) (number_asked m request) x.0 kind value marks
+    (λ asked. claimed_taken listed kind request m claimed (one (is_some (range_asked m request)) (is_some (number_asked m request)) asked)) (valid x refl) agree
+  where
+    one : (range number : Bool) → number ≡ true → (range || number) ≡ true
+    one true number asked = refl
+    one false number asked = asked

@@ -5,17 +5,19 @@ use Rattle.std.specs.Prelude.{find, unwrap_or}
 use Rattle.std.proofs.lemmas.Bool.Decides.{nat_tests}
 use Rattle.mf_errno.specs.declared.errno.Errno.TheVariants.{Success}
 use Rattle.mf_errno.specs.declared.module.Module.{Module}
-use Rattle.mf_errno.specs.declared.module.Module.TheVariants.{Biba, Mls, Partition}
+use Rattle.mf_elem.specs.declared.label.RangeLabel.{RangeLabel}
 use Rattle.mf_elem.specs.declared.label.LabelValue.{LabelValue}
 use Rattle.mf_elem.specs.declared.label.LabelValue.TheVariants.{Unset, Range, Number}
 use Rattle.mf_elem.specs.declared.label.Request.{Request}
 use Rattle.mf_elem.specs.declared.label.TheConstants.{SLOTS}
 use Rattle.mf_item.specs.declared.view.Kind.{Kind}
 use Rattle.mf_item.specs.declared.view.Kind.TheVariants as kinds
+use Rattle.mf_policy.specs.declared.modules.Labelling.{Labelling}
+use Rattle.mf_policy.specs.declared.modules.Labelling.TheVariants.{Nothing, Ranges, Partitions}
 use Rattle.mf_policy.specs.declared.registration.Registration.{Registration}
 use Rattle.mf_policy.specs.declared.labels.Origin.TheVariants.{Boot, Maker}
 use Rattle.mf_policy.specs.NewLabels.{new_label, new_value, value_of}
-use Rattle.mf_policy.specs.Modules.{facts_of, fresh_of, boot_value, inherited, labels_kind, may_ask}
+use Rattle.mf_policy.specs.Modules.{facts_of, fresh_of, boot_by, has_partition, inherited_by, inherited_partition, inherited_range, labels_by, may_ask, number_asked, range_asked}
 use Rattle.mf_policy.specs.Registration.{Entry, holds_slot}
 use Rattle.mf_policy.specs.Relabelled.{value_after, relabelled_value, relabelled, value_of as relabelled_by}
 use Rattle.mf_policy.specs.Answer.{answer}
@@ -25,6 +27,7 @@ use Rattle.mf_objects.specs.declared.id.Id.{Id}
 use Rattle.mf_objects.specs.Live.{LiveEntity, Entities, kind_of, live_at}
 use Rattle.mf_objects.specs.declared.entity.EntityData.{EntityData}
 use Rattle.mf_plan.specs.declared.state.State.{State}
+use Rattle.mf_policy.proofs.EachModule.{has_elements}
 use Rattle.mf_lifetimes.specs.Marks.{value_in, is_set}
 use Rattle.mf_lifetimes.specs.Marks.Mark.{Made}
 use Rattle.mf_lifetimes.specs.Laws.{AreMarksOf, holds_valid}
@@ -36,7 +39,7 @@ use Rattle.mf_step.proofs.Allowed.{AsksFor, IsAllowed}
 use Rattle.mf_step.proofs.Allowed.AsksFor.{of_itself, of_object}
 use Rattle.mf_step.proofs.Granted.{granted_by}
 use Rattle.mf_step.proofs.Rooted.{IsRooted}
-use Rattle.mf_lifetimes.proofs.Valid.{IsValidOf, valid_set, boot_valid, inherited_valid}
+use Rattle.mf_lifetimes.proofs.Valid.{IsValidOf, valid_set, boot_valid, created as created_valid, inherited_valid}
 use Rattle.mf_lifetimes.proofs.Relabelled.{process_relabelled, object_relabelled}
 use Rattle.mf_lifetimes.proofs.Asked.{AllLetAsk}
 use Rattle.mf_lifetimes.proofs.Listing.{all_found, found_passes, IsLasting, no_late, IsPinned, IsPassing, NoneLasting, newest, all_newest, all_without, pinned_newest, pinned_without, passing_found, IsBelow, AllBelow, below_newest, AtMostOne, single_newest, one_without, by_holder}
@@ -58,13 +61,8 @@ set_marks r Unset set = cc
 set_marks r (Range label) set = (r, refl)
 set_marks r (Number n) set = (r, refl)
 
-lasting_marks : (m : Module) (r : Registration) (kind : Kind) (value : LabelValue) → IsLasting m → IsValidOf m kinds.Process value
-    → AreMarksOf (inherited m kind value) (Made r ∷ [])
-lasting_marks m r kind value lasting valid =
-    set_marks r (inherited m kind value) (valid_set (facts_of m).labels kind (inherited m kind value) (inherited_valid m kind value lasting valid))
-
 partition_marks : (r : Registration) (kind : Kind) (value : LabelValue)
-    → AreMarksOf (inherited Partition kind value) (map Made (if labels_kind Partition kind then r ∷ [] else []))
+    → AreMarksOf (if has_partition kind then inherited_partition value else Unset) (map Made (if has_partition kind then r ∷ [] else []))
 partition_marks r kinds.Vnode value = refl
 partition_marks r kinds.Pipe value = refl
 partition_marks r kinds.Process Unset = (r, refl)
@@ -74,33 +72,35 @@ partition_marks r kinds.Socket Unset = (r, refl)
 partition_marks r kinds.Socket (Range label) = (r, refl)
 partition_marks r kinds.Socket (Number n) = (r, refl)
 
-module_marks : (m : Module) (r : Registration) (kind : Kind) (value : LabelValue) → (IsLasting m → IsValidOf m kinds.Process value)
-    → AreMarksOf (inherited m kind value) (map Made (if labels_kind m kind then r ∷ [] else []))
-module_marks Biba r kind value valid = lasting_marks Biba r kind value tt (valid tt)
-module_marks Mls r kind value valid = lasting_marks Mls r kind value tt (valid tt)
-module_marks Partition r kind value valid = partition_marks r kind value
-module_marks other r kind value valid = refl
+marks_by : (labels : Labelling) (r : Registration) (kind : Kind) (value : LabelValue)
+    → (has_elements labels ≡ true → holds_valid labels kinds.Process value ≡ true)
+    → AreMarksOf (if labels_by labels kind then inherited_by labels kind value else Unset) (map Made (if labels_by labels kind then r ∷ [] else []))
+marks_by Nothing r kind value valid = refl
+marks_by (Ranges process other) r kind value valid =
+    set_marks r (inherited_range kind value)
+    (valid_set (Ranges process other) kind (inherited_range kind value) (created_valid (Ranges process other) kind value refl (valid refl)))
+marks_by Partitions r kind value valid = partition_marks r kind value
 
 -- the slot of an entity that a process makes is set exactly where it is marked
 pub created_marks : (found : Option Entry) (kind : Kind) (maker : List LabelValue) (slot : ℕ)
     → ((x : Entry) → found ≡ Some x → IsLasting x.0.module → IsValidOf x.0.module kinds.Process (slice_index_or maker slot Unset))
     → AreMarksOf (value_of found kind (Maker maker) slot) (map Made (by_holder kind found))
 created_marks None kind maker slot valid = refl
-created_marks (Some x) kind maker slot valid = module_marks x.0.module x.0 kind (slice_index_or maker slot Unset) (valid x refl)
+created_marks (Some x) kind maker slot valid = marks_by (facts_of x.0.module).labels x.0 kind (slice_index_or maker slot Unset) (valid x refl)
 
-module_boot : (m : Module) (r : Registration) (kind : Kind) (request : Request)
-    → AreMarksOf (boot_value m kind request) (map Made (if labels_kind m kind then r ∷ [] else []))
-module_boot Biba r kind request = (r, refl)
-module_boot Mls r kind request = (r, refl)
-module_boot Partition r kinds.Process request = (r, refl)
-module_boot Partition r kinds.Vnode request = refl
-module_boot Partition r kinds.Pipe request = refl
-module_boot Partition r kinds.Socket request = (r, refl)
-module_boot other r kind request = refl
+boot_by_labels : (labels : Labelling) (r : Registration) (kind : Kind) (range : Option RangeLabel) (number : Option ℕ)
+    → AreMarksOf (if labels_by labels kind then boot_by labels kind range number else Unset) (map Made (if labels_by labels kind then r ∷ [] else []))
+boot_by_labels Nothing r kind range number = refl
+boot_by_labels (Ranges process other) r kind range number = (r, refl)
+boot_by_labels Partitions r kinds.Process range number = (r, refl)
+boot_by_labels Partitions r kinds.Vnode range number = refl
+boot_by_labels Partitions r kinds.Pipe range number = refl
+boot_by_labels Partitions r kinds.Socket range number = (r, refl)
 
 found_boot : (found : Option Entry) (kind : Kind) (request : Request) (slot : ℕ) → AreMarksOf (value_of found kind (Boot request) slot) (map Made (by_holder kind found))
 found_boot None kind request slot = refl
-found_boot (Some x) kind request slot = module_boot x.0.module x.0 kind request
+found_boot (Some x) kind request slot =
+    boot_by_labels (facts_of x.0.module).labels x.0 kind (range_asked x.0.module request) (number_asked x.0.module request)
 
 -- so is the slot of an entity of the opening state
 pub boot_marks : (slot : ℕ) (specs : List Entry) (kind : Kind) (request : Request)

@@ -5,13 +5,15 @@ use Rattle.std.specs.Str.{bytes_eq}
 use Rattle.std.specs.List.{AllByRecursion}
 use Rattle.std.proofs.lemmas.Bool.Decides.{nat_tests}
 use Rattle.std.proofs.lemmas.Slice.Eq.{bytes_eq-Decides}
+use Rattle.std.specs.Cmp.Lexicographic.{pointwise}
 use Rattle.mf_errno.specs.declared.errno.Errno.TheVariants.{Enotdir}
 use Rattle.mf_objects.specs.declared.id.Id.{Id}
 use Rattle.mf_objects.specs.declared.entity.EntityData.{EntityData}
 use Rattle.mf_objects.specs.declared.entity.EntityData.TheVariants.{Process, Vnode, Pipe, Socket}
-use Rattle.mf_objects.specs.Live.{LiveEntity, Entities, id_of, has_id, is_process, is_entry, is_held_by, is_child, reading, file_of, no_file, live_at}
+use Rattle.mf_objects.specs.Live.{LiveEntity, Entities, id_of, has_id, is_process, is_entry, is_child, reading, file_of, no_file, live_at}
+use Rattle.mf_objects.specs.Lives.{is_held_by}
 use Rattle.mf_objects.specs.Population.{IsRising}
-use Rattle.mf_calls.specs.Paths.{directory_of, is_same_path}
+use Rattle.mf_calls.specs.Paths.{directory_of}
 use Rattle.mf_plan.specs.declared.target.Target.TheVariants.{Name}
 use Rattle.mf_plan.specs.declared.lookup.Lookup.{Lookup}
 use Rattle.mf_plan.specs.Path.{lookup_from, going_on, nowhere, entry_of, last_name}
@@ -28,13 +30,13 @@ directory_and_last (name ∷ below ∷ rest) some =
     let one_less : length (name ∷ below ∷ rest) - 1 ≡ suc (length (below ∷ rest) - 1) = omega arith in
     rw one_less (ap (λ (names : List (List ℕ)). name ∷ names) (directory_and_last (below ∷ rest) (omega arith)))
 
-pub same_path-is : (p q : List (List ℕ)) → is_same_path p q ≡ true → p ≡ q
+pub same_path-is : (p q : List (List ℕ)) → pointwise bytes_eq p q ≡ true → p ≡ q
 same_path-is [] [] same = refl
 same_path-is [] (w ∷ ws) same = cc
 same_path-is (v ∷ vs) [] same = cc
 same_path-is (v ∷ vs) (w ∷ ws) same = one (bytes_eq v w) refl same (same_path-is vs ws)
   where
-    one : (b : Bool) → bytes_eq v w ≡ b → (b && is_same_path vs ws) ≡ true → (is_same_path vs ws ≡ true → vs ≡ ws) → v ∷ vs ≡ w ∷ ws
+    one : (b : Bool) → bytes_eq v w ≡ b → (b && pointwise bytes_eq vs ws) ≡ true → (pointwise bytes_eq vs ws ≡ true → vs ≡ ws) → v ∷ vs ≡ w ∷ ws
     one true here both later =
         let first : v ≡ w = (bytes_eq-Decides v w).0 here in
         let others : vs ≡ ws = later both in

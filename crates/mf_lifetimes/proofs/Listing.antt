@@ -3,21 +3,26 @@ use Rattle.std.specs.Option.{option_eq}
 use Rattle.std.proofs.Common.{◌≡◌, ℕ, ◌<◌, ◌≤◌, ◌+◌, Bool, true, false, not, cond, ◌&&◌, nat_eq, List, [], ◌∷◌, map, Option, Some, None, refl, ap, sym, ◌∙◌, subst, arith, ◌⊎◌, inl, inr, eq-eqb}
 use Rattle.std.specs.Prelude.{find, filter, if◌then◌else◌}
 use Rattle.std.specs.List.{AllByRecursion}
+use Rattle.std.proofs.lemmas.Bool.{and_parts}
 use Rattle.std.proofs.lemmas.Bool.Decides.{nat_tests}
 use Rattle.mf_errno.specs.Same.{same_module}
 use Rattle.mf_errno.specs.declared.module.Module.{Module}
-use Rattle.mf_errno.specs.declared.module.Module.TheVariants.{Biba, Mls}
 use Rattle.mf_item.specs.declared.view.Kind.{Kind}
+use Rattle.mf_item.specs.declared.view.Kind.TheVariants as kinds
+use Rattle.mf_policy.specs.declared.modules.Labelling.{Labelling}
+use Rattle.mf_policy.specs.declared.modules.Labelling.TheVariants.{Ranges}
 use Rattle.mf_policy.specs.declared.registration.Registration.{Registration}
 use Rattle.mf_policy.specs.declared.spec.Spec.{Spec}
 use Rattle.mf_policy.specs.declared.loading.LoadFault.{LoadFault}
 use Rattle.mf_policy.specs.declared.loading.LoadFault.TheVariants.{NotLate}
 use Rattle.mf_policy.specs.Loading.{load_fault}
-use Rattle.mf_policy.specs.Modules.{facts_of, fresh_of, wants_slot, labels_kind}
+use Rattle.mf_policy.specs.Modules.{facts_of, fresh_of, is_labelling, wants_slot, labels_by, labels_kind}
 use Rattle.mf_policy.specs.Registration.{Entry, is_of, holds_slot, given_after, slot_for, registration_of, with_newest, entries_without}
-use Rattle.mf_errno.proofs.Modules.{same_module-is}
+use Rattle.mf_errno.proofs.Modules.{each_passes, same_module-is}
+use Rattle.mf_policy.proofs.EachModule.{has_elements}
 use Rattle.mf_plan.specs.declared.state.State.{State}
-use Rattle.mf_lifetimes.specs.Marks.{labels, labellers}
+use Rattle.mf_lifetimes.specs.Laws.{suits_kind}
+use Rattle.mf_lifetimes.specs.Marks.{labellers}
 
 -- Lists of policies
 
@@ -95,42 +100,82 @@ find_without slot m x (e ∷ es) other found = one (is_of m e) (holds_slot slot 
 
 -- Policies that stay
 
--- a module that is loaded at boot alone, and never unloaded
+-- a module by whose labels each entity has an element: it is loaded at boot alone, and never unloaded
 abbrev pub IsLasting : Module → Type 0
-IsLasting Biba = Unit {0}
-IsLasting Mls = Unit {0}
-IsLasting other = ⊥
+IsLasting m = has_elements (facts_of m).labels ≡ true
 
 pub lasting_or_not : (m : Module) → IsLasting m ⊎ (IsLasting m → ⊥)
-lasting_or_not Biba = inl tt
-lasting_or_not Mls = inl tt
-lasting_or_not other = inr (λ no_more. no_more)
+lasting_or_not m = one (has_elements (facts_of m).labels)
+  where
+    one : (b : Bool) → (b ≡ true) ⊎ (b ≡ true → ⊥)
+    one true = inl refl
+    one false = inr (λ lasting. cc)
+
+-- Whether the other facts of a module go with its labels: where these have elements, and those at boot suit the entity's kind, it is loaded
+-- at boot alone and never unloaded; any other may be unloaded.
+agree : Labelling → Bool → Bool → Bool
+agree (Ranges process other) not_late unload_ok = suits_kind kinds.Process process && suits_kind kinds.Vnode other && not_late && not unload_ok
+agree other not_late unload_ok = unload_ok
+
+facts_agree : (m : Module) → agree (facts_of m).labels (facts_of m).not_late (facts_of m).unload_ok ≡ true
+unfolding agree
+facts_agree = each_passes (λ m. agree (facts_of m).labels (facts_of m).not_late (facts_of m).unload_ok) refl
+
+-- labels with an element, that suit the entity's kind at boot
+abbrev pub SuitKinds : Labelling → Type 0
+SuitKinds (Ranges process other) = (suits_kind kinds.Process process ≡ true) × (suits_kind kinds.Vnode other ≡ true)
+SuitKinds other = ⊥
+
+-- what the facts of a module with such labels say
+pub record AreLasting (labels : Labelling) (not_late unload_ok : Bool) : Type 0 where
+  pub early : not_late ≡ true
+  pub pinned : unload_ok ≡ false
+  pub suit : SuitKinds labels
+
+are_lasting : (labels : Labelling) (not_late unload_ok : Bool) → agree labels not_late unload_ok ≡ true → has_elements labels ≡ true
+    → AreLasting labels not_late unload_ok
+unfolding agree
+are_lasting (Ranges process other) not_late unload_ok all elements =
+    let first = and_parts (suits_kind kinds.Process process && suits_kind kinds.Vnode other && not_late) (not unload_ok) all in
+    let second = and_parts (suits_kind kinds.Process process && suits_kind kinds.Vnode other) not_late first.0 in
+    record {
+      early = second.1;
+      pinned = one unload_ok first.1;
+      suit = and_parts (suits_kind kinds.Process process) (suits_kind kinds.Vnode other) second.0;
+    }
+  where
+    one : (b : Bool) → not b ≡ true → b ≡ false
+    one true is = cc
+    one false is = refl
+are_lasting other not_late unload_ok all elements = cc
+
+pub lasting_facts : (m : Module) → IsLasting m → AreLasting (facts_of m).labels (facts_of m).not_late (facts_of m).unload_ok
+lasting_facts m lasting = are_lasting (facts_of m).labels (facts_of m).not_late (facts_of m).unload_ok (facts_agree m) lasting
 
 pub lasting_wants : (m : Module) → IsLasting m → wants_slot m ≡ true
-lasting_wants Biba lasting = refl
-lasting_wants Mls lasting = refl
-lasting_wants other lasting = absurd lasting
+lasting_wants m lasting = by_labels (facts_of m).labels lasting
+  where
+    by_labels : (labels : Labelling) → has_elements labels ≡ true → is_labelling labels ≡ true
+    by_labels (Ranges process other) elements = refl
+    by_labels other elements = cc
 
 pub lasting_labels : (m : Module) (kind : Kind) → IsLasting m → labels_kind m kind ≡ true
-lasting_labels Biba kind lasting = refl
-lasting_labels Mls kind lasting = refl
-lasting_labels other kind lasting = absurd lasting
-
-lasting_pinned : (m : Module) → IsLasting m → (facts_of m).unload_ok ≡ false
-lasting_pinned Biba lasting = refl
-lasting_pinned Mls lasting = refl
-lasting_pinned other lasting = absurd lasting
-
-lasting_early : (m : Module) → IsLasting m → (facts_of m).not_late ≡ true
-lasting_early Biba lasting = refl
-lasting_early Mls lasting = refl
-lasting_early other lasting = absurd lasting
+lasting_labels m kind lasting = by_labels (facts_of m).labels lasting
+  where
+    by_labels : (labels : Labelling) → has_elements labels ≡ true → labels_by labels kind ≡ true
+    by_labels (Ranges process other) elements = refl
+    by_labels other elements = cc
 
 -- a registration before the end of boot that is fixed is of such a module
 pub fixed_lasting : (m : Module) → (not false && not ((facts_of m).unload_ok)) ≡ true → IsLasting m
-fixed_lasting Biba fixed = tt
-fixed_lasting Mls fixed = tt
-fixed_lasting other fixed = cc
+unfolding agree
+fixed_lasting m fixed = by_labels (facts_of m).labels (facts_of m).not_late (facts_of m).unload_ok (facts_agree m) fixed
+  where
+    by_labels : (labels : Labelling) (not_late unload_ok : Bool) → agree labels not_late unload_ok ≡ true → (not false && not unload_ok) ≡ true
+        → has_elements labels ≡ true
+    by_labels (Ranges process other) not_late unload_ok all fixed = refl
+    by_labels other not_late true all fixed = cc
+    by_labels other not_late false all fixed = cc
 
 -- what may be unloaded is another module than one that stays
 other_module : (m n : Module) → (facts_of m).unload_ok ≡ true → IsLasting n → same_module m n ≡ false
@@ -139,7 +184,7 @@ other_module m n ok lasting = one (same_module m n) refl
     one : (b : Bool) → same_module m n ≡ b → b ≡ false
     one true same =
         let is : m ≡ n = same_module-is m n same in
-        let pinned : (facts_of m).unload_ok ≡ false = ap (λ (k : Module). (facts_of k).unload_ok) is ∙ lasting_pinned n lasting in
+        let pinned : (facts_of m).unload_ok ≡ false = ap (λ (k : Module). (facts_of k).unload_ok) is ∙ (lasting_facts n lasting).pinned in
         cc
     one false same = refl
 
@@ -151,7 +196,7 @@ late false notlate rest ended early none = cc
 -- such a module isn't loaded after boot
 pub no_late : (s : State) (m : Module) → s.booted ≡ true → load_fault s.booted s.specs s.numbers m ≡ None → IsLasting m → ⊥
 no_late s m booted none lasting =
-    late s.booted ((facts_of m).not_late) _ booted (lasting_early m lasting) none
+    late s.booted ((facts_of m).not_late) _ booted (lasting_facts m lasting).early none
 
 -- The slot of such a policy
 
@@ -310,6 +355,10 @@ pub single_newest : (slot : ℕ) (specs : List Entry) (given : ℕ) (m : Module)
     → AtMostOne slot (with_newest (newest m booted given) specs)
 single_newest slot specs given m booted below single =
     one_newest slot (newest m booted given) specs (λ own. none_next slot given (wants_slot m) specs below own) single
+
+-- the entry is of a policy that holds the slot and labels entities of that kind
+abbrev labels : Kind → ℕ → Entry → Bool
+labels kind slot entry = holds_slot slot entry && labels_kind entry.0.module kind
 
 -- the registration of the policy that holds a slot, where it labels entities of that kind
 abbrev pub by_holder : Kind → Option Entry → List Registration

@@ -1,13 +1,15 @@
 -- The marks of a slot over a legal history, and the laws about them.
 use Rattle.std.proofs.Common.{◌≡◌, ◌≢◌, ℕ, ◌<◌, ◌≤◌, Bool, true, false, if◌then◌else◌, List, [], ◌∷◌, ◌++◌, map, append-nil, Option, Some, None, refl, ap, sym, ◌∙◌, subst, arith, inl, inr, slice_index_or}
 use Rattle.std.specs.Prelude.{find, Contains}
+use Rattle.std.specs.List.{fold}
+use Rattle.mf_core.proofs.LookedUp.{state_at}
 use Rattle.mf_elem.specs.declared.label.LabelValue.{LabelValue}
 use Rattle.mf_elem.specs.declared.label.LabelValue.TheVariants.{Unset, Range, Number}
 use Rattle.mf_elem.specs.declared.label.TheConstants.{SLOTS}
 use Rattle.mf_elem.specs.declared.label.Request.{Request}
 use Rattle.mf_item.specs.declared.view.Kind.TheVariants as kinds
 use Rattle.mf_policy.specs.declared.registration.Registration.{Registration}
-use Rattle.mf_policy.specs.Registration.{Entry, holds_slot}
+use Rattle.mf_policy.specs.Registration.{Entry, holds_slot, given_after}
 use Rattle.mf_policy.specs.Relabelled.{value_after, relabelled_value, relabelled, value_of as relabelled_by}
 use Rattle.mf_policy.specs.declared.labels.Origin.TheVariants.{Boot, Maker}
 use Rattle.mf_policy.specs.Modules.{facts_of}
@@ -22,9 +24,10 @@ use Rattle.mf_calls.specs.WellFormed.{IsWellFormed}
 use Rattle.mf_plan.specs.declared.state.State.{State}
 use Rattle.mf_core.specs.declared.history.Event.{Event}
 use Rattle.mf_core.specs.declared.history.Event.TheVariants as event
-use Rattle.mf_core.specs.Opening.{opening_state, booted_specs, given_by}
-use Rattle.mf_core.specs.LegalHistory.{RunState, opening, next_line, state_at, after, run_state_after}
-use Rattle.mf_lifetimes.specs.Marks.{Mark, made_marks, ends, is_registered, value_in, added, marks_across, marks_at_opening, marks_after, marks_of}
+use Rattle.mf_core.specs.Opening.{opening_state, booted_specs}
+use Rattle.mf_core.specs.LegalHistory.{RunState, opening, next_line, after}
+use Rattle.std.specs.List.{filter_map}
+use Rattle.mf_lifetimes.specs.Marks.{Mark, made_marks, end_of, is_registered, value_in, added, marks_across, marks_at_opening, marks_after, marks_of}
 use Rattle.mf_lifetimes.specs.Marks.Mark.{Made, Ended, Left}
 use Rattle.mf_lifetimes.specs.Laws.{state_of, SlotsAreMadeOnce, AreMarksOf, SetSlotsAreMarked, GoneSlotsHaveEnded, holds_valid, LabelsAll, BootedPoliciesLast}
 use Rattle.mf_lifetimes.specs.Once.{AreOnce}
@@ -58,6 +61,10 @@ pub record IsMarked (slot : ℕ) (id : Id) (s : State) (marks : List Mark) : Typ
 pub record HaveEnded (marks : List Mark) : Type 0 where
   pub once : AreOnce marks
   pub over : (r : Registration) → marks ≢ Made r ∷ []
+
+-- the ends of a slot that has these marks
+abbrev ends : List Entry → List Mark → List Mark
+ends specs marks = filter_map (end_of specs) marks
 
 made_ended : (specs : List Entry) (r : Registration) → HaveEnded (Made r ∷ ends specs (Made r ∷ []))
 made_ended specs r = one (is_registered r specs)
@@ -169,7 +176,7 @@ event_change s r (event.Leave t) rooted = same refl
 event_change s r (event.Changed t line reply) rooted = line_change s r t (next_line s r.progress t) rooted
 
 run_marked : (slot : ℕ) (id : Id) (s : Script) (r : RunState) (marks : List Mark) (es : List Event) → slot < SLOTS → IsMarked slot id r.state marks
-    → IsMarked slot id (run_state_after s r es).state (marks_after s id slot r marks es)
+    → IsMarked slot id (fold (after s) r es).state (marks_after s id slot r marks es)
 run_marked slot id s r marks [] within marked = marked
 run_marked slot id s r marks (e ∷ es) within marked =
     run_marked slot id s (after s r e) (marks_across id slot marks r.state (after s r e).state) es within
@@ -177,14 +184,14 @@ run_marked slot id s r marks (e ∷ es) within marked =
 
 -- The opening state
 
-opening_valid : (slot : ℕ) (s : Script) (r : Registration) → slot < SLOTS → IsWellFormed s → IsPinned slot r (booted_specs s) (given_by s.boots)
+opening_valid : (slot : ℕ) (s : Script) (r : Registration) → slot < SLOTS → IsWellFormed s → IsPinned slot r (booted_specs s) (fold given_after 0 s.boots)
     → AllValid slot r.module (opening_state s).objects
 opening_valid slot s r within formed pinned id e found =
     let booted = (opening_booted s formed).each id e found in
     ap (λ (values : List LabelValue). holds_valid (facts_of r.module).labels (kind_of e.what) (slice_index_or values slot Unset)) booted.label
-    ∙ boot_holds slot r (booted_specs s) (given_by s.boots) (kind_of e.what) booted.request within pinned booted.let_ask
+    ∙ boot_holds slot r (booted_specs s) (fold given_after 0 s.boots) (kind_of e.what) booted.request within pinned booted.let_ask
 
-opening_holding : (slot : ℕ) (s : Script) → slot < SLOTS → IsWellFormed s → Standing slot (booted_specs s) (given_by s.boots) → Holding slot (opening_state s)
+opening_holding : (slot : ℕ) (s : Script) → slot < SLOTS → IsWellFormed s → Standing slot (booted_specs s) (fold given_after 0 s.boots) → Holding slot (opening_state s)
 opening_holding slot s within formed (inl pinned) = inl (pinned.0, pinned.1, opening_valid slot s pinned.0 within formed pinned.1)
 opening_holding slot s within formed (inr none) = inr none
 
@@ -217,7 +224,7 @@ opening_marked slot id s within formed =
 
 -- The laws
 
-marked : (s : Script) (es : List Event) (id : Id) (slot : ℕ) → slot < SLOTS → IsWellFormed s → IsMarked slot id (run_state_after s (opening s) es).state (marks_of s es id slot)
+marked : (s : Script) (es : List Event) (id : Id) (slot : ℕ) → slot < SLOTS → IsWellFormed s → IsMarked slot id (fold (after s) (opening s) es).state (marks_of s es id slot)
 marked s es id slot within formed =
     run_marked slot id s (opening s) (marks_at_opening (opening_state s) id slot) es within (opening_marked slot id s within formed)
 
@@ -255,7 +262,7 @@ pub record IsHeld (slot : ℕ) (r : Registration) (s : State) : Type 0 where
   pub pinned : IsPinned slot r s.specs s.numbers
   pub valid : AllValid slot r.module s.objects
 
-pub opening_held : (slot : ℕ) (r : Registration) (s : Script) → slot < SLOTS → IsWellFormed s → IsPinned slot r (booted_specs s) (given_by s.boots)
+pub opening_held : (slot : ℕ) (r : Registration) (s : Script) → slot < SLOTS → IsWellFormed s → IsPinned slot r (booted_specs s) (fold given_after 0 s.boots)
     → IsHeld slot r (opening_state s)
 opening_held slot r s within formed pinned =
     record { kept = (opening_marked slot (record { 0 = 0 }) s within formed).kept; pinned = pinned; valid = opening_valid slot s r within formed pinned }
@@ -270,7 +277,7 @@ step_held {by = by} slot r s s' within shape held =
     }
 
 run_held : (slot : ℕ) (r : Registration) (s : Script) (run : RunState) (es : List Event) → slot < SLOTS → IsHeld slot r run.state
-    → IsHeld slot r (run_state_after s run es).state
+    → IsHeld slot r (fold (after s) run es).state
 run_held slot r s run [] within held = held
 run_held slot r s run (e ∷ es) within held =
     run_held slot r s (after s run e) es within (step_held slot r run.state (after s run e).state within (event_change s run e held.kept.rooted) held)

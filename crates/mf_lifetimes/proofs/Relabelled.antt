@@ -1,14 +1,12 @@
 -- What a relabel makes of the labels of Biba and MLS that they allow: it leaves a label as the kind of entity has it.
-use Rattle.std.proofs.Common.{◌≡◌, ℕ, Bool, true, false, not, cond, ◌&&◌, List, Option, Some, None, refl, ap, sym, ◌∙◌, slice_index_or}
+use Rattle.std.proofs.Common.{◌≡◌, ℕ, Bool, true, false, not, cond, ◌&&◌, List, Option, Some, None, refl, ap, sym, ◌∙◌, subst, slice_index_or}
 use Rattle.std.specs.Option.{option_or}
 use Rattle.std.specs.Prelude.{is_some, is_none, unwrap_or}
 use Rattle.std.proofs.lemmas.Bool.{and_parts}
 use Rattle.mf_errno.specs.declared.errno.Errno.{Errno}
 use Rattle.mf_errno.specs.declared.errno.Errno.TheVariants.{Success, Einval, Eperm}
 use Rattle.mf_errno.specs.declared.module.Module.{Module}
-use Rattle.mf_errno.specs.declared.module.Module.TheVariants.{Biba, Mls}
 use Rattle.mf_elem.specs.declared.elem.Elem.{Elem}
-use Rattle.mf_elem.specs.declared.elem.Elem.TheVariants.{Low, High}
 use Rattle.mf_elem.specs.declared.label.RangeLabel.{RangeLabel}
 use Rattle.mf_elem.specs.declared.label.LabelValue.{LabelValue}
 use Rattle.mf_elem.specs.declared.label.LabelValue.TheVariants.{Unset, Range, Number}
@@ -20,13 +18,16 @@ use Rattle.mf_item.specs.declared.view.Kind.{Kind}
 use Rattle.mf_item.specs.declared.view.Kind.TheVariants as kinds
 use Rattle.mf_item.specs.declared.view.ObjectView.{ObjectView}
 use Rattle.mf_item.specs.Item.{Item}
+use Rattle.mf_policy.specs.declared.modules.Labelling.{Labelling}
+use Rattle.mf_policy.specs.declared.modules.Labelling.TheVariants.{Ranges}
 use Rattle.mf_policy.specs.declared.operations.Test.TheVariants.{RelabelObject, RelabelCredential}
-use Rattle.mf_policy.specs.Answer.{LatticePolicy, biba, mls, nothing, range_label, object_slot, labels_answer, lattice_answer, answer}
+use Rattle.mf_policy.specs.Answer.{LatticePolicy, nothing, range_label, object_slot, labels_answer, lattice_answer, answer}
 use Rattle.mf_policy.specs.Laws.{IsOfSubject, SubjectsStayValid, IsOfObject, ObjectsGetNoRange}
-use Rattle.mf_policy.specs.Modules.{ranges_at, fresh_of}
+use Rattle.mf_policy.specs.Modules.{facts_of, fresh_of, number_asked, range_asked}
 use Rattle.mf_policy.specs.Operations.{row_of}
 use Rattle.mf_policy.specs.Relabel.{credential_relabel, object_relabel}
-use Rattle.mf_policy.specs.Relabelled.{range_after, value_after}
+use Rattle.mf_policy.specs.Relabelled.{after_by, range_after, value_after}
+use Rattle.mf_policy.proofs.EachModule.{AnswersAs, answers_as, has_elements}
 use Rattle.mf_lifetimes.specs.Laws.{holds_valid}
 use Rattle.mf_lifetimes.proofs.Listing.{IsLasting}
 use Rattle.mf_lifetimes.proofs.Valid.{IsValidOf}
@@ -84,11 +85,11 @@ objects_stay subject label asked old is none success =
 
 -- A policy whose labels have ranges
 
-module _ (element : Elem) (policy : LatticePolicy) where
+module _ (process other : RangeLabel) (policy : LatticePolicy) where
   -- its own relabel, which the policy allows, leaves a process's label
-  process_after : (part : Option RangeLabel) (value : LabelValue) (object : Option Elem) → holds_valid (ranges_at element) kinds.Process value ≡ true
+  process_after : (part : Option RangeLabel) (value : LabelValue) (object : Option Elem) → holds_valid (Ranges process other) kinds.Process value ≡ true
       → labels_answer policy RelabelCredential (range_label value) (unwrap_or part nothing) (range_label value).effective object ≡ Success
-      → holds_valid (ranges_at element) kinds.Process (range_after part value) ≡ true
+      → holds_valid (Ranges process other) kinds.Process (range_after part value) ≡ true
   process_after None value object valid success = valid
   process_after (Some asked) Unset object valid success = cc
   process_after (Some asked) (Number n) object valid success = cc
@@ -103,10 +104,10 @@ module _ (element : Elem) (policy : LatticePolicy) where
       one (Some element) range valid success = success
 
   -- an object's relabel by a process, which the policy allows, leaves an object's label
-  object_after : (part : Option RangeLabel) (subject value : LabelValue) → holds_valid (ranges_at element) kinds.Process subject ≡ true
-      → holds_valid (ranges_at element) kinds.Vnode value ≡ true
+  object_after : (part : Option RangeLabel) (subject value : LabelValue) → holds_valid (Ranges process other) kinds.Process subject ≡ true
+      → holds_valid (Ranges process other) kinds.Vnode value ≡ true
       → labels_answer policy RelabelObject (range_label subject) (unwrap_or part nothing) (range_label subject).effective (range_label value).effective ≡ Success
-      → holds_valid (ranges_at element) kinds.Vnode (range_after part value) ≡ true
+      → holds_valid (Ranges process other) kinds.Vnode (range_after part value) ≡ true
   object_after None subject value own valid success = valid
   object_after (Some asked) subject Unset own valid success = cc
   object_after (Some asked) subject (Number n) own valid success = cc
@@ -114,13 +115,13 @@ module _ (element : Elem) (policy : LatticePolicy) where
   object_after (Some asked) (Number n) (Range label) own valid success = cc
   object_after (Some asked) (Range subject) (Range label) own valid success = one subject.effective subject.range label.effective label.range refl refl own valid success
     where
-      after : IsOfObject (replaced label (Some asked)) → holds_valid (ranges_at element) kinds.Vnode (Range (replaced label (Some asked))) ≡ true
+      after : IsOfObject (replaced label (Some asked)) → holds_valid (Ranges process other) kinds.Vnode (Range (replaced label (Some asked))) ≡ true
       after stays = rw (stays.has_effective, stays.has_no_range) refl
 
       one : (effective : Option Elem) (range : Option (Elem × Elem)) (old : Option Elem) (old_range : Option (Elem × Elem)) → label.effective ≡ old → label.range ≡ old_range
           → (is_valid_for effective range && is_some range) ≡ true → (is_some old && is_none old_range) ≡ true
           → labels_answer policy RelabelObject subject asked effective old ≡ Success
-          → holds_valid (ranges_at element) kinds.Vnode (Range (replaced label (Some asked))) ≡ true
+          → holds_valid (Ranges process other) kinds.Vnode (Range (replaced label (Some asked))) ≡ true
       one None range old old_range is there own valid success = cc
       one effective range None old_range is there own valid success = cc
       one effective range (Some old) (Some ends) is there own valid success = cc
@@ -130,56 +131,63 @@ module _ (element : Elem) (policy : LatticePolicy) where
 
   module _ (slot : ℕ) (item : Item) (request : Request) (asked : item.request ≡ Some request) where
     item_process : (label : List LabelValue) → (row_of item.op).test ≡ RelabelCredential → item.subject.label ≡ label
-        → lattice_answer policy slot item ≡ Success → holds_valid (ranges_at element) kinds.Process (slice_index_or label slot Unset) ≡ true
-        → holds_valid (ranges_at element) kinds.Process (range_after (policy.part request) (slice_index_or label slot Unset)) ≡ true
+        → lattice_answer policy slot item ≡ Success → holds_valid (Ranges process other) kinds.Process (slice_index_or label slot Unset) ≡ true
+        → holds_valid (Ranges process other) kinds.Process (range_after (policy.part request) (slice_index_or label slot Unset)) ≡ true
     item_process label test own success valid =
         process_after (policy.part request) (slice_index_or label slot Unset) (range_label (object_slot item.object slot)).effective valid cc
 
     item_object : (maker label : List LabelValue) (object : ObjectView) → (row_of item.op).test ≡ RelabelObject → item.subject.label ≡ maker → item.object ≡ Some object
         → object.label ≡ label → lattice_answer policy slot item ≡ Success
-        → holds_valid (ranges_at element) kinds.Process (slice_index_or maker slot Unset) ≡ true
-        → holds_valid (ranges_at element) kinds.Vnode (slice_index_or label slot Unset) ≡ true
-        → holds_valid (ranges_at element) kinds.Vnode (range_after (policy.part request) (slice_index_or label slot Unset)) ≡ true
+        → holds_valid (Ranges process other) kinds.Process (slice_index_or maker slot Unset) ≡ true
+        → holds_valid (Ranges process other) kinds.Vnode (slice_index_or label slot Unset) ≡ true
+        → holds_valid (Ranges process other) kinds.Vnode (range_after (policy.part request) (slice_index_or label slot Unset)) ≡ true
     item_object maker label object test own there labelled success subject valid =
         object_after (policy.part request) (slice_index_or maker slot Unset) (slice_index_or label slot Unset) subject valid cc
 
 -- all entities but processes are labelled alike
-other_kind : (element : Elem) (kind : Kind) (value : LabelValue) → (kind ≡ kinds.Process → ⊥)
-    → holds_valid (ranges_at element) kind value ≡ holds_valid (ranges_at element) kinds.Vnode value
-other_kind element kind Unset no_process = refl
-other_kind element kind (Number n) no_process = refl
-other_kind element kinds.Process (Range label) no_process = absurd (no_process refl)
-other_kind element kinds.Vnode (Range label) no_process = refl
-other_kind element kinds.Pipe (Range label) no_process = refl
-other_kind element kinds.Socket (Range label) no_process = refl
+other_kind : (process other : RangeLabel) (kind : Kind) (value : LabelValue) → (kind ≡ kinds.Process → ⊥)
+    → holds_valid (Ranges process other) kind value ≡ holds_valid (Ranges process other) kinds.Vnode value
+other_kind process other kind Unset no_process = refl
+other_kind process other kind (Number n) no_process = refl
+other_kind process other kinds.Process (Range label) no_process = absurd (no_process refl)
+other_kind process other kinds.Vnode (Range label) no_process = refl
+other_kind process other kinds.Pipe (Range label) no_process = refl
+other_kind process other kinds.Socket (Range label) no_process = refl
 
 -- A policy that stays
 
 module _ (m : Module) (lasting : IsLasting m) (slot : ℕ) (item : Item) (request : Request) (asked : item.request ≡ Some request)
     (success : answer (fresh_of m) slot item ≡ Success) where
+  own : AnswersAs m
+  own = answers_as m lasting
+
+  allowed : lattice_answer own.policy slot item ≡ Success
+  allowed = sym (own.answers slot item) ∙ success
+
   -- a process's slot holds a valid label after it was let ask for that
   pub process_relabelled : (label : List LabelValue) → (row_of item.op).test ≡ RelabelCredential → item.subject.label ≡ label
       → IsValidOf m kinds.Process (slice_index_or label slot Unset) → IsValidOf m kinds.Process (value_after m request (slice_index_or label slot Unset))
-  process_relabelled label test own valid = one m lasting success valid
+  process_relabelled label test is valid = by_labels (facts_of m).labels lasting valid
     where
-      one : (m : Module) → IsLasting m → answer (fresh_of m) slot item ≡ Success → IsValidOf m kinds.Process (slice_index_or label slot Unset)
-          → IsValidOf m kinds.Process (value_after m request (slice_index_or label slot Unset))
-      one Biba lasting success valid = item_process High biba slot item request asked label test own success valid
-      one Mls lasting success valid = item_process Low mls slot item request asked label test own success valid
-      one other lasting success valid = absurd lasting
+      by_labels : (labels : Labelling) → has_elements labels ≡ true → holds_valid labels kinds.Process (slice_index_or label slot Unset) ≡ true
+          → holds_valid labels kinds.Process (after_by labels (range_asked m request) (number_asked m request) (slice_index_or label slot Unset)) ≡ true
+      by_labels (Ranges process other) elements valid =
+          subst (λ (part : Option RangeLabel). holds_valid (Ranges process other) kinds.Process (range_after part (slice_index_or label slot Unset)) ≡ true) (own.part request)
+          (item_process process other own.policy slot item request asked label test is allowed valid)
+      by_labels other elements valid = cc
 
   -- and that of another entity after a process was let ask for that
   pub object_relabelled : (kind : Kind) (maker label : List LabelValue) (object : ObjectView) → (kind ≡ kinds.Process → ⊥) → (row_of item.op).test ≡ RelabelObject
       → item.subject.label ≡ maker → item.object ≡ Some object → object.label ≡ label → IsValidOf m kinds.Process (slice_index_or maker slot Unset)
       → IsValidOf m kind (slice_index_or label slot Unset) → IsValidOf m kind (value_after m request (slice_index_or label slot Unset))
-  object_relabelled kind maker label object no_process test own there labelled subject valid = one m lasting success subject valid
+  object_relabelled kind maker label object no_process test is there labelled subject valid = by_labels (facts_of m).labels lasting subject valid
     where
-      one : (m : Module) → IsLasting m → answer (fresh_of m) slot item ≡ Success → IsValidOf m kinds.Process (slice_index_or maker slot Unset)
-          → IsValidOf m kind (slice_index_or label slot Unset) → IsValidOf m kind (value_after m request (slice_index_or label slot Unset))
-      one Biba lasting success subject valid =
-          other_kind High kind _ no_process
-          ∙ item_object High biba slot item request asked maker label object test own there labelled success subject (sym (other_kind High kind _ no_process) ∙ valid)
-      one Mls lasting success subject valid =
-          other_kind Low kind _ no_process
-          ∙ item_object Low mls slot item request asked maker label object test own there labelled success subject (sym (other_kind Low kind _ no_process) ∙ valid)
-      one other lasting success subject valid = absurd lasting
+      by_labels : (labels : Labelling) → has_elements labels ≡ true → holds_valid labels kinds.Process (slice_index_or maker slot Unset) ≡ true
+          → holds_valid labels kind (slice_index_or label slot Unset) ≡ true
+          → holds_valid labels kind (after_by labels (range_asked m request) (number_asked m request) (slice_index_or label slot Unset)) ≡ true
+      by_labels (Ranges process other) elements subject valid =
+          subst (λ (part : Option RangeLabel). holds_valid (Ranges process other) kind (range_after part (slice_index_or label slot Unset)) ≡ true) (own.part request)
+          (other_kind process other kind _ no_process
+          ∙ item_object process other own.policy slot item request asked maker label object test is there labelled allowed subject
+          (sym (other_kind process other kind _ no_process) ∙ valid))
+      by_labels other elements subject valid = cc

@@ -3,7 +3,7 @@ use Rattle.std.proofs.Common.{◌≡◌, ℕ, Bool, true, false, cond, List, [],
 use Rattle.std.specs.Prelude.{find}
 use Rattle.std.specs.List.{AllByRecursion}
 use Rattle.mf_errno.specs.declared.module.Module.{Module}
-use Rattle.mf_errno.specs.declared.module.Module.TheVariants.{Biba, Mls}
+use Rattle.mf_errno.specs.declared.module.Module.TheVariants.{Bsdextended}
 use Rattle.mf_policy.specs.declared.registration.Registration.{Registration}
 use Rattle.mf_policy.specs.declared.settings.Change.{Change}
 use Rattle.mf_policy.specs.declared.spec.Spec.{Spec}
@@ -94,9 +94,8 @@ module _ (slot : ℕ) (k : Module) (change : Change) (x : Entry) (kept : (change
 
 -- a policy that stays has no setting
 lasting_kept : (m : Module) (change : Change) → IsLasting m → (change_of (fresh_of m) change).1 ≡ fresh_of m
-lasting_kept Biba change lasting = refl
-lasting_kept Mls change lasting = refl
-lasting_kept other change lasting = absurd lasting
+lasting_kept Bsdextended change lasting = cc
+lasting_kept other change lasting = refl
 
 pub pinned_changed : (slot : ℕ) (r : Registration) (specs : List Entry) (given : ℕ) (k : Module) (change : Change) → IsPinned slot r specs given
     → IsPinned slot r (change_in k change specs).1 given

@@ -1,12 +1,10 @@
 -- That a policy that stays puts a valid label into its slot of each new entity.
-use Rattle.std.proofs.Common.{◌≡◌, ℕ, true, ◌&&◌, ◌||◌, Option, Some, None, refl}
+use Rattle.std.proofs.Common.{◌≡◌, ℕ, true, not, ◌&&◌, ◌||◌, if◌then◌else◌, Option, Some, None, refl}
 use Rattle.std.specs.Option.{option_or}
 use Rattle.std.specs.Prelude.{is_some, is_none}
 use Rattle.std.proofs.lemmas.Bool.{and_parts}
 use Rattle.mf_errno.specs.declared.module.Module.{Module}
-use Rattle.mf_errno.specs.declared.module.Module.TheVariants.{Biba, Mls}
 use Rattle.mf_elem.specs.declared.elem.Elem.{Elem}
-use Rattle.mf_elem.specs.declared.elem.Elem.TheVariants.{Low, High}
 use Rattle.mf_elem.specs.declared.label.RangeLabel.{RangeLabel}
 use Rattle.mf_elem.specs.declared.label.LabelValue.{LabelValue}
 use Rattle.mf_elem.specs.declared.label.LabelValue.TheVariants.{Unset, Range, Number}
@@ -17,10 +15,11 @@ use Rattle.mf_item.specs.declared.view.Kind.{Kind}
 use Rattle.mf_item.specs.declared.view.Kind.TheVariants as kinds
 use Rattle.mf_policy.specs.declared.modules.Labelling.{Labelling}
 use Rattle.mf_policy.specs.declared.modules.Labelling.TheVariants.{Nothing, Ranges, Partitions}
-use Rattle.mf_policy.specs.Modules.{ranges_at, facts_of, takes, boot_by, boot_value, inherited_by, inherited, is_valid_value, may_ask, has_no_range, is_process}
+use Rattle.mf_policy.specs.Modules.{facts_of, range_asked, number_asked, labels_by, labels_kind, is_named, takes, boot_by, boot_value, inherited_by, inherited, is_valid_value, may_ask, has_no_range, is_process}
+use Rattle.mf_policy.proofs.EachModule.{has_elements}
 use Rattle.mf_lifetimes.specs.Marks.{is_set}
-use Rattle.mf_lifetimes.specs.Laws.{holds_valid}
-use Rattle.mf_lifetimes.proofs.Listing.{IsLasting}
+use Rattle.mf_lifetimes.specs.Laws.{holds_valid, suits_kind}
+use Rattle.mf_lifetimes.proofs.Listing.{IsLasting, SuitKinds, lasting_facts}
 
 -- a valid label of the module, for that kind
 abbrev pub IsValidOf : Module → Kind → LabelValue → Type 0
@@ -38,45 +37,43 @@ valid_set Partitions kind (Number n) valid = refl
 
 -- At boot
 
--- what is asked of a default without a range leaves it as such entities have it, where no range is asked
-other_booted : (element : Elem) (asked : Option RangeLabel) → has_no_range asked ≡ true
-    → (is_some (replaced (record { effective = Some element; range = None }) asked).effective
-    && is_none (replaced (record { effective = Some element; range = None }) asked).range) ≡ true
-other_booted element None none = refl
-other_booted element (Some asked) none = one asked.effective asked.range none
+-- what is asked of a label without a range leaves it as such entities have it, where no range is asked
+other_booted : (label : RangeLabel) (asked : Option RangeLabel) → suits_kind kinds.Vnode label ≡ true → has_no_range asked ≡ true
+    → suits_kind kinds.Vnode (replaced label asked) ≡ true
+other_booted label None suits none = suits
+other_booted label (Some asked) suits none = one asked.effective label.effective asked.range label.range suits none
   where
-    one : (effective : Option Elem) (range : Option (Elem × Elem)) → is_none range ≡ true
-        → (is_some (option_or effective (Some element)) && is_none (option_or range None)) ≡ true
-    one None None none = refl
-    one (Some e) None none = refl
-    one effective (Some ends) none = cc
+    one : (effective own : Option Elem) (range own_range : Option (Elem × Elem)) → (is_some own && is_none own_range) ≡ true → is_none range ≡ true
+        → (is_some (option_or effective own) && is_none (option_or range own_range)) ≡ true
+    one None own None own_range suits none = suits
+    one (Some e) own None own_range suits none = (and_parts (is_some own) (is_none own_range) suits).1
+    one effective own (Some ends) own_range suits none = cc
 
 -- a process keeps a range
-process_booted : (element : Elem) (asked : Option RangeLabel)
-    → is_some (replaced (record { effective = Some element; range = Some (Low, High) }) asked).range ≡ true
-process_booted element None = refl
-process_booted element (Some asked) = one asked.range
+process_booted : (label : RangeLabel) (asked : Option RangeLabel) → suits_kind kinds.Process label ≡ true → is_some (replaced label asked).range ≡ true
+process_booted label None suits = (and_parts (is_valid label) (is_some label.range) suits).1
+process_booted label (Some asked) suits = one asked.range label.range (and_parts (is_valid label) (is_some label.range) suits).1
   where
-    one : (range : Option (Elem × Elem)) → is_some (option_or range (Some (Low, High))) ≡ true
-    one None = refl
-    one (Some given) = refl
+    one : (range own : Option (Elem × Elem)) → is_some own ≡ true → is_some (option_or range own) ≡ true
+    one None own there = there
+    one (Some given) own there = refl
 
-range_booted : (element : Elem) (kind : Kind) (asked : Option RangeLabel) (number : Option ℕ) → (is_process kind || has_no_range asked) ≡ true
-    → is_valid_value (boot_by (ranges_at element) kind asked number) ≡ true → holds_valid (ranges_at element) kind (boot_by (ranges_at element) kind asked number) ≡ true
-range_booted element kinds.Process asked number may valid = rw valid (process_booted element asked)
-range_booted element kinds.Vnode asked number may valid = other_booted element asked may
-range_booted element kinds.Pipe asked number may valid = other_booted element asked may
-range_booted element kinds.Socket asked number may valid = other_booted element asked may
+-- labels that have elements are valid at boot, where a script may ask this of them
+booted : (labels : Labelling) (kind : Kind) (asked : Option RangeLabel) (number : Option ℕ) → SuitKinds labels → (is_process kind || has_no_range asked) ≡ true
+    → is_valid_value (if labels_by labels kind then boot_by labels kind asked number else Unset) ≡ true
+    → holds_valid labels kind (if labels_by labels kind then boot_by labels kind asked number else Unset) ≡ true
+booted (Ranges process other) kinds.Process asked number suit may valid = rw valid (process_booted process asked suit.0)
+booted (Ranges process other) kinds.Vnode asked number suit may valid = other_booted other asked suit.1 may
+booted (Ranges process other) kinds.Pipe asked number suit may valid = other_booted other asked suit.1 may
+booted (Ranges process other) kinds.Socket asked number suit may valid = other_booted other asked suit.1 may
+booted labels kind asked number suit may valid = absurd suit
 
 -- a policy that stays gives a valid label where a script may ask this of it
 pub boot_valid : (m : Module) (kind : Kind) (request : Request) → IsLasting m → may_ask m kind request ≡ true → IsValidOf m kind (boot_value m kind request)
-boot_valid Biba kind request lasting may =
-    let both = and_parts (takes Biba kind request) (is_valid_value (boot_value Biba kind request)) may in
-    range_booted High kind request.biba request.partition both.0 both.1
-boot_valid Mls kind request lasting may =
-    let both = and_parts (takes Mls kind request) (is_valid_value (boot_value Mls kind request)) may in
-    range_booted Low kind request.mls None both.0 both.1
-boot_valid other kind request lasting may = absurd lasting
+boot_valid m kind request lasting may =
+    let both = and_parts (takes m kind request) (is_valid_value (boot_value m kind request)) may in
+    let ranges = and_parts (labels_kind m kind || not (is_named m request)) (is_process kind || has_no_range (range_asked m request)) both.0 in
+    booted (facts_of m).labels kind (range_asked m request) (number_asked m request) (lasting_facts m lasting).suit ranges.1 both.1
 
 -- At creation
 
@@ -88,18 +85,17 @@ effective_there label suits = one label.effective label.range suits
     one None range valid = cc
     one (Some element) range valid = refl
 
--- what is inherited of a process's valid label is valid for the kind
-inheritance_valid : (element : Elem) (kind : Kind) (value : LabelValue) → holds_valid (ranges_at element) kinds.Process value ≡ true
-    → holds_valid (ranges_at element) kind (inherited_by (ranges_at element) kind value) ≡ true
-inheritance_valid element kind Unset valid = cc
-inheritance_valid element kind (Number n) valid = cc
-inheritance_valid element kinds.Process (Range label) valid = valid
-inheritance_valid element kinds.Vnode (Range label) valid = effective_there label valid
-inheritance_valid element kinds.Pipe (Range label) valid = effective_there label valid
-inheritance_valid element kinds.Socket (Range label) valid = effective_there label valid
+-- what is inherited of a process's valid label with an element is valid for the kind
+pub created : (labels : Labelling) (kind : Kind) (value : LabelValue) → has_elements labels ≡ true → holds_valid labels kinds.Process value ≡ true
+    → holds_valid labels kind (if labels_by labels kind then inherited_by labels kind value else Unset) ≡ true
+created (Ranges process other) kind Unset elements valid = cc
+created (Ranges process other) kind (Number n) elements valid = cc
+created (Ranges process other) kinds.Process (Range label) elements valid = valid
+created (Ranges process other) kinds.Vnode (Range label) elements valid = effective_there label valid
+created (Ranges process other) kinds.Pipe (Range label) elements valid = effective_there label valid
+created (Ranges process other) kinds.Socket (Range label) elements valid = effective_there label valid
+created labels kind value elements valid = cc
 
 -- a policy that stays gives a valid label where the maker's is a process's
 pub inherited_valid : (m : Module) (kind : Kind) (value : LabelValue) → IsLasting m → IsValidOf m kinds.Process value → IsValidOf m kind (inherited m kind value)
-inherited_valid Biba kind value lasting valid = inheritance_valid High kind value valid
-inherited_valid Mls kind value lasting valid = inheritance_valid Low kind value valid
-inherited_valid other kind value lasting valid = absurd lasting
+inherited_valid m kind value lasting valid = created (facts_of m).labels kind value lasting valid

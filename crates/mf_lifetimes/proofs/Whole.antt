@@ -5,6 +5,7 @@ use Rattle.std.specs.Str.{bytes_eq}
 use Rattle.std.specs.List.{AllByRecursion}
 use Rattle.std.proofs.lemmas.Slice.Eq.{bytes_eq-Decides}
 use Rattle.std.proofs.lemmas.List.{length-append}
+use Rattle.mf_core.proofs.LookedUp.{with_task_at}
 use Rattle.mf_errno.specs.declared.module.Module.{Module}
 use Rattle.mf_item.specs.declared.view.Kind.TheVariants as kinds
 use Rattle.mf_policy.specs.declared.labels.Origin.TheVariants.{Boot}
@@ -18,7 +19,7 @@ use Rattle.mf_calls.specs.declared.script.FileLine.{FileLine}
 use Rattle.mf_calls.specs.WellFormed.{IsFormedFile, AreInDirectories}
 use Rattle.mf_plan.specs.Path.{root}
 use Rattle.mf_plan.specs.Views.{process_named}
-use Rattle.mf_core.specs.Opening.{root_alone, with_file, with_task_at, with_task, booted_specs}
+use Rattle.mf_core.specs.Opening.{root_alone, with_file, with_task, booted_specs}
 use Rattle.mf_lifetimes.specs.Laws.{OpeningIsWhole}
 use Rattle.mf_objects.proofs.Finding.{find_push_miss}
 use Rattle.mf_lifetimes.proofs.Files.{by_place, all_from, all_both, AreMade, AreFormed, AreFiles, HasDirectories, files_made}

@@ -1,7 +1,7 @@
 -- Marks of label slots: when a slot of an entity is made, and how it ends (initialised and destroyed, in the words of mac(9)).
 use Rattle.std.specs.Option.{option_eq}
 use Rattle.std.specs.Prelude.{ℕ, Bool, true, false, not, ◌&&◌, nat_eq, if◌then◌else◌, List, [], ◌∷◌, ◌++◌, map, filter, slice_index_or, Option, Some, None}
-use Rattle.std.specs.List.{list_any}
+use Rattle.std.specs.List.{filter_map, list_any}
 use Rattle.mf_elem.specs.declared.label.LabelValue.{LabelValue}
 use Rattle.mf_elem.specs.declared.label.LabelValue.TheVariants.{Unset}
 use Rattle.mf_item.specs.declared.view.Kind.{Kind}
@@ -28,21 +28,13 @@ pub data Mark : Type 0 where
 
 -- Who labels
 
--- the entry is of a policy that holds the slot and labels entities of that kind
-abbrev pub labels : Kind → ℕ → Entry → Bool
-labels kind slot entry = holds_slot slot entry && labels_kind entry.0.module kind
-
 -- the listed registrations that hold the slot and label entities of that kind
 abbrev pub labellers : List Entry → Kind → ℕ → List Registration
-labellers specs kind slot = map (λ entry. entry.0) (filter (labels kind slot) specs)
+labellers specs kind slot = map (λ entry. entry.0) (filter (λ entry. holds_slot slot entry && labels_kind entry.0.module kind) specs)
 
--- Of two registrations of one module the second has another slot number, since none is given twice.
-abbrev pub same_registration : Registration → Registration → Bool
-same_registration r q = same_module r.module q.module && option_eq nat_eq r.slot q.slot
-
--- the registration is listed
+-- the registration is listed; of two of one module the second has another slot number, since none is given twice
 abbrev pub is_registered : Registration → List Entry → Bool
-is_registered r specs = list_any (λ entry. same_registration r entry.0) specs
+is_registered r specs = list_any (λ entry. same_module r.module entry.0.module && option_eq nat_eq r.slot entry.0.slot) specs
 
 -- Marks that are added
 
@@ -50,16 +42,10 @@ is_registered r specs = list_any (λ entry. same_registration r entry.0) specs
 abbrev pub made_marks : List Entry → ℕ → LiveEntity → List Mark
 made_marks specs slot e = map Made (labellers specs (kind_of e.what) slot)
 
--- how a slot ends that was made under this registration
-abbrev pub end_of : List Entry → Registration → Mark
-end_of specs r = if is_registered r specs then Ended r else Left r
-
--- the ends of a slot that has these marks: one for each time that it was made
-abbrev pub ends : List Entry → List Mark → List Mark
-ends specs [] = []
-ends specs (Made r ∷ marks) = end_of specs r ∷ ends specs marks
-ends specs (Ended r ∷ marks) = ends specs marks
-ends specs (Left r ∷ marks) = ends specs marks
+-- how a slot ends that has this mark, where that says that it was made
+abbrev pub end_of : List Entry → Mark → Option Mark
+end_of specs (Made r) = Some (if is_registered r specs then Ended r else Left r)
+end_of specs other = None
 
 -- the value in a label slot of an entity
 abbrev pub value_in : ℕ → LiveEntity → LabelValue
@@ -78,7 +64,7 @@ is_first old new = not (is_set old) && is_set new
 abbrev pub added : List Entry → ℕ → List Mark → Option LiveEntity → Option LiveEntity → List Mark
 added specs slot marks None None = []
 added specs slot marks None (Some e) = made_marks specs slot e
-added specs slot marks (Some e) None = ends specs marks
+added specs slot marks (Some e) None = filter_map (end_of specs) marks
 added specs slot marks (Some old) (Some new) = if is_first (value_in slot old) (value_in slot new) then made_marks specs slot new else []
 
 -- Marks over a history

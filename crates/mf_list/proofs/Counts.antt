@@ -3,7 +3,8 @@ use Rattle.std.proofs.Common.{◌≡◌, ℕ, ◌+◌, ◌≤◌, Bool, true, fa
 use Rattle.std.specs.List.{list_any, remove}
 use Rattle.mf_errno.specs.Same.{same_module}
 use Rattle.mf_errno.specs.declared.module.Module.{Module}
-use Rattle.mf_errno.specs.declared.module.Module.TheVariants.{Biba, Mls, Partition, Bsdextended, Priority}
+use Rattle.mf_errno.specs.declared.module.Module.TheVariants.{Biba}
+use Rattle.mf_errno.specs.Names.{all_modules}
 use Rattle.mf_policy.specs.declared.spec.Spec.{Spec}
 use Rattle.mf_policy.specs.Registration.{Entry, is_listed, is_of}
 use Rattle.mf_list.specs.Held.{how_many}
@@ -106,18 +107,35 @@ once_if_distinct (x ∷ ms) distinct m =
       | false ↦ λ _. omega (arith, rest)
     ] refl
 
--- there are five modules
-one_more : (m : Module) → cond (same_module Biba m) 1 0 + cond (same_module Mls m) 1 0 + cond (same_module Partition m) 1 0 + cond (same_module Bsdextended m) 1 0 + cond (same_module Priority m) 1 0 ≡ 1
-one_more Biba = refl
-one_more Mls = refl
-one_more Partition = refl
-one_more Bsdextended = refl
-one_more Priority = refl
+-- how many entries are of these modules
+held_of : List Module → List Entry → ℕ
+held_of [] es = 0
+held_of (m ∷ ms) es = how_many (is_of m) es + held_of ms es
 
-length_by_modules : (es : List Entry) → length es ≡ how_many (is_of Biba) es + how_many (is_of Mls) es + how_many (is_of Partition) es + how_many (is_of Bsdextended) es + how_many (is_of Priority) es
-length_by_modules [] = refl
-length_by_modules (x ∷ xs) = omega (arith, length_by_modules xs, one_more x.0.module)
+none_held : (ms : List Module) → held_of ms [] ≡ 0
+unfolding held_of
+none_held [] = refl
+none_held (m ∷ ms) = omega (arith, none_held ms)
 
+one_held : (ms : List Module) (x : Entry) (xs : List Entry) → held_of ms (x ∷ xs) ≡ how_many (λ m. is_of m x) ms + held_of ms xs
+unfolding held_of
+one_held [] x xs = refl
+one_held (m ∷ ms) x xs = omega (arith, one_held ms x xs)
+
+-- each module is once among all
+once_among : (m : Module) → how_many (λ k. same_module k m) all_modules ≡ 1
+once_among Biba = refl
+once_among other = refl
+
+length_by_modules : (es : List Entry) → length es ≡ held_of all_modules es
+length_by_modules [] = sym (none_held all_modules)
+length_by_modules (x ∷ xs) = omega (arith, length_by_modules xs, one_held all_modules x xs, once_among x.0.module)
+
+few_held : (ms : List Module) (es : List Entry) → IsListedOnce es → held_of ms es ≤ length ms
+unfolding held_of
+few_held [] es once = omega arith
+few_held (m ∷ ms) es once = omega (arith, once m, few_held ms es once)
+
+-- there are no more modules than that
 pub listed_few : (es : List Entry) → IsListedOnce es → length es ≤ 8
-listed_few es once =
-    omega (arith, length_by_modules es, once Biba, once Mls, once Partition, once Bsdextended, once Priority)
+listed_few es once = omega (arith, length_by_modules es, few_held all_modules es once)

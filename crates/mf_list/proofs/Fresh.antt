@@ -1,12 +1,9 @@
 -- A policy as it is loaded is of the same module.
 use Rattle.std.proofs.Common.{◌≡◌, refl}
 use Rattle.mf_policy.specs.declared.spec.Spec.{Spec}
-use Rattle.mf_policy.specs.declared.spec.Spec.TheVariants.{Biba, Mls, Partition, Bsdextended, Priority}
+use Rattle.mf_policy.specs.declared.spec.Spec.TheVariants.{Bsdextended}
 use Rattle.mf_policy.specs.Modules.{fresh_of, module_of}
 
 pub fresh_module : (s : Spec) → module_of (fresh_of (module_of s)) ≡ module_of s
-fresh_module Biba = refl
-fresh_module Mls = refl
-fresh_module Partition = refl
 fresh_module (Bsdextended rules first) = refl
-fresh_module Priority = refl
+fresh_module other = refl

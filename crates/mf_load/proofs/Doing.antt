@@ -1,23 +1,26 @@
--- What a call of a task of a load does, by its plan and the walk over it.
+-- What a call of a task of a load does, by its row and the walk over its checks.
 use Rattle.std.proofs.Common.{◌≡◌, ℕ, List, Option, Some, None, ap, ◌∙◌}
 use Rattle.mf_errno.specs.declared.errno.Errno.{Errno}
 use Rattle.mf_errno.specs.declared.errno.Errno.TheVariants.{Eacces}
 use Rattle.mf_errno.specs.declared.module.Module.TheVariants.{Biba}
 use Rattle.mf_item.specs.declared.operation.CheckOp.{CheckOp}
 use Rattle.mf_policy.specs.Registration.{Entry}
+use Rattle.mf_objects.specs.declared.id.Id.{Id}
 use Rattle.mf_calls.specs.declared.script.Call.{Call}
 use Rattle.mf_plan.specs.declared.state.State.{State}
-use Rattle.mf_plan.specs.Planned.{Plan}
 use Rattle.mf_plan.specs.declared.plan.Tail.{Tail}
 use Rattle.mf_plan.specs.declared.plan.Tail.TheVariants.{Do, Refuse}
 use Rattle.mf_plan.specs.declared.reply.Reply.{Reply}
 use Rattle.mf_plan.specs.declared.reply.Reply.TheVariants as reply
 use Rattle.mf_plan.specs.declared.reply.Payload.{Payload}
-use Rattle.mf_plan.specs.Plan.{plan_of}
+use Rattle.mf_plan.specs.Plan.{plan_in, row_by, row_for}
+use Rattle.mf_plan.specs.Row.{Row}
+use Rattle.mf_plan.specs.Views.{process_named}
 use Rattle.mf_step.specs.declared.verdict.Denial.{Denial}
 use Rattle.mf_step.specs.Verdict.{denial_from}
 use Rattle.mf_step.specs.Reply.{op_at, denied_reply, tail_reply}
-use Rattle.mf_step.specs.Step.{step_payload, step_reply, step_state, performed, after_reply}
+use Rattle.mf_step.specs.Effect.{after}
+use Rattle.mf_step.specs.Step.{step_reply, step_state, performed, performed_by, after_reply}
 use Rattle.mf_load.specs.Alone.{denied}
 use Rattle.mf_load.proofs.Known.{biba_alone}
 
@@ -26,29 +29,37 @@ pub record Does (s : State) (task : List ℕ) (call : Call) (r : Reply) (s' : St
   pub reply : step_reply s task None call ≡ r
   pub state : step_state s task None call ≡ s'
 
--- a call that is done, denied or refused, by its plan and the walk over it
-module _ (s : State) (task : List ℕ) (call : Call) (plan : Plan) (specs : s.specs ≡ biba_alone) (planned : plan_of s task None call ≡ plan) where
-  replied : (denied : Option Denial) → denial_from biba_alone 1 plan.items ≡ denied → step_reply s task None call ≡ denied_reply plan denied (step_payload s task None call)
-  replied denied walked =
-      ap (λ (p : Plan). denied_reply p (denial_from s.specs 1 p.items) (step_payload s task None call)) planned
-      ∙ ap (λ (es : List Entry). denied_reply plan (denial_from es 1 plan.items) (step_payload s task None call)) specs
-      ∙ ap (λ (d : Option Denial). denied_reply plan d (step_payload s task None call)) walked
+-- a call that is done, denied or refused, by its row and the walk over its checks
+module _ (s : State) (task : List ℕ) (me : Id) (call : Call) (row : Row) (specs : s.specs ≡ biba_alone) (caller : process_named s.objects task ≡ Some me)
+    (is : row_for s task call me ≡ row) where
+  abbrev walked : Option Denial
+  walked = denial_from biba_alone 1 (plan_in s row).items
 
-  pub is_done : (p : Payload) (s' : State) → plan.tail ≡ Do → denial_from biba_alone 1 plan.items ≡ None → step_payload s task None call ≡ p → performed s task None call ≡ s'
-      → Does s task call (reply.Ok p) s'
-  is_done p s' tail walked shown done =
-      let is : step_reply s task None call ≡ reply.Ok p =
-      replied None walked ∙ ap (λ (x : Tail). tail_reply x (step_payload s task None call)) tail ∙ ap (λ (x : Payload). reply.Ok x) shown in
-      record { reply = is; state = ap (λ (x : Reply). after_reply x s (performed s task None call)) is ∙ done }
+  replied : (denied : Option Denial) → walked ≡ denied → step_reply s task None call ≡ denied_reply (plan_in s row) denied row.payload
+  replied denied found =
+      ap (λ (r : Row). denied_reply (plan_in s r) (denial_from s.specs 1 (plan_in s r).items) r.payload) (ap (row_by s task call) caller ∙ is)
+      ∙ ap (λ (es : List Entry). denied_reply (plan_in s row) (denial_from es 1 (plan_in s row).items) row.payload) specs
+      ∙ ap (λ (d : Option Denial). denied_reply (plan_in s row) d row.payload) found
 
-  pub is_denied : (check : CheckOp) → op_at plan.items 3 ≡ check → denial_from biba_alone 1 plan.items ≡ Some (record { item = 3; errno = Eacces; by = Some Biba })
-      → Does s task call (denied check) s
-  is_denied check third walked =
-      let is : step_reply s task None call ≡ denied check =
-      replied (Some (record { item = 3; errno = Eacces; by = Some Biba })) walked ∙ ap denied third in
-      record { reply = is; state = ap (λ (x : Reply). after_reply x s (performed s task None call)) is }
+  pub is_done : (p : Payload) (s' : State) → row.tail ≡ Do → walked ≡ None → row.payload ≡ p → after s me row.effect ≡ s' → Does s task call (reply.Ok p) s'
+  is_done p s' tail found shown changed =
+      let replies : step_reply s task None call ≡ reply.Ok p =
+      replied None found ∙ ap (λ (x : Tail). tail_reply x row.payload) tail ∙ ap (λ (x : Payload). reply.Ok x) shown in
+      record {
+        reply = replies;
+        state =
+            ap (λ (x : Reply). after_reply x s (performed s task None call)) replies
+            ∙ ap (performed_by s task call) caller
+            ∙ ap (λ (r : Row). after s me r.effect) is
+            ∙ changed;
+      }
 
-  pub is_refused : (e : Errno) → plan.tail ≡ Refuse e → denial_from biba_alone 1 plan.items ≡ None → Does s task call (reply.Refused e) s
-  is_refused e tail walked =
-      let is : step_reply s task None call ≡ reply.Refused e = replied None walked ∙ ap (λ (x : Tail). tail_reply x (step_payload s task None call)) tail in
-      record { reply = is; state = ap (λ (x : Reply). after_reply x s (performed s task None call)) is }
+  pub is_denied : (check : CheckOp) → op_at (plan_in s row).items 3 ≡ check → walked ≡ Some (record { item = 3; errno = Eacces; by = Some Biba }) → Does s task call (denied check) s
+  is_denied check third found =
+      let replies : step_reply s task None call ≡ denied check = replied (Some (record { item = 3; errno = Eacces; by = Some Biba })) found ∙ ap denied third in
+      record { reply = replies; state = ap (λ (x : Reply). after_reply x s (performed s task None call)) replies }
+
+  pub is_refused : (e : Errno) → row.tail ≡ Refuse e → walked ≡ None → Does s task call (reply.Refused e) s
+  is_refused e tail found =
+      let replies : step_reply s task None call ≡ reply.Refused e = replied None found ∙ ap (λ (x : Tail). tail_reply x row.payload) tail in
+      record { reply = replies; state = ap (λ (x : Reply). after_reply x s (performed s task None call)) replies }

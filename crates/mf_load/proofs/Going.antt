@@ -7,11 +7,12 @@ use Rattle.std.proofs.lemmas.Bool.Decides.{nat_tests}
 use Rattle.std.proofs.lemmas.List.{length-map}
 use Rattle.mf_errno.specs.declared.errno.Errno.TheVariants as errno
 use Rattle.mf_item.specs.declared.operation.CheckOp.TheVariants as op
+use Rattle.mf_objects.proofs.Entities.{changed_at}
 use Rattle.mf_objects.specs.declared.id.Id.{Id}
 use Rattle.mf_objects.specs.Live.{LiveEntity, live_at, has_id, is_child, is_entry}
 use Rattle.mf_objects.specs.Head.{head_of}
 use Rattle.mf_objects.specs.Titles.{entry_names, first_names}
-use Rattle.mf_objects.specs.Changes.{appended, changed_at, with_what, with_change, without}
+use Rattle.mf_objects.specs.Changes.{appended, with_what, with_change, without}
 use Rattle.mf_calls.specs.Generated.{LoadCall, call_of, task_name, scratch_name, is_even}
 use Rattle.mf_calls.specs.Generated.{LoadCall as load}
 use Rattle.mf_calls.proofs.Loads.{IsDrawn}

@@ -3,11 +3,12 @@ use Rattle.std.proofs.Common.{◌≡◌, ◌≢◌, ℕ, ◌<◌, ◌≤◌, ◌
 use Rattle.std.specs.Prelude.{find}
 use Rattle.std.specs.Str.{bytes_eq}
 use Rattle.std.proofs.lemmas.Bool.Decides.{nat_tests}
+use Rattle.mf_objects.proofs.Entities.{changed_at}
 use Rattle.mf_objects.specs.declared.id.Id.{Id}
 use Rattle.mf_objects.specs.declared.entity.EntityData.{EntityData}
 use Rattle.mf_objects.specs.declared.entity.EntityData.TheVariants.{Process, Vnode, Pipe, Socket}
 use Rattle.mf_objects.specs.Live.{LiveEntity, Entities, has_id, is_process, is_entry, is_named, is_child}
-use Rattle.mf_objects.specs.Changes.{appended, changed_at, with_what, with_change, without}
+use Rattle.mf_objects.specs.Changes.{appended, with_what, with_change, without}
 use Rattle.mf_objects.specs.Titles.{entry_names}
 use Rattle.mf_objects.proofs.Rising.{rising_push, rising_changed}
 use Rattle.mf_calls.specs.Generated.{task_name, directory_name, file_name, scratch_name}

@@ -6,6 +6,7 @@ use Rattle.std.specs.Str.{bytes_eq}
 use Rattle.std.proofs.lemmas.Bool.Decides.{nat_tests}
 use Rattle.std.proofs.lemmas.List.{length-map}
 use Rattle.std.proofs.lemmas.List.Sums.{fold-append}
+use Rattle.mf_core.proofs.LookedUp.{with_task_at}
 use Rattle.mf_errno.specs.declared.errno.Errno.{Errno}
 use Rattle.mf_objects.specs.declared.id.Id.{Id}
 use Rattle.mf_objects.specs.Live.{LiveEntity, Entities, id_of, live_at, has_id, is_child, is_named, is_process}
@@ -15,7 +16,7 @@ use Rattle.mf_calls.specs.Generated.{task_name, directory_name, file_name, scrat
 use Rattle.mf_plan.specs.declared.target.Target.TheVariants.{Name}
 use Rattle.mf_plan.specs.declared.lookup.Lookup.{Lookup}
 use Rattle.mf_plan.specs.Path.{lookup_from}
-use Rattle.mf_core.specs.Opening.{root_alone, with_file_at, with_file, with_task_at, with_task, opening_state}
+use Rattle.mf_core.specs.Opening.{root_alone, with_file_at, with_file, with_task, opening_state}
 use Rattle.mf_core.specs.Progress.{first_progress}
 use Rattle.mf_core.specs.LegalHistory.{opening}
 use Rattle.mf_core.proofs.Laws.{progress_at-first}

@@ -6,12 +6,13 @@ use Rattle.std.proofs.lemmas.Bool.{false≢true, eqb-true}
 use Rattle.std.proofs.lemmas.List.Folds.{find-append}
 use Rattle.std.proofs.lemmas.List.Elements.{All-nil, All-cons, All-append, All-take, All-drop, All-push, All-map, All-head, All-tail}
 use Rattle.std.proofs.lemmas.List.Sums.{get_or-le-sum_by, length-filter}
+use Rattle.mf_objects.proofs.Entities.{changed_at}
 use Rattle.mf_objects.specs.declared.id.Id.{Id}
 use Rattle.mf_objects.specs.declared.entity.EntityData.{EntityData}
 use Rattle.mf_objects.specs.declared.entity.EntityData.TheVariants.{Process, Vnode, Pipe, Socket}
-use Rattle.mf_objects.specs.Live.{LiveEntity, Entities, has_id, live_at, is_process, is_pipe, is_socket, is_entry, is_held_by, is_made_by}
-use Rattle.mf_objects.specs.Lives.{passes, is_directory, IsLive}
-use Rattle.mf_objects.specs.Changes.{changed_at, appended, cleared, with_mode, with_messages}
+use Rattle.mf_objects.specs.Live.{LiveEntity, Entities, has_id, live_at, is_process, is_pipe, is_socket, is_entry, is_made_by}
+use Rattle.mf_objects.specs.Lives.{passes, is_directory, IsLive, is_held_by}
+use Rattle.mf_objects.specs.Changes.{appended, cleared, with_mode, with_messages}
 use Rattle.mf_objects.specs.Fits.{MayJoin, IsBare, FitsBytes}
 use Rattle.mf_objects.specs.Population.{HasOlder, shares_names, NoBytesIfDirectory, Belongs, AllBelong, IsPopulation, IsRising}
 use Rattle.mf_objects.proofs.Rising.{id_is, id_differs, below_next, at_least}

@@ -18,8 +18,16 @@ use Rattle.std.proofs.lemmas.List.MinMax.{ranks_by}
 use Rattle.std.proofs.lemmas.Map.Text.{is_eq-slice_cmp}
 use Rattle.std.proofs.lemmas.Slice.Eq.{bytes_eq-Decides}
 use Rattle.mf_objects.specs.declared.limits.TheConstants.{MOST_NAMES}
-use Rattle.mf_objects.specs.Titles.{comes_first, with_name, in_byte_order, first_names}
+use Rattle.mf_objects.specs.Titles.{in_byte_order, first_names}
 use Rattle.mf_objects.specs.Names.{IsFirstNames}
+
+-- the first name isn't after the second
+abbrev comes_first : List ℕ → List ℕ → Bool
+comes_first name other = is_le (slice_cmp nat_cmp name other)
+
+-- names in byte order, with one more in its place
+abbrev with_name : List ℕ → List (List ℕ) → List (List ℕ)
+with_name name names = insert names (position_or_len (comes_first name) names) name
 
 flipped : (o : Ordering) → is_le o ≡ true → is_lt (ordering_reverse o) ≡ false
 flipped Less le = refl

@@ -1,10 +1,11 @@
 -- Look-ups by id among live entities that are changed.
 use Rattle.std.proofs.Common.{◌≡◌, ℕ, ◌<◌, ◌≤◌, ◌+◌, Bool, true, false, cond, List, [], ◌∷◌, ◌++◌, Option, Some, None, map, refl, ap, ◌∙◌, arith, ◌⊎◌, inl, inr, eq-eqb, option_map}
 use Rattle.std.specs.Prelude.{filter, find}
+use Rattle.mf_objects.proofs.Entities.{changed_at}
 use Rattle.mf_objects.specs.declared.id.Id.{Id}
 use Rattle.mf_objects.specs.declared.entity.EntityData.{EntityData}
 use Rattle.mf_objects.specs.Live.{LiveEntity, has_id, id_of}
-use Rattle.mf_objects.specs.Changes.{changed_at, with_what}
+use Rattle.mf_objects.specs.Changes.{with_what}
 use Rattle.mf_objects.specs.Population.{IsRising}
 use Rattle.mf_objects.proofs.Rising.{rising_weaker, id_is, id_differs, below_next}
 

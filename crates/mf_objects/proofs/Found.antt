@@ -5,11 +5,12 @@ use Rattle.std.proofs.lemmas.List.Elements.{All-nil, All-cons, All-weaker}
 use Rattle.std.proofs.lemmas.Bool.Decides.{nat_tests}
 use Rattle.std.specs.Prelude.{find, All, IfSome, IfNone}
 use Rattle.mf_slots.specs.Zones.{Contents, label_values, value_of}
+use Rattle.mf_objects.proofs.Entities.{label_of}
 use Rattle.mf_objects.specs.declared.id.Id.{Id}
 use Rattle.mf_objects.specs.declared.entity.Entity.{Entity}
 use Rattle.mf_objects.specs.declared.entity.EntityData.{EntityData}
 use Rattle.mf_objects.specs.declared.entity.EntityData.TheVariants.{Process, Vnode, Pipe, Socket}
-use Rattle.mf_objects.specs.Live.{LiveEntity, Entities, has_id, live_at, id_of, label_of, messages_at, messages_of, reading, label_at, is_named, is_child, is_entry}
+use Rattle.mf_objects.specs.Live.{LiveEntity, Entities, has_id, live_at, id_of, messages_at, messages_of, reading, label_at, is_named, is_child, is_entry}
 use Rattle.mf_objects.specs.Lives.{is_from, IsLeast, is_directory, IsFound, IsLiveWhere, IsLive, is_vnode}
 use Rattle.std.specs.Str.{bytes_eq}
 use Rattle.mf_objects.specs.Population.{Belongs, IsPopulation, IsRising, HasRoot}

@@ -12,12 +12,13 @@ use Rattle.mf_elem.specs.declared.label.LabelValue.TheVariants.{Unset, Range, Nu
 use Rattle.mf_slots.specs.Zones.{Contents, Handles, handle, label_values, MakesLabel, GivesUp, Relabels, IsMadeFor, AreMade, value_for, SetsAt, IsMadeAt, Makes, IsHeld, IsHeldAt, NoneUnset, value_of, value_at as value_under}
 use Rattle.mf_slots.proofs.ZonesLaws.{set_none, set_writes, set_makes, set_gives_up, unset_exactly}
 use Rattle.mf_slots.proofs.Relabelling.{set_relabels}
+use Rattle.mf_objects.proofs.Entities.{label_of, changed_at}
 use Rattle.mf_objects.specs.declared.id.Id.{Id}
 use Rattle.mf_objects.specs.declared.entity.Entity.{Entity}
 use Rattle.mf_objects.specs.declared.entity.EntityData.{EntityData}
-use Rattle.mf_objects.specs.Live.{LiveEntity, Entities, has_id, live_at, label_of, label_at}
+use Rattle.mf_objects.specs.Live.{LiveEntity, Entities, has_id, live_at, label_at}
 use Rattle.mf_objects.specs.Lives.{passes, is_directory, HasSlotsFor, value_at as live_value}
-use Rattle.mf_objects.specs.Changes.{changed_at, with_change, with_what}
+use Rattle.mf_objects.specs.Changes.{with_change, with_what}
 use Rattle.mf_objects.specs.Labels.{with_value, with_label}
 use Rattle.mf_objects.specs.Fits.{IsBare}
 use Rattle.mf_objects.specs.Population.{NoBytesIfDirectory, Belongs, IsPopulation, is_namesake}

@@ -15,7 +15,7 @@ use Rattle.mf_objects.specs.declared.index.Group.TheVariants.{Processes, Pipes, 
 use Rattle.mf_objects.specs.declared.entity.Entity.{Entity}
 use Rattle.mf_objects.specs.declared.entity.EntityData.{EntityData}
 use Rattle.mf_objects.specs.declared.entity.EntityData.TheVariants.{Process, Vnode, Pipe, Socket}
-use Rattle.mf_objects.specs.Live.{is_held_by}
+use Rattle.mf_objects.specs.Lives.{is_held_by}
 use Rattle.mf_objects.specs.Population.{is_entry_beside}
 use Rattle.mf_objects.specs.Sound.{IsById}
 use Rattle.mf_objects.specs.Index.{group_of, is_in, bucket_of, bucket, is_named_at, found_passes}

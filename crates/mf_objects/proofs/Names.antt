@@ -8,11 +8,12 @@ use Rattle.std.proofs.lemmas.Slice.Eq.{bytes_eq-Decides}
 use Rattle.std.proofs.lemmas.List.{get_or-map, length-map}
 use Rattle.std.proofs.lemmas.List.Elements.{All-nil, All-cons}
 use Rattle.std.proofs.lemmas.List.Quantifiers.{all_pairs_push}
+use Rattle.mf_objects.proofs.Entities.{changed_at}
 use Rattle.mf_objects.specs.declared.id.Id.{Id}
 use Rattle.mf_objects.specs.declared.entity.EntityData.{EntityData}
 use Rattle.mf_objects.specs.declared.entity.EntityData.TheVariants.{Process, Vnode, Pipe, Socket}
-use Rattle.mf_objects.specs.Live.{LiveEntity, has_id, is_held_by}
-use Rattle.mf_objects.specs.Changes.{changed_at}
+use Rattle.mf_objects.specs.Live.{LiveEntity, has_id}
+use Rattle.mf_objects.specs.Lives.{is_held_by}
 use Rattle.mf_objects.specs.Population.{NamesDiffer, is_namesake, shares_names, is_entry_beside}
 use Rattle.mf_objects.proofs.Belonging.{Stays, StaysAt, stays_same, find_all}
 

@@ -4,6 +4,7 @@ use Rattle.std.specs.declared.alloc.AllocError.{AllocError}
 use Rattle.std.proofs.lemmas.List.{map-append, reverse-append}
 use Rattle.std.specs.Prelude.{filter, codes}
 use Rattle.mf_slots.specs.Zones.{Contents}
+use Rattle.std.specs.Option.{option_map_or}
 use Rattle.mf_objects.specs.declared.id.Id.{Id}
 use Rattle.mf_objects.specs.declared.entity.Entity.{Entity}
 use Rattle.mf_objects.specs.declared.entity.EntityData.{EntityData}
@@ -49,6 +50,9 @@ names_no dir (x ∷ es) e entry = one (is_entry dir x.what) (names_no dir es e e
     one false rest = rest
 
 -- a path depends on no label
+
+abbrev pub title_in : List ℕ → Option LiveEntity → List ℕ
+title_in path found = option_map_or (λ e. title_of path e.name e.what) found []
 
 below_same : (path other : Id → List ℕ) → ((id : Id) → path id ≡ other id) → (parent : Option Id) (name : List ℕ) → below path parent name ≡ below other parent name
 below_same path other same None name = refl

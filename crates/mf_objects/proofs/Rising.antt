@@ -3,10 +3,10 @@ use Rattle.std.proofs.Common.{◌≡◌, ◌≢◌, ℕ, ◌<◌, ◌≤◌, ◌
 use Rattle.std.specs.Prelude.{filter, find, All}
 use Rattle.std.proofs.lemmas.List.Elements.{All-head}
 use Rattle.std.proofs.lemmas.Bool.Decides.{nat_tests}
+use Rattle.mf_objects.proofs.Entities.{changed_at}
 use Rattle.mf_objects.specs.declared.id.Id.{Id}
 use Rattle.mf_objects.specs.Live.{LiveEntity, has_id}
 use Rattle.mf_objects.specs.Lives.{is_directory}
-use Rattle.mf_objects.specs.Changes.{changed_at}
 use Rattle.mf_objects.specs.Population.{IsRising, HasRoot}
 
 pub rising_weaker : (low least next : ℕ) (es : List LiveEntity) → low ≤ least → IsRising least next es → IsRising low next es

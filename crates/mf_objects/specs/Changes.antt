@@ -25,12 +25,9 @@ without gone objects = record objects { live = filter (λ e. not (gone e)) objec
 abbrev pub goes_with : Id → LiveEntity → Bool
 goes_with id e = has_id id e || is_made_by id e.what
 
-abbrev pub changed_at : (LiveEntity → LiveEntity) → Id → LiveEntity → LiveEntity
-changed_at change id e = if has_id id e then change e else e
-
 -- the entity of this id is changed, and no other
 abbrev pub with_change : (LiveEntity → LiveEntity) → Entities → Id → Entities
-with_change change objects id = record objects { live = map (changed_at change id) objects.live }
+with_change change objects id = record objects { live = map (λ e. if has_id id e then change e else e) objects.live }
 
 abbrev pub with_what : (EntityData → EntityData) → LiveEntity → LiveEntity
 with_what change e = record e { what = change e.what }

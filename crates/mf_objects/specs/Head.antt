@@ -3,9 +3,6 @@ use Rattle.std.specs.Prelude.{ℕ, List, take, length}
 use Rattle.mf_objects.specs.declared.head.Head.{Head}
 use Rattle.mf_objects.specs.declared.limits.TheConstants.{HEAD_BYTES}
 
-abbrev pub head_with : ℕ → List ℕ → Head
-head_with most bytes = record { len = length bytes; first = take most bytes }
-
 -- how many bytes there are, and the first 64 of them
 unfoldable pub head_of : List ℕ → Head
-head_of bytes = head_with HEAD_BYTES bytes
+head_of bytes = record { len = length bytes; first = take HEAD_BYTES bytes }

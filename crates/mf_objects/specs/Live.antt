@@ -44,13 +44,9 @@ abbrev pub is_socket : EntityData → Bool
 is_socket (Socket socket) = true
 is_socket other = false
 
--- the id is held by this directory
-abbrev pub is_held_by : Id → Option Id → Bool
-is_held_by dir parent = option_map_or (λ parent. nat_eq parent.0 dir.0) parent false
-
 -- it is an entry of this directory
 abbrev pub is_entry : Id → EntityData → Bool
-is_entry dir (Vnode vnode) = is_held_by dir vnode.parent
+is_entry dir (Vnode vnode) = option_map_or (λ parent. nat_eq parent.0 dir.0) vnode.parent false
 is_entry dir other = false
 
 -- it was made by this process: pipes and sockets alone have a maker
@@ -136,9 +132,6 @@ entry_count objects dir = count_by (λ e. is_entry dir e.what) objects.live
 abbrev pub count_at : Entities → Id → ℕ
 count_at objects id = reading (count_of (entry_count objects id)) 0 (live_at objects id)
 
-abbrev pub label_of : Option LiveEntity → List LabelValue
-label_of found = option_map_or (λ e. e.label) found []
-
 -- the values of the four label slots
 abbrev pub label_at : Entities → Id → List LabelValue
-label_at objects id = label_of (live_at objects id)
+label_at objects id = option_map_or (λ e. e.label) (live_at objects id) []

@@ -1,5 +1,6 @@
 -- Which entities live, and what they hold, as contracts ask it.
-use Rattle.std.specs.Prelude.{◌≡◌, ◌≢◌, ◌<◌, ◌≤◌, ℕ, All, Bool, true, false, IsTrue, nat_le, List, Option, Some, None, find, slice_index_or, IfSome, IfNone}
+use Rattle.std.specs.Option.{option_map_or}
+use Rattle.std.specs.Prelude.{nat_eq, ◌≡◌, ◌≢◌, ◌<◌, ◌≤◌, ℕ, All, Bool, true, false, IsTrue, nat_le, List, Option, Some, None, find, slice_index_or, IfSome, IfNone}
 use Rattle.mf_elem.specs.declared.label.LabelValue.{LabelValue}
 use Rattle.mf_elem.specs.declared.label.TheConstants.{SLOTS}
 use Rattle.mf_elem.specs.declared.label.LabelValue.TheVariants as values
@@ -7,6 +8,10 @@ use Rattle.mf_objects.specs.declared.id.Id.{Id}
 use Rattle.mf_objects.specs.declared.entity.EntityData.{EntityData}
 use Rattle.mf_objects.specs.declared.entity.EntityData.TheVariants.{Vnode}
 use Rattle.mf_objects.specs.Live.{Entities, LiveEntity, id_of, label_at, live_at}
+
+-- the id is held by this directory
+abbrev pub is_held_by : Id → Option Id → Bool
+is_held_by dir parent = option_map_or (λ parent. nat_eq parent.0 dir.0) parent false
 
 abbrev pub is_vnode : EntityData → Bool
 is_vnode (Vnode vnode) = true

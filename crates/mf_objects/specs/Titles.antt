@@ -1,5 +1,6 @@
 -- The entries of directories in byte order, the paths of vnodes, and the titles of entities. All of it is this model's own.
-use Rattle.std.specs.Prelude.{ℕ, Bool, List, [], ◌∷◌, ◌++◌, Option, Some, None, take, insert, filter, map, reverse, codes, if◌then◌else◌, nat_eq}
+use Rattle.std.specs.Option.{option_map_or}
+use Rattle.std.specs.Prelude.{ℕ, List, [], ◌∷◌, ◌++◌, Option, Some, None, take, insert, filter, map, reverse, codes, if◌then◌else◌, nat_eq}
 use Rattle.std.specs.List.{position_or_len}
 use Rattle.std.specs.Ordering.{nat_cmp, is_le}
 use Rattle.std.specs.Cmp.Lexicographic.{slice_cmp}
@@ -9,18 +10,12 @@ use Rattle.mf_objects.specs.declared.entity.EntityData.{EntityData}
 use Rattle.mf_objects.specs.declared.entity.EntityData.TheVariants.{Process, Vnode, Pipe, Socket}
 use Rattle.mf_objects.specs.Live.{LiveEntity, Entities, is_entry, live_at}
 
--- the first name isn't after the second in byte order
-abbrev pub comes_first : List ℕ → List ℕ → Bool
-comes_first name other = is_le (slice_cmp nat_cmp name other)
-
--- names in byte order, with one more in its place
-abbrev pub with_name : List ℕ → List (List ℕ) → List (List ℕ)
-with_name name names = insert names (position_or_len (comes_first name) names) name
-
--- the names in byte order
+-- the names in byte order: each goes in front of the first that isn't before it
 abbrev pub in_byte_order : List (List ℕ) → List (List ℕ)
 in_byte_order [] = []
-in_byte_order (name ∷ names) = with_name name (in_byte_order names)
+in_byte_order (name ∷ names) =
+    let others = in_byte_order names in
+    insert others (position_or_len (λ other. is_le (slice_cmp nat_cmp name other)) others) name
 
 -- the names of the entries of a directory, by rising id
 abbrev pub entry_names : Id → List LiveEntity → List (List ℕ)
@@ -62,10 +57,6 @@ title_of path name (Vnode vnode) = codes "vnode:" ++ rooted_path path
 title_of path name (Pipe pipe) = codes "pipe:" ++ name
 title_of path name (Socket socket) = codes "socket:" ++ name
 
-abbrev pub title_in : List ℕ → Option LiveEntity → List ℕ
-title_in path None = []
-title_in path (Some e) = title_of path e.name e.what
-
 -- how outputs name the entity: its kind with its name, or with its path
 abbrev pub title_at : Entities → Id → List ℕ
-title_at objects id = title_in (path_at objects id) (live_at objects id)
+title_at objects id = option_map_or (λ e. title_of (path_at objects id) e.name e.what) (live_at objects id) []

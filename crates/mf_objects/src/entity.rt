@@ -4,6 +4,7 @@ ghost use Rattle.std.specs.Str.{bytes_eq};
 ghost use Rattle.mf_names.specs.declared.limits.TheConstants.{CONTENT_LIMIT, SCRIPT_LIMIT};
 ghost use Rattle.mf_objects.specs.Index as index;
 ghost use Rattle.mf_objects.specs.Live as live;
+ghost use Rattle.mf_objects.specs.Lives.{is_held_by};
 ghost use Rattle.mf_objects.specs.Changes as change;
 ghost use Rattle.mf_objects.specs.Fits.{FitsBytes, FitsMessage, HasMessage};
 ghost use Rattle.mf_objects.specs.Titles as title;
@@ -252,7 +253,7 @@ impl EntityData {
 }
 
 fn is_held_by(dir: Id, parent: Option<Id>) -> bool
-    ensures { result ≡ live.is_held_by dir parent }
+    ensures { result ≡ is_held_by dir parent }
 {
     match parent {
         None => false,

@@ -1,7 +1,4 @@
 pub mod LookingUp
-pub mod Asking
-pub mod Laws
-pub mod RelabelLaws
+pub mod Finding
 mod Relabelling
 mod Viewing
-pub mod Zipped

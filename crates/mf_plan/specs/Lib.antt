@@ -1,4 +1,5 @@
-pub mod Doing
+pub mod Checks
+pub mod Effect
 pub mod Ended
 pub mod Found
 pub mod Items
@@ -7,10 +8,13 @@ pub mod Loading
 pub mod Names
 pub mod Outline
 pub mod Path
+pub mod Payloads
 pub mod Places
 pub mod Plan
 pub mod Planned
 pub mod Relabels
+pub mod Row
+pub mod Rows
 pub mod Settings
 pub mod Viewing
 pub mod Views

@@ -30,22 +30,24 @@ abbrev pub request_for : Option Request → CheckOp → Option Request
 request_for None op = None
 request_for (Some request) op = if is_relabel op then Some request else None
 
--- the check as policies see it, by the request of its outline, and the views of its subject and its object
-abbrev pub item_by : Option Request → Check → SubjectView → Option ObjectView → Item
-item_by asked check subject object =
-    record { op = check.op; subject = subject; object = object; request = request_for asked check.op; privilege = check.privilege }
-
 -- the check as policies see it, in an outline with this request, and in one with none
 
 unfoldable pub item_asking : Entities → Option Request → Check → Item
-item_asking objects asked check = item_by asked check (subject_in objects check) (option_map (object_of objects) check.object)
+item_asking objects asked check =
+    record {
+      op = check.op;
+      subject = subject_in objects check;
+      object = option_map (object_of objects) check.object;
+      request = request_for asked check.op;
+      privilege = check.privilege;
+    }
 
 abbrev pub item_of : Entities → Check → Item
 item_of objects check = item_asking objects None check
 
 -- the plan as policies see it
-abbrev pub plan_in : Entities → Outline → Plan
-plan_in objects outline = record { items = map (item_asking objects outline.found.request) outline.checks; tail = outline.tail }
+abbrev pub outlined : Entities → Outline → Plan
+outlined objects outline = record { items = map (item_asking objects outline.found.request) outline.checks; tail = outline.tail }
 
 -- all that the check names is live
 pub record IsLiveCheck (objects : Entities) (check : Check) : Type 0 where

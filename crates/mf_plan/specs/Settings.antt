@@ -1,15 +1,13 @@
--- Which change of a policy's setting a call asks for, as sysctl(8) and ugidfw(8) do, and with which errno it is refused, by docs/MANUAL.md
--- (CALLS). The name of the sysctl is that of mac_bsdextended(4).
+-- Which change of a policy's setting a call asks for, as sysctl(8) and ugidfw(8) do, by docs/MANUAL.md (CALLS). The name of the sysctl is that of mac_bsdextended(4).
 use Rattle.std.specs.Prelude.{ℕ, Bool, true, false, if◌then◌else◌, List, Option, Some, None, option_and_then, option_map, codes}
 use Rattle.std.specs.Str.{bytes_eq}
 use Rattle.mf_errno.specs.declared.errno.Errno.{Errno}
-use Rattle.mf_errno.specs.declared.errno.Errno.TheVariants.{Success, Enoent, Einval}
+use Rattle.mf_errno.specs.declared.errno.Errno.TheVariants.{Success}
 use Rattle.mf_errno.specs.declared.module.Module.{Module}
 use Rattle.mf_errno.specs.declared.module.Module.TheVariants as modules
 use Rattle.mf_policy.specs.declared.settings.Change.{Change}
 use Rattle.mf_policy.specs.declared.settings.Change.TheVariants.{FirstMatch, RuleAdd, RuleSet, RuleRemove}
 use Rattle.mf_policy.specs.Registration.{Entry, is_listed}
-use Rattle.mf_policy.specs.Settings.{change_in}
 use Rattle.mf_calls.specs.declared.script.Call.{Call}
 use Rattle.mf_calls.specs.declared.script.Call.TheVariants as call
 
@@ -57,12 +55,3 @@ setting listed c = both (listed_module listed c) (change_asked c)
 abbrev pub unless_success : Errno → Option Errno
 unless_success Success = None
 unless_success other = Some other
-
--- why a change isn't made: no listed module has the setting, the setting has no such value, or the policy refuses it
-abbrev pub refusal_by : List Entry → Option Module → Option Change → Option Errno
-refusal_by listed None change = Some Enoent
-refusal_by listed (Some m) None = Some Einval
-refusal_by listed (Some m) (Some change) = unless_success (change_in m change listed).0.errno
-
-abbrev pub setting_refusal : List Entry → Call → Option Errno
-setting_refusal listed c = refusal_by listed (listed_module listed c) (change_asked c)

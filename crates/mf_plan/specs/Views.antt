@@ -1,22 +1,13 @@
 -- Live entities as policies see them, and what the framework tests of them, by the limits of docs/MANUAL.md (LIMITS).
 use Rattle.std.specs.Prelude.{ℕ, ◌+◌, Bool, nat_eq, nat_le, nat_lt, List, length, Option}
-use Rattle.mf_item.specs.declared.view.SubjectView.{SubjectView}
 use Rattle.mf_item.specs.declared.view.ObjectView.{ObjectView}
 use Rattle.mf_objects.specs.declared.id.Id.{Id}
 use Rattle.mf_objects.specs.declared.limits.TheConstants.{MOST_ENTITIES, MOST_MESSAGES}
-use Rattle.mf_objects.specs.Live.{Entities, id_of, live_named, is_process, is_pipe, is_socket, kind_at, file_at, cred_at, label_at, content_at, count_at}
+use Rattle.mf_objects.specs.Live.{Entities, id_of, live_named, is_process, is_pipe, is_socket, kind_at, file_at, label_at, content_at, count_at}
 
--- the entity of an id as a subject, and as an object
-
-unfoldable pub subject_of : Entities → Id → SubjectView
-subject_of objects id = record { id = id.0; cred = cred_at objects id; label = label_at objects id }
-
+-- the entity of an id as an object
 abbrev pub object_of : Entities → Id → ObjectView
 object_of objects id = record { id = id.0; kind = kind_at objects id; file = file_at objects id; label = label_at objects id }
-
--- a socket that sends: its id and label, with the credential of the process that calls
-unfoldable pub sender_of : Entities → SubjectView → Id → SubjectView
-sender_of objects caller socket = record { id = socket.0; cred = caller.cred; label = label_at objects socket }
 
 -- the live process, pipe or socket of a name
 

@@ -5,13 +5,12 @@ use Rattle.mf_errno.specs.Names.{module_named}
 use Rattle.mf_errno.specs.declared.errno.Errno.{Errno}
 use Rattle.mf_errno.specs.declared.errno.Errno.TheVariants as errno
 use Rattle.mf_errno.specs.declared.module.Module.{Module}
-use Rattle.mf_errno.specs.declared.module.Module.TheVariants as modules
 use Rattle.mf_errno.specs.declared.privilege.Priv.TheVariants as privilege
 use Rattle.mf_elem.specs.declared.label.Request.{Request}
 use Rattle.mf_item.specs.declared.operation.CheckOp.TheVariants as op
 use Rattle.mf_item.specs.declared.view.Kind.{Kind}
 use Rattle.mf_item.specs.declared.view.Kind.TheVariants as kinds
-use Rattle.mf_item.specs.Item.{Item}
+use Rattle.mf_plan.specs.declared.outline.Check.{Check}
 use Rattle.mf_objects.specs.declared.id.Id.{Id}
 use Rattle.mf_objects.specs.Live.{Entities, cred_at}
 use Rattle.mf_policy.specs.Registration.{is_listed}
@@ -20,41 +19,28 @@ use Rattle.mf_plan.specs.declared.lookup.Lookup.{Lookup}
 use Rattle.mf_plan.specs.declared.state.State.{State}
 use Rattle.mf_plan.specs.declared.target.Target.{Target}
 use Rattle.mf_plan.specs.Path.{lookup_along, found_at, free_at, entry_at}
-use Rattle.mf_plan.specs.Plan.{on, of_subject, privileged}
+use Rattle.mf_plan.specs.Checks.{on, alone, privileged}
 use Rattle.mf_plan.specs.Relabels.{claimed_in}
-use Rattle.mf_plan.specs.Views.{subject_of, process_named, pipe_named, socket_named}
+use Rattle.mf_plan.specs.Views.{process_named, pipe_named, socket_named}
 
 -- What a call is about
 
 pub data Place : Type 0 where
-  -- nothing
-  Nothing : Place
-  -- the process that calls
-  Caller : Place
-  -- the process, pipe or socket of a name
-  Named : Kind → List ℕ → Place
-  -- a name that no process, pipe or socket has
-  Unused : Kind → List ℕ → Place
-  -- a file or directory
-  File : List (List ℕ) → Place
-  -- a free name in a directory
-  Free : List (List ℕ) → Place
-  -- a directory and its entry
-  Entry : List (List ℕ) → Place
+  -- nothing; the process that calls
+  Nothing Caller : Place
+  -- the process, pipe or socket of a name; a name that none of that kind has
+  Named Unused : Kind → List ℕ → Place
+  -- a file or directory; a free name in a directory; a directory and its entry
+  File Free Entry : List (List ℕ) → Place
   -- one socket, and another that it reaches
   Sockets : List ℕ → List ℕ → Place
   -- a module that is listed; one to be loaded; one to be unloaded
   Listed : Module → Place
-  Loading : List ℕ → Place
-  Unloading : List ℕ → Place
+  Loading Unloading : List ℕ → Place
   -- a module's setting, and the change that it is to have
   Setting : Option Module → Option Change → Place
   -- what a text asks of the label of an entity of that kind
   Asking : Kind → List ℕ → Place → Place
-
--- a change of the rules about files
-abbrev pub rules_changed : Change → Place
-rules_changed change = Setting (Some modules.Bsdextended) (Some change)
 
 -- what is found in a place
 abbrev pub At : Place → Type 0
@@ -74,7 +60,7 @@ At other = Unit {0}
 
 -- the checks on the way to something, and what is there, or with which errno it isn't
 pub record Way (A : Type 0) : Type 0 where
-  pub checks : List Item
+  pub checks : List Check
   pub there : Result A Errno
 
 -- no check on the way
@@ -97,8 +83,8 @@ abbrev pub with_first : {A B : Type 0} → A → Way B → Way (A × B)
 with_first a way = record { checks = way.checks; there = go_on way.there (λ b. Ok (a, b)) }
 
 -- this check comes first
-abbrev pub asking : {A : Type 0} → Item → Way A → Way A
-asking item way = record way { checks = item ∷ way.checks }
+abbrev pub asking : {A : Type 0} → Check → Way A → Way A
+asking check way = record way { checks = check ∷ way.checks }
 
 abbrev pub named : Entities → Kind → List ℕ → Option Id
 named o kinds.Process name = process_named o name
@@ -112,9 +98,8 @@ missing kinds.Process = errno.Esrch
 missing other = errno.Enoent
 
 -- along a path, each directory is looked into
-abbrev pub along : {A : Type 0} → State → Id → (Target → Result A Errno) → Lookup → Way A
-along s me place walk =
-    record { checks = map (on s.objects (subject_of s.objects me) op.VnodeLookup) walk.lookups; there = place walk.target }
+abbrev pub along : {A : Type 0} → Id → (Target → Result A Errno) → Lookup → Way A
+along me place walk = record { checks = map (on me op.VnodeLookup) walk.lookups; there = place walk.target }
 
 -- root alone changes a listed module's setting, to a value that it has
 abbrev pub change_at : State → Id → Option Module → Option Change → Result (Module × Change) Errno
@@ -129,17 +114,17 @@ look_up s me Nothing = straight (Ok tt)
 look_up s me Caller = straight (Ok me)
 look_up s me (Named kind name) = straight (or_fail (missing kind) (named s.objects kind name))
 look_up s me (Unused kind name) = straight (if is_some (named s.objects kind name) then Err errno.Eexist else Ok tt)
-look_up s me (File path) = along s me found_at (lookup_along s.objects path)
-look_up s me (Free path) = along s me free_at (lookup_along s.objects path)
-look_up s me (Entry path) = along s me entry_at (lookup_along s.objects path)
+look_up s me (File path) = along me found_at (lookup_along s.objects path)
+look_up s me (Free path) = along me free_at (lookup_along s.objects path)
+look_up s me (Entry path) = along me entry_at (lookup_along s.objects path)
 look_up s me (Sockets from to) =
     then_way (or_fail errno.Enoent (socket_named s.objects from)) (λ from.
-    asking (on s.objects (subject_of s.objects me) op.SocketSend from) (straight (go_on (or_fail errno.Enoent (socket_named s.objects to)) (λ to. Ok (from, to)))))
+    asking (on me op.SocketSend from) (straight (go_on (or_fail errno.Enoent (socket_named s.objects to)) (λ to. Ok (from, to)))))
 look_up s me (Listed m) = straight (if is_listed m s.specs then Ok tt else Err errno.Enoent)
 look_up s me (Loading name) =
-    asking (privileged (subject_of s.objects me) privilege.KldLoad) (straight (or_fail errno.Enoent (module_named name)))
+    asking (privileged me privilege.KldLoad) (straight (or_fail errno.Enoent (module_named name)))
 look_up s me (Unloading name) =
-    asking (privileged (subject_of s.objects me) privilege.KldUnload) (asking (of_subject (subject_of s.objects me) op.KldUnload)
+    asking (privileged me privilege.KldUnload) (asking (alone me op.KldUnload)
     (straight (or_fail errno.Enoent (module_named name))))
 look_up s me (Setting m change) = straight (change_at s me m change)
 look_up s me (Asking kind text place) =
@@ -155,3 +140,8 @@ target_in (Entry path) entry = Some entry.1
 target_in (Sockets from to) ends = Some ends.1
 target_in (Asking kind text place) asked = target_in place asked.1
 target_in other found = None
+
+-- what is asked of a label
+abbrev pub request_in : (place : Place) → At place → Option Request
+request_in (Asking kind text place) asked = Some asked.0
+request_in other found = None

@@ -1,17 +1,21 @@
-//! The checks of calls on files and directories.
-ghost use Rattle.std.specs.Prelude.{◌≡◌, ◌≤◌, [], map, length, All, IfOk};
+//! Calls on files and directories: what a path leads to, and the checks and tests there.
+ghost use Rattle.std.specs.Prelude.{◌≡◌, ◌≤◌, [], ◌∷◌, map, length, All, IfOk};
 ghost use Rattle.mf_item.specs.declared.operation.CheckOp.TheVariants as op;
-ghost use Rattle.mf_objects.specs.Lives.{IsLive, is_directory};
+ghost use Rattle.mf_objects.specs.Lives.{IsLive, is_directory, is_vnode};
+ghost use Rattle.mf_calls.specs.declared.script.Call.TheVariants as call;
+ghost use Rattle.mf_plan.specs.Checks.{on};
+ghost use Rattle.mf_plan.specs.Ended.{ended, end_of, end_for};
+ghost use Rattle.mf_plan.specs.Found.{target_at};
 ghost use Rattle.mf_plan.specs.Outline as outline;
-ghost use Rattle.mf_plan.specs.Path as paths;
-ghost use Rattle.mf_plan.specs.Places.{free_dir_at, entry_at_path, IsTarget};
 ghost use Rattle.mf_plan.specs.Path.{lookup_along};
-ghost use Rattle.mf_plan.specs.Plan as spec;
-ghost use Rattle.mf_plan.specs.Ended.{ended};
-ghost use Rattle.mf_plan.specs.Views as view;
+ghost use Rattle.mf_plan.specs.Places.{IsTarget};
+ghost use Rattle.mf_plan.specs.Row as row;
+ghost use Rattle.mf_plan.specs.Ways.{look_up};
+ghost use Rattle.mf_plan.specs.Ways.Place.{Entry, File, Free};
 
 use crate::lookup::lookup_along;
 use crate::outline::{Checks, ask};
+use crate::state::State;
 use crate::target::Target;
 use crate::views::{is_full, overfills_file};
 use mf_errno::Errno;
@@ -19,12 +23,13 @@ use mf_item::CheckOp;
 use mf_names::{PATH_LIMIT, Path, SCRIPT_LIMIT};
 use mf_objects::{Id, Objects};
 
+// What a path leads to
+
 /// Looks the path up, and adds the check of each component's look-up.
-fn look_up(objects: &Objects, caller: Id, path: &Path, checks: &mut Checks) -> Target
+fn walk(objects: &Objects, caller: Id, path: &Path, checks: &mut Checks) -> Target
     requires empty { checks.old ≡ [] }
     requires asking { outline.IsAsking objects.now caller checks.old }
-    ensures checks { map (outline.item_of objects.now) checks.new
-        ≡ map (spec.on objects.now (view.subject_of objects.now caller) op.VnodeLookup) (lookup_along objects.now path.now).lookups }
+    ensures checks { checks.new ≡ map (on caller op.VnodeLookup) (lookup_along objects.now path.now).lookups }
     ensures few { length checks.new ≤ PATH_LIMIT }
     ensures target { result ≡ (lookup_along objects.now path.now).target }
     ensures live { IsTarget objects.now result }
@@ -40,8 +45,7 @@ fn ask_lookups(objects: &Objects, caller: Id, dirs: &[Id], checks: &mut Checks)
     requires live { All (λ dir. IsLive is_directory objects.now dir) dirs.now }
     requires empty { checks.old ≡ [] }
     requires asking { outline.IsAsking objects.now caller checks.old }
-    ensures checks { map (outline.item_of objects.now) checks.new
-        ≡ map (spec.on objects.now (view.subject_of objects.now caller) op.VnodeLookup) dirs.now }
+    ensures checks { checks.new ≡ map (on caller op.VnodeLookup) dirs.now }
     ensures few { length checks.new ≡ length dirs.now }
     ensures asking { outline.IsAsking objects.now caller checks.new }
 {
@@ -50,163 +54,190 @@ fn ask_lookups(objects: &Objects, caller: Id, dirs: &[Id], checks: &mut Checks)
     }
 }
 
+/// The file or directory.
+fn file(state: &State, caller: Id, path: &Path, checks: &mut Checks) -> Result<Id, Errno>
+    requires empty { checks.old ≡ [] }
+    requires asking { outline.IsAsking state.now.objects caller checks.old }
+    ensures way { checks.new ≡ (look_up state.now caller (File path.now)).checks }
+    ensures there { result ≡ (look_up state.now caller (File path.now)).there }
+    ensures live { IfOk result (λ id. IsLive is_vnode state.now.objects id) }
+    ensures few { length checks.new ≤ PATH_LIMIT }
+    ensures asking { outline.IsAsking state.now.objects caller checks.new }
+{
+    walk(&state.objects, caller, path, checks).found(&state.objects)
+}
+
+/// The directory in which the last name is free.
+fn free(state: &State, caller: Id, path: &Path, checks: &mut Checks) -> Result<Id, Errno>
+    requires empty { checks.old ≡ [] }
+    requires asking { outline.IsAsking state.now.objects caller checks.old }
+    ensures way { checks.new ≡ (look_up state.now caller (Free path.now)).checks }
+    ensures there { result ≡ (look_up state.now caller (Free path.now)).there }
+    ensures live { IfOk result (λ dir. IsLive is_directory state.now.objects dir) }
+    ensures few { length checks.new ≤ PATH_LIMIT }
+    ensures asking { outline.IsAsking state.now.objects caller checks.new }
+{
+    walk(&state.objects, caller, path, checks).free()
+}
+
+/// The directory, and its entry.
+fn entry(state: &State, caller: Id, path: &Path, checks: &mut Checks) -> Result<(Id, Id), Errno>
+    requires empty { checks.old ≡ [] }
+    requires asking { outline.IsAsking state.now.objects caller checks.old }
+    ensures way { checks.new ≡ (look_up state.now caller (Entry path.now)).checks }
+    ensures there { result ≡ (look_up state.now caller (Entry path.now)).there }
+    ensures live { IfOk result (λ found. IsLive is_directory state.now.objects found.0 × IsLive is_vnode state.now.objects found.1) }
+    ensures few { length checks.new ≤ PATH_LIMIT }
+    ensures asking { outline.IsAsking state.now.objects caller checks.new }
+{
+    walk(&state.objects, caller, path, checks).entry()
+}
+
+// Calls
+
 /// One check of what is at the end of the path.
 pub(crate) fn on_file(
-    objects: &Objects,
+    state: &State,
     caller: Id,
     op: CheckOp,
     path: &Path,
     checks: &mut Checks,
 ) -> Result<Option<Id>, Errno>
     requires empty { checks.old ≡ [] }
-    requires asking { outline.IsAsking objects.now caller checks.old }
-    ensures plan { ended (map (outline.item_of objects.now) checks.new) result
-        ≡ spec.along objects.now (view.subject_of objects.now caller) paths.found_at
-        (spec.check_row objects.now (view.subject_of objects.now caller) op) (lookup_along objects.now path.now) }
-    ensures target { IfOk result (λ target. target ≡ paths.file_at_path objects.now path.now) }
-    ensures asking { outline.IsAsking objects.now caller checks.new }
+    requires asking { outline.IsAsking state.now.objects caller checks.old }
+    ensures row { ended checks.new result ≡ end_of (row.through (look_up state.now caller (File path.now)) (λ id. row.ask (on caller op id) row.done)) }
+    ensures target { IfOk result (λ target. target ≡ target_at state.now caller (File path.now)) }
+    ensures asking { outline.IsAsking state.now.objects caller checks.new }
 {
-    let id = look_up(objects, caller, path, checks).found(objects)?;
-    ask(objects, caller, op, id, checks);
+    let id = file(state, caller, path, checks)?;
+    ask(&state.objects, caller, op, id, checks);
     Ok(Some(id))
 }
 
 pub(crate) fn exec(
-    objects: &Objects,
+    state: &State,
     caller: Id,
     path: &Path,
     checks: &mut Checks,
 ) -> Result<Option<Id>, Errno>
     requires empty { checks.old ≡ [] }
-    requires asking { outline.IsAsking objects.now caller checks.old }
-    ensures plan { ended (map (outline.item_of objects.now) checks.new) result
-        ≡ spec.along objects.now (view.subject_of objects.now caller) paths.found_at
-        (spec.exec_row objects.now (view.subject_of objects.now caller)) (lookup_along objects.now path.now) }
-    ensures target { IfOk result (λ target. target ≡ paths.file_at_path objects.now path.now) }
-    ensures asking { outline.IsAsking objects.now caller checks.new }
+    requires asking { outline.IsAsking state.now.objects caller checks.old }
+    ensures row { ended checks.new result ≡ end_for state.now caller (call.Exec path.now) }
+    ensures target { IfOk result (λ target. target ≡ target_at state.now caller (File path.now)) }
+    ensures asking { outline.IsAsking state.now.objects caller checks.new }
 {
-    let id = look_up(objects, caller, path, checks).found(objects)?;
-    if objects.file(id).dir {
+    let id = file(state, caller, path, checks)?;
+    if state.objects.file(id).dir {
         return Err(Errno::Eacces);
     }
-    ask(objects, caller, CheckOp::VnodeExec, id, checks);
+    ask(&state.objects, caller, CheckOp::VnodeExec, id, checks);
     Ok(Some(id))
 }
 
 /// The checks and tests of `create` and `mkdir`.
 pub(crate) fn create(
-    objects: &Objects,
+    state: &State,
     caller: Id,
     path: &Path,
     checks: &mut Checks,
 ) -> Result<Option<Id>, Errno>
     requires empty { checks.old ≡ [] }
-    requires asking { outline.IsAsking objects.now caller checks.old }
-    ensures plan { ended (map (outline.item_of objects.now) checks.new) result
-        ≡ spec.along objects.now (view.subject_of objects.now caller) paths.free_at
-        (spec.create_row objects.now (view.subject_of objects.now caller)) (lookup_along objects.now path.now) }
-    ensures target { IfOk result (λ target. target ≡ free_dir_at objects.now path.now) }
-    ensures asking { outline.IsAsking objects.now caller checks.new }
+    requires asking { outline.IsAsking state.now.objects caller checks.old }
+    ensures row { ended checks.new result ≡ end_for state.now caller (call.Create path.now) }
+    ensures target { IfOk result (λ target. target ≡ target_at state.now caller (Free path.now)) }
+    ensures asking { outline.IsAsking state.now.objects caller checks.new }
 {
-    let dir = look_up(objects, caller, path, checks).free()?;
-    ask(objects, caller, CheckOp::VnodeCreate, dir, checks);
-    if is_full(objects) {
+    let dir = free(state, caller, path, checks)?;
+    ask(&state.objects, caller, CheckOp::VnodeCreate, dir, checks);
+    if is_full(&state.objects) {
         return Err(Errno::Enfile);
     }
     Ok(Some(dir))
 }
 
 pub(crate) fn read(
-    objects: &Objects,
+    state: &State,
     caller: Id,
     path: &Path,
     checks: &mut Checks,
 ) -> Result<Option<Id>, Errno>
     requires empty { checks.old ≡ [] }
-    requires asking { outline.IsAsking objects.now caller checks.old }
-    ensures plan { ended (map (outline.item_of objects.now) checks.new) result
-        ≡ spec.along objects.now (view.subject_of objects.now caller) paths.found_at
-        (spec.read_row objects.now (view.subject_of objects.now caller)) (lookup_along objects.now path.now) }
-    ensures target { IfOk result (λ target. target ≡ paths.file_at_path objects.now path.now) }
-    ensures asking { outline.IsAsking objects.now caller checks.new }
+    requires asking { outline.IsAsking state.now.objects caller checks.old }
+    ensures row { ended checks.new result ≡ end_for state.now caller (call.Read path.now) }
+    ensures target { IfOk result (λ target. target ≡ target_at state.now caller (File path.now)) }
+    ensures asking { outline.IsAsking state.now.objects caller checks.new }
 {
-    let id = look_up(objects, caller, path, checks).found(objects)?;
-    if objects.file(id).dir {
+    let id = file(state, caller, path, checks)?;
+    if state.objects.file(id).dir {
         return Err(Errno::Eisdir);
     }
-    ask(objects, caller, CheckOp::VnodeOpenRead, id, checks);
-    ask(objects, caller, CheckOp::VnodeRead, id, checks);
+    ask(&state.objects, caller, CheckOp::VnodeOpenRead, id, checks);
+    ask(&state.objects, caller, CheckOp::VnodeRead, id, checks);
     Ok(Some(id))
 }
 
 pub(crate) fn write(
-    objects: &Objects,
+    state: &State,
     caller: Id,
     path: &Path,
     text: &[u8],
     checks: &mut Checks,
 ) -> Result<Option<Id>, Errno>
-    requires text { length text.now ≤ SCRIPT_LIMIT }
     requires empty { checks.old ≡ [] }
-    requires asking { outline.IsAsking objects.now caller checks.old }
-    ensures plan { ended (map (outline.item_of objects.now) checks.new) result
-        ≡ spec.along objects.now (view.subject_of objects.now caller) paths.found_at
-        (spec.write_row objects.now (view.subject_of objects.now caller) text.now) (lookup_along objects.now path.now) }
-    ensures target { IfOk result (λ target. target ≡ paths.file_at_path objects.now path.now) }
-    ensures asking { outline.IsAsking objects.now caller checks.new }
+    requires text { length text.now ≤ SCRIPT_LIMIT }
+    requires asking { outline.IsAsking state.now.objects caller checks.old }
+    ensures row { ended checks.new result ≡ end_for state.now caller (call.Write path.now text.now) }
+    ensures target { IfOk result (λ target. target ≡ target_at state.now caller (File path.now)) }
+    ensures asking { outline.IsAsking state.now.objects caller checks.new }
 {
-    let id = look_up(objects, caller, path, checks).found(objects)?;
-    if objects.file(id).dir {
+    let id = file(state, caller, path, checks)?;
+    if state.objects.file(id).dir {
         return Err(Errno::Eisdir);
     }
-    ask(objects, caller, CheckOp::VnodeOpenWrite, id, checks);
-    ask(objects, caller, CheckOp::VnodeWrite, id, checks);
-    if overfills_file(objects, text, id) {
+    ask(&state.objects, caller, CheckOp::VnodeOpenWrite, id, checks);
+    ask(&state.objects, caller, CheckOp::VnodeWrite, id, checks);
+    if overfills_file(&state.objects, text, id) {
         return Err(Errno::Efbig);
     }
     Ok(Some(id))
 }
 
 pub(crate) fn readdir(
-    objects: &Objects,
+    state: &State,
     caller: Id,
     path: &Path,
     checks: &mut Checks,
 ) -> Result<Option<Id>, Errno>
     requires empty { checks.old ≡ [] }
-    requires asking { outline.IsAsking objects.now caller checks.old }
-    ensures plan { ended (map (outline.item_of objects.now) checks.new) result
-        ≡ spec.along objects.now (view.subject_of objects.now caller) paths.found_at
-        (spec.readdir_row objects.now (view.subject_of objects.now caller)) (lookup_along objects.now path.now) }
-    ensures target { IfOk result (λ target. target ≡ paths.file_at_path objects.now path.now) }
-    ensures asking { outline.IsAsking objects.now caller checks.new }
+    requires asking { outline.IsAsking state.now.objects caller checks.old }
+    ensures row { ended checks.new result ≡ end_for state.now caller (call.Readdir path.now) }
+    ensures target { IfOk result (λ target. target ≡ target_at state.now caller (File path.now)) }
+    ensures asking { outline.IsAsking state.now.objects caller checks.new }
 {
-    let id = look_up(objects, caller, path, checks).found(objects)?;
-    if !objects.file(id).dir {
+    let id = file(state, caller, path, checks)?;
+    if !state.objects.file(id).dir {
         return Err(Errno::Enotdir);
     }
-    ask(objects, caller, CheckOp::VnodeReaddir, id, checks);
+    ask(&state.objects, caller, CheckOp::VnodeReaddir, id, checks);
     Ok(Some(id))
 }
 
 pub(crate) fn unlink(
-    objects: &Objects,
+    state: &State,
     caller: Id,
     path: &Path,
     checks: &mut Checks,
 ) -> Result<Option<Id>, Errno>
     requires empty { checks.old ≡ [] }
-    requires asking { outline.IsAsking objects.now caller checks.old }
-    ensures plan { ended (map (outline.item_of objects.now) checks.new) result
-        ≡ spec.along objects.now (view.subject_of objects.now caller) paths.entry_at
-        (spec.unlink_row objects.now (view.subject_of objects.now caller)) (lookup_along objects.now path.now) }
-    ensures target { IfOk result (λ target. target ≡ entry_at_path objects.now path.now) }
-    ensures asking { outline.IsAsking objects.now caller checks.new }
+    requires asking { outline.IsAsking state.now.objects caller checks.old }
+    ensures row { ended checks.new result ≡ end_for state.now caller (call.Unlink path.now) }
+    ensures target { IfOk result (λ target. target ≡ target_at state.now caller (Entry path.now)) }
+    ensures asking { outline.IsAsking state.now.objects caller checks.new }
 {
-    let (dir, id) = look_up(objects, caller, path, checks).entry()?;
-    ask(objects, caller, CheckOp::VnodeUnlinkDir, dir, checks);
-    ask(objects, caller, CheckOp::VnodeUnlink, id, checks);
-    if objects.count(id) > 0 {
+    let (dir, id) = entry(state, caller, path, checks)?;
+    ask(&state.objects, caller, CheckOp::VnodeUnlinkDir, dir, checks);
+    ask(&state.objects, caller, CheckOp::VnodeUnlink, id, checks);
+    if state.objects.count(id) > 0 {
         return Err(Errno::Enotempty);
     }
     Ok(Some(id))

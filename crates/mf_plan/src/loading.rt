@@ -1,13 +1,10 @@
-//! Which modules can be loaded and unloaded, and the checks of the calls that do it.
-ghost use Rattle.std.specs.Prelude.{◌≡◌, [], map, IfOk, None};
-ghost use Rattle.mf_errno.specs.Names.{module_named};
-ghost use Rattle.mf_errno.specs.declared.privilege.Priv.TheVariants as privilege;
-ghost use Rattle.mf_item.specs.declared.operation.CheckOp.TheVariants as op;
+//! The checks and tests of the calls that load and unload modules.
+ghost use Rattle.std.specs.Prelude.{◌≡◌, [], IfOk, None, Some};
+ghost use Rattle.mf_calls.specs.declared.script.Call.TheVariants as call;
+ghost use Rattle.mf_plan.specs.Ended.{ended, end_of, end_for};
 ghost use Rattle.mf_plan.specs.Loading as spec;
 ghost use Rattle.mf_plan.specs.Outline as outline;
-ghost use Rattle.mf_plan.specs.Plan as plan;
-ghost use Rattle.mf_plan.specs.Ended.{ended};
-ghost use Rattle.mf_plan.specs.Views as view;
+ghost use Rattle.mf_plan.specs.Row as row;
 
 use crate::outline::{Checks, ask_alone, ask_privilege};
 use crate::state::State;
@@ -18,7 +15,7 @@ use mf_policy::{load_fault, unload_fault};
 
 /// How a load of the module ends.
 fn end_of_load(state: &State, wanted: Module) -> Result<Option<Id>, Errno>
-    ensures plan { ended [] result ≡ plan.refuse_by (spec.load_refusal state.now wanted) plan.proceed }
+    ensures row { ended [] result ≡ end_of (row.refuse_by (spec.load_refusal state.now wanted) row.done) }
     ensures target { IfOk result (λ target. target ≡ None) }
 {
     match load_fault(state.booted, &state.specs, state.numbers.given(), wanted) {
@@ -27,19 +24,17 @@ fn end_of_load(state: &State, wanted: Module) -> Result<Option<Id>, Errno>
     }
 }
 
-/// How an unload of the module of that name ends.
-fn end_of_unload(state: &State, name: &str) -> Result<Option<Id>, Errno>
-    ensures plan { ended [] result ≡ plan.refuse_by (spec.unload_refusal state.now (module_named name.now)) plan.proceed }
+/// How an unload of the module ends.
+fn end_of_unload(state: &State, wanted: Module) -> Result<Option<Id>, Errno>
+    ensures row { ended [] result ≡ end_of (row.refuse_by (spec.unload_refusal state.now (Some wanted)) row.done) }
     ensures target { IfOk result (λ target. target ≡ None) }
 {
-    let wanted = Module::from_name(name).ok_or(Errno::Enoent)?;
     match unload_fault(&state.specs, wanted) {
         None => Ok(None),
         Some(fault) => Err(fault.errno()),
     }
 }
 
-/// The checks and tests of `kldload`.
 pub(crate) fn kldload(
     state: &State,
     caller: Id,
@@ -48,9 +43,7 @@ pub(crate) fn kldload(
 ) -> Result<Option<Id>, Errno>
     requires empty { checks.old ≡ [] }
     requires asking { outline.IsAsking state.now.objects caller checks.old }
-    ensures plan { ended (map (outline.item_of state.now.objects) checks.new) result
-        ≡ plan.ask (plan.privileged (view.subject_of state.now.objects caller) privilege.KldLoad)
-        (plan.load_row state.now (view.subject_of state.now.objects caller) (module_named name.now)) }
+    ensures row { ended checks.new result ≡ end_for state.now caller (call.Kldload name.now) }
     ensures target { IfOk result (λ target. target ≡ None) }
     ensures asking { outline.IsAsking state.now.objects caller checks.new }
 {
@@ -60,7 +53,6 @@ pub(crate) fn kldload(
     end_of_load(state, wanted)
 }
 
-/// The checks and tests of `kldunload`.
 pub(crate) fn kldunload(
     state: &State,
     caller: Id,
@@ -69,13 +61,12 @@ pub(crate) fn kldunload(
 ) -> Result<Option<Id>, Errno>
     requires empty { checks.old ≡ [] }
     requires asking { outline.IsAsking state.now.objects caller checks.old }
-    ensures plan { ended (map (outline.item_of state.now.objects) checks.new) result
-        ≡ plan.ask (plan.privileged (view.subject_of state.now.objects caller) privilege.KldUnload)
-        (plan.ask (plan.of_subject (view.subject_of state.now.objects caller) op.KldUnload) (plan.refuse_by (spec.unload_refusal state.now (module_named name.now)) plan.proceed)) }
+    ensures row { ended checks.new result ≡ end_for state.now caller (call.Kldunload name.now) }
     ensures target { IfOk result (λ target. target ≡ None) }
     ensures asking { outline.IsAsking state.now.objects caller checks.new }
 {
     ask_privilege(&state.objects, caller, Priv::KldUnload, checks);
     ask_alone(&state.objects, caller, CheckOp::KldUnload, checks);
-    end_of_unload(state, name)
+    let wanted = Module::from_name(name).ok_or(Errno::Enoent)?;
+    end_of_unload(state, wanted)
 }

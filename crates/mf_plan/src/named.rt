@@ -1,128 +1,147 @@
-//! The checks of calls on processes, pipes and sockets, which go by name.
-ghost use Rattle.std.specs.Prelude.{◌≡◌, ◌≤◌, [], length, map, IfOk, None};
+//! Calls on processes, pipes and sockets, which go by name.
+ghost use Rattle.std.specs.Prelude.{◌≡◌, ◌≤◌, [], length, if◌then◌else◌, is_some, Err, IfOk, None, Ok};
 ghost use Rattle.mf_errno.specs.declared.errno.Errno.TheVariants as errno;
-ghost use Rattle.mf_item.specs.declared.operation.CheckOp.TheVariants as op;
+ghost use Rattle.mf_item.specs.declared.view.Kind.TheVariants as kinds;
 ghost use Rattle.mf_calls.specs.WellFormed.{IsName};
-ghost use Rattle.mf_plan.specs.Names.{child_name};
+ghost use Rattle.mf_calls.specs.declared.script.Call.TheVariants as call;
+ghost use Rattle.mf_plan.specs.Checks.{on};
+ghost use Rattle.mf_plan.specs.Ended.{ended, end_of, end_by, end_for};
+ghost use Rattle.mf_plan.specs.Found.{target_at};
 ghost use Rattle.mf_plan.specs.Outline as outline;
-ghost use Rattle.mf_plan.specs.Plan as spec;
-ghost use Rattle.mf_plan.specs.Ended.{ended};
-ghost use Rattle.mf_plan.specs.Views as view;
+ghost use Rattle.mf_plan.specs.Row as row;
+ghost use Rattle.mf_plan.specs.Ways.{look_up, straight};
+ghost use Rattle.mf_plan.specs.Ways.Place.{Named, Sockets};
 
 use crate::names::child_name;
 use crate::outline::{Checks, ask, ask_delivery};
+use crate::state::State;
 use crate::views::{is_full, overfills_pipe};
 use mf_errno::Errno;
 use mf_item::CheckOp;
 use mf_names::{Name, SCRIPT_LIMIT};
-use mf_objects::{Id, MOST_MESSAGES, Objects};
+use mf_objects::{Id, MOST_MESSAGES};
 
 /// The tests of a call that makes an entity: EEXIST where `holder` has its name already, ENFILE where no further entity
 /// can be made.
-pub(crate) fn make(objects: &Objects, holder: Option<Id>) -> Result<Option<Id>, Errno>
-    ensures plan { ended [] result ≡ spec.make_row objects.now holder }
+pub(crate) fn make(state: &State, holder: Option<Id>) -> Result<Option<Id>, Errno>
+    ensures row { ended [] result
+        ≡ end_of (row.through (straight (if is_some holder then Err errno.Eexist else Ok (tt {0}))) (λ free. row.if_room state.now row.done)) }
     ensures target { IfOk result (λ target. target ≡ None) }
 {
     if holder.is_some() {
         return Err(Errno::Eexist);
     }
-    if is_full(objects) {
+    if is_full(&state.objects) {
         return Err(Errno::Enfile);
     }
     Ok(None)
 }
 
 /// The tests of `fork`.
-pub(crate) fn fork(objects: &Objects, task: &str, child: &str) -> Result<Option<Id>, Errno>
+pub(crate) fn fork(state: &State, task: &str, _caller: Id, child: &str) -> Result<Option<Id>, Errno>
     requires task { IsName task.now }
     requires child { IsName child.now }
-    ensures plan { ended [] result
-        ≡ spec.make_row objects.now (view.process_named objects.now (child_name task.now child.now)) }
+    ensures row { ended [] result ≡ end_by state.now task.now _caller (call.Fork child.now) }
     ensures target { IfOk result (λ target. target ≡ None) }
 {
     let name = child_name(task, child);
-    make(objects, objects.process(name.as_str()))
+    make(state, state.objects.process(name.as_str()))
 }
 
 /// One check of a process.
 pub(crate) fn on_process(
-    objects: &Objects,
+    state: &State,
     caller: Id,
     op: CheckOp,
     name: &Name,
     checks: &mut Checks,
 ) -> Result<Option<Id>, Errno>
     requires empty { checks.old ≡ [] }
-    requires asking { outline.IsAsking objects.now caller checks.old }
-    ensures plan { ended (map (outline.item_of objects.now) checks.new) result
-        ≡ spec.found errno.Esrch (spec.check_row objects.now (view.subject_of objects.now caller) op) (view.process_named objects.now name.now) }
-    ensures target { IfOk result (λ target. target ≡ None) }
-    ensures asking { outline.IsAsking objects.now caller checks.new }
+    requires asking { outline.IsAsking state.now.objects caller checks.old }
+    ensures row { ended checks.new result ≡ end_of (row.through (look_up state.now caller (Named kinds.Process name.now)) (λ id. row.ask (on caller op id) row.done)) }
+    ensures target { IfOk result (λ target. target ≡ target_at state.now caller (Named kinds.Process name.now)) }
+    ensures asking { outline.IsAsking state.now.objects caller checks.new }
 {
-    let id = objects.process(name.as_str()).ok_or(Errno::Esrch)?;
-    ask(objects, caller, op, id, checks);
-    Ok(None)
+    let id = state.objects.process(name.as_str()).ok_or(Errno::Esrch)?;
+    ask(&state.objects, caller, op, id, checks);
+    Ok(Some(id))
 }
 
 /// One check of a pipe.
 pub(crate) fn on_pipe(
-    objects: &Objects,
+    state: &State,
     caller: Id,
     op: CheckOp,
-    name: &str,
+    name: &Name,
     checks: &mut Checks,
 ) -> Result<Option<Id>, Errno>
     requires empty { checks.old ≡ [] }
-    requires asking { outline.IsAsking objects.now caller checks.old }
-    ensures plan { ended (map (outline.item_of objects.now) checks.new) result
-        ≡ spec.found errno.Enoent (spec.check_row objects.now (view.subject_of objects.now caller) op) (view.pipe_named objects.now name.now) }
-    ensures target { IfOk result (λ target. target ≡ view.pipe_named objects.now name.now) }
-    ensures asking { outline.IsAsking objects.now caller checks.new }
+    requires asking { outline.IsAsking state.now.objects caller checks.old }
+    ensures row { ended checks.new result ≡ end_of (row.through (look_up state.now caller (Named kinds.Pipe name.now)) (λ id. row.ask (on caller op id) row.done)) }
+    ensures target { IfOk result (λ target. target ≡ target_at state.now caller (Named kinds.Pipe name.now)) }
+    ensures asking { outline.IsAsking state.now.objects caller checks.new }
 {
-    let id = objects.pipe(name).ok_or(Errno::Enoent)?;
-    ask(objects, caller, op, id, checks);
+    let id = state.objects.pipe(name.as_str()).ok_or(Errno::Enoent)?;
+    ask(&state.objects, caller, op, id, checks);
+    Ok(Some(id))
+}
+
+/// One check of a socket.
+pub(crate) fn on_socket(
+    state: &State,
+    caller: Id,
+    op: CheckOp,
+    name: &Name,
+    checks: &mut Checks,
+) -> Result<Option<Id>, Errno>
+    requires empty { checks.old ≡ [] }
+    requires asking { outline.IsAsking state.now.objects caller checks.old }
+    ensures row { ended checks.new result ≡ end_of (row.through (look_up state.now caller (Named kinds.Socket name.now)) (λ id. row.ask (on caller op id) row.done)) }
+    ensures target { IfOk result (λ target. target ≡ target_at state.now caller (Named kinds.Socket name.now)) }
+    ensures asking { outline.IsAsking state.now.objects caller checks.new }
+{
+    let id = state.objects.socket(name.as_str()).ok_or(Errno::Enoent)?;
+    ask(&state.objects, caller, op, id, checks);
     Ok(Some(id))
 }
 
 pub(crate) fn pread(
-    objects: &Objects,
+    state: &State,
     caller: Id,
-    name: &str,
+    name: &Name,
     checks: &mut Checks,
 ) -> Result<Option<Id>, Errno>
     requires empty { checks.old ≡ [] }
-    requires asking { outline.IsAsking objects.now caller checks.old }
-    ensures plan { ended (map (outline.item_of objects.now) checks.new) result
-        ≡ spec.found errno.Enoent (spec.pread_row objects.now (view.subject_of objects.now caller)) (view.pipe_named objects.now name.now) }
-    ensures target { IfOk result (λ target. target ≡ view.pipe_named objects.now name.now) }
-    ensures asking { outline.IsAsking objects.now caller checks.new }
+    requires asking { outline.IsAsking state.now.objects caller checks.old }
+    ensures row { ended checks.new result ≡ end_for state.now caller (call.Pread name.now) }
+    ensures target { IfOk result (λ target. target ≡ target_at state.now caller (Named kinds.Pipe name.now)) }
+    ensures asking { outline.IsAsking state.now.objects caller checks.new }
 {
-    let id = objects.pipe(name).ok_or(Errno::Enoent)?;
-    ask(objects, caller, CheckOp::PipeRead, id, checks);
-    if objects.size(id) == 0 {
+    let id = state.objects.pipe(name.as_str()).ok_or(Errno::Enoent)?;
+    ask(&state.objects, caller, CheckOp::PipeRead, id, checks);
+    if state.objects.size(id) == 0 {
         return Err(Errno::Eagain);
     }
     Ok(Some(id))
 }
 
 pub(crate) fn pwrite(
-    objects: &Objects,
+    state: &State,
     caller: Id,
-    name: &str,
+    name: &Name,
     text: &[u8],
     checks: &mut Checks,
 ) -> Result<Option<Id>, Errno>
     requires empty { checks.old ≡ [] }
     requires text { length text.now ≤ SCRIPT_LIMIT }
-    requires asking { outline.IsAsking objects.now caller checks.old }
-    ensures plan { ended (map (outline.item_of objects.now) checks.new) result
-        ≡ spec.found errno.Enoent (spec.pwrite_row objects.now (view.subject_of objects.now caller) text.now) (view.pipe_named objects.now name.now) }
-    ensures target { IfOk result (λ target. target ≡ view.pipe_named objects.now name.now) }
-    ensures asking { outline.IsAsking objects.now caller checks.new }
+    requires asking { outline.IsAsking state.now.objects caller checks.old }
+    ensures row { ended checks.new result ≡ end_for state.now caller (call.Pwrite name.now text.now) }
+    ensures target { IfOk result (λ target. target ≡ target_at state.now caller (Named kinds.Pipe name.now)) }
+    ensures asking { outline.IsAsking state.now.objects caller checks.new }
 {
-    let id = objects.pipe(name).ok_or(Errno::Enoent)?;
-    ask(objects, caller, CheckOp::PipeWrite, id, checks);
-    if overfills_pipe(objects, text, id) {
+    let id = state.objects.pipe(name.as_str()).ok_or(Errno::Enoent)?;
+    ask(&state.objects, caller, CheckOp::PipeWrite, id, checks);
+    if overfills_pipe(&state.objects, text, id) {
         return Err(Errno::Eagain);
     }
     Ok(Some(id))
@@ -131,22 +150,22 @@ pub(crate) fn pwrite(
 /// The checks and tests of `send`. The receiver is looked up after the check of the sender, so a denial wins over its
 /// ENOENT.
 pub(crate) fn send(
-    objects: &Objects,
+    state: &State,
     caller: Id,
-    from: &str,
-    to: &str,
+    from: &Name,
+    to: &Name,
     checks: &mut Checks,
 ) -> Result<Option<Id>, Errno>
     requires empty { checks.old ≡ [] }
-    requires asking { outline.IsAsking objects.now caller checks.old }
-    ensures plan { ended (map (outline.item_of objects.now) checks.new) result
-        ≡ spec.found errno.Enoent (spec.send_row objects.now (view.subject_of objects.now caller) to.now) (view.socket_named objects.now from.now) }
-    ensures target { IfOk result (λ target. target ≡ view.socket_named objects.now to.now) }
-    ensures asking { outline.IsAsking objects.now caller checks.new }
+    requires asking { outline.IsAsking state.now.objects caller checks.old }
+    ensures row { ended checks.new result ≡ end_for state.now caller (call.Send from.now to.now []) }
+    ensures target { IfOk result (λ target. target ≡ target_at state.now caller (Sockets from.now to.now)) }
+    ensures asking { outline.IsAsking state.now.objects caller checks.new }
 {
-    let from = objects.socket(from).ok_or(Errno::Enoent)?;
+    let objects = &state.objects;
+    let from = objects.socket(from.as_str()).ok_or(Errno::Enoent)?;
     ask(objects, caller, CheckOp::SocketSend, from, checks);
-    let to = objects.socket(to).ok_or(Errno::Enoent)?;
+    let to = objects.socket(to.as_str()).ok_or(Errno::Enoent)?;
     ask_delivery(objects, caller, from, to, checks);
     if objects.count(to) as usize >= MOST_MESSAGES {
         return Err(Errno::Enobufs);
@@ -155,60 +174,21 @@ pub(crate) fn send(
 }
 
 pub(crate) fn recv(
-    objects: &Objects,
+    state: &State,
     caller: Id,
-    name: &str,
+    name: &Name,
     checks: &mut Checks,
 ) -> Result<Option<Id>, Errno>
     requires empty { checks.old ≡ [] }
-    requires asking { outline.IsAsking objects.now caller checks.old }
-    ensures plan { ended (map (outline.item_of objects.now) checks.new) result
-        ≡ spec.found errno.Enoent (spec.recv_row objects.now (view.subject_of objects.now caller)) (view.socket_named objects.now name.now) }
-    ensures target { IfOk result (λ target. target ≡ view.socket_named objects.now name.now) }
-    ensures asking { outline.IsAsking objects.now caller checks.new }
+    requires asking { outline.IsAsking state.now.objects caller checks.old }
+    ensures row { ended checks.new result ≡ end_for state.now caller (call.Recv name.now) }
+    ensures target { IfOk result (λ target. target ≡ target_at state.now caller (Named kinds.Socket name.now)) }
+    ensures asking { outline.IsAsking state.now.objects caller checks.new }
 {
-    let id = objects.socket(name).ok_or(Errno::Enoent)?;
-    ask(objects, caller, CheckOp::SocketReceive, id, checks);
-    if objects.count(id) == 0 {
+    let id = state.objects.socket(name.as_str()).ok_or(Errno::Enoent)?;
+    ask(&state.objects, caller, CheckOp::SocketReceive, id, checks);
+    if state.objects.count(id) == 0 {
         return Err(Errno::Eagain);
     }
     Ok(Some(id))
-}
-
-/// One check of a socket.
-pub(crate) fn on_socket(
-    objects: &Objects,
-    caller: Id,
-    op: CheckOp,
-    name: &str,
-    checks: &mut Checks,
-) -> Result<Option<Id>, Errno>
-    requires empty { checks.old ≡ [] }
-    requires asking { outline.IsAsking objects.now caller checks.old }
-    ensures plan { ended (map (outline.item_of objects.now) checks.new) result
-        ≡ spec.found errno.Enoent (spec.check_row objects.now (view.subject_of objects.now caller) op) (view.socket_named objects.now name.now) }
-    ensures target { IfOk result (λ target. target ≡ view.socket_named objects.now name.now) }
-    ensures asking { outline.IsAsking objects.now caller checks.new }
-{
-    let id = objects.socket(name).ok_or(Errno::Enoent)?;
-    ask(objects, caller, op, id, checks);
-    Ok(Some(id))
-}
-
-/// The check of `seesock`. What is seen isn't read, so the call is about no socket.
-pub(crate) fn seesock(
-    objects: &Objects,
-    caller: Id,
-    name: &str,
-    checks: &mut Checks,
-) -> Result<Option<Id>, Errno>
-    requires empty { checks.old ≡ [] }
-    requires asking { outline.IsAsking objects.now caller checks.old }
-    ensures plan { ended (map (outline.item_of objects.now) checks.new) result
-        ≡ spec.found errno.Enoent (spec.check_row objects.now (view.subject_of objects.now caller) op.SocketVisible) (view.socket_named objects.now name.now) }
-    ensures target { IfOk result (λ target. target ≡ None) }
-    ensures asking { outline.IsAsking objects.now caller checks.new }
-{
-    on_socket(objects, caller, CheckOp::SocketVisible, name, checks)?;
-    Ok(None)
 }

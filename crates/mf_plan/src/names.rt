@@ -3,7 +3,7 @@ ghost use Rattle.std.specs.Prelude.{◌≡◌, IfSome};
 ghost use Rattle.std.specs.Option.{option_copied};
 ghost use Rattle.mf_objects.specs.Live.{is_process};
 ghost use Rattle.mf_objects.specs.Lives.{IsLive};
-ghost use Rattle.mf_calls.specs.WellFormed.{IsName, IsFormedChild};
+ghost use Rattle.mf_calls.specs.WellFormed.{IsName};
 ghost use Rattle.mf_plan.specs.Names as spec;
 ghost use Rattle.mf_plan.specs.Views.{process_named};
 
@@ -51,7 +51,7 @@ pub fn child_name(task: &str, child: &str) -> ChildName
 /// The live process that makes a call of the task, or of the task's child of that name.
 pub fn caller_of(objects: &Objects, task: &str, child: Option<&str>) -> Option<Id>
     requires task { IsName task.now }
-    requires child { IsFormedChild (option_copied child) }
+    requires child { IfSome (option_copied child) IsName }
     ensures value { result ≡ process_named objects.now (spec.caller_name task.now (option_copied child.entry)) }
     ensures live { IfSome result (λ id. IsLive is_process objects.now id) }
 {

@@ -1,10 +1,9 @@
 //! Outlines of plans: the checks of a call with ids in the place of views.
-ghost use Rattle.std.specs.Prelude.{◌≡◌, ◌↔◌, ◌<◌, ◌+◌, [], ◌∷◌, ◌++◌, length, map, IsSome, IsTrue};
+ghost use Rattle.std.specs.Prelude.{◌≡◌, ◌↔◌, ◌<◌, ◌+◌, [], ◌∷◌, ◌++◌, length, IsSome, IsTrue};
 ghost use Rattle.mf_item.specs.declared.operation.CheckOp.TheVariants as op;
 ghost use Rattle.mf_objects.specs.Live.{live_at};
 ghost use Rattle.mf_plan.specs.Outline as spec;
-ghost use Rattle.mf_plan.specs.Plan as plan;
-ghost use Rattle.mf_plan.specs.Views as view;
+ghost use Rattle.mf_plan.specs.Checks as check;
 
 use crate::found::Found;
 use crate::plan::{MOST_CHECKS, Tail};
@@ -64,8 +63,7 @@ pub(crate) fn ask(_objects: &Objects, caller: Id, op: CheckOp, id: Id, checks: &
     requires live { IsSome (live_at _objects.now id) }
     requires few { length checks.old < MOST_CHECKS }
     requires asking { spec.IsAsking _objects.now caller checks.old }
-    ensures seen { map (spec.item_of _objects.now) checks.new
-        ≡ map (spec.item_of _objects.now) checks.old ++ plan.on _objects.now (view.subject_of _objects.now caller) op id ∷ [] }
+    ensures checks { checks.new ≡ checks.old ++ check.on caller op id ∷ [] }
     ensures count { length checks.new ≡ length checks.old + 1 }
     ensures asking { spec.IsAsking _objects.now caller checks.new }
 {
@@ -84,10 +82,7 @@ pub(crate) fn ask_delivery(_objects: &Objects, caller: Id, from: Id, to: Id, che
     requires to { IsSome (live_at _objects.now to) }
     requires few { length checks.old < MOST_CHECKS }
     requires asking { spec.IsAsking _objects.now caller checks.old }
-    ensures seen { map (spec.item_of _objects.now) checks.new
-        ≡ map (spec.item_of _objects.now) checks.old
-        ++ plan.on _objects.now (view.sender_of _objects.now (view.subject_of _objects.now caller) from) op.SocketDeliver to ∷ [] }
-    ensures count { length checks.new ≡ length checks.old + 1 }
+    ensures checks { checks.new ≡ checks.old ++ check.by_socket caller from op.SocketDeliver to ∷ [] }
     ensures asking { spec.IsAsking _objects.now caller checks.new }
 {
     checks.push(Check {
@@ -103,9 +98,7 @@ pub(crate) fn ask_delivery(_objects: &Objects, caller: Id, from: Id, to: Id, che
 pub(crate) fn ask_privilege(_objects: &Objects, caller: Id, privilege: Priv, checks: &mut Checks)
     requires few { length checks.old < MOST_CHECKS }
     requires asking { spec.IsAsking _objects.now caller checks.old }
-    ensures seen { map (spec.item_of _objects.now) checks.new
-        ≡ map (spec.item_of _objects.now) checks.old ++ plan.privileged (view.subject_of _objects.now caller) privilege ∷ [] }
-    ensures count { length checks.new ≡ length checks.old + 1 }
+    ensures checks { checks.new ≡ checks.old ++ check.privileged caller privilege ∷ [] }
     ensures asking { spec.IsAsking _objects.now caller checks.new }
 {
     checks.push(Check {
@@ -121,9 +114,7 @@ pub(crate) fn ask_privilege(_objects: &Objects, caller: Id, privilege: Priv, che
 pub(crate) fn ask_alone(_objects: &Objects, caller: Id, op: CheckOp, checks: &mut Checks)
     requires few { length checks.old < MOST_CHECKS }
     requires asking { spec.IsAsking _objects.now caller checks.old }
-    ensures seen { map (spec.item_of _objects.now) checks.new
-        ≡ map (spec.item_of _objects.now) checks.old ++ plan.of_subject (view.subject_of _objects.now caller) op ∷ [] }
-    ensures count { length checks.new ≡ length checks.old + 1 }
+    ensures checks { checks.new ≡ checks.old ++ check.alone caller op ∷ [] }
     ensures asking { spec.IsAsking _objects.now caller checks.new }
 {
     checks.push(Check {

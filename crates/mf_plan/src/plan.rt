@@ -3,7 +3,7 @@ ghost use Rattle.std.specs.Prelude.{◌≡◌, ◌↔◌, ◌<◌, ◌≤◌, le
 ghost use Rattle.mf_item.specs.Item.{Item};
 ghost use Rattle.mf_objects.specs.Live.{Entities};
 ghost use Rattle.mf_plan.specs.Outline as outlines;
-ghost use Rattle.mf_plan.specs.Plan.{proceed};
+ghost use Rattle.mf_plan.specs.Planned.{proceed};
 
 use crate::last_label::LastLabel;
 use crate::outline::Outline;
@@ -96,7 +96,7 @@ impl Plan {
     /// Becomes the plan of that outline in the present state.
     pub(crate) fn fill(&mut self, objects: &Objects, outline: &Outline)
         requires { outlines.AreLive objects.now outline.now.checks }
-        ensures { self.new ≡ outlines.plan_in objects.now outline.now }
+        ensures { self.new ≡ outlines.outlined objects.now outline.now }
     {
         let checks = outline.checks.as_slice();
         fill_views(
@@ -113,7 +113,7 @@ impl Plan {
     /// Whether this is the plan of that outline in the present state. What costs least is compared first.
     pub(crate) fn is_outlined(&self, objects: &Objects, outline: &Outline) -> bool
         requires { outlines.AreLive objects.now outline.now.checks }
-        ensures { IsTrue result ↔ (self.now ≡ outlines.plan_in objects.now outline.now) }
+        ensures { IsTrue result ↔ (self.now ≡ outlines.outlined objects.now outline.now) }
     {
         self.tail == outline.tail
             && are_views(

@@ -1,39 +1,42 @@
 //! The plan of a call.
-ghost use Rattle.std.specs.Prelude.{◌≡◌, ◌↔◌, [], map, Some, None, IfOk, IfSome, IsSome};
+ghost use Rattle.std.specs.Prelude.{◌≡◌, ◌↔◌, [], ◌∷◌, Ok, Some, None, IfOk, IfSome, IsSome};
 ghost use Rattle.std.specs.Option.{option_copied};
-ghost use Rattle.mf_calls.specs.WellFormed.{IsFormedCall, IsFormedChild, IsName};
+ghost use Rattle.mf_calls.specs.WellFormed.{IsFormedCall, IsName};
 ghost use Rattle.mf_plan.specs.declared.plan.Tail.TheVariants.{Do};
-ghost use Rattle.mf_plan.specs.Found.{found_of, target_of};
+ghost use Rattle.mf_item.specs.declared.operation.CheckOp.TheVariants as op;
+ghost use Rattle.mf_plan.specs.Checks as check;
+ghost use Rattle.mf_plan.specs.Ended.{ended, end_by};
+ghost use Rattle.mf_plan.specs.Found.{AreFound, asked_at, target_at};
 ghost use Rattle.mf_plan.specs.Outline as outlines;
 ghost use Rattle.mf_plan.specs.Plan as spec;
-ghost use Rattle.mf_plan.specs.Relabels.{request_asked};
-ghost use Rattle.mf_plan.specs.Ended.{tail_of, ended};
 ghost use Rattle.mf_plan.specs.Names.{caller_name};
-ghost use Rattle.mf_plan.specs.Views.{process_named, subject_of};
+ghost use Rattle.mf_plan.specs.Rows.{about_of};
+ghost use Rattle.mf_plan.specs.Views.{process_named};
 
 use crate::files::{create, exec, on_file, read, readdir, unlink, write};
 use crate::found::Found;
 use crate::last_label::LastLabel;
 use crate::loading::{kldload, kldunload};
-use crate::named::{fork, make, on_pipe, on_process, pread, pwrite, recv, seesock, send};
+use crate::named::{fork, make, on_pipe, on_process, on_socket, pread, pwrite, recv, send};
 use crate::names::caller_of;
-use crate::outline::{Checks, Outline, ask_privilege};
+use crate::outline::{Checks, Outline, ask_alone, ask_privilege};
 use crate::plan::{Plan, Tail};
-use crate::relabels::{relabel_caller, relabel_file, relabel_pipe, relabel_socket};
-use crate::settings::{change_setting, list_rules};
+use crate::relabels::claim;
+use crate::settings::{change_rules, list_rules, sysctl};
 use crate::state::State;
 use mf_calls::Call;
 use mf_cred::ArrayVec;
 use mf_elem::Request;
 use mf_errno::{Errno, Priv};
-use mf_item::CheckOp;
+use mf_item::{CheckOp, Kind};
 use mf_objects::{Id, Objects};
+use mf_policy::Change;
 
 /// The plan of a call of the task's own process, or of its child of that name. Where that process isn't live, the plan
 /// has no check and ends with ESRCH.
 pub fn plan_of(state: &State, task: &str, child: Option<&str>, call: &Call) -> Plan
     requires task { IsName task.now }
-    requires child { IsFormedChild (option_copied child) }
+    requires child { IfSome (option_copied child) IsName }
     requires formed { IsFormedCall call.now }
     ensures { result ≡ spec.plan_of state.now task.now (option_copied child.entry) call.now }
 {
@@ -47,10 +50,10 @@ impl Plan {
     /// plan is large: this one is made where it lies, and never moved.
     pub fn make(&mut self, state: &State, task: &str, child: Option<&str>, call: &Call) -> Found
         requires task { IsName task.now }
-        requires child { IsFormedChild (option_copied child) }
+        requires child { IfSome (option_copied child) IsName }
         requires formed { IsFormedCall call.now }
         ensures plan { self.new ≡ spec.plan_of state.now task.now (option_copied child.entry) call.now }
-        ensures found { self.new.tail ≡ Do → result ≡ found_of state.now task.now (option_copied child.entry) call.now }
+        ensures found { self.new.tail ≡ Do → AreFound state.now task.now (option_copied child.entry) call.now result }
         ensures caller { result.caller ≡ process_named state.now.objects (caller_name task.now (option_copied child.entry)) }
     {
         self.label.keep(call);
@@ -68,10 +71,10 @@ impl Plan {
         call: &Call,
     ) -> Option<Found>
         requires task { IsName task.now }
-        requires child { IsFormedChild (option_copied child) }
+        requires child { IfSome (option_copied child) IsName }
         requires formed { IsFormedCall call.now }
         ensures is { IsSome result ↔ (self.now ≡ spec.plan_of state.now task.now (option_copied child.entry) call.now) }
-        ensures found { self.now.tail ≡ Do → IfSome result (λ found. found ≡ found_of state.now task.now (option_copied child.entry) call.now) }
+        ensures found { self.now.tail ≡ Do → IfSome result (λ found. AreFound state.now task.now (option_copied child.entry) call.now found) }
         ensures caller { IfSome result (λ found. found.caller ≡ process_named state.now.objects (caller_name task.now (option_copied child.entry))) }
     {
         let outline = outline_of(state, task, child, call, &self.label);
@@ -93,13 +96,13 @@ pub fn outline_of(
     last: &LastLabel,
 ) -> Outline
     requires task { IsName task.now }
-    requires child { IsFormedChild (option_copied child) }
+    requires child { IfSome (option_copied child) IsName }
     requires formed { IsFormedCall call.now }
-    ensures plan { outlines.plan_in state.now.objects result
+    ensures plan { outlines.outlined state.now.objects result
         ≡ spec.plan_of state.now task.now (option_copied child.entry) call.now }
     ensures live { outlines.AreLive state.now.objects result.checks }
     ensures caller { result.found.caller ≡ process_named state.now.objects (caller_name task.now (option_copied child.entry)) }
-    ensures found { result.tail ≡ Do → result.found ≡ found_of state.now task.now (option_copied child.entry) call.now }
+    ensures found { result.tail ≡ Do → AreFound state.now task.now (option_copied child.entry) call.now result.found }
 {
     // It is filled in where it lies: a move would copy all the room for checks.
     let mut outline = Outline {
@@ -112,28 +115,19 @@ pub fn outline_of(
         tail: Tail::Refuse(Errno::Esrch),
     };
     if let Some(caller) = outline.found.caller {
-        let end = ask_for(
-            state,
-            task,
-            caller,
-            call,
-            last,
-            &mut outline.checks,
-            &mut outline.found.request,
-        );
-        outline.found.target = end.ok().flatten();
-        outline.tail = tail_of(end);
+        let (checks, request) = (&mut outline.checks, &mut outline.found.request);
+        match ask_for(state, task, caller, call, last, checks, request) {
+            Ok(target) => {
+                outline.found.target = target;
+                outline.tail = Tail::Do;
+            }
+            Err(errno) => {
+                outline.found.request = None;
+                outline.tail = Tail::Refuse(errno);
+            }
+        }
     }
     outline
-}
-
-fn tail_of(end: Result<Option<Id>, Errno>) -> Tail
-    ensures { result ≡ tail_of end }
-{
-    match end {
-        Ok(_) => Tail::Do,
-        Err(errno) => Tail::Refuse(errno),
-    }
 }
 
 /// The check of a privilege of the caller.
@@ -145,16 +139,28 @@ fn has_privilege(
 ) -> Result<Option<Id>, Errno>
     requires empty { checks.old ≡ [] }
     requires asking { outlines.IsAsking objects.now caller checks.old }
-    ensures plan { ended (map (outlines.item_of objects.now) checks.new) result
-        ≡ spec.ask (spec.privileged (subject_of objects.now caller) privilege) spec.proceed }
-    ensures target { IfOk result (λ target. target ≡ None) }
+    ensures checks { checks.new ≡ check.privileged caller privilege ∷ [] }
+    ensures target { result ≡ Ok None }
     ensures asking { outlines.IsAsking objects.now caller checks.new }
 {
     ask_privilege(objects, caller, privilege, checks);
     Ok(None)
 }
 
-/// Collects the checks of a call of a live process, in order, and what a relabel asks for.
+/// The check of a relabel of the caller itself.
+fn on_caller(objects: &Objects, caller: Id, checks: &mut Checks) -> Result<Option<Id>, Errno>
+    requires empty { checks.old ≡ [] }
+    requires asking { outlines.IsAsking objects.now caller checks.old }
+    ensures checks { checks.new ≡ check.alone caller op.CredRelabel ∷ [] }
+    ensures target { result ≡ Ok (Some caller) }
+    ensures asking { outlines.IsAsking objects.now caller checks.new }
+{
+    ask_alone(objects, caller, CheckOp::CredRelabel, checks);
+    Ok(Some(caller))
+}
+
+/// Collects the checks of a call of a live process, in order, and what a relabel asks for. First comes what the call is about, where it
+/// stands; then the checks and tests of its row.
 fn ask_for(
     state: &State,
     task: &str,
@@ -169,49 +175,62 @@ fn ask_for(
     requires empty { checks.old ≡ [] }
     requires unasked { asked.old ≡ None }
     requires asking { outlines.IsAsking state.now.objects caller checks.old }
-    ensures plan { ended (map (outlines.item_asking state.now.objects asked.new) checks.new) result
-        ≡ spec.plan_for state.now task.now (subject_of state.now.objects caller) call.now }
-    ensures target { IfOk result (λ target. target ≡ target_of state.now.objects (Some caller) call.now) }
-    ensures request { IfOk result (λ target. asked.new ≡ request_asked state.now.specs call.now) }
+    ensures row { ended checks.new result ≡ end_by state.now task.now caller call.now }
+    ensures target { IfOk result (λ target. target ≡ target_at state.now caller (about_of state.now task.now caller call.now).place) }
+    ensures request { IfOk result (λ target. asked.new ≡ asked_at state.now (about_of state.now task.now caller call.now).place) }
     ensures asking { outlines.IsAsking state.now.objects caller checks.new }
 {
-    let objects = &state.objects;
+    let (objects, specs) = (&state.objects, &state.specs);
     match call {
-        Call::Fork(child) => fork(objects, task, child.as_str()),
+        Call::Fork(child) => fork(state, task, caller, child.as_str()),
         Call::Exit | Call::Kldstat => Ok(None),
         Call::Getpmac => Ok(Some(caller)),
-        Call::Setpmac(_) => relabel_caller(state, caller, call, last, checks, asked),
-        Call::See(name) => on_process(objects, caller, CheckOp::ProcVisible, name, checks),
-        Call::Signal(name) => on_process(objects, caller, CheckOp::ProcSignal, name, checks),
-        Call::Debug(name) => on_process(objects, caller, CheckOp::ProcDebug, name, checks),
-        Call::Sched(name) => on_process(objects, caller, CheckOp::ProcSched, name, checks),
-        Call::Priv(privilege) => has_privilege(objects, caller, *privilege, checks),
-        Call::Exec(path) => exec(objects, caller, path, checks),
-        Call::Create(path) | Call::Mkdir(path) => create(objects, caller, path, checks),
-        Call::Read(path) => read(objects, caller, path, checks),
-        Call::Write(path, text) => write(objects, caller, path, text.as_slice(), checks),
-        Call::Stat(path) | Call::Getfmac(path) => {
-            on_file(objects, caller, CheckOp::VnodeStat, path, checks)
+        Call::Setpmac(label) => {
+            claim(specs, Kind::Process, label.as_str(), last, asked)?;
+            on_caller(objects, caller, checks)
         }
-        Call::Setfmac(_, path) => relabel_file(state, caller, call, path, last, checks, asked),
-        Call::Readdir(path) => readdir(objects, caller, path, checks),
-        Call::Chmod(path, _) => on_file(objects, caller, CheckOp::VnodeSetmode, path, checks),
-        Call::Unlink(path) => unlink(objects, caller, path, checks),
-        Call::Pipe(name) => make(objects, objects.pipe(name.as_str())),
-        Call::Socket(name) => make(objects, objects.socket(name.as_str())),
-        Call::Pread(name) => pread(objects, caller, name.as_str(), checks),
-        Call::Pwrite(name, text) => pwrite(objects, caller, name.as_str(), text.as_slice(), checks),
-        Call::Pstat(name) => on_pipe(objects, caller, CheckOp::PipeStat, name.as_str(), checks),
-        Call::Setpipemac(_, name) => relabel_pipe(state, caller, call, name, last, checks, asked),
-        Call::Send(from, to, _) => send(objects, caller, from.as_str(), to.as_str(), checks),
-        Call::Recv(name) => recv(objects, caller, name.as_str(), checks),
-        Call::Seesock(name) => seesock(objects, caller, name.as_str(), checks),
-        Call::Setsockmac(_, name) => relabel_socket(state, caller, call, name, last, checks, asked),
+        Call::See(name) => on_process(state, caller, CheckOp::ProcVisible, name, checks),
+        Call::Signal(name) => on_process(state, caller, CheckOp::ProcSignal, name, checks),
+        Call::Debug(name) => on_process(state, caller, CheckOp::ProcDebug, name, checks),
+        Call::Sched(name) => on_process(state, caller, CheckOp::ProcSched, name, checks),
+        Call::Priv(privilege) => has_privilege(objects, caller, *privilege, checks),
+        Call::Exec(path) => exec(state, caller, path, checks),
+        Call::Create(path) | Call::Mkdir(path) => create(state, caller, path, checks),
+        Call::Read(path) => read(state, caller, path, checks),
+        Call::Write(path, text) => write(state, caller, path, text.as_slice(), checks),
+        Call::Stat(path) => on_file(state, caller, CheckOp::VnodeStat, path, checks),
+        Call::Getfmac(path) => on_file(state, caller, CheckOp::VnodeStat, path, checks),
+        Call::Setfmac(label, path) => {
+            claim(specs, Kind::Vnode, label.as_str(), last, asked)?;
+            on_file(state, caller, CheckOp::VnodeRelabel, path, checks)
+        }
+        Call::Readdir(path) => readdir(state, caller, path, checks),
+        Call::Chmod(path, _) => on_file(state, caller, CheckOp::VnodeSetmode, path, checks),
+        Call::Unlink(path) => unlink(state, caller, path, checks),
+        Call::Pipe(name) => make(state, objects.pipe(name.as_str())),
+        Call::Socket(name) => make(state, objects.socket(name.as_str())),
+        Call::Pread(name) => pread(state, caller, name, checks),
+        Call::Pwrite(name, text) => pwrite(state, caller, name, text.as_slice(), checks),
+        Call::Pstat(name) => on_pipe(state, caller, CheckOp::PipeStat, name, checks),
+        Call::Setpipemac(label, name) => {
+            claim(specs, Kind::Pipe, label.as_str(), last, asked)?;
+            on_pipe(state, caller, CheckOp::PipeRelabel, name, checks)
+        }
+        Call::Send(from, to, _) => send(state, caller, from, to, checks),
+        Call::Recv(name) => recv(state, caller, name, checks),
+        Call::Seesock(name) => on_socket(state, caller, CheckOp::SocketVisible, name, checks),
+        Call::Setsockmac(label, name) => {
+            claim(specs, Kind::Socket, label.as_str(), last, asked)?;
+            on_socket(state, caller, CheckOp::SocketRelabel, name, checks)
+        }
         Call::Kldload(name) => kldload(state, caller, name.as_str(), checks),
         Call::Kldunload(name) => kldunload(state, caller, name.as_str(), checks),
-        Call::Sysctl(..) | Call::UgidfwAdd(_) | Call::UgidfwSet(..) | Call::UgidfwRemove(_) => {
-            change_setting(state, caller, call)
+        Call::Sysctl(name, value) => sysctl(state, caller, name.as_str(), value.as_str()),
+        Call::UgidfwList => list_rules(state, caller),
+        Call::UgidfwAdd(rule) => change_rules(state, caller, Change::RuleAdd(*rule)),
+        Call::UgidfwSet(number, rule) => {
+            change_rules(state, caller, Change::RuleSet(*number, *rule))
         }
-        Call::UgidfwList => list_rules(state),
+        Call::UgidfwRemove(number) => change_rules(state, caller, Change::RuleRemove(*number)),
     }
 }

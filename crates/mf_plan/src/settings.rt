@@ -1,12 +1,17 @@
 //! Calls that change a policy's setting.
-ghost use Rattle.std.specs.Prelude.{◌≡◌, [], IfOk, IfSome, IsSome, None};
+ghost use Rattle.std.specs.Prelude.{◌≡◌, [], IfOk, IfSome, IsSome, None, Some};
 ghost use Rattle.mf_calls.specs.WellFormed.{IsFormedCall};
 ghost use Rattle.mf_policy.specs.IsChange.{IsChange};
 ghost use Rattle.mf_objects.specs.Live.{live_at};
-ghost use Rattle.mf_plan.specs.Plan as plan;
-ghost use Rattle.mf_plan.specs.Ended.{ended};
+ghost use Rattle.mf_calls.specs.declared.script.Call.TheVariants as call;
+ghost use Rattle.mf_errno.specs.declared.module.Module.TheVariants as modules;
+ghost use Rattle.mf_plan.specs.declared.reply.Payload.TheVariants as payload;
+ghost use Rattle.mf_plan.specs.Ended.{ended, end_of, end_for};
+ghost use Rattle.mf_plan.specs.Row as row;
+ghost use Rattle.mf_plan.specs.Rows.{set};
 ghost use Rattle.mf_plan.specs.Settings as spec;
-ghost use Rattle.mf_plan.specs.Views as view;
+ghost use Rattle.mf_plan.specs.Ways.{look_up};
+ghost use Rattle.mf_plan.specs.Ways.Place.{Setting};
 
 use crate::state::State;
 use mf_calls::Call;
@@ -86,41 +91,60 @@ fn listed_module(specs: &SpecList, call: &Call) -> Option<Module>
     }
 }
 
-/// Why the change isn't made.
-fn setting_refusal(specs: &SpecList, call: &Call) -> Option<Errno>
-    ensures { result ≡ spec.setting_refusal specs.now call.now }
-{
-    let Some(module) = listed_module(specs, call) else {
-        return Some(Errno::Enoent);
-    };
-    let Some(change) = change_asked(call) else {
-        return Some(Errno::Einval);
-    };
-    match specs.answer_to(module, &change).errno {
-        Errno::Success => None,
-        errno => Some(errno),
-    }
-}
-
-/// The tests of a call that changes a setting.
-#[tactic(auto, unfolding(crate::specs::Views::subject_of))]
-pub(crate) fn change_setting(state: &State, caller: Id, call: &Call) -> Result<Option<Id>, Errno>
+/// The tests of a call that changes a setting, which root alone does.
+fn change_setting(
+    state: &State,
+    caller: Id,
+    module: Option<Module>,
+    change: Option<Change>,
+) -> Result<Option<Id>, Errno>
     requires lives { IsSome (live_at state.now.objects caller) }
-    ensures plan { ended [] result ≡ plan.setting_row state.now (view.subject_of state.now.objects caller) call.now }
+    ensures row { ended [] result
+        ≡ end_of (row.through (look_up state.now caller (Setting «module» change)) (set state.now payload.None)) }
     ensures target { IfOk result (λ target. target ≡ None) }
 {
     if !state.objects.cred(caller).is_root() {
         return Err(Errno::Eperm);
     }
-    match setting_refusal(&state.specs, call) {
-        None => Ok(None),
-        Some(errno) => Err(errno),
+    let module = module.ok_or(Errno::Enoent)?;
+    if !state.specs.is_listed(module) {
+        return Err(Errno::Enoent);
+    }
+    let change = change.ok_or(Errno::Einval)?;
+    match state.specs.answer_to(module, &change).errno {
+        Errno::Success => Ok(None),
+        errno => Err(errno),
     }
 }
 
+/// The tests of `sysctl`.
+pub(crate) fn sysctl(
+    state: &State,
+    caller: Id,
+    name: &str,
+    value: &str,
+) -> Result<Option<Id>, Errno>
+    requires lives { IsSome (live_at state.now.objects caller) }
+    ensures row { ended [] result ≡ end_for state.now caller (call.Sysctl name.now value.now) }
+    ensures target { IfOk result (λ target. target ≡ None) }
+{
+    let change = switch(value).map(Change::FirstMatch);
+    change_setting(state, caller, sysctl_module(name), change)
+}
+
+/// The tests of a call that changes the rules about files.
+pub(crate) fn change_rules(state: &State, caller: Id, change: Change) -> Result<Option<Id>, Errno>
+    requires lives { IsSome (live_at state.now.objects caller) }
+    ensures row { ended [] result
+        ≡ end_of (row.through (look_up state.now caller (Setting (Some modules.Bsdextended) (Some change))) (set state.now payload.None)) }
+    ensures target { IfOk result (λ target. target ≡ None) }
+{
+    change_setting(state, caller, Some(Module::Bsdextended), Some(change))
+}
+
 /// The test of the call that lists the rules about files.
-pub(crate) fn list_rules(state: &State) -> Result<Option<Id>, Errno>
-    ensures plan { ended [] result ≡ plan.rules_row state.now }
+pub(crate) fn list_rules(state: &State, _caller: Id) -> Result<Option<Id>, Errno>
+    ensures row { ended [] result ≡ end_for state.now _caller call.UgidfwList }
     ensures target { IfOk result (λ target. target ≡ None) }
 {
     if state.specs.is_listed(Module::Bsdextended) {

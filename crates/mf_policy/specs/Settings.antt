@@ -1,10 +1,11 @@
 -- What a change of a setting does. mac_bsdextended's policy alone has settings: its rules, which ugidfw(8) changes, and first match, a sysctl of
 -- mac_bsdextended(4). That a new rule gets the lowest free number, and the errnos, are this model's own choice.
+use Rattle.std.specs.Option.{is_none}
 use Rattle.std.specs.Prelude.{ℕ, Bool, cond, if◌then◌else◌, List, [], ◌∷◌, Option, Some, None, find, option_and_then, position, slice_index_or, slice_set}
 use Rattle.mf_errno.specs.declared.errno.Errno.TheVariants.{Success, Enoent, Enobufs}
 use Rattle.mf_errno.specs.declared.module.Module.{Module}
 use Rattle.mf_errno.specs.declared.module.Module.TheVariants as modules
-use Rattle.mf_rule.specs.RuleList.{Slots, is_free}
+use Rattle.mf_rule.specs.RuleList.{Slots}
 use Rattle.mf_rule.specs.declared.rule.Rule.{Rule}
 use Rattle.mf_policy.specs.declared.settings.Change.{Change}
 use Rattle.mf_policy.specs.declared.settings.Change.TheVariants.{FirstMatch, RuleAdd, RuleSet, RuleRemove}
@@ -30,13 +31,13 @@ with_rule rules first rule (Some n) =
 -- without the rule of a number, where it has one
 abbrev pub without_rule : Slots → Bool → ℕ → Changed × Spec
 without_rule rules first n =
-    if is_free (slice_index_or rules n None) then (no_setting, means.Bsdextended rules first)
+    if is_none (slice_index_or rules n None) then (no_setting, means.Bsdextended rules first)
     else (done, means.Bsdextended (slice_set rules n None) first)
 
 -- the answer to a change, and the spec after it
 abbrev pub change_of : Spec → Change → Changed × Spec
 change_of (means.Bsdextended rules first) (FirstMatch enabled) = (done, means.Bsdextended rules enabled)
-change_of (means.Bsdextended rules first) (RuleAdd rule) = with_rule rules first rule (position is_free rules)
+change_of (means.Bsdextended rules first) (RuleAdd rule) = with_rule rules first rule (position is_none rules)
 change_of (means.Bsdextended rules first) (RuleSet n rule) = (done, means.Bsdextended (slice_set rules n (Some rule)) first)
 change_of (means.Bsdextended rules first) (RuleRemove n) = without_rule rules first n
 change_of spec change = (no_setting, spec)

@@ -1,48 +1,55 @@
--- What a call changes, where it is done, stays within the bounds: the table by the calls.
-use Rattle.std.proofs.Common.{◌≡◌, ℕ, ◌+◌, ◌<◌, ◌≤◌, ◌^◌, Bool, true, false, List, [], ◌∷◌, length, drop, Option, Some, None, refl, ap, sym, ◌∙◌, arith}
-use Rattle.std.specs.Prelude.{All, IfSome, option_map}
-use Rattle.std.specs.Result.{result_ok}
+-- What a call changes, where it is done, stays within the bounds: by the effect, and by the call what the effect needs.
+use Rattle.std.proofs.Common.{◌≡◌, ℕ, ◌+◌, ◌<◌, ◌≤◌, ◌^◌, Bool, true, false, List, [], ◌∷◌, length, drop, Option, Some, None, Result, Ok, Err, refl, ap, subst, arith}
+use Rattle.std.specs.Prelude.{All, IfSome, if◌then◌else◌, nat_eq, not, option_map}
 use Rattle.std.specs.List.{AllByRecursion}
-use Rattle.std.proofs.lemmas.Bool.{ltb-false}
-use Rattle.mf_errno.specs.Names.{module_named}
+use Rattle.std.proofs.lemmas.Bool.{leb-false, ltb-false}
+use Rattle.mf_errno.specs.declared.errno.Errno.{Errno}
+use Rattle.mf_errno.specs.declared.errno.Errno.TheVariants as errno
 use Rattle.mf_errno.specs.declared.module.Module.{Module}
+use Rattle.mf_errno.specs.declared.module.Module.TheVariants as modules
 use Rattle.mf_cred.specs.declared.cred.TheConstants.{FILE_MODE, DIRECTORY_MODE}
 use Rattle.mf_elem.specs.declared.label.LabelValue.{LabelValue}
-use Rattle.mf_elem.specs.declared.label.Request.{Request}
-use Rattle.mf_item.specs.declared.view.Kind.TheVariants as kinds
 use Rattle.mf_policy.specs.declared.labels.Origin.TheVariants.{Maker}
 use Rattle.mf_policy.specs.declared.settings.Change.{Change}
-use Rattle.mf_policy.specs.declared.settings.Change.TheVariants.{FirstMatch}
+use Rattle.mf_policy.specs.declared.settings.Change.TheVariants.{FirstMatch, RuleAdd, RuleSet, RuleRemove}
 use Rattle.mf_policy.specs.NewLabels.{new_label}
 use Rattle.mf_policy.specs.Modules.{fresh_of}
 use Rattle.mf_policy.specs.Relabelled.{relabelled}
-use Rattle.mf_policy.specs.Registration.{registration_of}
-use Rattle.mf_names.specs.declared.limits.TheConstants.{CONTENT_LIMIT}
-use Rattle.mf_objects.specs.declared.limits.TheConstants.{PIPE_LIMIT}
+use Rattle.mf_policy.specs.Registration.{is_listed, registration_of}
+use Rattle.mf_names.specs.declared.limits.TheConstants.{CONTENT_LIMIT, SCRIPT_LIMIT}
+use Rattle.mf_objects.specs.declared.limits.TheConstants.{MOST_ENTITIES, PIPE_LIMIT}
 use Rattle.mf_objects.specs.declared.id.Id.{Id}
 use Rattle.mf_objects.specs.declared.entity.EntityData.{EntityData}
 use Rattle.mf_objects.specs.declared.entity.EntityData.TheVariants.{Process}
-use Rattle.mf_objects.specs.Live.{LiveEntity, Entities, content_at, content_of, cred_at, has_id, label_at, live_at, reading}
-use Rattle.mf_objects.specs.Changes.{appended, cleared, goes_with, new_pipe, new_socket, new_vnode, with_message, with_messages, with_mode, with_what}
+use Rattle.mf_objects.specs.Live.{LiveEntity, Entities, content_at, content_of, cred_at, has_id, kind_of, label_at, live_at, reading}
+use Rattle.mf_objects.specs.Changes.{appended, cleared, goes_with, new_pipe, new_socket, new_vnode, with_message, with_messages, with_mode, with_what, without}
 use Rattle.mf_calls.specs.declared.script.Call.{Call}
 use Rattle.mf_calls.specs.declared.script.Call.TheVariants as call
 use Rattle.mf_calls.specs.Names.{is_component}
-use Rattle.mf_calls.specs.WellFormed.{IsFormedCall, IsPath}
+use Rattle.mf_calls.specs.declared.limits.TheConstants.{MODE_LIMIT}
+use Rattle.mf_calls.specs.WellFormed.{IsFormedCall, IsText}
+use Rattle.mf_plan.specs.declared.plan.Tail.{Tail}
+use Rattle.mf_plan.specs.declared.plan.Tail.TheVariants.{Do, Refuse}
 use Rattle.mf_plan.specs.declared.state.State.{State}
 use Rattle.mf_plan.specs.declared.target.Target.{Target}
 use Rattle.mf_plan.specs.declared.target.Target.TheVariants.{Root, Name, Nowhere}
-use Rattle.mf_plan.specs.Doing.{CanCreate, CanDo}
 use Rattle.mf_plan.specs.Names.{child_name}
-use Rattle.mf_plan.specs.Path.{file_at_path, last_name, lookup_along, lookup_from, root}
-use Rattle.mf_plan.specs.Relabels.{relabel_of}
-use Rattle.mf_plan.specs.Settings.{both, change_asked, listed_module, switch}
-use Rattle.mf_plan.specs.Views.{overfills, pipe_named, process_named, socket_named}
+use Rattle.mf_plan.specs.Path.{entry_at, free_at, last_name, lookup_along, lookup_from, root}
+use Rattle.mf_plan.specs.Effect.{Effect}
+use Rattle.mf_plan.specs.Effect.Effect.{Unchanged, Make, Append, Deliver, Empty, Receive, SetMode, Unlink, End, Relabel, Load, Unload, Set}
+use Rattle.mf_plan.specs.Plan.{row_by, row_for}
+use Rattle.mf_plan.specs.Row.{Row, through}
+use Rattle.mf_plan.specs.Rows.{about_of, new_file}
+use Rattle.mf_plan.specs.Settings.{switch, sysctl_module}
+use Rattle.mf_plan.specs.Ways.{At, go_on, look_up, or_fail}
+use Rattle.mf_plan.specs.Views.{is_dir, is_full, overfills, process_named}
 use Rattle.mf_plan.proofs.LookingUp.{last_entry}
-use Rattle.mf_step.specs.Effect.{effect_of, new_file, with_changed, with_file, with_loaded, with_relabelled, with_setting, with_unloaded, without_entry}
+use Rattle.mf_step.specs.Effect.{after, with_data, with_objects}
+use Rattle.mf_step.specs.Step.{performed_by}
 use Rattle.mf_lifetimes.proofs.Listing.{all_newest, all_without}
-use Rattle.mf_reading.proofs.Bounded.{AreBounded, HoldsBounded, IsBoundedData, IsBoundedSpec}
+use Rattle.mf_reading.proofs.Bounded.{AreBounded, HoldsBounded, IsBoundedData, IsBoundedSpec, IsNamed}
 use Rattle.mf_reading.proofs.Contents.{file_fits, no_text, uid_fits}
-use Rattle.mf_reading.proofs.Holding.{HasRoom, Keeps, added_bounded, appending, changed_bounded, clearing, entry_goes, moding, process_goes, receiving, relabelling, removed_bounded, sending}
+use Rattle.mf_reading.proofs.Holding.{HasRoom, Keeps, KeepsFirst, added_bounded, appending, changed_bounded, clearing, entry_goes, moding, process_goes, receiving, relabelling, removed_bounded, sending}
 use Rattle.mf_reading.proofs.Lists.{by_place}
 use Rattle.mf_reading.proofs.Rules.{IsFormedChange, fresh_bounded, specs_changed}
 
@@ -82,128 +89,149 @@ socket_data : (maker : Id) → IsBoundedData (new_socket maker)
 socket_data maker =
     record { content = no_text CONTENT_LIMIT; messages = tt; file = record { uid = omega arith; gid = omega arith; mode = omega arith }; uid = omega arith }
 
+-- What a path leads to
+
+free_target : (target : Target) (dir : Id) → free_at target ≡ Ok dir → target ≡ Name dir None
+free_target Root dir is = cc
+free_target (Name d None) dir is = cc
+free_target (Name d (Some id)) dir is = cc
+free_target (Nowhere e) dir is = cc
+
+entry_target : (target : Target) (entry : Id × Id) → entry_at target ≡ Ok entry → target ≡ Name entry.0 (Some entry.1)
+entry_target Root entry is = cc
+entry_target (Name d None) entry is = cc
+entry_target (Name d (Some id)) entry is = cc
+entry_target (Nowhere e) entry is = cc
+
+-- a test of the framework didn't refuse
+passed : (test : Bool) (e : Errno) (rest : Tail) → (if test then Refuse e else rest) ≡ Do → (test ≡ false) × (rest ≡ Do)
+passed true e rest done = cc
+passed false e rest done = (refl, done)
+
+-- The table: what an effect needs, so that the state stays within the bounds.
+abbrev Fits : Entities → Effect → Type 0
+Fits o (Make name what) = (length o.live < MOST_ENTITIES) × IsBoundedData what × IsNamed name what
+Fits o (Append id text) = IsText SCRIPT_LIMIT text × ((e : LiveEntity) → live_at o id ≡ Some e → HasRoom text e.what)
+Fits o (Deliver id text) = IsText SCRIPT_LIMIT text
+Fits o (SetMode id mode) = mode ≤ MODE_LIMIT
+Fits o (Unlink id) = KeepsFirst (has_id id) o.live
+Fits o (End id) = KeepsFirst (goes_with id) o.live
+Fits o (Set m change) = IsFormedChange change
+Fits o other = Unit {0}
+
 module _ (s : State) (holds : HoldsBounded s) where
-  file_holds : (maker : Id) (mode : ℕ) (is_dir : Bool) (path : List (List ℕ)) (target : Target) → mode < 2 ^ 16 → IsPath path → CanCreate s.objects path
-      → (lookup_along s.objects path).target ≡ target → HoldsBounded (with_file s maker mode is_dir (last_name path) target)
-  file_holds maker mode is_dir path Root fits formed can is = holds
-  file_holds maker mode is_dir path (Name dir None) fits formed can is =
-      let what : EntityData = new_vnode dir (new_file s.objects maker dir mode is_dir) [] in
-      record {
-        objects = added_bounded s.objects (last_name path) (new_label s.specs kinds.Vnode (Maker (label_at s.objects maker))) what can.few
-            (file_data s.objects maker dir mode is_dir fits holds.objects) (λ at entry. last_component s.objects path dir is formed.each) holds.objects;
-        specs = holds.specs;
-      }
-  file_holds maker mode is_dir path (Name dir (Some id)) fits formed can is = holds
-  file_holds maker mode is_dir path (Nowhere errno) fits formed can is = holds
+  changed_holds : (change : EntityData → EntityData) (may : EntityData → Type 0) (id : Id) → Keeps (with_what change) may
+      → ((e : LiveEntity) → live_at s.objects id ≡ Some e → may e.what) → HoldsBounded (with_data s id change)
+  changed_holds change may id keeps allowed = record { objects = changed_bounded s.objects holds.objects (with_what change) may keeps id allowed; specs = holds.specs }
 
-  entry_holds : (path : List (List ℕ)) (target : Target) → (lookup_along s.objects path).target ≡ target → HoldsBounded (without_entry s target)
-  entry_holds path Root is = holds
-  entry_holds path (Name dir None) is = holds
-  entry_holds path (Name dir (Some id)) is = record {
-    objects = removed_bounded s.objects (has_id id)
-        (entry_goes dir id (last_name path) s.objects.next s.objects.live holds.objects.rising holds.objects.rooted (last_entry s.objects path root dir (Some id) is))
-        holds.objects;
+  removed_holds : (gone : LiveEntity → Bool) → KeepsFirst gone s.objects.live → HoldsBounded (with_objects s (without gone s.objects))
+  removed_holds gone keeps = record { objects = removed_bounded s.objects gone keeps holds.objects; specs = holds.specs }
+
+  effect_holds : (me : Id) (effect : Effect) → Fits s.objects effect → HoldsBounded (after s me effect)
+  effect_holds me Unchanged fits = holds
+  effect_holds me (Make name what) fits = record {
+    objects = added_bounded s.objects name (new_label s.specs (kind_of what) (Maker (label_at s.objects me))) what fits.0 fits.1 fits.2 holds.objects;
     specs = holds.specs;
   }
-  entry_holds path (Nowhere errno) is = holds
-
-  changed_holds : (change : EntityData → EntityData) (may : EntityData → Type 0) (found : Option Id) → Keeps (with_what change) may
-      → ((id : Id) (e : LiveEntity) → found ≡ Some id → live_at s.objects id ≡ Some e → may e.what) → HoldsBounded (with_changed s change found)
-  changed_holds change may None keeps allowed = holds
-  changed_holds change may (Some id) keeps allowed = record {
-    objects = changed_bounded s.objects holds.objects (with_what change) may keeps id (λ e live. allowed id e refl live);
-    specs = holds.specs;
-  }
-
-  relabelled_holds : (asked : Option (Id × Request)) → HoldsBounded (with_relabelled s asked)
-  relabelled_holds None = holds
-  relabelled_holds (Some asked) =
-      let label : List LabelValue = relabelled s.specs asked.1 (label_at s.objects asked.0) in
+  effect_holds me (Append id text) fits = changed_holds (appended text) (HasRoom text) id (appending text fits.0) fits.1
+  effect_holds me (Deliver id text) fits = changed_holds (with_messages (with_message text)) (λ w. Unit {0}) id (sending text fits) (λ e live. tt)
+  effect_holds me (Empty id) fits = changed_holds cleared (λ w. Unit {0}) id clearing (λ e live. tt)
+  effect_holds me (Receive id) fits = changed_holds (with_messages (drop 1)) (λ w. Unit {0}) id receiving (λ e live. tt)
+  effect_holds me (SetMode id mode) fits = changed_holds (with_mode mode) (λ w. Unit {0}) id (moding mode fits) (λ e live. tt)
+  effect_holds me (Unlink id) fits = removed_holds (has_id id) fits
+  effect_holds me (End id) fits = removed_holds (goes_with id) fits
+  effect_holds me (Relabel id request) fits =
+      let label : List LabelValue = relabelled s.specs request (label_at s.objects id) in
       record {
-        objects = changed_bounded s.objects holds.objects (λ e. record e { label = label }) (λ w. Unit {0}) (relabelling label) asked.0 (λ e live. tt);
+        objects = changed_bounded s.objects holds.objects (λ e. record e { label = label }) (λ w. Unit {0}) (relabelling label) id (λ e live. tt);
         specs = holds.specs;
       }
-
-  -- bytes fit where the framework doesn't refuse them
-  room_at : (most : ℕ) (text : List ℕ) (id other : Id) (e : LiveEntity) → most ≤ CONTENT_LIMIT → overfills most s.objects text id ≡ false → Some other ≡ Some id
-      → live_at s.objects other ≡ Some e → HasRoom text e.what
-  room_at most text id other e small room same live =
-      let own : other ≡ id = cc in
-      let held : content_at s.objects id ≡ content_of e.what =
-      ap (content_at s.objects) (sym own) ∙ ap (λ (found : Option LiveEntity). reading content_of [] found) live in
-      omega (arith, small, ap length held, ltb-false most (length (content_at s.objects id) + length text) room)
-
-  loaded_holds : (found : Option Module) → HoldsBounded (with_loaded s found)
-  loaded_holds None = holds
-  loaded_holds (Some m) = record {
+  effect_holds me (Load m) fits = record {
     objects = holds.objects;
     specs = all_newest (λ entry. IsBoundedSpec entry.1) (registration_of m s.booted s.numbers, fresh_of m) s.specs (fresh_bounded m) holds.specs;
   }
+  effect_holds me (Unload m) fits = record { objects = holds.objects; specs = all_without (λ entry. IsBoundedSpec entry.1) m s.specs holds.specs }
+  effect_holds me (Set m change) fits = record { objects = holds.objects; specs = specs_changed m change s.specs fits holds.specs }
 
-  unloaded_holds : (found : Option Module) → HoldsBounded (with_unloaded s found)
-  unloaded_holds None = holds
-  unloaded_holds (Some m) = record { objects = holds.objects; specs = all_without (λ entry. IsBoundedSpec entry.1) m s.specs holds.specs }
+  -- bytes fit where the framework doesn't refuse them
+  room_at : (most : ℕ) (text : List ℕ) (id : Id) (e : LiveEntity) → most ≤ CONTENT_LIMIT → overfills most s.objects text id ≡ false → live_at s.objects id ≡ Some e
+      → HasRoom text e.what
+  room_at most text id e small room live =
+      let held : content_at s.objects id ≡ content_of e.what = ap (λ (found : Option LiveEntity). reading content_of [] found) live in
+      omega (arith, small, ap length held, ltb-false most (length (content_at s.objects id) + length text) room)
 
-  set_holds : (m : Option Module) (change : Option Change) → IfSome change IsFormedChange → HoldsBounded (with_setting s (both m change))
-  set_holds None change formed = holds
-  set_holds (Some m) None formed = holds
-  set_holds (Some m) (Some change) formed = record { objects = holds.objects; specs = specs_changed m change s.specs formed holds.specs }
+  -- one entity more finds room
+  few_live : (tail : Tail) → (if is_full s.objects then Refuse errno.Enfile else tail) ≡ Do → length s.objects.live < MOST_ENTITIES
+  few_live tail done = leb-false 1024 (length s.objects.live) (passed (is_full s.objects) errno.Enfile tail done).0
+
+  -- the change that a setting is to have
+  change_formed : (root : Bool) (m : Option Module) (change : Option Change) (asked : Module × Change)
+      → (if root then Err errno.Eperm else
+      go_on (or_fail errno.Enoent m) (λ m. if not (is_listed m s.specs) then Err errno.Enoent else go_on (or_fail errno.Einval change) (λ change. Ok (m, change)))) ≡ Ok asked
+      → IfSome change IsFormedChange → IsFormedChange asked.1
+  change_formed true m change asked is formed = cc
+  change_formed false None change asked is formed = cc
+  change_formed false (Some m) change asked is formed = one (is_listed m s.specs) change is formed
+    where
+      one : (b : Bool) (change : Option Change) → (if not b then Err errno.Enoent else go_on (or_fail errno.Einval change) (λ change. Ok (m, change))) ≡ Ok asked
+          → IfSome change IsFormedChange → IsFormedChange asked.1
+      one true (Some change) is formed = let same : change ≡ asked.1 = cc in subst IsFormedChange same formed
+      one true None is formed = cc
+      one false change is formed = cc
 
   switch_formed : (value : Option Bool) → IfSome (option_map FirstMatch value) IsFormedChange
   switch_formed None = tt
   switch_formed (Some enabled) = tt
 
-  pub effect_holds : (task name : List ℕ) (caller : Id) (c : Call) → process_named s.objects name ≡ Some caller → IsFormedCall c → CanDo s task c
-      → HoldsBounded (effect_of s task caller c)
-  effect_holds task name caller (call.Fork child) live formed can = record {
-    objects = added_bounded s.objects (child_name task child) (new_label s.specs kinds.Process (Maker (label_at s.objects caller))) (Process (cred_at s.objects caller)) can.few
-        (process_data s.objects caller holds.objects) (λ dir entry. cc) holds.objects;
-    specs = holds.specs;
-  }
-  effect_holds task name caller call.Exit live formed can = record {
-    objects = removed_bounded s.objects (goes_with caller)
-        (process_goes caller name s.objects.next s.objects.live holds.objects.rising holds.objects.rooted live) holds.objects;
-    specs = holds.specs;
-  }
-  effect_holds task name caller (call.Setpmac label) live formed can = relabelled_holds (relabel_of s (Some caller) (call.Setpmac label))
-  effect_holds task name caller (call.Create path) live formed can =
-      file_holds caller FILE_MODE false path (lookup_along s.objects path).target (omega arith) formed can refl
-  effect_holds task name caller (call.Mkdir path) live formed can =
-      file_holds caller DIRECTORY_MODE true path (lookup_along s.objects path).target (omega arith) formed can refl
-  effect_holds task name caller (call.Write path text) live formed can =
-      changed_holds (appended text) (HasRoom text) (file_at_path s.objects path) (appending text formed.1)
-      (λ id e found at. room_at CONTENT_LIMIT text can.id id e (omega arith) can.room (sym found ∙ ap result_ok can.target) at)
-  effect_holds task name caller (call.Setfmac label path) live formed can = relabelled_holds (relabel_of s (Some caller) (call.Setfmac label path))
-  effect_holds task name caller (call.Chmod path mode) live formed can =
-      changed_holds (with_mode mode) (λ w. Unit {0}) (file_at_path s.objects path) (moding mode formed.1) (λ id e found at. tt)
-  effect_holds task name caller (call.Unlink path) live formed can = entry_holds path (lookup_along s.objects path).target refl
-  effect_holds task name caller (call.Pipe pipe) live formed can = record {
-    objects = added_bounded s.objects pipe (new_label s.specs kinds.Pipe (Maker (label_at s.objects caller))) (new_pipe caller) can.few (pipe_data caller) (λ dir entry. cc) holds.objects;
-    specs = holds.specs;
-  }
-  effect_holds task name caller (call.Socket socket) live formed can = record {
-    objects = added_bounded s.objects socket (new_label s.specs kinds.Socket (Maker (label_at s.objects caller))) (new_socket caller) can.few (socket_data caller) (λ dir entry. cc) holds.objects;
-    specs = holds.specs;
-  }
-  effect_holds task name caller (call.Pread pipe) live formed can =
-      changed_holds cleared (λ w. Unit {0}) (pipe_named s.objects pipe) clearing (λ id e found at. tt)
-  effect_holds task name caller (call.Pwrite pipe text) live formed can =
-      changed_holds (appended text) (HasRoom text) (pipe_named s.objects pipe) (appending text formed.1)
-      (λ id e found at. room_at PIPE_LIMIT text can.id id e (omega arith) can.room (sym found ∙ can.named) at)
-  effect_holds task name caller (call.Setpipemac label pipe) live formed can = relabelled_holds (relabel_of s (Some caller) (call.Setpipemac label pipe))
-  effect_holds task name caller (call.Send from to text) live formed can =
-      changed_holds (with_messages (with_message text)) (λ w. Unit {0}) (socket_named s.objects to) (sending text formed.2) (λ id e found at. tt)
-  effect_holds task name caller (call.Recv socket) live formed can =
-      changed_holds (with_messages (drop 1)) (λ w. Unit {0}) (socket_named s.objects socket) receiving (λ id e found at. tt)
-  effect_holds task name caller (call.Setsockmac label socket) live formed can = relabelled_holds (relabel_of s (Some caller) (call.Setsockmac label socket))
-  effect_holds task name caller (call.Kldload word) live formed can = loaded_holds (module_named word)
-  effect_holds task name caller (call.Kldunload word) live formed can = unloaded_holds (module_named word)
-  effect_holds task name caller (call.Sysctl word value) live formed can =
-      set_holds (listed_module s.specs (call.Sysctl word value)) (change_asked (call.Sysctl word value)) (switch_formed (switch value))
-  effect_holds task name caller (call.UgidfwAdd rule) live formed can =
-      set_holds (listed_module s.specs (call.UgidfwAdd rule)) (change_asked (call.UgidfwAdd rule)) formed
-  effect_holds task name caller (call.UgidfwSet n rule) live formed can =
-      set_holds (listed_module s.specs (call.UgidfwSet n rule)) (change_asked (call.UgidfwSet n rule)) formed.1
-  effect_holds task name caller (call.UgidfwRemove n) live formed can =
-      set_holds (listed_module s.specs (call.UgidfwRemove n)) (change_asked (call.UgidfwRemove n)) tt
-  effect_holds task name caller other live formed can = holds
+  module _ (task name : List ℕ) (me : Id) (named : process_named s.objects name ≡ Some me) where
+    abbrev not_root : Bool
+    not_root = not (nat_eq (cred_at s.objects me).uid 0)
+
+    -- By call: what is found, and the tests that were passed, fit the effect.
+    row_fits : (c : Call) (what : At (about_of s task me c).place) → (look_up s me (about_of s task me c).place).there ≡ Ok what → ((about_of s task me c).row what).tail ≡ Do
+        → IsFormedCall c → Fits s.objects ((about_of s task me c).row what).effect
+    row_fits (call.Fork child) free there done formed = (few_live Do done, process_data s.objects me holds.objects, λ dir entry. cc)
+    row_fits (call.Pipe pipe) free there done formed = (few_live Do done, pipe_data me, λ dir entry. cc)
+    row_fits (call.Socket socket) free there done formed = (few_live Do done, socket_data me, λ dir entry. cc)
+    row_fits (call.Create path) dir there done formed =
+        (few_live Do done, file_data s.objects me dir FILE_MODE false (omega arith) holds.objects,
+        λ at entry. last_component s.objects path dir (free_target (lookup_along s.objects path).target dir there) formed.each)
+    row_fits (call.Mkdir path) dir there done formed =
+        (few_live Do done, file_data s.objects me dir DIRECTORY_MODE true (omega arith) holds.objects,
+        λ at entry. last_component s.objects path dir (free_target (lookup_along s.objects path).target dir there) formed.each)
+    row_fits (call.Write path text) id there done formed =
+        let regular = passed (is_dir s.objects id) errno.Eisdir _ done in
+        let room = passed (overfills CONTENT_LIMIT s.objects text id) errno.Efbig Do regular.1 in
+        (formed.1, λ e live. room_at CONTENT_LIMIT text id e (omega arith) room.0 live)
+    row_fits (call.Pwrite pipe text) id there done formed =
+        let room = passed (overfills PIPE_LIMIT s.objects text id) errno.Eagain Do done in
+        (formed.1, λ e live. room_at PIPE_LIMIT text id e (omega arith) room.0 live)
+    row_fits (call.Chmod path mode) id there done formed = formed.1
+    row_fits (call.Unlink path) entry there done formed =
+        entry_goes entry.0 entry.1 (last_name path) s.objects.next s.objects.live holds.objects.rising holds.objects.rooted
+        (last_entry s.objects path root entry.0 (Some entry.1) (entry_target (lookup_along s.objects path).target entry there))
+    row_fits call.Exit none there done formed = process_goes me name s.objects.next s.objects.live holds.objects.rising holds.objects.rooted named
+    row_fits (call.Send from to text) ends there done formed = formed.2
+    row_fits (call.Sysctl word value) asked there done formed =
+        change_formed not_root (sysctl_module word) (option_map FirstMatch (switch value)) asked there (switch_formed (switch value))
+    row_fits (call.UgidfwAdd rule) asked there done formed = change_formed not_root (Some modules.Bsdextended) (Some (RuleAdd rule)) asked there formed
+    row_fits (call.UgidfwSet n rule) asked there done formed = change_formed not_root (Some modules.Bsdextended) (Some (RuleSet n rule)) asked there formed.1
+    row_fits (call.UgidfwRemove n) asked there done formed = change_formed not_root (Some modules.Bsdextended) (Some (RuleRemove n)) asked there tt
+    row_fits other what there done formed = tt
+
+    call_holds : (c : Call) → IsFormedCall c → (row_for s task c me).tail ≡ Do → HoldsBounded (after s me (row_for s task c me).effect)
+    call_holds c formed done = one (look_up s me (about_of s task me c).place).there refl done
+      where
+        whole : Result (At (about_of s task me c).place) Errno → Row
+        whole there = through (record { checks = (look_up s me (about_of s task me c).place).checks; there = there }) (about_of s task me c).row
+
+        one : (there : Result (At (about_of s task me c).place) Errno) → (look_up s me (about_of s task me c).place).there ≡ there → (whole there).tail ≡ Do
+            → HoldsBounded (after s me (whole there).effect)
+        one (Ok what) is done = effect_holds me ((about_of s task me c).row what).effect (row_fits c what is done formed)
+        one (Err e) is done = holds
+
+  -- the state after a call that may be done
+  pub performed_holds : (task name : List ℕ) (c : Call) (caller : Option Id) → process_named s.objects name ≡ caller → IsFormedCall c → (row_by s task c caller).tail ≡ Do
+      → HoldsBounded (performed_by s task c caller)
+  performed_holds task name c None is formed done = holds
+  performed_holds task name c (Some me) is formed done = call_holds task name me is c formed done

@@ -8,12 +8,13 @@ use Rattle.std.proofs.lemmas.List.Elements.{All-append}
 use Rattle.mf_elem.specs.declared.label.LabelValue.{LabelValue}
 use Rattle.mf_item.specs.declared.view.Kind.TheVariants as kinds
 use Rattle.mf_names.specs.declared.limits.TheConstants.{CONTENT_LIMIT, SCRIPT_LIMIT}
+use Rattle.mf_objects.proofs.Entities.{changed_at}
 use Rattle.mf_objects.specs.declared.limits.TheConstants.{MOST_ENTITIES}
 use Rattle.mf_objects.specs.declared.id.Id.{Id}
 use Rattle.mf_objects.specs.declared.entity.EntityData.{EntityData}
 use Rattle.mf_objects.specs.declared.entity.EntityData.TheVariants.{Process, Vnode, Pipe, Socket}
 use Rattle.mf_objects.specs.Live.{LiveEntity, Entities, content_of, has_id, id_of, is_child, is_entry, is_made_by, is_named, is_process, kind_of, live_at}
-use Rattle.mf_objects.specs.Changes.{appended, changed_at, cleared, goes_with, made, with_change, with_entity, with_message, with_messages, with_mode, with_what, without}
+use Rattle.mf_objects.specs.Changes.{appended, cleared, goes_with, made, with_change, with_entity, with_message, with_messages, with_mode, with_what, without}
 use Rattle.mf_objects.specs.Population.{IsRising}
 use Rattle.mf_objects.proofs.Belonging.{same_id}
 use Rattle.mf_objects.proofs.Finding.{rising_filter}

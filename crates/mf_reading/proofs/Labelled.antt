@@ -5,27 +5,30 @@ use Rattle.std.specs.Prelude.{find}
 use Rattle.std.specs.List.{AllByRecursion}
 use Rattle.std.proofs.lemmas.Bool.Decides.{nat_tests}
 use Rattle.mf_errno.specs.declared.module.Module.{Module}
-use Rattle.mf_errno.specs.declared.module.Module.TheVariants.{Biba, Mls}
 use Rattle.mf_elem.specs.Bounds.{IsRequest}
 use Rattle.mf_elem.specs.declared.label.LabelValue.{LabelValue}
 use Rattle.mf_elem.specs.declared.label.LabelValue.TheVariants.{Unset}
 use Rattle.mf_elem.specs.declared.label.Request.{Request}
 use Rattle.mf_elem.specs.declared.label.TheConstants.{SLOTS}
 use Rattle.mf_item.specs.declared.view.Kind.{Kind}
+use Rattle.mf_policy.specs.declared.modules.Labelling.{Labelling}
+use Rattle.mf_policy.specs.declared.modules.Labelling.TheVariants.{Ranges}
+use Rattle.mf_policy.proofs.EachModule.{has_elements}
 use Rattle.mf_policy.specs.declared.labels.Origin.{Origin}
 use Rattle.mf_policy.specs.declared.labels.Origin.TheVariants.{Boot, Maker}
 use Rattle.mf_policy.specs.Modules.{facts_of, wants_slot}
 use Rattle.mf_policy.specs.NewLabels.{new_label, new_value, value_of}
-use Rattle.mf_policy.specs.Registration.{Entry, entries_without, given_after, holds_slot, slot_for, with_newest}
+use Rattle.mf_policy.specs.Registration.{Entry, entries_without, given_after, holds_slot, registration_of, slot_for, with_newest, with_registered}
 use Rattle.mf_policy.specs.Settings.{change_in}
 use Rattle.mf_policy.specs.Relabelled.{relabelled, relabelled_value}
 use Rattle.mf_policy.specs.Relabelled.{value_of as relabelled_by}
+use Rattle.mf_objects.proofs.Entities.{label_of, changed_at}
 use Rattle.mf_objects.specs.declared.id.Id.{Id}
 use Rattle.mf_objects.specs.declared.entity.EntityData.{EntityData}
-use Rattle.mf_objects.specs.Live.{LiveEntity, has_id, kind_of, label_at, label_of, live_at}
-use Rattle.mf_objects.specs.Changes.{changed_at, made, with_change, with_what}
+use Rattle.mf_objects.specs.Live.{LiveEntity, has_id, kind_of, label_at, live_at}
+use Rattle.mf_objects.specs.Changes.{made, with_change, with_what}
 use Rattle.mf_plan.specs.declared.state.State.{State}
-use Rattle.mf_step.specs.Effect.{with_created, with_loaded, with_objects}
+use Rattle.mf_step.specs.Effect.{with_created, with_objects}
 use Rattle.mf_step.proofs.StateChange.{Deed, StateChange}
 use Rattle.mf_step.proofs.StateChange.StateChange.{same, created, changed, relabels, removed, loaded, unloaded, set_to}
 use Rattle.mf_lifetimes.proofs.Kept.{four_values}
@@ -143,16 +146,15 @@ module _ (specs : List Entry) (given : ℕ) (few : given ≤ SLOTS) (below : All
 
 -- Policies that come
 
-late_unset : (m : Module) → (IsLasting m → ⊥) → FitsLabelling (facts_of m).labels Unset
-late_unset Biba late = absurd (late tt)
-late_unset Mls late = absurd (late tt)
+late_unset : (labels : Labelling) → (has_elements labels ≡ true → ⊥) → FitsLabelling labels Unset
+late_unset (Ranges process other) late = absurd (late refl)
 late_unset other late = tt
 
 new_fits : (m : Module) (booted : Bool) (given : ℕ) (label : List LabelValue) → (IsLasting m → ⊥) → IsUnsetFrom given label → Fits label (newest m booted given).0
 new_fits m booted given label late unset = one (wants_slot m)
   where
     one : (wants : Bool) → FitsSlot m (slot_for wants given) label
-    one true = subst (FitsLabelling (facts_of m).labels) (sym (unset given (omega arith))) (late_unset m late)
+    one true = subst (FitsLabelling (facts_of m).labels) (sym (unset given (omega arith))) (late_unset (facts_of m).labels late)
     one false = tt
 
 fewer_unset : (given : ℕ) (m : Module) (label : List LabelValue) → IsUnsetFrom given label → IsUnsetFrom (given_after given m) label
@@ -218,7 +220,10 @@ created_labelled s from maker name what live listed labelled =
           (new_unset s.specs s.numbers listed.given listed.below listed.single (kind_of what) (Maker (label_at s.objects from)));
     }
 
-loaded_labelled : (s : State) (m : Module) → (IsLasting m → ⊥) → AreLabelled s → AreLabelled (with_loaded s (Some m))
+abbrev with_loaded : State → Module → State
+with_loaded s m = record s { specs = with_registered s.specs (registration_of m s.booted s.numbers); numbers = given_after s.numbers m }
+
+loaded_labelled : (s : State) (m : Module) → (IsLasting m → ⊥) → AreLabelled s → AreLabelled (with_loaded s m)
 loaded_labelled s m late labelled = record {
   fit = all_from (λ (e : LiveEntity). AllFit s.specs e.label × IsUnsetFrom s.numbers e.label) (λ (e : LiveEntity). AllFit (with_newest (newest m s.booted s.numbers) s.specs) e.label) s.objects.live
       (λ e both. all_newest (λ x. Fits e.label x.0) (newest m s.booted s.numbers) s.specs (new_fits m s.booted s.numbers e.label late both.1) both.0)

@@ -18,7 +18,7 @@ use Rattle.mf_policy.specs.Modules.{facts_of, wants_slot}
 use Rattle.mf_policy.specs.Registration.{Entry, is_of}
 use Rattle.mf_list.specs.Asked.{slot_of}
 use Rattle.mf_plan.specs.declared.reply.LabelPart.{LabelPart}
-use Rattle.mf_step.specs.Reply.{label_part, label_parts, shown}
+use Rattle.mf_plan.specs.Payloads.{label_part, label_parts, shown}
 use Rattle.mf_hist.specs.Lines.{IsLabel, number_part, range_part}
 use Rattle.mf_reading.proofs.Bounded.{AllFit, Fits, FitsLabelling, FitsSlot, IsSlotted, IsWhole}
 use Rattle.mf_lifetimes.proofs.Files.{all_both}

@@ -3,6 +3,7 @@ use Rattle.std.proofs.Common.{◌≡◌, ℕ, zero, suc, ◌+◌, ◌<◌, ◌�
 use Rattle.std.specs.Prelude.{fold}
 use Rattle.std.specs.List.{AllByRecursion}
 use Rattle.std.proofs.lemmas.List.{get_or_default, length-append, take_all}
+use Rattle.mf_core.proofs.LookedUp.{with_task_at}
 use Rattle.mf_errno.specs.declared.module.Module.{Module}
 use Rattle.mf_errno.specs.declared.module.Module.TheVariants as modules
 use Rattle.mf_elem.specs.Bounds.{IsRequest}
@@ -31,7 +32,7 @@ use Rattle.mf_plan.specs.declared.target.Target.{Target}
 use Rattle.mf_plan.specs.declared.target.Target.TheVariants.{Root, Name, Nowhere}
 use Rattle.mf_plan.specs.Path.{last_name, lookup_along}
 use Rattle.mf_plan.specs.Views.{process_named}
-use Rattle.mf_core.specs.Opening.{booted_specs, given_by, listed_by, opening_objects, opening_state, registrations_from, root_alone, with_file, with_file_at, with_task, with_task_at}
+use Rattle.mf_core.specs.Opening.{booted_specs, opening_objects, opening_state, registrations_from, root_alone, with_file, with_file_at, with_task}
 use Rattle.mf_core.proofs.Reached.{AreLoaded, loaded_more, loaded_none}
 use Rattle.mf_lifetimes.proofs.Boots.{boots_below, boots_single}
 use Rattle.mf_lifetimes.proofs.Listing.{AllBelow, AtMostOne, all_newest, newest}
@@ -82,12 +83,12 @@ whole boots = take_all (length boots) boots (omega arith)
 booted_once : (s : Script) → IsWellFormed s → IsListedOnce (booted_specs s)
 booted_once s formed =
     let loaded = loaded_first s.boots formed.boots (length s.boots) (omega arith) in
-    subst IsListedOnce (loaded.are.specs_are ∙ ap (λ (ms : List Module). listed_by (registrations_from 0 ms)) (whole s.boots)) loaded.are.once
+    subst IsListedOnce (loaded.are.specs_are ∙ ap (λ (ms : List Module). fold with_registered [] (registrations_from 0 ms)) (whole s.boots)) loaded.are.once
 
-few_numbers : (s : Script) → IsWellFormed s → given_by s.boots ≤ SLOTS
+few_numbers : (s : Script) → IsWellFormed s → fold given_after 0 s.boots ≤ SLOTS
 few_numbers s formed =
-    let few : given_by (take (length s.boots) s.boots) ≤ 3 = few_given s.boots (length s.boots) formed.boots in
-    omega (arith, few, ap given_by (whole s.boots))
+    let few : fold given_after 0 (take (length s.boots) s.boots) ≤ 3 = few_given s.boots (length s.boots) formed.boots in
+    omega (arith, few, ap (fold given_after 0) (whole s.boots))
 
 opening_listed : (s : Script) → IsWellFormed s → AreListed (opening_state s)
 opening_listed s formed = record {
@@ -197,7 +198,7 @@ module _ (listed : List Entry) (given : ℕ) (few : given ≤ SLOTS) (below : Al
 pub opening_bounded : (s : Script) → IsWellFormed s → IsBoundedState (opening_state s)
 opening_bounded s formed =
     let listed = opening_listed s formed in
-    let opened = all_opened (booted_specs s) (given_by s.boots) listed.given listed.below listed.single s formed in
+    let opened = all_opened (booted_specs s) (fold given_after 0 s.boots) listed.given listed.below listed.single s formed in
     record {
       holds = record {
         objects = opened.bounded;

@@ -1,9 +1,11 @@
 -- The reply to a call fits its fields, where the state is within the bounds.
-use Rattle.std.proofs.Common.{◌≡◌, ℕ, ◌<◌, ◌≤◌, ◌^◌, Bool, true, false, List, [], length, map, Option, Some, None, refl, ap, sym, subst, arith}
+use Rattle.std.proofs.Common.{◌≡◌, ℕ, ◌<◌, ◌≤◌, ◌^◌, Bool, true, false, List, [], length, map, Option, Some, None, Result, Ok, Err, refl, ap, sym, subst, arith}
+use Rattle.std.specs.Option.{is_none}
 use Rattle.std.specs.Prelude.{if◌then◌else◌, find, position, option_and_then, slice_index_or, slice_set, IfSome}
+use Rattle.std.specs.Result.{result_ok}
 use Rattle.std.proofs.lemmas.List.{length-map}
 use Rattle.std.proofs.lemmas.List.Quantifiers.{position-Some}
-use Rattle.mf_errno.specs.Names.{module_named}
+use Rattle.mf_errno.specs.declared.errno.Errno.{Errno}
 use Rattle.mf_errno.specs.declared.module.Module.{Module}
 use Rattle.mf_errno.specs.declared.module.Module.TheVariants as modules
 use Rattle.mf_policy.specs.declared.settings.Change.{Change}
@@ -12,13 +14,14 @@ use Rattle.mf_policy.specs.declared.settings.Changed.{Changed}
 use Rattle.mf_policy.specs.declared.spec.Spec.{Spec}
 use Rattle.mf_policy.specs.declared.spec.Spec.TheVariants as means
 use Rattle.mf_policy.specs.Modules.{wants_slot}
-use Rattle.mf_policy.specs.Registration.{Entry, is_of, slot_for}
+use Rattle.mf_policy.specs.Registration.{Entry, is_of}
 use Rattle.mf_policy.specs.Settings.{change_at, change_in, change_of, done, listed_rules, no_setting, rules_of, with_rule}
-use Rattle.mf_rule.specs.RuleList.{Slots, is_free}
+use Rattle.mf_rule.specs.RuleList.{Slots}
 use Rattle.mf_list.proofs.Counts.{listed_few}
 use Rattle.mf_names.specs.declared.limits.TheConstants.{CONTENT_LIMIT, SCRIPT_LIMIT}
+use Rattle.mf_objects.proofs.Entities.{label_of}
 use Rattle.mf_objects.specs.declared.id.Id.{Id}
-use Rattle.mf_objects.specs.Live.{LiveEntity, Entities, content_at, count_at, has_id, is_named, is_process, kind_at, label_at, label_of, live_at, messages_at}
+use Rattle.mf_objects.specs.Live.{LiveEntity, Entities, content_at, count_at, has_id, is_named, is_process, kind_at, label_at, live_at, messages_at}
 use Rattle.mf_objects.specs.Titles.{names_at}
 use Rattle.mf_objects.proofs.Finding.{found_live}
 use Rattle.mf_calls.specs.declared.script.Call.{Call}
@@ -32,12 +35,15 @@ use Rattle.mf_plan.specs.declared.reply.Payload.TheVariants as payload
 use Rattle.mf_plan.specs.declared.state.State.{State}
 use Rattle.mf_plan.specs.Names.{caller_name}
 use Rattle.mf_plan.specs.Path.{file_at_path}
-use Rattle.mf_plan.specs.Plan.{plan_of}
+use Rattle.mf_plan.specs.Payloads.{head, label, loaded, message, names, rule_number, rules, size, stat}
+use Rattle.mf_plan.specs.Plan.{plan_of, row_by, row_for}
 use Rattle.mf_plan.specs.Planned.{Plan}
-use Rattle.mf_plan.specs.Settings.{setting}
-use Rattle.mf_plan.specs.Views.{is_dir, pipe_named, process_named, socket_named}
+use Rattle.mf_plan.specs.Row.{if_there}
+use Rattle.mf_plan.specs.Rows.{about_of}
+use Rattle.mf_plan.specs.Views.{is_dir, process_named}
+use Rattle.mf_plan.specs.Ways.{At, look_up}
 use Rattle.mf_step.specs.declared.verdict.Denial.{Denial}
-use Rattle.mf_step.specs.Reply.{denied_reply, head, label, loaded, message, names, payload_of, payload_of_found, rule_number, rules, size, stat, tail_reply}
+use Rattle.mf_step.specs.Reply.{denied_reply, tail_reply}
 use Rattle.mf_step.specs.Step.{step_payload, step_reply}
 use Rattle.mf_step.specs.Verdict.{denial_from, verdict_of}
 use Rattle.mf_hist.proofs.Legal.{slot_fits}
@@ -51,11 +57,6 @@ use Rattle.mf_reading.proofs.Lists.{all_found, all_mapped, either_way}
 use Rattle.mf_reading.proofs.Plans.{denied_within, few_checks}
 
 -- Payloads
-
--- what is read of an entity fits where it is read of the entity that is found
-found_fits : {A : Type 0} (read : A → Payload) (found : Option A) → ((x : A) → found ≡ Some x → IsPayload (read x)) → IsPayload (payload_of_found read found)
-found_fits read None fits = tt
-found_fits read (Some x) fits = fits x refl
 
 names_of : (o : Entities) (id : Id) → AreBounded o → IsPayload (names o id)
 names_of o id bounded = one (is_dir o id) refl
@@ -88,14 +89,14 @@ listed_fit (Some slots) fits = fits
 -- the number of a rule that is added is one of a rule list
 change_number : (spec : Spec) (change : Change) → IsBoundedSpec spec → IfSome (change_of spec change).0.number (λ n. n < 2 ^ 32)
 change_number (means.Bsdextended slots first) (FirstMatch enabled) fits = tt
-change_number (means.Bsdextended slots first) (RuleAdd rule) fits = one (position is_free slots) refl
+change_number (means.Bsdextended slots first) (RuleAdd rule) fits = one (position is_none slots) refl
   where
-    one : (place : Option ℕ) → position is_free slots ≡ place → IfSome (with_rule slots first rule place).0.number (λ n. n < 2 ^ 32)
+    one : (place : Option ℕ) → position is_none slots ≡ place → IfSome (with_rule slots first rule place).0.number (λ n. n < 2 ^ 32)
     one None is = tt
-    one (Some n) is = omega (arith, (position-Some is_free slots n None is).0, fits.all)
+    one (Some n) is = omega (arith, (position-Some is_none slots n None is).0, fits.all)
 change_number (means.Bsdextended slots first) (RuleSet n rule) fits = tt
 change_number (means.Bsdextended slots first) (RuleRemove n) fits =
-    either_way (λ (c : Changed × Spec). IfSome c.0.number (λ n. n < 2 ^ 32)) (is_free (slice_index_or slots n None)) (no_setting, means.Bsdextended slots first)
+    either_way (λ (c : Changed × Spec). IfSome c.0.number (λ n. n < 2 ^ 32)) (is_none (slice_index_or slots n None)) (no_setting, means.Bsdextended slots first)
     (done, means.Bsdextended (slice_set slots n None) first) tt tt
 change_number other change fits = tt
 
@@ -141,25 +142,37 @@ module _ (s : State) (bounded : IsBoundedState s) where
         (λ x below. slots_fit s.numbers x.0.slot small_given below) bounded.listed.below;
   }
 
-  payload_fits : (name : List ℕ) (c : Call) → IsPayload (payload_of s (process_named s.objects name) c)
-  payload_fits name call.Getpmac = found_fits (label s) (process_named s.objects name) (caller_label name)
-  payload_fits name (call.Read path) = found_fits (head s.objects) (file_at_path s.objects path) (λ id found. head_at id)
-  payload_fits name (call.Stat path) = found_fits (stat s.objects) (file_at_path s.objects path) (λ id found. (file_fits s.objects id bounded.holds.objects, size_at id))
-  payload_fits name (call.Getfmac path) = found_fits (label s) (file_at_path s.objects path) (file_label path)
-  payload_fits name (call.Readdir path) = found_fits (names s.objects) (file_at_path s.objects path) (λ id found. names_of s.objects id bounded.holds.objects)
-  payload_fits name (call.Pread pipe) = found_fits (head s.objects) (pipe_named s.objects pipe) (λ id found. head_at id)
-  payload_fits name (call.Pstat pipe) = found_fits (size s.objects) (pipe_named s.objects pipe) (λ id found. size_at id)
-  payload_fits name (call.Recv socket) =
-      found_fits (message s.objects) (socket_named s.objects socket)
-      (λ id found. head_fits SCRIPT_LIMIT (slice_index_or (messages_at s.objects id) 0 []) (omega arith) (message_fits s.objects id bounded.holds.objects))
-  payload_fits name call.Kldstat = loaded_fit
-  payload_fits name (call.Kldload word) =
-      found_fits (λ m. payload.Slot (slot_for (wants_slot m) s.numbers)) (module_named word) (λ m found. slot_fits (wants_slot m) s.numbers small_given)
-  payload_fits name call.UgidfwList = listed_fit (listed_rules s.specs) (rules_fit s.specs bounded.holds.specs)
-  payload_fits name (call.UgidfwAdd rule) =
-      found_fits (λ asked. rule_number (change_in asked.0 asked.1 s.specs).0.number) (setting s.specs (call.UgidfwAdd rule))
-      (λ asked found. numbered_fit (change_in asked.0 asked.1 s.specs).0.number (number_fits asked.0 asked.1 s.specs bounded.holds.specs))
-  payload_fits name other = tt
+  module _ (task name : List ℕ) (me : Id) (named : process_named s.objects name ≡ Some me) where
+    -- by what is found
+    payload_row : (c : Call) (what : At (about_of s task me c).place) → (look_up s me (about_of s task me c).place).there ≡ Ok what
+        → IsPayload ((about_of s task me c).row what).payload
+    payload_row call.Getpmac id there = let same : me ≡ id = cc in subst (λ (x : Id). IsPayload (label s x)) same (caller_label name me named)
+    payload_row (call.Read path) id there = head_at id
+    payload_row (call.Stat path) id there = (file_fits s.objects id bounded.holds.objects, size_at id)
+    payload_row (call.Getfmac path) id there = file_label path id (ap result_ok there)
+    payload_row (call.Readdir path) id there = names_of s.objects id bounded.holds.objects
+    payload_row (call.Pread pipe) id there = head_at id
+    payload_row (call.Pstat pipe) id there = size_at id
+    payload_row (call.Recv socket) id there =
+        head_fits SCRIPT_LIMIT (slice_index_or (messages_at s.objects id) 0 []) (omega arith) (message_fits s.objects id bounded.holds.objects)
+    payload_row call.Kldstat none there = loaded_fit
+    payload_row (call.Kldload word) m there = slot_fits (wants_slot m) s.numbers small_given
+    payload_row call.UgidfwList listed there = listed_fit (listed_rules s.specs) (rules_fit s.specs bounded.holds.specs)
+    payload_row (call.UgidfwAdd rule) asked there =
+        numbered_fit (change_in asked.0 asked.1 s.specs).0.number (number_fits asked.0 asked.1 s.specs bounded.holds.specs)
+    payload_row other what there = tt
+
+    payload_for : (c : Call) → IsPayload (row_for s task c me).payload
+    payload_for c = one (look_up s me (about_of s task me c).place).there refl
+      where
+        one : (there : Result (At (about_of s task me c).place) Errno) → (look_up s me (about_of s task me c).place).there ≡ there
+            → IsPayload (if_there (λ found. ((about_of s task me c).row found).payload) (λ e. payload.None) there)
+        one (Ok what) is = payload_row c what is
+        one (Err e) is = tt
+
+  payload_fits : (task name : List ℕ) (c : Call) (caller : Option Id) → process_named s.objects name ≡ caller → IsPayload (row_by s task c caller).payload
+  payload_fits task name c None is = tt
+  payload_fits task name c (Some me) is = payload_for task name me is c
 
   -- Replies
 
@@ -175,4 +188,4 @@ module _ (s : State) (bounded : IsBoundedState s) where
   pub reply_fits : (task : List ℕ) (child : Option (List ℕ)) (c : Call) → IsFormedCall c → IsReply (step_reply s task child c)
   reply_fits task child c formed =
       denied_fits (plan_of s task child c) (verdict_of s.specs (plan_of s task child c)).denied (step_payload s task child c)
-      (few_checks s task child c formed) refl (payload_fits (caller_name task child) c)
+      (few_checks s task child c formed) refl (payload_fits task (caller_name task child) c (process_named s.objects (caller_name task child)) refl)

@@ -1,8 +1,8 @@
 -- What a call asks of a label is a request that a label text can spell.
 use Rattle.std.proofs.Common.{◌≡◌, ℕ, Bool, true, false, List, Option, Some, None, Result, Ok, Err, refl, ap, subst}
-use Rattle.std.specs.Option.{option_zip}
 use Rattle.std.specs.Prelude.{if◌then◌else◌, option_and_then}
 use Rattle.std.specs.Result.{result_ok}
+use Rattle.mf_errno.specs.declared.errno.Errno.{Errno}
 use Rattle.mf_elem.specs.Bounds.{IsRequest}
 use Rattle.mf_elem.specs.declared.label.Request.{Request}
 use Rattle.mf_item.specs.declared.view.Kind.{Kind}
@@ -18,9 +18,16 @@ use Rattle.mf_plan.specs.declared.reply.Reply.{Reply}
 use Rattle.mf_plan.specs.declared.reply.Reply.TheVariants as reply
 use Rattle.mf_plan.specs.declared.state.State.{State}
 use Rattle.mf_plan.specs.Names.{caller_name}
-use Rattle.mf_plan.specs.Path.{file_at_path}
-use Rattle.mf_plan.specs.Relabels.{claimed_in, if_claimed, relabel_of, request_asked}
-use Rattle.mf_plan.specs.Views.{pipe_named, process_named, socket_named}
+use Rattle.mf_plan.specs.Effect.{relabels}
+use Rattle.mf_plan.specs.Effect.Effect.{Relabel, Unchanged}
+use Rattle.mf_plan.specs.Plan.{row_by, row_for, row_of}
+use Rattle.mf_plan.specs.Relabels.{claimed_in, if_claimed}
+use Rattle.mf_plan.specs.Row.{if_there}
+use Rattle.mf_plan.specs.Rows.{about_of}
+use Rattle.mf_plan.specs.Views.{process_named}
+use Rattle.mf_plan.specs.Ways.{At, Place, look_up}
+use Rattle.mf_plan.specs.Ways.Place.{Asking, Caller, File, Named}
+use Rattle.mf_plan.proofs.Finding.{request_there}
 use Rattle.mf_step.specs.Step.{after_reply, step_reply}
 use Rattle.mf_step.proofs.StateChange.{step_by}
 use Rattle.mf_reading.proofs.Labelled.{AsksRequests}
@@ -47,36 +54,43 @@ claimed_request listed kind text request is = one (result_ok (request_in text)) 
     one None at some = cc
     one (Some read) at some = subst IsRequest (by_test (is_claimed listed kind read) read some) (read_request text read at)
 
--- the second of two that are there
-zipped_second : {A B : Type 0} (a : Option A) (b : Option B) (x : A) (y : B) → option_zip a b ≡ Some (x, y) → b ≡ Some y
-zipped_second None b x y is = cc
-zipped_second (Some a) None x y is = cc
-zipped_second {A} {B} (Some a) (Some b) x y is =
-    let same : (a, b) ≡ (x, y) = cc in
-    ap (λ (both : A × B). Some both.1) same
+-- what a text asks for that a call goes by
 
-relabel_request : (s : State) (caller : Option Id) (c : Call) (id : Id) (request : Request) → relabel_of s caller c ≡ Some (id, request) → IsRequest request
-relabel_request s caller (call.Setpmac label) id request is =
-    claimed_request s.specs kinds.Process label request (zipped_second caller (request_asked s.specs (call.Setpmac label)) id request is)
-relabel_request s caller (call.Setfmac label path) id request is =
-    claimed_request s.specs kinds.Vnode label request
-    (zipped_second (file_at_path s.objects path) (request_asked s.specs (call.Setfmac label path)) id request is)
-relabel_request s caller (call.Setpipemac label name) id request is =
-    claimed_request s.specs kinds.Pipe label request
-    (zipped_second (pipe_named s.objects name) (request_asked s.specs (call.Setpipemac label name)) id request is)
-relabel_request s caller (call.Setsockmac label name) id request is =
-    claimed_request s.specs kinds.Socket label request
-    (zipped_second (socket_named s.objects name) (request_asked s.specs (call.Setsockmac label name)) id request is)
-relabel_request s caller other id request is = cc
+same_second : (a b : Id × Request) → Some a ≡ Some b → a.1 ≡ b.1
+same_second a b is = let same : a ≡ b = cc in ap (λ (x : Id × Request). x.1) same
+
+module _ (s : State) (task : List ℕ) (me : Id) where
+  asked_request : (kind : Kind) (text : List ℕ) (place : Place) (asked : Request × At place) (id to : Id) (request : Request)
+      → (look_up s me (Asking kind text place)).there ≡ Ok asked → relabels (Relabel to asked.0) ≡ Some (id, request) → IsRequest request
+  asked_request kind text place asked id to request there is =
+      subst IsRequest (same_second (to, asked.0) (id, request) is) (claimed_request s.specs kind text asked.0 (request_there s me (Asking kind text place) asked there))
+
+  row_request : (c : Call) (what : At (about_of s task me c).place) → (look_up s me (about_of s task me c).place).there ≡ Ok what → (id : Id) (request : Request)
+      → relabels ((about_of s task me c).row what).effect ≡ Some (id, request) → IsRequest request
+  row_request (call.Setpmac text) asked there id request is = asked_request kinds.Process text Caller asked id asked.1 request there is
+  row_request (call.Setfmac text path) asked there id request is = asked_request kinds.Vnode text (File path) asked id asked.1 request there is
+  row_request (call.Setpipemac text name) asked there id request is = asked_request kinds.Pipe text (Named kinds.Pipe name) asked id asked.1 request there is
+  row_request (call.Setsockmac text name) asked there id request is = asked_request kinds.Socket text (Named kinds.Socket name) asked id asked.1 request there is
+  row_request other what there id request is = cc
+
+  call_request : (c : Call) (id : Id) (request : Request) → relabels (row_for s task c me).effect ≡ Some (id, request) → IsRequest request
+  call_request c id request is = one (look_up s me (about_of s task me c).place).there refl is
+    where
+      one : (there : Result (At (about_of s task me c).place) Errno) → (look_up s me (about_of s task me c).place).there ≡ there
+          → relabels (if_there (λ found. ((about_of s task me c).row found).effect) (λ e. Unchanged) there) ≡ Some (id, request) → IsRequest request
+      one (Ok what) at asked = row_request c what at id request asked
+      one (Err e) at asked = cc
+
+caller_request : (s : State) (task : List ℕ) (c : Call) (caller : Option Id) (id : Id) (request : Request) → relabels (row_by s task c caller).effect ≡ Some (id, request)
+    → IsRequest request
+caller_request s task c None id request is = cc
+caller_request s task c (Some me) id request is = call_request s task me c id request is
 
 -- so does every step
 pub step_requests : (s : State) (task : List ℕ) (child : Option (List ℕ)) (c : Call) → AsksRequests (step_by s task child c)
 step_requests s task child c id request asked = one (step_reply s task child c) asked
   where
-    caller : Option Id
-    caller = process_named s.objects (caller_name task child)
-
-    one : (r : Reply) → after_reply r None (relabel_of s caller c) ≡ Some (id, request) → IsRequest request
-    one (reply.Ok p) is = relabel_request s caller c id request is
+    one : (r : Reply) → after_reply r None (relabels (row_of s task child c).effect) ≡ Some (id, request) → IsRequest request
+    one (reply.Ok p) is = caller_request s task c (process_named s.objects (caller_name task child)) id request is
     one (reply.Denied errno op item by) is = cc
     one (reply.Refused errno) is = cc

@@ -1,10 +1,11 @@
 -- The rules of a listed policy stay such as words can stand for.
 use Rattle.std.proofs.Common.{◌≡◌, ℕ, Bool, true, false, cond, List, [], ◌∷◌, Option, Some, None, refl, ◌∙◌}
+use Rattle.std.specs.Option.{is_none}
 use Rattle.std.specs.Prelude.{find, position, replicate, slice_index_or, slice_set, IfSome}
 use Rattle.std.proofs.lemmas.List.{length-replicate, length-set}
 use Rattle.std.proofs.lemmas.List.Elements.{All-from_recursion, All-replicate, All-set, recursion_from_All}
 use Rattle.mf_errno.specs.declared.module.Module.{Module}
-use Rattle.mf_errno.specs.declared.module.Module.TheVariants.{Biba, Mls, Partition, Bsdextended, Priority}
+use Rattle.mf_errno.specs.declared.module.Module.TheVariants.{Bsdextended}
 use Rattle.mf_policy.specs.declared.settings.Change.{Change}
 use Rattle.mf_policy.specs.declared.settings.Change.TheVariants.{FirstMatch, RuleAdd, RuleSet, RuleRemove}
 use Rattle.mf_policy.specs.declared.settings.Changed.{Changed}
@@ -14,7 +15,7 @@ use Rattle.mf_policy.specs.Modules.{fresh_of}
 use Rattle.mf_policy.specs.Registration.{Entry, is_of}
 use Rattle.mf_policy.specs.Settings.{change_at, change_in, change_of, done, no_setting, with_rule, with_spec, without_rule}
 use Rattle.mf_rule.specs.RuleGrammar.{IsRule}
-use Rattle.mf_rule.specs.RuleList.{Slots, is_free}
+use Rattle.mf_rule.specs.RuleList.{Slots}
 use Rattle.mf_rule.specs.declared.rule.Rule.{Rule}
 use Rattle.mf_rule.specs.declared.rule_list.TheConstants.{MAX_RULES}
 use Rattle.mf_hist.specs.Lines.{AreRules}
@@ -26,14 +27,11 @@ no_rule = None
 
 -- a policy in its initial state
 pub fresh_bounded : (m : Module) → IsBoundedSpec (fresh_of m)
-fresh_bounded Biba = tt
-fresh_bounded Mls = tt
-fresh_bounded Partition = tt
 fresh_bounded Bsdextended = record {
   all = length-replicate MAX_RULES no_rule;
   each = recursion_from_All (λ (slot : Option Rule). IfSome slot IsRule) (replicate MAX_RULES no_rule) (All-replicate (λ (slot : Option Rule). IfSome slot IsRule) MAX_RULES no_rule tt);
 }
-fresh_bounded Priority = tt
+fresh_bounded other = tt
 
 -- a change with a rule that words can stand for, where it has one
 abbrev pub IsFormedChange : Change → Type 0
@@ -54,12 +52,12 @@ rule_added rules first rule (Some n) formed fits = slot_set rules n (Some rule) 
 
 rule_removed : (rules : Slots) (first : Bool) (n : ℕ) → AreRules rules → IsBoundedSpec (without_rule rules first n).1
 rule_removed rules first n fits =
-    either_way (λ (c : Changed × Spec). IsBoundedSpec c.1) (is_free (slice_index_or rules n None)) (no_setting, means.Bsdextended rules first)
+    either_way (λ (c : Changed × Spec). IsBoundedSpec c.1) (is_none (slice_index_or rules n None)) (no_setting, means.Bsdextended rules first)
     (done, means.Bsdextended (slice_set rules n None) first) fits (slot_set rules n None tt fits)
 
 change_bounded : (spec : Spec) (change : Change) → IsFormedChange change → IsBoundedSpec spec → IsBoundedSpec (change_of spec change).1
 change_bounded (means.Bsdextended rules first) (FirstMatch enabled) formed fits = fits
-change_bounded (means.Bsdextended rules first) (RuleAdd rule) formed fits = rule_added rules first rule (position is_free rules) formed fits
+change_bounded (means.Bsdextended rules first) (RuleAdd rule) formed fits = rule_added rules first rule (position is_none rules) formed fits
 change_bounded (means.Bsdextended rules first) (RuleSet n rule) formed fits = slot_set rules n (Some rule) formed fits
 change_bounded (means.Bsdextended rules first) (RuleRemove n) formed fits = rule_removed rules first n fits
 change_bounded other change formed fits = tt

@@ -3,7 +3,7 @@ use Rattle.std.proofs.Common.{◌≡◌, ℕ, ◌<◌, List, [], ◌∷◌, leng
 use Rattle.std.specs.Prelude.{All, option_map, slice_get, unwrap_or}
 use Rattle.std.specs.List.{AllByRecursion}
 use Rattle.std.proofs.lemmas.Option.{slice_get-get_or, slice_get_within}
-use Rattle.mf_objects.specs.declared.id.Id.{Id}
+use Rattle.mf_core.proofs.LookedUp.{reply_at, state_at}
 use Rattle.mf_calls.specs.declared.script.Call.{Call}
 use Rattle.mf_calls.specs.declared.script.Line.{Line}
 use Rattle.mf_calls.specs.declared.script.Script.{Script}
@@ -13,26 +13,24 @@ use Rattle.mf_calls.specs.WellFormed.{IsFormedCall, IsFormedLine, IsFormedTask, 
 use Rattle.mf_plan.specs.declared.reply.Reply.{Reply}
 use Rattle.mf_plan.specs.declared.reply.Reply.TheVariants as reply
 use Rattle.mf_plan.specs.declared.state.State.{State}
-use Rattle.mf_plan.specs.Doing.{CanDo}
 use Rattle.mf_plan.specs.Names.{caller_name}
 use Rattle.mf_plan.specs.Plan.{plan_of}
 use Rattle.mf_plan.specs.Views.{process_named}
 use Rattle.mf_plan.specs.declared.plan.Tail.TheVariants.{Do}
-use Rattle.mf_plan.proofs.Laws.{can_do}
-use Rattle.mf_step.specs.Step.{after_reply, performed_by, performed, step_payload, step_reply, step_state}
+use Rattle.mf_step.specs.Step.{after_reply, performed, step_payload, step_reply, step_state}
 use Rattle.mf_step.specs.Verdict.{verdict_of}
 use Rattle.mf_step.proofs.StateChange.{step_change}
 use Rattle.mf_core.specs.declared.history.Event.{Event}
 use Rattle.mf_core.specs.declared.history.Event.TheVariants as event
 use Rattle.mf_core.specs.Progress.{progress_at}
-use Rattle.mf_core.specs.LegalHistory.{AllMayCome, MayCome, RunState, after, next_line, next_reply, next_state, opening, reply_at, state_at}
+use Rattle.mf_core.specs.LegalHistory.{AllMayCome, MayCome, RunState, after, next_line, next_reply, next_state, opening}
 use Rattle.mf_core.proofs.SameLists.{ok_do, step_once}
 use Rattle.mf_hist.specs.Legal.{HasReply}
 use Rattle.mf_hist.specs.Lines.{IsReply}
 use Rattle.mf_hist.proofs.Legal.{legal_readable}
 use Rattle.mf_reading.specs.Laws.{LegalHistoriesAreRead, RepliesFit}
 use Rattle.mf_reading.proofs.Bounded.{HoldsBounded, IsBoundedState}
-use Rattle.mf_reading.proofs.Effects.{effect_holds}
+use Rattle.mf_reading.proofs.Effects.{performed_holds}
 use Rattle.mf_reading.proofs.Finding.{objects_rooted}
 use Rattle.mf_reading.proofs.Labelled.{keeps_labelled}
 use Rattle.mf_reading.proofs.Listed.{keeps_listed}
@@ -42,11 +40,6 @@ use Rattle.mf_reading.proofs.Requests.{step_requests}
 
 -- One call
 
-performed_holds : (s : State) (task name : List ℕ) (c : Call) (caller : Option Id) → process_named s.objects name ≡ caller → IsFormedCall c → CanDo s task c → HoldsBounded s
-    → HoldsBounded (performed_by s task c caller)
-performed_holds s task name c None is formed can holds = holds
-performed_holds s task name c (Some caller) is formed can holds = effect_holds s holds task name caller c is formed can
-
 module _ (s : State) (task : List ℕ) (child : Option (List ℕ)) (c : Call) (formed : IsFormedCall c) where
   step_holds : HoldsBounded s → HoldsBounded (step_state s task child c)
   step_holds holds = one (step_reply s task child c) refl
@@ -54,7 +47,7 @@ module _ (s : State) (task : List ℕ) (child : Option (List ℕ)) (c : Call) (f
       one : (r : Reply) → step_reply s task child c ≡ r → HoldsBounded (after_reply r s (performed s task child c))
       one (reply.Ok p) is =
           let may : (plan_of s task child c).tail ≡ Do = ok_do (plan_of s task child c) (verdict_of s.specs (plan_of s task child c)) (step_payload s task child c) p is in
-          performed_holds s task (caller_name task child) c (process_named s.objects (caller_name task child)) refl formed (can_do s task child c may) holds
+          performed_holds s holds task (caller_name task child) c (process_named s.objects (caller_name task child)) refl formed may
       one (reply.Denied errno op item by) is = holds
       one (reply.Refused errno) is = holds
 

@@ -1,12 +1,13 @@
 -- What a policy puts into its slot fits its labelling: at boot, of a new entity's maker, and by a relabel.
-use Rattle.std.specs.Option.{option_or}
-use Rattle.std.proofs.Common.{◌≡◌, ℕ, ◌≤◌, Bool, true, false, cond, nat_eq, Option, Some, None, refl, arith}
+use Rattle.std.specs.Option.{option_map_or, option_or}
+use Rattle.std.proofs.Common.{◌≡◌, ℕ, ◌≤◌, Bool, true, false, cond, ◌&&◌, if◌then◌else◌, nat_eq, Option, Some, None, refl, arith}
+use Rattle.std.proofs.lemmas.Bool.{and_parts}
 use Rattle.std.specs.Prelude.{IfSome, is_some, unwrap_or}
 use Rattle.mf_errno.specs.declared.module.Module.{Module}
-use Rattle.mf_errno.specs.declared.module.Module.TheVariants.{Biba, Mls, Partition}
+use Rattle.mf_errno.proofs.Modules.{each_passes}
 use Rattle.mf_elem.specs.Bounds.{IsAskedLabel, IsElement, IsRequest}
 use Rattle.mf_elem.specs.declared.elem.Elem.{Elem}
-use Rattle.mf_elem.specs.declared.elem.Elem.TheVariants.{Low, High}
+use Rattle.mf_elem.specs.declared.elem.Elem.TheVariants.{Low, High, Equal, Grade}
 use Rattle.mf_elem.specs.declared.label.LabelValue.{LabelValue}
 use Rattle.mf_elem.specs.declared.label.LabelValue.TheVariants.{Unset, Range, Number}
 use Rattle.mf_elem.specs.declared.label.RangeLabel.{RangeLabel}
@@ -15,9 +16,11 @@ use Rattle.mf_elem.specs.declared.label.TheConstants.{LAST_PARTITION}
 use Rattle.mf_elem.specs.Label.{replaced}
 use Rattle.mf_item.specs.declared.view.Kind.{Kind}
 use Rattle.mf_item.specs.declared.view.Kind.TheVariants as kinds
-use Rattle.mf_policy.specs.declared.modules.Labelling.TheVariants.{Partitions}
-use Rattle.mf_policy.specs.Modules.{boot_value, default_range, facts_of, inherited, inherited_partition, inherited_range, ranges_at}
-use Rattle.mf_policy.specs.Relabelled.{number_after, range_after, value_after}
+use Rattle.mf_policy.specs.declared.modules.Labelling.{Labelling}
+use Rattle.mf_policy.specs.declared.modules.Labelling.TheVariants.{Nothing, Ranges, Partitions}
+use Rattle.mf_policy.specs.Modules.{boot_by, boot_value, default_range, facts_of, has_partition, inherited, inherited_by, inherited_partition, labels_by, number_asked, range_asked}
+use Rattle.mf_policy.specs.Relabelled.{after_by, value_after}
+use Rattle.mf_policy.proofs.EachModule.{number_spelled, range_spelled}
 use Rattle.mf_reading.proofs.Bounded.{FitsLabelling, IsWhole}
 
 -- Labels with ranges
@@ -41,39 +44,76 @@ replaced_whole label (Some asked) whole fits = record {
 
 -- At boot
 
--- the labels that a policy with this element gives, a process and another entity
+-- whether the element has a name, and so no grade
+is_named_element : Elem → Bool
+is_named_element (Grade grade comps) = false
+is_named_element other = true
 
-abbrev process_label : Elem → RangeLabel
-process_label element = record { effective = Some element; range = Some (Low, High) }
+is_named_label : RangeLabel → Bool
+is_named_label label =
+    is_some label.effective && option_map_or is_named_element label.effective true
+    && option_map_or (λ (ends : Elem × Elem). is_named_element ends.0 && is_named_element ends.1) label.range true
 
-abbrev other_label : Elem → RangeLabel
-other_label element = record { effective = Some element; range = None }
+element_named : (element : Elem) → is_named_element element ≡ true → IsElement element
+unfolding is_named_element
+element_named (Grade grade comps) named = cc
+element_named Low named = tt
+element_named High named = tt
+element_named Equal named = tt
 
-process_whole : (element : Elem) → IsElement element → IsWhole (process_label element)
-process_whole element is = record { effective = is; range = (tt, tt); there = refl }
+label_named : (label : RangeLabel) → is_named_label label ≡ true → IsWhole label
+unfolding is_named_label
+label_named label named =
+    let all = and_parts (is_some label.effective && option_map_or is_named_element label.effective true) _ named in
+    let effective = and_parts (is_some label.effective) (option_map_or is_named_element label.effective true) all.0 in
+    record { effective = one label.effective effective.1; range = ends label.range all.1; there = effective.0 }
+  where
+    one : (element : Option Elem) → option_map_or is_named_element element true ≡ true → IfSome element IsElement
+    one None named = tt
+    one (Some element) named = element_named element named
 
-other_whole : (element : Elem) → IsElement element → IsWhole (other_label element)
-other_whole element is = record { effective = is; range = tt; there = refl }
+    ends : (range : Option (Elem × Elem)) → option_map_or (λ (ends : Elem × Elem). is_named_element ends.0 && is_named_element ends.1) range true ≡ true
+        → IfSome range (λ ends. IsElement ends.0 × IsElement ends.1)
+    ends None named = tt
+    ends (Some range) named =
+        let both = and_parts (is_named_element range.0) (is_named_element range.1) named in
+        (element_named range.0 both.0, element_named range.1 both.1)
 
-range_boot : (element : Elem) (kind : Kind) (asked : Option RangeLabel) → IsElement element → IfSome asked IsAskedLabel
-    → IsWhole (replaced (default_range kind (process_label element) (other_label element)) asked)
-range_boot element kinds.Process asked is fits = replaced_whole (process_label element) asked (process_whole element is) fits
-range_boot element kinds.Vnode asked is fits = replaced_whole (other_label element) asked (other_whole element is) fits
-range_boot element kinds.Pipe asked is fits = replaced_whole (other_label element) asked (other_whole element is) fits
-range_boot element kinds.Socket asked is fits = replaced_whole (other_label element) asked (other_whole element is) fits
+-- the labels at boot have no grades
+are_named : Labelling → Bool
+are_named (Ranges process other) = is_named_label process && is_named_label other
+are_named other = true
 
-number_boot : (asked : Option ℕ) → IfSome asked (λ n. n ≤ LAST_PARTITION) → unwrap_or asked 0 ≤ LAST_PARTITION
-number_boot None fits = omega arith
-number_boot (Some n) fits = fits
+all_named : (m : Module) → are_named (facts_of m).labels ≡ true
+unfolding are_named is_named_label is_named_element
+all_named = each_passes (λ m. are_named (facts_of m).labels) refl
+
+booted_fits : (labels : Labelling) (kind : Kind) (range : Option RangeLabel) (number : Option ℕ) → are_named labels ≡ true → IfSome range IsAskedLabel
+    → IfSome number (λ n. n ≤ LAST_PARTITION) → FitsLabelling labels (if labels_by labels kind then boot_by labels kind range number else Unset)
+unfolding are_named
+booted_fits Nothing kind range number named fits few = tt
+booted_fits (Ranges process other) kind range number named fits few =
+    let both = and_parts (is_named_label process) (is_named_label other) named in
+    replaced_whole (default_range kind process other) range (by_kind kind (label_named process both.0) (label_named other both.1)) fits
+  where
+    by_kind : (kind : Kind) → IsWhole process → IsWhole other → IsWhole (default_range kind process other)
+    by_kind kinds.Process one rest = one
+    by_kind kinds.Vnode one rest = rest
+    by_kind kinds.Pipe one rest = rest
+    by_kind kinds.Socket one rest = rest
+booted_fits Partitions kind range number named fits few = by_test (has_partition kind)
+  where
+    by_number : (number : Option ℕ) → IfSome number (λ n. n ≤ LAST_PARTITION) → unwrap_or number 0 ≤ LAST_PARTITION
+    by_number None few = omega arith
+    by_number (Some n) few = few
+
+    by_test : (b : Bool) → FitsLabelling Partitions (if b then Number (unwrap_or number 0) else Unset)
+    by_test true = by_number number few
+    by_test false = tt
 
 pub boot_fits : (m : Module) (kind : Kind) (request : Request) → IsRequest request → FitsLabelling (facts_of m).labels (boot_value m kind request)
-boot_fits Biba kind request is = range_boot High kind request.biba tt is.biba
-boot_fits Mls kind request is = range_boot Low kind request.mls tt is.mls
-boot_fits Partition kinds.Process request is = number_boot request.partition is.partition
-boot_fits Partition kinds.Vnode request is = tt
-boot_fits Partition kinds.Pipe request is = tt
-boot_fits Partition kinds.Socket request is = number_boot request.partition is.partition
-boot_fits other kind request is = tt
+boot_fits m kind request is =
+    booted_fits (facts_of m).labels kind (range_asked m request) (number_asked m request) (all_named m) (range_spelled m request is) (number_spelled m request is)
 
 -- At creation
 
@@ -81,49 +121,46 @@ boot_fits other kind request is = tt
 alone_whole : (label : RangeLabel) → IsWhole label → IsWhole (record label { range = None })
 alone_whole label whole = record { effective = whole.effective; range = tt; there = whole.there }
 
-range_inherited : (element : Elem) (kind : Kind) (value : LabelValue) → FitsLabelling (ranges_at element) value
-    → FitsLabelling (ranges_at element) (inherited_range kind value)
-range_inherited element kind Unset fits = absurd fits
-range_inherited element kind (Number n) fits = absurd fits
-range_inherited element kinds.Process (Range label) fits = fits
-range_inherited element kinds.Vnode (Range label) fits = alone_whole label fits
-range_inherited element kinds.Pipe (Range label) fits = alone_whole label fits
-range_inherited element kinds.Socket (Range label) fits = alone_whole label fits
+created_fits : (labels : Labelling) (kind : Kind) (value : LabelValue) → FitsLabelling labels value
+    → FitsLabelling labels (if labels_by labels kind then inherited_by labels kind value else Unset)
+created_fits Nothing kind value fits = tt
+created_fits (Ranges process other) kind Unset fits = absurd fits
+created_fits (Ranges process other) kind (Number n) fits = absurd fits
+created_fits (Ranges process other) kinds.Process (Range label) fits = fits
+created_fits (Ranges process other) kinds.Vnode (Range label) fits = alone_whole label fits
+created_fits (Ranges process other) kinds.Pipe (Range label) fits = alone_whole label fits
+created_fits (Ranges process other) kinds.Socket (Range label) fits = alone_whole label fits
+created_fits Partitions kind value fits = by_test (has_partition kind)
+  where
+    by_value : (value : LabelValue) → FitsLabelling Partitions value → FitsLabelling Partitions (inherited_partition value)
+    by_value Unset fits = omega arith
+    by_value (Range label) fits = absurd fits
+    by_value (Number n) fits = fits
 
-partition_inherited : (value : LabelValue) → FitsLabelling (facts_of Partition).labels value → FitsLabelling (facts_of Partition).labels (inherited_partition value)
-partition_inherited Unset fits = omega arith
-partition_inherited (Range label) fits = absurd fits
-partition_inherited (Number n) fits = fits
+    by_test : (b : Bool) → FitsLabelling Partitions (if b then inherited_partition value else Unset)
+    by_test true = by_value value fits
+    by_test false = tt
 
 pub inherited_fits : (m : Module) (kind : Kind) (value : LabelValue) → FitsLabelling (facts_of m).labels value → FitsLabelling (facts_of m).labels (inherited m kind value)
-inherited_fits Biba kind value fits = range_inherited High kind value fits
-inherited_fits Mls kind value fits = range_inherited Low kind value fits
-inherited_fits Partition kinds.Process value fits = partition_inherited value fits
-inherited_fits Partition kinds.Vnode value fits = tt
-inherited_fits Partition kinds.Pipe value fits = tt
-inherited_fits Partition kinds.Socket value fits = partition_inherited value fits
-inherited_fits other kind value fits = tt
+inherited_fits m kind value fits = created_fits (facts_of m).labels kind value fits
 
 -- By a relabel
 
-range_relabelled : (element : Elem) (asked : Option RangeLabel) (value : LabelValue) → IfSome asked IsAskedLabel → FitsLabelling (ranges_at element) value
-    → FitsLabelling (ranges_at element) (range_after asked value)
-range_relabelled element None value is fits = fits
-range_relabelled element (Some asked) Unset is fits = absurd fits
-range_relabelled element (Some asked) (Range label) is fits = replaced_whole label (Some asked) fits is
-range_relabelled element (Some asked) (Number n) is fits = absurd fits
-
-number_relabelled : (asked : Option ℕ) (value : LabelValue) → IfSome asked (λ n. n ≤ LAST_PARTITION) → FitsLabelling Partitions value → FitsLabelling Partitions (number_after asked value)
-number_relabelled None value is fits = fits
-number_relabelled (Some n) value is fits = one (nat_eq n 0)
+after_fits : (labels : Labelling) (range : Option RangeLabel) (number : Option ℕ) (value : LabelValue) → IfSome range IsAskedLabel
+    → IfSome number (λ n. n ≤ LAST_PARTITION) → FitsLabelling labels value → FitsLabelling labels (after_by labels range number value)
+after_fits Nothing range number value is few fits = fits
+after_fits (Ranges process other) None number value is few fits = fits
+after_fits (Ranges process other) (Some asked) number Unset is few fits = absurd fits
+after_fits (Ranges process other) (Some asked) number (Range label) is few fits = replaced_whole label (Some asked) fits is
+after_fits (Ranges process other) (Some asked) number (Number n) is few fits = absurd fits
+after_fits Partitions range None value is few fits = fits
+after_fits Partitions range (Some n) value is few fits = one (nat_eq n 0)
   where
     one : (b : Bool) → FitsLabelling Partitions (cond b value (Number n))
     one true = fits
-    one false = is
+    one false = few
 
 pub relabelled_fits : (m : Module) (request : Request) (value : LabelValue) → IsRequest request → FitsLabelling (facts_of m).labels value
     → FitsLabelling (facts_of m).labels (value_after m request value)
-relabelled_fits Biba request value is fits = range_relabelled High request.biba value is.biba fits
-relabelled_fits Mls request value is fits = range_relabelled Low request.mls value is.mls fits
-relabelled_fits Partition request value is fits = number_relabelled request.partition value is.partition fits
-relabelled_fits other request value is fits = tt
+relabelled_fits m request value is fits =
+    after_fits (facts_of m).labels (range_asked m request) (number_asked m request) value (range_spelled m request is) (number_spelled m request is) fits

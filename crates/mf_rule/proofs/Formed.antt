@@ -1,24 +1,33 @@
 -- What is read is a rule: its ranges are of ids, and its letters are those of types and of modes.
 use Rattle.std.proofs.Common.{◌≡◌, ℕ, ◌<◌, ◌≤◌, ◌^◌, true, false, cond, eqb, leb, List, [], ◌∷◌, Option, Some, None, Ok, Err, find, option_map, IfSome, IfOk, refl, sym, subst, arith, lit<, lit≤, inl, inr}
 use Rattle.std.specs.Prelude.{◌==◌}
+use Rattle.std.specs.Int.{IsInRange}
+use Rattle.std.specs.Option.{option_zip}
 use Rattle.std.specs.List.{AllByRecursion}
 use Rattle.std.specs.Int.RustNames.{bit_or}
 use Rattle.std.proofs.lemmas.Nat.{or_lt, le_or_l, le_or_r}
 use Rattle.std.proofs.lemmas.Bool.{leb-true}
 use Rattle.mf_labeltext.specs.Reading.{◌>>=◌, cut}
 use Rattle.mf_labeltext.proofs.Numbers.{number_spells, bind_some, some_is}
+use Rattle.mf_labeltext.proofs.Spelling.{zipped}
 use Rattle.mf_rule.specs.declared.rule.Side.{Side}
 use Rattle.mf_rule.specs.declared.rule.ObjectSide.{ObjectSide}
 use Rattle.mf_rule.specs.declared.rule.Rule.{Rule}
-use Rattle.mf_rule.specs.Words.{id, ordered, range_from_halves, id_range_in, bit_of, with_letters, letters_in, mode_in, types_in}
+use Rattle.mf_rule.specs.declared.rule.TheConstants.{ANY_TYPE}
+use Rattle.mf_rule.specs.Words.{id, id_range_in, with_letters, letters_in, mode_in, types_in}
 use Rattle.mf_rule.specs.Words.{mode_letters, type_letters}
-use Rattle.mf_rule.specs.RuleGrammar.{SpellsIdTest, SpellsFileTest, SpellsObjectTest, SpellTests, Spells, AreRanges, AreTypes, IsRule}
+use Rattle.mf_rule.specs.RuleGrammar.{SpellsIdTest, SpellsFileTest, SpellsObjectTest, SpellTests, Spells, AreRanges, IsRule}
 use Rattle.mf_rule.specs.Parts.{Words, no_tests, no_object_tests}
 use Rattle.mf_rule.specs.Reading.{OrFault, rule_in}
 use Rattle.mf_rule.specs.RoundTrip.{WhatIsReadIsARule}
+use Rattle.mf_rule.proofs.Ranges.{ordered, ends_of}
 use Rattle.mf_rule.proofs.ReadAsSpelled.{read_is_spelled}
 
 -- ---- letters
+-- what a letter adds, by a table
+abbrev bit_of : List (ℕ × ℕ) → ℕ → Option ℕ
+bit_of table letter = option_map (λ row. row.1) (find (λ row. row.0 == letter) table)
+
 -- what holds of each bit of a table holds of what a letter adds
 row_is : (P : ℕ → Type 0) (table : List (ℕ × ℕ)) (c bit : ℕ) → AllByRecursion (λ row. P row.1) table → bit_of table c ≡ Some bit → P bit
 row_is P [] c bit all = λ is. absurd cc
@@ -61,7 +70,7 @@ unfolding mode_in letters_in
 mode_fits [] mode is = absurd cc
 mode_fits (c ∷ cs) mode is = letters_fit mode_letters 5 mode_letter_fits 0 (c ∷ cs) mode (lit< tt) is
 
-types_fit : (w : List ℕ) (types : ℕ) → types_in w ≡ Some types → AreTypes types
+types_fit : (w : List ℕ) (types : ℕ) → types_in w ≡ Some types → IsInRange 1 ANY_TYPE types
 unfolding types_in letters_in with_letters
 types_fit [] types is = absurd cc
 types_fit (c ∷ cs) types is =
@@ -82,21 +91,22 @@ AreEnds ends = (ends.0 ≤ ends.1) × (ends.1 ≤ 4294967295)
 ends_are : (x y : ℕ × ℕ) → Some x ≡ Some y → AreEnds x → AreEnds y
 ends_are x y is ok = let same : x ≡ y = cc in subst AreEnds same ok
 
-ordered_are : (least greatest : ℕ) (ends : ℕ × ℕ) → greatest ≤ 4294967295 → ordered least greatest ≡ Some ends → AreEnds ends
-ordered_are least greatest ends fits =
-    elim (leb least greatest) as (λ b. leb least greatest ≡ b → cond b (Some (least, greatest)) None ≡ Some ends → AreEnds ends) [
-      | true ↦ λ below is. ends_are (least, greatest) ends is (leb-true least greatest below, fits)
+ordered_are : (pair ends : ℕ × ℕ) → pair.1 ≤ 4294967295 → ordered pair ≡ Some ends → AreEnds ends
+ordered_are pair ends fits =
+    elim (leb pair.0 pair.1) as (λ b. leb pair.0 pair.1 ≡ b → cond b (Some pair) None ≡ Some ends → AreEnds ends) [
+      | true ↦ λ below is. ends_are pair ends is (leb-true pair.0 pair.1 below, fits)
       | false ↦ λ above is. absurd cc
     ] refl
 
-halves_are : (w : List ℕ) (halves : Option (List ℕ × List ℕ)) (ends : ℕ × ℕ) → range_from_halves w halves ≡ Some ends → AreEnds ends
-halves_are w None ends is =
-    let one = bind_some (id w) (λ n. Some (n, n)) ends is in
-    ends_are (one.0, one.0) ends one.2 (omega arith, id_fits w one.0 one.1)
-halves_are w (Some halves) ends is =
-    let least = bind_some (id halves.0) (λ least. id halves.1 >>= λ greatest. ordered least greatest) ends is in
-    let greatest = bind_some (id halves.1) (λ greatest. ordered least.0 greatest) ends least.2 in
-    ordered_are least.0 greatest.0 ends (id_fits halves.1 greatest.0 greatest.1) greatest.2
+both_are : (v w : List ℕ) (ends : ℕ × ℕ) → (option_zip (id v) (id w) >>= ordered) ≡ Some ends → AreEnds ends
+both_are v w ends is =
+    let pair = bind_some (option_zip (id v) (id w)) ordered ends is in
+    let both = zipped (id v) (id w) pair.0 pair.1 in
+    ordered_are pair.0 ends (id_fits w pair.0.1 both.1) pair.2
+
+halves_are : (w : List ℕ) (halves : Option (List ℕ × List ℕ)) (ends : ℕ × ℕ) → (ends_of w halves >>= ordered) ≡ Some ends → AreEnds ends
+halves_are w None ends is = both_are w w ends is
+halves_are w (Some halves) ends is = both_are halves.0 halves.1 ends is
 
 range_fits : (w : List ℕ) (ends : ℕ × ℕ) → id_range_in w ≡ Some ends → AreEnds ends
 unfolding id_range_in
@@ -118,7 +128,7 @@ ids_formed words before after ok (turned, w, ends, range, inr gid) =
 
 record IsObject (object : ObjectSide) : Type 0 where
   ids : AreRanges object.side
-  types : IfSome object.types (λ test. AreTypes test.types)
+  types : IfSome object.types (λ test. IsInRange 1 ANY_TYPE test.types)
 
 file_formed : (words : Words) (before after : ObjectSide) → IsObject before → SpellsFileTest words before after → IsObject after
 file_formed words before after ok (turned, inl is) = subst IsObject (sym is.2) (record { ids = ok.ids; types = ok.types })

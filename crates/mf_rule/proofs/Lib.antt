@@ -1,3 +1,4 @@
+pub mod Parts
 pub mod ReadingWords
 pub mod Ranges
 pub mod Pieces
@@ -11,4 +12,5 @@ pub mod WordsBehind
 pub mod ReadAsSpelled
 pub mod Formed
 pub mod FreeSlots
+pub mod RuleWords
 pub mod Bits

@@ -3,11 +3,13 @@ use Rattle.std.proofs.Common.{◌≡◌, ℕ, ◌≤◌, true, false, cond, eqb,
 use Rattle.std.proofs.lemmas.Bool.{eqb-true, le-leb}
 use Rattle.std.proofs.lemmas.Fmt.{decimal_is_IsNumeral}
 use Rattle.std.specs.Fmt.{decimal}
+use Rattle.std.specs.Option.{option_map_or, option_zip}
+use Rattle.std.specs.Prelude.{Option, nat_le}
 use Rattle.std.specs.Char.{digit_value}
 use Rattle.mf_labeltext.specs.Reading.{◌>>=◌}
 use Rattle.mf_labeltext.proofs.Cutting.{IsFree, cut_free, cut_free_none}
 use Rattle.mf_labeltext.proofs.Numbers.{spells_number, digits_free}
-use Rattle.mf_rule.specs.Words.{id, ordered, range_from_halves, id_range_in}
+use Rattle.mf_rule.specs.Words.{id, id_range_in}
 use Rattle.mf_rule.specs.Canonical.{id_range_text}
 
 id_back : (n : ℕ) → n ≤ 4294967295 → id (decimal n) ≡ Some n
@@ -24,19 +26,27 @@ free_append : (byte : ℕ) (w x : List ℕ) → IsFree byte w → IsFree byte x 
 free_append byte [] x first second = second
 free_append byte (c ∷ cs) x first second = (first.0, free_append byte cs x first.1 second)
 
+-- the ends, where they are in order
+abbrev pub ordered : ℕ × ℕ → Option (ℕ × ℕ)
+ordered ends = cond (nat_le ends.0 ends.1) (Some ends) None
+
+abbrev pub ends_of : List ℕ → Option (List ℕ × List ℕ) → Option (ℕ × ℕ)
+ends_of w halves = option_map_or (λ halves. option_zip (id halves.0) (id halves.1)) halves (option_zip (id w) (id w))
+
 one_back : (least greatest : ℕ) → least ≡ greatest → least ≤ 4294967295 → id_range_in (decimal least) ≡ Some (least, greatest)
 unfolding id_range_in
 one_back least greatest same fits =
-    ap (range_from_halves (decimal least)) (cut_free_none 58 (decimal least) (decimal_free 58 least (lit≤ tt) fits))
-    ∙ ap (λ n. n >>= λ n. Some (n, n)) (id_back least fits)
+    ap (λ halves. ends_of (decimal least) halves >>= ordered) (cut_free_none 58 (decimal least) (decimal_free 58 least (lit≤ tt) fits))
+    ∙ ap (λ n. option_zip n n >>= ordered) (id_back least fits)
+    ∙ ap (λ b. cond b (Some (least, least)) None) (le-leb least least (omega arith))
     ∙ ap (λ n. Some (least, n)) same
 
 two_back : (least greatest : ℕ) → least ≤ greatest → greatest ≤ 4294967295 → id_range_in (decimal least ++ 58 ∷ decimal greatest) ≡ Some (least, greatest)
 unfolding id_range_in
 two_back least greatest rising below =
-    ap (range_from_halves (decimal least ++ 58 ∷ decimal greatest)) (cut_free 58 (decimal least) (decimal greatest) (decimal_free 58 least (lit≤ tt) (omega arith)))
-    ∙ ap (λ n. n >>= λ least. id (decimal greatest) >>= λ greatest. ordered least greatest) (id_back least (omega arith))
-    ∙ ap (λ n. n >>= λ greatest. ordered least greatest) (id_back greatest below)
+    ap (λ halves. ends_of (decimal least ++ 58 ∷ decimal greatest) halves >>= ordered) (cut_free 58 (decimal least) (decimal greatest) (decimal_free 58 least (lit≤ tt) (omega arith)))
+    ∙ ap (λ n. option_zip n (id (decimal greatest)) >>= ordered) (id_back least (omega arith))
+    ∙ ap (λ n. option_zip (Some least) n >>= ordered) (id_back greatest below)
     ∙ ap (λ b. cond b (Some (least, greatest)) None) (le-leb least greatest rising)
 
 pub range_back : (least greatest : ℕ) → least ≤ greatest → greatest ≤ 4294967295 → (id_range_in (id_range_text least greatest) ≡ Some (least, greatest)) × IsFree 32 (id_range_text least greatest)

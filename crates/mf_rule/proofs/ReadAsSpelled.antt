@@ -11,7 +11,8 @@ use Rattle.mf_rule.specs.declared.begun.Next.TheVariants as next
 use Rattle.mf_rule.specs.declared.begun.Begun.{Begun}
 use Rattle.mf_rule.specs.declared.fault.RuleFault.TheVariants.{UnknownWord, BadRange, BadType, BadMode}
 use Rattle.mf_rule.specs.Words.{id_range_in, types_in, mode_in}
-use Rattle.mf_rule.specs.RuleGrammar.{marked, SpellsIdTest, SpellsObjectTest, SpellTests, Spells}
+use Rattle.mf_rule.specs.RuleGrammar.{SpellsIdTest, SpellsObjectTest, SpellTests, Spells}
+use Rattle.mf_rule.proofs.Parts.{marked}
 use Rattle.mf_rule.specs.Parts.{Words, no_tests, no_object_tests}
 use Rattle.mf_rule.specs.Reading.{reads_on, once, side_of, with_not, id_test, no_rule, rule_in, read_from, fitted, tested, named, other_test, file_test, flagged, closing_word, behind}
 use Rattle.mf_rule.proofs.Pieces.{begun, put_uid, put_gid}

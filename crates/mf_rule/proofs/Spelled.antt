@@ -8,7 +8,8 @@ use Rattle.mf_rule.specs.declared.begun.Part.{Part}
 use Rattle.mf_rule.specs.declared.begun.Part.TheVariants.{Subject, Object}
 use Rattle.mf_rule.specs.declared.begun.Next.TheVariants as next
 use Rattle.mf_rule.specs.Words.{id_range_in, types_in}
-use Rattle.mf_rule.specs.RuleGrammar.{marked, SpellsIdTest, SpellsFileTest, SpellsObjectTest, SpellTests, with_not, SpellsSubject, SpellsObject, Spells}
+use Rattle.mf_rule.specs.RuleGrammar.{SpellsIdTest, SpellsFileTest, SpellsObjectTest, SpellTests, Spells}
+use Rattle.mf_rule.proofs.Parts.{marked, with_not, SpellsSubject, SpellsObject}
 use Rattle.mf_rule.specs.Parts.{Words, no_object_tests}
 use Rattle.mf_rule.specs.Reading.{side_of, with_side, id_test, no_rule, nothing_read, rule_in, read_from}
 use Rattle.mf_rule.proofs.Pieces.{begun, open_at, On, on_trans, on_words, mark_step, uid_name, uid_marked, uid_value, put_uid, gid_name, gid_marked, gid_value, put_gid}

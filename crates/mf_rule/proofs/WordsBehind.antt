@@ -12,7 +12,8 @@ use Rattle.mf_rule.specs.declared.begun.Next.TheVariants as next
 use Rattle.mf_rule.specs.declared.begun.Begun.{Begun}
 use Rattle.mf_rule.specs.declared.fault.RuleFault.{RuleFault}
 use Rattle.mf_rule.specs.Words.{id_range_in, mode_in}
-use Rattle.mf_rule.specs.RuleGrammar.{marked, SpellsIdTest, SpellsFileTest, SpellsObjectTest, SpellTests, SpellsSubject, SpellsObject, Spells}
+use Rattle.mf_rule.specs.RuleGrammar.{SpellsIdTest, SpellsFileTest, SpellsObjectTest, SpellTests, Spells}
+use Rattle.mf_rule.proofs.Parts.{marked, SpellsSubject, SpellsObject}
 use Rattle.mf_rule.specs.Parts.{Words, no_object_tests}
 use Rattle.mf_text.specs.Results.{and_then}
 use Rattle.mf_rule.specs.Reading.{OrFault, reads_on, once, by_value, side_of, id_test, no_rule}

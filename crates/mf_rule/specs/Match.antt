@@ -35,13 +35,11 @@ has_uid test cred = has test cred.uid || has test cred.ruid || has test cred.svu
 abbrev pub has_group : IdTest → Cred → Bool
 has_group test cred = list_any (has test) cred.groups
 
-abbrev pub subject_tests : Side → Cred → Bool
-subject_tests side cred =
-    if_asked side.uid (λ test. turned test.not (has_uid test cred))
-    && if_asked side.gid (λ test. turned test.not (has_group test cred))
-
 abbrev pub subject_matches : Side → Cred → Bool
-subject_matches side cred = turned side.not (subject_tests side cred)
+subject_matches side cred =
+    turned side.not
+    (if_asked side.uid (λ test. turned test.not (has_uid test cred))
+    && if_asked side.gid (λ test. turned test.not (has_group test cred)))
 
 -- the mode has the bit 4000, or 2000, in octal
 abbrev pub is_suid : FileView → Bool

@@ -1,10 +1,8 @@
--- The parts of a rule without tests, and the words of its text.
-use Rattle.std.specs.Prelude.{ℕ, false, List, None}
+-- The parts of a rule without tests.
+use Rattle.std.specs.Prelude.{false, None}
+pub use Rattle.mf_words.specs.Words.{Words}
 use Rattle.mf_rule.specs.declared.rule.Side.{Side}
 use Rattle.mf_rule.specs.declared.rule.ObjectSide.{ObjectSide}
-
-abbrev pub Words : Type 0
-Words = List (List ℕ)
 
 -- no tests
 abbrev pub no_tests : Side

@@ -5,6 +5,7 @@
 -- A test is a name, with `!` before it where it is turned, and a value behind it where it has one. It stands at most once in a part; the order
 -- is free. ugidfw(8) has `jailid`, `filesys` and names of users and groups too, which this model lacks.
 use Rattle.std.specs.Prelude.{◌≡◌, ◌≤◌, ◌<◌, ◌⊎◌, ℕ, Bool, not, List, [], ◌∷◌, ◌++◌, Some, None, IfSome, codes, if◌then◌else◌}
+use Rattle.std.specs.Int.{IsInRange}
 use Rattle.std.specs.List.{flat_map}
 use Rattle.mf_rule.specs.Words.{id_range_in, mode_in, types_in}
 use Rattle.mf_rule.specs.declared.rule.TheConstants.{LAST_ID, ANY_TYPE}
@@ -14,27 +15,27 @@ use Rattle.mf_rule.specs.declared.rule.ObjectSide.{ObjectSide}
 use Rattle.mf_rule.specs.declared.rule.Rule.{Rule}
 use Rattle.mf_rule.specs.Parts.{Words, no_object_tests, no_tests}
 
--- `!` before what is turned
-abbrev pub marked : Bool → Words → Words
-marked turned words = if turned then codes "!" ∷ words else words
+-- the mark before what is turned: `!` before a test, and `not` before the tests of a part
+abbrev pub marked : List ℕ → Bool → Words → Words
+marked mark turned words = if turned then mark ∷ words else words
 
 -- the words are a test of ids: with it, before becomes after
 abbrev pub SpellsIdTest : Words → Side → Side → Type 0
 SpellsIdTest words before after =
     (turned : Bool) × (w : List ℕ) × (ends : ℕ × ℕ) × (id_range_in w ≡ Some ends)
-    × (((words ≡ marked turned (codes "uid" ∷ w ∷ [])) × (before.uid ≡ None) × (after ≡ record before { uid = Some (record { not = turned; least = ends.0; greatest = ends.1 }) }))
-    ⊎ ((words ≡ marked turned (codes "gid" ∷ w ∷ [])) × (before.gid ≡ None) × (after ≡ record before { gid = Some (record { not = turned; least = ends.0; greatest = ends.1 }) })))
+    × (((words ≡ marked (codes "!") turned (codes "uid" ∷ w ∷ [])) × (before.uid ≡ None) × (after ≡ record before { uid = Some (record { not = turned; least = ends.0; greatest = ends.1 }) }))
+    ⊎ ((words ≡ marked (codes "!") turned (codes "gid" ∷ w ∷ [])) × (before.gid ≡ None) × (after ≡ record before { gid = Some (record { not = turned; least = ends.0; greatest = ends.1 }) })))
 
 -- the words are a test that only an object has
 abbrev pub SpellsFileTest : Words → ObjectSide → ObjectSide → Type 0
 SpellsFileTest words before after =
     (turned : Bool)
-    × (((words ≡ marked turned (codes "suid" ∷ [])) × (before.suid ≡ None) × (after ≡ record before { suid = Some (not turned) }))
-    ⊎ ((words ≡ marked turned (codes "sgid" ∷ [])) × (before.sgid ≡ None) × (after ≡ record before { sgid = Some (not turned) }))
-    ⊎ ((words ≡ marked turned (codes "uid_of_subject" ∷ [])) × (before.uid_of_subject ≡ None) × (after ≡ record before { uid_of_subject = Some (not turned) }))
-    ⊎ ((words ≡ marked turned (codes "gid_of_subject" ∷ [])) × (before.gid_of_subject ≡ None) × (after ≡ record before { gid_of_subject = Some (not turned) }))
+    × (((words ≡ marked (codes "!") turned (codes "suid" ∷ [])) × (before.suid ≡ None) × (after ≡ record before { suid = Some (not turned) }))
+    ⊎ ((words ≡ marked (codes "!") turned (codes "sgid" ∷ [])) × (before.sgid ≡ None) × (after ≡ record before { sgid = Some (not turned) }))
+    ⊎ ((words ≡ marked (codes "!") turned (codes "uid_of_subject" ∷ [])) × (before.uid_of_subject ≡ None) × (after ≡ record before { uid_of_subject = Some (not turned) }))
+    ⊎ ((words ≡ marked (codes "!") turned (codes "gid_of_subject" ∷ [])) × (before.gid_of_subject ≡ None) × (after ≡ record before { gid_of_subject = Some (not turned) }))
     ⊎ ((w : List ℕ) × (types : ℕ) × (types_in w ≡ Some types)
-    × (words ≡ marked turned (codes "type" ∷ w ∷ [])) × (before.types ≡ None) × (after ≡ record before { types = Some (record { not = turned; types = types }) })))
+    × (words ≡ marked (codes "!") turned (codes "type" ∷ w ∷ [])) × (before.types ≡ None) × (after ≡ record before { types = Some (record { not = turned; types = types }) })))
 
 abbrev pub SpellsObjectTest : Words → ObjectSide → ObjectSide → Type 0
 SpellsObjectTest words before after =
@@ -45,19 +46,11 @@ abbrev pub SpellTests : {A : Type 0} → (Words → A → A → Type 0) → List
 SpellTests Spells [] before after = before ≡ after
 SpellTests {A} Spells (test ∷ tests) before after = (next : A) × Spells test before next × SpellTests Spells tests next after
 
--- a part, with `not` before its tests or without
-abbrev pub with_not : Bool → Words → Words
-with_not turned words = if turned then codes "not" ∷ words else words
-
-pub record SpellsSubject (words : Words) (side : Side) : Type 0 where
+-- the words of a part are its tests, one after another: with them, before becomes after
+pub record SpellsPart {A : Type 0} (SpellsTest : Words → A → A → Type 0) (turned : Bool) (words : Words) (before after : A) : Type 0 where
   pub tests : List Words
-  pub parted : words ≡ with_not side.not (flat_map (λ test. test) tests)
-  pub each : SpellTests SpellsIdTest tests (record no_tests { not = side.not }) side
-
-pub record SpellsObject (words : Words) (object : ObjectSide) : Type 0 where
-  pub tests : List Words
-  pub parted : words ≡ with_not object.side.not (flat_map (λ test. test) tests)
-  pub each : SpellTests SpellsObjectTest tests (record no_object_tests { side = record no_tests { not = object.side.not } }) object
+  pub parted : words ≡ marked (codes "not") turned (flat_map (λ test. test) tests)
+  pub each : SpellTests SpellsTest tests before after
 
 -- the words stand for the rule
 pub record Spells (words : Words) (rule : Rule) : Type 0 where
@@ -65,8 +58,9 @@ pub record Spells (words : Words) (rule : Rule) : Type 0 where
   pub object : Words
   pub letters : List ℕ
   pub parted : words ≡ codes "subject" ∷ subject ++ (codes "object" ∷ object ++ (codes "mode" ∷ letters ∷ []))
-  pub is_subject : SpellsSubject subject rule.subject
-  pub is_object : SpellsObject object rule.object
+  pub is_subject : SpellsPart SpellsIdTest rule.subject.not subject (record no_tests { not = rule.subject.not }) rule.subject
+  pub is_object : SpellsPart SpellsObjectTest rule.object.side.not object
+      (record no_object_tests { side = record no_tests { not = rule.object.side.not } }) rule.object
   pub is_mode : mode_in letters ≡ Some rule.mode
 
 -- a range of ids that there are
@@ -78,13 +72,9 @@ pub record AreRanges (side : Side) : Type 0 where
   pub uid : IfSome side.uid IsRange
   pub gid : IfSome side.gid IsRange
 
--- one type or more
-abbrev pub AreTypes : ℕ → Type 0
-AreTypes types = (1 ≤ types) × (types ≤ ANY_TYPE)
-
 -- a rule that words can stand for: ranges, one type or more, and letters of a mode
 pub record IsRule (rule : Rule) : Type 0 where
   pub subject : AreRanges rule.subject
   pub object : AreRanges rule.object.side
-  pub types : IfSome rule.object.types (λ test. AreTypes test.types)
+  pub types : IfSome rule.object.types (λ test. IsInRange 1 ANY_TYPE test.types)
   pub mode : rule.mode < 32

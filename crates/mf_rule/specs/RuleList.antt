@@ -14,11 +14,6 @@ use Rattle.mf_rule.specs.declared.rule.Rule.{Rule}
 abbrev pub Slots : Type 0
 Slots = List (Option Rule)
 
--- no rule has the number
-abbrev pub is_free : Option Rule → Bool
-is_free None = true
-is_free (Some rule) = false
-
 -- a rule has the number, and matches
 abbrev pub is_match : Cred → FileView → Option Rule → Bool
 is_match cred file slot = option_map_or (λ rule. matches rule cred file) slot false

@@ -4,6 +4,7 @@
 -- leading zeros are accepted, is this model's own choice.
 use Rattle.std.specs.Prelude.{ℕ, List, [], ◌∷◌, Option, Some, None, nat_le, ◌==◌, if◌then◌else◌, ◌<◌, find, option_map, zip, codes}
 use Rattle.std.specs.Int.RustNames.{bit_or}
+use Rattle.std.specs.Option.{option_map_or, option_zip}
 use Rattle.mf_labeltext.specs.Bytes.{colon}
 use Rattle.mf_labeltext.specs.Reading.{◌>>=◌, cut, number}
 use Rattle.mf_rule.specs.declared.rule.TheConstants.{LAST_ID, ADMINISTER, READ, STAT, WRITE, EXECUTE, REGULAR, DIRECTORY, BLOCK, CHARACTER, LINK, SOCKET, FIFO, ANY_TYPE}
@@ -12,20 +13,11 @@ use Rattle.mf_rule.specs.declared.rule.TheConstants.{LAST_ID, ADMINISTER, READ, 
 abbrev pub id : List ℕ → Option ℕ
 id w = number 0 LAST_ID w
 
--- the least and the greatest id, in this order
-abbrev pub ordered : ℕ → ℕ → Option (ℕ × ℕ)
-ordered least greatest = if nat_le least greatest then Some (least, greatest) else None
-
-abbrev pub range_from_halves : List ℕ → Option (List ℕ × List ℕ) → Option (ℕ × ℕ)
-range_from_halves w None = id w >>= λ n. Some (n, n)
-range_from_halves w (Some halves) = do
-  least ← id halves.0
-  greatest ← id halves.1
-  ordered least greatest
-
--- one id, or two with a colon between them
+-- the least and the greatest id with a colon between them, or one id that is both
 unfoldable pub id_range_in : List ℕ → Option (ℕ × ℕ)
-id_range_in w = range_from_halves w (cut colon w)
+id_range_in w = do
+  ends ← option_map_or (λ halves. option_zip (id halves.0) (id halves.1)) (cut colon w) (option_zip (id w) (id w))
+  if nat_le ends.0 ends.1 then Some ends else None
 
 -- each letter of a mode and its bit, where `n` is for none
 abbrev pub mode_letters : List (ℕ × ℕ)
@@ -39,14 +31,11 @@ type_letters = zip (codes "ardbclsp") (ANY_TYPE ∷ REGULAR ∷ DIRECTORY ∷ BL
 abbrev pub IsAsciiLetter : ℕ × ℕ → Type 0
 IsAsciiLetter row = row.0 < 128
 
--- what a letter adds, by a table
-abbrev pub bit_of : List (ℕ × ℕ) → ℕ → Option ℕ
-bit_of table letter = option_map (λ row. row.1) (find (λ row. row.0 == letter) table)
-
--- the bits so far, and those that the letters add
+-- the bits so far, and those that the letters add by the table
 unfoldable pub with_letters : List (ℕ × ℕ) → ℕ → List ℕ → Option ℕ
 with_letters table bits [] = Some bits
-with_letters table bits (c ∷ cs) = bit_of table c >>= λ bit. with_letters table (bit_or bits bit) cs
+with_letters table bits (c ∷ cs) =
+    option_map (λ row. row.1) (find (λ row. row.0 == c) table) >>= λ bit. with_letters table (bit_or bits bit) cs
 
 -- one letter or more
 unfoldable pub letters_in : List (ℕ × ℕ) → List ℕ → Option ℕ

@@ -1,5 +1,6 @@
 //! Rule lists, and their verdict.
 ghost use Rattle.std.specs.Prelude.{◌≡◌, ◌↔◌, ◌<◌, ◌≤◌, ℕ, IsTrue, true, false, Some, None, length, not, ◌||◌, position, replicate, slice_index_or, slice_set, IfOk, OnOk, OnErr, MatchResult};
+ghost use Rattle.std.specs.Option.{is_none};
 ghost use Rattle.mf_rule.specs.Candidates.{may_match, candidates};
 ghost use Rattle.mf_rule.specs.RuleList as spec;
 ghost use Rattle.mf_rule.specs.UidIndex.{AreCandidates, is_within, lone};
@@ -63,7 +64,7 @@ impl RuleList {
 
     /// Adds a rule under the lowest number that is free, and answers with it; where none is free, nothing changes.
     pub fn add(&mut self, rule: Rule) -> Result<Option<u32>, AllocError>
-        ensures number { IfOk result (λ number. number ≡ position spec.is_free self.old) }
+        ensures number { IfOk result (λ number. number ≡ position is_none self.old) }
         ensures ok { IfOk result (λ number. self.new ≡ spec.with_rule rule number self.old) }
         ensures err { OnErr result (self.new ≡ self.old) }
     {
@@ -77,7 +78,7 @@ impl RuleList {
 
     /// The lowest number that is free.
     pub fn free(&self) -> Option<u32>
-        ensures { result ≡ position spec.is_free self.now }
+        ensures { result ≡ position is_none self.now }
     {
         let number = first_free(&self.slots)?;
         Some(number as u32)
@@ -104,7 +105,7 @@ impl RuleList {
 
     /// Takes the rule of a number away.
     pub fn remove(&mut self, number: u32) -> Result<(), NoRule>
-        ensures { MatchResult result (λ u. (spec.is_free (slice_index_or self.old number None) ≡ false) × (self.new ≡ slice_set self.old number None)) (λ e. (spec.is_free (slice_index_or self.old number None) ≡ true) × (self.new ≡ self.old)) }
+        ensures { MatchResult result (λ u. (is_none (slice_index_or self.old number None) ≡ false) × (self.new ≡ slice_set self.old number None)) (λ e. (is_none (slice_index_or self.old number None) ≡ true) × (self.new ≡ self.old)) }
     {
         let Some(rule) = self.get(number) else {
             return Err(NoRule);
@@ -221,7 +222,7 @@ fn free_slots(alloc: Global) -> Result<Vec<Option<Rule>>, AllocError>
 }
 
 fn first_free(slots: &[Option<Rule>]) -> Option<usize>
-    ensures { result ≡ position spec.is_free slots.now }
+    ensures { result ≡ position is_none slots.now }
 {
     slots.iter().position(|slot| slot.is_none())
 }

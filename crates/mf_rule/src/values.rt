@@ -2,7 +2,7 @@
 ghost use Rattle.std.specs.Prelude.{◌≡◌};
 ghost use Rattle.mf_rule.specs.Words as spec;
 ghost use Rattle.mf_labeltext.specs.Reading.{cut};
-ghost use Rattle.std.specs.Prelude.{◌<◌, None, Some, MatchOption};
+ghost use Rattle.std.specs.Prelude.{◌<◌, ◌==◌, None, Some, MatchOption, find, if◌then◌else◌, nat_le, option_map};
 
 use crate::rule::{
     ADMINISTER, ANY_TYPE, BLOCK, CHARACTER, DIRECTORY, EXECUTE, FIFO, LAST_ID, LINK, READ, REGULAR,
@@ -26,7 +26,7 @@ fn read_id(word: &str) -> Option<u32>
 }
 
 fn ordered(least: u32, greatest: u32) -> Option<(u32, u32)>
-    ensures { result ≡ spec.ordered least greatest }
+    ensures { result ≡ (if nat_le least greatest then Some (least, greatest) else None) }
 {
     if least <= greatest {
         Some((least, greatest))
@@ -43,7 +43,7 @@ pub fn read_range(word: &str) -> Option<(u32, u32)>
     match split_once(word, ':') {
         None => {
             let id = read_id(word)?;
-            Some((id, id))
+            ordered(id, id)
         }
         Some((least, greatest)) => {
             let least = read_id(least)?;
@@ -108,7 +108,7 @@ fn letter_bits(table: &[(u8, u8)], letters: &[u8]) -> Option<u8>
 }
 
 fn bit_of(table: &[(u8, u8)], letter: u8) -> Option<u8>
-    ensures { result ≡ spec.bit_of table.now letter }
+    ensures { result ≡ option_map (λ row. row.1) (find (λ row. row.0 == letter) table.now) }
 {
     let row = table.iter().find(|row| row.0 == letter)?;
     Some(row.1)

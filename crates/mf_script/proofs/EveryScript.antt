@@ -1,16 +1,16 @@
 -- Each script that is read is well formed.
 use Rattle.std.proofs.Common.{◌≡◌, ℕ, suc, ◌+◌, ◌≤◌, Bool, true, false, if◌then◌else◌, List, [], ◌∷◌, length, Ok, Err, refl, arith}
 use Rattle.std.specs.Prelude.{◌==◌}
-use Rattle.std.specs.List.{AllByRecursion}
+use Rattle.std.specs.List.{AllByRecursion, onto_first}
 use Rattle.mf_names.specs.declared.limits.TheConstants.{SCRIPT_LIMIT}
-use Rattle.mf_words.specs.Words.{lines_in, newline, onto_first}
+use Rattle.mf_words.specs.Words.{lines_in, newline}
 use Rattle.mf_calls.specs.declared.script.Script.{Script}
 use Rattle.mf_calls.specs.WellFormed.{IsWellFormed}
 use Rattle.mf_script.specs.declared.rows.Place.{Place}
 use Rattle.mf_script.specs.declared.rows.Place.TheVariants as place
 use Rattle.mf_script.specs.Formed.{ScriptsAreWellFormed}
 use Rattle.mf_script.specs.Readers.{Read}
-use Rattle.mf_script.specs.Grammar.{State, blank, line_read, or_at, script_from, script_of}
+use Rattle.mf_script.specs.Grammar.{Reading, blank, line_read, or_at, script_from, script_of}
 use Rattle.mf_script.proofs.SoFar.{IsSoFar, starts, line_kept, ends}
 
 -- Lines are no longer than the text
@@ -40,7 +40,7 @@ lines_within (b ∷ bytes) = one (b == newline) (lines_within bytes) where
 
 -- Line by line
 
-by_read : (s : Script) (p : Place) (n : ℕ) (line : List ℕ) (lines : List (List ℕ)) (found : Script) (read : Read State) → length line ≤ SCRIPT_LIMIT → IsSoFar s p
+by_read : (s : Script) (p : Place) (n : ℕ) (line : List ℕ) (lines : List (List ℕ)) (found : Script) (read : Read Reading) → length line ≤ SCRIPT_LIMIT → IsSoFar s p
     → ((s' : Script) (p' : Place) → IsSoFar s' p' → script_from s' p' (n + 1) lines ≡ Ok found → IsWellFormed found)
     → line_read s p line ≡ read → or_at n read (λ next. script_from next.0 next.1 (n + 1) lines) ≡ Ok found → IsWellFormed found
 by_read s p n line lines found (Ok next) few so more e is = more next.0 next.1 (line_kept s p line next.0 next.1 few so e) is

@@ -14,7 +14,7 @@ use Rattle.mf_script.specs.declared.rows.Place.{Place}
 use Rattle.mf_script.specs.declared.rows.Place.TheVariants as place
 use Rattle.mf_script.specs.Readers.{Read}
 use Rattle.mf_script.specs.Gives.{Fails}
-use Rattle.mf_script.specs.Grammar.{State, at_line, or_at, ended, line_read, blank, script_from, script_of}
+use Rattle.mf_script.specs.Grammar.{Reading, at_line, or_at, ended, line_read, blank, script_from, script_of}
 use Rattle.mf_script.specs.Outcome.{IsRefusedAt, IsScriptOf}
 
 pub blank_is : (boots : List Module) (files : List FileLine) (tasks : List Task) (steps : List Step) → boots ≡ [] → files ≡ [] → tasks ≡ [] → steps ≡ []
@@ -33,7 +33,7 @@ start boots files tasks steps bytes lines b f t s l =
     ap (λ (script : Script). script_from script place.Boots 1 lines) (blank_is boots files tasks steps b f t s) ∙ ap (script_from blank place.Boots 1) l
 
 -- what is read from a line on, by what the line is read as
-from_line : (s : Script) (p : Place) (n : ℕ) (all : List (List ℕ)) (line : List ℕ) (more : List (List ℕ)) (read : Read State) → all ≡ line ∷ more → line_read s p line ≡ read
+from_line : (s : Script) (p : Place) (n : ℕ) (all : List (List ℕ)) (line : List ℕ) (more : List (List ℕ)) (read : Read Reading) → all ≡ line ∷ more → line_read s p line ≡ read
     → script_from s p n all ≡ or_at n read (λ next. script_from next.0 next.1 (n + 1) more)
 unfolding script_from
 from_line s p n all line more read is e = ap (script_from s p n) is ∙ ap (λ read. or_at n read (λ next. script_from next.0 next.1 (n + 1) more)) e

@@ -1,5 +1,5 @@
 -- The calls and lines of tasks that the grammar reads are well formed.
-use Rattle.std.proofs.Common.{ℕ, ◌<◌, ◌≤◌, Bool, true, false, List, [], ◌∷◌, Some, if◌then◌else◌}
+use Rattle.std.proofs.Common.{◌≡◌, ℕ, ◌<◌, ◌≤◌, Bool, true, false, List, [], ◌∷◌, Some, if◌then◌else◌}
 use Rattle.std.specs.Str.{bytes_eq}
 use Rattle.mf_errno.specs.Privilege.{privilege_named}
 use Rattle.mf_script.specs.declared.error.ScriptFault.TheVariants.{UnknownWord}
@@ -7,7 +7,8 @@ use Rattle.mf_calls.specs.declared.script.Call.{Call}
 use Rattle.mf_calls.specs.declared.script.Call.TheVariants as call
 use Rattle.mf_calls.specs.declared.limits.TheConstants.{MODE_LIMIT}
 use Rattle.mf_rule.specs.declared.rule_list.TheConstants.{MAX_RULES}
-use Rattle.mf_calls.specs.WellFormed.{IsWord, IsName, IsProcessName, IsPath, IsFormedCall, IsFormedLine}
+use Rattle.mf_calls.specs.Names.{is_process_name}
+use Rattle.mf_calls.specs.WellFormed.{IsWord, IsName, IsPath, IsFormedCall, IsFormedLine}
 use Rattle.mf_script.specs.Readers.{Read, fails, by_option}
 use Rattle.mf_words.specs.Words.{Words}
 use Rattle.mf_script.specs.Parts.{look_up, name_of, process_of, path_of, mode_of, text_of, privilege_of, rule_number_of}
@@ -40,7 +41,7 @@ two_formed P Q first second call each each_second so ws are =
 name_read : Reads IsName name_of
 name_read w word = name_formed w
 
-process_read : Reads IsProcessName process_of
+process_read : Reads (λ w. is_process_name w ≡ true) process_of
 process_read w word = process_formed w
 
 path_read : Reads IsPath path_of

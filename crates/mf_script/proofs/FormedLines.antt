@@ -5,10 +5,10 @@ use Rattle.mf_cred.specs.declared.cred.FileView.{FileView}
 use Rattle.mf_words.specs.Words.{Words}
 use Rattle.mf_names.specs.declared.limits.TheConstants.{SCRIPT_LIMIT}
 use Rattle.mf_calls.specs.declared.limits.TheConstants.{UID_MAX, MODE_LIMIT}
-use Rattle.mf_calls.specs.WellFormed.{IsPath, IsText, IsName, IsFormedCred, IsFormedStep}
+use Rattle.mf_calls.specs.WellFormed.{IsPath, IsText, IsName, IsFormedCred}
 use Rattle.mf_script.specs.declared.lines.FileWords.{FileWords}
 use Rattle.mf_script.specs.declared.lines.TaskWords.{TaskWords}
-use Rattle.mf_script.specs.Lines.{file_view, file_words, file_text, cred_words, task_words, step_words}
+use Rattle.mf_script.specs.Lines.{file_view, file_words, file_content, cred_words, task_words, step_words}
 use Rattle.mf_script.proofs.ScriptWords.{AreWords, by_word, any_word, by_field}
 use Rattle.mf_script.proofs.FormedParts.{name_formed, number_formed, mode_formed, path_formed, groups_formed, word_formed, bytes_formed}
 use Rattle.mf_script.proofs.Yields.{Yields, done, refused, chain, skip, widened}
@@ -17,8 +17,8 @@ use Rattle.mf_script.proofs.Yields.{Yields, done, refused, chain, skip, widened}
 IsHeld : Bool → List ℕ → Type 0
 IsHeld dir text = IsText SCRIPT_LIMIT text × (dir ≡ true → text ≡ [])
 
-text_formed : (dir : Bool) (ws : Words) → AreWords ws → Yields (λ text. IsHeld dir text.0) (file_text dir ws)
-unfolding file_text IsHeld
+text_formed : (dir : Bool) (ws : Words) → AreWords ws → Yields (λ text. IsHeld dir text.0) (file_content dir ws)
+unfolding file_content IsHeld
 text_formed dir [] are = done (record { few = lit≤ tt; each = All-nil _ }, λ e. refl)
 text_formed true (w ∷ ws) are = refused
 text_formed false (w ∷ ws) are = widened (by_field _ _ bytes_formed (w ∷ ws) are) (λ text ok. (ok.0, λ e. cc))
@@ -80,6 +80,6 @@ task_formed ws are =
     chain _ _ (by_field _ _ word_formed cred.1 cred_ok.1) (λ label label_ok.
     skip _ _ (λ u. done (record { name = name_ok.0; cred = cred_ok.0 })))))
 
-pub step_formed : (w : List ℕ) (ws : Words) → AreWords ws → Yields IsFormedStep (step_words w ws)
+pub step_formed : (w : List ℕ) (ws : Words) → AreWords ws → Yields (λ step. IsName step.task) (step_words w ws)
 unfolding step_words
 step_formed w ws are = skip _ _ (λ kind. chain _ _ (by_word _ (λ w word. name_formed w) ws are) (λ task task_ok. skip _ _ (λ u. done task_ok.0)))

@@ -6,7 +6,8 @@ use Rattle.std.specs.Char.{is_digit}
 use Rattle.std.specs.Str.Parse.{digits_value}
 use Rattle.std.proofs.lemmas.Bool.{leb-true}
 use Rattle.mf_text.specs.declared.number.NumberFault.TheVariants.{OutOfRange}
-use Rattle.mf_text.specs.Number.{number_in, within, unless_other}
+use Rattle.mf_text.specs.Number.{number_in}
+use Rattle.mf_text.proofs.Numerals.{within, unless_other}
 
 within_greatest : (least greatest value n : ℕ) → within least greatest value ≡ Ok n → n ≤ greatest
 within_greatest least greatest value n e = by_test (nat_le least value) (nat_le value greatest) refl e where

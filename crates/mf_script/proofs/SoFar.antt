@@ -15,12 +15,12 @@ use Rattle.mf_calls.specs.declared.script.FileLine.{FileLine}
 use Rattle.mf_calls.specs.declared.script.Step.{Step}
 use Rattle.mf_calls.specs.declared.script.Task.{Task}
 use Rattle.mf_calls.specs.declared.script.Script.{Script}
-use Rattle.mf_calls.specs.WellFormed.{AreBoots, IsFormedFile, IsFormedTask, IsFormedStep, IsWellFormed, rule_list_count}
+use Rattle.mf_calls.specs.WellFormed.{AreBoots, IsFormedFile, IsFormedTask, IsWellFormed, rule_list_count, IsName}
 use Rattle.mf_script.specs.declared.error.ScriptError.{ScriptError}
 use Rattle.mf_script.specs.declared.error.ScriptError.TheVariants as error
 use Rattle.mf_script.specs.declared.rows.Place.{Place}
 use Rattle.mf_script.specs.declared.rows.Place.TheVariants as place
-use Rattle.mf_script.specs.Grammar.{State, boot_in, file_in, task_in, line_in, step_in, alone, behind_tasks, behind_files, behind_boots, in_task, in_steps, row_in, words_line, line_read, blank, ended}
+use Rattle.mf_script.specs.Grammar.{Reading, boot_in, file_in, task_in, line_in, step_in, nothing_behind, behind_tasks, behind_files, behind_boots, in_task, in_steps, row_in, words_line, line_read, blank, ended}
 use Rattle.mf_script.specs.Outcome.{IsScriptOf}
 use Rattle.mf_script.proofs.ScriptWords.{AreWords, script_words}
 use Rattle.mf_script.proofs.FormedLines.{file_formed, task_formed, step_formed}
@@ -46,7 +46,7 @@ pub record IsSoFar (s : Script) (p : Place) : Type 0 where
   pub formed : IsWellFormed s
   at : IsAt s p
 
-Keeps : State → Type 0
+Keeps : Reading → Type 0
 Keeps state = IsSoFar state.0 state.1
 
 none_formed : IsWellFormed blank
@@ -123,7 +123,7 @@ with_task s t lists formed open_ =
       each_step = formed.each_step;
     }
 
-with_step : (s : Script) (step : Step) → IsWellFormed s → length s.steps ≤ STEP_LIMIT → IsFormedStep step → nat_lt (length s.steps) STEP_LIMIT ≡ true → IsWellFormed (record s { steps = s.steps ++ step ∷ [] })
+with_step : (s : Script) (step : Step) → IsWellFormed s → length s.steps ≤ STEP_LIMIT → IsName step.task → nat_lt (length s.steps) STEP_LIMIT ≡ true → IsWellFormed (record s { steps = s.steps ++ step ∷ [] })
 with_step s step formed few is room =
     record {
       boots = formed.boots;
@@ -136,7 +136,7 @@ with_step s step formed few is room =
       each_task = formed.each_task;
       rule_lists = formed.rule_lists;
       steps = omega (arith, ltb-true _ _ room, length-append s.steps (step ∷ []));
-      each_step = All-push IsFormedStep s.steps step formed.each_step is;
+      each_step = All-push (λ (step : Step). IsName step.task) s.steps step formed.each_step is;
     }
 
 -- Lines
@@ -179,8 +179,8 @@ unfolding step_in Keeps IsAt
 step_keeps s w ws are formed =
     chain _ _ (step_formed w ws are) (λ step step_ok. checked _ _ _ (λ room. done (record { formed = with_step s step formed formed.steps step_ok room; at = tt })))
 
-alone_keeps : (next : State) (ws : Words) → Keeps next → Yields Keeps (alone next ws)
-unfolding alone
+alone_keeps : (next : Reading) (ws : Words) → Keeps next → Yields Keeps (nothing_behind next ws)
+unfolding nothing_behind
 alone_keeps next ws kept = skip _ _ (λ u. done kept)
 
 -- Lines at each place

@@ -2,6 +2,7 @@
 -- of faults of docs/MANUAL.md (THE SCRIPT). In a line NotText is looked for first, then the words from left to right, then Extra, and then what
 -- the words ask for is judged.
 use Rattle.std.specs.Prelude.{ℕ, ◌+◌, Bool, not, ◌&&◌, ◌||◌, nat_lt, nat_le, if◌then◌else◌, List, [], ◌∷◌, ◌++◌, length, Result, Ok, Err, codes}
+use Rattle.std.specs.Cmp.Lexicographic.{pointwise}
 use Rattle.std.specs.List.{list_all, list_any}
 use Rattle.std.specs.Str.{bytes_eq}
 use Rattle.mf_errno.specs.declared.errno.Errno.TheVariants.{Enoent, Eexist}
@@ -19,7 +20,7 @@ use Rattle.mf_calls.specs.declared.script.Call.{Call}
 use Rattle.mf_calls.specs.declared.script.Task.{Task}
 use Rattle.mf_calls.specs.declared.script.FileLine.{FileLine}
 use Rattle.mf_calls.specs.declared.script.Script.{Script}
-use Rattle.mf_calls.specs.Paths.{is_same_path, is_root, directory_of, has_directory}
+use Rattle.mf_calls.specs.Paths.{is_root, directory_of, has_directory}
 use Rattle.mf_calls.specs.Boots.{is_booted, may_ask_for}
 use Rattle.mf_calls.specs.Tasks.{lists_rules}
 use Rattle.mf_spelling.specs.Spelling.{is_plain}
@@ -57,7 +58,7 @@ request_for kind boots w = do
   Ok request
 
 abbrev pub has_path : List (List ℕ) → FileLine → Bool
-has_path path f = is_same_path f.path path
+has_path path f = pointwise bytes_eq f.path path
 
 -- what a file's label asks for, where the file may stand after these; the root directory is always there
 unfoldable pub file_label : List Module → List FileLine → FileWords → Read Request
@@ -98,72 +99,72 @@ with_list call lists =
 -- Each line makes the script longer, or the task that is open, and gives the place of the next line: behind boots, files or tasks, in a task,
 -- in the steps, or behind them. A place among tasks knows how many of their lines list the rules.
 
-abbrev pub State : Type 0
-State = Script × Place
+abbrev pub Reading : Type 0
+Reading = Script × Place
 
 -- the module behind the word `boot`
 unfoldable pub booted_after : List Module → Words → Read Module
 booted_after boots ws = boot_words ws >>= judged_boot boots
 
-unfoldable pub boot_in : Script → Words → Read State
+unfoldable pub boot_in : Script → Words → Read Reading
 boot_in s ws = do
   m ← booted_after s.boots ws
   Ok (record s { boots = s.boots ++ m ∷ [] }, place.Boots)
 
-unfoldable pub file_in : Script → Words → Read State
+unfoldable pub file_in : Script → Words → Read Reading
 file_in s ws = do
   words ← file_words ws
   file ← judged_file s.boots s.files words
   Ok (record s { files = s.files ++ file ∷ [] }, place.Files)
 
-unfoldable pub task_in : Script → ℕ → Words → Read State
+unfoldable pub task_in : Script → ℕ → Words → Read Reading
 task_in s lists ws = do
   words ← task_words ws
   task ← judged_task s.boots s.tasks words
   Ok (s, place.Task task lists)
 
-unfoldable pub line_in : Script → Task → ℕ → List ℕ → Words → Read State
+unfoldable pub line_in : Script → Task → ℕ → List ℕ → Words → Read Reading
 line_in s t lists w ws = do
   line ← line_words w ws
   u ← unless TooMany (nat_lt (length t.lines) LINE_LIMIT)
   lists ← with_list line.call lists
   Ok (s, place.Task (record t { lines = t.lines ++ line ∷ [] }) lists)
 
-unfoldable pub step_in : Script → List ℕ → Words → Read State
+unfoldable pub step_in : Script → List ℕ → Words → Read Reading
 step_in s w ws = do
   step ← step_words w ws
   u ← unless TooMany (nat_lt (length s.steps) STEP_LIMIT)
   Ok (record s { steps = s.steps ++ step ∷ [] }, place.Steps)
 
 -- a line of one word
-unfoldable pub alone : State → Words → Read State
-alone next ws = no_more ws >>= λ u. Ok next
+unfoldable pub nothing_behind : Reading → Words → Read Reading
+nothing_behind next ws = no_more ws >>= λ u. Ok next
 
 -- script = *boot *file *task [ steps ], by the first word of a line and the words behind it
 
-unfoldable pub behind_tasks : Script → ℕ → List ℕ → Words → Read State
+unfoldable pub behind_tasks : Script → ℕ → List ℕ → Words → Read Reading
 behind_tasks s lists w ws =
     if bytes_eq w (codes "task") then task_in s lists ws
-    else if bytes_eq w (codes "steps") then alone (s, place.Steps) ws
+    else if bytes_eq w (codes "steps") then nothing_behind (s, place.Steps) ws
     else fails UnknownWord
 
-unfoldable pub behind_files : Script → List ℕ → Words → Read State
+unfoldable pub behind_files : Script → List ℕ → Words → Read Reading
 behind_files s w ws = if bytes_eq w (codes "file") then file_in s ws else behind_tasks s 0 w ws
 
-unfoldable pub behind_boots : Script → List ℕ → Words → Read State
+unfoldable pub behind_boots : Script → List ℕ → Words → Read Reading
 behind_boots s w ws = if bytes_eq w (codes "boot") then boot_in s ws else behind_files s w ws
 
 -- task = .. *line "end"
-unfoldable pub in_task : Script → Task → ℕ → List ℕ → Words → Read State
+unfoldable pub in_task : Script → Task → ℕ → List ℕ → Words → Read Reading
 in_task s t lists w ws =
-    if bytes_eq w (codes "end") then alone (record s { tasks = s.tasks ++ t ∷ [] }, place.Tasks lists) ws
+    if bytes_eq w (codes "end") then nothing_behind (record s { tasks = s.tasks ++ t ∷ [] }, place.Tasks lists) ws
     else line_in s t lists w ws
 
 -- steps = "steps" *step "end"
-unfoldable pub in_steps : Script → List ℕ → Words → Read State
-in_steps s w ws = if bytes_eq w (codes "end") then alone (s, place.End) ws else step_in s w ws
+unfoldable pub in_steps : Script → List ℕ → Words → Read Reading
+in_steps s w ws = if bytes_eq w (codes "end") then nothing_behind (s, place.End) ws else step_in s w ws
 
-unfoldable pub row_in : Script → Place → List ℕ → Words → Read State
+unfoldable pub row_in : Script → Place → List ℕ → Words → Read Reading
 row_in s place.Boots w ws = behind_boots s w ws
 row_in s place.Files w ws = behind_files s w ws
 row_in s (place.Tasks lists) w ws = behind_tasks s lists w ws
@@ -172,11 +173,11 @@ row_in s place.Steps w ws = in_steps s w ws
 row_in s place.End w ws = fails UnknownWord
 
 -- a line without words, or a comment, says nothing
-unfoldable pub words_line : Script → Place → Words → Read State
+unfoldable pub words_line : Script → Place → Words → Read Reading
 words_line s p [] = Ok (s, p)
 words_line s p (w ∷ ws) = if is_comment w then Ok (s, p) else row_in s p w ws
 
-unfoldable pub line_read : Script → Place → List ℕ → Read State
+unfoldable pub line_read : Script → Place → List ℕ → Read Reading
 line_read s p line = unless NotText (list_all is_plain line) >>= λ u. words_line s p (words_in line)
 
 -- Line by line: the first faulty line counts.

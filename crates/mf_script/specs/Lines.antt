@@ -1,7 +1,8 @@
 -- The words of each kind of line, from left to right, and no more, as the grammar in docs/MANUAL.md (THE SCRIPT) has them. What the words ask
 -- for is judged afterwards.
-use Rattle.std.specs.Prelude.{ℕ, Bool, true, false, ◌==◌, if◌then◌else◌, List, [], ◌∷◌, Option, Some, None, Ok, codes}
+use Rattle.std.specs.Prelude.{ℕ, Bool, true, false, ◌==◌, if◌then◌else◌, List, [], ◌∷◌, map, Option, Some, None, Ok, codes}
 use Rattle.std.specs.Str.{bytes_eq}
+use Rattle.mf_spelling.specs.Spelling.{step_word}
 use Rattle.mf_cred.specs.declared.cred.Cred.{Cred}
 use Rattle.mf_cred.specs.declared.cred.FileView.{FileView}
 use Rattle.mf_words.specs.Words.{Words}
@@ -24,10 +25,10 @@ boot_words ws = do
   Ok name.0
 
 -- of a regular file [ "text" TEXT ], of a directory nothing
-unfoldable pub file_text : Bool → Words → Read (List ℕ × Words)
-file_text dir [] = Ok ([], [])
-file_text true (w ∷ ws) = fails (if bytes_eq w (codes "text") then UnknownWord else Extra)
-file_text false (w ∷ ws) = field (codes "text") text_of (w ∷ ws)
+unfoldable pub file_content : Bool → Words → Read (List ℕ × Words)
+file_content dir [] = Ok ([], [])
+file_content true (w ∷ ws) = fails (if bytes_eq w (codes "text") then UnknownWord else Extra)
+file_content false (w ∷ ws) = field (codes "text") text_of (w ∷ ws)
 
 -- KIND "uid" N "gid" N "mode" OCTAL
 unfoldable pub file_view : Words → Read (FileView × Words)
@@ -44,7 +45,7 @@ file_words ws = do
   path ← word_by path_of ws
   file ← file_view path.1
   label ← field (codes "label") any_word file.1
-  text ← file_text file.0.dir label.1
+  text ← file_content file.0.dir label.1
   u ← no_more text.1
   Ok (record { path = path.0; file = file.0; label = label.0; text = text.0 })
 
@@ -82,21 +83,15 @@ line_words w ws = by_option (behind_at w) (do
     Ok (record { child = Some child; call = call }))
 
 abbrev pub step_kinds : List (List ℕ × StepKind)
-step_kinds =
-    (codes "enter", step.Enter)
-    ∷ (codes "plan", step.Plan)
-    ∷ (codes "done", step.Done)
-    ∷ (codes "leave", step.Leave)
-    ∷ (codes "change", step.Change)
-    ∷ []
+step_kinds = map (λ kind. (step_word kind, kind)) (step.Enter ∷ step.Plan ∷ step.Done ∷ step.Leave ∷ step.Change ∷ [])
 
-unfoldable pub kind_of : List ℕ → Read StepKind
-kind_of w = one_of step_kinds w Ok
+unfoldable pub step_kind_of : List ℕ → Read StepKind
+step_kind_of w = one_of step_kinds w Ok
 
 -- a step, by its first word: KIND NAME
 unfoldable pub step_words : List ℕ → Words → Read Step
 step_words w ws = do
-  kind ← kind_of w
+  kind ← step_kind_of w
   task ← word_by name_of ws
   u ← no_more task.1
   Ok (record { kind = kind; task = task.0 })

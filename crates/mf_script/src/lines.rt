@@ -3,7 +3,7 @@
 
 ghost use Rattle.std.specs.Prelude.{◌≡◌};
 ghost use Rattle.mf_script.specs.Gives.{Gives};
-ghost use Rattle.mf_script.specs.Lines.{boot_words, file_text, file_view, file_words, cred_words, task_words, line_words, kind_of, step_words};
+ghost use Rattle.mf_script.specs.Lines.{boot_words, file_content, file_view, file_words, cred_words, task_words, line_words, step_kind_of, step_words};
 
 use crate::error::ScriptFault;
 use crate::refusal::{Refusal, faulty};
@@ -39,9 +39,9 @@ pub fn boot_words(alloc: Global, words: &mut Words) -> Result<Word, Refusal>
 }
 
 /// The text of a file line, where it has one. A directory has none.
-#[tactic(auto, unfolding(crate::specs::Lines::file_text, crate::specs::Parts::field, crate::specs::Readers::and_then))]
-fn file_text(alloc: Global, dir: bool, words: &mut Words) -> Result<Bytes<SCRIPT_LIMIT>, Refusal>
-    ensures { Gives (λ text. (text, words.new)) result (file_text dir words.old) }
+#[tactic(auto, unfolding(crate::specs::Lines::file_content, crate::specs::Parts::field, crate::specs::Readers::and_then))]
+fn file_content(alloc: Global, dir: bool, words: &mut Words) -> Result<Bytes<SCRIPT_LIMIT>, Refusal>
+    ensures { Gives (λ text. (text, words.new)) result (file_content dir words.old) }
 {
     match words.next() {
         None => Ok(Bytes::new(alloc)),
@@ -87,7 +87,7 @@ pub fn file_words(alloc: Global, words: &mut Words) -> Result<FileWords, Refusal
     let path = names::path(alloc, words)?;
     let file = file_view(words)?;
     let label = parts::word_field(alloc, words, "label")?;
-    let text = file_text(alloc, file.dir, words)?;
+    let text = file_content(alloc, file.dir, words)?;
     let asked = FileWords {
         path,
         file,
@@ -144,9 +144,9 @@ pub fn line_words(alloc: Global, first: &str, words: &mut Words) -> Result<Line,
     }
 }
 
-#[tactic(auto, unfolding(crate::specs::Lines::kind_of))]
-fn kind_of(word: &str) -> Result<StepKind, Refusal>
-    ensures { Gives (λ kind. kind) result (kind_of word.now) }
+#[tactic(auto, unfolding(crate::specs::Lines::step_kind_of))]
+fn step_kind_of(word: &str) -> Result<StepKind, Refusal>
+    ensures { Gives (λ kind. kind) result (step_kind_of word.now) }
 {
     match word {
         "enter" => Ok(StepKind::Enter),
@@ -163,7 +163,7 @@ fn kind_of(word: &str) -> Result<StepKind, Refusal>
 pub fn step_words(alloc: Global, first: &str, words: &mut Words) -> Result<Step, Refusal>
     ensures { Gives (λ step. step) result (step_words first.now words.old) }
 {
-    let kind = kind_of(first)?;
+    let kind = step_kind_of(first)?;
     let task = names::name(alloc, words)?;
     parts::at_end(words, Step { kind, task })
 }

@@ -4,7 +4,7 @@
 ghost use Rattle.std.specs.Prelude.{◌≡◌, ◌++◌, ◌∷◌, []};
 ghost use Rattle.mf_script.specs.Gives.{Gives};
 ghost use Rattle.mf_script.specs.declared.rows.Place.TheVariants as place;
-ghost use Rattle.mf_script.specs.Grammar.{booted_after, boot_in, file_in, task_in, line_in, step_in, alone, behind_tasks, behind_files, behind_boots, in_task, in_steps, row_in, words_line};
+ghost use Rattle.mf_script.specs.Grammar.{booted_after, boot_in, file_in, task_in, line_in, step_in, nothing_behind, behind_tasks, behind_files, behind_boots, in_task, in_steps, row_in, words_line};
 
 use crate::error::ScriptFault;
 use crate::refusal::{Refusal, faulty};
@@ -118,14 +118,14 @@ fn step_row(
 }
 
 /// Ends the task.
-#[tactic(auto, unfolding(crate::specs::Grammar::alone, crate::specs::Readers::and_then))]
+#[tactic(auto, unfolding(crate::specs::Grammar::nothing_behind, crate::specs::Readers::and_then))]
 fn end_row(
     script: &mut Script,
     task: Task,
     lists: usize,
     words: &mut Words,
 ) -> Result<Place, Refusal>
-    ensures { Gives (λ p. (script.new, p)) result (alone (record (script.old) { tasks = script.old.tasks ++ task ∷ [] }, place.Tasks lists) words.old) }
+    ensures { Gives (λ p. (script.new, p)) result (nothing_behind (record (script.old) { tasks = script.old.tasks ++ task ∷ [] }, place.Tasks lists) words.old) }
 {
     parts::no_more(words)?;
     script.tasks.push(task)?;
@@ -133,9 +133,9 @@ fn end_row(
 }
 
 /// Takes a line of one word, behind which the next stands at this place.
-#[tactic(auto, unfolding(crate::specs::Grammar::alone, crate::specs::Readers::and_then))]
-fn alone(script: &Script, next: Place, words: &mut Words) -> Result<Place, Refusal>
-    ensures { Gives (λ p. (script.now, p)) result (alone (script.now, next) words.old) }
+#[tactic(auto, unfolding(crate::specs::Grammar::nothing_behind, crate::specs::Readers::and_then))]
+fn nothing_behind(script: &Script, next: Place, words: &mut Words) -> Result<Place, Refusal>
+    ensures { Gives (λ p. (script.now, p)) result (nothing_behind (script.now, next) words.old) }
 {
     parts::at_end(words, next)
 }
@@ -153,7 +153,7 @@ fn behind_tasks(
 {
     match first {
         "task" => task_row(alloc, script, lists, words),
-        "steps" => alone(script, Place::Steps, words),
+        "steps" => nothing_behind(script, Place::Steps, words),
         _ => Err(faulty(ScriptFault::UnknownWord)),
     }
 }
@@ -222,7 +222,7 @@ fn in_steps(
     ensures { Gives (λ p. (script.new, p)) result (in_steps script.old first.now words.old) }
 {
     if first == "end" {
-        alone(script, Place::End, words)
+        nothing_behind(script, Place::End, words)
     } else {
         step_row(alloc, script, first, words)
     }

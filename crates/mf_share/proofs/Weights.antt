@@ -3,6 +3,7 @@ use Rattle.std.proofs.Common.{◌≡◌, ◌≢◌, ℕ, zero, suc, ◌+◌, ◌
 use Rattle.std.proofs.Math.Nat.{one-le-pow, pow-le-pow_right}
 use Rattle.std.proofs.lemmas.List.{length-map}
 use Rattle.std.proofs.lemmas.List.Sums.{sum_by-cons}
+use Rattle.std.specs.List.{fold}
 use Rattle.mf_calls.specs.declared.limits.TheConstants.{TASK_LIMIT}
 use Rattle.mf_calls.specs.declared.script.Script.{Script}
 use Rattle.mf_core.specs.declared.progress.Phase.{Phase}
@@ -17,7 +18,7 @@ use Rattle.mf_core.specs.declared.history.Event.{Event}
 use Rattle.mf_core.specs.declared.history.Event.TheVariants as event
 use Rattle.mf_core.specs.Progress.{first_progress, progress_at, left, left_at, open_in, open_entries}
 use Rattle.mf_core.specs.Advances.{Advances}
-use Rattle.mf_core.specs.LegalHistory.{RunState, after, next_line, opening, run_state_after}
+use Rattle.mf_core.specs.LegalHistory.{RunState, after, next_line, opening}
 use Rattle.mf_core.specs.CoreView.{CoreView, open_of, progress_of, turn_at, AdvancesBy, AdvancesOn}
 use Rattle.mf_core.proofs.Consistency.{change_phase, done_phase, entered_phase, entry_phase}
 use Rattle.mf_share.specs.Passes.{ticket_turn}
@@ -110,7 +111,7 @@ length_after s r (event.Done t line reply) = length-set r.progress t _
 length_after s r (event.Leave t) = length-set r.progress t _
 length_after s r (event.Changed t line reply) = length-set r.progress t _
 
-places_after : (s : Script) (r : RunState) (es : List Event) → length (run_state_after s r es).progress ≡ length r.progress
+places_after : (s : Script) (r : RunState) (es : List Event) → length (fold (after s) r es).progress ≡ length r.progress
 places_after s r [] = refl
 places_after s r (e ∷ es) = places_after s (after s r e) es ∙ length_after s r e
 

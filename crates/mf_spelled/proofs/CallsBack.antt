@@ -2,10 +2,11 @@
 use Rattle.std.proofs.Common.{◌≡◌, ℕ, Bool, true, false, not, ◌&&◌, List, [], ◌∷◌, Option, Some, None, Ok, refl, ap, ◌∙◌, codes}
 use Rattle.std.specs.Prelude.{is_none}
 use Rattle.std.specs.Str.{bytes_eq}
+use Rattle.std.specs.Option.{IfSome}
 use Rattle.mf_errno.specs.Privilege.{privilege_text}
 use Rattle.mf_rule.specs.declared.rule.Rule.{Rule}
 use Rattle.mf_words.specs.Words.{Words, is_comment}
-use Rattle.mf_calls.specs.WellFormed.{IsFormedCall, IsFormedChild, IsFormedLine, IsName}
+use Rattle.mf_calls.specs.WellFormed.{IsFormedCall, IsFormedLine, IsName}
 use Rattle.mf_calls.specs.declared.script.Call.{Call}
 use Rattle.mf_calls.specs.declared.script.Call.TheVariants as call
 use Rattle.mf_calls.specs.declared.script.Line.{Line}
@@ -15,7 +16,7 @@ use Rattle.mf_script.specs.Parts.{look_up, word_by, no_more, any_word, name_of, 
 use Rattle.mf_script.specs.Calls.{Arguments, bare, one, two, three, add_rule, set_rule, ugidfw_calls, ugidfw, calls, call_in, call_named, call_words}
 use Rattle.mf_script.specs.Lines.{behind_at, line_words}
 use Rattle.mf_script.proofs.ScriptWords.{both}
-use Rattle.mf_spelling.specs.Spelling.{Piece, Word, Decimal, Octal, Groups, Text, Setting, Label, Rules, Pieces, path, Spells, SpellLine, alone, call_pieces, line_pieces}
+use Rattle.mf_spelling.specs.Spelling.{Piece, Word, Decimal, Octal, Groups, Text, Setting, Label, Rules, Pieces, path, Spells, SpellLine, call_pieces, line_pieces}
 use Rattle.mf_spelled.proofs.WordsBack.{IsRead, any_back, name_back, process_back, rule_number_back, mode_back, text_back, sides_back, privilege_back, path_back, rule_back}
 
 -- Words that spell a row that begins with a piece
@@ -185,7 +186,7 @@ call_back (call.Kldunload name) formed = named_one (codes "kldunload") any_word 
 call_back (call.Sysctl name value) formed =
     named_one (codes "sysctl") sides_of (λ sides. call.Sysctl sides.0 sides.1) (Setting name value) (name, value) refl tt (sides_back name value)
 call_back call.UgidfwList formed =
-    named_back (codes "ugidfw") ugidfw (alone (codes "list")) call.UgidfwList refl (ugidfw_back (codes "list") (bare call.UgidfwList) [] call.UgidfwList refl (bare_back call.UgidfwList))
+    named_back (codes "ugidfw") ugidfw (Word (codes "list") ∷ []) call.UgidfwList refl (ugidfw_back (codes "list") (bare call.UgidfwList) [] call.UgidfwList refl (bare_back call.UgidfwList))
 call_back (call.UgidfwAdd rule) formed =
     named_back (codes "ugidfw") ugidfw (Word (codes "add") ∷ Rules rule ∷ []) (call.UgidfwAdd rule) refl (ugidfw_back (codes "add") add_rule (Rules rule ∷ []) (call.UgidfwAdd rule) refl (add_back rule))
 call_back (call.UgidfwSet n rule) formed =
@@ -275,7 +276,7 @@ pub record IsLineRead (line : Line) (w : List ℕ) (ws : Words) : Type 0 where
   pub no_comment : is_comment w ≡ false
   pub is : line_words w ws ≡ Ok line
 
-with_child : (child : Option (List ℕ)) (c : Call) → IsFormedChild child → IsFormedCall c → (w : List ℕ) (ws : Words) → SpellLine (w ∷ ws) (line_pieces (record { child = child; call = c })) → IsLineRead (record { child = child; call = c }) w ws
+with_child : (child : Option (List ℕ)) (c : Call) → IfSome child IsName → IsFormedCall c → (w : List ℕ) (ws : Words) → SpellLine (w ∷ ws) (line_pieces (record { child = child; call = c })) → IsLineRead (record { child = child; call = c }) w ws
 unfolding line_words and_then call_words
 with_child None c child_is call_is w ws spelled =
     let opening = opened w ws (call_pieces c) (opens_line c) spelled in

@@ -24,7 +24,7 @@ use Rattle.mf_script.specs.declared.lines.TaskWords.{TaskWords}
 use Rattle.mf_script.specs.declared.error.ScriptFault.TheVariants.{UnknownWord}
 use Rattle.mf_script.specs.Readers.{by_option, fails}
 use Rattle.mf_script.specs.Parts.{look_up, any_word, number_of, mode_of, name_of, path_of, groups_of, is_directory_of, text_of}
-use Rattle.mf_script.specs.Lines.{boot_words, file_view, file_words, file_text, cred_words, task_words, step_words, kind_of, step_kinds}
+use Rattle.mf_script.specs.Lines.{boot_words, file_view, file_words, file_content, cred_words, task_words, step_words, step_kind_of, step_kinds}
 use Rattle.mf_script.specs.Grammar.{judged_boot, judged_module, booted_after, file_label, judged_file, task_label, judged_task, request_for}
 use Rattle.mf_script.proofs.Yields.{Yields, done, refused, chain, checked, either, widened}
 use Rattle.mf_spelling.specs.Spelling.{Piece, Word, Decimal, Octal, Groups, Text, Label, path, Spells, SpellLine, boot_pieces, file_pieces, text_pieces, task_pieces, step_word, step_pieces, Pieces}
@@ -86,8 +86,8 @@ text_line [] ws rest some both none =
     absurd (here.0 (some_bytes 0 both.value.word both.value.spells))
 text_line (b ∷ bytes) ws rest some both none = two_before (codes "text") (Text (b ∷ bytes)) ws rest [] both (at_end rest none)
 
-text_spelled : (dir : Bool) (ws : Words) → AreSome ws → Yields (λ text. text.1 ≡ [] → SpellLine ws (text_pieces text.0)) (file_text dir ws)
-unfolding file_text
+text_spelled : (dir : Bool) (ws : Words) → AreSome ws → Yields (λ text. text.1 ≡ [] → SpellLine ws (text_pieces text.0)) (file_content dir ws)
+unfolding file_content
 text_spelled dir [] some = done (λ none. tt)
 text_spelled true (w ∷ ws) some = refused
 text_spelled false (w ∷ ws) some = widened (by_field (codes "text") Text text_of text_spells (w ∷ ws)) (λ text both none. text_line text.0 (w ∷ ws) text.1 some both none)
@@ -184,8 +184,8 @@ named_under w kind (entry ∷ table) named e = by_test (bytes_eq w entry.0) (byt
   by_test true same further h = let here : entry.1 ≡ kind = cc in same refl ∙ named.0 ∙ ap step_word here
   by_test false same further h = further h
 
-kind_spells : Reads (λ kind. Word (step_word kind)) kind_of
-unfolding kind_of
+kind_spells : Reads (λ kind. Word (step_word kind)) step_kind_of
+unfolding step_kind_of
 kind_spells w = if_some (look_up w step_kinds) _ _ refused (λ kind e. done (named_under w kind step_kinds (refl, (refl, (refl, (refl, (refl, tt))))) e))
 
 pub step_spelled : (w : List ℕ) (ws : Words) → Yields (λ x. SpellLine (w ∷ ws) (step_pieces x)) (step_words w ws)

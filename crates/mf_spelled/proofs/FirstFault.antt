@@ -16,7 +16,7 @@ use Rattle.mf_script.specs.declared.refusal.LineFault.{LineFault}
 use Rattle.mf_script.specs.declared.rows.Place.{Place}
 use Rattle.mf_script.specs.declared.rows.Place.TheVariants as place
 use Rattle.mf_script.specs.Readers.{Read, and_then}
-use Rattle.mf_script.specs.Grammar.{State, blank, line_read, words_line, row_in, in_task, in_steps, alone, or_at, ended, script_from, script_of}
+use Rattle.mf_script.specs.Grammar.{Reading, blank, line_read, words_line, row_in, in_task, in_steps, nothing_behind, or_at, ended, script_from, script_of}
 use Rattle.mf_spelled.specs.Laws.{AreLinesOf, FaultsAreFirst, ScriptsAreTheirTexts}
 
 -- the first fault of lines that are read from a place on, where the first of them has that number
@@ -31,7 +31,7 @@ record Ends (s : Script) (p : Place) (k : ℕ) : Type 0 where
   before : (script_from s p k [] ≡ Ok script) ⊎ (script_from s p k (codes "end" ∷ []) ≡ Ok script)
 
 can_end : (s : Script) (p : Place) (k : ℕ) → Ends s p k
-unfolding script_from line_read words_line row_in in_task in_steps alone and_then
+unfolding script_from line_read words_line row_in in_task in_steps nothing_behind and_then
 can_end s place.Boots k = record { script = s; before = inl refl }
 can_end s place.Files k = record { script = s; before = inl refl }
 can_end s (place.Tasks lists) k = record { script = s; before = inl refl }
@@ -63,7 +63,7 @@ no_end s p k line fault errno e = (
   at place.End e = cc
 
 -- what is read of lines of which the first is that one
-from_first : (s : Script) (p : Place) (k : ℕ) (line : List ℕ) (more : List (List ℕ)) (read : Read State) → line_read s p line ≡ read
+from_first : (s : Script) (p : Place) (k : ℕ) (line : List ℕ) (more : List (List ℕ)) (read : Read Reading) → line_read s p line ≡ read
     → script_from s p k (line ∷ more) ≡ or_at k read (λ next. script_from next.0 next.1 (k + 1) more)
 unfolding script_from
 from_first s p k line more read e = ap (λ read. or_at k read (λ next. script_from next.0 next.1 (k + 1) more)) e
@@ -112,7 +112,7 @@ from_fault : (lines : List (List ℕ)) (s : Script) (p : Place) (k line : ℕ) (
 unfolding script_from
 from_fault [] s p k line fault errno e = let here = no_end s p k line fault errno e in (0, here.0, here.1)
 from_fault (first ∷ lines) s p k line fault errno e = by_read (line_read s p first) (λ s' p'. from_fault lines s' p' (k + 1) line fault errno) refl e where
-  by_read : (read : Read State) → ((s' : Script) (p' : Place) → script_from s' p' (k + 1) lines ≡ Err (Fault line fault errno) → (n : ℕ) × (line ≡ k + 1 + n) × IsFault s' p' (k + 1) lines n)
+  by_read : (read : Read Reading) → ((s' : Script) (p' : Place) → script_from s' p' (k + 1) lines ≡ Err (Fault line fault errno) → (n : ℕ) × (line ≡ k + 1 + n) × IsFault s' p' (k + 1) lines n)
       → line_read s p first ≡ read → or_at k read (λ next. script_from next.0 next.1 (k + 1) lines) ≡ Err (Fault line fault errno)
       → (n : ℕ) × (line ≡ k + n) × IsFault s p k (first ∷ lines) n
   by_read (Ok next) further is e =

@@ -1,9 +1,11 @@
 -- The canonical text of what a label asks for is a word, and is read back.
 use Rattle.std.proofs.Common.{◌≡◌, ◌≢◌, ℕ, ◌≤◌, Bool, true, false, cond, eqb, List, [], ◌∷◌, ◌++◌, length, map, Option, Some, None, Ok, IfSome, refl, sym, ap, ◌∙◌, arith, append-nil, inl, inr, subst}
-use Rattle.std.specs.Prelude.{codes}
+use Rattle.std.specs.Prelude.{codes, nat_le}
+use Rattle.std.proofs.lemmas.Bool.{leb-true}
 use Rattle.std.specs.Char.{is_ascii_graphic}
 use Rattle.std.specs.Fmt.{decimal}
 use Rattle.std.specs.List.{AllByRecursion, join_with_byte, list_all}
+use Rattle.mf_elem.specs.Comps.{rising}
 use Rattle.mf_elem.specs.Bounds.{IsElement, IsAskedLabel, IsRequest}
 use Rattle.mf_elem.specs.declared.elem.Elem.{Elem}
 use Rattle.mf_elem.specs.declared.elem.Elem.TheVariants.{Low, High, Equal, Grade}
@@ -11,8 +13,11 @@ use Rattle.mf_elem.specs.declared.label.LabelValue.{LabelValue}
 use Rattle.mf_elem.specs.declared.label.RangeLabel.{RangeLabel}
 use Rattle.mf_elem.specs.declared.label.Request.{Request}
 use Rattle.mf_errno.specs.declared.module.Module.{Module}
-use Rattle.mf_errno.specs.declared.module.Module.TheVariants.{Biba, Mls, Partition, Bsdextended, Priority}
-use Rattle.mf_labeltext.specs.Canonical.{rising, comps_text, elem_text, effective_text, range_text, label_text, partition_text, element_text, parts_of, in_order, elements_text, canonical_label}
+use Rattle.mf_errno.specs.declared.module.Module.TheVariants.{Biba, Mls}
+use Rattle.mf_errno.specs.Names.{all_modules}
+use Rattle.mf_errno.proofs.Modules.{each_passes}
+use Rattle.mf_labeltext.proofs.CanonicalSpelling.{effective_text, partition_text}
+use Rattle.mf_labeltext.specs.Canonical.{comps_text, elem_text, range_text, label_text, element_text, parts_of, in_order, elements_text, canonical_label}
 use Rattle.mf_labeltext.specs.Reading.{request_in}
 use Rattle.mf_labeltext.specs.RoundTrip.{request_of, AreParts}
 use Rattle.mf_labeltext.proofs.PartsSpelling.{canonical_spells}
@@ -50,7 +55,7 @@ elem_graphic Low fits = refl
 elem_graphic High fits = refl
 elem_graphic Equal fits = refl
 elem_graphic (Grade grade comps) fits =
-    all_append is_ascii_graphic (decimal grade) (comps_text (rising comps)) (number_graphic grade (omega (arith, fits.fits))) (comps_graphic (rising comps) (rising_are comps))
+    all_append is_ascii_graphic (decimal grade) (comps_text (rising comps)) (number_graphic grade (omega (arith, fits.0))) (comps_graphic (rising comps) (rising_are comps))
 
 effective_graphic : (effective : Option Elem) → IfSome effective IsElement → IsGraphic (effective_text effective)
 effective_graphic None fits = refl
@@ -83,10 +88,7 @@ elements_graphic (part ∷ next ∷ parts) all =
 
 some_behind : (m : Module) (value : LabelValue) (more : List ℕ) → is_some_text (element_text (m, value) ++ more) ≡ true
 some_behind Biba value more = refl
-some_behind Mls value more = refl
-some_behind Partition value more = refl
-some_behind Bsdextended value more = refl
-some_behind Priority value more = refl
+some_behind other value more = refl
 
 some_text : (parts : List Part) → is_some_text (elements_text (map element_text parts)) ≡ true
 some_text [] = refl
@@ -134,15 +136,8 @@ text_is biba mls partition = ap (λ parts. elements_text (map element_text parts
 
 -- They are read back
 
-abbrev IsFew : List Part → Module → Type 0
-IsFew parts policy = length (parts_of policy parts) ≤ 1
-
-few : (parts : List Part) → IsFew parts Biba → IsFew parts Mls → IsFew parts Partition → IsFew parts Bsdextended → IsFew parts Priority → (policy : Module) → IsFew parts policy
-few parts b m p e r Biba = b
-few parts b m p e r Mls = m
-few parts b m p e r Partition = p
-few parts b m p e r Bsdextended = e
-few parts b m p e r Priority = r
+few : (parts : List Part) → list_all (λ policy. nat_le (length (parts_of policy parts)) 1) all_modules ≡ true → (policy : Module) → length (parts_of policy parts) ≤ 1
+few parts all policy = leb-true _ _ (each_passes (λ policy. nat_le (length (parts_of policy parts)) 1) all policy)
 
 abbrev asking : Option RangeLabel → Option RangeLabel → Option ℕ → Request
 asking biba mls partition = record { biba = biba; mls = mls; partition = partition; other = false }
@@ -158,13 +153,13 @@ none_asked = refl
 back_by : (biba mls : Option RangeLabel) (partition : Option ℕ) → IfSome biba IsAskedLabel → IfSome mls IsAskedLabel → IsNumber partition
     → Spells (canonical_label (pairs_by biba mls partition)) (Label (asking biba mls partition))
 back_by None None None b m p = inl (none_asked, refl)
-back_by None None (Some n) b m p = inr (read_by (pairs_by None None (Some n)) (asking None None (Some n)) (record { each = (p, tt); once = few (pairs_by None None (Some n)) (omega arith) (omega arith) (omega arith) (omega arith) (omega arith) }) (λ e. cc) refl)
-back_by None (Some mls) None b m p = inr (read_by (pairs_by None (Some mls) None) (asking None (Some mls) None) (record { each = (m, tt); once = few (pairs_by None (Some mls) None) (omega arith) (omega arith) (omega arith) (omega arith) (omega arith) }) (λ e. cc) refl)
-back_by None (Some mls) (Some n) b m p = inr (read_by (pairs_by None (Some mls) (Some n)) (asking None (Some mls) (Some n)) (record { each = (m, (p, tt)); once = few (pairs_by None (Some mls) (Some n)) (omega arith) (omega arith) (omega arith) (omega arith) (omega arith) }) (λ e. cc) refl)
-back_by (Some biba) None None b m p = inr (read_by (pairs_by (Some biba) None None) (asking (Some biba) None None) (record { each = (b, tt); once = few (pairs_by (Some biba) None None) (omega arith) (omega arith) (omega arith) (omega arith) (omega arith) }) (λ e. cc) refl)
-back_by (Some biba) None (Some n) b m p = inr (read_by (pairs_by (Some biba) None (Some n)) (asking (Some biba) None (Some n)) (record { each = (b, (p, tt)); once = few (pairs_by (Some biba) None (Some n)) (omega arith) (omega arith) (omega arith) (omega arith) (omega arith) }) (λ e. cc) refl)
-back_by (Some biba) (Some mls) None b m p = inr (read_by (pairs_by (Some biba) (Some mls) None) (asking (Some biba) (Some mls) None) (record { each = (b, (m, tt)); once = few (pairs_by (Some biba) (Some mls) None) (omega arith) (omega arith) (omega arith) (omega arith) (omega arith) }) (λ e. cc) refl)
-back_by (Some biba) (Some mls) (Some n) b m p = inr (read_by (pairs_by (Some biba) (Some mls) (Some n)) (asking (Some biba) (Some mls) (Some n)) (record { each = (b, (m, (p, tt))); once = few (pairs_by (Some biba) (Some mls) (Some n)) (omega arith) (omega arith) (omega arith) (omega arith) (omega arith) }) (λ e. cc) refl)
+back_by None None (Some n) b m p = inr (read_by (pairs_by None None (Some n)) (asking None None (Some n)) (record { each = (p, tt); once = few (pairs_by None None (Some n)) refl }) (λ e. cc) refl)
+back_by None (Some mls) None b m p = inr (read_by (pairs_by None (Some mls) None) (asking None (Some mls) None) (record { each = (m, tt); once = few (pairs_by None (Some mls) None) refl }) (λ e. cc) refl)
+back_by None (Some mls) (Some n) b m p = inr (read_by (pairs_by None (Some mls) (Some n)) (asking None (Some mls) (Some n)) (record { each = (m, (p, tt)); once = few (pairs_by None (Some mls) (Some n)) refl }) (λ e. cc) refl)
+back_by (Some biba) None None b m p = inr (read_by (pairs_by (Some biba) None None) (asking (Some biba) None None) (record { each = (b, tt); once = few (pairs_by (Some biba) None None) refl }) (λ e. cc) refl)
+back_by (Some biba) None (Some n) b m p = inr (read_by (pairs_by (Some biba) None (Some n)) (asking (Some biba) None (Some n)) (record { each = (b, (p, tt)); once = few (pairs_by (Some biba) None (Some n)) refl }) (λ e. cc) refl)
+back_by (Some biba) (Some mls) None b m p = inr (read_by (pairs_by (Some biba) (Some mls) None) (asking (Some biba) (Some mls) None) (record { each = (b, (m, tt)); once = few (pairs_by (Some biba) (Some mls) None) refl }) (λ e. cc) refl)
+back_by (Some biba) (Some mls) (Some n) b m p = inr (read_by (pairs_by (Some biba) (Some mls) (Some n)) (asking (Some biba) (Some mls) (Some n)) (record { each = (b, (m, (p, tt))); once = few (pairs_by (Some biba) (Some mls) (Some n)) refl }) (λ e. cc) refl)
 
 pub label_word : (request : Request) → IsRequest request → is_word (canonical_label (parts_asked request)) ≡ true
 label_word r fits = ap is_word (text_is r.biba r.mls r.partition) ∙ elements_word (pairs_by r.biba r.mls r.partition) (each_graphic r.biba r.mls r.partition fits.biba fits.mls fits.partition)

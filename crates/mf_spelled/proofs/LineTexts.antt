@@ -1,8 +1,8 @@
 -- The lines of a canonical text spell the rows of its script.
 use Rattle.std.proofs.Common.{◌≡◌, ℕ, true, false, cond, List, [], ◌∷◌, ◌++◌, map, refl, sym, ap, ◌∙◌, subst, append_assoc}
-use Rattle.std.specs.List.{filter, list_all}
+use Rattle.std.specs.List.{filter, list_all, AllZip}
 use Rattle.mf_words.specs.Words.{Words, words_in, lines_in, is_comment}
-use Rattle.mf_spelling.specs.Spelling.{Word, Pieces, SpellLine, SpellLines, is_plain, says, sayings}
+use Rattle.mf_spelling.specs.Spelling.{Word, Pieces, SpellLine, is_plain, says, sayings}
 use Rattle.mf_spelling.specs.Canonical.{line_text}
 use Rattle.mf_spelled.proofs.WordTexts.{is_word, AreWords, behind, join, words_behind as own_words, plain_text, first_line}
 use Rattle.mf_spelled.proofs.PieceTexts.{AreOfWords, are_written}
@@ -39,7 +39,7 @@ row_line other so = absurd so
 -- The lines of a text spell rows.
 pub record AreRows (text : List ℕ) (rows : List Pieces) : Type 0 where
   pub plain : (rest : List ℕ) → list_all (λ line. list_all is_plain line) (lines_in rest) ≡ true → list_all (λ line. list_all is_plain line) (lines_in (text ++ rest)) ≡ true
-  pub spelled : (rest : List ℕ) (more : List Pieces) → SpellLines (sayings (lines_in rest)) more → SpellLines (sayings (lines_in (text ++ rest))) (rows ++ more)
+  pub spelled : (rest : List ℕ) (more : List Pieces) → AllZip SpellLine (sayings (lines_in rest)) more → AllZip SpellLine (sayings (lines_in (text ++ rest))) (rows ++ more)
 
 pub no_rows : AreRows [] []
 no_rows = record { plain = λ rest so. so; spelled = λ rest more so. so }
@@ -48,8 +48,8 @@ pub rows_append : (a b : List ℕ) (first second : List Pieces) → AreRows a fi
 rows_append a b first second one two = record {
   plain = λ rest so. subst (λ text. list_all (λ line. list_all is_plain line) (lines_in text) ≡ true) (sym (append_assoc a b rest)) (one.plain (b ++ rest) (two.plain rest so));
   spelled = λ rest more so.
-      subst (λ text. SpellLines (sayings (lines_in text)) ((first ++ second) ++ more)) (sym (append_assoc a b rest))
-      (subst (SpellLines (sayings (lines_in (a ++ (b ++ rest))))) (sym (append_assoc first second more)) (one.spelled (b ++ rest) (second ++ more) (two.spelled rest more so)));
+      subst (λ text. AllZip SpellLine (sayings (lines_in text)) ((first ++ second) ++ more)) (sym (append_assoc a b rest))
+      (subst (AllZip SpellLine (sayings (lines_in (a ++ (b ++ rest))))) (sym (append_assoc first second more)) (one.spelled (b ++ rest) (second ++ more) (two.spelled rest more so)));
 }
 
 -- the lines of a text that begins with such a line
@@ -71,7 +71,7 @@ line_rows : (text : List ℕ) (row : Pieces) → IsLineOf text row → AreRows t
 line_rows text row line = record {
   plain = λ rest so. subst (λ lines. list_all (λ line. list_all is_plain line) lines ≡ true) (sym (line_first text row line rest))
       (join (list_all is_plain (line.first ++ behind line.more)) (list_all (λ line. list_all is_plain line) (lines_in rest)) (plain_text line.first line.more line.word line.words) so);
-  spelled = λ rest more so. subst (λ lines. SpellLines lines (row ∷ more)) (sym (saying text row line rest)) (line.spelled, so);
+  spelled = λ rest more so. subst (λ lines. AllZip SpellLine lines (row ∷ more)) (sym (saying text row line rest)) (line.spelled, so);
 }
 
 pub one_row : (row : Pieces) → IsRow row → AreRows (line_text row) (row ∷ [])

@@ -21,11 +21,11 @@ use Rattle.mf_calls.specs.declared.script.StepKind.{StepKind}
 use Rattle.mf_calls.specs.declared.script.StepKind.TheVariants as step
 use Rattle.mf_calls.specs.Boots.{is_booted, may_ask_for}
 use Rattle.mf_calls.specs.Paths.{is_root, directory_of, has_directory}
-use Rattle.mf_calls.specs.WellFormed.{IsAsked, IsFormedFile, IsFormedTask, IsFormedStep}
+use Rattle.mf_calls.specs.WellFormed.{IsAsked, IsFormedFile, IsFormedTask, IsName}
 use Rattle.mf_script.specs.declared.error.ScriptFault.TheVariants as fault
 use Rattle.mf_script.specs.Readers.{Read, and_then}
 use Rattle.mf_script.specs.Parts.{word_by, field, fixed, no_more, any_word, number_of, mode_of, name_of, path_of, groups_of, is_directory_of, text_of}
-use Rattle.mf_script.specs.Lines.{boot_words, file_view, file_words, file_text, cred_words, task_words, step_words, kind_of}
+use Rattle.mf_script.specs.Lines.{boot_words, file_view, file_words, file_content, cred_words, task_words, step_words, step_kind_of}
 use Rattle.mf_script.specs.Grammar.{has_path, booted_after, judged_boot, judged_module, file_label, judged_file, request_for}
 use Rattle.mf_spelling.specs.Spelling.{Piece, Word, Decimal, Octal, Groups, Text, Label, Pieces, path, Spells, SpellLine, boot_pieces, file_pieces, text_pieces, task_pieces, step_word, step_pieces}
 use Rattle.mf_spelled.proofs.WordsBack.{IsRead, passes, any_back, name_back, number_back, mode_back, text_back, path_back, groups_back, request_back}
@@ -84,11 +84,11 @@ directory_back false w e = ap is_directory_of e
 
 record IsTextRead (dir : Bool) (text : List ℕ) (ws : Words) : Type 0 where
   rest : Words
-  is : file_text dir ws ≡ Ok (text, rest)
+  is : file_content dir ws ≡ Ok (text, rest)
   spelled : SpellLine rest []
 
 text_read : (dir : Bool) (text : List ℕ) → (dir ≡ true → text ≡ []) → (ws : Words) → SpellLine ws (text_pieces text) → IsTextRead dir text ws
-unfolding file_text
+unfolding file_content
 text_read dir [] held [] spelled = record { rest = []; is = refl; spelled = tt }
 text_read dir [] held (w ∷ ws) spelled = absurd spelled
 text_read true (b ∷ text) held ws spelled = let empty = held refl in cc
@@ -138,15 +138,15 @@ task_back boots t formed w ws spelled =
           ∙ ap (λ (svuid : ℕ). Ok (record { name = t.name; cred = record { uid = t.cred.uid; ruid = t.cred.ruid; svuid = svuid; groups = t.cred.groups }; label = label.label })) (sym formed.cred.saved));
     }
 
-kind_back : (kind : StepKind) → IsRead kind_of (Word (step_word kind)) kind
-unfolding kind_of
-kind_back step.Enter w e = ap kind_of e
-kind_back step.Plan w e = ap kind_of e
-kind_back step.Done w e = ap kind_of e
-kind_back step.Leave w e = ap kind_of e
-kind_back step.Change w e = ap kind_of e
+kind_back : (kind : StepKind) → IsRead step_kind_of (Word (step_word kind)) kind
+unfolding step_kind_of
+kind_back step.Enter w e = ap step_kind_of e
+kind_back step.Plan w e = ap step_kind_of e
+kind_back step.Done w e = ap step_kind_of e
+kind_back step.Leave w e = ap step_kind_of e
+kind_back step.Change w e = ap step_kind_of e
 
-pub step_back : (x : Step) → IsFormedStep x → (w : List ℕ) (ws : Words) → SpellLine (w ∷ ws) (step_pieces x) → step_words w ws ≡ Ok x
+pub step_back : (x : Step) → IsName x.task → (w : List ℕ) (ws : Words) → SpellLine (w ∷ ws) (step_pieces x) → step_words w ws ≡ Ok x
 unfolding step_words and_then
 step_back x formed w ws spelled =
     let task = word_read name_of (Word x.task) x.task tt (name_back x.task formed) ws [] spelled.1 in

@@ -10,7 +10,8 @@ use Rattle.std.specs.Char.{is_digit, digit_value, digit_char, is_ascii_graphic}
 use Rattle.std.specs.Fmt.{decimal}
 use Rattle.std.specs.List.{AllByRecursion, position, position_or_len, list_all, flat_map, join_with_byte}
 use Rattle.std.specs.Str.Parse.{AllDigits, IsNumeral, digits_value}
-use Rattle.mf_text.specs.Number.{number_in, within, unless_other}
+use Rattle.mf_text.specs.Number.{number_in}
+use Rattle.mf_text.proofs.Numerals.{within, unless_other}
 use Rattle.mf_text.specs.Escape.{bytes_of, escaped, escaped_byte, is_literal}
 use Rattle.mf_text.proofs.Unescaping.{escaped_stands}
 use Rattle.mf_labeltext.specs.Bytes.{comma}

@@ -1,7 +1,7 @@
 -- From place to place over lines that spell rows.
 use Rattle.std.proofs.Common.{◌≡◌, ℕ, ◌+◌, Bool, true, false, not, cond, List, [], ◌∷◌, ◌++◌, map, Ok, Err, refl, sym, subst, ap, ◌∙◌}
 use Rattle.std.specs.Prelude.{if◌then◌else◌}
-use Rattle.std.specs.List.{filter, flat_map, list_all}
+use Rattle.std.specs.List.{filter, flat_map, list_all, AllZip}
 use Rattle.std.proofs.lemmas.List.{append_assoc, append-nil}
 use Rattle.std.proofs.lemmas.List.Concat.{flat_map_single}
 use Rattle.mf_words.specs.Words.{Words, words_in, is_comment}
@@ -9,34 +9,34 @@ use Rattle.mf_calls.specs.declared.script.Script.{Script}
 use Rattle.mf_script.specs.declared.error.ScriptFault.TheVariants as fault
 use Rattle.mf_script.specs.declared.rows.Place.{Place}
 use Rattle.mf_script.specs.Readers.{Read, and_then}
-use Rattle.mf_script.specs.Grammar.{State, row_in, words_line, line_read, or_at, ended, script_from}
+use Rattle.mf_script.specs.Grammar.{Reading, row_in, words_line, line_read, or_at, ended, script_from}
 use Rattle.mf_script.proofs.ScriptWords.{both}
-use Rattle.mf_spelling.specs.Spelling.{is_plain, Word, Pieces, SpellLine, SpellLines, says, sayings}
+use Rattle.mf_spelling.specs.Spelling.{is_plain, Word, Pieces, SpellLine, says, sayings}
 use Rattle.mf_spelled.proofs.WordsBack.{passes}
 use Rattle.mf_spelled.proofs.CallsBack.{front}
 
 -- the words of lines one after another
-pub fold : Script → Place → List Words → Read State
+pub fold : Script → Place → List Words → Read Reading
 fold s p [] = Ok (s, p)
 fold s p (ws ∷ lines) = and_then (words_line s p ws) (λ next. fold next.0 next.1 lines)
 
 -- whatever lines spell these rows, they lead from here to there
 pub record Reaches (rows : List Pieces) (s : Script) (p : Place) (s' : Script) (p' : Place) : Type 0 where
-  pub of : (lines : List Words) → SpellLines lines rows → fold s p lines ≡ Ok (s', p')
+  pub of : (lines : List Words) → AllZip SpellLine lines rows → fold s p lines ≡ Ok (s', p')
 
 pub nowhere : (s : Script) (p : Place) → Reaches [] s p s p
 unfolding fold
 nowhere s p = record { of = by_lines } where
-  by_lines : (lines : List Words) → SpellLines lines [] → fold s p lines ≡ Ok (s, p)
+  by_lines : (lines : List Words) → AllZip SpellLine lines [] → fold s p lines ≡ Ok (s, p)
   by_lines [] spelled = refl
   by_lines (ws ∷ lines) spelled = absurd spelled
 
 pub one_row : (row : Pieces) (s : Script) (p : Place) (s' : Script) (p' : Place) → ((ws : Words) → SpellLine ws row → words_line s p ws ≡ Ok (s', p')) → Reaches (row ∷ []) s p s' p'
 unfolding fold and_then
 one_row row s p s' p' reads = record { of = by_lines } where
-  by_lines : (lines : List Words) → SpellLines lines (row ∷ []) → fold s p lines ≡ Ok (s', p')
+  by_lines : (lines : List Words) → AllZip SpellLine lines (row ∷ []) → fold s p lines ≡ Ok (s', p')
   by_lines [] spelled = absurd spelled
-  by_lines (ws ∷ []) spelled = ap (λ (read : Read State). and_then read (λ next. fold next.0 next.1 [])) (reads ws spelled.0)
+  by_lines (ws ∷ []) spelled = ap (λ (read : Read Reading). and_then read (λ next. fold next.0 next.1 [])) (reads ws spelled.0)
   by_lines (ws ∷ vs ∷ lines) spelled = absurd spelled.1
 
 -- lines that spell rows and more
@@ -44,24 +44,24 @@ record AreParted (lines : List Words) (rows more : List Pieces) : Type 0 where
   first : List Words
   rest : List Words
   whole : lines ≡ first ++ rest
-  spelled : SpellLines first rows
-  further : SpellLines rest more
+  spelled : AllZip SpellLine first rows
+  further : AllZip SpellLine rest more
 
-parted : (rows more : List Pieces) (lines : List Words) → SpellLines lines (rows ++ more) → AreParted lines rows more
+parted : (rows more : List Pieces) (lines : List Words) → AllZip SpellLine lines (rows ++ more) → AreParted lines rows more
 parted [] more lines spelled = record { first = []; rest = lines; whole = refl; spelled = tt; further = spelled }
 parted (row ∷ rows) more [] spelled = absurd spelled
 parted (row ∷ rows) more (ws ∷ lines) spelled =
     let parts = parted rows more lines spelled.1 in
     record { first = ws ∷ parts.first; rest = parts.rest; whole = ap (λ lines. ws ∷ lines) parts.whole; spelled = (spelled.0, parts.spelled); further = parts.further }
 
-same_state : (a b : State) → (let r : Read State = Ok a in r) ≡ Ok b → a ≡ b
+same_state : (a b : Reading) → (let r : Read Reading = Ok a in r) ≡ Ok b → a ≡ b
 same_state a b e = cc
 
 fold_on : (first rest : List Words) (s : Script) (p : Place) (s' : Script) (p' : Place) → fold s p first ≡ Ok (s', p') → fold s p (first ++ rest) ≡ fold s' p' rest
 unfolding fold and_then
-fold_on [] rest s p s' p' e = ap (λ (next : State). fold next.0 next.1 rest) (same_state (s, p) (s', p') e)
+fold_on [] rest s p s' p' e = ap (λ (next : Reading). fold next.0 next.1 rest) (same_state (s, p) (s', p') e)
 fold_on (ws ∷ first) rest s p s' p' e = by_read (words_line s p ws) (λ s p. fold_on first rest s p s' p') e where
-  by_read : (read : Read State) → ((s : Script) (p : Place) → fold s p first ≡ Ok (s', p') → fold s p (first ++ rest) ≡ fold s' p' rest)
+  by_read : (read : Read Reading) → ((s : Script) (p : Place) → fold s p first ≡ Ok (s', p') → fold s p (first ++ rest) ≡ fold s' p' rest)
       → and_then read (λ next. fold next.0 next.1 first) ≡ Ok (s', p') → and_then read (λ next. fold next.0 next.1 (first ++ rest)) ≡ fold s' p' rest
   by_read (Ok next) further h = further next.0 next.1 h
   by_read (Err fault) further h = cc
@@ -92,7 +92,7 @@ each_row row at to whole step =
     (each_on (λ x. row x ∷ []) at to whole (λ done x rest e. one_row (row x) (at done) (to done) (at (done ++ x ∷ [])) (to (done ++ x ∷ [])) (step done x rest e)) whole [] refl)
 
 -- a line that begins with that word, which is no comment
-pub by_first : (text : List ℕ) (pieces : Pieces) (s : Script) (p : Place) (next : State) → is_comment text ≡ false
+pub by_first : (text : List ℕ) (pieces : Pieces) (s : Script) (p : Place) (next : Reading) → is_comment text ≡ false
     → ((ws : Words) → SpellLine (text ∷ ws) (Word text ∷ pieces) → row_in s p text ws ≡ Ok next) → (ws : Words) → SpellLine ws (Word text ∷ pieces) → words_line s p ws ≡ Ok next
 unfolding words_line
 by_first text pieces s p next no_comment reads ws spelled =
@@ -115,13 +115,13 @@ said s p (w ∷ ws) lines = by_test (is_comment w) refl where
 pub read_lines : (lines : List (List ℕ)) (s : Script) (p : Place) (n : ℕ) (s' : Script) (p' : Place) → list_all (λ line. list_all is_plain line) lines ≡ true
     → fold s p (sayings lines) ≡ Ok (s', p') → ((n : ℕ) → ended s' p' n ≡ Ok s') → script_from s p n lines ≡ Ok s'
 unfolding script_from fold line_read and_then
-read_lines [] s p n s' p' plain e ends = ap (λ (next : State). ended next.0 next.1 n) (same_state (s, p) (s', p') e) ∙ ends n
+read_lines [] s p n s' p' plain e ends = ap (λ (next : Reading). ended next.0 next.1 n) (same_state (s, p) (s', p') e) ∙ ends n
 read_lines (line ∷ lines) s p n s' p' plain e ends =
     let tests = both (list_all is_plain line) (list_all (λ line. list_all is_plain line) lines) plain in
-    ap (λ (read : Read State). or_at n read (λ next. script_from next.0 next.1 (n + 1) lines)) (passes fault.NotText (list_all is_plain line) (λ u. words_line s p (words_in line)) tests.0)
+    ap (λ (read : Read Reading). or_at n read (λ next. script_from next.0 next.1 (n + 1) lines)) (passes fault.NotText (list_all is_plain line) (λ u. words_line s p (words_in line)) tests.0)
     ∙ by_read (words_line s p (words_in line)) (λ s p h. read_lines lines s p (n + 1) s' p' tests.1 h ends) (sym (said s p (words_in line) (map words_in lines)) ∙ e)
   where
-    by_read : (read : Read State) → ((s : Script) (p : Place) → fold s p (sayings lines) ≡ Ok (s', p') → script_from s p (n + 1) lines ≡ Ok s')
+    by_read : (read : Read Reading) → ((s : Script) (p : Place) → fold s p (sayings lines) ≡ Ok (s', p') → script_from s p (n + 1) lines ≡ Ok s')
         → and_then read (λ next. fold next.0 next.1 (sayings lines)) ≡ Ok (s', p') → or_at n read (λ next. script_from next.0 next.1 (n + 1) lines) ≡ Ok s'
     by_read (Ok next) further h = further next.0 next.1 h
     by_read (Err fault) further h = cc

@@ -3,7 +3,8 @@ use Rattle.std.proofs.Common.{◌≡◌, ◌≢◌, ℕ, ◌<◌, ◌≤◌, Boo
 use Rattle.std.specs.Prelude.{All, codes, not, if◌then◌else◌}
 use Rattle.std.proofs.lemmas.List.Elements.{All-head, All-tail}
 use Rattle.std.proofs.lemmas.List.Concat.{flat_map-cons}
-use Rattle.std.specs.List.{flat_map, list_all}
+use Rattle.std.specs.List.{flat_map, list_all, AllZip}
+use Rattle.std.specs.Option.{IfSome}
 use Rattle.mf_errno.specs.Names.{all_modules}
 use Rattle.mf_errno.specs.Privilege.{privilege_text}
 use Rattle.mf_errno.specs.declared.module.Module.{Module}
@@ -16,7 +17,7 @@ use Rattle.mf_item.specs.declared.view.Kind.TheVariants as kinds
 use Rattle.mf_words.specs.Words.{lines_in}
 use Rattle.mf_calls.specs.Boots.{may_name}
 use Rattle.mf_calls.specs.Names.{is_name, is_some_text}
-use Rattle.mf_calls.specs.WellFormed.{IsAsked, IsFormedCall, IsFormedChild, IsFormedFile, IsFormedLine, IsFormedStep, IsFormedTask, IsWellFormed}
+use Rattle.mf_calls.specs.WellFormed.{IsAsked, IsFormedCall, IsFormedFile, IsFormedLine, IsFormedTask, IsWellFormed, IsName}
 use Rattle.mf_calls.specs.declared.script.Call.{Call}
 use Rattle.mf_calls.specs.declared.script.Call.TheVariants as call
 use Rattle.mf_calls.specs.declared.script.FileLine.{FileLine}
@@ -26,7 +27,7 @@ use Rattle.mf_calls.specs.declared.script.StepKind.{StepKind}
 use Rattle.mf_calls.specs.declared.script.StepKind.TheVariants as steps
 use Rattle.mf_calls.specs.declared.script.Task.{Task}
 use Rattle.mf_calls.specs.declared.script.Script.{Script}
-use Rattle.mf_spelling.specs.Spelling.{Pieces, SpellLines, IsTextOf, sayings, is_plain, call_pieces, line_pieces, boot_pieces, file_pieces, text_pieces, task_pieces, step_pieces, task_rows, step_rows, front_rows, alone}
+use Rattle.mf_spelling.specs.Spelling.{Pieces, IsTextOf, sayings, is_plain, call_pieces, line_pieces, boot_pieces, file_pieces, text_pieces, task_pieces, step_pieces, task_rows, step_rows, front_rows, SpellLine, Word}
 use Rattle.mf_spelling.specs.Canonical.{line_text, lines_text, task_text, steps_text, script_text, IsSpellableCall, IsSpellable}
 use Rattle.mf_spelled.proofs.WordTexts.{is_word, both}
 use Rattle.mf_spelled.proofs.NameTexts.{name_word, path_word, process_word, any_word}
@@ -134,7 +135,7 @@ line_row line formed spellable = by_child line.child formed.child where
   row : IsRow (call_pieces line.call)
   row = call_row line.call formed.call spellable
 
-  by_child : (child : Option (List ℕ)) → IsFormedChild child → IsRow (line_pieces (record { child = child; call = line.call }))
+  by_child : (child : Option (List ℕ)) → IfSome child IsName → IsRow (line_pieces (record { child = child; call = line.call }))
   by_child None named = row
   by_child (Some child) named = (child_word child named, refl, call_behind line.call row)
 
@@ -142,10 +143,7 @@ line_row line formed spellable = by_child line.child formed.child where
 
 boot_row : (m : Module) → IsRow (boot_pieces m)
 boot_row modules.Biba = (refl, refl, (refl, tt))
-boot_row modules.Mls = (refl, refl, (refl, tt))
-boot_row modules.Partition = (refl, refl, (refl, tt))
-boot_row modules.Bsdextended = (refl, refl, (refl, tt))
-boot_row modules.Priority = (refl, refl, (refl, tt))
+boot_row other = (refl, refl, (refl, tt))
 
 kind_word : (dir : Bool) → is_word (if dir then codes "dir" else codes "reg") ≡ true
 kind_word true = refl
@@ -219,7 +217,7 @@ task_row boots t formed = (
   ),
 )
 
-step_row : (x : Step) → IsFormedStep x → IsRow (step_pieces x)
+step_row : (x : Step) → IsName x.task → IsRow (step_pieces x)
 step_row x formed = by_kind x.kind where
   by_kind : (kind : StepKind) → IsRow (step_pieces (record { kind = kind; task = x.task }))
   by_kind steps.Enter = (refl, refl, (name_word x.task formed, tt))
@@ -236,8 +234,8 @@ rows_of pieces P row (x ∷ items) each =
     subst (λ (text : List ℕ). AreRows text (pieces x ∷ map pieces items)) (sym (flat_map-cons (λ item. line_text (pieces item)) x items))
     (rows_append (line_text (pieces x)) (lines_text pieces items) (pieces x ∷ []) (map pieces items) (one_row (pieces x) (row x (All-head P x items each))) (rows_of pieces P row items (All-tail P x items each)))
 
-end_rows : AreRows (codes "end\n") (alone (codes "end") ∷ [])
-end_rows = one_row (alone (codes "end")) (refl, refl, tt)
+end_rows : AreRows (codes "end\n") ((Word (codes "end") ∷ []) ∷ [])
+end_rows = one_row (Word (codes "end") ∷ []) (refl, refl, tt)
 
 -- a line that is formed and can be spelled
 IsLineToSpell : Line → Type 0
@@ -250,7 +248,7 @@ lines_to_spell lines formed spellable = λ k d within. (formed k d within, spell
 task_lines : (boots : List Module) (t : Task) → IsFormedTask boots t → All (λ (line : Line). IsSpellableCall line.call) t.lines → AreRows (task_text t) (task_rows t)
 unfolding IsLineToSpell
 task_lines boots t formed spellable =
-    rows_append (line_text (task_pieces t) ++ lines_text line_pieces t.lines) (codes "end\n") (task_pieces t ∷ map line_pieces t.lines) (alone (codes "end") ∷ [])
+    rows_append (line_text (task_pieces t) ++ lines_text line_pieces t.lines) (codes "end\n") (task_pieces t ∷ map line_pieces t.lines) ((Word (codes "end") ∷ []) ∷ [])
     (rows_append (line_text (task_pieces t)) (lines_text line_pieces t.lines) (task_pieces t ∷ []) (map line_pieces t.lines)
     (one_row (task_pieces t) (task_row boots t formed))
     (rows_of line_pieces IsLineToSpell (λ line both. line_row line both.0 both.1) t.lines (lines_to_spell t.lines formed.lines spellable))) end_rows
@@ -280,12 +278,12 @@ front_lines s formed spellable =
     (rows_of boot_pieces (λ m. Unit {0}) (λ m u. boot_row m) s.boots (λ k d within. tt))
     (rows_of file_pieces (IsFormedFile s.boots) (file_row s.boots) s.files formed.each_file)) (tasks_lines s.boots s.tasks formed.each_task spellable)
 
-steps_lines : (first : Step) (more : List Step) → All IsFormedStep (first ∷ more) → AreRows (steps_text (first ∷ more)) (step_rows (first ∷ more))
+steps_lines : (first : Step) (more : List Step) → All (λ (step : Step). IsName step.task) (first ∷ more) → AreRows (steps_text (first ∷ more)) (step_rows (first ∷ more))
 steps_lines first more formed =
-    rows_append (codes "steps\n" ++ lines_text step_pieces (first ∷ more)) (codes "end\n") (alone (codes "steps") ∷ map step_pieces (first ∷ more)) (alone (codes "end") ∷ [])
-    (rows_append (codes "steps\n") (lines_text step_pieces (first ∷ more)) (alone (codes "steps") ∷ []) (map step_pieces (first ∷ more))
-    (one_row (alone (codes "steps")) (refl, refl, tt))
-    (rows_of step_pieces IsFormedStep step_row (first ∷ more) formed)) end_rows
+    rows_append (codes "steps\n" ++ lines_text step_pieces (first ∷ more)) (codes "end\n") ((Word (codes "steps") ∷ []) ∷ map step_pieces (first ∷ more)) ((Word (codes "end") ∷ []) ∷ [])
+    (rows_append (codes "steps\n") (lines_text step_pieces (first ∷ more)) ((Word (codes "steps") ∷ []) ∷ []) (map step_pieces (first ∷ more))
+    (one_row (Word (codes "steps") ∷ []) (refl, refl, tt))
+    (rows_of step_pieces (λ (step : Step). IsName step.task) step_row (first ∷ more) formed)) end_rows
 
 -- The whole text
 
@@ -293,8 +291,8 @@ front_then : (s : Script) → script_text s ≡ front_text s ++ steps_text s.ste
 unfolding front_text
 front_then s = refl
 
-whole : (text : List ℕ) (rows : List Pieces) → AreRows text rows → SpellLines (sayings (lines_in text)) rows
-whole text rows are = subst (λ (text : List ℕ). SpellLines (sayings (lines_in text)) rows) (append-nil text) (subst (SpellLines (sayings (lines_in (text ++ [])))) (append-nil rows) (are.spelled [] [] tt))
+whole : (text : List ℕ) (rows : List Pieces) → AreRows text rows → AllZip SpellLine (sayings (lines_in text)) rows
+whole text rows are = subst (λ (text : List ℕ). AllZip SpellLine (sayings (lines_in text)) rows) (append-nil text) (subst (AllZip SpellLine (sayings (lines_in (text ++ [])))) (append-nil rows) (are.spelled [] [] tt))
 
 whole_plain : (text : List ℕ) (rows : List Pieces) → AreRows text rows → list_all (λ line. list_all is_plain line) (lines_in text) ≡ true
 whole_plain text rows are = subst (λ (text : List ℕ). list_all (λ line. list_all is_plain line) (lines_in text) ≡ true) (append-nil text) (are.plain [] refl)
@@ -304,16 +302,16 @@ canonical_spells s formed spellable = subst (λ text. IsTextOf text s) (sym (fro
   front : AreRows (front_text s) (front_rows s)
   front = front_lines s formed spellable
 
-  by_steps : (steps : List Step) → s.steps ≡ steps → All IsFormedStep steps → IsTextOf (front_text s ++ steps_text steps) s
+  by_steps : (steps : List Step) → s.steps ≡ steps → All (λ (step : Step). IsName step.task) steps → IsTextOf (front_text s ++ steps_text steps) s
   by_steps [] none each = record {
     plain = subst (λ (text : List ℕ). list_all (λ line. list_all is_plain line) (lines_in text) ≡ true) (sym (append-nil (front_text s))) (whole_plain (front_text s) (front_rows s) front);
-    spelled = inr (none, subst (λ (text : List ℕ). SpellLines (sayings (lines_in text)) (front_rows s)) (sym (append-nil (front_text s))) (whole (front_text s) (front_rows s) front));
+    spelled = inr (none, subst (λ (text : List ℕ). AllZip SpellLine (sayings (lines_in text)) (front_rows s)) (sym (append-nil (front_text s))) (whole (front_text s) (front_rows s) front));
   }
   by_steps (first ∷ more) is each =
       let rows = rows_append (front_text s) (steps_text (first ∷ more)) (front_rows s) (step_rows (first ∷ more)) front (steps_lines first more each) in
       record {
         plain = whole_plain (front_text s ++ steps_text (first ∷ more)) (front_rows s ++ step_rows (first ∷ more)) rows;
-        spelled = inl (subst (λ (steps : List Step). SpellLines (sayings (lines_in (front_text s ++ steps_text (first ∷ more)))) (front_rows s ++ step_rows steps)) (sym is)
+        spelled = inl (subst (λ (steps : List Step). AllZip SpellLine (sayings (lines_in (front_text s ++ steps_text (first ∷ more)))) (front_rows s ++ step_rows steps)) (sym is)
             (whole (front_text s ++ steps_text (first ∷ more)) (front_rows s ++ step_rows (first ∷ more)) rows));
       }
 

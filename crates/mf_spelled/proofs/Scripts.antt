@@ -1,7 +1,7 @@
 -- The scripts that are read are spelled: what was read so far is, line by line.
 use Rattle.std.proofs.Common.{◌≡◌, ℕ, ◌+◌, Bool, true, false, not, cond, ◌&&◌, List, [], ◌∷◌, ◌++◌, map, Ok, Err, refl, sym, subst, ap, ◌∙◌, inl, inr, codes, arith}
 use Rattle.std.specs.Prelude.{if◌then◌else◌, length, ◌⊎◌}
-use Rattle.std.specs.List.{AllByRecursion, filter, flat_map, list_all}
+use Rattle.std.specs.List.{AllByRecursion, filter, flat_map, list_all, AllZip}
 use Rattle.std.specs.Str.{bytes_eq}
 use Rattle.std.proofs.lemmas.List.{append_assoc, append-nil, map-append, flat_map_more}
 use Rattle.std.proofs.lemmas.Slice.Eq.{bytes_eq-Decides}
@@ -17,10 +17,9 @@ use Rattle.mf_script.specs.declared.rows.Place.{Place}
 use Rattle.mf_script.specs.declared.rows.Place.TheVariants as place
 use Rattle.mf_script.specs.Readers.{Read}
 use Rattle.mf_script.specs.Grammar as grammar
-use Rattle.mf_script.specs.Grammar.{State, boot_in, file_in, task_in, line_in, step_in, behind_tasks, behind_files, behind_boots, in_task, in_steps, row_in, words_line, line_read, or_at, ended, blank, script_from, script_of}
+use Rattle.mf_script.specs.Grammar.{Reading, boot_in, file_in, task_in, line_in, step_in, behind_tasks, behind_files, behind_boots, in_task, in_steps, row_in, words_line, line_read, or_at, ended, blank, script_from, script_of}
 use Rattle.mf_script.proofs.Yields.{Yields, done, refused, chain, skip, checked, widened}
-use Rattle.mf_spelling.specs.Spelling.{is_plain, Pieces, SpellLine, SpellLines, boot_pieces, file_pieces, task_pieces, line_pieces, step_pieces, alone, task_rows, step_rows, front_rows, says, sayings, SpellScript}
-use Rattle.mf_spelled.specs.Laws.{ScriptsAreSpelled}
+use Rattle.mf_spelling.specs.Spelling.{is_plain, Pieces, SpellLine, boot_pieces, file_pieces, task_pieces, line_pieces, step_pieces, task_rows, step_rows, front_rows, says, sayings, SpellScript, IsTextOf, Word}
 use Rattle.mf_spelled.proofs.Lines.{nothing_left}
 use Rattle.mf_spelled.proofs.Calls.{line_spelled}
 use Rattle.mf_spelled.proofs.FileAndTaskLines.{AreSome, boot_spelled, file_spelled, file_judged, task_spelled, task_judged, step_spelled}
@@ -31,7 +30,7 @@ rows_at s place.Boots = front_rows s
 rows_at s place.Files = front_rows s
 rows_at s (place.Tasks lists) = front_rows s
 rows_at s (place.Task t lists) = front_rows s ++ task_pieces t ∷ map line_pieces t.lines
-rows_at s place.Steps = front_rows s ++ alone (codes "steps") ∷ map step_pieces s.steps
+rows_at s place.Steps = front_rows s ++ (Word (codes "steps") ∷ []) ∷ map step_pieces s.steps
 rows_at s place.End = front_rows s ++ step_rows s.steps
 
 -- what isn't there yet
@@ -44,7 +43,7 @@ IsAt s place.Steps = Unit {0}
 IsAt s place.End = Unit {0}
 
 -- the words add a row to those of a place
-record Adds (s : Script) (p : Place) (ws : Words) (next : State) : Type 0 where
+record Adds (s : Script) (p : Place) (ws : Words) (next : Reading) : Type 0 where
   row : Pieces
   spelled : SpellLine ws row
   rows : rows_at next.0 next.1 ≡ rows_at s p ++ row ∷ []
@@ -77,10 +76,10 @@ one_behind : {A : Type 0} (rows : List Pieces) (first : Pieces) (pieces : A → 
     → rows ++ first ∷ map pieces (xs ++ x ∷ []) ≡ (rows ++ first ∷ map pieces xs) ++ pieces x ∷ []
 one_behind rows first pieces xs x = ap (λ more. rows ++ first ∷ more) (map-append pieces xs (x ∷ [])) ∙ sym (append_assoc rows (first ∷ map pieces xs) (pieces x ∷ []))
 
-task_row : (s : Script) (t : Task) → front_rows (record s { tasks = s.tasks ++ t ∷ [] }) ≡ (front_rows s ++ task_pieces t ∷ map line_pieces t.lines) ++ alone (codes "end") ∷ []
+task_row : (s : Script) (t : Task) → front_rows (record s { tasks = s.tasks ++ t ∷ [] }) ≡ (front_rows s ++ task_pieces t ∷ map line_pieces t.lines) ++ (Word (codes "end") ∷ []) ∷ []
 task_row s t =
     sym (flat_map_more task_rows (map boot_pieces s.boots ++ map file_pieces s.files) s.tasks t)
-    ∙ sym (append_assoc (front_rows s) (task_pieces t ∷ map line_pieces t.lines) (alone (codes "end") ∷ []))
+    ∙ sym (append_assoc (front_rows s) (task_pieces t ∷ map line_pieces t.lines) ((Word (codes "end") ∷ []) ∷ []))
 
 -- Lines at each place
 
@@ -91,8 +90,8 @@ by_word {P = P} w text first second one other = by_test (bytes_eq w text) (bytes
   by_test true is = one (is refl)
   by_test false is = other
 
-alone_spelled : (text w : List ℕ) (ws : Words) → w ≡ text → ws ≡ [] → SpellLine (w ∷ ws) (alone text)
-alone_spelled text w ws is none = subst (λ (ws : Words). SpellLine (w ∷ ws) (alone text)) (sym none) (is, tt)
+alone_spelled : (text w : List ℕ) (ws : Words) → w ≡ text → ws ≡ [] → SpellLine (w ∷ ws) (Word text ∷ [])
+alone_spelled text w ws is none = subst (λ (ws : Words). SpellLine (w ∷ ws) (Word text ∷ [])) (sym none) (is, tt)
 
 in_front : (text w : List ℕ) (ws : Words) (row : Pieces) → w ≡ text → SpellLine (text ∷ ws) row → SpellLine (w ∷ ws) row
 in_front text w ws row is spelled = subst (λ (w : List ℕ). SpellLine (w ∷ ws) row) (sym is) spelled
@@ -138,20 +137,20 @@ unfolding step_in rows_at IsAt
 step_adds s w ws = chain _ _ (step_spelled w ws) (λ step spelled. checked _ _ _ (λ room. done (record {
   row = step_pieces step;
   spelled = spelled;
-  rows = one_behind (front_rows s) (alone (codes "steps")) step_pieces s.steps step;
+  rows = one_behind (front_rows s) (Word (codes "steps") ∷ []) step_pieces s.steps step;
   at = tt;
 })))
 
-alone_adds : (s : Script) (p : Place) (next : State) (text w : List ℕ) (ws : Words) → w ≡ text → rows_at next.0 next.1 ≡ rows_at s p ++ alone text ∷ [] → IsAt next.0 next.1
-    → Yields (Adds s p (w ∷ ws)) (grammar.alone next ws)
-unfolding grammar.alone
-alone_adds s p next text w ws is rows at = chain _ _ (nothing_left ws) (λ u none. done (record { row = alone text; spelled = alone_spelled text w ws is none; rows = rows; at = at }))
+alone_adds : (s : Script) (p : Place) (next : Reading) (text w : List ℕ) (ws : Words) → w ≡ text → rows_at next.0 next.1 ≡ rows_at s p ++ (Word text ∷ []) ∷ [] → IsAt next.0 next.1
+    → Yields (Adds s p (w ∷ ws)) (grammar.nothing_behind next ws)
+unfolding grammar.nothing_behind
+alone_adds s p next text w ws is rows at = chain _ _ (nothing_left ws) (λ u none. done (record { row = (Word text ∷ []); spelled = alone_spelled text w ws is none; rows = rows; at = at }))
 
 tasks_add : (s : Script) (p : Place) (lists : ℕ) (w : List ℕ) (ws : Words) → rows_at s p ≡ front_rows s → s.steps ≡ [] → Yields (Adds s p (w ∷ ws)) (behind_tasks s lists w ws)
 unfolding behind_tasks rows_at IsAt
 tasks_add s p lists w ws rows no_steps =
     by_word w (codes "task") _ _ (task_adds s p lists w ws rows no_steps) (by_word w (codes "steps") _ _ (λ is. alone_adds s p (s, place.Steps) (codes "steps") w ws is
-    (ap (λ (steps : List Step). front_rows s ++ alone (codes "steps") ∷ map step_pieces steps) no_steps ∙ sym (ap (λ rows. rows ++ alone (codes "steps") ∷ []) rows)) tt) refused)
+    (ap (λ (steps : List Step). front_rows s ++ (Word (codes "steps") ∷ []) ∷ map step_pieces steps) no_steps ∙ sym (ap (λ rows. rows ++ (Word (codes "steps") ∷ []) ∷ []) rows)) tt) refused)
 
 files_add : (s : Script) (p : Place) (w : List ℕ) (ws : Words) → AreSome ws → rows_at s p ≡ front_rows s → s.tasks ≡ [] → s.steps ≡ [] → Yields (Adds s p (w ∷ ws)) (behind_files s w ws)
 unfolding behind_files
@@ -166,25 +165,25 @@ row_adds s (place.Task t lists) w ws some at =
     by_word w (codes "end") _ _ (λ is. alone_adds s (place.Task t lists) (record s { tasks = s.tasks ++ t ∷ [] }, place.Tasks lists) (codes "end") w ws is (task_row s t) at) (line_adds s t lists w ws at)
 row_adds s place.Steps w ws some at =
     by_word w (codes "end") _ _ (λ is. alone_adds s place.Steps (s, place.End) (codes "end") w ws is
-    (sym (append_assoc (front_rows s) (alone (codes "steps") ∷ map step_pieces s.steps) (alone (codes "end") ∷ []))) tt) (step_adds s w ws)
+    (sym (append_assoc (front_rows s) ((Word (codes "steps") ∷ []) ∷ map step_pieces s.steps) ((Word (codes "end") ∷ []) ∷ []))) tt) (step_adds s w ws)
 row_adds s place.End w ws some at = refused
 
 -- Line by line
 
 -- the words so far spell what was read, and nothing is there yet that comes later
 record IsSoFar (lines : List Words) (s : Script) (p : Place) : Type 0 where
-  spelled : SpellLines lines (rows_at s p)
+  spelled : AllZip SpellLine lines (rows_at s p)
   at : IsAt s p
 
-one_more : (lines : List Words) (rows : List Pieces) (ws : Words) (row : Pieces) → SpellLines lines rows → SpellLine ws row → SpellLines (lines ++ ws ∷ []) (rows ++ row ∷ [])
+one_more : (lines : List Words) (rows : List Pieces) (ws : Words) (row : Pieces) → AllZip SpellLine lines rows → SpellLine ws row → AllZip SpellLine (lines ++ ws ∷ []) (rows ++ row ∷ [])
 one_more [] [] ws row so one = (one, tt)
 one_more [] (r ∷ rows) ws row so one = absurd so
 one_more (l ∷ lines) [] ws row so one = absurd so
 one_more (l ∷ lines) (r ∷ rows) ws row so one = (so.0, one_more lines rows ws row so.1 one)
 
-added : (lines : List Words) (s : Script) (p : Place) (ws : Words) (next : State) → IsSoFar lines s p → Adds s p ws next → IsSoFar (lines ++ ws ∷ []) next.0 next.1
+added : (lines : List Words) (s : Script) (p : Place) (ws : Words) (next : Reading) → IsSoFar lines s p → Adds s p ws next → IsSoFar (lines ++ ws ∷ []) next.0 next.1
 added lines s p ws next so adds = record {
-  spelled = subst (SpellLines (lines ++ ws ∷ [])) (sym adds.rows) (one_more lines (rows_at s p) ws adds.row so.spelled adds.spelled);
+  spelled = subst (AllZip SpellLine (lines ++ ws ∷ [])) (sym adds.rows) (one_more lines (rows_at s p) ws adds.row so.spelled adds.spelled);
   at = adds.at;
 }
 
@@ -196,8 +195,8 @@ words_add : (lines : List Words) (s : Script) (p : Place) (ws : Words) → AreSo
 unfolding words_line with_line
 words_add lines s p [] some so = done (subst (λ (lines : List Words). IsSoFar lines s p) (sym (append-nil lines)) so)
 words_add lines s p (w ∷ ws) some so = by_test (is_comment w) (widened (row_adds s p w ws some.1 so.at) (λ next adds. added lines s p (w ∷ ws) next so adds)) where
-  by_test : (comment : Bool) → Yields (λ (next : State). IsSoFar (lines ++ (w ∷ ws) ∷ []) next.0 next.1) (row_in s p w ws)
-      → Yields (λ (next : State). IsSoFar (lines ++ cond (not comment) ((w ∷ ws) ∷ []) []) next.0 next.1) (if comment then Ok (s, p) else row_in s p w ws)
+  by_test : (comment : Bool) → Yields (λ (next : Reading). IsSoFar (lines ++ (w ∷ ws) ∷ []) next.0 next.1) (row_in s p w ws)
+      → Yields (λ (next : Reading). IsSoFar (lines ++ cond (not comment) ((w ∷ ws) ∷ []) []) next.0 next.1) (if comment then Ok (s, p) else row_in s p w ws)
   by_test true row = done (subst (λ (lines : List Words). IsSoFar lines s p) (sym (append-nil lines)) so)
   by_test false row = row
 
@@ -210,7 +209,7 @@ any_bytes [] = tt
 any_bytes (b ∷ line) = (tt, any_bytes line)
 
 -- a line that is read
-record IsLineOf (lines : List Words) (line : List ℕ) (next : State) : Type 0 where
+record IsLineOf (lines : List Words) (line : List ℕ) (next : Reading) : Type 0 where
   plain : list_all is_plain line ≡ true
   so : IsSoFar (with_line lines (words_in line)) next.0 next.1
 
@@ -222,7 +221,7 @@ line_adds_words lines s p line so = checked _ _ _ (λ plain.
 -- the lines spell the script behind those that were read
 record IsRest (before : List Words) (lines : List (List ℕ)) (s : Script) : Type 0 where
   plain : list_all (λ line. list_all is_plain line) lines ≡ true
-  spelled : SpellLines (before ++ sayings lines) (front_rows s ++ step_rows s.steps) ⊎ ((s.steps ≡ []) × SpellLines (before ++ sayings lines) (front_rows s))
+  spelled : AllZip SpellLine (before ++ sayings lines) (front_rows s ++ step_rows s.steps) ⊎ ((s.steps ≡ []) × AllZip SpellLine (before ++ sayings lines) (front_rows s))
 
 at_the_end : (before : List Words) (s found : Script) (p : Place) (n : ℕ) → IsSoFar before s p → ended s p n ≡ Ok found → IsRest before [] found
 unfolding rows_at IsAt
@@ -236,20 +235,20 @@ at_the_end before s found p n so e = subst (IsRest before []) (same p e) (record
   same place.End e = cc
 
   by_place : (p : Place) → IsSoFar before s p → ended s p n ≡ Ok found
-      → SpellLines (before ++ []) (front_rows s ++ step_rows s.steps) ⊎ ((s.steps ≡ []) × SpellLines (before ++ []) (front_rows s))
-  by_place place.Boots so e = inr (so.at.2, subst (λ (lines : List Words). SpellLines lines (front_rows s)) (sym (append-nil before)) so.spelled)
-  by_place place.Files so e = inr (so.at.1, subst (λ (lines : List Words). SpellLines lines (front_rows s)) (sym (append-nil before)) so.spelled)
-  by_place (place.Tasks lists) so e = inr (so.at, subst (λ (lines : List Words). SpellLines lines (front_rows s)) (sym (append-nil before)) so.spelled)
+      → AllZip SpellLine (before ++ []) (front_rows s ++ step_rows s.steps) ⊎ ((s.steps ≡ []) × AllZip SpellLine (before ++ []) (front_rows s))
+  by_place place.Boots so e = inr (so.at.2, subst (λ (lines : List Words). AllZip SpellLine lines (front_rows s)) (sym (append-nil before)) so.spelled)
+  by_place place.Files so e = inr (so.at.1, subst (λ (lines : List Words). AllZip SpellLine lines (front_rows s)) (sym (append-nil before)) so.spelled)
+  by_place (place.Tasks lists) so e = inr (so.at, subst (λ (lines : List Words). AllZip SpellLine lines (front_rows s)) (sym (append-nil before)) so.spelled)
   by_place (place.Task t lists) so e = cc
   by_place place.Steps so e = cc
-  by_place place.End so e = inl (subst (λ (lines : List Words). SpellLines lines (front_rows s ++ step_rows s.steps)) (sym (append-nil before)) so.spelled)
+  by_place place.End so e = inl (subst (λ (lines : List Words). AllZip SpellLine lines (front_rows s ++ step_rows s.steps)) (sym (append-nil before)) so.spelled)
 
 -- a line in front of the rest
 onto_rest : (before : List Words) (line : List ℕ) (lines : List (List ℕ)) (s : Script) → list_all is_plain line ≡ true → IsRest (with_line before (words_in line)) lines s → IsRest before (line ∷ lines) s
 unfolding with_line
 onto_rest before line lines s plain rest = record {
   plain = subst (λ (b : Bool). (b && list_all (λ line. list_all is_plain line) lines) ≡ true) (sym plain) rest.plain;
-  spelled = subst (λ (ws : List Words). SpellLines ws (front_rows s ++ step_rows s.steps) ⊎ ((s.steps ≡ []) × SpellLines ws (front_rows s)))
+  spelled = subst (λ (ws : List Words). AllZip SpellLine ws (front_rows s ++ step_rows s.steps) ⊎ ((s.steps ≡ []) × AllZip SpellLine ws (front_rows s)))
       (append_assoc before (filter says (words_in line ∷ [])) (sayings lines) ∙ ap (λ ws. before ++ ws) (one_saying (says (words_in line)))) rest.spelled;
 } where
   one_saying : (b : Bool) → cond b (words_in line ∷ []) [] ++ sayings lines ≡ cond b (words_in line ∷ sayings lines) (sayings lines)
@@ -261,7 +260,7 @@ unfolding script_from
 from_spelled [] before s p n found so e = at_the_end before s found p n so e
 from_spelled (line ∷ lines) before s p n found so e =
     by_read (line_read s p line) (λ before s p. from_spelled lines before s p (n + 1) found) refl e where
-      by_read : (read : Read State) → ((before : List Words) (s : Script) (p : Place) → IsSoFar before s p → script_from s p (n + 1) lines ≡ Ok found → IsRest before lines found)
+      by_read : (read : Read Reading) → ((before : List Words) (s : Script) (p : Place) → IsSoFar before s p → script_from s p (n + 1) lines ≡ Ok found → IsRest before lines found)
           → line_read s p line ≡ read → or_at n read (λ next. script_from next.0 next.1 (n + 1) lines) ≡ Ok found → IsRest before (line ∷ lines) found
       by_read (Ok next) further is e = let got = (line_adds_words before s p line so).of next is in
           onto_rest before line lines found got.plain (further (with_line before (words_in line)) next.0 next.1 got.so e)
@@ -274,6 +273,6 @@ nothing_yet = record { spelled = tt; at = (refl, refl, refl) }
 pub lines_spelled : (lines : List (List ℕ)) (s : Script) → script_from blank place.Boots 1 lines ≡ Ok s → SpellScript lines s
 lines_spelled lines s e = let rest = from_spelled lines [] blank place.Boots 1 s nothing_yet e in record { plain = rest.plain; spelled = rest.spelled }
 
-pub scripts_spelled : ScriptsAreSpelled
+pub scripts_spelled : (bytes : List ℕ) (s : Script) → script_of bytes ≡ Ok s → IsTextOf bytes s
 unfolding script_of
 scripts_spelled bytes s e = lines_spelled (lines_in bytes) s e

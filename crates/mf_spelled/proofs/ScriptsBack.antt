@@ -1,7 +1,7 @@
 -- Texts that spell a well-formed script are read as it.
 use Rattle.std.proofs.Common.{◌≡◌, ◌≢◌, ℕ, ◌+◌, ◌<◌, ◌≤◌, Bool, true, false, cond, List, [], ◌∷◌, ◌++◌, map, length, Ok, refl, sym, subst, ap, ◌∙◌, inl, inr, codes, arith}
 use Rattle.std.specs.Prelude.{All, AllPairs, if◌then◌else◌, nat_lt, ◌⊎◌}
-use Rattle.std.specs.List.{flat_map, list_any, sum_by}
+use Rattle.std.specs.List.{flat_map, list_any, sum_by, AllZip}
 use Rattle.std.specs.Str.{bytes_eq}
 use Rattle.std.proofs.lemmas.Bool.{lt-ltb}
 use Rattle.std.proofs.lemmas.List.{append_assoc, append-nil}
@@ -24,16 +24,15 @@ use Rattle.mf_item.specs.declared.view.Kind.TheVariants as kinds
 use Rattle.mf_calls.specs.Boots.{is_booted}
 use Rattle.mf_calls.specs.Paths.{is_root, directory_of, has_directory}
 use Rattle.mf_calls.specs.Tasks.{lists_rules}
-use Rattle.mf_calls.specs.WellFormed.{AreBoots, AreInDirectories, IsFormedFile, IsFormedLine, IsFormedTask, IsFormedStep, IsWellFormed, rule_list_count}
+use Rattle.mf_calls.specs.WellFormed.{AreBoots, AreInDirectories, IsFormedFile, IsFormedLine, IsFormedTask, IsWellFormed, rule_list_count, IsName}
 use Rattle.mf_calls.proofs.Directories.{same_path_decides}
 use Rattle.mf_script.specs.declared.error.ScriptFault.TheVariants as fault
 use Rattle.mf_script.specs.declared.rows.Place.{Place}
 use Rattle.mf_script.specs.declared.rows.Place.TheVariants as place
 use Rattle.mf_script.specs.Readers.{Read, and_then, unless}
 use Rattle.mf_script.specs.Grammar as grammar
-use Rattle.mf_script.specs.Grammar.{State, has_path, has_name, with_list, judged_boot, judged_file, judged_task, boot_in, file_in, task_in, line_in, step_in, behind_tasks, behind_files, behind_boots, in_task, in_steps, row_in, words_line, blank, ended, script_from, script_of}
-use Rattle.mf_spelling.specs.Spelling.{SpellLine, SpellLines, alone, boot_pieces, file_pieces, task_pieces, line_pieces, step_pieces, step_word, task_rows, step_rows, front_rows, sayings, SpellScript}
-use Rattle.mf_spelled.specs.Laws.{SpelledIsRead}
+use Rattle.mf_script.specs.Grammar.{Reading, has_path, has_name, with_list, judged_task, boot_in, file_in, task_in, line_in, step_in, behind_tasks, behind_files, behind_boots, in_task, in_steps, row_in, words_line, blank, ended, script_from, script_of}
+use Rattle.mf_spelling.specs.Spelling.{SpellLine, boot_pieces, file_pieces, task_pieces, line_pieces, step_pieces, step_word, task_rows, step_rows, front_rows, sayings, SpellScript, IsTextOf, Word}
 use Rattle.mf_spelled.proofs.CallsBack.{none, line_back, no_words}
 use Rattle.mf_spelled.proofs.LinesBack.{boot_back, file_back, file_judged, task_back, step_back, request_judged}
 use Rattle.mf_spelled.proofs.WordsBack.{passes}
@@ -54,7 +53,7 @@ not_booted : (done : List Module) (m : Module) (rest whole : List Module) → do
 not_booted done m rest whole e are =
     none_pass (same_module m) (λ n. n ≢ m) (λ n other. refuted (same_module m n) (λ same. other (sym (same_module-is m n same)))) done (before_one (λ n m. n ≢ m) done m rest whole e are)
 
-abbrev booted : List Module → Module → State
+abbrev booted : List Module → Module → Reading
 booted done m = (script (done ++ m ∷ []) [] [] [], place.Boots)
 
 and_booted : (done : List Module) (m : Module) (read : Read Module) → read ≡ Ok m → and_then read (λ m. Ok (booted done m)) ≡ Ok (booted done m)
@@ -124,12 +123,12 @@ no_comment step.Done = refl
 no_comment step.Leave = refl
 no_comment step.Change = refl
 
-steps_back : (boots : List Module) (files : List FileLine) (tasks : List Task) (steps : List Step) → length steps ≤ STEP_LIMIT → All IsFormedStep steps
+steps_back : (boots : List Module) (files : List FileLine) (tasks : List Task) (steps : List Step) → length steps ≤ STEP_LIMIT → All (λ (step : Step). IsName step.task) steps
     → Reaches (map step_pieces steps) (script boots files tasks []) place.Steps (script boots files tasks steps) place.Steps
 unfolding row_in in_steps step_in and_then
 steps_back boots files tasks steps few each = each_row step_pieces (λ done. script boots files tasks done) (λ done. place.Steps) steps (λ done x rest e.
     by_first (step_word x.kind) _ (script boots files tasks done) place.Steps (script boots files tasks (done ++ x ∷ []), place.Steps) (no_comment x.kind) (λ ws spelled.
-    rw (no_end x.kind, step_back x (at_one IsFormedStep done x rest steps e each) (step_word x.kind) ws spelled, lt-ltb (length done) STEP_LIMIT (omega (arith, few, longer done x rest steps e))) refl))
+    rw (no_end x.kind, step_back x (at_one (λ (step : Step). IsName step.task) done x rest steps e each) (step_word x.kind) ws spelled, lt-ltb (length done) STEP_LIMIT (omega (arith, few, longer done x rest steps e))) refl))
 
 -- Tasks
 
@@ -205,20 +204,20 @@ lines_back s t base few each small = each_row line_pieces (λ done. s) (λ done.
 task_reached : (boots : List Module) (files : List FileLine) (tasks : List Task) → length tasks ≤ TASK_LIMIT → AllPairs (λ t u. t.name ≢ u.name) tasks → All (IsFormedTask boots) tasks → lists_in tasks ≤ RULE_LIST_LIMIT
     → (done : List Task) (t : Task) (rest : List Task) → done ++ t ∷ rest ≡ tasks
     → Reaches (task_rows t) (script boots files done []) (after_tasks files done) (script boots files (done ++ t ∷ []) []) (after_tasks files (done ++ t ∷ []))
-unfolding row_in in_task grammar.alone and_then
+unfolding row_in in_task grammar.nothing_behind and_then
 task_reached boots files tasks few differ each small done t rest e =
     let formed = at_one (IsFormedTask boots) done t rest tasks e each in
     let s = script boots files done [] in
     let opened = place.Task (lined t []) (lists_in done + rule_list_count (lined t [])) in
     let closed = place.Task t (lists_in done + rule_list_count t) in
     let total = total_so_far rule_list_count done t rest tasks e in
-    and_on (task_pieces t ∷ []) (map line_pieces t.lines ++ alone (codes "end") ∷ []) s (after_tasks files done) s opened _ _
+    and_on (task_pieces t ∷ []) (map line_pieces t.lines ++ (Word (codes "end") ∷ []) ∷ []) s (after_tasks files done) s opened _ _
     (one_row (task_pieces t) s (after_tasks files done) s opened (λ ws spelled.
     task_row boots files done t formed (omega (arith, few, longer done t rest tasks e)) (new_name done t rest tasks e differ) ws spelled
     ∙ ap (λ n. Ok (s, place.Task (lined t []) n)) (omega arith)))
-    (and_on (map line_pieces t.lines) (alone (codes "end") ∷ []) s opened s closed _ _
+    (and_on (map line_pieces t.lines) ((Word (codes "end") ∷ []) ∷ []) s opened s closed _ _
     (lines_back s t (lists_in done) formed.few formed.lines (omega (arith, total, small)))
-    (one_row (alone (codes "end")) s closed (script boots files (done ++ t ∷ []) []) (after_tasks files (done ++ t ∷ []))
+    (one_row (Word (codes "end") ∷ []) s closed (script boots files (done ++ t ∷ []) []) (after_tasks files (done ++ t ∷ []))
     (by_first (codes "end") [] s closed (script boots files (done ++ t ∷ []) [], after_tasks files (done ++ t ∷ [])) refl (λ ws spelled.
     rw (none ws spelled.1) (ap (λ p. Ok (script boots files (done ++ t ∷ []) [], p)) (ap place.Tasks (sym (sum_by_push rule_list_count done t)) ∙ sym (tasks_after files done t)))))))
 
@@ -238,25 +237,25 @@ front_back s formed =
     (task_reached s.boots s.files s.tasks formed.tasks formed.names formed.each_task formed.rule_lists) s.tasks [] refl)
 
 at_steps : (s : Script) (files : List FileLine) (tasks : List Task) (ws : Words) → ws ≡ [] → row_in s (after_tasks files tasks) (codes "steps") ws ≡ Ok (s, place.Steps)
-unfolding row_in behind_boots behind_files behind_tasks grammar.alone and_then
+unfolding row_in behind_boots behind_files behind_tasks grammar.nothing_behind and_then
 at_steps s [] [] ws e = rw e refl
 at_steps s (f ∷ files) [] ws e = rw e refl
 at_steps s files (t ∷ tasks) ws e = rw e refl
 
 step_rows_back : (s : Script) → IsWellFormed s → Reaches (step_rows s.steps) (script s.boots s.files s.tasks []) (after_tasks s.files s.tasks) s place.End
-unfolding row_in in_steps grammar.alone and_then
+unfolding row_in in_steps grammar.nothing_behind and_then
 step_rows_back s formed =
     let begun = script s.boots s.files s.tasks [] in
-    and_on (alone (codes "steps") ∷ []) (map step_pieces s.steps ++ alone (codes "end") ∷ []) begun (after_tasks s.files s.tasks) begun place.Steps _ _
-    (one_row (alone (codes "steps")) begun (after_tasks s.files s.tasks) begun place.Steps
+    and_on ((Word (codes "steps") ∷ []) ∷ []) (map step_pieces s.steps ++ (Word (codes "end") ∷ []) ∷ []) begun (after_tasks s.files s.tasks) begun place.Steps _ _
+    (one_row (Word (codes "steps") ∷ []) begun (after_tasks s.files s.tasks) begun place.Steps
     (by_first (codes "steps") [] begun (after_tasks s.files s.tasks) (begun, place.Steps) refl (λ ws spelled. at_steps begun s.files s.tasks ws (none ws spelled.1))))
-    (and_on (map step_pieces s.steps) (alone (codes "end") ∷ []) begun place.Steps s place.Steps _ _
+    (and_on (map step_pieces s.steps) ((Word (codes "end") ∷ []) ∷ []) begun place.Steps s place.Steps _ _
     (steps_back s.boots s.files s.tasks s.steps formed.steps formed.each_step)
-    (one_row (alone (codes "end")) s place.Steps s place.End (by_first (codes "end") [] s place.Steps (s, place.End) refl (λ ws spelled. rw (none ws spelled.1) refl))))
+    (one_row (Word (codes "end") ∷ []) s place.Steps s place.End (by_first (codes "end") [] s place.Steps (s, place.End) refl (λ ws spelled. rw (none ws spelled.1) refl))))
 
 pub lines_read : (lines : List (List ℕ)) (s : Script) → IsWellFormed s → SpellScript lines s → script_from blank place.Boots 1 lines ≡ Ok s
 lines_read lines s formed text = by_steps text.spelled where
-  by_steps : (SpellLines (sayings lines) (front_rows s ++ step_rows s.steps)) ⊎ ((s.steps ≡ []) × SpellLines (sayings lines) (front_rows s)) → script_from blank place.Boots 1 lines ≡ Ok s
+  by_steps : (AllZip SpellLine (sayings lines) (front_rows s ++ step_rows s.steps)) ⊎ ((s.steps ≡ []) × AllZip SpellLine (sayings lines) (front_rows s)) → script_from blank place.Boots 1 lines ≡ Ok s
   by_steps (inl spelled) =
       read_lines lines blank place.Boots 1 s place.End text.plain
       ((and_on (front_rows s) (step_rows s.steps) blank place.Boots (script s.boots s.files s.tasks []) (after_tasks s.files s.tasks) s place.End (front_back s formed) (step_rows_back s formed)).of _ spelled)
@@ -266,6 +265,6 @@ lines_read lines s formed text = by_steps text.spelled where
       read_lines lines blank place.Boots 1 (script s.boots s.files s.tasks []) (after_tasks s.files s.tasks) text.plain
       ((front_back s formed).of _ spelled.1) (ends_there (script s.boots s.files s.tasks []) s.files s.tasks) ∙ ap (λ (s : Script). Ok s) same
 
-pub spelled_read : SpelledIsRead
+pub spelled_read : (bytes : List ℕ) (s : Script) → IsWellFormed s → IsTextOf bytes s → script_of bytes ≡ Ok s
 unfolding script_of
 spelled_read bytes s formed text = lines_read (lines_in bytes) s formed text

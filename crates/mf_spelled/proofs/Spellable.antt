@@ -3,7 +3,7 @@ use Rattle.std.proofs.Common.{◌≡◌, ◌≢◌, ℕ, Bool, true, false, cond
 use Rattle.std.specs.Prelude.{All}
 use Rattle.std.proofs.lemmas.List.Concat.{flat_map-cons}
 use Rattle.std.proofs.lemmas.List.Elements.{All-nil, All-cons}
-use Rattle.std.specs.List.{AllByRecursion, flat_map}
+use Rattle.std.specs.List.{AllByRecursion, flat_map, AllZip}
 use Rattle.mf_labeltext.proofs.Cutting.{IsFree, cut_is}
 use Rattle.mf_words.specs.Words.{Words, words_in}
 use Rattle.mf_words.proofs.Pieces.{words_pieces}
@@ -12,7 +12,7 @@ use Rattle.mf_calls.specs.declared.script.Call.TheVariants as call
 use Rattle.mf_calls.specs.declared.script.Line.{Line}
 use Rattle.mf_calls.specs.declared.script.Task.{Task}
 use Rattle.mf_calls.specs.declared.script.Script.{Script}
-use Rattle.mf_spelling.specs.Spelling.{Word, Text, Setting, Pieces, equals_sign, SpellLine, SpellLines, SpellScript, call_pieces, line_pieces, boot_pieces, file_pieces, task_rows, front_rows, step_rows, says, sayings}
+use Rattle.mf_spelling.specs.Spelling.{Word, Text, Setting, Pieces, equals_sign, SpellLine, SpellScript, call_pieces, line_pieces, boot_pieces, file_pieces, task_rows, front_rows, step_rows, says, sayings}
 use Rattle.mf_spelling.specs.Canonical.{IsSpellableCall, IsSpellable}
 use Rattle.mf_spelled.proofs.FileAndTaskLines.{AreSome, some_bytes}
 use Rattle.mf_spelled.proofs.Scripts.{some_words, any_bytes, scripts_spelled}
@@ -25,7 +25,7 @@ record IsSpoken (row : Pieces) : Type 0 where
   some : AreSome words
   spelled : SpellLine words row
 
-spoken : (lines : List Words) (rows : List Pieces) → AllByRecursion AreSome lines → SpellLines lines rows → AllByRecursion IsSpoken rows
+spoken : (lines : List Words) (rows : List Pieces) → AllByRecursion AreSome lines → AllZip SpellLine lines rows → AllByRecursion IsSpoken rows
 spoken [] [] some spelled = tt
 spoken [] (row ∷ rows) some spelled = absurd spelled
 spoken (ws ∷ lines) [] some spelled = absurd spelled
@@ -109,7 +109,7 @@ front_spellable s all = tasks_spellable s.tasks (second_part IsSpoken (map boot_
 
 pub spelled_spellable : (lines : List (List ℕ)) (s : Script) → SpellScript lines s → IsSpellable s
 spelled_spellable lines s script = by_steps script.spelled where
-  by_steps : SpellLines (sayings lines) (front_rows s ++ step_rows s.steps) ⊎ ((s.steps ≡ []) × SpellLines (sayings lines) (front_rows s)) → IsSpellable s
+  by_steps : AllZip SpellLine (sayings lines) (front_rows s ++ step_rows s.steps) ⊎ ((s.steps ≡ []) × AllZip SpellLine (sayings lines) (front_rows s)) → IsSpellable s
   by_steps (inl spelled) = front_spellable s (first_part IsSpoken (front_rows s) (step_rows s.steps) (spoken (sayings lines) (front_rows s ++ step_rows s.steps) (sayings_some lines) spelled))
   by_steps (inr spelled) = front_spellable s (spoken (sayings lines) (front_rows s) (sayings_some lines) spelled.1)
 

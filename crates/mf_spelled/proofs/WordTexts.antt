@@ -1,10 +1,11 @@
 -- The words of a text with a space between each two, and the lines of texts.
 use Rattle.std.proofs.Common.{◌≡◌, ℕ, Bool, true, false, not, ◌&&◌, ◌==◌, List, [], ◌∷◌, ◌++◌, refl, ap, ◌∙◌, arith, append-nil}
 use Rattle.std.proofs.lemmas.Bool.Decides.{nat_tests}
-use Rattle.std.specs.List.{list_all}
+use Rattle.std.specs.List.{list_all, onto_first}
 use Rattle.std.specs.Char.{is_ascii_graphic}
 use Rattle.mf_calls.specs.Names.{is_some_text}
-use Rattle.mf_words.specs.Words.{is_blank, newline, words_in, lines_in, goes_on, onto_first}
+pub use Rattle.mf_words.proofs.Behind.{behind, both, join, all_append, all_map}
+use Rattle.mf_words.specs.Words.{is_blank, newline, words_in, lines_in, goes_on}
 use Rattle.mf_spelling.specs.Spelling.{is_plain}
 
 abbrev pub is_word : List ℕ → Bool
@@ -13,26 +14,6 @@ is_word w = is_some_text w && list_all is_ascii_graphic w
 abbrev pub AreWords : List (List ℕ) → Type 0
 AreWords [] = Unit {0}
 AreWords (w ∷ ws) = (is_word w ≡ true) × AreWords ws
-
--- each word behind a space
-abbrev pub behind : List (List ℕ) → List ℕ
-behind [] = []
-behind (w ∷ ws) = 32 ∷ (w ++ behind ws)
-
-pub both : (a b : Bool) → (a && b) ≡ true → (a ≡ true) × (b ≡ true)
-both true b e = (refl, e)
-both false b e = absurd (cc)
-
-pub join : (a b : Bool) → a ≡ true → b ≡ true → (a && b) ≡ true
-join a b x y = rw x y
-
-pub all_append : (p : ℕ → Bool) (a b : List ℕ) → list_all p a ≡ true → list_all p b ≡ true → list_all p (a ++ b) ≡ true
-all_append p [] b pa pb = pb
-all_append p (x ∷ a) b pa pb = let each = both (p x) (list_all p a) pa in join (p x) (list_all p (a ++ b)) each.0 (all_append p a b each.1 pb)
-
-pub all_map : (p q : ℕ → Bool) (w : List ℕ) → ((b : ℕ) → p b ≡ true → q b ≡ true) → list_all p w ≡ true → list_all q w ≡ true
-all_map p q [] step all = refl
-all_map p q (b ∷ w) step all = let each = both (p b) (list_all p w) all in join (q b) (list_all q w) (step b each.0) (all_map p q w step each.1)
 
 -- Words
 

@@ -1,6 +1,6 @@
 -- Scripts as they are spelled: each line as pieces, and which words spell a piece, as docs/MANUAL.md (THE SCRIPT) has them.
 use Rattle.std.specs.Prelude.{◌≡◌, ℕ, ◌⊎◌, ◌-◌, ◌||◌, true, false, not, if◌then◌else◌, Bool, List, [], ◌∷◌, ◌++◌, map, Ok, Some, codes}
-use Rattle.std.specs.List.{filter, flat_map, list_all, join_with_byte}
+use Rattle.std.specs.List.{AllZip, filter, flat_map, list_all, join_with_byte}
 use Rattle.std.specs.Option.{option_map_or}
 use Rattle.std.specs.Char.{is_ascii_graphic}
 use Rattle.mf_errno.specs.Names.{module_text}
@@ -65,18 +65,11 @@ Spells w (Setting name value) = cut equals_sign w ≡ Some (name, value)
 Spells w (Label request) = ((w ≡ codes "-") × (request ≡ no_request)) ⊎ (request_in w ≡ Ok request)
 Spells w (Rules r) = ⊥
 
--- the words of a line spell its pieces
 abbrev pub SpellLine : Words → Pieces → Type 0
 SpellLine [] [] = Unit {0}
 SpellLine (w ∷ ws) (Rules r ∷ []) = rule.Spells (w ∷ ws) r
 SpellLine (w ∷ ws) (piece ∷ pieces) = Spells w piece × SpellLine ws pieces
 SpellLine ws pieces = ⊥
-
--- line by line
-abbrev pub SpellLines : List Words → List Pieces → Type 0
-SpellLines [] [] = Unit {0}
-SpellLines (ws ∷ lines) (pieces ∷ rows) = SpellLine ws pieces × SpellLines lines rows
-SpellLines lines rows = ⊥
 
 -- The pieces of each line
 
@@ -152,16 +145,13 @@ step_word step.Change = codes "change"
 abbrev pub step_pieces : Step → Pieces
 step_pieces x = Word (step_word x.kind) ∷ Word x.task ∷ []
 
-abbrev pub alone : List ℕ → Pieces
-alone w = Word w ∷ []
-
 -- The lines of a script
 
 abbrev pub task_rows : Task → List Pieces
-task_rows t = task_pieces t ∷ map line_pieces t.lines ++ alone (codes "end") ∷ []
+task_rows t = task_pieces t ∷ map line_pieces t.lines ++ (Word (codes "end") ∷ []) ∷ []
 
 abbrev pub step_rows : List Step → List Pieces
-step_rows steps = alone (codes "steps") ∷ map step_pieces steps ++ alone (codes "end") ∷ []
+step_rows steps = (Word (codes "steps") ∷ []) ∷ map step_pieces steps ++ (Word (codes "end") ∷ []) ∷ []
 
 -- boots, files and tasks
 abbrev pub front_rows : Script → List Pieces
@@ -179,8 +169,7 @@ sayings lines = filter says (map words_in lines)
 -- the lines spell the script, of which a script without steps may lack the lines of the steps
 pub record SpellScript (lines : List (List ℕ)) (s : Script) : Type 0 where
   pub plain : list_all (λ line. list_all is_plain line) lines ≡ true
-  pub spelled : SpellLines (sayings lines) (front_rows s ++ step_rows s.steps) ⊎ ((s.steps ≡ []) × SpellLines (sayings lines) (front_rows s))
+  pub spelled : AllZip SpellLine (sayings lines) (front_rows s ++ step_rows s.steps) ⊎ ((s.steps ≡ []) × AllZip SpellLine (sayings lines) (front_rows s))
 
--- the bytes are a text of the script
 abbrev pub IsTextOf : List ℕ → Script → Type 0
 IsTextOf bytes s = SpellScript (lines_in bytes) s

@@ -7,10 +7,11 @@ use Rattle.mf_item.specs.declared.view.Kind.TheVariants as kinds
 use Rattle.mf_policy.specs.declared.labels.Origin.TheVariants.{Maker}
 use Rattle.mf_policy.specs.NewLabels.{new_label}
 use Rattle.mf_policy.specs.Relabelled.{relabelled}
+use Rattle.mf_objects.proofs.Entities.{label_of, changed_at}
 use Rattle.mf_objects.specs.declared.id.Id.{Id}
 use Rattle.mf_objects.specs.declared.entity.EntityData.{EntityData}
-use Rattle.mf_objects.specs.Live.{LiveEntity, Entities, has_id, kind_of, label_of, label_at, live_at}
-use Rattle.mf_objects.specs.Changes.{made, changed_at, with_what, with_change, without}
+use Rattle.mf_objects.specs.Live.{LiveEntity, Entities, has_id, kind_of, label_at, live_at}
+use Rattle.mf_objects.specs.Changes.{made, with_what, with_change, without}
 use Rattle.mf_objects.specs.Labels.{with_label}
 use Rattle.mf_objects.specs.Population.{IsRising}
 use Rattle.mf_objects.proofs.Rising.{rising_push, rising_changed, id_is}

@@ -6,7 +6,7 @@ use Rattle.mf_policy.specs.declared.registration.Registration.{Registration}
 use Rattle.mf_policy.specs.declared.spec.Spec.TheVariants as means
 use Rattle.mf_policy.specs.Registration.{Entry}
 use Rattle.mf_plan.specs.declared.reply.Loaded.{Loaded}
-use Rattle.mf_step.specs.Reply.{loaded}
+use Rattle.mf_plan.specs.Payloads.{loaded}
 
 -- an entry, where one is wanted
 abbrev pub some_entry : Entry

@@ -5,7 +5,7 @@ use Rattle.std.specs.List.{AllByRecursion}
 use Rattle.mf_errno.specs.declared.errno.Errno.{Errno}
 use Rattle.mf_errno.specs.declared.errno.Errno.TheVariants.{Success, Eperm, Edeadlk, Einval, Esrch, Enoent, Eacces}
 use Rattle.mf_errno.specs.Same.{is_same}
-use Rattle.mf_errno.specs.Selection.{stands_in}
+use Rattle.mf_errno.proofs.Standing.{stands_in}
 use Rattle.mf_item.specs.Item.{Item}
 use Rattle.mf_compose.specs.Composition.{last_failure, composition}
 use Rattle.mf_policy.specs.Registration.{Entry}

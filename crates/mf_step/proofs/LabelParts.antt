@@ -13,7 +13,7 @@ use Rattle.mf_policy.specs.Registration.{Entry, is_of}
 use Rattle.mf_policy.proofs.Entries.{entry_at, no_entry}
 use Rattle.mf_policy.proofs.Places.{any_by_place, found, not_found}
 use Rattle.mf_plan.specs.declared.reply.LabelPart.{LabelPart}
-use Rattle.mf_step.specs.Reply.{label_part, shown}
+use Rattle.mf_plan.specs.Payloads.{label_part, shown}
 
 abbrev part_by : Module → List LabelValue → Registration → LabelPart
 part_by m label r = record { «module» = m; value = shown (slice_index_or label (slot_of r) Unset) }

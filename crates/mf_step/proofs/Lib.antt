@@ -5,8 +5,8 @@ pub mod RelabelChange
 pub mod StateChange
 pub mod EntityChange
 pub mod Replies
-mod Targets
-mod Effects
+mod Leading
+pub mod Handing
 mod Entries
 mod Keeping
 mod Denials
@@ -14,8 +14,4 @@ mod LastName
 mod Given
 mod LabelParts
 pub mod Loads
-mod RowDeeds
-mod RowPlans
-mod RowSteps
-mod RowSuiting
-mod RowTargets
+mod Suiting

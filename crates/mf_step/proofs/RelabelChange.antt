@@ -1,41 +1,52 @@
 -- What a call makes of a label that may be done and whose checks are granted: nothing where what it names doesn't live; else what the listed
 -- policies allow.
-use Rattle.std.proofs.Common.{◌≡◌, ℕ, Bool, true, false, cond, List, [], ◌∷◌, Option, Some, None, map, refl, ap, sym, ◌∙◌, subst, if◌then◌else◌}
+use Rattle.std.proofs.Common.{◌≡◌, ℕ, Bool, true, false, cond, List, [], ◌∷◌, ◌++◌, Option, Some, None, Result, Ok, Err, map, refl, ap, sym, ◌∙◌, subst, if◌then◌else◌}
 use Rattle.std.specs.Prelude.{find, option_and_then, IfSome}
 use Rattle.std.specs.List.{AllByRecursion}
-use Rattle.std.specs.Option.{option_zip}
+use Rattle.std.specs.Option.{option_map_or}
+use Rattle.std.proofs.lemmas.List.{map-append}
 use Rattle.mf_elem.specs.declared.label.Request.{Request}
 use Rattle.mf_item.specs.declared.operation.CheckOp.{CheckOp}
 use Rattle.mf_item.specs.declared.operation.CheckOp.TheVariants as op
 use Rattle.mf_item.specs.declared.view.Kind.{Kind}
 use Rattle.mf_item.specs.declared.view.Kind.TheVariants as kinds
-use Rattle.mf_item.specs.declared.view.SubjectView.{SubjectView}
 use Rattle.mf_item.specs.Item.{Item}
 use Rattle.mf_policy.specs.Claims.{is_claimed}
 use Rattle.mf_policy.specs.Operations.{row_of}
 use Rattle.mf_policy.specs.Registration.{Entry}
 use Rattle.mf_policy.specs.declared.operations.Test.TheVariants.{RelabelObject}
+use Rattle.mf_objects.proofs.Entities.{label_of, changed_at}
 use Rattle.mf_objects.specs.declared.id.Id.{Id}
-use Rattle.mf_objects.specs.Changes.{changed_at}
 use Rattle.mf_objects.specs.declared.entity.EntityData.{EntityData}
-use Rattle.mf_objects.specs.Live.{LiveEntity, Entities, has_id, id_of, is_pipe, is_process, is_socket, kind_of, label_of, live_at, live_named}
+use Rattle.mf_objects.specs.Live.{LiveEntity, Entities, has_id, id_of, is_pipe, is_process, is_socket, kind_of, live_at, live_named}
 use Rattle.mf_objects.specs.Lives.{IsLive}
 use Rattle.mf_calls.specs.declared.script.Call.{Call}
 use Rattle.mf_calls.specs.declared.script.Call.TheVariants as call
 use Rattle.mf_plan.specs.declared.plan.Tail.TheVariants.{Do}
 use Rattle.mf_plan.specs.declared.state.State.{State}
 use Rattle.mf_plan.specs.Planned.{Plan}
-use Rattle.mf_plan.specs.Plan.{asking_for, found, of_subject, on, plan_by, plan_for}
-use Rattle.mf_plan.specs.Relabels.{claimed_in, if_claimed, relabel_of, request_asked}
-use Rattle.mf_plan.specs.Views.{object_of, process_named, subject_of}
-use Rattle.mf_plan.specs.Found.{target_of}
-use Rattle.mf_plan.proofs.RelabelLaws.{RelabelAsked, relabel_asked}
-use Rattle.mf_plan.proofs.Zipped.{zipped}
-use Rattle.mf_step.specs.Effect.{with_objects, with_relabelled, with_request}
+use Rattle.mf_errno.specs.declared.errno.Errno.{Errno}
+use Rattle.mf_errno.specs.declared.errno.Errno.TheVariants as errno
+use Rattle.mf_plan.specs.declared.outline.Check.{Check}
+use Rattle.mf_plan.specs.Checks.{alone, on}
+use Rattle.mf_plan.specs.Effect.{relabels, request_of}
+use Rattle.mf_plan.specs.Outline.{is_relabel, item_asking}
+use Rattle.mf_plan.specs.Plan.{plan_in, row_by}
+use Rattle.mf_plan.specs.Relabels.{claimed_in, if_claimed}
+use Rattle.mf_plan.specs.Row.{through}
+use Rattle.mf_plan.specs.Rows.{about_of}
+use Rattle.mf_plan.specs.Views.{object_of, process_named}
+use Rattle.mf_plan.specs.Ways.{At, look_up, or_fail, then_way, with_first}
+use Rattle.mf_plan.specs.Ways.Place.{File, Named}
+use Rattle.mf_step.specs.Effect.{with_objects, with_request}
 use Rattle.mf_step.proofs.Allowed.{IsAllowed}
 use Rattle.mf_step.proofs.Allowed.AsksFor.{of_itself, of_object}
 use Rattle.mf_step.proofs.Granted.{IsGranted, last_granted}
 use Rattle.mf_step.proofs.Rooted.{HasKind, IsRooted, file_kind, has_kind, inside_some, named_lives, named_process, pipe_kind, process_kind, socket_kind, vnode_kind}
+
+-- what is asked is made, where something is
+abbrev pub with_relabelled : State → Option (Id × Request) → State
+with_relabelled s asked = option_map_or (with_request s) asked s
 
 -- what is asked changes nothing, or relabels a live entity as the listed policies allow
 pub data RelabelMade (s : State) (asked : Option (Id × Request)) : Type 0 where
@@ -78,71 +89,66 @@ pub record MayBeDone (specs : List Entry) (plan : Plan) : Type 0 where
   pub proceeds : plan.tail ≡ Do
   pub granted : AllByRecursion (IsGranted specs) plan.items
 
+-- what a text asks was claimed, and what it is asked for was found
+asked_there : {B : Type 0} (request : Option Request) (checks : List Check) (there : Result B Errno) (what : Request × B)
+    → (then_way (or_fail errno.Einval request) (λ r. with_first r (record { checks = checks; there = there }))).there ≡ Ok what
+    → (request ≡ Some what.0) × (there ≡ Ok what.1)
+asked_there {B} (Some r) checks (Ok b) what is =
+    let same : (r, b) ≡ what = cc in
+    (ap (λ (w : Request × B). Some w.0) same, ap (λ (w : Request × B). Ok w.1) same)
+asked_there (Some r) checks (Err e) what is = cc
+asked_there None checks there what is = cc
+
 module _ (s : State) (caller : Id) (me : HasKind is_process s.objects caller) where
-  abbrev subject : SubjectView
-  subject = subject_of s.objects caller
+  abbrev seen_with : Option Request → List Check → List Item
+  seen_with request checks = map (item_asking s.objects request) checks
 
   -- the last check of what may be done is granted
-  asked_granted : (c : Call) (plan : Plan) (check : Id → Item) (asked : RelabelAsked s caller c plan check) → AllByRecursion (IsGranted s.specs) plan.items
-      → IsGranted s.specs (asking_for asked.request (check asked.id))
-  asked_granted c plan check asked granted =
-      last_granted s.specs asked.lookups (asking_for asked.request (check asked.id)) (subst (AllByRecursion (IsGranted s.specs)) asked.items granted)
-
-  asked_of : (c : Call) (plan : Plan) (check : Id → Item) (asked : RelabelAsked s caller c plan check) → relabel_of s (Some caller) c ≡ Some (asked.id, asked.request)
-  asked_of c plan check asked = sym (zipped s (Some caller) c) ∙ (λ k. option_zip (asked.target k) (asked.asked k))
-
-  abbrev own_check : Item
-  own_check = of_subject subject op.CredRelabel
+  check_granted : (request : Request) (before : List Check) (check : Check) → AllByRecursion (IsGranted s.specs) (seen_with (Some request) (before ++ check ∷ []))
+      → IsGranted s.specs (item_asking s.objects (Some request) check)
+  check_granted request before check granted =
+      last_granted s.specs (seen_with (Some request) before) (item_asking s.objects (Some request) check)
+      (subst (AllByRecursion (IsGranted s.specs)) (map-append (item_asking s.objects (Some request)) before (check ∷ [])) granted)
 
   -- the caller's own label
-  own_made : (text : List ℕ) (plan : Plan) → RelabelAsked s caller (call.Setpmac text) plan (λ id. own_check) → AllByRecursion (IsGranted s.specs) plan.items
-      → RelabelMade s (relabel_of s (Some caller) (call.Setpmac text))
-  unfolding subject_of
-  own_made text plan asked granted =
+  own_made : (text : List ℕ) (request : Request) (id : Id) (before : List Check) → claimed_in s.specs kinds.Process text ≡ Some request → caller ≡ id
+      → AllByRecursion (IsGranted s.specs) (seen_with (Some request) (before ++ alone caller op.CredRelabel ∷ [])) → RelabelMade s (Some (id, request))
+  unfolding item_asking
+  own_made text request id before claimed same granted =
       let kind : kind_of me.entity.what ≡ kinds.Process = process_kind me.entity.what me.passes in
-      permitted caller me.entity asked.request (ap (option_zip (Some caller)) asked.asked) me.live
+      permitted caller me.entity request (ap (λ (x : Id). Some (x, request)) (sym same)) me.live
       (record {
-        claimed = ap (λ (k : Kind). is_claimed s.specs k asked.request) kind ∙ claim_of s.specs kinds.Process text asked.request asked.asked;
-        item = asking_for asked.request own_check;
+        claimed = ap (λ (k : Kind). is_claimed s.specs k request) kind ∙ claim_of s.specs kinds.Process text request claimed;
+        item = item_asking s.objects (Some request) (alone caller op.CredRelabel);
         asked = refl;
         asks = of_itself kind refl (ap label_of me.live);
-        granted = asked_granted (call.Setpmac text) plan (λ id. own_check) asked granted;
+        granted = check_granted request before (alone caller op.CredRelabel) granted;
       })
 
-  -- The label of another entity, which has the kind of the call where it lives
-  module _ (kind : Kind) (operation : CheckOp) (test : (row_of operation).test ≡ RelabelObject) (other : kind ≡ kinds.Process → ⊥) where
-    abbrev check_of : Request → Id → Item
-    check_of request id = asking_for request (on s.objects subject operation id)
+  -- the label of another entity, which has the kind of the call where it lives
+  object_made : (kind : Kind) (operation : CheckOp) → (row_of operation).test ≡ RelabelObject → is_relabel operation ≡ true → (kind ≡ kinds.Process → ⊥)
+      → (text : List ℕ) (request : Request) (id : Id) (before : List Check) → claimed_in s.specs kind text ≡ Some request
+      → ((e : LiveEntity) → live_at s.objects id ≡ Some e → kind_of e.what ≡ kind)
+      → AllByRecursion (IsGranted s.specs) (seen_with (Some request) (before ++ on caller operation id ∷ [])) → RelabelMade s (Some (id, request))
+  unfolding item_asking
+  object_made kind operation test relabel other text request id before claimed has granted = by_found (live_at s.objects id) refl
+    where
+      item : Item
+      item = item_asking s.objects (Some request) (on caller operation id)
 
-    -- what is found has the kind
-    abbrev HasIt : Option Id → Type 0
-    HasIt at = (id : Id) (e : LiveEntity) → at ≡ Some id → live_at s.objects id ≡ Some e → kind_of e.what ≡ kind
-
-    found_made : (id : Id) (request : Request) → is_claimed s.specs kind request ≡ true → HasIt (Some id) → IsGranted s.specs (check_of request id)
-        → RelabelMade s (Some (id, request))
-    unfolding on subject_of
-    found_made id request claimed has granted = by_found (live_at s.objects id) refl
-      where
-        by_found : (found : Option LiveEntity) → live_at s.objects id ≡ found → RelabelMade s (Some (id, request))
-        by_found None none = no_change (not_live s id request none)
-        by_found (Some e) live =
-            let is : kind_of e.what ≡ kind = has id e refl live in
-            permitted id e request refl live
-            (record {
-              claimed = ap (λ (k : Kind). is_claimed s.specs k request) is ∙ claimed;
-              item = check_of request id;
-              asked = refl;
-              asks = of_object (λ same. other (sym is ∙ same)) test caller me.entity me.live (process_kind me.entity.what me.passes) (ap label_of me.live)
-                  (object_of s.objects id) refl (ap label_of live);
-              granted = granted;
-            })
-
-    object_made : (c : Call) (text : List ℕ) (plan : Plan) → request_asked s.specs c ≡ claimed_in s.specs kind text → HasIt (target_of s.objects (Some caller) c)
-        → RelabelAsked s caller c plan (on s.objects subject operation) → AllByRecursion (IsGranted s.specs) plan.items → RelabelMade s (relabel_of s (Some caller) c)
-    object_made c text plan reads has asked granted =
-        subst (RelabelMade s) (sym (asked_of c plan (on s.objects subject operation) asked))
-        (found_made asked.id asked.request (claim_of s.specs kind text asked.request (sym reads ∙ asked.asked)) (λ id e is. has id e (asked.target ∙ is))
-        (asked_granted c plan (on s.objects subject operation) asked granted))
+      by_found : (found : Option LiveEntity) → live_at s.objects id ≡ found → RelabelMade s (Some (id, request))
+      by_found None none = no_change (not_live s id request none)
+      by_found (Some e) live =
+          let is : kind_of e.what ≡ kind = has e live in
+          permitted id e request refl live
+          (record {
+            claimed = ap (λ (k : Kind). is_claimed s.specs k request) is ∙ claim_of s.specs kind text request claimed;
+            item = item_asking s.objects (Some request) (on caller operation id);
+            asked = ap (λ (b : Bool). if b then Some request else None) relabel;
+            asks = of_object (λ same. other (sym is ∙ same)) test caller me.entity me.live (process_kind me.entity.what me.passes) (ap label_of me.live)
+                (object_of s.objects id) refl (ap label_of live);
+            granted = check_granted request before (on caller operation id) granted;
+          })
 
 -- a process, pipe or socket that is found by its name has its kind, where it lives
 named_kind : (test : EntityData → Bool) (kind : Kind) → ((what : EntityData) → test what ≡ true → kind_of what ≡ kind) → (o : Entities) (name : List ℕ) → IsRooted o
@@ -156,29 +162,48 @@ named_kind test kind is_kind o name rooted id e found live =
 -- The table
 
 module _ (s : State) (task : List ℕ) (caller : Id) (rooted : IsRooted s.objects) (me : HasKind is_process s.objects caller) where
-  abbrev plan_for_call : Call → Plan
-  plan_for_call c = plan_for s task (subject_of s.objects caller) c
+  named_has : (e : Errno) (test : EntityData → Bool) (kind : Kind) → ((what : EntityData) → test what ≡ true → kind_of what ≡ kind) → (name : List ℕ) (id : Id)
+      → or_fail e (id_of (live_named test s.objects name)) ≡ Ok id → (x : LiveEntity) → live_at s.objects id ≡ Some x → kind_of x.what ≡ kind
+  named_has e test kind is_kind name id there x live = one (id_of (live_named test s.objects name)) refl there
+    where
+      one : (holder : Option Id) → id_of (live_named test s.objects name) ≡ holder → or_fail e holder ≡ Ok id → kind_of x.what ≡ kind
+      one None is there = cc
+      one (Some found) is there =
+          let same : found ≡ id = cc in
+          named_kind test kind is_kind s.objects name rooted id x (is ∙ ap Some same) live
 
-  call_made : (c : Call) → MayBeDone s.specs (plan_for_call c) → RelabelMade s (relabel_of s (Some caller) c)
-  call_made (call.Setpmac label) may =
-      own_made s caller me label (plan_for_call (call.Setpmac label)) (relabel_asked s task (subject_of s.objects caller) caller (call.Setpmac label) may.proceeds) may.granted
-  call_made (call.Setfmac label path) may =
-      object_made s caller me kinds.Vnode op.VnodeRelabel refl (λ same. cc) (call.Setfmac label path) label (plan_for_call (call.Setfmac label path)) refl
-      (λ id e found live. vnode_kind e.what (file_kind s.objects rooted path id e found live))
-      (relabel_asked s task (subject_of s.objects caller) caller (call.Setfmac label path) may.proceeds) may.granted
-  call_made (call.Setpipemac label name) may =
-      object_made s caller me kinds.Pipe op.PipeRelabel refl (λ same. cc) (call.Setpipemac label name) label (plan_for_call (call.Setpipemac label name)) refl
-      (named_kind is_pipe kinds.Pipe pipe_kind s.objects name rooted)
-      (relabel_asked s task (subject_of s.objects caller) caller (call.Setpipemac label name) may.proceeds) may.granted
-  call_made (call.Setsockmac label name) may =
-      object_made s caller me kinds.Socket op.SocketRelabel refl (λ same. cc) (call.Setsockmac label name) label (plan_for_call (call.Setsockmac label name)) refl
-      (named_kind is_socket kinds.Socket socket_kind s.objects name rooted)
-      (relabel_asked s task (subject_of s.objects caller) caller (call.Setsockmac label name) may.proceeds) may.granted
-  call_made other may = no_change refl
+  call_made : (c : Call) (what : At (about_of s task caller c).place) → (look_up s caller (about_of s task caller c).place).there ≡ Ok what
+      → (before : List Check)
+      → AllByRecursion (IsGranted s.specs) (map (item_asking s.objects (request_of ((about_of s task caller c).row what).effect)) (before ++ ((about_of s task caller c).row what).checks))
+      → RelabelMade s (relabels ((about_of s task caller c).row what).effect)
+  call_made (call.Setpmac text) what there before granted =
+      let asked = asked_there (claimed_in s.specs kinds.Process text) [] (Ok caller) what there in
+      let same : caller ≡ what.1 = cc asked.1 in
+      own_made s caller me text what.0 what.1 before asked.0 same granted
+  call_made (call.Setfmac text path) what there before granted =
+      let asked = asked_there (claimed_in s.specs kinds.Vnode text) (look_up s caller (File path)).checks (look_up s caller (File path)).there what there in
+      object_made s caller me kinds.Vnode op.VnodeRelabel refl refl (λ same. cc) text what.0 what.1 before asked.0
+      (λ e live. vnode_kind e.what (file_kind s.objects rooted path what.1 e asked.1 live)) granted
+  call_made (call.Setpipemac text name) what there before granted =
+      let asked = asked_there (claimed_in s.specs kinds.Pipe text) [] (look_up s caller (Named kinds.Pipe name)).there what there in
+      object_made s caller me kinds.Pipe op.PipeRelabel refl refl (λ same. cc) text what.0 what.1 before asked.0
+      (named_has errno.Enoent is_pipe kinds.Pipe pipe_kind name what.1 asked.1) granted
+  call_made (call.Setsockmac text name) what there before granted =
+      let asked = asked_there (claimed_in s.specs kinds.Socket text) [] (look_up s caller (Named kinds.Socket name)).there what there in
+      object_made s caller me kinds.Socket op.SocketRelabel refl refl (λ same. cc) text what.0 what.1 before asked.0
+      (named_has errno.Enoent is_socket kinds.Socket socket_kind name what.1 asked.1) granted
+  call_made other what there before granted = no_change refl
+
+  row_made : (c : Call) (checks : List Check) (there : Result (At (about_of s task caller c).place) Errno) → (look_up s caller (about_of s task caller c).place).there ≡ there
+      → MayBeDone s.specs (plan_in s (through (record { checks = checks; there = there }) (about_of s task caller c).row))
+      → RelabelMade s (relabels (through (record { checks = checks; there = there }) (about_of s task caller c).row).effect)
+  row_made c checks (Ok what) is may = call_made c what is checks may.granted
+  row_made c checks (Err e) is may = cc may.proceeds
 
 -- the process of that name that makes the call
 pub relabel_made : (s : State) (task name : List ℕ) (c : Call) (caller : Option Id) → process_named s.objects name ≡ caller → IsRooted s.objects
-    → MayBeDone s.specs (plan_by s task c caller) → RelabelMade s (relabel_of s caller c)
+    → MayBeDone s.specs (plan_in s (row_by s task c caller)) → RelabelMade s (relabels (row_by s task c caller).effect)
 relabel_made s task name c None found rooted may = cc may.proceeds
 relabel_made s task name c (Some caller) found rooted may =
-    call_made s task caller rooted (named_process s.objects name caller found rooted.rising) c may
+    let place = (about_of s task caller c).place in
+    row_made s task caller rooted (named_process s.objects name caller found rooted.rising) c (look_up s caller place).checks (look_up s caller place).there refl may

@@ -1,7 +1,6 @@
 -- What names and paths lead to, where ids rise: it is live, and of the kind that is asked for.
-use Rattle.std.proofs.Common.{◌≡◌, ℕ, ◌+◌, ◌<◌, ◌≤◌, Bool, true, false, cond, List, [], ◌∷◌, Option, Some, None, refl, ap, sym, ◌∙◌, subst, arith, eq-eqb, if◌then◌else◌}
+use Rattle.std.proofs.Common.{◌≡◌, ℕ, ◌+◌, ◌<◌, ◌≤◌, Bool, true, false, cond, List, [], ◌∷◌, Option, Some, None, Ok, refl, ap, sym, ◌∙◌, subst, arith, eq-eqb, if◌then◌else◌}
 use Rattle.std.specs.Prelude.{find, IfSome, IfNone, IsTrue}
-use Rattle.std.specs.Result.{result_ok}
 use Rattle.std.proofs.lemmas.Bool.{false≢true}
 use Rattle.mf_errno.specs.declared.errno.Errno.TheVariants.{Enotdir}
 use Rattle.mf_item.specs.declared.view.Kind.TheVariants as kinds
@@ -15,7 +14,7 @@ use Rattle.mf_objects.proofs.Found.{child_kind, kind_found, named_kind}
 use Rattle.mf_objects.proofs.Rising.{id_differs}
 use Rattle.mf_plan.specs.declared.target.Target.{Target}
 use Rattle.mf_plan.specs.declared.target.Target.TheVariants.{Root, Name, Nowhere}
-use Rattle.mf_plan.specs.Path.{entry_of, file_at_path, found_at, going_on, nowhere, root, lookup_along, lookup_from}
+use Rattle.mf_plan.specs.Path.{entry_of, found_at, going_on, nowhere, root, lookup_along, lookup_from}
 use Rattle.mf_plan.specs.Views.{is_dir, process_named}
 
 -- Ids rise, the first of them was given, and what has it is a vnode while it lives.
@@ -132,7 +131,7 @@ module _ (o : Entities) (rooted : IsRooted o) where
       by_entry onwards (Some id) = by_test (is_dir o id) id (onwards id)
 
   -- what lives at a path is a vnode
-  pub file_kind : (path : List (List ℕ)) (id : Id) (e : LiveEntity) → file_at_path o path ≡ Some id → live_at o id ≡ Some e → is_vnode e.what ≡ true
+  pub file_kind : (path : List (List ℕ)) (id : Id) (e : LiveEntity) → found_at (lookup_along o path).target ≡ Ok id → live_at o id ≡ Some e → is_vnode e.what ≡ true
   file_kind path id e found live = by_target (lookup_along o path).target (walk_kind path root) found
     where
       lives : (found : Option LiveEntity) → found ≡ Some e → IsTrue (passes is_vnode found) → is_vnode e.what ≡ true
@@ -143,12 +142,12 @@ module _ (o : Entities) (rooted : IsRooted o) where
       first None is kind = cc
       first (Some x) is kind = ap (λ (y : LiveEntity). is_vnode y.what) (sym (inside_some x e is)) ∙ kind_vnode x.what kind
 
-      by_target : (target : Target) → LeadsToVnode o target → result_ok (found_at target) ≡ Some id → is_vnode e.what ≡ true
+      by_target : (target : Target) → LeadsToVnode o target → found_at target ≡ Ok id → is_vnode e.what ≡ true
       by_target Root leads is =
-          let same : root ≡ id = inside_some root id is in
+          let same : root ≡ id = cc in
           first (live_at o root) (ap (live_at o) same ∙ live) rooted.vnode
       by_target (Name dir None) leads is = cc
       by_target (Name dir (Some at)) leads is =
-          let same : at ≡ id = inside_some at id is in
+          let same : at ≡ id = cc in
           lives (live_at o at) (ap (live_at o) same ∙ live) leads
       by_target (Nowhere errno) leads is = cc

@@ -1,13 +1,9 @@
 pub mod Effect
-pub mod Effects
-pub mod Memory
+pub mod Found
 pub mod Passed
 pub mod Refused
+pub mod Relisting
 pub mod Reply
-pub mod Row
-pub mod RowLaws
-pub mod Rows
 pub mod Step
 pub mod Suits
 pub mod Verdict
-pub mod Whole

@@ -8,15 +8,15 @@ use Rattle.mf_plan.specs.declared.reply.Reply.{Reply}
 use Rattle.mf_plan.specs.declared.reply.Reply.TheVariants as reply
 use Rattle.mf_plan.specs.declared.state.State.{State}
 use Rattle.mf_plan.specs.Names.{caller_name}
-use Rattle.mf_plan.specs.Plan.{plan_of}
+use Rattle.mf_plan.specs.Plan.{plan_of, row_for, row_of}
 use Rattle.mf_plan.specs.Views.{process_named}
 use Rattle.mf_step.specs.Verdict.{verdict_of}
-use Rattle.mf_step.specs.Reply.{reply_to, payload_of}
-use Rattle.mf_step.specs.Effect.{effect_of}
+use Rattle.mf_step.specs.Reply.{reply_to}
+use Rattle.mf_step.specs.Effect.{after}
 
 -- what a call of the task's own process, or of its child of that name, hands back where it is done
 abbrev pub step_payload : State → List ℕ → Option (List ℕ) → Call → Payload
-step_payload s task child call = payload_of s (process_named s.objects (caller_name task child)) call
+step_payload s task child call = (row_of s task child call).payload
 
 -- the reply to it
 abbrev pub step_reply : State → List ℕ → Option (List ℕ) → Call → Reply
@@ -26,7 +26,7 @@ step_reply s task child call =
 
 -- where the process that calls doesn't live, nothing changes
 abbrev pub performed_by : State → List ℕ → Call → Option Id → State
-performed_by s task call caller = option_map_or (λ id. effect_of s task id call) caller s
+performed_by s task call caller = option_map_or (λ me. after s me (row_for s task call me).effect) caller s
 
 -- the state after the call, where it is done
 abbrev pub performed : State → List ℕ → Option (List ℕ) → Call → State

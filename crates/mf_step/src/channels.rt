@@ -1,14 +1,15 @@
 //! What the calls on pipes and sockets change, and how bytes come to a file or a pipe.
-ghost use Rattle.std.specs.Prelude.{◌≡◌, ◌<◌, ◌≤◌, OnOk, OnErr, IfSome, drop, length};
+ghost use Rattle.std.specs.Prelude.{◌≡◌, ◌<◌, ◌≤◌, OnOk, OnErr, IsOk, false, length};
 ghost use Rattle.mf_names.specs.declared.limits.TheConstants.{SCRIPT_LIMIT};
 ghost use Rattle.mf_objects.specs.declared.limits.TheConstants.{ID_LIMIT};
-ghost use Rattle.mf_item.specs.declared.view.Kind.TheVariants as kinds;
 ghost use Rattle.mf_objects.specs.Changes as change;
-ghost use Rattle.mf_objects.specs.Fits.{FitsBytes, FitsMessage, HasMessage};
-ghost use Rattle.mf_objects.specs.Live.{is_pipe, is_process, is_socket, live_at, live_named};
-ghost use Rattle.mf_objects.specs.Lives.{IsLive, IsLiveWhere};
-ghost use Rattle.mf_plan.specs.Doing as doing;
-ghost use Rattle.mf_step.specs.Effect as spec;
+ghost use Rattle.mf_objects.specs.declared.id.Id.{Id};
+ghost use Rattle.mf_objects.specs.Live.{is_process};
+ghost use Rattle.mf_objects.specs.Lives.{IsLive};
+ghost use Rattle.mf_plan.specs.Effect.Effect.{Append, Deliver, Empty, Make, Receive};
+ghost use Rattle.mf_step.specs.Effect.{after, takes_memory};
+ghost use Rattle.mf_step.specs.Found.{at};
+ghost use Rattle.mf_step.specs.Suits.{Suits};
 
 use crate::processes::label_from;
 use mf_item::Kind;
@@ -24,9 +25,9 @@ pub(crate) fn pipe(
     name: &str,
 ) -> Result<(), AllocError>
     requires caller { IsLive is_process state.old.objects caller }
-    requires can { doing.CanMake state.old.objects (live_named is_pipe state.old.objects name.now) }
+    requires room { Suits state.old (Make name.now (change.new_pipe caller)) }
     requires next { state.old.objects.next < ID_LIMIT }
-    ensures ok { OnOk result (state.new ≡ spec.with_created state.old caller kinds.Pipe name.now (change.new_pipe caller)) }
+    ensures ok { OnOk result (state.new ≡ after state.old caller (Make name.now (change.new_pipe caller))) }
     ensures err { OnErr result (state.new ≡ state.old) }
 {
     let label = label_from(state, caller, Kind::Pipe);
@@ -42,9 +43,9 @@ pub(crate) fn socket(
     name: &str,
 ) -> Result<(), AllocError>
     requires caller { IsLive is_process state.old.objects caller }
-    requires can { doing.CanMake state.old.objects (live_named is_socket state.old.objects name.now) }
+    requires room { Suits state.old (Make name.now (change.new_socket caller)) }
     requires next { state.old.objects.next < ID_LIMIT }
-    ensures ok { OnOk result (state.new ≡ spec.with_created state.old caller kinds.Socket name.now (change.new_socket caller)) }
+    ensures ok { OnOk result (state.new ≡ after state.old caller (Make name.now (change.new_socket caller))) }
     ensures err { OnErr result (state.new ≡ state.old) }
 {
     let label = label_from(state, caller, Kind::Socket);
@@ -54,8 +55,8 @@ pub(crate) fn socket(
 
 /// Takes all bytes out of the pipe.
 pub(crate) fn pread(state: &mut State, pipe: Option<Id>)
-    requires { IfSome pipe (λ id. IsLive is_pipe state.old.objects id) }
-    ensures { state.new ≡ spec.with_changed state.old change.cleared pipe }
+    requires { Suits state.old (at Empty pipe) }
+    ensures { (me : Id) → state.new ≡ after state.old me (at Empty pipe) }
 {
     if let Some(id) = pipe {
         state.objects.clear(id);
@@ -64,9 +65,10 @@ pub(crate) fn pread(state: &mut State, pipe: Option<Id>)
 
 /// Puts the bytes at the end of what the file or pipe holds. If memory runs out, the state is unchanged.
 pub(crate) fn append(state: &mut State, target: Option<Id>, text: &[u8]) -> Result<(), AllocError>
-    requires { IfSome target (λ id. IsLiveWhere (FitsBytes (length text.now)) (live_at state.old.objects id)) }
-    ensures ok { OnOk result (state.new ≡ spec.with_changed state.old (change.appended text.now) target) }
+    requires { Suits state.old (at (λ id. Append id text.now) target) }
+    ensures ok { OnOk result ((me : Id) → state.new ≡ after state.old me (at (λ id. Append id text.now) target)) }
     ensures err { OnErr result (state.new ≡ state.old) }
+    ensures memory { takes_memory (at (λ id. Append id text.now) target) ≡ false → IsOk result }
 {
     match target {
         Some(id) => state.objects.append(id, text),
@@ -82,10 +84,10 @@ pub(crate) fn deliver(
     text: &[u8],
 ) -> Result<(), AllocError>
     requires text { length text.now ≤ SCRIPT_LIMIT }
-    requires room { IfSome socket (λ id. IsLiveWhere FitsMessage (live_at state.old.objects id)) }
-    ensures ok { OnOk result (state.new
-        ≡ spec.with_changed state.old (change.with_messages (change.with_message text.now)) socket) }
+    requires room { Suits state.old (at (λ id. Deliver id text.now) socket) }
+    ensures ok { OnOk result ((me : Id) → state.new ≡ after state.old me (at (λ id. Deliver id text.now) socket)) }
     ensures err { OnErr result (state.new ≡ state.old) }
+    ensures memory { takes_memory (at (λ id. Deliver id text.now) socket) ≡ false → IsOk result }
 {
     match socket {
         Some(id) => state.objects.push_message(alloc, id, text),
@@ -95,8 +97,8 @@ pub(crate) fn deliver(
 
 /// Takes the oldest message out of the socket.
 pub(crate) fn recv(state: &mut State, socket: Option<Id>)
-    requires { IfSome socket (λ id. IsLiveWhere HasMessage (live_at state.old.objects id)) }
-    ensures { state.new ≡ spec.with_changed state.old (change.with_messages (drop 1)) socket }
+    requires { Suits state.old (at Receive socket) }
+    ensures { (me : Id) → state.new ≡ after state.old me (at Receive socket) }
 {
     if let Some(id) = socket {
         state.objects.pop_message(id);

@@ -1,14 +1,15 @@
 //! What the calls on files and directories change.
-ghost use Rattle.std.specs.Prelude.{◌≡◌, ◌<◌, [], OnOk, OnErr, None, IfSome, IfNone, find, length};
-ghost use Rattle.mf_objects.specs.declared.limits.TheConstants.{ID_LIMIT, MOST_ENTITIES};
-ghost use Rattle.mf_item.specs.declared.view.Kind.TheVariants as kinds;
+ghost use Rattle.std.specs.Prelude.{◌≡◌, ◌<◌, [], OnOk, OnErr, IsOk, false};
+ghost use Rattle.mf_objects.specs.declared.limits.TheConstants.{ID_LIMIT};
 ghost use Rattle.mf_objects.specs.Changes as change;
-ghost use Rattle.mf_objects.specs.Live.{has_id, is_child, is_process};
-ghost use Rattle.mf_objects.specs.Lives.{IsLive, is_directory, is_vnode};
-ghost use Rattle.mf_plan.specs.Path as walks;
-ghost use Rattle.mf_plan.specs.Places.{free_dir_at};
-ghost use Rattle.mf_step.specs.Effect as spec;
-ghost use Rattle.mf_step.specs.Suits.{HasFree, IsRemovable};
+ghost use Rattle.mf_objects.specs.Live.{is_process};
+ghost use Rattle.mf_objects.specs.Lives.{IsLive};
+ghost use Rattle.mf_objects.specs.declared.id.Id.{Id};
+ghost use Rattle.mf_plan.specs.Effect.Effect.{Make, SetMode, Unlink};
+ghost use Rattle.mf_plan.specs.Rows.{new_file};
+ghost use Rattle.mf_step.specs.Effect.{after, takes_memory};
+ghost use Rattle.mf_step.specs.Found as spec;
+ghost use Rattle.mf_step.specs.Suits.{Suits};
 
 use crate::paths::last_name;
 use crate::processes::label_from;
@@ -31,13 +32,11 @@ pub(crate) fn make_file(
     is_dir: bool,
 ) -> Result<(), AllocError>
     requires caller { IsLive is_process state.old.objects caller }
-    requires dir { dir ≡ free_dir_at state.old.objects path.now }
-    requires free { IfSome dir (λ id. HasFree state.old.objects path.now id) }
-    requires few { length state.old.objects.live < MOST_ENTITIES }
+    requires room { Suits state.old (spec.make_file state.old caller path.now mode is_dir dir) }
     requires next { state.old.objects.next < ID_LIMIT }
-    ensures ok { OnOk result (state.new
-        ≡ spec.with_file state.old caller mode is_dir (walks.last_name path.now) (walks.lookup_along state.old.objects path.now).target) }
+    ensures ok { OnOk result (state.new ≡ after state.old caller (spec.make_file state.old caller path.now mode is_dir dir)) }
     ensures err { OnErr result (state.new ≡ state.old) }
+    ensures memory { takes_memory (spec.make_file state.old caller path.now mode is_dir dir) ≡ false → IsOk result }
 {
     match dir {
         Some(dir) => {
@@ -58,12 +57,10 @@ fn add_file(
     is_dir: bool,
 ) -> Result<(), AllocError>
     requires caller { IsLive is_process state.old.objects caller }
-    requires dir { IsLive is_directory state.old.objects dir }
-    requires name { find (is_child dir name.now) state.old.objects.live ≡ None }
-    requires few { length state.old.objects.live < MOST_ENTITIES }
+    requires room { Suits state.old (Make name.now (change.new_vnode dir (new_file state.old.objects caller dir mode is_dir) [])) }
     requires next { state.old.objects.next < ID_LIMIT }
     ensures ok { OnOk result (state.new
-        ≡ spec.with_created state.old caller kinds.Vnode name.now (change.new_vnode dir (spec.new_file state.old.objects caller dir mode is_dir) [])) }
+        ≡ after state.old caller (Make name.now (change.new_vnode dir (new_file state.old.objects caller dir mode is_dir) []))) }
     ensures err { OnErr result (state.new ≡ state.old) }
 {
     let file = FileView {
@@ -81,8 +78,8 @@ fn add_file(
 
 /// Gives the file or directory these mode bits.
 pub(crate) fn chmod(state: &mut State, file: Option<Id>, mode: u16)
-    requires { IfSome file (λ id. IsLive is_vnode state.old.objects id) }
-    ensures { state.new ≡ spec.with_changed state.old (change.with_mode mode) file }
+    requires { Suits state.old (spec.at (λ id. SetMode id mode) file) }
+    ensures { (me : Id) → state.new ≡ after state.old me (spec.at (λ id. SetMode id mode) file) }
 {
     if let Some(id) = file {
         state.objects.set_mode(id, mode);
@@ -91,9 +88,8 @@ pub(crate) fn chmod(state: &mut State, file: Option<Id>, mode: u16)
 
 /// Removes the entry of its directory.
 pub(crate) fn unlink(state: &mut State, entry: Option<Id>)
-    requires { IfSome entry (λ id. IsRemovable state.old.objects id) }
-    ensures some { IfSome entry (λ id. state.new ≡ spec.with_objects state.old (change.without (has_id id) state.old.objects)) }
-    ensures none { IfNone entry (state.new ≡ state.old) }
+    requires { Suits state.old (spec.at Unlink entry) }
+    ensures { (me : Id) → state.new ≡ after state.old me (spec.at Unlink entry) }
 {
     if let Some(id) = entry {
         state.objects.remove_vnode(id);

@@ -1,13 +1,15 @@
 //! Labels as calls show them and change them.
-ghost use Rattle.std.specs.Option.{option_zip};
-ghost use Rattle.std.specs.Prelude.{◌≡◌, ◌<◌, ◌≤◌, ◌+◌, ◌∷◌, ◌++◌, [], length, slice_index_or, IfSome, IsSome, OnOk, OnErr};
+ghost use Rattle.std.specs.Prelude.{◌≡◌, ◌<◌, ◌≤◌, ◌+◌, ◌∷◌, ◌++◌, [], length, slice_index_or, false, IsOk, IsSome, OnOk, OnErr};
 ghost use Rattle.mf_elem.specs.declared.label.LabelValue.TheVariants.{Unset};
 ghost use Rattle.mf_slots.specs.Zones.{given};
 ghost use Rattle.mf_objects.specs.Live.{label_at, live_at};
 ghost use Rattle.mf_objects.specs.Lives.{value_at};
 ghost use Rattle.mf_policy.specs.Relabelled.{relabelled_value};
-ghost use Rattle.mf_step.specs.Effect as effect;
-ghost use Rattle.mf_step.specs.Reply as spec;
+ghost use Rattle.mf_plan.specs.Payloads as spec;
+ghost use Rattle.mf_objects.specs.declared.id.Id.{Id};
+ghost use Rattle.mf_step.specs.Effect.{after, takes_memory};
+ghost use Rattle.mf_step.specs.Found.{relabelling};
+ghost use Rattle.mf_step.specs.Suits.{Suits};
 
 use mf_cred::ArrayVec;
 use mf_elem::{LabelValue, Request, SLOTS};
@@ -89,9 +91,10 @@ pub(crate) fn relabel(
     target: Option<Id>,
     asked: &Option<Request>,
 ) -> Result<(), AllocError>
-    requires { IfSome target (λ id. IsSome (live_at state.old.objects id)) }
-    ensures ok { OnOk result (state.new ≡ effect.with_relabelled state.old (option_zip target asked.now)) }
+    requires { Suits state.old (relabelling target asked.now) }
+    ensures ok { OnOk result ((me : Id) → state.new ≡ after state.old me (relabelling target asked.now)) }
     ensures err { OnErr result (state.new ≡ state.old) }
+    ensures memory { takes_memory (relabelling target asked.now) ≡ false → IsOk result }
 {
     if let (Some(id), Some(request)) = (target, asked) {
         let mut values = [LabelValue::Unset; SLOTS];

@@ -1,14 +1,15 @@
 //! What a call hands back.
-ghost use Rattle.std.specs.Prelude.{◌≡◌, ◌≤◌, ℕ, List, IfOk, IsOk, IfSome, IsSome, false, length, map};
+ghost use Rattle.std.specs.Prelude.{◌≡◌, ◌≤◌, ℕ, List, Option, IfOk, IsOk, IfSome, IsSome, false, length, map};
 ghost use Rattle.mf_errno.specs.Names.{module_named};
 ghost use Rattle.mf_objects.specs.Live.{live_at};
-ghost use Rattle.mf_plan.specs.Found.{target_of};
+ghost use Rattle.mf_plan.specs.Found.{AreFound};
+ghost use Rattle.mf_plan.specs.Payloads as read;
+ghost use Rattle.mf_plan.specs.Plan.{row_of};
 ghost use Rattle.mf_plan.specs.Settings as settings;
-ghost use Rattle.mf_plan.specs.Views.{process_named};
 ghost use Rattle.mf_policy.specs.Settings.{listed_rules};
 ghost use Rattle.mf_calls.specs.WellFormed.{IsFormedCall};
-ghost use Rattle.mf_step.specs.Reply as spec;
-ghost use Rattle.mf_step.specs.Memory.{payload_takes_memory};
+ghost use Rattle.mf_step.specs.Found as spec;
+ghost use Rattle.mf_step.specs.Effect.{payload_takes_memory};
 
 use crate::labels::label_parts;
 use mf_calls::Call;
@@ -24,20 +25,36 @@ use std::alloc::{AllocError, Global};
 pub fn payload_of(
     alloc: Global,
     state: &State,
-    found: Found,
+    found: &Found,
     call: &Call,
 ) -> Result<Payload, AllocError>
-    requires caller { (name : List ℕ) × (found.caller ≡ process_named state.now.objects name) }
-    requires target { found.target ≡ target_of state.now.objects found.caller call.now }
+    requires found { (task : List ℕ) × (child : Option (List ℕ)) × AreFound state.now task child call.now found.now }
     requires formed { IsFormedCall call.now }
     requires few { length state.now.specs ≤ MOST_LISTED }
-    ensures value { IfOk result (λ payload. payload ≡ spec.payload_of state.now found.caller call.now) }
-    ensures memory { payload_takes_memory call.now ≡ false → IsOk result }
+    ensures value { IfOk result (λ payload. (task : List ℕ) → (child : Option (List ℕ)) → AreFound state.now task child call.now found.now
+        → payload ≡ (row_of state.now task child call.now).payload) }
+    ensures memory { (task : List ℕ) → (child : Option (List ℕ)) → AreFound state.now task child call.now found.now
+        → payload_takes_memory (row_of state.now task child call.now).payload ≡ false → IsOk result }
+{
+    // Counting the entities shows the proof that the target lives.
+    let _live = state.objects.live();
+    read_found(alloc, state, found.target, call)
+}
+
+/// What the call hands back, by the target that was found.
+fn read_found(
+    alloc: Global,
+    state: &State,
+    target: Option<Id>,
+    call: &Call,
+) -> Result<Payload, AllocError>
+    requires live { IfSome target (λ id. IsSome (live_at state.now.objects id)) }
+    requires formed { IsFormedCall call.now }
+    requires few { length state.now.specs ≤ MOST_LISTED }
+    ensures value { IfOk result (λ payload. payload ≡ spec.payload_found state.now call.now target) }
+    ensures memory { payload_takes_memory (spec.payload_found state.now call.now target) ≡ false → IsOk result }
 {
     let objects = &state.objects;
-    // Counting the entities shows the proof that the target lives.
-    let _live = objects.live();
-    let target = found.target;
     match call {
         Call::Read(_) | Call::Pread(_) => Ok(head(objects, target)),
         Call::Stat(_) => Ok(stat(objects, target)),
@@ -81,7 +98,7 @@ pub fn payload_of(
 /// The beginning of what a file or a pipe holds.
 fn head(objects: &Objects, found: Option<Id>) -> Payload
     requires { IfSome found (λ id. IsSome (live_at objects.now id)) }
-    ensures { result ≡ spec.payload_of_found (spec.head objects.now) found }
+    ensures { result ≡ spec.payload_of_found (read.head objects.now) found }
 {
     match found {
         Some(id) => Payload::Head(objects.head(id)),
@@ -91,7 +108,7 @@ fn head(objects: &Objects, found: Option<Id>) -> Payload
 
 fn stat(objects: &Objects, found: Option<Id>) -> Payload
     requires { IfSome found (λ id. IsSome (live_at objects.now id)) }
-    ensures { result ≡ spec.payload_of_found (spec.stat objects.now) found }
+    ensures { result ≡ spec.payload_of_found (read.stat objects.now) found }
 {
     match found {
         Some(id) => Payload::Stat(objects.file(id), objects.size(id)),
@@ -102,7 +119,8 @@ fn stat(objects: &Objects, found: Option<Id>) -> Payload
 #[tactic(auto, using(mf_objects::proofs::Laws::live_directory))]
 fn names(alloc: Global, objects: &Objects, found: Option<Id>) -> Result<Payload, AllocError>
     requires { IfSome found (λ id. IsSome (live_at objects.now id)) }
-    ensures { IfOk result (λ payload. payload ≡ spec.payload_of_found (spec.names objects.now) found) }
+    ensures value { IfOk result (λ payload. payload ≡ spec.payload_of_found (read.names objects.now) found) }
+    ensures memory { payload_takes_memory (spec.payload_of_found (read.names objects.now) found) ≡ false → IsOk result }
 {
     match found {
         Some(id) if objects.file(id).dir => Ok(Payload::Names {
@@ -116,7 +134,8 @@ fn names(alloc: Global, objects: &Objects, found: Option<Id>) -> Result<Payload,
 /// The label of a process or a file.
 fn label(alloc: Global, state: &State, found: Option<Id>) -> Result<Payload, AllocError>
     requires { IfSome found (λ id. IsSome (live_at state.now.objects id)) }
-    ensures { IfOk result (λ payload. payload ≡ spec.payload_of_found (spec.label state.now) found) }
+    ensures value { IfOk result (λ payload. payload ≡ spec.payload_of_found (read.label state.now) found) }
+    ensures memory { payload_takes_memory (spec.payload_of_found (read.label state.now) found) ≡ false → IsOk result }
 {
     let objects = &state.objects;
     match found {
@@ -131,7 +150,7 @@ fn label(alloc: Global, state: &State, found: Option<Id>) -> Result<Payload, All
 /// How many bytes a pipe holds.
 fn size(objects: &Objects, found: Option<Id>) -> Payload
     requires { IfSome found (λ id. IsSome (live_at objects.now id)) }
-    ensures { result ≡ spec.payload_of_found (spec.size objects.now) found }
+    ensures { result ≡ spec.payload_of_found (read.size objects.now) found }
 {
     match found {
         Some(id) => Payload::Size(objects.size(id)),
@@ -142,7 +161,7 @@ fn size(objects: &Objects, found: Option<Id>) -> Payload
 /// The beginning of a socket's oldest message.
 fn message(objects: &Objects, found: Option<Id>) -> Payload
     requires { IfSome found (λ id. IsSome (live_at objects.now id)) }
-    ensures { result ≡ spec.payload_of_found (spec.message objects.now) found }
+    ensures { result ≡ spec.payload_of_found (read.message objects.now) found }
 {
     match found {
         Some(id) => Payload::Head(objects.message(id)),
@@ -153,7 +172,7 @@ fn message(objects: &Objects, found: Option<Id>) -> Payload
 /// The listed modules in walk order.
 fn loaded(specs: &SpecList) -> ArrayVec<Loaded, MOST_LISTED>
     requires { length specs.now ≤ MOST_LISTED }
-    ensures { result ≡ map spec.loaded specs.now }
+    ensures { result ≡ map read.loaded specs.now }
 {
     let mut modules = ArrayVec::new();
     for place in 0..specs.len() {
@@ -181,7 +200,8 @@ fn slot(state: &State, name: &str) -> Payload
 
 /// The rules about files.
 fn rules(alloc: Global, specs: &SpecList) -> Result<Payload, AllocError>
-    ensures { IfOk result (λ payload. payload ≡ spec.rules (listed_rules specs.now)) }
+    ensures value { IfOk result (λ payload. payload ≡ read.rules (listed_rules specs.now)) }
+    ensures memory { payload_takes_memory (read.rules (listed_rules specs.now)) ≡ false → IsOk result }
 {
     match specs.rules() {
         Some(rules) => Ok(Payload::Rules(rules.copy(alloc)?)),

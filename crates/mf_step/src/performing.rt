@@ -1,17 +1,15 @@
 //! What the call of an entry changes: entities alone.
-ghost use Rattle.std.specs.Prelude.{◌≡◌, ◌+◌, ◌<◌, ◌≤◌, Some, IfSome, IsOk, OnOk, OnErr, false};
+ghost use Rattle.std.specs.Prelude.{◌≡◌, ◌+◌, ◌<◌, ◌≤◌, IsOk, OnOk, OnErr, false};
 ghost use Rattle.mf_objects.specs.declared.limits.TheConstants.{ID_LIMIT};
 ghost use Rattle.mf_objects.specs.Live.{is_process};
 ghost use Rattle.mf_objects.specs.Lives.{IsLive};
-ghost use Rattle.mf_plan.specs.Doing.{CanDo};
-ghost use Rattle.mf_plan.specs.Found.{found_of, target_of};
-ghost use Rattle.mf_plan.specs.Plan.{plan_of};
-ghost use Rattle.mf_plan.specs.Relabels.{request_asked};
+ghost use Rattle.mf_plan.specs.Found.{AreFound};
+ghost use Rattle.mf_plan.specs.Plan.{plan_of, row_of};
 ghost use Rattle.mf_plan.specs.declared.plan.Tail.TheVariants.{Do};
 ghost use Rattle.mf_calls.specs.Tasks.{is_change};
 ghost use Rattle.mf_calls.specs.WellFormed.{IsFormedCall, IsFormedLine, IsName};
-ghost use Rattle.mf_step.specs.Effect.{effect_of};
-ghost use Rattle.mf_step.specs.Memory.{change_takes_memory};
+ghost use Rattle.mf_step.specs.Effect.{after, takes_memory};
+ghost use Rattle.mf_step.specs.Found.{effect_found};
 ghost use Rattle.mf_step.specs.Step.{performed};
 ghost use Rattle.mf_step.specs.Suits.{Suits};
 
@@ -33,40 +31,33 @@ pub fn perform(
     state: &mut State,
     task: &str,
     line: &Line,
-    found: Found,
+    found: &Found,
 ) -> Result<(), AllocError>
     requires task { IsName task.now }
     requires line { IsFormedLine line.now }
     requires entry { is_change line.now.call ≡ false }
     requires proceeds { (plan_of state.old task.now line.now.child line.now.call).tail ≡ Do }
-    requires found { found ≡ found_of state.old task.now line.now.child line.now.call }
+    requires found { AreFound state.old task.now line.now.child line.now.call found.now }
     requires next { state.old.objects.next < ID_LIMIT }
     ensures ok { OnOk result (state.new ≡ performed state.old task.now line.now.child line.now.call) }
     ensures err { OnErr result (state.new ≡ state.old) }
     ensures next { state.new.objects.next ≤ state.old.objects.next + 1 }
     ensures rises { state.old.objects.next ≤ state.new.objects.next }
     ensures kept { state.new.booted ≡ state.old.booted }
-    ensures memory { change_takes_memory line.now.call ≡ false → IsOk result }
+    ensures memory { takes_memory (row_of state.old task.now line.now.child line.now.call).effect ≡ false → IsOk result }
 {
     // Counting the entities shows the proof that what was found among them lives.
     let _live = state.objects.live();
     match found.caller {
         Some(caller) => {
-            perform_by(
-                alloc,
-                state,
-                task,
-                caller,
-                found.target,
-                &found.request,
-                &line.call,
-            )
+            let target = found.target;
+            perform_by(alloc, state, task, caller, target, &found.request, &line.call)
         }
         None => Ok(()),
     }
 }
 
-/// Does the call of a live process of the task.
+/// Does the call of a live process of the task, by the target and the request that were found.
 fn perform_by(
     alloc: Global,
     state: &mut State,
@@ -80,14 +71,11 @@ fn perform_by(
     requires formed { IsFormedCall call.now }
     requires entry { is_change call.now ≡ false }
     requires caller { IsLive is_process state.old.objects caller }
-    requires can { CanDo state.old task.now call.now }
-    requires target { target ≡ target_of state.old.objects (Some caller) call.now }
-    requires asked { asked.now ≡ request_asked state.old.specs call.now }
-    requires suits { IfSome target (λ id. Suits state.old.objects call.now id) }
+    requires suits { Suits state.old (effect_found state.old task.now caller call.now target asked.now) }
     requires next { state.old.objects.next < ID_LIMIT }
-    ensures ok { OnOk result (state.new ≡ effect_of state.old task.now caller call.now) }
+    ensures ok { OnOk result (state.new ≡ after state.old caller (effect_found state.old task.now caller call.now target asked.now)) }
     ensures err { OnErr result (state.new ≡ state.old) }
-    ensures memory { change_takes_memory call.now ≡ false → IsOk result }
+    ensures memory { takes_memory (effect_found state.old task.now caller call.now target asked.now) ≡ false → IsOk result }
 {
     match call {
         Call::Fork(child) => fork(alloc, state, task, caller, child.as_str())?,

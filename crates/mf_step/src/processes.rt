@@ -1,17 +1,16 @@
 //! What the calls on processes change.
 ghost use Rattle.std.specs.Prelude.{◌≡◌, ◌<◌, OnOk, OnErr, IsSome};
 ghost use Rattle.mf_objects.specs.declared.limits.TheConstants.{ID_LIMIT};
-ghost use Rattle.mf_item.specs.declared.view.Kind.TheVariants as kinds;
-ghost use Rattle.mf_objects.specs.Changes as change;
-ghost use Rattle.mf_objects.specs.Live.{cred_at, is_process, label_at, live_at, live_named};
+ghost use Rattle.mf_objects.specs.Live.{cred_at, is_process, label_at, live_at};
 ghost use Rattle.mf_objects.specs.Lives.{IsLive};
 ghost use Rattle.mf_objects.specs.declared.entity.EntityData.TheVariants as what;
-ghost use Rattle.mf_plan.specs.Doing.{CanMake};
 ghost use Rattle.mf_plan.specs.Names as names;
 ghost use Rattle.mf_calls.specs.WellFormed.{IsName};
 ghost use Rattle.mf_policy.specs.NewLabels.{new_label};
 ghost use Rattle.mf_policy.specs.declared.labels.Origin.TheVariants.{Maker};
-ghost use Rattle.mf_step.specs.Effect as spec;
+ghost use Rattle.mf_plan.specs.Effect.Effect.{End, Make};
+ghost use Rattle.mf_step.specs.Effect.{after};
+ghost use Rattle.mf_step.specs.Suits.{Suits};
 
 use mf_elem::{LabelValue, SLOTS};
 use mf_item::Kind;
@@ -40,10 +39,10 @@ pub(crate) fn fork(
     requires task { IsName task.now }
     requires child { IsName child.now }
     requires caller { IsLive is_process state.old.objects caller }
-    requires can { CanMake state.old.objects (live_named is_process state.old.objects (names.child_name task.now child.now)) }
+    requires room { Suits state.old (Make (names.child_name task.now child.now) (what.Process (cred_at state.old.objects caller))) }
     requires next { state.old.objects.next < ID_LIMIT }
     ensures ok { OnOk result (state.new
-        ≡ spec.with_created state.old caller kinds.Process (names.child_name task.now child.now) (what.Process (cred_at state.old.objects caller))) }
+        ≡ after state.old caller (Make (names.child_name task.now child.now) (what.Process (cred_at state.old.objects caller)))) }
     ensures err { OnErr result (state.new ≡ state.old) }
 {
     let name = child_name(task, child);
@@ -58,7 +57,7 @@ pub(crate) fn fork(
 /// Ends the process.
 pub(crate) fn exit(state: &mut State, caller: Id)
     requires { IsLive is_process state.old.objects caller }
-    ensures { state.new ≡ spec.with_objects state.old (change.without (change.goes_with caller) state.old.objects) }
+    ensures { state.new ≡ after state.old caller (End caller) }
 {
     state.objects.remove_process(caller);
 }

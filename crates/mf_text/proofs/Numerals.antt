@@ -6,8 +6,12 @@ use Rattle.std.proofs.lemmas.List.Sums.{prefix_len_passes}
 use Rattle.std.proofs.lemmas.Str.Parse.{digit_from_value}
 use Rattle.std.specs.List.{position, position_or_len}
 use Rattle.std.specs.Char.{is_digit, digit_value}
+use Rattle.std.specs.Option.{option_map_or}
+use Rattle.std.specs.Prelude.{Option, nat_le, ◌&&◌}
 use Rattle.std.specs.Result.{result_ok}
 use Rattle.std.specs.Str.Parse.{AllDigits, digits_value, without_leading_plus, ParsesUnsigned}
+use Rattle.mf_text.specs.declared.number.NumberFault.{NumberFault}
+use Rattle.mf_text.specs.declared.number.NumberFault.TheVariants.{NotDigit, OutOfRange}
 
 not_found : (m n : ℕ) → cond (ltb m n) (Some m) None ≡ None → n ≤ m
 not_found m n none = grind (arith, nat_tests)
@@ -40,3 +44,10 @@ digits_read base text (Err e) small some all parses =
       | inl below ↦ absurd (parses (subst (λ t. ((0 < length t) × AllDigits base t) × (digits_value base t < 4294967296)) (sym bare) ((some_digits text some, all), below)))
       | inr over ↦ over
     ]
+
+-- ---- what a number is read as, by parts
+abbrev pub within : ℕ → ℕ → ℕ → Result ℕ NumberFault
+within least greatest value = cond (nat_le least value && nat_le value greatest) (Ok value) (Err OutOfRange)
+
+abbrev pub unless_other : Option ℕ → Result ℕ NumberFault → Result ℕ NumberFault
+unless_other place number = option_map_or (λ place. Err (NotDigit place)) place number

@@ -24,12 +24,11 @@ with_first byte (Err place) = Err place
 -- case. The text begins at a place of a longer one.
 unfoldable pub bytes_from : ℕ → List ℕ → Result (List ℕ) ℕ
 bytes_from place [] = Ok []
-bytes_from place (c ∷ []) = if c == 92 then Err place else Ok (c ∷ [])
-bytes_from place (c ∷ d ∷ []) = if c == 92 then Err place else with_first c (bytes_from (place + 1) (d ∷ []))
 bytes_from place (c ∷ d ∷ e ∷ rest) =
     if c == 92
     then (if is_digit d 16 && is_digit e 16 then with_first (digit_value d * 16 + digit_value e) (bytes_from (place + 3) rest) else Err place)
     else with_first c (bytes_from (place + 1) (d ∷ e ∷ rest))
+bytes_from place (c ∷ rest) = if c == 92 then Err place else with_first c (bytes_from (place + 1) rest)
 
 -- the bytes that a whole text stands for
 abbrev pub bytes_of : List ℕ → Result (List ℕ) ℕ

@@ -1,7 +1,7 @@
 -- The words of a line are within its length, and have what holds of its bytes.
 use Rattle.std.proofs.Common.{◌≡◌, ℕ, suc, ◌≤◌, Bool, true, false, if◌then◌else◌, List, [], ◌∷◌, length, refl, arith, lit≤}
-use Rattle.std.specs.List.{AllByRecursion}
-use Rattle.mf_words.specs.Words.{is_blank, onto_first, goes_on, words_in}
+use Rattle.std.specs.List.{AllByRecursion, onto_first}
+use Rattle.mf_words.specs.Words.{is_blank, goes_on, words_in}
 
 -- what holds of each byte of a word
 abbrev pub InWord : (ℕ → Type 0) → ℕ → Type 0

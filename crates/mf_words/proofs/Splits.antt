@@ -1,6 +1,7 @@
 -- The first word and the first line.
 use Rattle.std.proofs.Common.{◌≡◌, ◌≢◌, ℕ, suc, ◌+◌, ◌≤◌, if◌then◌else◌, arith, length, Bool, true, false, not, ◌==◌, List, [], ◌∷◌, take, drop, refl, ap, sym, ◌∙◌, cond, add-one}
-use Rattle.mf_words.specs.Words.{is_blank, newline, words_in, goes_on, onto_first, lines_in}
+use Rattle.std.specs.List.{onto_first}
+use Rattle.mf_words.specs.Words.{is_blank, newline, words_in, goes_on, lines_in}
 use Rattle.mf_words.specs.Ends.{word_end, line_end}
 
 goes_on_word : (b : ℕ) (bs : List ℕ) → goes_on (b ∷ bs) ≡ true → is_blank b ≡ false

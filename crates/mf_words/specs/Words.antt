@@ -1,4 +1,5 @@
 -- The lines and words of a text, as docs/MANUAL.md (THE SCRIPT) has them.
+use Rattle.std.specs.List.{onto_first}
 use Rattle.std.specs.Prelude.{ℕ, Bool, false, not, ◌||◌, ◌==◌, if◌then◌else◌, List, [], ◌∷◌}
 
 abbrev pub tab : ℕ
@@ -17,11 +18,6 @@ number_sign = 35
 -- a space or a tab
 abbrev pub is_blank : ℕ → Bool
 is_blank b = b == space || b == tab
-
--- the byte in front of the first of the pieces
-abbrev pub onto_first : ℕ → List (List ℕ) → List (List ℕ)
-onto_first b [] = (b ∷ []) ∷ []
-onto_first b (piece ∷ pieces) = (b ∷ piece) ∷ pieces
 
 -- each line without its newline, which the last one may lack
 abbrev pub lines_in : List ℕ → List (List ℕ)

@@ -7,7 +7,7 @@ ghost use Rattle.mf_step.specs.Reply.{reply_to};
 ghost use Rattle.mf_step.specs.Refused.{is_done};
 ghost use Rattle.mf_step.specs.Verdict.{verdict_of};
 ghost use Rattle.mf_core.specs.LegalHistory.{next_reply};
-ghost use Rattle.mf_core.specs.NextFound.{next_found};
+ghost use Rattle.mf_core.specs.NextFound.{IsNextFound};
 ghost use Rattle.mf_core.specs.declared.progress.Turn.TheVariants as turn;
 ghost use Rattle.mf_core.specs.Policies.{AreOf, StaysWhileWaiting};
 ghost use Rattle.mf_core.specs.CoreView.{run_state, specs_of, progress_of, turn_at, open_of, done_of, lines_changed, Changes, Commits, IsCurrent, AdvancesBy, AdvancesOn};
@@ -47,9 +47,9 @@ impl<'s> Core<'s> {
         let Some(found) = self.found_now(task, list, plan) else {
             return Ok(Commit::Stale);
         };
-        let reply = self.run.reply(alloc, task, plan, found, verdict)?;
+        let reply = self.run.reply(alloc, task, plan, &found, verdict)?;
         let number = self.run.lines(task) + 1;
-        self.run.commit(alloc, task, number, found, &reply)?;
+        self.run.commit(alloc, task, number, &found, &reply)?;
         self.history.events.push(Event::Done(task, number, reply));
         Ok(Commit::Done)
     }
@@ -60,7 +60,7 @@ impl<'s> Core<'s> {
         requires task { task < length self.now.script.tasks }
         requires turn { turn_at self.now task ≡ turn.Entered }
         ensures is { IsSome result ↔ IsCurrent self.now task list.now.entries plan.now }
-        ensures found { plan.now.tail ≡ Do → IfSome result (λ found. next_found self.now.script (run_state self.now) task ≡ Some found) }
+        ensures found { plan.now.tail ≡ Do → IfSome result (λ found. IsNextFound self.now.script (run_state self.now) task found) }
     {
         if !list.same_specs(&self.run.state().specs) {
             return None;

@@ -1,26 +1,33 @@
 //! A change of the policies in three acts: the listed specs after it are made beside those of the state, the list and the
 //! catalogue follow, and the specs are put into the state. The first two may run out of memory, and then nothing has changed.
-ghost use Rattle.std.specs.Prelude.{◌≡◌, ◌<◌, ℕ, List, length, true, false, IfOk, IsOk, IfSome, IsSome, MatchOption, OnOk, OnErr, Some};
+ghost use Rattle.std.specs.Prelude.{◌≡◌, ◌<◌, length, true, false, IfOk, IsOk, IfSome, IsSome, MatchOption, OnOk, OnErr, Some};
 ghost use Rattle.mf_objects.specs.declared.id.Id.{Id};
-ghost use Rattle.mf_calls.specs.Tasks.{is_change};
-ghost use Rattle.mf_plan.specs.Doing.{CanDo};
 ghost use Rattle.mf_plan.specs.declared.reply.Reply.{Reply};
-ghost use Rattle.mf_step.specs.Effect.{effect_of};
+ghost use Rattle.mf_step.specs.Effect as effect;
 ghost use Rattle.mf_step.specs.Refused.{is_done};
+ghost use Rattle.mf_step.specs.Relisting.{effect_in};
+ghost use Rattle.mf_step.specs.Suits.{Suits};
 ghost use Rattle.mf_core.specs.declared.history.Event.TheVariants as event;
 ghost use Rattle.mf_core.specs.declared.progress.Turn.TheVariants as turn;
 ghost use Rattle.mf_core.specs.LegalHistory.{after, next_line, next_reply, next_state, turn_of, MayCome};
-ghost use Rattle.mf_core.specs.Policies.{AreListedAfter, AreOf};
+ghost use Rattle.mf_core.specs.Policies.{AreOf};
+ghost use Rattle.mf_core.specs.Relisted.{AreListedAfter, IsMade};
 
 use super::Run;
 use crate::kept_reply::KeptReply;
 use crate::relisting::relist;
-use mf_calls::Call;
 use mf_list::{Catalogue, PolicyList};
 use mf_plan::{Plan, State};
 use mf_policy::{Policy, SpecList};
-use mf_step::{listed_after, put_listed, verdict_of};
+use mf_step::{Relisting, listed_after, put_listed, relisting_of, verdict_of};
 use std::alloc::{AllocError, Global};
+
+/// A change of the policies, and the listed specs after it.
+#[derive(Drop)]
+pub struct Relisted {
+    relisting: Relisting,
+    specs: SpecList,
+}
 
 impl<'s> Run<'s> {
     /// The change of the task's line of that number is made with this reply. If memory runs out, nothing changes.
@@ -57,11 +64,11 @@ impl<'s> Run<'s> {
         let mut plan = Plan::new();
         let found = self.plan(task, &mut plan);
         let verdict = verdict_of(list, &plan);
-        self.reply(alloc, task, &plan, found, &verdict)
+        self.reply(alloc, task, &plan, &found, &verdict)
     }
 
-    /// The listed specs after the change of the task's next line, where it is done with this reply. The list and the
-    /// catalogue follow; if memory runs out, they are unchanged.
+    /// What the task's next line changes of the policies, and the listed specs after it, where it is done with this reply. The
+    /// list and the catalogue follow; if memory runs out, they are unchanged.
     pub(crate) fn relisted<P: Policy>(
         &self,
         alloc: Global,
@@ -69,90 +76,78 @@ impl<'s> Run<'s> {
         reply: &KeptReply,
         list: &mut PolicyList<P>,
         catalogue: &mut Catalogue<P>,
-    ) -> Result<Option<SpecList>, AllocError>
+    ) -> Result<Option<Relisted>, AllocError>
         requires turn { turn_of self.now.script self.now.run.progress task ≡ turn.Change }
         requires reply { next_reply self.now.script self.now.run task ≡ Some reply.now }
         requires policies { AreOf self.now.run.state.specs list.old catalogue.old }
-        ensures value { IfOk result (AreListedAfter (next_state self.now.script self.now.run task) reply.now) }
+        ensures value { IfOk result (AreListedAfter self.now.run.state (next_state self.now.script self.now.run task) reply.now) }
         ensures policies { OnOk result (AreOf (next_state self.now.script self.now.run task).specs list.new catalogue.new) }
         ensures err { OnErr result ((list.new ≡ list.old) × (catalogue.new ≡ catalogue.old)) }
         ensures memory { is_done reply.now ≡ false → IsOk result }
     {
-        let listed = self.listed_after(alloc, task, reply)?;
-        self.relist(alloc, task, reply, list, catalogue)?;
-        Ok(listed)
+        let Some(listed) = self.listed_after(alloc, task, reply)? else {
+            return Ok(None);
+        };
+        relist(alloc, list, catalogue, &self.state, &listed.relisting)?;
+        Ok(Some(listed))
     }
 
-    /// The listed specs after the change of the task's next line, where it is done with this reply.
+    /// What the task's next line changes of the policies, and the listed specs after it, where it is done with this reply.
     fn listed_after(
         &self,
         alloc: Global,
         task: u32,
         reply: &KeptReply,
-    ) -> Result<Option<SpecList>, AllocError>
+    ) -> Result<Option<Relisted>, AllocError>
         requires turn { turn_of self.now.script self.now.run.progress task ≡ turn.Change }
         requires reply { next_reply self.now.script self.now.run task ≡ Some reply.now }
-        ensures value { IfOk result (AreListedAfter (next_state self.now.script self.now.run task) reply.now) }
+        ensures value { IfOk result (AreListedAfter self.now.run.state (next_state self.now.script self.now.run task) reply.now) }
         ensures memory { is_done reply.now ≡ false → IsOk result }
     {
-        if !reply.is_done() {
+        let Some(relisting) = self.relisting(task, reply) else {
             return Ok(None);
-        }
-        let line = self.line(task);
-        let specs = listed_after(alloc, &self.state, &line.call)?;
-        Ok(Some(specs))
+        };
+        let specs = listed_after(alloc, &self.state, &relisting)?;
+        Ok(Some(Relisted { relisting, specs }))
     }
 
-    /// The list and the catalogue follow the change of the task's next line, where it is done with this reply. If memory runs
-    /// out, they are unchanged.
-    fn relist<P: Policy>(
-        &self,
-        alloc: Global,
-        task: u32,
-        reply: &KeptReply,
-        list: &mut PolicyList<P>,
-        catalogue: &mut Catalogue<P>,
-    ) -> Result<(), AllocError>
+    /// What the task's next line changes of the policies, where it is done with this reply.
+    fn relisting(&self, task: u32, reply: &KeptReply) -> Option<Relisting>
         requires turn { turn_of self.now.script self.now.run.progress task ≡ turn.Change }
         requires reply { next_reply self.now.script self.now.run task ≡ Some reply.now }
-        requires policies { AreOf self.now.run.state.specs list.old catalogue.old }
-        ensures ok { OnOk result (AreOf (next_state self.now.script self.now.run task).specs list.new catalogue.new) }
-        ensures err { OnErr result ((list.new ≡ list.old) × (catalogue.new ≡ catalogue.old)) }
-        ensures memory { is_done reply.now ≡ false → IsOk result }
+        ensures { IsMade self.now.run.state (next_state self.now.script self.now.run task) reply.now result }
     {
-        if reply.is_done() {
-            let line = self.line(task);
-            relist(alloc, list, catalogue, &self.state, &line.call)?;
+        if !reply.is_done() {
+            return None;
         }
-        Ok(())
+        let line = self.line(task);
+        relisting_of(&self.state, &line.call)
     }
 
     /// Puts the listed specs after the change of the task's line of that number into the state. It takes no memory.
     pub(crate) fn put(
         &mut self,
         task: u32,
-        number: u32,
-        reply: &KeptReply,
-        listed: Option<SpecList>,
+        _number: u32,
+        _reply: &KeptReply,
+        listed: Option<Relisted>,
     )
-        requires may { MayCome self.old.script self.old.run (event.Changed task number reply.now) }
-        requires listed { AreListedAfter (next_state self.old.script self.old.run task) reply.now listed }
-        ensures { self.new ≡ record self.old { run = after self.old.script self.old.run (event.Changed task number reply.now) } }
+        requires may { MayCome self.old.script self.old.run (event.Changed task _number _reply.now) }
+        requires listed { AreListedAfter self.old.run.state (next_state self.old.script self.old.run task) _reply.now listed }
+        ensures { self.new ≡ record self.old { run = after self.old.script self.old.run (event.Changed task _number _reply.now) } }
     {
-        let line = self.line(task);
-        put_after(&mut self.state, listed, &line.call);
+        put_after(&mut self.state, listed);
         self.progress.advance(task as usize);
     }
 }
 
 /// Puts the listed specs after a change into the state, where it is done.
-fn put_after(state: &mut State, listed: Option<SpecList>, call: &Call)
-    requires change { is_change call.now ≡ true }
-    requires can { IsSome listed → (task : List ℕ) → CanDo state.old task call.now }
-    requires specs { IfSome listed (λ specs. (task : List ℕ) → (caller : Id) → specs ≡ (effect_of state.old task caller call.now).specs) }
-    ensures { MatchOption listed (state.new ≡ state.old) (λ specs. (task : List ℕ) → (caller : Id) → state.new ≡ effect_of state.old task caller call.now) }
+fn put_after(state: &mut State, listed: Option<Relisted>)
+    requires suits { IfSome listed (λ listed. Suits state.old (effect_in listed.relisting)) }
+    requires specs { IfSome listed (λ listed. (caller : Id) → listed.specs ≡ (effect.after state.old caller (effect_in listed.relisting)).specs) }
+    ensures { MatchOption listed (state.new ≡ state.old) (λ listed. (caller : Id) → state.new ≡ effect.after state.old caller (effect_in listed.relisting)) }
 {
-    if let Some(specs) = listed {
-        put_listed(state, specs, call);
+    if let Some(listed) = listed {
+        put_listed(state, listed.specs, &listed.relisting);
     }
 }

@@ -212,7 +212,7 @@ impl Objects {
 
     pub(super) fn entity(&self, id: Id) -> &Entity
         requires { IsSome (live.live_at self.now id) }
-        ensures shown { live.live_at self.now id ≡ Some (shown (live.label_of (live.live_at self.now id)) result.now) }
+        ensures shown { live.live_at self.now id ≡ Some (shown (live.label_at self.now id) result.now) }
         ensures population { IsPopulation self.now }
     {
         let place = self.place(id);

@@ -1,5 +1,5 @@
 use Rattle.std.proofs.Common.{◌+◌, ap, sym, ◌∙◌, arith}
-use Rattle.mf_calls.specs.Generated.{next_number}
+use Rattle.mf_calls.specs.Generated.{number_after}
 use Rattle.mf_calls.proofs.LoadSteps.{no_lines, first_number, number_plus, line_more}
 use Rattle.mf_calls.proofs.generated.load_lines.Goals as goal
 
@@ -15,8 +15,8 @@ pub loop-line-preserved : goal.loop-line-preserved
 loop-line-preserved c =
     record {
       so_far =
-          line_more c.args.task c.loop-line._line c.loop-line.number c.next_number-number.result c.in_ok-call.call c.loop-line.lines c.push.new.self
-          c.loop-line.invariant.so_far c.loop-line.invariant.number c.next_number-number.ensures.value c.in_ok-call.ensures c.in_ok-push.ensures.ok;
-      number = c.next_number-number.ensures.value ∙ ap next_number c.loop-line.invariant.number ∙ sym (number_plus c.args.task c.loop-line._line);
-      below = c.next_number-number.ensures.below;
+          line_more c.args.task c.loop-line._line c.loop-line.number c.number_after-number.result c.in_ok-call.call c.loop-line.lines c.push.new.self
+          c.loop-line.invariant.so_far c.loop-line.invariant.number c.number_after-number.ensures.value c.in_ok-call.ensures c.in_ok-push.ensures.ok;
+      number = c.number_after-number.ensures.value ∙ ap number_after c.loop-line.invariant.number ∙ sym (number_plus c.args.task c.loop-line._line);
+      below = c.number_after-number.ensures.below;
     }

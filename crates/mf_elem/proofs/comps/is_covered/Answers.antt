@@ -1,8 +1,7 @@
 use Rattle.std.proofs.Common.{◌≡◌, true, false, sym, refl, arith}
 use Rattle.std.specs.FinSet as set
-use Rattle.mf_elem.specs.Comps.{numbers_of}
 use Rattle.mf_elem.specs.Bounds.{AreWords}
-use Rattle.mf_elem.proofs.CompsLaws.{covers_all, covered_word}
+use Rattle.mf_elem.proofs.CompsLaws.{covers_all, covered_word, numbers_of}
 use Rattle.mf_elem.proofs.comps.is_covered.Goals as goal
 
 pub returns-then-theirs-k : goal.returns-then-theirs-k

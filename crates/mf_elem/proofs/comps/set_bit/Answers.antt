@@ -1,6 +1,5 @@
-use Rattle.std.proofs.Common.{ℕ, ◌*◌, ◌/◌, ◌%◌, ◌^◌, refl, get_or, bit_or, rules}
-use Rattle.mf_elem.specs.Bounds.{AreWords}
-use Rattle.mf_elem.proofs.CompsLaws.{SetsBit, numbers_with, words_set}
+use Rattle.std.proofs.Common.{ℕ, ◌*◌, ◌/◌, ◌%◌, ◌^◌, refl, sym, get_or, bit_or}
+use Rattle.mf_elem.proofs.CompsLaws.{SetsBit, numbers_with, with_is}
 use Rattle.mf_elem.proofs.comps.set_bit.Goals as goal
 
 pub returns-clause-set : goal.returns-clause-set
@@ -15,7 +14,4 @@ pub returns-clause-value : goal.returns-clause-value
 returns-clause-value c =
     let m = c.args.place in
     let words = c.args.words.now in
-    let w : ℕ = bit_or (get_or words (m / 64) 0) (1 * 2 ^ (m % 64) % 2 ^ 64) in
-    let sets : SetsBit words m w = record { within = c.requires.within; four = c.requires.four; is = refl } in
-    let are : AreWords words = record { four = c.requires.four; fit = λ k. search rules } in
-    words_set words m w sets are
+    sym (with_is (record { words = words }) m (bit_or (get_or words (m / 64) 0) (1 * 2 ^ (m % 64) % 2 ^ 64)) refl)

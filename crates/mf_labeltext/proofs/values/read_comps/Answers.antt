@@ -1,5 +1,4 @@
 use Rattle.std.proofs.Common.{Some, lit<, ap, sym, ◌∙◌}
-use Rattle.mf_elem.specs.Comps.{compartments_of}
 use Rattle.mf_labeltext.specs.Reading.{parts, comps_from}
 use Rattle.mf_labeltext.proofs.Cutting.{text_behind}
 use Rattle.mf_labeltext.proofs.CompsReading.{comps_behind, comps_more, comps_last, comps_end}
@@ -7,7 +6,7 @@ use Rattle.mf_labeltext.proofs.values.read_comps.Goals as goal
 
 pub returns-in_err-read_compartment : goal.returns-in_err-read_compartment
 returns-in_err-read_compartment c =
-    let comps = compartments_of c.loop-first.comps in
+    let comps = c.loop-first.comps in
     let split = c.in-Some.ensures in
     let read = c.in_err-read_compartment.ensures in
     c.from_residual.ensures
@@ -17,11 +16,11 @@ returns-in_err-read_compartment c =
 
 pub loop-first-preserved : goal.loop-first-preserved
 loop-first-preserved c =
-    let comps = compartments_of c.loop-first.comps in
+    let comps = c.loop-first.comps in
     let split = c.in-Some.ensures in
     let read = c.in_ok-read_compartment.ensures in
     record {
-      read = ap (λ s. comps_from s (parts 43 c.in-Some.after.now)) c.with-comps.ensures.set
+      read = ap (λ s. comps_from s (parts 43 c.in-Some.after.now)) c.with-comps.ensures.value
           ∙ ap (comps_behind comps c.in-Some.after.now) read.value
           ∙ sym (comps_more comps c.loop-first.rest.now c.in-Some.first.now c.in-Some.after.now split.cut)
           ∙ c.loop-first.invariant.read;
@@ -30,7 +29,7 @@ loop-first-preserved c =
 
 pub returns-in_err-read_compartment-2 : goal.returns-in_err-read_compartment-2
 returns-in_err-read_compartment-2 c =
-    let comps = compartments_of c.loop-first.comps in
+    let comps = c.loop-first.comps in
     let split = c.in_default.ensures in
     let read = c.in_err-read_compartment-2.ensures in
     c.from_residual-in_err-read_compartment-2.ensures
@@ -40,7 +39,7 @@ returns-in_err-read_compartment-2 c =
 
 pub returns : goal.returns
 returns c =
-    let comps = compartments_of c.loop-first.comps in
+    let comps = c.loop-first.comps in
     let split = c.in_default.ensures in
     let read = c.in_ok-read_compartment-2.ensures in
     ap Some c.with.ensures.value

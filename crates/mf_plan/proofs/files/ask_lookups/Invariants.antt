@@ -1,11 +1,9 @@
 use Rattle.std.proofs.Common.{◌≡◌, length, map, take}
 use Rattle.mf_item.specs.declared.operation.CheckOp.TheVariants as op
-use Rattle.mf_plan.specs.Outline.{item_of, IsAsking}
-use Rattle.mf_plan.specs.Plan as spec
-use Rattle.mf_plan.specs.Views.{subject_of}
+use Rattle.mf_plan.specs.Checks.{on}
+use Rattle.mf_plan.specs.Outline.{IsAsking}
 use Rattle.mf_plan.proofs.files.ask_lookups.Given as goal
 
 abbrev pub invariant-loop-dir : goal.invariant-loop-dir
 invariant-loop-dir l =
-    (map (item_of l.objects) l.checks ≡ map (spec.on l.objects (subject_of l.objects l.caller) op.VnodeLookup) (take l.dir-index l.dirs))
-    × (length l.checks ≡ l.dir-index) × IsAsking l.objects l.caller l.checks
+    (l.checks ≡ map (on l.caller op.VnodeLookup) (take l.dir-index l.dirs)) × (length l.checks ≡ l.dir-index) × IsAsking l.objects l.caller l.checks

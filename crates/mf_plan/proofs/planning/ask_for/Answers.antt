@@ -1,13 +1,34 @@
+use Rattle.std.proofs.Common.{◌∙◌}
+use Rattle.mf_errno.specs.declared.errno.Errno.TheVariants as errno
+use Rattle.mf_item.specs.declared.operation.CheckOp.TheVariants as op
+use Rattle.mf_item.specs.declared.view.Kind.TheVariants as kinds
+use Rattle.mf_plan.specs.Checks.{on}
+use Rattle.mf_plan.specs.Path.{found_at, lookup_along}
+use Rattle.mf_plan.specs.Views.{pipe_named, socket_named}
+use Rattle.mf_plan.specs.Ways.{along, or_fail, straight}
+use Rattle.mf_plan.proofs.Relabelling.{claimed}
 use Rattle.mf_plan.proofs.planning.ask_for.Goals as goal
 
-pub returns-in-Setpmac-clause-plan : goal.returns-in-Setpmac-clause-plan
-returns-in-Setpmac-clause-plan c = rw c.in-Setpmac.is (rw c.in-Setpmac.is at c.relabel_caller.ensures.plan)
+pub returns-in_ok-claim-in-Setfmac-clause-row : goal.returns-in_ok-claim-in-Setfmac-clause-row
+returns-in_ok-claim-in-Setfmac-clause-row c =
+    rw c.in-Setfmac.is (c.on_file-in-Setfmac.ensures.row
+    ∙ claimed c.args.state.now.specs kinds.Vnode _ _ c.claim-in-Setfmac.new.asked (along c.args.caller found_at (lookup_along c.args.state.now.objects c.in-Setfmac.path)) (on c.args.caller op.VnodeRelabel) c.as_str-in-Setfmac.ensures
+    c.claim-in-Setfmac.ensures.asked c.in_ok-claim-in-Setfmac.ensures.ok)
 
-pub returns-in-Setfmac-clause-plan : goal.returns-in-Setfmac-clause-plan
-returns-in-Setfmac-clause-plan c = rw c.in-Setfmac.is (rw c.in-Setfmac.is at c.relabel_file.ensures.plan)
+pub returns-in_ok-claim-in-Setpipemac-clause-row : goal.returns-in_ok-claim-in-Setpipemac-clause-row
+returns-in_ok-claim-in-Setpipemac-clause-row c =
+    rw c.in-Setpipemac.is (c.on_pipe-in-Setpipemac.ensures.row
+    ∙ claimed c.args.state.now.specs kinds.Pipe _ _ c.claim-in-Setpipemac.new.asked (straight (or_fail errno.Enoent (pipe_named c.args.state.now.objects c.in-Setpipemac.name))) (on c.args.caller op.PipeRelabel) c.as_str-in-Setpipemac.ensures
+    c.claim-in-Setpipemac.ensures.asked c.in_ok-claim-in-Setpipemac.ensures.ok)
 
-pub returns-in-Setpipemac-clause-plan : goal.returns-in-Setpipemac-clause-plan
-returns-in-Setpipemac-clause-plan c = rw c.in-Setpipemac.is (rw c.in-Setpipemac.is at c.relabel_pipe.ensures.plan)
+pub returns-in_ok-claim-in-Setsockmac-clause-row : goal.returns-in_ok-claim-in-Setsockmac-clause-row
+returns-in_ok-claim-in-Setsockmac-clause-row c =
+    rw c.in-Setsockmac.is (c.on_socket-in-Setsockmac.ensures.row
+    ∙ claimed c.args.state.now.specs kinds.Socket _ _ c.claim-in-Setsockmac.new.asked (straight (or_fail errno.Enoent (socket_named c.args.state.now.objects c.in-Setsockmac.name))) (on c.args.caller op.SocketRelabel) c.as_str-in-Setsockmac.ensures
+    c.claim-in-Setsockmac.ensures.asked c.in_ok-claim-in-Setsockmac.ensures.ok)
 
-pub returns-in-Setsockmac-clause-plan : goal.returns-in-Setsockmac-clause-plan
-returns-in-Setsockmac-clause-plan c = rw c.in-Setsockmac.is (rw c.in-Setsockmac.is at c.relabel_socket.ensures.plan)
+pub returns-in-Send-clause-row : goal.returns-in-Send-clause-row
+returns-in-Send-clause-row c = rw c.in-Send.is c.send.ensures.row
+
+pub returns-in-UgidfwSet-clause-row : goal.returns-in-UgidfwSet-clause-row
+returns-in-UgidfwSet-clause-row c = rw (c.in-UgidfwSet.is, c.requires.empty) c.change_rules-in-UgidfwSet.ensures.row

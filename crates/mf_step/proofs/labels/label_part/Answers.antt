@@ -4,7 +4,7 @@ use Rattle.mf_elem.specs.declared.label.LabelValue.{LabelValue}
 use Rattle.mf_elem.specs.declared.label.LabelValue.TheVariants.{Unset}
 use Rattle.mf_list.specs.Asked.{slot_of}
 use Rattle.mf_plan.specs.declared.reply.LabelPart.{LabelPart}
-use Rattle.mf_step.specs.Reply.{shown}
+use Rattle.mf_plan.specs.Payloads.{shown}
 use Rattle.mf_step.proofs.LabelParts.{no_part, part_at}
 use Rattle.mf_step.proofs.labels.label_part.Goals as goal
 

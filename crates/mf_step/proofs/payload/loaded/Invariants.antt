@@ -1,5 +1,5 @@
 use Rattle.std.proofs.Common.{◌≡◌, map, take}
-use Rattle.mf_step.specs.Reply.{loaded}
+use Rattle.mf_plan.specs.Payloads.{loaded}
 use Rattle.mf_step.proofs.payload.loaded.Given as goal
 
 abbrev pub invariant-loop-place : goal.invariant-loop-place

@@ -1,7 +1,15 @@
-use Rattle.mf_core.proofs.Reached.{change_is}
+use Rattle.std.proofs.Common.{◌≡◌, ap, sym, ◌∙◌}
+use Rattle.mf_objects.specs.declared.id.Id.{Id}
+use Rattle.mf_plan.specs.declared.state.State.{State}
+use Rattle.mf_step.specs.Effect.{after}
+use Rattle.mf_step.specs.Relisting.{effect_in}
+use Rattle.mf_core.specs.RunView.{RunView}
 use Rattle.mf_core.proofs.run.Run.listed_after.Goals as goal
 
-pub listed_after-requires-clause-change : goal.listed_after-requires-clause-change
-listed_after-requires-clause-change c =
-    change_is c.args.self.now c.self.inside.script.now (record { state = c.self.inside.state; progress = c.self.inside.progress }) c.self.view_is c.self.invariant
-    c.args.task c.line-line.result.now c.args.reply.now c.requires.turn c.line-line.ensures.value c.requires.reply
+pub returns-clause-value : goal.returns-clause-value
+returns-clause-value c =
+    let nobody : Id = record { 0 = 0 } in
+    let change = effect_in c.in-Some.relisting in
+    (c.in-Some.ensures.0, c.in-Some.ensures.1,
+    c.in_ok-specs.ensures nobody ∙ ap (λ (v : RunView). (after v.run.state nobody change).specs) c.self.view_is
+    ∙ sym (ap (λ (s : State). s.specs) (c.in-Some.ensures.1.made nobody)))

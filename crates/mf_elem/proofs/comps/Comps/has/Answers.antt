@@ -1,8 +1,7 @@
 use Rattle.std.proofs.Common.{◌≡◌, ℕ, ◌+◌, ◌-◌, ◌/◌, ◌%◌, ap, sym, ◌∙◌, arith, eqb, get_or}
 use Rattle.std.proofs.lemmas.Nat.Bits.{shr_and_one}
 use Rattle.std.specs.FinSet as set
-use Rattle.mf_elem.specs.Comps.{numbers_of}
-use Rattle.mf_elem.proofs.CompsLaws.{contains_number}
+use Rattle.mf_elem.proofs.CompsLaws.{contains_number, numbers_of}
 use Rattle.mf_elem.proofs.comps.Comps.has.Goals as goal
 
 pub returns : goal.returns

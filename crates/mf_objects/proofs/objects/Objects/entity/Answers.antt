@@ -1,5 +1,6 @@
 use Rattle.std.proofs.Common.{◌≡◌, Some, sym, subst}
-use Rattle.mf_objects.specs.Live.{Entities, live_at, label_of}
+use Rattle.mf_objects.proofs.Entities.{label_of}
+use Rattle.mf_objects.specs.Live.{Entities, live_at}
 use Rattle.mf_objects.specs.Sound.{IsPlace, shown}
 use Rattle.mf_objects.proofs.Kept.{view}
 use Rattle.mf_objects.proofs.Found.{shown_place}

@@ -1,9 +1,0 @@
-use Rattle.std.proofs.Common.{map, ap, ◌∙◌}
-use Rattle.mf_plan.specs.Outline.{item_of}
-use Rattle.mf_plan.proofs.Asking.{delivery_asked}
-use Rattle.mf_plan.proofs.outline.ask_delivery.Goals as goal
-
-pub returns-clause-seen : goal.returns-clause-seen
-returns-clause-seen c =
-    ap (map (item_of c.args._objects.now)) c.push.ensures
-    ∙ delivery_asked c.args._objects.now c.args.checks.now c.args.caller c.args.from c.args.to

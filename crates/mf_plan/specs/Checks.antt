@@ -1,0 +1,23 @@
+-- The checks of calls, which name entities by their ids alone. They are the kernel's of such a call, but for those that docs/DIFFERENCES.md
+-- names.
+use Rattle.std.specs.Prelude.{Some, None}
+use Rattle.mf_errno.specs.declared.privilege.Priv.{Priv}
+use Rattle.mf_item.specs.declared.operation.CheckOp.{CheckOp}
+use Rattle.mf_item.specs.declared.operation.CheckOp.TheVariants as op
+use Rattle.mf_objects.specs.declared.id.Id.{Id}
+use Rattle.mf_plan.specs.declared.outline.Check.{Check}
+
+-- the check of what the caller does to an entity; of a privilege of the caller; and of the caller alone
+
+abbrev pub on : Id → CheckOp → Id → Check
+on me op id = record { op = op; caller = me; subject = me; object = Some id; privilege = None }
+
+abbrev pub privileged : Id → Priv → Check
+privileged me p = record { op = op.Priv; caller = me; subject = me; object = None; privilege = Some p }
+
+abbrev pub alone : Id → CheckOp → Check
+alone me op = record { op = op; caller = me; subject = me; object = None; privilege = None }
+
+-- the check of what a socket of the caller does to another
+abbrev pub by_socket : Id → Id → CheckOp → Id → Check
+by_socket me socket op id = record { op = op; caller = me; subject = socket; object = Some id; privilege = None }

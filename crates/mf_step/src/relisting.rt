@@ -1,0 +1,40 @@
+//! What the calls change that load and unload modules, or change a setting.
+ghost use Rattle.std.specs.Prelude.{◌≡◌, IfSome};
+ghost use Rattle.mf_calls.specs.WellFormed.{IsFormedCall};
+ghost use Rattle.mf_step.specs.Relisting as spec;
+
+use mf_calls::Call;
+use mf_errno::Module;
+use mf_plan::{State, setting};
+use mf_policy::Change;
+
+/// What a call changes of the policies: a module is registered, is taken off the list, or has another setting. List, catalogue
+/// and state follow it one after another.
+#[derive(Clone, Copy)]
+pub enum Relisting {
+    Load(Module),
+    Unload(Module),
+    Set(Module, Change),
+}
+
+/// What the call changes of the policies, whoever makes it, where it may be done.
+pub fn relisting_of(state: &State, call: &Call) -> Option<Relisting>
+    requires formed { IsFormedCall call.now }
+    ensures value { result ≡ spec.relisting_in state.now.specs call.now }
+    ensures formed { IfSome result spec.IsFormed }
+{
+    match call {
+        Call::Kldload(name) => {
+            let wanted = Module::from_name(name.as_str())?;
+            Some(Relisting::Load(wanted))
+        }
+        Call::Kldunload(name) => {
+            let wanted = Module::from_name(name.as_str())?;
+            Some(Relisting::Unload(wanted))
+        }
+        _ => {
+            let (module, change) = setting(state, call)?;
+            Some(Relisting::Set(module, change))
+        }
+    }
+}
