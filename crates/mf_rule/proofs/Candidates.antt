@@ -8,7 +8,7 @@ use Rattle.std.specs.Option.{option_map_or}
 use Rattle.mf_cred.specs.declared.cred.Cred.{Cred}
 use Rattle.mf_cred.specs.declared.cred.FileView.{FileView}
 use Rattle.mf_rule.specs.Candidates.{subject_may, object_may, may_match, candidates}
-use Rattle.mf_rule.specs.Match.{has, has_uid, if_asked, turned, subject_tests, has_type, subject_matches, object_matches, object_tests, matches}
+use Rattle.mf_rule.specs.Match.{has, has_uid, if_asked, turned, has_group, has_type, subject_matches, object_matches, object_tests, matches}
 use Rattle.mf_rule.specs.RuleBits.{has_bit, with_bit, numbers}
 use Rattle.mf_rule.specs.RuleList.{Slots, is_match, slot_gives, verdict}
 use Rattle.mf_rule.specs.UidIndex.{Stretches, rules_at, is_within, lone, IsIndexOf, AreCandidates}
@@ -112,6 +112,11 @@ test_may (Some t) cred h =
       | true ↦ λ h. refl
       | false ↦ λ h. h
     ] h
+
+-- the tests of a subject, before `not` turns them
+abbrev subject_tests : Side → Cred → Bool
+subject_tests side cred =
+    if_asked side.uid (λ test. turned test.not (has_uid test cred)) && if_asked side.gid (λ test. turned test.not (has_group test cred))
 
 subject_may_match : (side : Side) (cred : Cred) → subject_matches side cred ≡ true → subject_may side cred ≡ true
 subject_may_match side cred h =
