@@ -1,16 +1,14 @@
 -- Which rules may match, by an index, and that a verdict may look at them alone.
-use Rattle.std.proofs.Common.{◌≡◌, ℕ, zero, suc, ◌<◌, ◌≤◌, Bool, true, false, not, cond, ◌&&◌, ◌||◌, eqb, List, [], ◌∷◌, Option, Some, None, find, length, get_or, set, ◌≢◌, refl, sym, ap, subst, ◌∙◌, arith, inl, inr, if◌then◌else◌}
+use Rattle.std.proofs.Common.{◌≡◌, ℕ, zero, suc, ◌<◌, ◌≤◌, Bool, true, false, ◌&&◌, ◌||◌, eqb, [], ◌∷◌, Option, Some, None, find, length, get_or, set, refl, sym, ap, subst, ◌∙◌, arith, inl, inr, if◌then◌else◌}
 use Rattle.std.proofs.lemmas.Bool.{cases_eq, cases_lt}
-use Rattle.std.proofs.lemmas.Grind.{common_steps}
 use Rattle.std.proofs.lemmas.List.{get_or-set_same, get_or-set_other, get_or_past}
-use Rattle.std.specs.List.{list_all, list_any, filter, range_with_len}
-use Rattle.std.specs.Option.{option_map_or}
+use Rattle.std.specs.List.{list_all}
 use Rattle.mf_cred.specs.declared.cred.Cred.{Cred}
 use Rattle.mf_cred.specs.declared.cred.FileView.{FileView}
 use Rattle.mf_rule.specs.Candidates.{subject_may, object_may, may_match, candidates}
-use Rattle.mf_rule.specs.Match.{has, has_uid, if_asked, turned, has_group, has_type, subject_matches, object_matches, object_tests, matches}
+use Rattle.mf_rule.specs.Match.{has, has_uid, if_asked, turned, has_group, has_type, subject_matches, object_matches, object_tests}
 use Rattle.mf_rule.specs.RuleBits.{has_bit, with_bit, numbers}
-use Rattle.mf_rule.specs.RuleList.{Slots, is_match, slot_gives, verdict}
+use Rattle.mf_rule.specs.RuleList.{Slots, is_match}
 use Rattle.mf_rule.specs.UidIndex.{Stretches, rules_at, is_within, lone, IsIndexOf, AreCandidates}
 use Rattle.mf_rule.specs.declared.rule.IdTest.{IdTest}
 use Rattle.mf_rule.specs.declared.rule.ObjectSide.{ObjectSide}
@@ -18,7 +16,6 @@ use Rattle.mf_rule.specs.declared.rule.Rule.{Rule}
 use Rattle.mf_rule.specs.declared.rule.Side.{Side}
 use Rattle.mf_rule.specs.declared.rule.TheConstants.{LAST_ID}
 use Rattle.mf_rule.specs.declared.rule_bits.Bits.{Bits}
-use Rattle.mf_rule.specs.declared.rule_list.TheConstants.{MAX_RULES}
 use Rattle.mf_rule.proofs.Bits.{bit_same, bit_other, bit_of_none, same_numbers}
 
 -- ---- the index of a list

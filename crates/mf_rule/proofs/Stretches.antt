@@ -1,11 +1,10 @@
 -- What cuts, marks and joins do to the rules of a uid.
-use Rattle.std.proofs.Common.{◌≡◌, ℕ, zero, suc, ◌+◌, ◌-◌, ◌<◌, ◌≤◌, Bool, true, false, not, cond, ◌&&◌, ◌||◌, eqb, ltb, leb, leb-true, List, [], ◌∷◌, ◌++◌, Option, Some, None, length, map, take, drop, get_or, ◌⊎◌, ◌≢◌, refl, sym, ap, ◌∙◌, arith, inl, inr, if◌then◌else◌}
-use Rattle.std.proofs.lemmas.Bool.{cases_lt, cases_eq, leb-false, ltb-true, eqb-true, le-leb, lt-leb}
-use Rattle.std.proofs.lemmas.Grind.{common_steps}
+use Rattle.std.proofs.Common.{◌≡◌, ℕ, zero, suc, ◌+◌, ◌<◌, ◌≤◌, true, false, cond, ◌&&◌, ◌||◌, eqb, leb, [], ◌∷◌, Option, Some, None, length, map, get_or, ◌⊎◌, ◌≢◌, refl, sym, ap, ◌∙◌, arith, inl, inr, if◌then◌else◌}
+use Rattle.std.proofs.lemmas.Bool.{cases_lt, cases_eq, le-leb, lt-leb}
 use Rattle.std.proofs.lemmas.List.Sorted.{IsPermutation-insert, list_any-IsPermutation}
 use Rattle.std.proofs.lemmas.List.{get_or-map, length-map}
 use Rattle.std.proofs.lemmas.List.Edits.{length-remove, get_or-remove_below, get_or-remove_above}
-use Rattle.std.specs.List.{list_any, insert, remove}
+use Rattle.std.specs.List.{insert, remove}
 use Rattle.mf_rule.specs.Match.{has}
 use Rattle.mf_rule.specs.RuleBits.{has_bit, no_bits, with_bit}
 use Rattle.mf_rule.specs.UidIndex.{Stretches, IsRising, rules_from, rules_at, rules_before, IsEnd, is_cut, is_within, AreCuts, IsCutAround, marked}

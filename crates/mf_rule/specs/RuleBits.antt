@@ -1,5 +1,5 @@
 -- Sets of numbers of rules, as bits.
-use Rattle.std.specs.Prelude.{◌≡◌, ◌<◌, ◌-◌, ℕ, ◌*◌, ◌%◌, ◌^◌, Bool, true, false, cond, nat_lt, nat_eq, if◌then◌else◌, List, filter}
+use Rattle.std.specs.Prelude.{◌≡◌, ◌<◌, ◌-◌, ℕ, ◌*◌, ◌%◌, ◌^◌, Bool, true, false, nat_lt, nat_eq, if◌then◌else◌, List, filter}
 use Rattle.std.specs.Int.RustNames.{bit_and, bit_or}
 use Rattle.std.specs.Int.{bit_at, bit_not, w128}
 use Rattle.std.specs.List.{range_with_len}

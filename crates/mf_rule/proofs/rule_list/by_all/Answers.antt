@@ -1,4 +1,4 @@
-use Rattle.std.proofs.Common.{◌≡◌, ◌<◌, false, true, not, ◌||◌, None, length, get_or, sym, ap, ◌∙◌, arith}
+use Rattle.std.proofs.Common.{◌≡◌, ◌<◌, true, not, ◌||◌, None, length, get_or, sym, ap, ◌∙◌, arith}
 use Rattle.mf_rule.proofs.Candidates.{within_slots, unmatched, left_within, done_more, all_pass, or_true}
 use Rattle.mf_rule.specs.RuleList.{is_match, slot_gives}
 use Rattle.mf_rule.proofs.rule_list.by_all.Goals as goal

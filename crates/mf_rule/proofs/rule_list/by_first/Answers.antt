@@ -1,4 +1,4 @@
-use Rattle.std.proofs.Common.{◌≡◌, ◌<◌, false, true, None, length, get_or, find, sym, ap, ◌∙◌, arith}
+use Rattle.std.proofs.Common.{◌≡◌, ◌<◌, false, true, None, length, get_or, sym, ap, ◌∙◌, arith}
 use Rattle.std.specs.Option.{option_map_or}
 use Rattle.mf_rule.proofs.Candidates.{within_slots, unmatched, left_within, done_more, first_found, none_found}
 use Rattle.mf_rule.specs.RuleList.{is_match, slot_gives}

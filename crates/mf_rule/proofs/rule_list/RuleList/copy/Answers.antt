@@ -1,4 +1,4 @@
-use Rattle.std.proofs.Common.{◌≡◌, ◌-◌, arith, sym, rules, ◌∙◌}
+use Rattle.std.proofs.Common.{◌-◌, arith, sym}
 use Rattle.std.proofs.lemmas.List.{length-take, take_all}
 use Rattle.std.specs.Prelude.{vec_len}
 use Rattle.mf_rule.proofs.FreeSlots.{used_then_free}

@@ -1,4 +1,4 @@
-use Rattle.std.proofs.Common.{◌≡◌, ◌<◌, ◌≤◌, true, false, None, length, refl, rules}
+use Rattle.std.proofs.Common.{◌<◌, true, false, None, length, refl, rules}
 use Rattle.mf_rule.proofs.Candidates.{index_with, some_within}
 use Rattle.mf_rule.proofs.FreeSlots.{free_without}
 use Rattle.mf_rule.proofs.rule_list.RuleList.remove.Goals as goal

@@ -1,4 +1,4 @@
-use Rattle.std.proofs.Common.{◌≡◌, ◌≤◌, ◌<◌, ◌-◌, length, ap, sym, ◌∙◌, arith}
+use Rattle.std.proofs.Common.{◌≡◌, ◌≤◌, ◌-◌, length, ap, sym, ◌∙◌, arith}
 use Rattle.mf_rule.proofs.Stretches.{join_changes_nothing, joined_rise}
 use Rattle.mf_rule.proofs.Bits.{same_bits}
 use Rattle.mf_rule.specs.UidIndex.{rules_before}
