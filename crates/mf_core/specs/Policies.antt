@@ -24,7 +24,6 @@ abbrev pub StaysWhileWaiting : ChangeOutcome → ListView → ListView → Catal
 StaysWhileWaiting outcome.Done list list' catalogue catalogue' = Unit {0}
 StaysWhileWaiting (outcome.Waits n) list list' catalogue catalogue' = (list' ≡ list) × (catalogue' ≡ catalogue)
 
-
 -- A module can be registered at boot: it is there, it isn't listed, and a slot number is left where it wants one.
 pub record CanBoot (m : Module) (list : ListView) (catalogue : CatalogueView) (given : ℕ) : Type 0 where
   pub there : in_catalogue m catalogue.modules ≡ true

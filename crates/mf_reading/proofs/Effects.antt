@@ -193,12 +193,16 @@ module _ (s : State) (holds : HoldsBounded s) where
     row_fits (call.Fork child) free there done formed = (few_live Do done, process_data s.objects me holds.objects, λ dir entry. cc)
     row_fits (call.Pipe pipe) free there done formed = (few_live Do done, pipe_data me, λ dir entry. cc)
     row_fits (call.Socket socket) free there done formed = (few_live Do done, socket_data me, λ dir entry. cc)
-    row_fits (call.Create path) dir there done formed =
-        (few_live Do done, file_data s.objects me dir FILE_MODE false (omega arith) holds.objects,
-        λ at entry. last_component s.objects path dir (free_target (lookup_along s.objects path).target dir there) formed.each)
-    row_fits (call.Mkdir path) dir there done formed =
-        (few_live Do done, file_data s.objects me dir DIRECTORY_MODE true (omega arith) holds.objects,
-        λ at entry. last_component s.objects path dir (free_target (lookup_along s.objects path).target dir there) formed.each)
+    row_fits (call.Create path) dir there done formed = (
+      few_live Do done,
+      file_data s.objects me dir FILE_MODE false (omega arith) holds.objects,
+      λ at entry. last_component s.objects path dir (free_target (lookup_along s.objects path).target dir there) formed.each,
+    )
+    row_fits (call.Mkdir path) dir there done formed = (
+      few_live Do done,
+      file_data s.objects me dir DIRECTORY_MODE true (omega arith) holds.objects,
+      λ at entry. last_component s.objects path dir (free_target (lookup_along s.objects path).target dir there) formed.each,
+    )
     row_fits (call.Write path text) id there done formed =
         let regular = passed (is_dir s.objects id) errno.Eisdir _ done in
         let room = passed (overfills CONTENT_LIMIT s.objects text id) errno.Efbig Do regular.1 in

@@ -51,7 +51,15 @@ pub fn perform(
     match found.caller {
         Some(caller) => {
             let target = found.target;
-            perform_by(alloc, state, task, caller, target, &found.request, &line.call)
+            perform_by(
+                alloc,
+                state,
+                task,
+                caller,
+                target,
+                &found.request,
+                &line.call,
+            )
         }
         None => Ok(()),
     }

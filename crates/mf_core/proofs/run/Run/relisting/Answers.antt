@@ -4,7 +4,6 @@ use Rattle.mf_core.specs.RunView.{RunView}
 use Rattle.mf_core.proofs.Reached.{made}
 use Rattle.mf_core.proofs.run.Run.relisting.Goals as goal
 
-
 pub returns : goal.returns
 returns c =
     made c.args.self.now c.self.inside.script.now (record { state = c.self.inside.state; progress = c.self.inside.progress }) c.self.view_is c.self.invariant
