@@ -1,4 +1,4 @@
--- What was found for the call that comes next for a task; inner contracts alone cite this.
+-- What was found for the call that comes next for a task; the calls of a run cite this.
 use Rattle.std.specs.Prelude.{ℕ, Option, Some, None}
 use Rattle.mf_calls.specs.declared.script.Line.{Line}
 use Rattle.mf_calls.specs.declared.script.Script.{Script}

@@ -42,7 +42,7 @@ is_registered r specs = list_any (λ entry. same_module r.module entry.0.module 
 abbrev pub made_marks : List Entry → ℕ → LiveEntity → List Mark
 made_marks specs slot e = map Made (labellers specs (kind_of e.what) slot)
 
--- how a slot ends that has this mark, where that says that it was made
+-- the end of a slot that was made: Ended where its registration is still listed, and else Left; none for other marks
 abbrev pub end_of : List Entry → Mark → Option Mark
 end_of specs (Made r) = Some (if is_registered r specs then Ended r else Left r)
 end_of specs other = None

@@ -1,5 +1,4 @@
--- The checks of calls, which name entities by their ids alone. They are the kernel's of such a call, but for those that docs/DIFFERENCES.md
--- names.
+-- The shapes of checks, which name entities by their ids alone.
 use Rattle.std.specs.Prelude.{Some, None}
 use Rattle.mf_errno.specs.declared.privilege.Priv.{Priv}
 use Rattle.mf_item.specs.declared.operation.CheckOp.{CheckOp}

@@ -1,4 +1,4 @@
--- Which calls load and unload a module, as kldload(8) and kldunload(8) do, and with which errno the framework refuses them.
+-- With which errno the framework refuses to load and to unload a module; inner contracts alone cite this.
 use Rattle.std.specs.Prelude.{Option, Some, None, option_map}
 use Rattle.mf_errno.specs.declared.errno.Errno.{Errno}
 use Rattle.mf_errno.specs.declared.errno.Errno.TheVariants.{Enoent}

@@ -26,7 +26,7 @@ row_by s task c caller = option_map_or (row_for s task c) caller (refuse errno.E
 abbrev pub row_of : State → List ℕ → Option (List ℕ) → Call → Row
 row_of s task child c = row_by s task c (process_named s.objects (caller_name task child))
 
--- the checks of a row as policies see them, and its end
+-- the checks of a row as policies see them, with what its effect asks of a label, and its end
 abbrev pub plan_in : State → Row → Plan
 plan_in s row = record { items = map (item_asking s.objects (request_of row.effect)) row.checks; tail = row.tail }
 

@@ -1,4 +1,9 @@
--- The rows of the calls, by docs/MANUAL.md (CALLS): for each its checks and tests in their order, what it hands back, and what it changes.
+-- The rows of the calls, by docs/MANUAL.md (CALLS): what each is about, which Ways says how to find and by which checks on the way; and then
+-- its further checks and tests in their order, what it hands back, and what it changes. The checks are the kernel's of such a call, but for
+-- those that docs/DIFFERENCES.md names.
+--
+-- A row is read from the left: `ask` is a check, `refuse_if` and `refuse_by` a test of the framework that ends the call with an errno, and
+-- `gives`, `shows`, `changes` and `done` the end of a call that may be done.
 use Rattle.std.specs.Prelude.{ℕ, Bool, true, false, not, List, [], map, option_map, Some}
 use Rattle.mf_errno.specs.declared.errno.Errno.TheVariants as errno
 use Rattle.mf_errno.specs.declared.module.Module.{Module}

@@ -130,7 +130,7 @@ look_up s me (Setting m change) = straight (change_at s me m change)
 look_up s me (Asking kind text place) =
     then_way (or_fail errno.Einval (claimed_in s.specs kind text)) (λ request. with_first request (look_up s me place))
 
--- the entity that a call reads or changes: in a directory its entry, and of two sockets the second
+-- the entity that a call is about: of a free name its directory, of an entry the entry, and of two sockets the second
 abbrev pub target_in : (place : Place) → At place → Option Id
 target_in Caller id = Some id
 target_in (Named kind name) id = Some id
