@@ -61,7 +61,7 @@ LINES_A_MINUTE = 10
 PARTS = {
     "what was read and what was written": ["mf_top", "mf_io"],
     "which histories are legal and complete": ["mf_core"],
-    "what one call does: its checks, its reply, its effect": ["mf_step", "mf_plan"],
+    "what one call does: its checks, its reply, its effect": ["mf_perform", "mf_plan"],
     "what the policies answer, and when they are listed": ["mf_policy", "mf_list", "mf_compose", "mf_item", "mf_errno"],
     "what a call works on: live entities, credentials, labels": ["mf_objects", "mf_cred", "mf_elem"],
     "which bytes are a script": ["mf_calls", "mf_spelling", "mf_words", "mf_text"],

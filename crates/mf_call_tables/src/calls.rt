@@ -18,10 +18,10 @@ use mf_errno::Module;
 use mf_item::Kind;
 use mf_list::{Catalogue, PolicyList};
 use mf_objects::Objects;
+use mf_perform::{payload_of, perform, refusal_of, verdict_of};
 use mf_plan::{Found, Plan, Reply, State, Tail};
 use mf_policy::{Origin, Registration, Spec, SpecList, new_label};
 use mf_slots::SlotNumbers;
-use mf_step::{payload_of, perform, refusal_of, verdict_of};
 use std::alloc::{AllocError, Global};
 use std::process::Abort;
 

@@ -14,14 +14,14 @@ use Rattle.mf_plan.specs.declared.reply.Reply.{Reply}
 use Rattle.mf_plan.specs.declared.state.State.{State}
 use Rattle.mf_plan.specs.Found.{AreFound}
 use Rattle.mf_plan.specs.Plan.{plan_of}
-use Rattle.mf_step.specs.declared.verdict.Denial.{Denial}
-use Rattle.mf_step.specs.declared.verdict.Verdict.{Verdict}
-use Rattle.mf_step.specs.declared.relisting.Relisting.{Relisting}
-use Rattle.mf_step.specs.Relisting.{relisting_in, IsFormed}
-use Rattle.mf_step.specs.Reply.{denied_reply, reply_to, tail_reply}
-use Rattle.mf_step.specs.Refused.{is_done}
-use Rattle.mf_step.specs.Step.{performed, step_payload, step_reply, step_state}
-use Rattle.mf_step.specs.Verdict.{verdict_of}
+use Rattle.mf_perform.specs.declared.verdict.Denial.{Denial}
+use Rattle.mf_perform.specs.declared.verdict.Verdict.{Verdict}
+use Rattle.mf_perform.specs.declared.relisting.Relisting.{Relisting}
+use Rattle.mf_perform.specs.Relisting.{relisting_in, IsFormed}
+use Rattle.mf_perform.specs.Reply.{denied_reply, reply_to, tail_reply}
+use Rattle.mf_perform.specs.Refused.{is_ok}
+use Rattle.mf_perform.specs.OneCall.{performed, call_payload, call_reply, call_state}
+use Rattle.mf_perform.specs.Verdict.{verdict_of}
 use Rattle.mf_core.specs.declared.history.History.{History}
 use Rattle.mf_core.specs.declared.progress.Turn.TheVariants as turns
 use Rattle.mf_core.specs.LegalHistory.{RunState, next_line, next_reply, next_state, turn_of}
@@ -41,19 +41,19 @@ same_reply next a b is_a is_b = cc
 same_plan : (next : Option Plan) (a b : Plan) → next ≡ Some a → next ≡ Some b → a ≡ b
 same_plan next a b is_a is_b = cc
 
-refused_tail : (tail : Tail) (p q : Payload) → is_done (tail_reply tail p) ≡ false → is_done (tail_reply tail q) ≡ false
+refused_tail : (tail : Tail) (p q : Payload) → is_ok (tail_reply tail p) ≡ false → is_ok (tail_reply tail q) ≡ false
 refused_tail Do p q is = cc
 refused_tail (Refuse errno) p q is = refl
 
-refused_anyhow : (plan : Plan) (denied : Option Denial) (p q : Payload) → is_done (denied_reply plan denied p) ≡ false → is_done (denied_reply plan denied q) ≡ false
+refused_anyhow : (plan : Plan) (denied : Option Denial) (p q : Payload) → is_ok (denied_reply plan denied p) ≡ false → is_ok (denied_reply plan denied q) ≡ false
 refused_anyhow plan None p q is = refused_tail plan.tail p q is
 refused_anyhow plan (Some denial) p q is = refl
 
 module _ (s : Script) (r : RunState) (t : ℕ) (line : Line) (next : next_line s r.progress t ≡ Some line) where
-  pub replied : (reply : Reply) → next_reply s r t ≡ Some reply → reply ≡ step_reply r.state (name_of s t) line.child line.call
-  replied reply is = same_reply (next_reply s r t) reply (step_reply r.state (name_of s t) line.child line.call) is (ap (reply_at s r t) next)
+  pub replied : (reply : Reply) → next_reply s r t ≡ Some reply → reply ≡ call_reply r.state (name_of s t) line.child line.call
+  replied reply is = same_reply (next_reply s r t) reply (call_reply r.state (name_of s t) line.child line.call) is (ap (reply_at s r t) next)
 
-  pub moved : next_state s r t ≡ step_state r.state (name_of s t) line.child line.call
+  pub moved : next_state s r t ≡ call_state r.state (name_of s t) line.child line.call
   moved = ap (state_at s r t) next
 
   pub found_is : (found : Found) → IsNextFound s r t found → AreFound r.state (name_of s t) line.child line.call found
@@ -67,24 +67,24 @@ module _ (s : Script) (r : RunState) (t : ℕ) (line : Line) (next : next_line s
     plan_is = same_plan (next_plan s r t) (plan_of r.state (name_of s t) line.child line.call) plan (ap (plan_at s r t) next) planned
 
     -- the reply by the plan and the policies' verdict on it
-    pub reply_by : (verdict : Verdict) → verdict ≡ verdict_of r.state.specs plan → next_reply s r t ≡ Some (reply_to plan verdict (step_payload r.state (name_of s t) line.child line.call))
+    pub reply_by : (verdict : Verdict) → verdict ≡ verdict_of r.state.specs plan → next_reply s r t ≡ Some (reply_to plan verdict (call_payload r.state (name_of s t) line.child line.call))
     reply_by verdict judged =
         ap (reply_at s r t) next
-        ∙ ap (λ (p : Plan). Some (reply_to p (verdict_of r.state.specs p) (step_payload r.state (name_of s t) line.child line.call))) plan_is
-        ∙ ap (λ (v : Verdict). Some (reply_to plan v (step_payload r.state (name_of s t) line.child line.call))) (sym judged)
+        ∙ ap (λ (p : Plan). Some (reply_to p (verdict_of r.state.specs p) (call_payload r.state (name_of s t) line.child line.call))) plan_is
+        ∙ ap (λ (v : Verdict). Some (reply_to plan v (call_payload r.state (name_of s t) line.child line.call))) (sym judged)
 
     -- a call that is denied or refused is so whatever it would hand back
-    pub refused_by : (verdict : Verdict) → verdict ≡ verdict_of r.state.specs plan → (reply : Reply) → next_reply s r t ≡ Some reply → is_done reply ≡ false
-        → (p : Payload) → is_done (reply_to plan verdict p) ≡ false
+    pub refused_by : (verdict : Verdict) → verdict ≡ verdict_of r.state.specs plan → (reply : Reply) → next_reply s r t ≡ Some reply → is_ok reply ≡ false
+        → (p : Payload) → is_ok (reply_to plan verdict p) ≡ false
     refused_by verdict judged reply replies refused p =
-        refused_anyhow plan verdict.denied (step_payload r.state (name_of s t) line.child line.call) p
-        (ap is_done (same_reply (next_reply s r t) (reply_to plan verdict (step_payload r.state (name_of s t) line.child line.call)) reply (reply_by verdict judged) replies) ∙ refused)
+        refused_anyhow plan verdict.denied (call_payload r.state (name_of s t) line.child line.call) p
+        (ap is_ok (same_reply (next_reply s r t) (reply_to plan verdict (call_payload r.state (name_of s t) line.child line.call)) reply (reply_by verdict judged) replies) ∙ refused)
 
     -- the plan of a call that is done ends with no refusal
-    pub plan_do : (reply : Reply) → next_reply s r t ≡ Some reply → is_done reply ≡ true → plan.tail ≡ Do
+    pub plan_do : (reply : Reply) → next_reply s r t ≡ Some reply → is_ok reply ≡ true → plan.tail ≡ Do
     plan_do reply replies done =
-        done_do plan (verdict_of r.state.specs plan) (step_payload r.state (name_of s t) line.child line.call) reply
-        (same_reply (next_reply s r t) (reply_to plan (verdict_of r.state.specs plan) (step_payload r.state (name_of s t) line.child line.call)) reply (reply_by (verdict_of r.state.specs plan) refl) replies) done
+        done_do plan (verdict_of r.state.specs plan) (call_payload r.state (name_of s t) line.child line.call) reply
+        (same_reply (next_reply s r t) (reply_to plan (verdict_of r.state.specs plan) (call_payload r.state (name_of s t) line.child line.call)) reply (reply_by (verdict_of r.state.specs plan) refl) replies) done
 
 -- the call of an entry is no change
 pub entry_call : (s : Script) (h : History) (r : RunState) (t : ℕ) (line : Line) → IsConsistent s h r → turn_of s r.progress t ≡ turns.Entered
@@ -101,7 +101,7 @@ entry_specs s h r t consistent turn =
 
 -- the plan of an entry's call that is done ends with no refusal
 pub entry_do : (s : Script) (h : History) (r : RunState) (t : ℕ) (plan : Plan) (reply : Reply) → IsConsistent s h r → turn_of s r.progress t ≡ turns.Entered
-    → next_plan s r t ≡ Some plan → next_reply s r t ≡ Some reply → is_done reply ≡ true → plan.tail ≡ Do
+    → next_plan s r t ≡ Some plan → next_reply s r t ≡ Some reply → is_ok reply ≡ true → plan.tail ≡ Do
 entry_do s h r t plan reply consistent turn planned replies done =
     let line = entered_line s h r consistent t turn in plan_do s r t line.0 line.1 plan planned reply replies done
 
@@ -114,19 +114,19 @@ module _ (s : Script) (h : History) (r : RunState) (t : ℕ) (line : Line) (repl
       let found = change_line s h r consistent t turn in
       ap (λ (l : Line). is_change l.call) (same_line (next_line s r.progress t) line found.0 next found.1) ∙ found.2
 
-  reply_is : step_reply r.state (name_of s t) line.child line.call ≡ reply
+  reply_is : call_reply r.state (name_of s t) line.child line.call ≡ reply
   reply_is = sym (replied s r t line next reply replies)
 
   pub line_keeps : Keeps r.state (next_state s r t)
   line_keeps = subst (Keeps r.state) (sym (moved s r t line next)) (change_keeps r.state (name_of s t) line.child line.call is_a_change)
 
-  pub line_refused : is_done reply ≡ false → next_state s r t ≡ r.state
+  pub line_refused : is_ok reply ≡ false → next_state s r t ≡ r.state
   line_refused refused =
       moved s r t line next
-      ∙ refused_only (step_reply r.state (name_of s t) line.child line.call) r.state (performed r.state (name_of s t) line.child line.call) (ap is_done reply_is ∙ refused)
+      ∙ refused_only (call_reply r.state (name_of s t) line.child line.call) r.state (performed r.state (name_of s t) line.child line.call) (ap is_ok reply_is ∙ refused)
 
   -- it is made, where it is done
-  pub line_made : (relisting : Option Relisting) → is_done reply ≡ true → relisting ≡ relisting_in r.state.specs line.call → IfSome relisting IsFormed
+  pub line_made : (relisting : Option Relisting) → is_ok reply ≡ true → relisting ≡ relisting_in r.state.specs line.call → IfSome relisting IsFormed
       → IsMade r.state (next_state s r t) reply relisting
   line_made relisting done is formed =
       subst (λ (x : State). IsMade r.state x reply relisting) (sym (moved s r t line next))

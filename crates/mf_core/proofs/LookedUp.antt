@@ -15,14 +15,14 @@ use Rattle.mf_calls.specs.declared.script.Task.{Task}
 use Rattle.mf_calls.specs.Tasks.{name_of}
 use Rattle.mf_plan.specs.declared.reply.Reply.{Reply}
 use Rattle.mf_plan.specs.declared.state.State.{State}
-use Rattle.mf_step.specs.Step.{step_reply, step_state}
+use Rattle.mf_perform.specs.OneCall.{call_reply, call_state}
 use Rattle.mf_core.specs.LegalHistory.{RunState}
 
 abbrev pub reply_at : Script → RunState → ℕ → Option Line → Option Reply
-reply_at s r t line = option_map (λ line. step_reply r.state (name_of s t) line.child line.call) line
+reply_at s r t line = option_map (λ line. call_reply r.state (name_of s t) line.child line.call) line
 
 abbrev pub state_at : Script → RunState → ℕ → Option Line → State
-state_at s r t line = option_map_or (λ line. step_state r.state (name_of s t) line.child line.call) line r.state
+state_at s r t line = option_map_or (λ line. call_state r.state (name_of s t) line.child line.call) line r.state
 
 abbrev pub with_task_at : List Entry → Entities → Task → Option Id → Entities
 with_task_at listed o t found = option_map_or (λ id. o) found (objects.with_entity o t.name (new_label listed kinds.Process (Boot t.label)) (Process t.cred))

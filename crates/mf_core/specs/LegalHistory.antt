@@ -14,7 +14,7 @@ use Rattle.mf_core.specs.declared.progress.Turn.TheVariants as turn
 use Rattle.mf_core.specs.declared.history.Event.{Event}
 use Rattle.mf_core.specs.declared.history.Event.TheVariants as event
 use Rattle.mf_core.specs.declared.history.History.{History}
-use Rattle.mf_step.specs.Step.{step_reply, step_state}
+use Rattle.mf_perform.specs.OneCall.{call_reply, call_state}
 use Rattle.mf_core.specs.Opening.{opening_state, boots_of}
 use Rattle.mf_core.specs.Progress.{first_progress, progress_at, with_phase, with_line, with_left, open_entries}
 
@@ -49,10 +49,10 @@ turn_of s list t = turn_in (progress_at list t).phase (next_line s list t)
 -- The reply to the call of a task's next line, and the state after it
 
 abbrev pub next_reply : Script → RunState → ℕ → Option Reply
-next_reply s r t = option_map (λ line. step_reply r.state (name_of s t) line.child line.call) (next_line s r.progress t)
+next_reply s r t = option_map (λ line. call_reply r.state (name_of s t) line.child line.call) (next_line s r.progress t)
 
 abbrev pub next_state : Script → RunState → ℕ → State
-next_state s r t = option_map_or (λ line. step_state r.state (name_of s t) line.child line.call) (next_line s r.progress t) r.state
+next_state s r t = option_map_or (λ line. call_state r.state (name_of s t) line.child line.call) (next_line s r.progress t) r.state
 
 -- Events
 

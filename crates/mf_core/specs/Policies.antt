@@ -8,7 +8,7 @@ use Rattle.mf_list.specs.Lists.{ListView, CatalogueView, IsReady, in_catalogue}
 use Rattle.mf_list.specs.Once.{times_held}
 use Rattle.mf_plan.specs.declared.reply.Reply.{Reply}
 use Rattle.mf_plan.specs.declared.state.State.{State}
-use Rattle.mf_step.specs.Refused.{is_done}
+use Rattle.mf_perform.specs.Refused.{is_ok}
 use Rattle.mf_core.specs.declared.progress.ChangeOutcome.{ChangeOutcome}
 use Rattle.mf_core.specs.declared.progress.ChangeOutcome.TheVariants as outcome
 

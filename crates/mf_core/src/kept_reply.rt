@@ -1,6 +1,6 @@
 //! Replies as a history keeps them.
 ghost use Rattle.std.specs.Prelude.{◌≡◌, IfOk, IsOk, false};
-ghost use Rattle.mf_step.specs.Refused.{is_done};
+ghost use Rattle.mf_perform.specs.Refused.{is_ok};
 
 use mf_errno::{Errno, Module};
 use mf_item::CheckOp;
@@ -43,7 +43,7 @@ impl KeptReply {
     /// Keeps the reply.
     pub fn new(alloc: Global, reply: Reply) -> Result<KeptReply, AllocError>
         ensures value { IfOk result (λ kept. kept ≡ reply) }
-        ensures memory { is_done reply ≡ false → IsOk result }
+        ensures memory { is_ok reply ≡ false → IsOk result }
     {
         let kept = match reply {
             Reply::Ok(Payload::None) => Kept::Done,
@@ -65,8 +65,8 @@ impl KeptReply {
     }
 
     /// Whether the call was done: neither denied nor refused.
-    pub fn is_done(&self) -> bool
-        ensures { result ≡ is_done self.now }
+    pub fn is_ok(&self) -> bool
+        ensures { result ≡ is_ok self.now }
     {
         match self.lend().get() {
             Reply::Ok(_) => true,

@@ -12,9 +12,9 @@ use mf_calls::{FileLine, Script, Task};
 use mf_elem::Request;
 use mf_item::Kind;
 use mf_objects::Objects;
+use mf_perform::last_name;
 use mf_plan::{Target, target_of};
 use mf_policy::{Origin, SpecList, new_label};
-use mf_step::last_name;
 use std::alloc::{AllocError, Global};
 
 /// The root, then the files, then the processes of the tasks, where these policies are listed.

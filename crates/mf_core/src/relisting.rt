@@ -1,15 +1,15 @@
 //! What a change of the policies does to the list and the catalogue.
 ghost use Rattle.std.specs.Prelude.{◌≡◌, OnOk, OnErr};
 ghost use Rattle.mf_objects.specs.declared.id.Id.{Id};
-ghost use Rattle.mf_step.specs.Effect.{after};
-ghost use Rattle.mf_step.specs.Relisting.{effect_in, IsFormed};
-ghost use Rattle.mf_step.specs.Suits.{Suits};
+ghost use Rattle.mf_perform.specs.Effect.{after};
+ghost use Rattle.mf_perform.specs.Relisting.{effect_in, IsFormed};
+ghost use Rattle.mf_perform.specs.Suits.{Suits};
 ghost use Rattle.mf_core.specs.Policies.{AreOf};
 
 use mf_list::{Catalogue, PolicyList};
+use mf_perform::Relisting;
 use mf_plan::State;
 use mf_policy::{Policy, registration_of};
-use mf_step::Relisting;
 use std::alloc::{AllocError, Global};
 
 /// Lists the module that is loaded, takes the one that is unloaded off the list, or changes the setting of the listed policy, with

@@ -8,10 +8,10 @@ ghost use Rattle.mf_calls.specs.WellFormed.{IsFormedLine, IsName, IsWellFormed};
 ghost use Rattle.mf_plan.specs.declared.plan.Tail.TheVariants.{Do};
 ghost use Rattle.mf_plan.specs.Found.{AreFound};
 ghost use Rattle.mf_plan.specs.declared.reply.Payload.TheVariants as payload;
-ghost use Rattle.mf_step.specs.Reply.{reply_to};
-ghost use Rattle.mf_step.specs.Refused.{is_done};
-ghost use Rattle.mf_step.specs.Step.{step_reply, step_state};
-ghost use Rattle.mf_step.specs.Verdict.{verdict_of};
+ghost use Rattle.mf_perform.specs.Reply.{reply_to};
+ghost use Rattle.mf_perform.specs.Refused.{is_ok};
+ghost use Rattle.mf_perform.specs.OneCall.{call_reply, call_state};
+ghost use Rattle.mf_perform.specs.Verdict.{verdict_of};
 ghost use Rattle.mf_core.specs.declared.history.Event.TheVariants as event;
 ghost use Rattle.mf_core.specs.declared.progress.Turn.TheVariants as turn;
 ghost use Rattle.mf_core.specs.LegalHistory.{after, next_line, next_reply, opening, turn_of, MayCome};
@@ -27,10 +27,10 @@ use crate::kept_reply::KeptReply;
 use crate::opening::opening_objects;
 use crate::progress::{Phase, ProgressList, Turn};
 use mf_calls::{Line, Script};
+use mf_perform::{Verdict, load, payload_of, perform, refusal_of};
 use mf_plan::{Found, Plan, Reply, State};
 use mf_policy::SpecList;
 use mf_slots::SlotNumbers;
-use mf_step::{Verdict, load, payload_of, perform, refusal_of};
 use std::alloc::{AllocError, Global};
 use std::marker::Model;
 
@@ -138,7 +138,7 @@ impl<'s> Run<'s> {
         requires found { plan.now.tail ≡ Do → IsNextFound self.now.script self.now.run task found.now }
         requires verdict { verdict.now ≡ verdict_of self.now.run.state.specs plan.now }
         ensures value { IfOk result (λ reply. next_reply self.now.script self.now.run task ≡ Some reply) }
-        ensures memory { is_done (reply_to plan.now verdict.now payload.None) ≡ false → IsOk result }
+        ensures memory { is_ok (reply_to plan.now verdict.now payload.None) ≡ false → IsOk result }
     {
         if let Some(refusal) = refusal_of(plan, verdict) {
             return KeptReply::new(alloc, refusal);
@@ -174,10 +174,10 @@ impl<'s> Run<'s> {
         reply: &KeptReply,
     ) -> Result<(), AllocError>
         requires may { MayCome self.old.script self.old.run (event.Done task number reply.now) }
-        requires found { is_done reply.now ≡ true → IsNextFound self.old.script self.old.run task found.now }
+        requires found { is_ok reply.now ≡ true → IsNextFound self.old.script self.old.run task found.now }
         ensures ok { OnOk result (self.new ≡ record self.old { run = after self.old.script self.old.run (event.Done task number reply.now) }) }
         ensures err { OnErr result (self.new ≡ self.old) }
-        ensures memory { is_done reply.now ≡ false → IsOk result }
+        ensures memory { is_ok reply.now ≡ false → IsOk result }
     {
         let line = self.line(task);
         let name = self.script.name_of(task);
@@ -239,16 +239,16 @@ fn redo(
     requires task { IsName task.now }
     requires line { IsFormedLine line.now }
     requires entry { is_change line.now.call ≡ false }
-    requires reply { reply.now ≡ step_reply state.old task.now line.now.child line.now.call }
-    requires found { is_done reply.now ≡ true → AreFound state.old task.now line.now.child line.now.call found.now }
+    requires reply { reply.now ≡ call_reply state.old task.now line.now.child line.now.call }
+    requires found { is_ok reply.now ≡ true → AreFound state.old task.now line.now.child line.now.call found.now }
     requires next { state.old.objects.next < ID_LIMIT }
-    ensures state { OnOk result (state.new ≡ step_state state.old task.now line.now.child line.now.call) }
+    ensures state { OnOk result (state.new ≡ call_state state.old task.now line.now.child line.now.call) }
     ensures err { OnErr result (state.new ≡ state.old) }
     ensures ids { state.new.objects.next ≤ state.old.objects.next + 1 }
     ensures booted { state.new.booted ≡ state.old.booted }
-    ensures memory { is_done reply.now ≡ false → IsOk result }
+    ensures memory { is_ok reply.now ≡ false → IsOk result }
 {
-    if reply.is_done() {
+    if reply.is_ok() {
         perform(alloc, state, task, line, found)?;
     }
     Ok(())

@@ -16,15 +16,15 @@ use Rattle.mf_plan.specs.declared.found.Found.{Found}
 use Rattle.mf_plan.specs.declared.plan.Tail.TheVariants.{Do}
 use Rattle.mf_plan.specs.Found.{AreFound}
 use Rattle.mf_plan.specs.Plan.{plan_of}
-use Rattle.mf_step.specs.Refused.{is_done}
-use Rattle.mf_step.specs.Step.{step_reply}
+use Rattle.mf_perform.specs.Refused.{is_ok}
+use Rattle.mf_perform.specs.OneCall.{call_reply}
 use Rattle.mf_core.specs.declared.history.Event.{Event}
 use Rattle.mf_core.specs.declared.history.Event.TheVariants as event
 use Rattle.mf_core.specs.Progress.{progress_at}
 use Rattle.mf_core.specs.LegalHistory.{RunState, next_line, MayCome, after}
 use Rattle.mf_core.specs.NextFound.{FoundAt, IsNextFound}
 use Rattle.mf_core.proofs.SameLists.{done_tail}
-use Rattle.mf_step.specs.Passed.{passed}
+use Rattle.mf_perform.specs.Passed.{passed}
 use Rattle.mf_flow.specs.declared.following.Flow.{Flow}
 use Rattle.mf_flow.specs.Rows.{Rows, rows_moved, rows_after_line, flow_moved, flow_settled, flow_after_event, asked_of, rows_by}
 use Rattle.mf_flow.specs.Sources.{caller_of}
@@ -32,7 +32,7 @@ use Rattle.std.specs.Option.{option_zip}
 use Rattle.mf_core.proofs.LookedUp.{reply_at}
 use Rattle.mf_elem.specs.declared.label.Request.{Request}
 use Rattle.mf_flow.proofs.Relabels.{zipped}
-use Rattle.mf_step.specs.Step.{after_reply}
+use Rattle.mf_perform.specs.OneCall.{after_reply}
 use Rattle.mf_plan.specs.declared.outline.Check.{Check}
 use Rattle.mf_plan.specs.Outline.{item_asking, item_of}
 
@@ -101,18 +101,18 @@ done_line s run e t number said line is may found =
 
 -- the plan of a call that is done ends with no refusal
 done_ends : (s : Script) (run : RunState) (e : Event) (t number : ℕ) (said : Reply) (state : State) (task : List ℕ) (line : Line) → e ≡ event.Done t number said → MayCome s run e
-    → state ≡ run.state → task ≡ name_of s t → next_line s run.progress t ≡ Some line → is_done said ≡ true → (plan_of state task line.child line.call).tail ≡ Do
+    → state ≡ run.state → task ≡ name_of s t → next_line s run.progress t ≡ Some line → is_ok said ≡ true → (plan_of state task line.child line.call).tail ≡ Do
 done_ends s run e t number said state task line is may here task_is line_is done =
     let told : MayCome s run (event.Done t number said) = subst (MayCome s run) is may in
     let replied : reply_at s run t (Some line) ≡ Some said = sym (ap (reply_at s run t) line_is) ∙ told.2 in
-    let same : said ≡ step_reply run.state (name_of s t) line.child line.call = cc in
+    let same : said ≡ call_reply run.state (name_of s t) line.child line.call = cc in
     ap (λ (x : State). (plan_of x task line.child line.call).tail) here ∙ ap (λ (x : List ℕ). (plan_of run.state x line.child line.call).tail) task_is
     ∙ done_tail run.state (name_of s t) line.child line.call said same done
 
 -- what a call that is done is about was found as its plan was made
 pub done_found : (s : Script) (run : RunState) (e : Event) (t number : ℕ) (said : Reply) (state : State) (task : List ℕ) (line : Line) (found : Found) → e ≡ event.Done t number said → MayCome s run e
     → state ≡ run.state → task ≡ name_of s t → next_line s run.progress t ≡ Some line
-    → ((plan_of state task line.child line.call).tail ≡ Do → AreFound state task line.child line.call found) → is_done said ≡ true → IsNextFound s run t found
+    → ((plan_of state task line.child line.call).tail ≡ Do → AreFound state task line.child line.call found) → is_ok said ≡ true → IsNextFound s run t found
 done_found s run e t number said state task line found is may here task_is line_is found_is done =
     let found_here : AreFound run.state (name_of s t) line.child line.call found =
     subst (λ (x : List ℕ). AreFound run.state x line.child line.call found) task_is
@@ -127,7 +127,7 @@ pub done_asked : (s : Script) (run : RunState) (e : Event) (t number : ℕ) (sai
 done_asked s run e t number said state task line found is may here task_is line_is found_is =
     one said (done_ends s run e t number said state task line is may here task_is line_is)
   where
-    one : (said : Reply) → (is_done said ≡ true → (plan_of state task line.child line.call).tail ≡ Do) → after_reply said None (option_zip found.target found.request) ≡ asked_of state task line said
+    one : (said : Reply) → (is_ok said ≡ true → (plan_of state task line.child line.call).tail ≡ Do) → after_reply said None (option_zip found.target found.request) ≡ asked_of state task line said
     one (reply.Ok payload) ends =
         zipped state task line.child line.call found (found_is (ends refl))
     one (reply.Denied errno op item by) ends = refl

@@ -19,7 +19,7 @@ use Rattle.mf_calls.specs.WellFormed.{IsWellFormed}
 use Rattle.mf_plan.specs.declared.state.State.{State}
 use Rattle.mf_plan.specs.declared.reply.Reply.{Reply}
 use Rattle.mf_plan.specs.Plan.{plan_of, row_of as call_row}
-use Rattle.mf_step.specs.Step.{step_payload, step_reply, step_state}
+use Rattle.mf_perform.specs.OneCall.{call_payload, call_reply, call_state}
 use Rattle.mf_core.specs.declared.history.Event.{Event}
 use Rattle.mf_core.specs.declared.history.Event.TheVariants as event
 use Rattle.mf_core.specs.declared.history.History.{History}
@@ -27,15 +27,15 @@ use Rattle.mf_core.specs.Opening.{opening_state}
 use Rattle.mf_core.specs.Progress.{progress_at}
 use Rattle.mf_core.specs.LegalHistory.{RunState, opening, next_line, MayCome, after, AllMayCome, run_state_of, IsLegal}
 use Rattle.mf_core.specs.RunView.{RunView}
-use Rattle.mf_step.proofs.StateChange.{Deed, StateChange}
-use Rattle.mf_step.proofs.EntityChange.{ChangesEntities, changes_entities}
+use Rattle.mf_perform.proofs.StateChange.{Deed, StateChange}
+use Rattle.mf_perform.proofs.EntityChange.{ChangesEntities, changes_entities}
 use Rattle.mf_lifetimes.proofs.Marked.{by_line, event_change}
-use Rattle.mf_step.specs.Passed.{passed}
+use Rattle.mf_perform.specs.Passed.{passed}
 use Rattle.mf_flow.specs.declared.following.Flow.{Flow}
 use Rattle.mf_flow.specs.Rows.{AreKept, AreOwnRows, AreRows, EachBecomes, HasSlot, IsFlowOf, IsKept, IsOpening, Rows, rows_moved, rows_created, rows_after_line, rows_after_event, flow_after_event}
 use Rattle.mf_flow.specs.Sources.{Sets, alone, element_in, sets_after_line, sets_after_event, opening_sets, sets_after, sources_of}
 use Rattle.mf_flow.proofs.Across.{moved_by_all}
-use Rattle.mf_step.proofs.Granted.{IsGranted}
+use Rattle.mf_perform.proofs.Granted.{IsGranted}
 use Rattle.mf_flow.proofs.Granted.{passed_granted, all_passed}
 use Rattle.mf_flow.proofs.Copies.{IsCopied, plan_copied}
 use Rattle.mf_flow.proofs.Elements.{all_labelled}
@@ -49,7 +49,7 @@ use Rattle.mf_flow.proofs.Becoming.{all_becoming, becomes_itself, by_registratio
 use Rattle.mf_flow.proofs.Dominating.{IsBootedFor, IsSourced, all_sourced}
 
 call_rows : (p : LatticePolicy) (r : Registration) (s s' : State) (task : List ℕ) (line : Line) (said : Reply) (sets : Sets) (rows : Rows) → IsOf p r
-    → step_reply s task line.child line.call ≡ said → s' ≡ step_state s task line.child line.call → StateChange (deed_of s task line said) s s' → IsFlowing p r s sets → AreRows s.objects sets rows
+    → call_reply s task line.child line.call ≡ said → s' ≡ call_state s task line.child line.call → StateChange (deed_of s task line said) s s' → IsFlowing p r s sets → AreRows s.objects sets rows
     → AreRows s'.objects (sets_after_line r s s' task (Some line) said sets) (rows_after_line (slot_of r) r.module s s' task (Some line) said rows)
 call_rows p r s s' task line said sets rows of is after_is shape flowing are =
     let by : Deed = deed_of s task line said in
@@ -57,7 +57,7 @@ call_rows p r s s' task line said sets rows of is after_is shape flowing are =
     let step : ChangesEntities by s s' = changes_entities by s s' shape flowing.held.kept.rooted.rising in
     let granted : AllByRecursion (IsGranted s.specs) items =
     subst (λ (x : Reply). AllByRecursion (IsGranted s.specs) (passed x (plan_of s task line.child line.call).items)) is
-    (passed_granted s.specs (plan_of s task line.child line.call) (step_payload s task line.child line.call)) in
+    (passed_granted s.specs (plan_of s task line.child line.call) (call_payload s task line.child line.call)) in
     let copied : AllByRecursion (IsCopied s.objects) items =
     all_passed (IsCopied s.objects) said (plan_of s task line.child line.call).items (plan_copied s (call_row s task line.child line.call)) in
     let success : AllByRecursion (λ (item : Item). lattice_answer p (slot_of r) item ≡ Success) items = own_answer p r s.specs s.numbers items of flowing.held.pinned granted in
@@ -75,7 +75,7 @@ done_rows : (p : LatticePolicy) (r : Registration) (s : Script) (run : RunState)
     (rows_after_line (slot_of r) r.module run.state (state_at s run t next) (name_of s t) next said rows)
 done_rows p r s run t None said sets rows of is shape flowing are = cc
 done_rows p r s run t (Some line) said sets rows of is shape flowing are =
-    let same : step_reply run.state (name_of s t) line.child line.call ≡ said = cc in
+    let same : call_reply run.state (name_of s t) line.child line.call ≡ said = cc in
     call_rows p r run.state (state_at s run t (Some line)) (name_of s t) line said sets rows of same refl
     (subst (λ (x : Reply). StateChange (deed_of run.state (name_of s t) line x) run.state (state_at s run t (Some line))) same shape) flowing are
 

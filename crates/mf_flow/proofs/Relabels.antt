@@ -17,9 +17,9 @@ use Rattle.mf_plan.specs.Plan.{row_by, row_for, row_of}
 use Rattle.mf_plan.specs.Rows.{about_of}
 use Rattle.mf_plan.specs.Views.{process_named}
 use Rattle.mf_plan.specs.Ways.{At, request_in, target_in}
-use Rattle.mf_step.specs.Effect.{after, with_request}
-use Rattle.mf_step.specs.Step.{after_reply, performed, performed_by, step_reply, step_state}
-use Rattle.mf_step.proofs.Handing.{effect_there}
+use Rattle.mf_perform.specs.Effect.{after, with_request}
+use Rattle.mf_perform.specs.OneCall.{after_reply, performed, performed_by, call_reply, call_state}
+use Rattle.mf_perform.proofs.Handing.{effect_there}
 
 relabel_effect : (s : State) (me : Id) (e : Effect) (asked : Id × Request) → relabels e ≡ Some asked → after s me e ≡ with_request s asked
 relabel_effect s me (Relabel id request) asked is = let same : (id, request) ≡ asked = cc in ap (with_request s) same
@@ -31,8 +31,8 @@ relabel_performed s task c None asked is = cc
 relabel_performed s task c (Some me) asked is = relabel_effect s me (row_for s task c me).effect asked is
 
 -- the state after a call that is done and relabels
-pub relabel_state : (s : State) (task : List ℕ) (child : Option (List ℕ)) (c : Call) (said : Reply) (asked : Id × Request) → step_reply s task child c ≡ said
-    → after_reply said None (relabels (row_of s task child c).effect) ≡ Some asked → step_state s task child c ≡ with_request s asked
+pub relabel_state : (s : State) (task : List ℕ) (child : Option (List ℕ)) (c : Call) (said : Reply) (asked : Id × Request) → call_reply s task child c ≡ said
+    → after_reply said None (relabels (row_of s task child c).effect) ≡ Some asked → call_state s task child c ≡ with_request s asked
 relabel_state s task child c (reply.Ok payload) asked is one =
     ap (λ (x : Reply). after_reply x s (performed s task child c)) is
     ∙ relabel_performed s task c (process_named s.objects (caller_name task child)) asked one

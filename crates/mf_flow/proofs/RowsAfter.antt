@@ -13,10 +13,10 @@ use Rattle.mf_objects.specs.Lives.{is_from}
 use Rattle.mf_objects.specs.Population.{IsRising}
 use Rattle.mf_plan.specs.declared.state.State.{State}
 use Rattle.mf_objects.proofs.Finding.{find_given}
-use Rattle.mf_step.proofs.EntityChange.{EntityChange, ChangesEntities}
-use Rattle.mf_step.proofs.EntityChange.EntityChange.{absent, stays, gets_label, comes, goes}
-use Rattle.mf_step.proofs.StateChange.{Deed, StateChange}
-use Rattle.mf_step.proofs.StateChange.StateChange.{same as still, created, changed, relabels, removed, loaded, unloaded, set_to}
+use Rattle.mf_perform.proofs.EntityChange.{EntityChange, ChangesEntities}
+use Rattle.mf_perform.proofs.EntityChange.EntityChange.{absent, stays, gets_label, comes, goes}
+use Rattle.mf_perform.proofs.StateChange.{Deed, StateChange}
+use Rattle.mf_perform.proofs.StateChange.StateChange.{same as still, created, changed, relabels, removed, loaded, unloaded, set_to}
 use Rattle.mf_flow.specs.Order.{union}
 use Rattle.mf_flow.specs.Rows.{AreRows, Rows, row, element_of, element_at as row_element, new_row, maker_row, rows_created, rows_given}
 use Rattle.mf_flow.specs.Sources.{Sets, element_in, held_by, alone, is_id, has_element, set_after}

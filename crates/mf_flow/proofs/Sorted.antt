@@ -27,7 +27,7 @@ use Rattle.mf_core.specs.declared.history.Event.TheVariants as event
 use Rattle.mf_core.specs.Opening.{opening_state}
 use Rattle.mf_core.specs.LegalHistory.{RunState, opening, next_line, after}
 use Rattle.mf_flow.specs.Order.{place_of, elem_cmp, union}
-use Rattle.mf_step.specs.Passed.{passed}
+use Rattle.mf_perform.specs.Passed.{passed}
 use Rattle.mf_flow.specs.Sources.{Sets, element_in, element_at, held_by, alone, is_id, received, moved, moved_by, relabels, set_after, caller_of, sets_after_line, sets_after_event, opening_sets, sets_after, sources_of}
 use Rattle.mf_flow.proofs.Across.{moved_with, moved_by_all, set_of}
 use Rattle.mf_flow.specs.Dominated.{SourcesAreSorted}

@@ -26,13 +26,13 @@ use Rattle.mf_plan.specs.declared.state.State.{State}
 use Rattle.mf_plan.specs.Outline.{item_of}
 use Rattle.mf_plan.specs.Plan.{plan_of, row_of as call_row}
 use Rattle.mf_plan.specs.Effect.{relabels}
-use Rattle.mf_step.specs.Step.{after_reply}
+use Rattle.mf_perform.specs.OneCall.{after_reply}
 use Rattle.mf_core.specs.declared.history.Event.{Event}
 use Rattle.mf_core.specs.declared.history.Event.TheVariants as event
 use Rattle.mf_core.specs.declared.history.History.{History}
 use Rattle.mf_core.specs.LegalHistory.{RunState, next_line, after, run_state_of}
 use Rattle.mf_flow.specs.Order.{union}
-use Rattle.mf_step.specs.Passed.{passed}
+use Rattle.mf_perform.specs.Passed.{passed}
 use Rattle.mf_flow.specs.Sources.{Sets, alone, held_by, has_element, caller_of, sources_of}
 use Rattle.mf_flow.specs.declared.following.Flow.{Flow}
 

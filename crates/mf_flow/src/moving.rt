@@ -3,7 +3,7 @@ ghost use Rattle.std.specs.Prelude.{◌≡◌, ◌<◌, fold, map, unwrap_or, If
 ghost use Rattle.mf_elem.specs.declared.label.TheConstants.{SLOTS};
 ghost use Rattle.mf_plan.specs.Outline.{item_of};
 ghost use Rattle.mf_policy.specs.Operations.{row_of};
-ghost use Rattle.mf_step.specs.Passed as spec;
+ghost use Rattle.mf_perform.specs.Passed as spec;
 ghost use Rattle.mf_flow.specs.Rows as rows;
 
 use crate::elem_set::{ElemSet, has_all};

@@ -2,7 +2,7 @@
 ghost use Rattle.std.specs.Prelude.{◌≡◌, ◌<◌, None, IfOk, OnOk};
 ghost use Rattle.std.specs.Option.{option_zip};
 ghost use Rattle.mf_elem.specs.declared.label.TheConstants.{SLOTS};
-ghost use Rattle.mf_step.specs.Step.{after_reply};
+ghost use Rattle.mf_perform.specs.OneCall.{after_reply};
 ghost use Rattle.mf_flow.specs.Rows.{rows_given};
 ghost use Rattle.mf_flow.specs.Sources.{alone, has_element as has_element_for};
 

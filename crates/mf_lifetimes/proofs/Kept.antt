@@ -31,14 +31,14 @@ use Rattle.mf_policy.proofs.EachModule.{has_elements}
 use Rattle.mf_lifetimes.specs.Marks.{value_in, is_set}
 use Rattle.mf_lifetimes.specs.Marks.Mark.{Made}
 use Rattle.mf_lifetimes.specs.Laws.{AreMarksOf, holds_valid}
-use Rattle.mf_step.proofs.StateChange.{Deed, StateChange}
-use Rattle.mf_step.proofs.StateChange.StateChange.{same, created, changed, relabels, removed, loaded, unloaded, set_to}
-use Rattle.mf_step.proofs.EntityChange.{EntityChange, ChangesEntities, changes_entities, stays_rooted}
-use Rattle.mf_step.proofs.EntityChange.EntityChange.{absent, stays, gets_label, comes, goes}
-use Rattle.mf_step.proofs.Allowed.{AsksFor, IsAllowed}
-use Rattle.mf_step.proofs.Allowed.AsksFor.{of_itself, of_object}
-use Rattle.mf_step.proofs.Granted.{granted_by}
-use Rattle.mf_step.proofs.Rooted.{IsRooted}
+use Rattle.mf_perform.proofs.StateChange.{Deed, StateChange}
+use Rattle.mf_perform.proofs.StateChange.StateChange.{same, created, changed, relabels, removed, loaded, unloaded, set_to}
+use Rattle.mf_perform.proofs.EntityChange.{EntityChange, ChangesEntities, changes_entities, stays_rooted}
+use Rattle.mf_perform.proofs.EntityChange.EntityChange.{absent, stays, gets_label, comes, goes}
+use Rattle.mf_perform.proofs.Allowed.{AsksFor, IsAllowed}
+use Rattle.mf_perform.proofs.Allowed.AsksFor.{of_itself, of_object}
+use Rattle.mf_perform.proofs.Granted.{granted_by}
+use Rattle.mf_perform.proofs.Rooted.{IsRooted}
 use Rattle.mf_lifetimes.proofs.Valid.{IsValidOf, valid_set, boot_valid, created as created_valid, inherited_valid}
 use Rattle.mf_lifetimes.proofs.Relabelled.{process_relabelled, object_relabelled}
 use Rattle.mf_lifetimes.proofs.Asked.{AllLetAsk}

@@ -32,12 +32,12 @@ use Rattle.mf_lifetimes.specs.Marks.Mark.{Made, Ended, Left}
 use Rattle.mf_lifetimes.specs.Laws.{state_of, SlotsAreMadeOnce, AreMarksOf, SetSlotsAreMarked, GoneSlotsHaveEnded, holds_valid, LabelsAll, BootedPoliciesLast}
 use Rattle.mf_lifetimes.specs.Once.{AreOnce}
 use Rattle.mf_lifetimes.specs.Once.AreOnce.{never, made as made_once, ended as ended_once, left as left_once}
-use Rattle.mf_step.proofs.StateChange.{Deed, StateChange, step_by, step_change}
-use Rattle.mf_step.proofs.StateChange.StateChange.{same}
-use Rattle.mf_step.proofs.EntityChange.{EntityChange, ChangesEntities, changes_entities}
-use Rattle.mf_step.proofs.EntityChange.EntityChange.{absent, stays, gets_label, comes, goes}
-use Rattle.mf_step.proofs.Allowed.{IsAllowed}
-use Rattle.mf_step.proofs.Rooted.{IsRooted}
+use Rattle.mf_perform.proofs.StateChange.{Deed, StateChange, step_by, step_change}
+use Rattle.mf_perform.proofs.StateChange.StateChange.{same}
+use Rattle.mf_perform.proofs.EntityChange.{EntityChange, ChangesEntities, changes_entities}
+use Rattle.mf_perform.proofs.EntityChange.EntityChange.{absent, stays, gets_label, comes, goes}
+use Rattle.mf_perform.proofs.Allowed.{IsAllowed}
+use Rattle.mf_perform.proofs.Rooted.{IsRooted}
 use Rattle.mf_lifetimes.proofs.Listing.{IsLasting, lasting_labels, IsPinned, by_holder, one_labels}
 use Rattle.mf_lifetimes.proofs.Valid.{IsValidOf}
 use Rattle.mf_lifetimes.proofs.FirstValues.{with_first, unchanged_marks, relabelled_marks}

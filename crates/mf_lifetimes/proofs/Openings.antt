@@ -25,7 +25,7 @@ use Rattle.mf_plan.specs.Path.{last_name, lookup_along, root}
 use Rattle.mf_plan.specs.Views.{process_named}
 use Rattle.mf_core.specs.Opening.{root_alone, with_file_at, with_file, with_task, booted_specs, opening_objects}
 use Rattle.mf_objects.proofs.Finding.{find_push_miss, find_push_hit, find_beyond}
-use Rattle.mf_step.proofs.Rooted.{IsRooted}
+use Rattle.mf_perform.proofs.Rooted.{IsRooted}
 use Rattle.mf_lifetimes.proofs.Asked.{AllLetAsk, booted_let, let_nothing}
 use Rattle.mf_lifetimes.proofs.Files.{by_place}
 

@@ -16,18 +16,18 @@ use Rattle.mf_plan.specs.declared.reply.Payload.{Payload}
 use Rattle.mf_plan.specs.Plan.{plan_in, row_by, row_for}
 use Rattle.mf_plan.specs.Row.{Row}
 use Rattle.mf_plan.specs.Views.{process_named}
-use Rattle.mf_step.specs.declared.verdict.Denial.{Denial}
-use Rattle.mf_step.specs.Verdict.{denial_from}
-use Rattle.mf_step.specs.Reply.{op_at, denied_reply, tail_reply}
-use Rattle.mf_step.specs.Effect.{after}
-use Rattle.mf_step.specs.Step.{step_reply, step_state, performed, performed_by, after_reply}
+use Rattle.mf_perform.specs.declared.verdict.Denial.{Denial}
+use Rattle.mf_perform.specs.Verdict.{denial_from}
+use Rattle.mf_perform.specs.Reply.{op_at, denied_reply, tail_reply}
+use Rattle.mf_perform.specs.Effect.{after}
+use Rattle.mf_perform.specs.OneCall.{call_reply, call_state, performed, performed_by, after_reply}
 use Rattle.mf_load.specs.Alone.{denied}
 use Rattle.mf_load.proofs.Known.{biba_alone}
 
 -- what a call of a task's own process does: its reply, and the state after it
 pub record Does (s : State) (task : List ℕ) (call : Call) (r : Reply) (s' : State) : Type 0 where
-  pub reply : step_reply s task None call ≡ r
-  pub state : step_state s task None call ≡ s'
+  pub reply : call_reply s task None call ≡ r
+  pub state : call_state s task None call ≡ s'
 
 -- a call that is done, denied or refused, by its row and the walk over its checks
 module _ (s : State) (task : List ℕ) (me : Id) (call : Call) (row : Row) (specs : s.specs ≡ biba_alone) (caller : process_named s.objects task ≡ Some me)
@@ -35,15 +35,15 @@ module _ (s : State) (task : List ℕ) (me : Id) (call : Call) (row : Row) (spec
   abbrev walked : Option Denial
   walked = denial_from biba_alone 1 (plan_in s row).items
 
-  replied : (denied : Option Denial) → walked ≡ denied → step_reply s task None call ≡ denied_reply (plan_in s row) denied row.payload
+  replied : (denied : Option Denial) → walked ≡ denied → call_reply s task None call ≡ denied_reply (plan_in s row) denied row.payload
   replied denied found =
       ap (λ (r : Row). denied_reply (plan_in s r) (denial_from s.specs 1 (plan_in s r).items) r.payload) (ap (row_by s task call) caller ∙ is)
       ∙ ap (λ (es : List Entry). denied_reply (plan_in s row) (denial_from es 1 (plan_in s row).items) row.payload) specs
       ∙ ap (λ (d : Option Denial). denied_reply (plan_in s row) d row.payload) found
 
-  pub is_done : (p : Payload) (s' : State) → row.tail ≡ Do → walked ≡ None → row.payload ≡ p → after s me row.effect ≡ s' → Does s task call (reply.Ok p) s'
-  is_done p s' tail found shown changed =
-      let replies : step_reply s task None call ≡ reply.Ok p =
+  pub is_ok : (p : Payload) (s' : State) → row.tail ≡ Do → walked ≡ None → row.payload ≡ p → after s me row.effect ≡ s' → Does s task call (reply.Ok p) s'
+  is_ok p s' tail found shown changed =
+      let replies : call_reply s task None call ≡ reply.Ok p =
       replied None found ∙ ap (λ (x : Tail). tail_reply x row.payload) tail ∙ ap (λ (x : Payload). reply.Ok x) shown in
       record {
         reply = replies;
@@ -56,10 +56,10 @@ module _ (s : State) (task : List ℕ) (me : Id) (call : Call) (row : Row) (spec
 
   pub is_denied : (check : CheckOp) → op_at (plan_in s row).items 3 ≡ check → walked ≡ Some (record { item = 3; errno = Eacces; by = Some Biba }) → Does s task call (denied check) s
   is_denied check third found =
-      let replies : step_reply s task None call ≡ denied check = replied (Some (record { item = 3; errno = Eacces; by = Some Biba })) found ∙ ap denied third in
+      let replies : call_reply s task None call ≡ denied check = replied (Some (record { item = 3; errno = Eacces; by = Some Biba })) found ∙ ap denied third in
       record { reply = replies; state = ap (λ (x : Reply). after_reply x s (performed s task None call)) replies }
 
   pub is_refused : (e : Errno) → row.tail ≡ Refuse e → walked ≡ None → Does s task call (reply.Refused e) s
   is_refused e tail found =
-      let replies : step_reply s task None call ≡ reply.Refused e = replied None found ∙ ap (λ (x : Tail). tail_reply x row.payload) tail in
+      let replies : call_reply s task None call ≡ reply.Refused e = replied None found ∙ ap (λ (x : Tail). tail_reply x row.payload) tail in
       record { reply = replies; state = ap (λ (x : Reply). after_reply x s (performed s task None call)) replies }

@@ -20,8 +20,8 @@ use Rattle.mf_plan.specs.declared.state.State.{State}
 use Rattle.mf_plan.specs.declared.reply.Payload.TheVariants as payload
 use Rattle.mf_plan.specs.declared.reply.Reply.{Reply}
 use Rattle.mf_plan.specs.declared.reply.Reply.TheVariants as reply
-use Rattle.mf_step.specs.Effect.{with_objects}
-use Rattle.mf_step.specs.Step.{step_reply, step_state}
+use Rattle.mf_perform.specs.Effect.{with_objects}
+use Rattle.mf_perform.specs.OneCall.{call_reply, call_state}
 use Rattle.mf_load.specs.Alone.{Own, with_held, made, removed, is_other_name, denied, reply_by, own_step}
 use Rattle.mf_objects.proofs.Finding.{find_push_hit, find_beyond}
 use Rattle.mf_load.proofs.Finding.{find_filter_gone, none_passes, all_push, all_from, one_fewer, only_one, names_push, names_push_other, names_filter, names_stay}
@@ -35,9 +35,9 @@ use Rattle.mf_load.proofs.Calls.{reads_even, reads_odd, stats_even, stats_odd, l
 
 -- what a line of a task does
 pub record Goes (t k : ℕ) (s : State) (own own' : ℕ → Own) (what : LoadCall) : Type 0 where
-  pub reply : step_reply s (task_name k) None (call_of k what) ≡ reply_by k (own k) what
-  pub specs : (step_state s (task_name k) None (call_of k what)).specs ≡ biba_alone
-  pub stands : Stands t (step_state s (task_name k) None (call_of k what)).objects own'
+  pub reply : call_reply s (task_name k) None (call_of k what) ≡ reply_by k (own k) what
+  pub specs : (call_state s (task_name k) None (call_of k what)).specs ≡ biba_alone
+  pub stands : Stands t (call_state s (task_name k) None (call_of k what)).objects own'
 
 module _ (t k : ℕ) (s : State) (own own' : ℕ → Own) (few : t ≤ 16) (within : k < t) (specs : s.specs ≡ biba_alone) (stands : Stands t s.objects own)
     (room : length (own k).content + 1 ≤ 65536) (others : (u : ℕ) → u ≢ k → own' u ≡ own u) where

@@ -1,4 +1,4 @@
--- What a call changes, as a value. What becomes of the state by it says mf_step specs/Effect.
+-- What a call changes, as a value. What becomes of the state by it says mf_perform specs/Effect.
 use Rattle.std.specs.Prelude.{ℕ, List, Option, Some, None, option_map}
 use Rattle.mf_errno.specs.declared.module.Module.{Module}
 use Rattle.mf_elem.specs.declared.label.Request.{Request}

@@ -49,8 +49,8 @@ both (Some m) (Some change) = Some (m, change)
 both m change = None
 
 -- the change that a call asks of a listed module's policy
-abbrev pub setting : List Entry → Call → Option (Module × Change)
-setting listed c = both (listed_module listed c) (change_asked c)
+abbrev pub listed_change : List Entry → Call → Option (Module × Change)
+listed_change listed c = both (listed_module listed c) (change_asked c)
 
 abbrev pub unless_success : Errno → Option Errno
 unless_success Success = None

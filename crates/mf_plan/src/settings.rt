@@ -22,8 +22,8 @@ use mf_policy::{Change, SpecList};
 /// The change that the call asks of a listed module's policy. None where its module isn't listed, where no module has a
 /// setting of that name, where the setting has no such value, and for a call that changes none. Whether the change is
 /// refused is the plan's matter.
-pub fn setting(state: &State, call: &Call) -> Option<(Module, Change)>
-    ensures value { result ≡ spec.setting state.now.specs call.now }
+pub fn listed_change(state: &State, call: &Call) -> Option<(Module, Change)>
+    ensures value { result ≡ spec.listed_change state.now.specs call.now }
     ensures change { IsFormedCall call.now → IfSome result (λ asked. IsChange asked.1) }
 {
     let module = listed_module(&state.specs, call)?;

@@ -44,8 +44,8 @@ use Rattle.mf_plan.specs.Settings.{switch, sysctl_module}
 use Rattle.mf_plan.specs.Ways.{At, go_on, look_up, or_fail}
 use Rattle.mf_plan.specs.Views.{is_dir, is_full, overfills, process_named}
 use Rattle.mf_plan.proofs.LookingUp.{last_entry}
-use Rattle.mf_step.specs.Effect.{after, with_data, with_objects}
-use Rattle.mf_step.specs.Step.{performed_by}
+use Rattle.mf_perform.specs.Effect.{after, with_data, with_objects}
+use Rattle.mf_perform.specs.OneCall.{performed_by}
 use Rattle.mf_lifetimes.proofs.Listing.{all_newest, all_without}
 use Rattle.mf_reading.proofs.Bounded.{AreBounded, HoldsBounded, IsBoundedData, IsBoundedSpec, IsNamed}
 use Rattle.mf_reading.proofs.Contents.{file_fits, no_text, uid_fits}

@@ -15,7 +15,7 @@ use Rattle.mf_plan.specs.declared.target.Target.{Target}
 use Rattle.mf_plan.specs.declared.target.Target.TheVariants.{Root, Name, Nowhere}
 use Rattle.mf_plan.specs.Path.{file_at_path, found_at, last_name, lookup_along, root}
 use Rattle.mf_plan.proofs.LookingUp.{last_entry}
-use Rattle.mf_step.proofs.Rooted.{IsRooted}
+use Rattle.mf_perform.proofs.Rooted.{IsRooted}
 use Rattle.mf_reading.proofs.Bounded.{RootIsFirst}
 use Rattle.mf_reading.proofs.Lists.{by_place}
 

@@ -28,9 +28,9 @@ use Rattle.mf_objects.specs.declared.entity.EntityData.{EntityData}
 use Rattle.mf_objects.specs.Live.{LiveEntity, has_id, kind_of, label_at, live_at}
 use Rattle.mf_objects.specs.Changes.{made, with_change, with_what}
 use Rattle.mf_plan.specs.declared.state.State.{State}
-use Rattle.mf_step.specs.Effect.{with_created, with_objects}
-use Rattle.mf_step.proofs.StateChange.{Deed, StateChange}
-use Rattle.mf_step.proofs.StateChange.StateChange.{same, created, changed, relabels, removed, loaded, unloaded, set_to}
+use Rattle.mf_perform.specs.Effect.{with_created, with_objects}
+use Rattle.mf_perform.proofs.StateChange.{Deed, StateChange}
+use Rattle.mf_perform.proofs.StateChange.StateChange.{same, created, changed, relabels, removed, loaded, unloaded, set_to}
 use Rattle.mf_lifetimes.proofs.Kept.{four_values}
 use Rattle.mf_lifetimes.proofs.Listing.{AllBelow, AtMostOne, IsBelow, IsLasting, all_newest, all_without, newest, no_late}
 use Rattle.mf_lifetimes.proofs.Settings.{all_changed}

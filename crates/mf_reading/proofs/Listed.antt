@@ -9,8 +9,8 @@ use Rattle.mf_policy.specs.declared.loading.LoadFault.TheVariants.{NotLate, Exis
 use Rattle.mf_policy.specs.Modules.{facts_of, wants_slot}
 use Rattle.mf_policy.specs.Registration.{Entry, is_listed, registration_of, slot_for}
 use Rattle.mf_plan.specs.declared.state.State.{State}
-use Rattle.mf_step.proofs.StateChange.{Deed, StateChange}
-use Rattle.mf_step.proofs.StateChange.StateChange.{same, created, changed, relabels, removed, loaded, unloaded, set_to}
+use Rattle.mf_perform.proofs.StateChange.{Deed, StateChange}
+use Rattle.mf_perform.proofs.StateChange.StateChange.{same, created, changed, relabels, removed, loaded, unloaded, set_to}
 use Rattle.mf_lifetimes.proofs.Listing.{AtMostOne, IsBelow, all_newest, all_without, below_newest, newest, one_without, single_newest}
 use Rattle.mf_lifetimes.proofs.Settings.{all_changed, one_changed}
 use Rattle.mf_reading.proofs.Bounded.{AreListed, IsSlotted}

@@ -34,8 +34,8 @@ use Rattle.mf_plan.specs.Settings.{unless_success}
 use Rattle.mf_plan.specs.Ways.{At, Place, Way, asking, go_on, look_up, or_fail, straight, then_way, with_first}
 use Rattle.mf_plan.specs.Ways.Place.{Asking, Entry, File, Free, Sockets}
 use Rattle.mf_plan.specs.Views.{has_entries, is_dir, is_empty_pipe, is_empty_socket, is_full, is_full_socket, overfills, process_named, socket_named}
-use Rattle.mf_step.specs.declared.verdict.Denial.{Denial}
-use Rattle.mf_step.specs.Verdict.{denial_at, denial_from}
+use Rattle.mf_perform.specs.declared.verdict.Denial.{Denial}
+use Rattle.mf_perform.specs.Verdict.{denial_at, denial_from}
 use Rattle.mf_list.specs.Asked.{answer_to}
 
 -- Parts of a row

@@ -42,10 +42,10 @@ use Rattle.mf_plan.specs.Row.{if_there}
 use Rattle.mf_plan.specs.Rows.{about_of}
 use Rattle.mf_plan.specs.Views.{is_dir, process_named}
 use Rattle.mf_plan.specs.Ways.{At, look_up}
-use Rattle.mf_step.specs.declared.verdict.Denial.{Denial}
-use Rattle.mf_step.specs.Reply.{denied_reply, tail_reply}
-use Rattle.mf_step.specs.Step.{step_payload, step_reply}
-use Rattle.mf_step.specs.Verdict.{denial_from, verdict_of}
+use Rattle.mf_perform.specs.declared.verdict.Denial.{Denial}
+use Rattle.mf_perform.specs.Reply.{denied_reply, tail_reply}
+use Rattle.mf_perform.specs.OneCall.{call_payload, call_reply}
+use Rattle.mf_perform.specs.Verdict.{denial_from, verdict_of}
 use Rattle.mf_hist.proofs.Legal.{slot_fits}
 use Rattle.mf_hist.specs.Lines.{AreRules, IsPayload, IsReply, IsSlot}
 use Rattle.mf_lifetimes.proofs.Listing.{IsBelow}
@@ -185,7 +185,7 @@ module _ (s : State) (bounded : IsBoundedState s) where
   denied_fits plan None p few is fits = tail_fits plan.tail p fits
   denied_fits plan (Some d) p few is fits = omega (arith, few, denied_within s.specs 1 plan.items d is)
 
-  pub reply_fits : (task : List ℕ) (child : Option (List ℕ)) (c : Call) → IsFormedCall c → IsReply (step_reply s task child c)
+  pub reply_fits : (task : List ℕ) (child : Option (List ℕ)) (c : Call) → IsFormedCall c → IsReply (call_reply s task child c)
   reply_fits task child c formed =
-      denied_fits (plan_of s task child c) (verdict_of s.specs (plan_of s task child c)).denied (step_payload s task child c)
+      denied_fits (plan_of s task child c) (verdict_of s.specs (plan_of s task child c)).denied (call_payload s task child c)
       (few_checks s task child c formed) refl (payload_fits task (caller_name task child) c (process_named s.objects (caller_name task child)) refl)

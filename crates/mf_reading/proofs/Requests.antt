@@ -28,8 +28,8 @@ use Rattle.mf_plan.specs.Views.{process_named}
 use Rattle.mf_plan.specs.Ways.{At, Place, look_up}
 use Rattle.mf_plan.specs.Ways.Place.{Asking, Caller, File, Named}
 use Rattle.mf_plan.proofs.Finding.{request_there}
-use Rattle.mf_step.specs.Step.{after_reply, step_reply}
-use Rattle.mf_step.proofs.StateChange.{step_by}
+use Rattle.mf_perform.specs.OneCall.{after_reply, call_reply}
+use Rattle.mf_perform.proofs.StateChange.{step_by}
 use Rattle.mf_reading.proofs.Labelled.{AsksRequests}
 use Rattle.mf_labeltext.proofs.Formed.{spelled_is_request}
 use Rattle.mf_labeltext.proofs.Requests.{request_spells}
@@ -88,7 +88,7 @@ caller_request s task c (Some me) id request is = call_request s task me c id re
 
 -- so does every step
 pub step_requests : (s : State) (task : List ℕ) (child : Option (List ℕ)) (c : Call) → AsksRequests (step_by s task child c)
-step_requests s task child c id request asked = one (step_reply s task child c) asked
+step_requests s task child c id request asked = one (call_reply s task child c) asked
   where
     one : (r : Reply) → after_reply r None (relabels (row_of s task child c).effect) ≡ Some (id, request) → IsRequest request
     one (reply.Ok p) is = caller_request s task c (process_named s.objects (caller_name task child)) id request is

@@ -17,9 +17,9 @@ use Rattle.mf_plan.specs.Names.{caller_name}
 use Rattle.mf_plan.specs.Plan.{plan_of}
 use Rattle.mf_plan.specs.Views.{process_named}
 use Rattle.mf_plan.specs.declared.plan.Tail.TheVariants.{Do}
-use Rattle.mf_step.specs.Step.{after_reply, performed, step_payload, step_reply, step_state}
-use Rattle.mf_step.specs.Verdict.{verdict_of}
-use Rattle.mf_step.proofs.StateChange.{step_change}
+use Rattle.mf_perform.specs.OneCall.{after_reply, performed, call_payload, call_reply, call_state}
+use Rattle.mf_perform.specs.Verdict.{verdict_of}
+use Rattle.mf_perform.proofs.StateChange.{step_change}
 use Rattle.mf_core.specs.declared.history.Event.{Event}
 use Rattle.mf_core.specs.declared.history.Event.TheVariants as event
 use Rattle.mf_core.specs.Progress.{progress_at}
@@ -41,24 +41,24 @@ use Rattle.mf_reading.proofs.Requests.{step_requests}
 -- One call
 
 module _ (s : State) (task : List ℕ) (child : Option (List ℕ)) (c : Call) (formed : IsFormedCall c) where
-  step_holds : HoldsBounded s → HoldsBounded (step_state s task child c)
-  step_holds holds = one (step_reply s task child c) refl
+  step_holds : HoldsBounded s → HoldsBounded (call_state s task child c)
+  step_holds holds = one (call_reply s task child c) refl
     where
-      one : (r : Reply) → step_reply s task child c ≡ r → HoldsBounded (after_reply r s (performed s task child c))
+      one : (r : Reply) → call_reply s task child c ≡ r → HoldsBounded (after_reply r s (performed s task child c))
       one (reply.Ok p) is =
-          let may : (plan_of s task child c).tail ≡ Do = ok_do (plan_of s task child c) (verdict_of s.specs (plan_of s task child c)) (step_payload s task child c) p is in
+          let may : (plan_of s task child c).tail ≡ Do = ok_do (plan_of s task child c) (verdict_of s.specs (plan_of s task child c)) (call_payload s task child c) p is in
           performed_holds s holds task (caller_name task child) c (process_named s.objects (caller_name task child)) refl formed may
       one (reply.Denied errno op item by) is = holds
       one (reply.Refused errno) is = holds
 
-  step_bounded : IsBoundedState s → IsBoundedState (step_state s task child c)
+  step_bounded : IsBoundedState s → IsBoundedState (call_state s task child c)
   step_bounded bounded =
       let shape = step_change s task child c (objects_rooted s.objects bounded.holds.objects.rising bounded.holds.objects.rooted) in
       record {
         holds = step_holds bounded.holds;
-        listed = keeps_listed s (step_state s task child c) shape bounded.listed;
+        listed = keeps_listed s (call_state s task child c) shape bounded.listed;
         once = step_once s task bounded.once child c;
-        labelled = keeps_labelled s (step_state s task child c) shape (step_requests s task child c) bounded.listed bounded.labelled;
+        labelled = keeps_labelled s (call_state s task child c) shape (step_requests s task child c) bounded.listed bounded.labelled;
       }
 
 -- Lines
@@ -96,7 +96,7 @@ module _ (s : Script) (formed : IsWellFormed s) where
       one : (line : Option Line) → next_line s r.progress t ≡ line → reply_at s r t line ≡ Some x → IsReply x
       one None at is = cc
       one (Some line) at is =
-          let same : step_reply r.state (name_of s t) line.child line.call ≡ x = cc in
+          let same : call_reply r.state (name_of s t) line.child line.call ≡ x = cc in
           subst IsReply same (reply_fits r.state bounded (name_of s t) line.child line.call (line_formed r t line at).call)
 
   event_bounded : (r : RunState) (e : Event) → IsBoundedState r.state → IsBoundedState (after s r e).state

@@ -3,9 +3,9 @@ ghost use Rattle.std.specs.Prelude.{◌≡◌, ◌<◌, true, false, IfOk, IsOk,
 ghost use Rattle.mf_calls.specs.declared.limits.TheConstants.{TASK_LIMIT};
 ghost use Rattle.mf_plan.specs.declared.reply.Payload.TheVariants as payload;
 ghost use Rattle.mf_plan.specs.declared.reply.Reply.{Reply};
-ghost use Rattle.mf_step.specs.Reply.{reply_to};
-ghost use Rattle.mf_step.specs.Refused.{is_done};
-ghost use Rattle.mf_step.specs.Verdict.{verdict_of};
+ghost use Rattle.mf_perform.specs.Reply.{reply_to};
+ghost use Rattle.mf_perform.specs.Refused.{is_ok};
+ghost use Rattle.mf_perform.specs.Verdict.{verdict_of};
 ghost use Rattle.mf_core.specs.declared.history.Event.TheVariants as event;
 ghost use Rattle.mf_core.specs.declared.progress.Turn.TheVariants as turn;
 ghost use Rattle.mf_core.specs.LegalHistory.{next_reply};
@@ -20,9 +20,9 @@ use crate::pass::{Job, Pass, Ticket};
 use crate::policies::Policies;
 use mf_core::{ChangeOutcome, Commit, Core, Turn};
 use mf_list::PolicyList;
+use mf_perform::Verdict;
 use mf_plan::Plan;
 use mf_policy::Policy;
-use mf_step::Verdict;
 use std::alloc::{AllocError, Global};
 use std::marker::{Model, PhantomData};
 use std::sync::ledger::{Book, Ledger};
@@ -124,7 +124,7 @@ impl<'s, J: Job, B: Ledger> Desk<'s, J, B> {
             × (ticket.new ≡ ticket_after commit ticket.old))) }
         ensures none { IfOk result (λ found. IfNone found (¬ AgreesWithTicket self.old ticket.old × (self.new ≡ self.old) × (ticket.new ≡ ticket.old))) }
         ensures err { OnErr result (AgreesWithTicket self.old ticket.old × (self.new ≡ self.old) × (ticket.new ≡ ticket.old)) }
-        ensures memory { is_done (reply_to plan.now verdict.now payload.None) ≡ false → IsOk result }
+        ensures memory { is_ok (reply_to plan.now verdict.now payload.None) ≡ false → IsOk result }
         ensures core { IsCoreOf J.script self.old }
     {
         let _history = self.core.history();
@@ -207,7 +207,7 @@ impl<'s, J: Job, B: Ledger> Desk<'s, J, B> {
         ensures err { OnErr result (AgreesWithPass self.old pass.old
             × (policies.old.list.entries ≡ specs_of self.old)
             × (self.new ≡ self.old) × (policies.new ≡ policies.old) × (pass.new ≡ record pass.old { stopped = true })) }
-        ensures memory { (reply : Reply) → next_reply self.old.script (run_state self.old) pass.old.task ≡ Some reply → is_done reply ≡ false → IsOk result }
+        ensures memory { (reply : Reply) → next_reply self.old.script (run_state self.old) pass.old.task ≡ Some reply → is_ok reply ≡ false → IsOk result }
         ensures core { IsCoreOf J.script self.old }
     {
         let _history = self.core.history();

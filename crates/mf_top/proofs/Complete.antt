@@ -10,8 +10,8 @@ use Rattle.mf_spelled.proofs.FirstFault.{scripts_texts}
 use Rattle.mf_errno.specs.declared.errno.Errno.{Errno}
 use Rattle.mf_names.specs.declared.limits.TheConstants.{SCRIPT_LIMIT}
 use Rattle.mf_io.specs.Outside.{Seen, FaultsRose}
-use Rattle.mf_stepping.specs.StepText.{AreAllTaken, IsFirstRefused}
-use Rattle.mf_stepping.proofs.OneWay.{one_way}
+use Rattle.mf_steps.specs.StepText.{AreAllTaken, IsFirstRefused}
+use Rattle.mf_steps.proofs.OneWay.{one_way}
 use Rattle.mf_top.specs.declared.refusal.Refusal.{Refusal}
 use Rattle.mf_top.specs.declared.refusal.Refusal.TheVariants as refusal
 use Rattle.mf_top.specs.declared.command.Command.{Command}

@@ -22,7 +22,7 @@ use Rattle.mf_io.specs.Outside.{Seen, FaultsRose, HadNoFault, Took, TookPart}
 use Rattle.mf_names.specs.declared.limits.TheConstants.{SCRIPT_LIMIT}
 use Rattle.mf_hist.specs.HistoryText.{history_text}
 use Rattle.mf_load.specs.Summary.{load_summary}
-use Rattle.mf_stepping.specs.StepText.{AreAllTaken}
+use Rattle.mf_steps.specs.StepText.{AreAllTaken}
 use Rattle.mf_top.specs.Reading.{Held, AreScript}
 use Rattle.mf_top.specs.Slots.{AreMarked}
 use Rattle.mf_top.specs.Steps.{IsStepText, RefusesStep}

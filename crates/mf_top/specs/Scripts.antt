@@ -7,7 +7,7 @@ use Rattle.mf_top.specs.declared.refusal.Refusal.TheVariants as refusal
 use Rattle.mf_top.specs.Answers.{IsSourceRefusal}
 use Rattle.mf_top.specs.Reading.{Held, AreScript}
 use Rattle.mf_top.specs.Steps.{IsStepsOf}
-use Rattle.mf_stepping.specs.StepText.{IsFirstRefused}
+use Rattle.mf_steps.specs.StepText.{IsFirstRefused}
 
 -- the source held that script, to its end
 abbrev pub IsRead : Seen → Result Script Refusal → Type 0

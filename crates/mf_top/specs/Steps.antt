@@ -7,7 +7,7 @@ use Rattle.mf_flow.specs.Laws.{AreInOrder}
 use Rattle.mf_flow.specs.SourcesText.{sources_text}
 use Rattle.mf_lifetimes.specs.Once.{AreMadeOnce}
 use Rattle.mf_io.specs.Outside.{Seen, Took}
-use Rattle.mf_stepping.specs.StepText.{IsStepRun, IsFirstRefused}
+use Rattle.mf_steps.specs.StepText.{IsStepRun, IsFirstRefused}
 use Rattle.mf_top.specs.Reading.{Held, AreScript}
 use Rattle.mf_top.specs.Slots.{AreMarked}
 

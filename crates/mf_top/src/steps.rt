@@ -18,7 +18,7 @@ use crate::{read, write};
 use mf_calls::Script;
 use mf_io::{Sink, Source};
 use mf_policy::Policy;
-use mf_stepping::Stepped;
+use mf_steps::Stepped;
 use std::alloc::Global;
 
 /// Does what the program does with the word `step`: takes the steps of the script that the source holds, one after another,
@@ -96,7 +96,7 @@ fn step_script<P: Policy>(
     requires fresh { All (λ p. IsFresh (P.spec p)) modules.items }
     ensures { AreStepped script.now (bytes_of_outcome result) }
 {
-    match mf_stepping::run_steps(alloc, script, modules)? {
+    match mf_steps::run_steps(alloc, script, modules)? {
         Stepped::Refused(number) => Err(Refusal::Step(number)),
         Stepped::Taken { mut text, core } => {
             add_sources(alloc, script, core.history(), &mut text)?;

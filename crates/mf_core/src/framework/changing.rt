@@ -3,9 +3,9 @@ ghost use Rattle.std.specs.Prelude.{◌≡◌, ◌+◌, ◌<◌, ◌↔◌, leng
 ghost use Rattle.mf_plan.specs.declared.plan.Tail.TheVariants.{Do};
 ghost use Rattle.mf_plan.specs.declared.reply.Payload.TheVariants as payload;
 ghost use Rattle.mf_plan.specs.declared.reply.Reply.{Reply};
-ghost use Rattle.mf_step.specs.Reply.{reply_to};
-ghost use Rattle.mf_step.specs.Refused.{is_done};
-ghost use Rattle.mf_step.specs.Verdict.{verdict_of};
+ghost use Rattle.mf_perform.specs.Reply.{reply_to};
+ghost use Rattle.mf_perform.specs.Refused.{is_ok};
+ghost use Rattle.mf_perform.specs.Verdict.{verdict_of};
 ghost use Rattle.mf_core.specs.LegalHistory.{next_reply};
 ghost use Rattle.mf_core.specs.NextFound.{IsNextFound};
 ghost use Rattle.mf_core.specs.declared.progress.Turn.TheVariants as turn;
@@ -16,9 +16,9 @@ use super::Core;
 use crate::history::Event;
 use crate::progress::{ChangeOutcome, Commit};
 use mf_list::{Catalogue, PolicyList};
+use mf_perform::Verdict;
 use mf_plan::{Found, Plan};
 use mf_policy::Policy;
-use mf_step::Verdict;
 use std::alloc::{AllocError, Global};
 
 impl<'s> Core<'s> {
@@ -42,7 +42,7 @@ impl<'s> Core<'s> {
         ensures entries { open_of self.new ≡ open_of self.old }
         ensures lines { done_of self.new ≡ done_of self.old }
         ensures err { OnErr result (self.new ≡ self.old) }
-        ensures memory { is_done (reply_to plan.now verdict.now payload.None) ≡ false → IsOk result }
+        ensures memory { is_ok (reply_to plan.now verdict.now payload.None) ≡ false → IsOk result }
     {
         let Some(found) = self.found_now(task, list, plan) else {
             return Ok(Commit::Stale);
@@ -88,7 +88,7 @@ impl<'s> Core<'s> {
         ensures lines { IfOk result (λ outcome. done_of self.new ≡ done_of self.old + lines_changed outcome) }
         ensures waits { IfOk result (λ outcome. StaysWhileWaiting outcome list.old list.new catalogue.old catalogue.new) }
         ensures err { OnErr result ((self.new ≡ self.old) × (list.new ≡ list.old) × (catalogue.new ≡ catalogue.old)) }
-        ensures memory { (reply : Reply) → next_reply self.old.script (run_state self.old) task ≡ Some reply → is_done reply ≡ false → IsOk result }
+        ensures memory { (reply : Reply) → next_reply self.old.script (run_state self.old) task ≡ Some reply → is_ok reply ≡ false → IsOk result }
     {
         let waiting = self.open_entries();
         if waiting > 0 {

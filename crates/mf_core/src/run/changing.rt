@@ -3,10 +3,10 @@
 ghost use Rattle.std.specs.Prelude.{◌≡◌, ◌<◌, length, true, false, IfOk, IsOk, IfSome, IsSome, MatchOption, OnOk, OnErr, Some};
 ghost use Rattle.mf_objects.specs.declared.id.Id.{Id};
 ghost use Rattle.mf_plan.specs.declared.reply.Reply.{Reply};
-ghost use Rattle.mf_step.specs.Effect as effect;
-ghost use Rattle.mf_step.specs.Refused.{is_done};
-ghost use Rattle.mf_step.specs.Relisting.{effect_in};
-ghost use Rattle.mf_step.specs.Suits.{Suits};
+ghost use Rattle.mf_perform.specs.Effect as effect;
+ghost use Rattle.mf_perform.specs.Refused.{is_ok};
+ghost use Rattle.mf_perform.specs.Relisting.{effect_in};
+ghost use Rattle.mf_perform.specs.Suits.{Suits};
 ghost use Rattle.mf_core.specs.declared.history.Event.TheVariants as event;
 ghost use Rattle.mf_core.specs.declared.progress.Turn.TheVariants as turn;
 ghost use Rattle.mf_core.specs.LegalHistory.{after, next_line, next_reply, next_state, turn_of, MayCome};
@@ -17,9 +17,9 @@ use super::Run;
 use crate::kept_reply::KeptReply;
 use crate::relisting::relist;
 use mf_list::{Catalogue, PolicyList};
+use mf_perform::{Relisting, listed_after, put_listed, relisting_of, verdict_of};
 use mf_plan::{Plan, State};
 use mf_policy::{Policy, SpecList};
-use mf_step::{Relisting, listed_after, put_listed, relisting_of, verdict_of};
 use std::alloc::{AllocError, Global};
 
 /// A change of the policies, and the listed specs after it.
@@ -59,7 +59,7 @@ impl<'s> Run<'s> {
         requires line { IsSome (next_line self.now.script self.now.run.progress task) }
         requires listed { list.now.entries ≡ self.now.run.state.specs }
         ensures value { IfOk result (λ reply. next_reply self.now.script self.now.run task ≡ Some reply) }
-        ensures memory { (reply : Reply) → next_reply self.now.script self.now.run task ≡ Some reply → is_done reply ≡ false → IsOk result }
+        ensures memory { (reply : Reply) → next_reply self.now.script self.now.run task ≡ Some reply → is_ok reply ≡ false → IsOk result }
     {
         let mut plan = Plan::new();
         let found = self.plan(task, &mut plan);
@@ -83,7 +83,7 @@ impl<'s> Run<'s> {
         ensures value { IfOk result (AreListedAfter self.now.run.state (next_state self.now.script self.now.run task) reply.now) }
         ensures policies { OnOk result (AreOf (next_state self.now.script self.now.run task).specs list.new catalogue.new) }
         ensures err { OnErr result ((list.new ≡ list.old) × (catalogue.new ≡ catalogue.old)) }
-        ensures memory { is_done reply.now ≡ false → IsOk result }
+        ensures memory { is_ok reply.now ≡ false → IsOk result }
     {
         let Some(listed) = self.listed_after(alloc, task, reply)? else {
             return Ok(None);
@@ -102,7 +102,7 @@ impl<'s> Run<'s> {
         requires turn { turn_of self.now.script self.now.run.progress task ≡ turn.Change }
         requires reply { next_reply self.now.script self.now.run task ≡ Some reply.now }
         ensures value { IfOk result (AreListedAfter self.now.run.state (next_state self.now.script self.now.run task) reply.now) }
-        ensures memory { is_done reply.now ≡ false → IsOk result }
+        ensures memory { is_ok reply.now ≡ false → IsOk result }
     {
         let Some(relisting) = self.relisting(task, reply) else {
             return Ok(None);
@@ -117,7 +117,7 @@ impl<'s> Run<'s> {
         requires reply { next_reply self.now.script self.now.run task ≡ Some reply.now }
         ensures { IsMade self.now.run.state (next_state self.now.script self.now.run task) reply.now result }
     {
-        if !reply.is_done() {
+        if !reply.is_ok() {
             return None;
         }
         let line = self.line(task);

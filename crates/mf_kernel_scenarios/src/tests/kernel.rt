@@ -3,7 +3,7 @@ ghost use Rattle.std.specs.Prelude.{◌≡◌, ◌+◌, false, All, length, map}
 ghost use Rattle.mf_policy.specs.Modules.{module_of};
 ghost use Rattle.mf_list.specs.Fresh.{IsFresh};
 ghost use Rattle.mf_calls.specs.WellFormed.{IsWellFormed};
-ghost use Rattle.mf_step.specs.Verdict.{verdict_of};
+ghost use Rattle.mf_perform.specs.Verdict.{verdict_of};
 ghost use Rattle.mf_core.specs.AllModules.{AreAllModules};
 ghost use Rattle.mf_top.specs.Passes.{IsSameTicket};
 
@@ -16,12 +16,12 @@ use mf_list::PolicyList;
 use mf_mls::Mls;
 use mf_names::SCRIPT_LIMIT;
 use mf_partition::Partition;
+use mf_perform::Verdict;
 use mf_plan::Plan;
 use mf_policy::Policy;
 use mf_priority::Priority;
 use mf_script::read_script;
 use mf_share::{Job, Kernel, Ticket};
-use mf_step::Verdict;
 use std::alloc::{AllocError, Global};
 use std::marker::Brand;
 use std::process::Abort;

@@ -6,10 +6,10 @@ use Rattle.mf_policy.specs.declared.settings.Changed.{Changed}
 use Rattle.mf_policy.specs.Modules.{wants_slot}
 use Rattle.mf_policy.specs.Registration.{Entry, is_listed, registration_of, with_registered}
 use Rattle.mf_list.specs.Lists.{HasSlot, in_catalogue}
-use Rattle.mf_step.specs.declared.relisting.Relisting.{Relisting}
-use Rattle.mf_step.specs.Effect.{after}
-use Rattle.mf_step.specs.Relisting.{effect_in}
-use Rattle.mf_step.specs.Suits.{Suits}
+use Rattle.mf_perform.specs.declared.relisting.Relisting.{Relisting}
+use Rattle.mf_perform.specs.Effect.{after}
+use Rattle.mf_perform.specs.Relisting.{effect_in}
+use Rattle.mf_perform.specs.Suits.{Suits}
 use Rattle.mf_core.specs.Policies.{AreOf}
 use Rattle.mf_core.proofs.SameLists.{attached, detached, has_slot, is_loadable, setting_follows, unloaded_listed, waits}
 use Rattle.mf_core.proofs.relisting.relist.Goals as goal

@@ -12,12 +12,12 @@ use Rattle.mf_plan.specs.declared.state.State.{State}
 use Rattle.mf_objects.specs.Live.{Entities}
 use Rattle.mf_plan.specs.Plan.{plan_of}
 use Rattle.mf_plan.specs.Views.{process_named}
-use Rattle.mf_step.specs.Step.{after_reply}
+use Rattle.mf_perform.specs.OneCall.{after_reply}
 use Rattle.mf_core.specs.declared.history.Event.{Event}
 use Rattle.mf_core.specs.LegalHistory.{after}
 use Rattle.mf_core.specs.NextFound.{IsNextFound}
 use Rattle.mf_core.specs.RunView.{RunView}
-use Rattle.mf_step.specs.Passed.{passed}
+use Rattle.mf_perform.specs.Passed.{passed}
 use Rattle.mf_flow.specs.declared.following.Flow.{Flow}
 use Rattle.mf_flow.specs.Rows.{HasSlot, IsKept, flow_after_event, flow_moved, flow_settled}
 use Rattle.mf_flow.proofs.Becoming.{all_becoming, becomes_along}

@@ -1,6 +1,6 @@
 use Rattle.std.proofs.Common.{refl, subst, string_bytes}
-use Rattle.mf_stepping.specs.declared.stepping.Stepped.TheVariants as stepped
-use Rattle.mf_stepping.specs.Outcome.{IsSteppedBy}
+use Rattle.mf_steps.specs.declared.stepping.Stepped.TheVariants as stepped
+use Rattle.mf_steps.specs.Outcome.{IsSteppedBy}
 use Rattle.mf_top.proofs.Whole.{steps_of}
 use Rattle.mf_top.proofs.steps.step_script.Goals as goal
 

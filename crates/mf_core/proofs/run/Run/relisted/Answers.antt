@@ -1,8 +1,8 @@
 use Rattle.std.proofs.Common.{◌≡◌, Option, sym, subst}
 use Rattle.mf_objects.specs.declared.id.Id.{Id}
 use Rattle.mf_plan.specs.declared.state.State.{State}
-use Rattle.mf_step.specs.Effect.{after}
-use Rattle.mf_step.specs.Relisting.{effect_in}
+use Rattle.mf_perform.specs.Effect.{after}
+use Rattle.mf_perform.specs.Relisting.{effect_in}
 use Rattle.mf_core.specs.declared.run.changing.Relisted.{Relisted}
 use Rattle.mf_core.specs.LegalHistory.{next_state}
 use Rattle.mf_core.specs.Policies.{AreOf}

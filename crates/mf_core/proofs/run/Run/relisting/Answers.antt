@@ -1,5 +1,5 @@
 use Rattle.std.proofs.Common.{◌≡◌, true, sym, ◌∙◌, ap}
-use Rattle.mf_step.specs.Relisting.{relisting_in}
+use Rattle.mf_perform.specs.Relisting.{relisting_in}
 use Rattle.mf_core.specs.RunView.{RunView}
 use Rattle.mf_core.proofs.Reached.{made}
 use Rattle.mf_core.proofs.run.Run.relisting.Goals as goal
@@ -8,6 +8,6 @@ pub returns : goal.returns
 returns c =
     made c.args.self.now c.self.inside.script.now (record { state = c.self.inside.state; progress = c.self.inside.progress }) c.self.view_is c.self.invariant
     c.args.task c.line-line.result.now c.args.reply.now c.requires.turn c.line-line.ensures.value c.requires.reply
-    c.relisting_of.result (sym c.is_done.ensures ∙ c.if-not-is_done.false)
+    c.relisting_of.result (sym c.is_ok.ensures ∙ c.if-not-is_ok.false)
     (c.relisting_of.ensures.value ∙ ap (λ (v : RunView). relisting_in v.run.state.specs c.line-line.result.now.call) c.self.view_is)
     c.relisting_of.ensures.formed

@@ -8,8 +8,8 @@ pub returns-in-Some-Done-clause-found : goal.returns-in-Some-Done-clause-found
 returns-in-Some-Done-clause-found g c =
     let old : CoreView = c.deref_mut.result.now in
     let new : CoreView = c.change.new.self in
-    let is_done : c.in-Some-Done.field-0 ≡ outcome.Done = rw c.in-Some-Done.is at c.in-Some-Done.field-0-is in
-    let done = rw is_done at (rw c.in-Some-Done.is at c.in_ok-found.ensures.some) in (
+    let is_ok : c.in-Some-Done.field-0 ≡ outcome.Done = rw c.in-Some-Done.is at c.in-Some-Done.field-0-is in
+    let done = rw is_ok at (rw c.in-Some-Done.is at c.in_ok-found.ensures.some) in (
       old,
       new,
       c.in_ok-found.ensures.core,

@@ -1,0 +1,90 @@
+-- What the row of a call says, by what was found.
+use Rattle.std.proofs.Common.{◌≡◌, ℕ, Bool, true, false, not, List, Option, Some, None, Result, Ok, Err, refl, ap, sym, ◌∙◌, if◌then◌else◌}
+use Rattle.std.specs.Prelude.{nat_eq, option_and_then}
+use Rattle.mf_errno.specs.Names.{module_named}
+use Rattle.mf_errno.specs.declared.errno.Errno.TheVariants as errno
+use Rattle.mf_errno.specs.declared.module.Module.{Module}
+use Rattle.mf_errno.specs.declared.module.Module.TheVariants as modules
+use Rattle.mf_errno.specs.declared.errno.Errno.{Errno}
+use Rattle.mf_policy.specs.Registration.{is_listed}
+use Rattle.mf_policy.specs.declared.settings.Change.{Change}
+use Rattle.mf_policy.specs.declared.settings.Change.TheVariants.{RuleAdd}
+use Rattle.mf_objects.specs.Live.{cred_at}
+use Rattle.mf_calls.specs.Tasks.{is_change}
+use Rattle.mf_calls.specs.declared.script.Call.TheVariants as call
+use Rattle.mf_objects.specs.declared.id.Id.{Id}
+use Rattle.mf_calls.specs.declared.script.Call.{Call}
+use Rattle.mf_plan.specs.declared.found.Found.{Found}
+use Rattle.mf_plan.specs.declared.state.State.{State}
+use Rattle.mf_plan.specs.Found.{IsFound}
+use Rattle.mf_plan.specs.Plan.{row_for}
+use Rattle.mf_plan.specs.Row.{Row, through}
+use Rattle.mf_plan.specs.Rows.{about_of}
+use Rattle.mf_plan.specs.Settings.{both, if_listed}
+use Rattle.mf_plan.specs.Ways.{At, go_on, look_up, or_fail, request_in, target_in}
+use Rattle.mf_perform.specs.Found.{added, effect_found, payload_found, slot}
+
+module _ (s : State) (task : List ℕ) (me : Id) (c : Call) (found : Found) (is : IsFound s task me c found) where
+  -- the row of the call, with what was found
+  abbrev pub row_there : Row
+  row_there = (about_of s task me c).row is.what
+
+  abbrev there_is : Result (At (about_of s task me c).place) Errno → Row
+  there_is there = through (record { checks = (look_up s me (about_of s task me c).place).checks; there = there }) (about_of s task me c).row
+
+  pub tail_there : (row_for s task c me).tail ≡ row_there.tail
+  tail_there = ap (λ (there : Result (At (about_of s task me c).place) Errno). (there_is there).tail) is.there
+
+  pub payload_there : (row_for s task c me).payload ≡ row_there.payload
+  payload_there = ap (λ (there : Result (At (about_of s task me c).place) Errno). (there_is there).payload) is.there
+
+  pub effect_there : (row_for s task c me).effect ≡ row_there.effect
+  effect_there = ap (λ (there : Result (At (about_of s task me c).place) Errno). (there_is there).effect) is.there
+
+-- By call: the target and the request that go with what is found tell its effect, where it is no change of the policies, and what it
+-- hands back
+
+effect_row : (s : State) (task : List ℕ) (me : Id) (c : Call) (what : At (about_of s task me c).place) → is_change c ≡ false
+    → effect_found s task me c (target_in (about_of s task me c).place what) (request_in (about_of s task me c).place what) ≡ ((about_of s task me c).row what).effect
+effect_row s task me (call.Kldload name) what entry = cc
+effect_row s task me (call.Kldunload name) what entry = cc
+effect_row s task me (call.Sysctl name value) what entry = cc
+effect_row s task me (call.UgidfwAdd rule) what entry = cc
+effect_row s task me (call.UgidfwSet n rule) what entry = cc
+effect_row s task me (call.UgidfwRemove n) what entry = cc
+effect_row s task me other what entry = refl
+
+named_so : {A : Type 0} (e : Errno) (holder : Option A) (a : A) → or_fail e holder ≡ Ok a → holder ≡ Some a
+named_so e None a is = cc
+named_so e (Some x) a is = cc
+
+set_so : (s : State) (root : Bool) (m : Option Module) (change : Option Change) (asked : Module × Change)
+    → (if root then Err errno.Eperm else
+    go_on (or_fail errno.Enoent m) (λ m. if not (is_listed m s.specs) then Err errno.Enoent else go_on (or_fail errno.Einval change) (λ change. Ok (m, change)))) ≡ Ok asked
+    → both (option_and_then (if_listed s.specs) m) change ≡ Some asked
+set_so s true m change asked is = cc
+set_so s false None change asked is = cc
+set_so s false (Some m) change asked is = one (is_listed m s.specs) change is
+  where
+    one : (b : Bool) (change : Option Change) → (if not b then Err errno.Enoent else go_on (or_fail errno.Einval change) (λ change. Ok (m, change))) ≡ Ok asked
+        → both (if b then Some m else None) change ≡ Some asked
+    one true (Some change) is = cc
+    one true None is = cc
+    one false change is = cc
+
+payload_row : (s : State) (task : List ℕ) (me : Id) (c : Call) (what : At (about_of s task me c).place) → (look_up s me (about_of s task me c).place).there ≡ Ok what
+    → payload_found s c (target_in (about_of s task me c).place what) ≡ ((about_of s task me c).row what).payload
+payload_row s task me (call.Kldload name) m there = ap (slot s.numbers) (named_so errno.Enoent (module_named name) m there)
+payload_row s task me (call.UgidfwAdd rule) asked there =
+    ap (added s.specs) (set_so s (not (nat_eq (cred_at s.objects me).uid 0)) (Some modules.Bsdextended) (Some (RuleAdd rule)) asked there)
+payload_row s task me other what there = refl
+
+module _ (s : State) (task : List ℕ) (me : Id) (c : Call) (found : Found) (is : IsFound s task me c found) where
+  pub effect_is : is_change c ≡ false → effect_found s task me c found.target found.request ≡ (row_for s task c me).effect
+  effect_is entry =
+      ap (λ (target : Option Id). effect_found s task me c target found.request) is.target
+      ∙ ap (effect_found s task me c (target_in (about_of s task me c).place is.what)) is.request
+      ∙ effect_row s task me c is.what entry ∙ sym (effect_there s task me c found is)
+
+  pub payload_is : payload_found s c found.target ≡ (row_for s task c me).payload
+  payload_is = ap (payload_found s c) is.target ∙ payload_row s task me c is.what is.there ∙ sym (payload_there s task me c found is)

@@ -1,0 +1,209 @@
+-- What a call makes of a label that may be done and whose checks are granted: nothing where what it names doesn't live; else what the listed
+-- policies allow.
+use Rattle.std.proofs.Common.{◌≡◌, ℕ, Bool, true, false, cond, List, [], ◌∷◌, ◌++◌, Option, Some, None, Result, Ok, Err, map, refl, ap, sym, ◌∙◌, subst, if◌then◌else◌}
+use Rattle.std.specs.Prelude.{find, option_and_then, IfSome}
+use Rattle.std.specs.List.{AllByRecursion}
+use Rattle.std.specs.Option.{option_map_or}
+use Rattle.std.proofs.lemmas.List.{map-append}
+use Rattle.mf_elem.specs.declared.label.Request.{Request}
+use Rattle.mf_item.specs.declared.operation.CheckOp.{CheckOp}
+use Rattle.mf_item.specs.declared.operation.CheckOp.TheVariants as op
+use Rattle.mf_item.specs.declared.view.Kind.{Kind}
+use Rattle.mf_item.specs.declared.view.Kind.TheVariants as kinds
+use Rattle.mf_item.specs.Item.{Item}
+use Rattle.mf_policy.specs.Claims.{is_claimed}
+use Rattle.mf_policy.specs.Operations.{row_of}
+use Rattle.mf_policy.specs.Registration.{Entry}
+use Rattle.mf_policy.specs.declared.operations.Test.TheVariants.{RelabelObject}
+use Rattle.mf_objects.proofs.Entities.{label_of, changed_at}
+use Rattle.mf_objects.specs.declared.id.Id.{Id}
+use Rattle.mf_objects.specs.declared.entity.EntityData.{EntityData}
+use Rattle.mf_objects.specs.Live.{LiveEntity, Entities, has_id, id_of, is_pipe, is_process, is_socket, kind_of, live_at, live_named}
+use Rattle.mf_objects.specs.Lives.{IsLive}
+use Rattle.mf_calls.specs.declared.script.Call.{Call}
+use Rattle.mf_calls.specs.declared.script.Call.TheVariants as call
+use Rattle.mf_plan.specs.declared.plan.Tail.TheVariants.{Do}
+use Rattle.mf_plan.specs.declared.state.State.{State}
+use Rattle.mf_plan.specs.Planned.{Plan}
+use Rattle.mf_errno.specs.declared.errno.Errno.{Errno}
+use Rattle.mf_errno.specs.declared.errno.Errno.TheVariants as errno
+use Rattle.mf_plan.specs.declared.outline.Check.{Check}
+use Rattle.mf_plan.specs.Checks.{alone, on}
+use Rattle.mf_plan.specs.Effect.{relabels, request_of}
+use Rattle.mf_plan.specs.Outline.{is_relabel, item_asking}
+use Rattle.mf_plan.specs.Plan.{plan_in, row_by}
+use Rattle.mf_plan.specs.Relabels.{claimed_in, if_claimed}
+use Rattle.mf_plan.specs.Row.{through}
+use Rattle.mf_plan.specs.Rows.{about_of}
+use Rattle.mf_plan.specs.Views.{object_of, process_named}
+use Rattle.mf_plan.specs.Ways.{At, look_up, or_fail, then_way, with_first}
+use Rattle.mf_plan.specs.Ways.Place.{File, Named}
+use Rattle.mf_perform.specs.Effect.{with_objects, with_request}
+use Rattle.mf_perform.proofs.Allowed.{IsAllowed}
+use Rattle.mf_perform.proofs.Allowed.AsksFor.{of_itself, of_object}
+use Rattle.mf_perform.proofs.Granted.{IsGranted, last_granted}
+use Rattle.mf_perform.proofs.Rooted.{HasKind, IsRooted, file_kind, has_kind, inside_some, named_lives, named_process, pipe_kind, process_kind, socket_kind, vnode_kind}
+
+-- what is asked is made, where something is
+abbrev pub with_relabelled : State → Option (Id × Request) → State
+with_relabelled s asked = option_map_or (with_request s) asked s
+
+-- what is asked changes nothing, or relabels a live entity as the listed policies allow
+pub data RelabelMade (s : State) (asked : Option (Id × Request)) : Type 0 where
+  no_change : with_relabelled s asked ≡ s → RelabelMade s asked
+  permitted : (id : Id) (e : LiveEntity) (request : Request) → asked ≡ Some (id, request) → live_at s.objects id ≡ Some e → IsAllowed s e request → RelabelMade s asked
+
+-- What doesn't live isn't relabelled
+
+none_changed : (change : LiveEntity → LiveEntity) (id : Id) (es : List LiveEntity) → find (has_id id) es ≡ None → map (changed_at change id) es ≡ es
+none_changed change id [] none = refl
+none_changed change id (e ∷ es) none = one (has_id id e) (none_changed change id es) none
+  where
+    one : (b : Bool) → (find (has_id id) es ≡ None → map (changed_at change id) es ≡ es) → cond b (Some e) (find (has_id id) es) ≡ None
+        → cond b (change e) e ∷ map (changed_at change id) es ≡ e ∷ es
+    one true rest here = cc
+    one false rest later = ap (λ (ls : List LiveEntity). e ∷ ls) (rest later)
+
+not_live : (s : State) (id : Id) (request : Request) → live_at s.objects id ≡ None → with_request s (id, request) ≡ s
+not_live s id request none =
+    ap (λ (ls : List LiveEntity). let o : Entities = record s.objects { live = ls } in with_objects s o) (none_changed _ id s.objects.live none)
+
+-- A request that a call makes is claimed
+
+if_claimed_true : (listed : List Entry) (kind : Kind) (asked request : Request) (b : Bool) → is_claimed listed kind asked ≡ b
+    → (if b then Some asked else None) ≡ Some request → is_claimed listed kind request ≡ true
+if_claimed_true listed kind asked request true claimed is = let same : asked ≡ request = cc in ap (is_claimed listed kind) (sym same) ∙ claimed
+if_claimed_true listed kind asked request false claimed is = cc
+
+claim_of : (listed : List Entry) (kind : Kind) (text : List ℕ) (request : Request) → claimed_in listed kind text ≡ Some request → is_claimed listed kind request ≡ true
+claim_of listed kind text request is = one _ is
+  where
+    one : (read : Option Request) → option_and_then (if_claimed listed kind) read ≡ Some request → is_claimed listed kind request ≡ true
+    one None is = cc
+    one (Some asked) is = if_claimed_true listed kind asked request (is_claimed listed kind asked) refl is
+
+-- Rows
+
+-- nothing refuses what has this plan
+pub record MayBeDone (specs : List Entry) (plan : Plan) : Type 0 where
+  pub proceeds : plan.tail ≡ Do
+  pub granted : AllByRecursion (IsGranted specs) plan.items
+
+-- what a text asks was claimed, and what it is asked for was found
+asked_there : {B : Type 0} (request : Option Request) (checks : List Check) (there : Result B Errno) (what : Request × B)
+    → (then_way (or_fail errno.Einval request) (λ r. with_first r (record { checks = checks; there = there }))).there ≡ Ok what
+    → (request ≡ Some what.0) × (there ≡ Ok what.1)
+asked_there {B} (Some r) checks (Ok b) what is =
+    let same : (r, b) ≡ what = cc in
+    (ap (λ (w : Request × B). Some w.0) same, ap (λ (w : Request × B). Ok w.1) same)
+asked_there (Some r) checks (Err e) what is = cc
+asked_there None checks there what is = cc
+
+module _ (s : State) (caller : Id) (me : HasKind is_process s.objects caller) where
+  abbrev seen_with : Option Request → List Check → List Item
+  seen_with request checks = map (item_asking s.objects request) checks
+
+  -- the last check of what may be done is granted
+  check_granted : (request : Request) (before : List Check) (check : Check) → AllByRecursion (IsGranted s.specs) (seen_with (Some request) (before ++ check ∷ []))
+      → IsGranted s.specs (item_asking s.objects (Some request) check)
+  check_granted request before check granted =
+      last_granted s.specs (seen_with (Some request) before) (item_asking s.objects (Some request) check)
+      (subst (AllByRecursion (IsGranted s.specs)) (map-append (item_asking s.objects (Some request)) before (check ∷ [])) granted)
+
+  -- the caller's own label
+  own_made : (text : List ℕ) (request : Request) (id : Id) (before : List Check) → claimed_in s.specs kinds.Process text ≡ Some request → caller ≡ id
+      → AllByRecursion (IsGranted s.specs) (seen_with (Some request) (before ++ alone caller op.CredRelabel ∷ [])) → RelabelMade s (Some (id, request))
+  unfolding item_asking
+  own_made text request id before claimed same granted =
+      let kind : kind_of me.entity.what ≡ kinds.Process = process_kind me.entity.what me.passes in
+      permitted caller me.entity request (ap (λ (x : Id). Some (x, request)) (sym same)) me.live
+      (record {
+        claimed = ap (λ (k : Kind). is_claimed s.specs k request) kind ∙ claim_of s.specs kinds.Process text request claimed;
+        item = item_asking s.objects (Some request) (alone caller op.CredRelabel);
+        asked = refl;
+        asks = of_itself kind refl (ap label_of me.live);
+        granted = check_granted request before (alone caller op.CredRelabel) granted;
+      })
+
+  -- the label of another entity, which has the kind of the call where it lives
+  object_made : (kind : Kind) (operation : CheckOp) → (row_of operation).test ≡ RelabelObject → is_relabel operation ≡ true → (kind ≡ kinds.Process → ⊥)
+      → (text : List ℕ) (request : Request) (id : Id) (before : List Check) → claimed_in s.specs kind text ≡ Some request
+      → ((e : LiveEntity) → live_at s.objects id ≡ Some e → kind_of e.what ≡ kind)
+      → AllByRecursion (IsGranted s.specs) (seen_with (Some request) (before ++ on caller operation id ∷ [])) → RelabelMade s (Some (id, request))
+  unfolding item_asking
+  object_made kind operation test relabel other text request id before claimed has granted = by_found (live_at s.objects id) refl
+    where
+      item : Item
+      item = item_asking s.objects (Some request) (on caller operation id)
+
+      by_found : (found : Option LiveEntity) → live_at s.objects id ≡ found → RelabelMade s (Some (id, request))
+      by_found None none = no_change (not_live s id request none)
+      by_found (Some e) live =
+          let is : kind_of e.what ≡ kind = has e live in
+          permitted id e request refl live
+          (record {
+            claimed = ap (λ (k : Kind). is_claimed s.specs k request) is ∙ claim_of s.specs kind text request claimed;
+            item = item_asking s.objects (Some request) (on caller operation id);
+            asked = ap (λ (b : Bool). if b then Some request else None) relabel;
+            asks = of_object (λ same. other (sym is ∙ same)) test caller me.entity me.live (process_kind me.entity.what me.passes) (ap label_of me.live)
+                (object_of s.objects id) refl (ap label_of live);
+            granted = check_granted request before (on caller operation id) granted;
+          })
+
+-- a process, pipe or socket that is found by its name has its kind, where it lives
+named_kind : (test : EntityData → Bool) (kind : Kind) → ((what : EntityData) → test what ≡ true → kind_of what ≡ kind) → (o : Entities) (name : List ℕ) → IsRooted o
+    → (id : Id) (e : LiveEntity) → id_of (live_named test o name) ≡ Some id → live_at o id ≡ Some e → kind_of e.what ≡ kind
+named_kind test kind is_kind o name rooted id e found live =
+    let lives : IsLive test o id = subst (λ (at : Option Id). IfSome at (λ id. IsLive test o id)) found (named_lives test o name rooted.rising) in
+    let has : HasKind test o id = has_kind test o id lives in
+    let same : has.entity ≡ e = inside_some has.entity e (sym has.live ∙ live) in
+    ap (λ (x : LiveEntity). kind_of x.what) (sym same) ∙ is_kind has.entity.what has.passes
+
+-- The table
+
+module _ (s : State) (task : List ℕ) (caller : Id) (rooted : IsRooted s.objects) (me : HasKind is_process s.objects caller) where
+  named_has : (e : Errno) (test : EntityData → Bool) (kind : Kind) → ((what : EntityData) → test what ≡ true → kind_of what ≡ kind) → (name : List ℕ) (id : Id)
+      → or_fail e (id_of (live_named test s.objects name)) ≡ Ok id → (x : LiveEntity) → live_at s.objects id ≡ Some x → kind_of x.what ≡ kind
+  named_has e test kind is_kind name id there x live = one (id_of (live_named test s.objects name)) refl there
+    where
+      one : (holder : Option Id) → id_of (live_named test s.objects name) ≡ holder → or_fail e holder ≡ Ok id → kind_of x.what ≡ kind
+      one None is there = cc
+      one (Some found) is there =
+          let same : found ≡ id = cc in
+          named_kind test kind is_kind s.objects name rooted id x (is ∙ ap Some same) live
+
+  call_made : (c : Call) (what : At (about_of s task caller c).place) → (look_up s caller (about_of s task caller c).place).there ≡ Ok what
+      → (before : List Check)
+      → AllByRecursion (IsGranted s.specs) (map (item_asking s.objects (request_of ((about_of s task caller c).row what).effect)) (before ++ ((about_of s task caller c).row what).checks))
+      → RelabelMade s (relabels ((about_of s task caller c).row what).effect)
+  call_made (call.Setpmac text) what there before granted =
+      let asked = asked_there (claimed_in s.specs kinds.Process text) [] (Ok caller) what there in
+      let same : caller ≡ what.1 = cc asked.1 in
+      own_made s caller me text what.0 what.1 before asked.0 same granted
+  call_made (call.Setfmac text path) what there before granted =
+      let asked = asked_there (claimed_in s.specs kinds.Vnode text) (look_up s caller (File path)).checks (look_up s caller (File path)).there what there in
+      object_made s caller me kinds.Vnode op.VnodeRelabel refl refl (λ same. cc) text what.0 what.1 before asked.0
+      (λ e live. vnode_kind e.what (file_kind s.objects rooted path what.1 e asked.1 live)) granted
+  call_made (call.Setpipemac text name) what there before granted =
+      let asked = asked_there (claimed_in s.specs kinds.Pipe text) [] (look_up s caller (Named kinds.Pipe name)).there what there in
+      object_made s caller me kinds.Pipe op.PipeRelabel refl refl (λ same. cc) text what.0 what.1 before asked.0
+      (named_has errno.Enoent is_pipe kinds.Pipe pipe_kind name what.1 asked.1) granted
+  call_made (call.Setsockmac text name) what there before granted =
+      let asked = asked_there (claimed_in s.specs kinds.Socket text) [] (look_up s caller (Named kinds.Socket name)).there what there in
+      object_made s caller me kinds.Socket op.SocketRelabel refl refl (λ same. cc) text what.0 what.1 before asked.0
+      (named_has errno.Enoent is_socket kinds.Socket socket_kind name what.1 asked.1) granted
+  call_made other what there before granted = no_change refl
+
+  row_made : (c : Call) (checks : List Check) (there : Result (At (about_of s task caller c).place) Errno) → (look_up s caller (about_of s task caller c).place).there ≡ there
+      → MayBeDone s.specs (plan_in s (through (record { checks = checks; there = there }) (about_of s task caller c).row))
+      → RelabelMade s (relabels (through (record { checks = checks; there = there }) (about_of s task caller c).row).effect)
+  row_made c checks (Ok what) is may = call_made c what is checks may.granted
+  row_made c checks (Err e) is may = cc may.proceeds
+
+-- the process of that name that makes the call
+pub relabel_made : (s : State) (task name : List ℕ) (c : Call) (caller : Option Id) → process_named s.objects name ≡ caller → IsRooted s.objects
+    → MayBeDone s.specs (plan_in s (row_by s task c caller)) → RelabelMade s (relabels (row_by s task c caller).effect)
+relabel_made s task name c None found rooted may = cc may.proceeds
+relabel_made s task name c (Some caller) found rooted may =
+    let place = (about_of s task caller c).place in
+    row_made s task caller rooted (named_process s.objects name caller found rooted.rising) c (look_up s caller place).checks (look_up s caller place).there refl may

@@ -1,0 +1,223 @@
+//! What a call hands back.
+ghost use Rattle.std.specs.Prelude.{◌≡◌, ◌≤◌, ℕ, List, Option, IfOk, IsOk, IfSome, IsSome, false, length, map};
+ghost use Rattle.mf_errno.specs.Names.{module_named};
+ghost use Rattle.mf_objects.specs.Live.{live_at};
+ghost use Rattle.mf_plan.specs.Found.{AreFound};
+ghost use Rattle.mf_plan.specs.Payloads as read;
+ghost use Rattle.mf_plan.specs.Plan.{row_of};
+ghost use Rattle.mf_plan.specs.Settings as settings;
+ghost use Rattle.mf_policy.specs.Settings.{listed_rules};
+ghost use Rattle.mf_calls.specs.WellFormed.{IsFormedCall};
+ghost use Rattle.mf_perform.specs.Found as spec;
+ghost use Rattle.mf_perform.specs.Effect.{payload_takes_memory};
+
+use crate::labels::label_parts;
+use mf_calls::Call;
+use mf_cred::ArrayVec;
+use mf_errno::Module;
+use mf_objects::{Id, Objects};
+use mf_plan::{Found, Loaded, Payload, State, listed_change};
+use mf_policy::{MOST_LISTED, SpecList, registration_of};
+use std::alloc::{AllocError, Global};
+
+/// What the call, which is about what was found, hands back where it is done. Only a label, the names of a directory and
+/// a list of rules take memory.
+pub fn payload_of(
+    alloc: Global,
+    state: &State,
+    found: &Found,
+    call: &Call,
+) -> Result<Payload, AllocError>
+    requires found { (task : List ℕ) × (child : Option (List ℕ)) × AreFound state.now task child call.now found.now }
+    requires formed { IsFormedCall call.now }
+    requires few { length state.now.specs ≤ MOST_LISTED }
+    ensures value { IfOk result (λ payload. (task : List ℕ) → (child : Option (List ℕ)) → AreFound state.now task child call.now found.now
+        → payload ≡ (row_of state.now task child call.now).payload) }
+    ensures memory { (task : List ℕ) → (child : Option (List ℕ)) → AreFound state.now task child call.now found.now
+        → payload_takes_memory (row_of state.now task child call.now).payload ≡ false → IsOk result }
+{
+    // Counting the entities shows the proof that the target lives.
+    let _live = state.objects.live();
+    read_found(alloc, state, found.target, call)
+}
+
+/// What the call hands back, by the target that was found.
+fn read_found(
+    alloc: Global,
+    state: &State,
+    target: Option<Id>,
+    call: &Call,
+) -> Result<Payload, AllocError>
+    requires live { IfSome target (λ id. IsSome (live_at state.now.objects id)) }
+    requires formed { IsFormedCall call.now }
+    requires few { length state.now.specs ≤ MOST_LISTED }
+    ensures value { IfOk result (λ payload. payload ≡ spec.payload_found state.now call.now target) }
+    ensures memory { payload_takes_memory (spec.payload_found state.now call.now target) ≡ false → IsOk result }
+{
+    let objects = &state.objects;
+    match call {
+        Call::Read(_) | Call::Pread(_) => Ok(head(objects, target)),
+        Call::Stat(_) => Ok(stat(objects, target)),
+        Call::Getpmac | Call::Getfmac(_) => label(alloc, state, target),
+        Call::Readdir(_) => names(alloc, objects, target),
+        Call::Pstat(_) => Ok(size(objects, target)),
+        Call::Recv(_) => Ok(message(objects, target)),
+        Call::Kldstat => Ok(Payload::Modules(loaded(&state.specs))),
+        Call::Kldload(name) => Ok(slot(state, name.as_str())),
+        Call::UgidfwList => rules(alloc, &state.specs),
+        Call::UgidfwAdd(_) => Ok(added(state, call)),
+        Call::Fork(_)
+        | Call::Exit
+        | Call::See(_)
+        | Call::Signal(_)
+        | Call::Debug(_)
+        | Call::Sched(_)
+        | Call::Priv(_)
+        | Call::Setpmac(_)
+        | Call::Setfmac(..)
+        | Call::Setpipemac(..)
+        | Call::Setsockmac(..)
+        | Call::Exec(_)
+        | Call::Create(_)
+        | Call::Mkdir(_)
+        | Call::Write(_, _)
+        | Call::Chmod(_, _)
+        | Call::Unlink(_)
+        | Call::Pipe(_)
+        | Call::Socket(_)
+        | Call::Pwrite(_, _)
+        | Call::Send(_, _, _)
+        | Call::Seesock(_)
+        | Call::Kldunload(_)
+        | Call::Sysctl(..)
+        | Call::UgidfwSet(..)
+        | Call::UgidfwRemove(_) => Ok(Payload::None),
+    }
+}
+
+/// The beginning of what a file or a pipe holds.
+fn head(objects: &Objects, found: Option<Id>) -> Payload
+    requires { IfSome found (λ id. IsSome (live_at objects.now id)) }
+    ensures { result ≡ spec.payload_of_found (read.head objects.now) found }
+{
+    match found {
+        Some(id) => Payload::Head(objects.head(id)),
+        None => Payload::None,
+    }
+}
+
+fn stat(objects: &Objects, found: Option<Id>) -> Payload
+    requires { IfSome found (λ id. IsSome (live_at objects.now id)) }
+    ensures { result ≡ spec.payload_of_found (read.stat objects.now) found }
+{
+    match found {
+        Some(id) => Payload::Stat(objects.file(id), objects.size(id)),
+        None => Payload::None,
+    }
+}
+
+#[tactic(auto, using(mf_objects::proofs::Laws::live_directory))]
+fn names(alloc: Global, objects: &Objects, found: Option<Id>) -> Result<Payload, AllocError>
+    requires { IfSome found (λ id. IsSome (live_at objects.now id)) }
+    ensures value { IfOk result (λ payload. payload ≡ spec.payload_of_found (read.names objects.now) found) }
+    ensures memory { payload_takes_memory (spec.payload_of_found (read.names objects.now) found) ≡ false → IsOk result }
+{
+    match found {
+        Some(id) if objects.file(id).dir => Ok(Payload::Names {
+            count: objects.count(id),
+            first: objects.names(alloc, id)?,
+        }),
+        _ => Ok(Payload::None),
+    }
+}
+
+/// The label of a process or a file.
+fn label(alloc: Global, state: &State, found: Option<Id>) -> Result<Payload, AllocError>
+    requires { IfSome found (λ id. IsSome (live_at state.now.objects id)) }
+    ensures value { IfOk result (λ payload. payload ≡ spec.payload_of_found (read.label state.now) found) }
+    ensures memory { payload_takes_memory (spec.payload_of_found (read.label state.now) found) ≡ false → IsOk result }
+{
+    let objects = &state.objects;
+    match found {
+        Some(id) => {
+            let parts = label_parts(&state.specs, objects.kind(id), &objects.label(id));
+            Payload::label(alloc, parts.as_slice())
+        }
+        None => Ok(Payload::None),
+    }
+}
+
+/// How many bytes a pipe holds.
+fn size(objects: &Objects, found: Option<Id>) -> Payload
+    requires { IfSome found (λ id. IsSome (live_at objects.now id)) }
+    ensures { result ≡ spec.payload_of_found (read.size objects.now) found }
+{
+    match found {
+        Some(id) => Payload::Size(objects.size(id)),
+        None => Payload::None,
+    }
+}
+
+/// The beginning of a socket's oldest message.
+fn message(objects: &Objects, found: Option<Id>) -> Payload
+    requires { IfSome found (λ id. IsSome (live_at objects.now id)) }
+    ensures { result ≡ spec.payload_of_found (read.message objects.now) found }
+{
+    match found {
+        Some(id) => Payload::Head(objects.message(id)),
+        None => Payload::None,
+    }
+}
+
+/// The listed modules in walk order.
+fn loaded(specs: &SpecList) -> ArrayVec<Loaded, MOST_LISTED>
+    requires { length specs.now ≤ MOST_LISTED }
+    ensures { result ≡ map read.loaded specs.now }
+{
+    let mut modules = ArrayVec::new();
+    for place in 0..specs.len() {
+        let registration = specs.registration(place);
+        modules.push(Loaded {
+            module: registration.module,
+            slot: registration.slot,
+        });
+    }
+    modules
+}
+
+/// The label slot that a module of that name gets.
+fn slot(state: &State, name: &str) -> Payload
+    ensures { result ≡ spec.slot state.now.numbers (module_named name.now) }
+{
+    match Module::from_name(name) {
+        None => Payload::None,
+        Some(module) => {
+            let registration = registration_of(module, state.booted, state.numbers.given());
+            Payload::Slot(registration.slot)
+        }
+    }
+}
+
+/// The rules about files.
+fn rules(alloc: Global, specs: &SpecList) -> Result<Payload, AllocError>
+    ensures value { IfOk result (λ payload. payload ≡ read.rules (listed_rules specs.now)) }
+    ensures memory { payload_takes_memory (read.rules (listed_rules specs.now)) ≡ false → IsOk result }
+{
+    match specs.rules() {
+        Some(rules) => Ok(Payload::Rules(rules.copy(alloc)?)),
+        None => Ok(Payload::None),
+    }
+}
+
+/// The number that a rule gets.
+fn added(state: &State, call: &Call) -> Payload
+    ensures { result ≡ spec.added state.now.specs (settings.listed_change state.now.specs call.now) }
+{
+    let Some((module, change)) = listed_change(state, call) else {
+        return Payload::None;
+    };
+    match state.specs.answer_to(module, &change).number {
+        Some(number) => Payload::Rule(number),
+        None => Payload::None,
+    }
+}

@@ -1,0 +1,128 @@
+//! What the call of an entry changes: entities alone.
+ghost use Rattle.std.specs.Prelude.{◌≡◌, ◌+◌, ◌<◌, ◌≤◌, IsOk, OnOk, OnErr, false};
+ghost use Rattle.mf_objects.specs.declared.limits.TheConstants.{ID_LIMIT};
+ghost use Rattle.mf_objects.specs.Live.{is_process};
+ghost use Rattle.mf_objects.specs.Lives.{IsLive};
+ghost use Rattle.mf_plan.specs.Found.{AreFound};
+ghost use Rattle.mf_plan.specs.Plan.{plan_of, row_of};
+ghost use Rattle.mf_plan.specs.declared.plan.Tail.TheVariants.{Do};
+ghost use Rattle.mf_calls.specs.Tasks.{is_change};
+ghost use Rattle.mf_calls.specs.WellFormed.{IsFormedCall, IsFormedLine, IsName};
+ghost use Rattle.mf_perform.specs.Effect.{after, takes_memory};
+ghost use Rattle.mf_perform.specs.Found.{effect_found};
+ghost use Rattle.mf_perform.specs.OneCall.{performed};
+ghost use Rattle.mf_perform.specs.Suits.{Suits};
+
+use crate::channels::{append, deliver, pipe, pread, recv, socket};
+use crate::files::{chmod, make_file, unlink};
+use crate::labels::relabel;
+use crate::processes::{exit, fork};
+use mf_calls::{Call, DIRECTORY_MODE, FILE_MODE, Line};
+use mf_elem::Request;
+use mf_objects::Id;
+use mf_plan::{Found, State};
+use std::alloc::{AllocError, Global};
+
+/// Does the call of a line of the task, which is about what was found. Its plan must end without a refusal, and no check of it
+/// be denied; and it mustn't be a change of the policies, which is made by `listed_after` and `put_listed`. If memory runs out, the
+/// state is unchanged.
+pub fn perform(
+    alloc: Global,
+    state: &mut State,
+    task: &str,
+    line: &Line,
+    found: &Found,
+) -> Result<(), AllocError>
+    requires task { IsName task.now }
+    requires line { IsFormedLine line.now }
+    requires entry { is_change line.now.call ≡ false }
+    requires proceeds { (plan_of state.old task.now line.now.child line.now.call).tail ≡ Do }
+    requires found { AreFound state.old task.now line.now.child line.now.call found.now }
+    requires next { state.old.objects.next < ID_LIMIT }
+    ensures ok { OnOk result (state.new ≡ performed state.old task.now line.now.child line.now.call) }
+    ensures err { OnErr result (state.new ≡ state.old) }
+    ensures next { state.new.objects.next ≤ state.old.objects.next + 1 }
+    ensures rises { state.old.objects.next ≤ state.new.objects.next }
+    ensures kept { state.new.booted ≡ state.old.booted }
+    ensures memory { takes_memory (row_of state.old task.now line.now.child line.now.call).effect ≡ false → IsOk result }
+{
+    // Counting the entities shows the proof that what was found among them lives.
+    let _live = state.objects.live();
+    match found.caller {
+        Some(caller) => {
+            let target = found.target;
+            perform_by(
+                alloc,
+                state,
+                task,
+                caller,
+                target,
+                &found.request,
+                &line.call,
+            )
+        }
+        None => Ok(()),
+    }
+}
+
+/// Does the call of a live process of the task, by the target and the request that were found.
+fn perform_by(
+    alloc: Global,
+    state: &mut State,
+    task: &str,
+    caller: Id,
+    target: Option<Id>,
+    asked: &Option<Request>,
+    call: &Call,
+) -> Result<(), AllocError>
+    requires task { IsName task.now }
+    requires formed { IsFormedCall call.now }
+    requires entry { is_change call.now ≡ false }
+    requires caller { IsLive is_process state.old.objects caller }
+    requires suits { Suits state.old (effect_found state.old task.now caller call.now target asked.now) }
+    requires next { state.old.objects.next < ID_LIMIT }
+    ensures ok { OnOk result (state.new ≡ after state.old caller (effect_found state.old task.now caller call.now target asked.now)) }
+    ensures err { OnErr result (state.new ≡ state.old) }
+    ensures memory { takes_memory (effect_found state.old task.now caller call.now target asked.now) ≡ false → IsOk result }
+{
+    match call {
+        Call::Fork(child) => fork(alloc, state, task, caller, child.as_str())?,
+        Call::Exit => exit(state, caller),
+        Call::Setpmac(_) | Call::Setfmac(..) | Call::Setpipemac(..) | Call::Setsockmac(..) => {
+            relabel(state, target, asked)?
+        }
+        Call::Create(path) => make_file(alloc, state, caller, target, path, FILE_MODE, false)?,
+        Call::Mkdir(path) => make_file(alloc, state, caller, target, path, DIRECTORY_MODE, true)?,
+        Call::Write(_, text) => append(state, target, text.as_slice())?,
+        Call::Chmod(_, mode) => chmod(state, target, *mode),
+        Call::Unlink(_) => unlink(state, target),
+        Call::Pipe(name) => pipe(alloc, state, caller, name.as_str())?,
+        Call::Socket(name) => socket(alloc, state, caller, name.as_str())?,
+        Call::Pread(_) => pread(state, target),
+        Call::Pwrite(_, text) => append(state, target, text.as_slice())?,
+        Call::Send(_, _, text) => deliver(alloc, state, target, text.as_slice())?,
+        Call::Recv(_) => recv(state, target),
+        Call::See(_)
+        | Call::Signal(_)
+        | Call::Debug(_)
+        | Call::Sched(_)
+        | Call::Priv(_)
+        | Call::Getpmac
+        | Call::Exec(_)
+        | Call::Read(_)
+        | Call::Stat(_)
+        | Call::Getfmac(_)
+        | Call::Readdir(_)
+        | Call::Pstat(_)
+        | Call::Seesock(_)
+        | Call::Kldstat
+        | Call::UgidfwList => {}
+        Call::Kldload(_)
+        | Call::Kldunload(_)
+        | Call::Sysctl(..)
+        | Call::UgidfwAdd(_)
+        | Call::UgidfwSet(..)
+        | Call::UgidfwRemove(_) => unreachable!(),
+    }
+    Ok(())
+}

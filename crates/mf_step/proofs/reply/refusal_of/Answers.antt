@@ -1,7 +1,0 @@
-use Rattle.std.proofs.Common.{Option, ap, sym, ◌∙◌}
-use Rattle.mf_step.specs.declared.verdict.Denial.{Denial}
-use Rattle.mf_step.specs.Reply.{denied_reply}
-use Rattle.mf_step.proofs.reply.refusal_of.Goals as goal
-
-pub returns-in-Some-clause-reply : goal.returns-in-Some-clause-reply
-returns-in-Some-clause-reply c = λ p. ap (λ (denied : Option Denial). denied_reply c.args.plan.now denied p) c.in-Some.is ∙ sym (c.denied.ensures.reply p)

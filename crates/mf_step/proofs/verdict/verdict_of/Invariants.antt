@@ -1,9 +1,0 @@
-use Rattle.std.proofs.Common.{◌≡◌, ◌+◌, drop}
-use Rattle.mf_step.specs.Verdict.{denial_from}
-use Rattle.mf_step.proofs.verdict.verdict_of.Given as goal
-
-abbrev pub invariant-loop-place : goal.invariant-loop-place
-invariant-loop-place g l = record {
-  counts : l.number ≡ l.place + 1;
-  so_far : denial_from l.list.entries 1 l.plan.items ≡ denial_from l.list.entries l.number (drop l.place l.plan.items);
-}

@@ -1,5 +1,0 @@
-use Rattle.mf_stepping.proofs.Legality.{legal}
-use Rattle.mf_stepping.proofs.laws.step_runs_are_legal.Goals as goal
-
-pub returns : goal.returns
-returns c = legal

@@ -1,0 +1,5 @@
+use Rattle.std.proofs.Common.{◌≡◌, map, take, None}
+use Rattle.mf_steps.proofs.kept.KeptPlans.for_tasks.Given as goal
+
+abbrev pub invariant-loop-task : goal.invariant-loop-task
+invariant-loop-task l = l.items.items ≡ map (λ task. None) (take l._task-index l._task-items)
