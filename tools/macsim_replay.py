@@ -229,7 +229,7 @@ class Replay:
             return True
         is_of_run = not any(event.kind in ("stale", "waits") for event in events)
         made = all(self.made_calls[task.name] == len(task.calls) for task in self.script.tasks.values())
-        return is_of_run and made and not self.kernel.is_ok
+        return is_of_run and made and not self.kernel.is_done
 
     def judge_end(self, events, name):
         """The history has to be a whole one."""

@@ -16,7 +16,7 @@ use mf_cred::Cred;
 use mf_elem::{Elem, LabelValue, RangeLabel};
 use mf_errno::Module;
 use mf_item::Kind;
-use mf_list::{Catalogue, PolicyList};
+use mf_list::{Catalogue, Fixed, Listed, PolicyList};
 use mf_objects::Objects;
 use mf_perform::{payload_of, perform, refusal_of, verdict_of};
 use mf_plan::{Found, Plan, Reply, State, Tail};
@@ -25,10 +25,11 @@ use mf_slots::SlotNumbers;
 use std::alloc::{AllocError, Global};
 use std::process::Abort;
 
-/// The state, and the list of the policies that are asked.
+/// The state, and the lists of the policies that are asked.
 #[derive(Drop)]
 struct Machine {
     state: State,
+    fixed: Fixed<Biba>,
     list: PolicyList<Biba>,
 }
 
@@ -56,13 +57,15 @@ fn add_process(
     Ok(())
 }
 
-/// The list with Biba.
-fn list_of_biba(alloc: Global) -> Result<PolicyList<Biba>, AllocError> {
-    let mut catalogue = Catalogue::new(vec![in alloc; Biba::new()]?);
-    let mut list = PolicyList::new(alloc);
-    list.ready(&mut catalogue)?;
-    let _registered = list.register(&mut catalogue, &mut SlotNumbers::new(), "mac_biba", false);
-    Ok(list)
+/// The static list with Biba, and a dynamic one with nothing.
+#[tactic(auto, using(mf_list::proofs::Counts::once_if_distinct))]
+fn lists_of_biba(alloc: Global) -> Result<(Fixed<Biba>, PolicyList<Biba>), AllocError> {
+    let mut fixed = Fixed::new(alloc)?;
+    let mut list = PolicyList::new(alloc)?;
+    let mut catalogue = Catalogue::new(vec![in alloc; Biba::new()]?)?;
+    let mut numbers = SlotNumbers::new();
+    let _booted = list.boot(&mut fixed, &mut catalogue, &mut numbers, "mac_biba");
+    Ok((fixed, list))
 }
 
 /// The specs where Biba is listed.
@@ -95,10 +98,8 @@ fn booted(rt: &impl Abort, alloc: Global, t: Elem, u: Elem) -> Result<Machine, A
         numbers,
         booted: true,
     };
-    Ok(Machine {
-        state,
-        list: list_of_biba(alloc)?,
-    })
+    let (fixed, list) = lists_of_biba(alloc)?;
+    Ok(Machine { state, fixed, list })
 }
 
 /// Does the call of a line that nothing refuses.
@@ -133,12 +134,12 @@ fn reply_of(
     requires task { IsName task.now }
     requires line { IsFormedLine line.now }
 {
-    let list = &machine.list;
+    let list = Listed::new(&machine.fixed, &machine.list);
     assert!(rt; list.same_specs(&machine.state.specs));
     assert!(rt; machine.state.specs.len() <= 8 && machine.state.objects.next_id() < u32::MAX);
     let mut plan = Plan::new();
     let found = plan.make(&machine.state, task, line.child_name(), &line.call);
-    let verdict = verdict_of(list, &plan);
+    let verdict = verdict_of(&list, &plan);
     match refusal_of(&plan, &verdict) {
         Some(refusal) => Ok(refusal),
         None => {

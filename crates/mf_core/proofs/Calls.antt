@@ -1,5 +1,5 @@
 -- What the call of a task's next line makes of a run: the reply, the state, and the list of policies after it.
-use Rattle.std.proofs.Common.{◌≡◌, ℕ, false, true, List, Option, Some, None, refl, sym, ◌∙◌, ap, subst}
+use Rattle.std.proofs.Common.{◌≡◌, ℕ, false, true, Option, Some, None, refl, sym, ◌∙◌, ap, subst}
 use Rattle.mf_core.proofs.LookedUp.{reply_at, state_at}
 use Rattle.std.specs.Prelude.{IfSome}
 use Rattle.mf_calls.specs.declared.script.Line.{Line}
@@ -17,7 +17,7 @@ use Rattle.mf_plan.specs.Plan.{plan_of}
 use Rattle.mf_perform.specs.declared.verdict.Denial.{Denial}
 use Rattle.mf_perform.specs.declared.verdict.Verdict.{Verdict}
 use Rattle.mf_perform.specs.declared.relisting.Relisting.{Relisting}
-use Rattle.mf_perform.specs.Relisting.{relisting_in, IsFormed}
+use Rattle.mf_perform.specs.Relisting.{IsFormed, Tells}
 use Rattle.mf_perform.specs.Reply.{denied_reply, reply_to, tail_reply}
 use Rattle.mf_perform.specs.Refused.{is_ok}
 use Rattle.mf_perform.specs.OneCall.{performed, call_payload, call_reply, call_state}
@@ -126,8 +126,8 @@ module _ (s : Script) (h : History) (r : RunState) (t : ℕ) (line : Line) (repl
       ∙ refused_only (call_reply r.state (name_of s t) line.child line.call) r.state (performed r.state (name_of s t) line.child line.call) (ap is_ok reply_is ∙ refused)
 
   -- it is made, where it is done
-  pub line_made : (relisting : Option Relisting) → is_ok reply ≡ true → relisting ≡ relisting_in r.state.specs line.call → IfSome relisting IsFormed
+  pub line_made : (relisting : Option Relisting) → is_ok reply ≡ true → Tells r.state line.call relisting → IfSome relisting IsFormed
       → IsMade r.state (next_state s r t) reply relisting
-  line_made relisting done is formed =
+  line_made relisting done tells formed =
       subst (λ (x : State). IsMade r.state x reply relisting) (sym (moved s r t line next))
-      (change_made r.state (name_of s t) line.call line.child reply relisting reply_is done is_a_change is formed)
+      (change_made r.state (name_of s t) line.call line.child reply relisting reply_is done is_a_change tells formed)

@@ -1,5 +1,5 @@
 -- How often modules are listed and held.
-use Rattle.std.proofs.Common.{◌≡◌, ◌≢◌, ℕ, zero, suc, ◌+◌, ◌<◌, ◌≤◌, Bool, true, false, cond, ◌||◌, List, [], ◌∷◌, length, get_or, take, refl, ap, arith}
+use Rattle.std.proofs.Common.{◌≡◌, ◌≢◌, ℕ, zero, suc, ◌+◌, ◌<◌, ◌≤◌, Bool, true, false, cond, ◌||◌, List, [], ◌∷◌, ◌++◌, length, get_or, take, refl, ap, ◌∙◌, arith}
 use Rattle.std.specs.List.{list_any}
 use Rattle.mf_errno.specs.Same.{same_module}
 use Rattle.mf_errno.specs.declared.module.Module.{Module}
@@ -8,8 +8,7 @@ use Rattle.mf_list.specs.Once.{are_distinct}
 use Rattle.mf_errno.proofs.Modules.{same_module-is, same_module-self}
 use Rattle.mf_core.specs.AllModules.{AreAllModules}
 use Rattle.mf_core.specs.Policies.{AreOf}
-use Rattle.mf_list.specs.Lists.{ListView, CatalogueView, IsReady}
-use Rattle.mf_policy.specs.Registration.{is_of}
+use Rattle.mf_policy.specs.Registration.{Entry, is_of}
 
 pub same_module-other : (a b : Module) → a ≢ b → same_module a b ≡ false
 same_module-other a b other =
@@ -65,12 +64,12 @@ distinct_if_once (m ∷ ms) once =
 pub distinct_modules : (ms : List Module) → AreAllModules ms → are_distinct ms ≡ true
 distinct_modules ms all = distinct_if_once ms (λ m. omega (arith, all m))
 
--- an empty list, and a catalogue of all modules
-pub all_unlisted : (list : ListView) (catalogue : CatalogueView) (modules : List Module) → list.entries ≡ [] → catalogue.modules ≡ modules → AreAllModules modules
-    → IsReady list catalogue → AreOf [] list catalogue
-all_unlisted list catalogue modules none all_in all ready =
+-- empty lists, and a catalogue of all modules
+pub all_unlisted : (fixed list : List Entry) (catalogue modules : List Module) → fixed ≡ [] → list ≡ [] → catalogue ≡ modules → AreAllModules modules
+    → AreOf [] fixed list catalogue
+all_unlisted fixed list catalogue modules none_fixed none all_in all =
+    let listed : fixed ++ list ≡ [] = ap (λ (es : List Entry). es ++ list) none_fixed ∙ none in
     record {
-      listed = none;
-      held = λ m. omega (arith, ap (how_many (is_of m)) none, ap (how_many (same_module m)) all_in, all m);
-      ready = ready;
+      listed = listed;
+      held = λ m. omega (arith, ap (how_many (is_of m)) listed, ap (how_many (same_module m)) all_in, all m);
     }

@@ -6,7 +6,6 @@ use Rattle.mf_policy.specs.declared.labels.Origin.TheVariants.{Boot}
 use Rattle.mf_policy.specs.NewLabels.{new_label}
 use Rattle.mf_policy.specs.Registration.{Entry}
 use Rattle.mf_objects.specs.declared.id.Id.{Id}
-use Rattle.mf_objects.specs.declared.entity.EntityData.TheVariants.{Process}
 use Rattle.mf_objects.specs.Live.{Entities}
 use Rattle.mf_objects.specs.Changes as objects
 use Rattle.mf_calls.specs.declared.script.Line.{Line}
@@ -25,4 +24,4 @@ abbrev pub state_at : Script → RunState → ℕ → Option Line → State
 state_at s r t line = option_map_or (λ line. call_state r.state (name_of s t) line.child line.call) line r.state
 
 abbrev pub with_task_at : List Entry → Entities → Task → Option Id → Entities
-with_task_at listed o t found = option_map_or (λ id. o) found (objects.with_entity o t.name (new_label listed kinds.Process (Boot t.label)) (Process t.cred))
+with_task_at listed o t found = option_map_or (λ id. o) found (objects.with_entity o t.name (new_label listed kinds.Process (Boot t.label)) (objects.new_process t.cred))

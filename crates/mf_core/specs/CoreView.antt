@@ -68,7 +68,7 @@ IsDone old t new = (reply : Reply) × (next_reply old.script (run_state old) t �
 abbrev pub IsCurrent : CoreView → ℕ → List Entry → Plan → Type 0
 IsCurrent core t listed plan = (next_plan core.script (run_state core) t ≡ Some plan) × (listed ≡ specs_of core)
 
--- The plan and the list of policies are those of now and the call is done; or they aren't, and nothing changes.
+-- The plan and the listed policies are those of now and the call is done; or they aren't, and nothing changes.
 abbrev pub Commits : CoreView → ℕ → List Entry → Plan → Commit → CoreView → Type 0
 Commits old t listed plan commit.Done new = IsCurrent old t listed plan × IsDone old t new
 Commits old t listed plan commit.Stale new = ¬ IsCurrent old t listed plan × (new ≡ old)

@@ -8,7 +8,6 @@ use Rattle.mf_policy.specs.declared.registration.Registration.{Registration}
 use Rattle.mf_policy.specs.declared.labels.Origin.TheVariants.{Boot}
 use Rattle.mf_policy.specs.NewLabels.{new_label}
 use Rattle.mf_policy.specs.Registration.{Entry, given_after, registration_of, with_registered}
-use Rattle.mf_objects.specs.declared.entity.EntityData.TheVariants.{Process}
 use Rattle.mf_objects.specs.Live.{Entities}
 use Rattle.mf_objects.specs.Changes as objects
 use Rattle.mf_calls.specs.declared.script.Task.{Task}
@@ -53,7 +52,7 @@ with_file listed o f = with_file_at listed o f (lookup_along o f.path).target
 -- The process of a task is made under its name, which in a well-formed script is free.
 abbrev pub with_task : List Entry → Entities → Task → Entities
 with_task listed o t =
-    option_map_or (λ id. o) (process_named o t.name) (objects.with_entity o t.name (new_label listed kinds.Process (Boot t.label)) (Process t.cred))
+    option_map_or (λ id. o) (process_named o t.name) (objects.with_entity o t.name (new_label listed kinds.Process (Boot t.label)) (objects.new_process t.cred))
 
 -- the root, then the files one after another, then the processes of the tasks
 abbrev pub opening_objects : List Entry → Script → Entities

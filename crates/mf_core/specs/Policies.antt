@@ -1,31 +1,37 @@
--- What a core has to do with the list of policies and the catalogue that came with it: this model's own.
-use Rattle.std.specs.Prelude.{◌≡◌, ℕ, ◌<◌, true, false, List, Option, Some, None}
+-- What a core has to do with the lists of policies and the catalogue that came with it: this model's own.
+use Rattle.std.specs.Prelude.{◌≡◌, ℕ, ◌<◌, ◌++◌, true, false, List, filter}
 use Rattle.mf_errno.specs.declared.module.Module.{Module}
 use Rattle.mf_elem.specs.declared.label.TheConstants.{SLOTS}
 use Rattle.mf_policy.specs.Modules.{wants_slot}
 use Rattle.mf_policy.specs.Registration.{Entry, is_listed}
-use Rattle.mf_list.specs.Lists.{ListView, CatalogueView, IsReady, in_catalogue}
+use Rattle.mf_list.specs.Lists.{in_catalogue}
 use Rattle.mf_list.specs.Once.{times_held}
-use Rattle.mf_plan.specs.declared.reply.Reply.{Reply}
-use Rattle.mf_plan.specs.declared.state.State.{State}
-use Rattle.mf_perform.specs.Refused.{is_ok}
+use Rattle.mf_calls.specs.declared.script.Script.{Script}
+use Rattle.mf_core.specs.Opening.{booted_specs}
 use Rattle.mf_core.specs.declared.progress.ChangeOutcome.{ChangeOutcome}
 use Rattle.mf_core.specs.declared.progress.ChangeOutcome.TheVariants as outcome
 
--- The list is the one whose policies these are. Each module stands once, in the list or in the catalogue; and each of the two has room for
--- what the other holds.
-pub record AreOf (specs : List Entry) (list : ListView) (catalogue : CatalogueView) : Type 0 where
-  pub listed : list.entries ≡ specs
-  pub held : (m : Module) → times_held m list catalogue ≡ 1
-  pub ready : IsReady list catalogue
+-- the policies in the static list, in walk order
+abbrev pub static_among : List Entry → List Entry
+static_among listed = filter (λ entry. entry.0.fixed) listed
 
--- while a change waits, list and catalogue stay as they are
-abbrev pub StaysWhileWaiting : ChangeOutcome → ListView → ListView → CatalogueView → CatalogueView → Type 0
+-- the static list at the end of boot: nothing changes it after that
+abbrev pub static_of : Script → List Entry
+static_of s = static_among (booted_specs s)
+
+-- The static list and the dynamic list are those whose policies these are. Each module stands once, in the static list, in the dynamic list
+-- or in the catalogue.
+pub record AreOf (specs : List Entry) (fixed list : List Entry) (catalogue : List Module) : Type 0 where
+  pub listed : fixed ++ list ≡ specs
+  pub held : (m : Module) → times_held m (fixed ++ list) catalogue ≡ 1
+
+-- while a change waits, the dynamic list and the catalogue stay as they are
+abbrev pub StaysWhileWaiting : ChangeOutcome → List Entry → List Entry → List Module → List Module → Type 0
 StaysWhileWaiting outcome.Done list list' catalogue catalogue' = Unit {0}
 StaysWhileWaiting (outcome.Waits n) list list' catalogue catalogue' = (list' ≡ list) × (catalogue' ≡ catalogue)
 
 -- A module can be registered at boot: it is there, it isn't listed, and a slot number is left where it wants one.
-pub record CanBoot (m : Module) (list : ListView) (catalogue : CatalogueView) (given : ℕ) : Type 0 where
-  pub there : in_catalogue m catalogue.modules ≡ true
-  pub free : is_listed m list.entries ≡ false
+pub record CanBoot (m : Module) (listed : List Entry) (catalogue : List Module) (given : ℕ) : Type 0 where
+  pub there : in_catalogue m catalogue ≡ true
+  pub free : is_listed m listed ≡ false
   pub slot : wants_slot m ≡ true → given < SLOTS

@@ -1,12 +1,11 @@
 -- The policies after a change; inner contracts alone cite this.
-use Rattle.std.specs.Prelude.{◌≡◌, true, false, List, Option, Some, None}
-use Rattle.mf_policy.specs.Registration.{Entry}
+use Rattle.std.specs.Prelude.{◌≡◌, true, false, Option, Some, None}
 use Rattle.mf_objects.specs.declared.id.Id.{Id}
 use Rattle.mf_plan.specs.declared.reply.Reply.{Reply}
 use Rattle.mf_plan.specs.declared.state.State.{State}
 use Rattle.mf_perform.specs.Effect.{after}
 use Rattle.mf_perform.specs.Refused.{is_ok}
-use Rattle.mf_perform.specs.Relisting.{effect_in, IsFormed}
+use Rattle.mf_perform.specs.Relisting.{effect_in, IsFormed, SetsDynamic}
 use Rattle.mf_perform.specs.Suits.{Suits}
 use Rattle.mf_perform.specs.declared.relisting.Relisting.{Relisting}
 use Rattle.mf_core.specs.declared.run.changing.Relisted.{Relisted}
@@ -15,6 +14,7 @@ use Rattle.mf_core.specs.declared.run.changing.Relisted.{Relisted}
 pub record Leads (s next : State) (relisting : Relisting) : Type 0 where
   pub suits : Suits s (effect_in relisting)
   pub formed : IsFormed relisting
+  pub dynamic : SetsDynamic relisting
   pub made : (caller : Id) → next ≡ after s caller (effect_in relisting)
 
 -- what the call with that reply changes; nothing where it is denied or refused

@@ -1,71 +1,75 @@
 //! Registration at boot.
-ghost use Rattle.std.specs.Prelude.{◌≡◌, [], false, All, IfOk, fold, map};
+ghost use Rattle.std.specs.Prelude.{◌≡◌, ◌++◌, [], false, All, IfOk, fold, map};
 ghost use Rattle.mf_policy.specs.Modules.{module_of};
 ghost use Rattle.mf_policy.specs.Registration.{with_registered};
-ghost use Rattle.mf_list.specs.Lists.{IsReady};
+ghost use Rattle.mf_list.specs.Once.{IsHeldOnce};
 ghost use Rattle.mf_list.specs.Fresh.{IsFresh};
 ghost use Rattle.mf_list.specs.Registration.{Registers, registration_of};
 ghost use Rattle.mf_calls.specs.WellFormed.{AreBoots};
 ghost use Rattle.mf_core.specs.Opening as spec;
-ghost use Rattle.mf_core.specs.Policies.{AreOf, CanBoot};
+ghost use Rattle.mf_core.specs.Policies.{AreOf, CanBoot, static_among};
 ghost use Rattle.mf_core.specs.AllModules.{AreAllModules};
 
 use crate::history::BootList;
 use mf_errno::Module;
-use mf_list::{Catalogue, PolicyList};
+use mf_list::{Catalogue, Fixed, PolicyList};
 use mf_names::Listing;
 use mf_policy::{Policy, Registration};
 use mf_slots::SlotNumbers;
 use std::alloc::{AllocError, Global};
 
-/// The registrations of these modules in order, and the list and the catalogue after them.
+/// The registrations of these modules in order, and the lists and the catalogue after them.
 pub fn boot<P: Policy>(
     alloc: Global,
     modules: &Listing<Module>,
     policies: Vec<P>,
-) -> Result<(BootList, PolicyList<P>, Catalogue<P>), AllocError>
+) -> Result<(BootList, Fixed<P>, PolicyList<P>, Catalogue<P>), AllocError>
     requires boots { AreBoots modules.now }
     requires modules { AreAllModules (map (λ p. module_of (P.spec p)) policies.items) }
     requires fresh { All (λ p. IsFresh (P.spec p)) policies.items }
     ensures boots { IfOk result (λ r. r.0 ≡ spec.registrations_from 0 modules.now) }
-    ensures policies { IfOk result (λ r. AreOf (fold with_registered [] r.0) r.1 r.2) }
+    ensures policies { IfOk result (λ r. AreOf (fold with_registered [] r.0) r.1 r.2 r.3) }
+    ensures fixed { IfOk result (λ r. r.1 ≡ static_among (fold with_registered [] r.0)) }
 {
-    let (mut list, mut catalogue) = unlisted(alloc, policies)?;
-    let boots = register_boots(alloc, modules, &mut list, &mut catalogue)?;
-    Ok((boots, list, catalogue))
+    let (mut fixed, mut list, mut catalogue) = unlisted(alloc, policies)?;
+    let boots = register_boots(alloc, modules, &mut fixed, &mut list, &mut catalogue)?;
+    fixed.are_pinned();
+    list.may_leave();
+    Ok((boots, fixed, list, catalogue))
 }
 
-/// An empty list, and a catalogue of these policies.
+/// Empty lists, and a catalogue of these policies.
 fn unlisted<P: Policy>(
     alloc: Global,
     modules: Vec<P>,
-) -> Result<(PolicyList<P>, Catalogue<P>), AllocError>
+) -> Result<(Fixed<P>, PolicyList<P>, Catalogue<P>), AllocError>
     requires modules { AreAllModules (map (λ p. module_of (P.spec p)) modules.items) }
     requires fresh { All (λ p. IsFresh (P.spec p)) modules.items }
-    ensures { IfOk result (λ r. AreOf [] r.0 r.1) }
+    ensures { IfOk result (λ r. AreOf [] r.0 r.1 r.2) }
 {
-    let mut list = PolicyList::new(alloc);
-    let mut catalogue = Catalogue::new(modules);
-    list.ready(&mut catalogue)?;
-    Ok((list, catalogue))
+    let fixed = Fixed::new(alloc)?;
+    let list = PolicyList::new(alloc)?;
+    let catalogue = Catalogue::new(modules)?;
+    Ok((fixed, list, catalogue))
 }
 
 /// Registers these modules in order, and returns the registrations.
 fn register_boots<P: Policy>(
     alloc: Global,
     modules: &Listing<Module>,
+    fixed: &mut Fixed<P>,
     list: &mut PolicyList<P>,
     catalogue: &mut Catalogue<P>,
 ) -> Result<BootList, AllocError>
     requires boots { AreBoots modules.now }
-    requires policies { AreOf [] list.old catalogue.old }
+    requires policies { AreOf [] fixed.old list.old catalogue.old }
     ensures boots { IfOk result (λ boots. boots ≡ spec.registrations_from 0 modules.now) }
-    ensures policies { IfOk result (λ boots. AreOf (fold with_registered [] boots) list.new catalogue.new) }
+    ensures policies { IfOk result (λ boots. AreOf (fold with_registered [] boots) fixed.new list.new catalogue.new) }
 {
     let mut boots = Listing::new(alloc);
     let mut numbers = SlotNumbers::new();
     for booted in modules.as_slice() {
-        let registration = register_boot(list, catalogue, &mut numbers, *booted);
+        let registration = register_boot(fixed, list, catalogue, &mut numbers, *booted);
         boots.push(registration)?;
     }
     Ok(boots)
@@ -73,18 +77,18 @@ fn register_boots<P: Policy>(
 
 /// Registers a module before the end of boot.
 fn register_boot<P: Policy>(
+    fixed: &mut Fixed<P>,
     list: &mut PolicyList<P>,
     catalogue: &mut Catalogue<P>,
     numbers: &mut SlotNumbers,
     booted: Module,
 ) -> Registration
-    requires ready { IsReady list.old catalogue.old }
-    requires can { CanBoot booted list.old catalogue.old numbers.old }
+    requires once { IsHeldOnce (fixed.old ++ list.old) catalogue.old }
+    requires can { CanBoot booted (fixed.old ++ list.old) catalogue.old numbers.old }
     ensures registration { result ≡ registration_of booted false numbers.old }
-    ensures moves { Registers result list.old list.new catalogue.old catalogue.new numbers.old numbers.new }
-    ensures ready { IsReady list.new catalogue.new }
+    ensures moves { Registers result (fixed.old ++ list.old) (fixed.new ++ list.new) catalogue.old catalogue.new numbers.old numbers.new }
 {
-    match list.register(catalogue, numbers, booted.name(), false) {
+    match list.boot(fixed, catalogue, numbers, booted.name()) {
         Ok(registration) => registration,
         Err(_) => unreachable!(),
     }

@@ -1,5 +1,7 @@
 //! The core: a history that is legal for its script, with the state that it determines.
 ghost use Rattle.std.specs.Prelude.{◌≡◌, ◌+◌, ◌<◌, ◌≤◌, ◌⊎◌, ℕ, [], All, IfOk, length, map, Some};
+ghost use Rattle.mf_elem.specs.declared.label.TheConstants.{SLOTS};
+ghost use Rattle.mf_objects.specs.Lives.{made_count};
 ghost use Rattle.mf_policy.specs.Modules.{module_of};
 ghost use Rattle.mf_list.specs.Fresh.{IsFresh};
 ghost use Rattle.mf_calls.specs.declared.limits.TheConstants.{LINE_LIMIT};
@@ -13,7 +15,7 @@ ghost use Rattle.mf_core.specs.LegalHistory.{IsComplete, IsLegal};
 ghost use Rattle.mf_core.specs.WithEvent.{with_event};
 ghost use Rattle.mf_core.specs.Next.{next_plan};
 ghost use Rattle.mf_core.specs.Opening.{booted_specs, boots_of};
-ghost use Rattle.mf_core.specs.Policies.{AreOf};
+ghost use Rattle.mf_core.specs.Policies.{AreOf, static_of};
 ghost use Rattle.mf_core.specs.AllModules.{AreAllModules};
 ghost use Rattle.mf_core.specs.Progress.{progress_at, first_progress, open_entries, left};
 ghost use Rattle.mf_core.specs.Advances.{Advances};
@@ -26,7 +28,7 @@ use crate::history::{BootList, Event, EventList, History};
 use crate::progress::Turn;
 use crate::run::Run;
 use mf_calls::Script;
-use mf_list::{Catalogue, PolicyList};
+use mf_list::{Catalogue, Fixed, Listed, PolicyList};
 use mf_perform::{Verdict, verdict_of};
 use mf_plan::{Plan, State};
 use mf_policy::Policy;
@@ -52,13 +54,14 @@ impl<'s> Model for Core<'s> {
 }
 
 impl<'s> Core<'s> {
-    /// The core before the first event of the script. `modules` has a policy of each module, once, in its initial state. Those
-    /// that the script boots are registered in its order; the others stay in the catalogue.
+    /// The core before the first event of the script, and the static list, which nothing changes from then on. `modules` has
+    /// a policy of each module, once, in its initial state. Those that the script boots are registered in its order; the
+    /// others stay in the catalogue.
     pub fn new<P: Policy>(
         alloc: Global,
         script: &'s Script,
         modules: Vec<P>,
-    ) -> Result<(Core<'s>, PolicyList<P>, Catalogue<P>), AllocError>
+    ) -> Result<(Core<'s>, Fixed<P>, PolicyList<P>, Catalogue<P>), AllocError>
         requires formed { IsWellFormed script.now }
         requires modules { AreAllModules (map (λ p. module_of (P.spec p)) modules.items) }
         requires fresh { All (λ p. IsFresh (P.spec p)) modules.items }
@@ -66,13 +69,14 @@ impl<'s> Core<'s> {
         ensures boots { IfOk result (λ r. r.0.history.boots ≡ boots_of script.now) }
         ensures history { IfOk result (λ r. r.0.history.events.list ≡ []) }
         ensures progress { IfOk result (λ r. (t : ℕ) → progress_at (progress_of r.0) t ≡ first_progress) }
-        ensures policies { IfOk result (λ r. AreOf (specs_of r.0) r.1 r.2) }
+        ensures policies { IfOk result (λ r. AreOf (specs_of r.0) r.1 r.2 r.3) }
+        ensures fixed { IfOk result (λ r. r.1 ≡ static_of script.now) }
         ensures entries { IfOk result (λ r. open_of r.0 ≡ 0) }
         ensures lines { IfOk result (λ r. done_of r.0 ≡ 0) }
     {
-        let (boots, list, catalogue) = boot(alloc, &script.boots, modules)?;
+        let (boots, fixed, list, catalogue) = boot(alloc, &script.boots, modules)?;
         let core = Core::with_boots(alloc, script, boots)?;
-        Ok((core, list, catalogue))
+        Ok((core, fixed, list, catalogue))
     }
 
     /// The core before the first event of the script, with the registrations of the modules that it boots.
@@ -145,8 +149,8 @@ impl<'s> Core<'s> {
     }
 
     /// The listed policies' verdict on a plan: the first denial, if a check is denied.
-    pub fn walk<P: Policy>(list: &PolicyList<P>, plan: &Plan) -> Verdict
-        ensures { result ≡ step.verdict_of list.now.entries plan.now }
+    pub fn walk<P: Policy>(list: &Listed<'_, P>, plan: &Plan) -> Verdict
+        ensures { result ≡ step.verdict_of list.now plan.now }
     {
         verdict_of(list, plan)
     }
@@ -173,6 +177,14 @@ impl<'s> Core<'s> {
         ensures { result.now ≡ (run_state self.now).state }
     {
         self.run.state()
+    }
+
+    /// How many live entities of the present state have the label slot made.
+    pub fn held(&self, slot: u8) -> u32
+        requires { slot < SLOTS }
+        ensures { result ≡ made_count (run_state self.now).state.objects slot }
+    {
+        self.state().objects.held(slot)
     }
 
     /// The history so far.

@@ -27,14 +27,13 @@ use Rattle.mf_policy.specs.Relabelled.{after_by, range_after, relabelled, relabe
 use Rattle.mf_policy.specs.Relabelled.{value_of as relabelled_by}
 use Rattle.mf_list.specs.Asked.{slot_of}
 use Rattle.mf_objects.specs.declared.id.Id.{Id}
-use Rattle.mf_objects.specs.Live.{LiveEntity, kind_of, live_at}
+use Rattle.mf_objects.specs.Live.{LiveEntity, kind_of, live_at, value_in}
 use Rattle.mf_plan.specs.declared.state.State.{State}
 use Rattle.mf_lifetimes.proofs.Listing.{IsLasting, IsPinned}
-use Rattle.mf_lifetimes.specs.Marks.{value_in}
 use Rattle.mf_lifetimes.specs.Laws.{holds_valid, suits_kind}
 use Rattle.mf_lifetimes.proofs.Kept.{four_values}
 use Rattle.mf_lifetimes.proofs.Marked.{IsHeld}
-use Rattle.mf_flow.specs.Sources.{element_in, has_element}
+use Rattle.mf_flow.specs.Sources.{element_by, has_element}
 
 -- Elements as they are made
 
@@ -60,7 +59,7 @@ inherits m kind value lasting = by_labels (facts_of m).labels lasting
 
 -- a new entity has its maker's element
 pub created_element : (r : Registration) (specs : List Entry) (given : ℕ) (kind : Kind) (maker : List LabelValue) → slot_of r < SLOTS → IsPinned (slot_of r) r specs given
-    → element_in r (new_label specs kind (Maker maker)) ≡ element_in r maker
+    → element_by r (new_label specs kind (Maker maker)) ≡ element_by r maker
 created_element r specs given kind maker within pinned =
     let slot : ℕ = slot_of r in
     let there : slice_index_or (new_label specs kind (Maker maker)) slot Unset ≡ new_value specs kind (Maker maker) slot = four_values (new_value specs kind (Maker maker)) slot within in
@@ -94,7 +93,7 @@ valid_some (Ranges process other) kind (Number n) elements valid = cc
 valid_some labels kind value elements valid = cc
 
 -- each live entity has an element
-pub all_labelled : (r : Registration) (s : State) → IsHeld (slot_of r) r s → (id : Id) (e : LiveEntity) → live_at s.objects id ≡ Some e → HasElement (element_in r e.label)
+pub all_labelled : (r : Registration) (s : State) → IsHeld (slot_of r) r s → (id : Id) (e : LiveEntity) → live_at s.objects id ≡ Some e → HasElement (element_by r e.label)
 all_labelled r s held id e live = valid_some (facts_of r.module).labels (kind_of e.what) (value_in (slot_of r) e) held.pinned.lasting (held.valid id e live)
 
 -- Elements as they are asked
@@ -120,7 +119,7 @@ keeps_element m request value lasting none = by_labels (facts_of m).labels lasti
 
 -- a relabel that asks for no element leaves it
 pub relabelled_element : (r : Registration) (specs : List Entry) (given : ℕ) (request : Request) (label : List LabelValue) → slot_of r < SLOTS → IsPinned (slot_of r) r specs given
-    → has_element r.module request ≡ false → element_in r (relabelled specs request label) ≡ element_in r label
+    → has_element r.module request ≡ false → element_by r (relabelled specs request label) ≡ element_by r label
 relabelled_element r specs given request label within pinned none =
     let slot : ℕ = slot_of r in
     let there : slice_index_or (relabelled specs request label) slot Unset ≡ relabelled_value specs request label slot =

@@ -26,7 +26,7 @@ use Rattle.mf_flow.specs.declared.table.Row.{Row}
 use Rattle.mf_flow.specs.Order.{union}
 use Rattle.mf_flow.specs.Rows.{AreOwnRows, AreRows, IsFlowOf, Rows, row, element_of, new_row}
 use Rattle.mf_flow.specs.Sources.{Sets, alone, held_by, sources_of}
-use Rattle.mf_flow.specs.Table.{row_of, rows_for, rows_in, sourced, table_of}
+use Rattle.mf_flow.specs.Table.{sources_row, rows_for, rows_in, sourced, table_of}
 use Rattle.mf_flow.proofs.RowsKept.{first_from, former_row, last_row}
 
 -- Own elements
@@ -136,7 +136,7 @@ map_push f (y ∷ xs) x = ap (λ (ys : List _). f y ∷ ys) (map_push f xs x)
 
 -- so many rows are listed, and the next entity is the first from a number on
 pub record AreListed (m : Module) (o : Entities) (rows : Rows) (before table : List Row) (from n : ℕ) : Type 0 where
-  pub listed : table ≡ before ++ map (row_of m o (λ (id : Id). row rows id.0)) (take n o.live)
+  pub listed : table ≡ before ++ map (sources_row m o (λ (id : Id). row rows id.0)) (take n o.live)
   pub next : find (is_from from) o.live ≡ slice_get o.live n
 
 pub listed_none : (m : Module) (o : Entities) (rows : Rows) (table : List Row) → AreListed m o rows table table 0 0
@@ -172,7 +172,7 @@ pub listed_more : (m : Module) (o : Entities) (rows : Rows) (before table table'
     → AreListed m o rows before table' from' (n + 1)
 listed_more m o rows before table table' from from' n id new rising so_far within found is more next =
     let at : IsNext o n id = found_next m o rows before table from n id so_far found in
-    let f : LiveEntity → Row = row_of m o (λ (x : Id). row rows x.0) in
+    let f : LiveEntity → Row = sources_row m o (λ (x : Id). row rows x.0) in
     let own : new ≡ f at.e = is ∙ ap (λ (x : Id). record { «module» = m; id = x; title = title_at o x; elements = row rows x.0 }) (sym at.is) in
     let behind : find (is_from (at.e.id.0 + 1)) o.live ≡ slice_get o.live (n + 1) =
     ap (λ (x : LiveEntity). find (is_from (x.id.0 + 1)) o.live) (sym (got o.live n at.e at.e at.here)) ∙ next_found o.live n 0 o.next at.e within rising in
@@ -202,7 +202,7 @@ whole (x ∷ xs) = ap (λ (ys : List _). x ∷ ys) (whole xs)
 pub all_listed : (m : Module) (o : Entities) (rows : Rows) (before table : List Row) (from n : ℕ) → AreListed m o rows before table from n → n ≡ length o.live
     → table ≡ before ++ rows_in m o (λ (id : Id). row rows id.0)
 all_listed m o rows before table from n so_far all =
-    so_far.listed ∙ ap (λ (es : List LiveEntity). before ++ map (row_of m o (λ (id : Id). row rows id.0)) es) (ap (λ (k : ℕ). take k o.live) all ∙ whole o.live)
+    so_far.listed ∙ ap (λ (es : List LiveEntity). before ++ map (sources_row m o (λ (id : Id). row rows id.0)) es) (ap (λ (k : ℕ). take k o.live) all ∙ whole o.live)
 
 -- the id that is found is live, so it was given
 pub found_given : (o : Entities) (id : Id) (found : Option LiveEntity) → IsRising 0 o.next o.live → live_at o id ≡ found → Some id ≡ id_of found → id.0 < o.next
@@ -222,14 +222,14 @@ is_found o from found id some is = sym some ∙ is
 
 same_rows : (m : Module) (o : Entities) (sets : Sets) (rows : Rows) (least next : ℕ) (es : List LiveEntity) → IsRising least next es
     → ((e : LiveEntity) → find (has_id e.id) es ≡ Some e → row rows e.id.0 ≡ sets e.id)
-    → map (row_of m o (λ (id : Id). row rows id.0)) es ≡ map (row_of m o sets) es
+    → map (sources_row m o (λ (id : Id). row rows id.0)) es ≡ map (sources_row m o sets) es
 same_rows m o sets rows least next [] rising each = refl
 same_rows m o sets rows least next (x ∷ es) rising each =
     let here : row rows x.id.0 ≡ sets x.id = each x (itself x es) in
-    let rest : map (row_of m o (λ (id : Id). row rows id.0)) es ≡ map (row_of m o sets) es =
+    let rest : map (sources_row m o (λ (id : Id). row rows id.0)) es ≡ map (sources_row m o sets) es =
     same_rows m o sets rows (x.id.0 + 1) next es rising.1 (λ e found. each e (later e found)) in
-    ap (λ (set : List Elem). record { «module» = m; id = x.id; title = title_at o x.id; elements = set } ∷ map (row_of m o (λ (id : Id). row rows id.0)) es) here
-    ∙ ap (λ (ys : List Row). row_of m o sets x ∷ ys) rest
+    ap (λ (set : List Elem). record { «module» = m; id = x.id; title = title_at o x.id; elements = set } ∷ map (sources_row m o (λ (id : Id). row rows id.0)) es) here
+    ∙ ap (λ (ys : List Row). sources_row m o sets x ∷ ys) rest
   where
     itself : (x : LiveEntity) (es : List LiveEntity) → find (has_id x.id) (x ∷ es) ≡ Some x
     itself x es =

@@ -9,30 +9,30 @@ use Rattle.mf_plan.specs.declared.found.Found.{Found}
 use Rattle.mf_plan.specs.declared.reply.Reply.{Reply}
 use Rattle.mf_plan.specs.declared.reply.Reply.TheVariants as reply
 use Rattle.mf_plan.specs.declared.state.State.{State}
-use Rattle.mf_plan.specs.Effect.{Effect, relabels}
+use Rattle.mf_plan.specs.Effect.{Effect, relabelled_by}
 use Rattle.mf_plan.specs.Effect.Effect.{Relabel}
 use Rattle.mf_plan.specs.Found.{AreFound, IsFound}
 use Rattle.mf_plan.specs.Names.{caller_name}
-use Rattle.mf_plan.specs.Plan.{row_by, row_for, row_of}
+use Rattle.mf_plan.specs.Plan.{row_by, row_for, call_row}
 use Rattle.mf_plan.specs.Rows.{about_of}
 use Rattle.mf_plan.specs.Views.{process_named}
-use Rattle.mf_plan.specs.Ways.{At, request_in, target_in}
+use Rattle.mf_plan.specs.Ways.{At, asked_in, target_in}
 use Rattle.mf_perform.specs.Effect.{after, with_request}
 use Rattle.mf_perform.specs.OneCall.{after_reply, performed, performed_by, call_reply, call_state}
 use Rattle.mf_perform.proofs.Handing.{effect_there}
 
-relabel_effect : (s : State) (me : Id) (e : Effect) (asked : Id × Request) → relabels e ≡ Some asked → after s me e ≡ with_request s asked
+relabel_effect : (s : State) (me : Id) (e : Effect) (asked : Id × Request) → relabelled_by e ≡ Some asked → after s me e ≡ with_request s asked
 relabel_effect s me (Relabel id request) asked is = let same : (id, request) ≡ asked = cc in ap (with_request s) same
 relabel_effect s me other asked is = cc
 
-relabel_performed : (s : State) (task : List ℕ) (c : Call) (caller : Option Id) (asked : Id × Request) → relabels (row_by s task c caller).effect ≡ Some asked
+relabel_performed : (s : State) (task : List ℕ) (c : Call) (caller : Option Id) (asked : Id × Request) → relabelled_by (row_by s task c caller).effect ≡ Some asked
     → performed_by s task c caller ≡ with_request s asked
 relabel_performed s task c None asked is = cc
 relabel_performed s task c (Some me) asked is = relabel_effect s me (row_for s task c me).effect asked is
 
 -- the state after a call that is done and relabels
 pub relabel_state : (s : State) (task : List ℕ) (child : Option (List ℕ)) (c : Call) (said : Reply) (asked : Id × Request) → call_reply s task child c ≡ said
-    → after_reply said None (relabels (row_of s task child c).effect) ≡ Some asked → call_state s task child c ≡ with_request s asked
+    → after_reply said None (relabelled_by (call_row s task child c).effect) ≡ Some asked → call_state s task child c ≡ with_request s asked
 relabel_state s task child c (reply.Ok payload) asked is one =
     ap (λ (x : Reply). after_reply x s (performed s task child c)) is
     ∙ relabel_performed s task c (process_named s.objects (caller_name task child)) asked one
@@ -42,16 +42,16 @@ relabel_state s task child c (reply.Refused errno) asked is one = cc
 -- What was found tells what is relabelled
 
 zipped_row : (s : State) (task : List ℕ) (me : Id) (c : Call) (what : At (about_of s task me c).place)
-    → option_zip (target_in (about_of s task me c).place what) (request_in (about_of s task me c).place what) ≡ relabels ((about_of s task me c).row what).effect
+    → option_zip (target_in (about_of s task me c).place what) (asked_in (about_of s task me c).place what) ≡ relabelled_by ((about_of s task me c).row what).effect
 zipped_row s task me (call.Setpmac text) what = refl
 zipped_row s task me other what = refl
 
 pub zipped : (s : State) (task : List ℕ) (child : Option (List ℕ)) (c : Call) (found : Found) → AreFound s task child c found
-    → option_zip found.target found.request ≡ relabels (row_of s task child c).effect
+    → option_zip found.target found.request ≡ relabelled_by (call_row s task child c).effect
 zipped s task child c found are =
     let is : IsFound s task are.me c found = are.is in
     ap (λ (target : Option Id). option_zip target found.request) is.target
     ∙ ap (option_zip (target_in (about_of s task are.me c).place is.what)) is.request
     ∙ zipped_row s task are.me c is.what
-    ∙ sym (ap relabels (effect_there s task are.me c found is))
-    ∙ ap (λ (by : Option Id). relabels (row_by s task c by).effect) (sym are.named)
+    ∙ sym (ap relabelled_by (effect_there s task are.me c found is))
+    ∙ ap (λ (by : Option Id). relabelled_by (row_by s task c by).effect) (sym are.named)

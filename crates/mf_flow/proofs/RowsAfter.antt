@@ -19,7 +19,7 @@ use Rattle.mf_perform.proofs.StateChange.{Deed, StateChange}
 use Rattle.mf_perform.proofs.StateChange.StateChange.{same as still, created, changed, relabels, removed, loaded, unloaded, set_to}
 use Rattle.mf_flow.specs.Order.{union}
 use Rattle.mf_flow.specs.Rows.{AreRows, Rows, row, element_of, element_at as row_element, new_row, maker_row, rows_created, rows_given}
-use Rattle.mf_flow.specs.Sources.{Sets, element_in, held_by, alone, is_id, has_element, set_after}
+use Rattle.mf_flow.specs.Sources.{Sets, element_by, held_by, alone, is_id, has_element, set_after}
 use Rattle.mf_flow.proofs.Across.{gives_element, set_of, sets_across}
 use Rattle.mf_flow.proofs.Flowing.{same_id}
 use Rattle.mf_flow.proofs.RowsKept.{first_from, former_row, last_row}
@@ -73,7 +73,7 @@ module _ (r : Registration) (by : Deed) (s s' : State) (rising : IsRising 0 s.ob
         let place : id.0 ≡ length rows = number ∙ sym are.count in
         ap (row (rows ++ new ∷ [])) place ∙ last_row rows new
         ∙ ap (λ (x : Option LiveEntity). new_row (slot_of r) x (maker_row rows by.caller)) found
-        ∙ ap (λ (xs : List Elem). held_by (element_in r next.label) (union (alone (element_in r next.label)) xs)) (maker_is from maker made live)
+        ∙ ap (λ (xs : List Elem). held_by (element_by r next.label) (union (alone (element_by r next.label)) xs)) (maker_is from maker made live)
     kept_row id _ _ e was is (goes old given) now b more = cc
 
     created_count : (b : Bool) → nat_lt s.objects.next s'.objects.next ≡ b → length (cond b (rows ++ new ∷ []) rows) ≡ s'.objects.next

@@ -26,7 +26,7 @@ use Rattle.mf_objects.proofs.Rising.{id_is}
 use Rattle.mf_objects.proofs.Finding.{find_before, find_given}
 use Rattle.mf_flow.specs.Order.{union}
 use Rattle.mf_flow.specs.Rows.{AreKept, AreRows, Rows, row, element_of, element_at as row_element, may_come, joined, received as row_received, rows_between, rows_with, rows_moved}
-use Rattle.mf_flow.specs.Sources.{Sets, element_in, element_at, held_by, is_id, received, moved, moved_by}
+use Rattle.mf_flow.specs.Sources.{Sets, element_by, element_at, held_by, is_id, received, moved, moved_by}
 use Rattle.mf_flow.proofs.Across.{moved_with, moved_by_all}
 use Rattle.mf_flow.proofs.Orders.{IsFlowPolicy}
 use Rattle.mf_flow.proofs.Bounds.{Fit, FitBy, AllowedBy, allows}
@@ -37,7 +37,7 @@ use Rattle.mf_flow.proofs.Flowing.{AllFit, same_id, received_all, item_fit}
 
 -- each live entity has an element
 abbrev pub AllLabelled : Registration → Entities → Type 0
-AllLabelled r o = (id : Id) (e : LiveEntity) → live_at o id ≡ Some e → HasElement (element_in r e.label)
+AllLabelled r o = (id : Id) (e : LiveEntity) → live_at o id ≡ Some e → HasElement (element_by r e.label)
 
 module _ (p : LatticePolicy) (flows : IsFlowPolicy p) (r : Registration) (o : Entities) (rising : IsRising 0 o.next o.live) (labelled : AllLabelled r o) where
   -- what a party has after something came to it
@@ -53,8 +53,8 @@ module _ (p : LatticePolicy) (flows : IsFlowPolicy p) (r : Registration) (o : En
       → Fit p (element_at r o from) given → ((giver : LiveEntity) → live_at o from ≡ Some giver → given_row ≡ given)
       → row (row_received (slot_of r) o rows to.0 from.0 given_row) to.0 ≡ held_by (element_at r o to) (union (sets to) given)
   own_row sets rows to from e given_row given fit are live theirs told =
-      let has : HasElement (element_in r e.label) = labelled to e live in
-      let is : element_at r o to ≡ Some has.0 = ap (λ (found : Option LiveEntity). element_in r (values_of found)) live ∙ has.1 in
+      let has : HasElement (element_by r e.label) = labelled to e live in
+      let is : element_at r o to ≡ Some has.0 = ap (λ (found : Option LiveEntity). element_by r (values_of found)) live ∙ has.1 in
       get_or-set_same rows to.0 (joined (slot_of r) o to.0 from.0 (row rows to.0) given_row) [] within
       ∙ subst (λ (element : Option Elem). cond (may_come element (element_at r o from)) (union (row rows to.0) given_row) (row rows to.0) ≡ held_by element (union (sets to) given)) (sym is)
       (joined_is has.0 (is_equal has.0) refl (row rows to.0) (sets to) given_row given (subst (λ (element : Option Elem). Fit p element (sets to)) is (fit to)) (are.each to e live)
@@ -63,7 +63,7 @@ module _ (p : LatticePolicy) (flows : IsFlowPolicy p) (r : Registration) (o : En
       within : to.0 < length rows
       within = omega (arith, are.count, find_given to e 0 o.next o.live live rising)
 
-      given_by : (found : Option LiveEntity) → live_at o from ≡ found → (x : Elem) → element_in r (values_of found) ≡ Some x → given_row ≡ given
+      given_by : (found : Option LiveEntity) → live_at o from ≡ found → (x : Elem) → element_by r (values_of found) ≡ Some x → given_row ≡ given
       given_by None is x some = cc
       given_by (Some giver) is x some = told giver is
 
@@ -104,13 +104,13 @@ module _ (p : LatticePolicy) (flows : IsFlowPolicy p) (r : Registration) (o : En
       (fit subject) (are.each subject)
 
   with_rows : (sets : Sets) (rows : Rows) (movement : Movement) (subject : SubjectView) (object : Option ObjectView) → IsSubject o subject → IsObject o object
-      → AllowedBy p movement (element_in r subject.label) (range_label (object_slot object (slot_of r))).effective → AllFit p r o sets → AreRows o sets rows
+      → AllowedBy p movement (element_by r subject.label) (range_label (object_slot object (slot_of r))).effective → AllFit p r o sets → AreRows o sets rows
       → AreRows o (moved_with r o (record { 0 = subject.id }) object sets movement) (rows_with (slot_of r) o rows movement subject.id object)
   with_rows sets rows movement subject None own theirs allowed fit are = are
   with_rows sets rows movement subject (Some object) own theirs allowed fit are =
       between_rows sets rows (record { 0 = subject.id }) (record { 0 = object.id }) movement fit
-      (subst (λ (label : List LabelValue). AllowedBy p movement (element_in r label) (element_at r o (record { 0 = object.id }))) own
-      (subst (λ (label : List LabelValue). AllowedBy p movement (element_in r subject.label) (element_in r label)) theirs allowed))
+      (subst (λ (label : List LabelValue). AllowedBy p movement (element_by r label) (element_at r o (record { 0 = object.id }))) own
+      (subst (λ (label : List LabelValue). AllowedBy p movement (element_by r subject.label) (element_by r label)) theirs allowed))
       are
 
   -- a check that the policy passes
@@ -118,7 +118,7 @@ module _ (p : LatticePolicy) (flows : IsFlowPolicy p) (r : Registration) (o : En
       → AreRows o (moved_by r o sets item) (rows_moved (slot_of r) o rows item)
   item_rows sets rows item success copied fit are =
       with_rows sets rows (row_of item.op).movement item.subject item.object copied.0 copied.1
-      (allows p flows (range_label (slice_index_or item.subject.label (slot_of r) Unset)) (part_of p item.request) item.op (element_in r item.subject.label)
+      (allows p flows (range_label (slice_index_or item.subject.label (slot_of r) Unset)) (part_of p item.request) item.op (element_by r item.subject.label)
       (range_label (object_slot item.object (slot_of r))).effective success)
       fit are
 

@@ -28,7 +28,7 @@ use Rattle.mf_core.specs.Opening.{opening_state}
 use Rattle.mf_core.specs.LegalHistory.{RunState, opening, next_line, after}
 use Rattle.mf_flow.specs.Order.{place_of, elem_cmp, union}
 use Rattle.mf_perform.specs.Passed.{passed}
-use Rattle.mf_flow.specs.Sources.{Sets, element_in, element_at, held_by, alone, is_id, received, moved, moved_by, relabels, set_after, caller_of, sets_after_line, sets_after_event, opening_sets, sets_after, sources_of}
+use Rattle.mf_flow.specs.Sources.{Sets, element_by, element_at, held_by, alone, is_id, received, moved, moved_by, relabels, set_after, caller_of, sets_after_line, sets_after_event, opening_sets, sets_after, sources_of}
 use Rattle.mf_flow.proofs.Across.{moved_with, moved_by_all, set_of}
 use Rattle.mf_flow.specs.Dominated.{SourcesAreSorted}
 use Rattle.mf_flow.proofs.Bounds.{all_union}
@@ -117,9 +117,9 @@ after_ordered : (r : Registration) (found found' : Option LiveEntity) (relabelle
 after_ordered r None None relabelled set maker sorted makers = tt
 after_ordered r (Some old) None relabelled set maker sorted makers = tt
 after_ordered r None (Some new) relabelled set maker sorted makers =
-    held_ordered (element_in r new.label) (union (alone (element_in r new.label)) maker)
-    (union_ordered (alone (element_in r new.label)) maker (alone_ordered (element_in r new.label)) makers)
-after_ordered r (Some old) (Some new) true set maker sorted makers = alone_ordered (element_in r new.label)
+    held_ordered (element_by r new.label) (union (alone (element_by r new.label)) maker)
+    (union_ordered (alone (element_by r new.label)) maker (alone_ordered (element_by r new.label)) makers)
+after_ordered r (Some old) (Some new) true set maker sorted makers = alone_ordered (element_by r new.label)
 after_ordered r (Some old) (Some new) false set maker sorted makers = sorted
 
 of_ordered : (by : Option Id) (sets : Sets) → AllOrdered sets → Ordered (set_of by sets)

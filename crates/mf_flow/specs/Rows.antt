@@ -24,8 +24,8 @@ use Rattle.mf_plan.specs.declared.outline.Check.{Check}
 use Rattle.mf_plan.specs.declared.reply.Reply.{Reply}
 use Rattle.mf_plan.specs.declared.state.State.{State}
 use Rattle.mf_plan.specs.Outline.{item_of}
-use Rattle.mf_plan.specs.Plan.{plan_of, row_of as call_row}
-use Rattle.mf_plan.specs.Effect.{relabels}
+use Rattle.mf_plan.specs.Plan.{plan_of, call_row}
+use Rattle.mf_plan.specs.Effect.{relabelled_by}
 use Rattle.mf_perform.specs.OneCall.{after_reply}
 use Rattle.mf_core.specs.declared.history.Event.{Event}
 use Rattle.mf_core.specs.declared.history.Event.TheVariants as event
@@ -109,7 +109,7 @@ rows_given slot m objects (Some asked) rows =
 
 -- what a call with that reply asks of whose label; one that isn't done asks nothing
 abbrev pub asked_of : State → List ℕ → Line → Reply → Option (Id × Request)
-asked_of s task line reply = after_reply reply None (relabels (call_row s task line.child line.call).effect)
+asked_of s task line reply = after_reply reply None (relabelled_by (call_row s task line.child line.call).effect)
 
 abbrev pub rows_after_line : ℕ → Module → State → State → List ℕ → Option Line → Reply → Rows → Rows
 rows_after_line slot m s s' task None reply rows = rows

@@ -1,5 +1,5 @@
 //! The sources of all entities.
-ghost use Rattle.std.specs.Prelude.{◌≡◌, ◌<◌, false, None, [], ◌∷◌, ◌++◌, length, slice_set, unwrap_or, IfOk, OnOk};
+ghost use Rattle.std.specs.Prelude.{◌≡◌, ◌<◌, false, None, [], ◌∷◌, ◌++◌, slice_set, unwrap_or, IfOk, OnOk};
 ghost use Rattle.mf_objects.specs.Live.{live_at};
 ghost use Rattle.mf_flow.specs.Rows.{AreKept, row};
 

@@ -175,14 +175,14 @@ fn list_rows(
     let mut from = 0;
     for _place in 0..objects.live() {
         let id = objects.least_from(from).unwrap();
-        let row = row_of(alloc, module, objects, sets, id)?;
+        let row = sources_row(alloc, module, objects, sets, id)?;
         table.push(row)?;
         from = id.number() + 1;
     }
     Ok(())
 }
 
-fn row_of(
+fn sources_row(
     alloc: Global,
     module: Module,
     objects: &Objects,

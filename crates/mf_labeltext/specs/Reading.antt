@@ -66,7 +66,7 @@ elem_in text =
     else if bytes_eq text (codes "equal") || bytes_eq text (codes "eq") then Some Equal
     else grade_in text
 
--- a range behind its "("
+-- a range behind its "(": the low end, a dash, the high end, and `)` as the last byte
 unfoldable pub range_in : List ℕ → Option (Elem × Elem)
 range_in text = do
   ends ← cut dash text

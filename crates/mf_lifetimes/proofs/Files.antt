@@ -128,7 +128,7 @@ tells_on paths next path e both = one e.what both.0
     stands (Some dir) there = (omega (arith, there.0), rw (path_before paths next path e.id.0 both.1, path_before paths next path dir.0 there.0) there.1)
 
     one : (w : EntityData) → IsFileAt paths next e.id e.name w → IsFileAt (with_path paths next path) (next + 1) e.id e.name w
-    one (Process cred) tells = tells
+    one (Process process) tells = tells
     one (Vnode vnode) tells = stands vnode.parent tells
     one (Pipe pipe) tells = tells
     one (Socket socket) tells = tells

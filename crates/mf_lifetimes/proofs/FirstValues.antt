@@ -20,11 +20,12 @@ use Rattle.mf_policy.specs.Modules.{facts_of, has_partition, is_named, is_proces
 use Rattle.mf_policy.specs.Registration.{Entry, is_listed}
 use Rattle.mf_policy.specs.Relabelled.{after_by, number_after, value_after, value_of}
 use Rattle.mf_policy.proofs.EachModule.{has_elements}
-use Rattle.mf_lifetimes.specs.Marks.{Mark, is_set, is_first}
+use Rattle.mf_lifetimes.specs.Marks.{Mark, is_first}
 use Rattle.mf_lifetimes.specs.Marks.Mark.{Made}
 use Rattle.mf_lifetimes.specs.Laws.{AreMarksOf, holds_valid}
 use Rattle.mf_lifetimes.proofs.Listing.{IsLasting, by_holder}
 use Rattle.mf_lifetimes.proofs.Valid.{IsValidOf, valid_set}
+use Rattle.mf_objects.specs.Live.{is_set}
 
 -- the marks of a slot that had these, after its value has become another, where these are made with its first one
 abbrev pub with_first : List Mark → LabelValue → LabelValue → List Mark → List Mark

@@ -24,11 +24,10 @@ use Rattle.mf_policy.specs.Answer.{answer}
 use Rattle.mf_policy.specs.declared.spec.Spec.{Spec}
 use Rattle.mf_list.specs.Asked.{slot_of}
 use Rattle.mf_objects.specs.declared.id.Id.{Id}
-use Rattle.mf_objects.specs.Live.{LiveEntity, Entities, kind_of, live_at}
+use Rattle.mf_objects.specs.Live.{LiveEntity, Entities, kind_of, live_at, value_in, is_set}
 use Rattle.mf_objects.specs.declared.entity.EntityData.{EntityData}
 use Rattle.mf_plan.specs.declared.state.State.{State}
 use Rattle.mf_policy.proofs.EachModule.{has_elements}
-use Rattle.mf_lifetimes.specs.Marks.{value_in, is_set}
 use Rattle.mf_lifetimes.specs.Marks.Mark.{Made}
 use Rattle.mf_lifetimes.specs.Laws.{AreMarksOf, holds_valid}
 use Rattle.mf_perform.proofs.StateChange.{Deed, StateChange}

@@ -123,7 +123,7 @@ StandsIn paths next id name (Some dir) = (dir.0 < next) × (paths id.0 ≡ paths
 
 -- it is a file or directory, of such a path
 abbrev pub IsFileAt : (ℕ → List (List ℕ)) → ℕ → Id → List ℕ → EntityData → Type 0
-IsFileAt paths next id name (Process cred) = ⊥
+IsFileAt paths next id name (Process process) = ⊥
 IsFileAt paths next id name (Vnode vnode) = StandsIn paths next id name vnode.parent
 IsFileAt paths next id name (Pipe pipe) = ⊥
 IsFileAt paths next id name (Socket socket) = ⊥
@@ -140,7 +140,7 @@ held_path paths next id from own name (Some dir) held same stands =
 
 entry_path : (paths : ℕ → List (List ℕ)) (next : ℕ) (id from : Id) (own name : List ℕ) (w : EntityData) → is_entry from w ≡ true → own ≡ name
     → IsFileAt paths next id own w → paths id.0 ≡ paths from.0 ++ name ∷ []
-entry_path paths next id from own name (Process cred) entry same tells = absurd tells
+entry_path paths next id from own name (Process process) entry same tells = absurd tells
 entry_path paths next id from own name (Vnode vnode) entry same tells = held_path paths next id from own name vnode.parent entry same tells
 entry_path paths next id from own name (Pipe pipe) entry same tells = absurd tells
 entry_path paths next id from own name (Socket socket) entry same tells = absurd tells
@@ -181,7 +181,7 @@ pub no_process : (paths : ℕ → List (List ℕ)) (next : ℕ) (e : LiveEntity)
 no_process paths next e tells = one e.what tells
   where
     one : (w : EntityData) → IsFileAt paths next e.id e.name w → is_process w ≡ false
-    one (Process cred) tells = absurd tells
+    one (Process process) tells = absurd tells
     one (Vnode vnode) tells = refl
     one (Pipe pipe) tells = absurd tells
     one (Socket socket) tells = absurd tells

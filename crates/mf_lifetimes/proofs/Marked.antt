@@ -16,7 +16,7 @@ use Rattle.mf_policy.specs.Modules.{facts_of}
 use Rattle.mf_policy.specs.NewLabels.{new_value}
 use Rattle.mf_objects.specs.declared.id.Id.{Id}
 use Rattle.mf_objects.specs.declared.entity.EntityData.{EntityData}
-use Rattle.mf_objects.specs.Live.{LiveEntity, kind_of, live_at}
+use Rattle.mf_objects.specs.Live.{LiveEntity, kind_of, live_at, value_in}
 use Rattle.mf_calls.specs.declared.script.Line.{Line}
 use Rattle.mf_calls.specs.declared.script.Script.{Script}
 use Rattle.mf_calls.specs.Tasks.{name_of}
@@ -27,7 +27,7 @@ use Rattle.mf_core.specs.declared.history.Event.TheVariants as event
 use Rattle.mf_core.specs.Opening.{opening_state, booted_specs}
 use Rattle.mf_core.specs.LegalHistory.{RunState, opening, next_line, after}
 use Rattle.std.specs.List.{filter_map}
-use Rattle.mf_lifetimes.specs.Marks.{Mark, made_marks, end_of, is_registered, value_in, added, marks_across, marks_at_opening, marks_after, marks_of}
+use Rattle.mf_lifetimes.specs.Marks.{Mark, made_marks, end_of, is_registered, added, marks_across, marks_at_opening, marks_after, marks_of}
 use Rattle.mf_lifetimes.specs.Marks.Mark.{Made, Ended, Left}
 use Rattle.mf_lifetimes.specs.Laws.{state_of, SlotsAreMadeOnce, AreMarksOf, SetSlotsAreMarked, GoneSlotsHaveEnded, holds_valid, LabelsAll, BootedPoliciesLast}
 use Rattle.mf_lifetimes.specs.Once.{AreOnce}

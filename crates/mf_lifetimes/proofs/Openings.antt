@@ -11,9 +11,8 @@ use Rattle.mf_policy.specs.NewLabels.{new_label}
 use Rattle.mf_policy.specs.Registration.{Entry}
 use Rattle.mf_objects.specs.declared.id.Id.{Id}
 use Rattle.mf_objects.specs.declared.entity.EntityData.{EntityData}
-use Rattle.mf_objects.specs.declared.entity.EntityData.TheVariants.{Process}
 use Rattle.mf_objects.specs.Live.{LiveEntity, Entities, has_id, kind_of, live_at}
-use Rattle.mf_objects.specs.Changes.{made, with_entity, new_vnode, root_entity}
+use Rattle.mf_objects.specs.Changes.{made, with_entity, new_process, new_vnode, root_entity}
 use Rattle.mf_objects.proofs.Rising.{rising_push, id_is, id_differs}
 use Rattle.mf_calls.specs.declared.script.Task.{Task}
 use Rattle.mf_calls.specs.declared.script.FileLine.{FileLine}
@@ -93,7 +92,7 @@ files_booted listed o (f ∷ fs) let_ask booted =
     files_booted listed (with_file listed o f) fs let_ask.1 (file_booted listed o f (lookup_along o f.path).target let_ask.0 booted)
 
 task_booted : (listed : List Entry) (o : Entities) (t : Task) (found : Option Id) → AllLetAsk kinds.Process t.label listed → AreBooted listed o → AreBooted listed (with_task_at listed o t found)
-task_booted listed o t None let_ask booted = push_booted listed o t.name t.label (Process t.cred) let_ask booted
+task_booted listed o t None let_ask booted = push_booted listed o t.name t.label (new_process t.cred) let_ask booted
 task_booted listed o t (Some id) let_ask booted = booted
 
 tasks_booted : (listed : List Entry) (o : Entities) (ts : List Task) → AllByRecursion (λ t. AllLetAsk kinds.Process t.label listed) ts → AreBooted listed o → AreBooted listed (fold (with_task listed) o ts)

@@ -17,9 +17,9 @@ use Rattle.mf_policy.specs.declared.modules.Labelling.{Labelling}
 use Rattle.mf_policy.specs.declared.modules.Labelling.TheVariants.{Nothing, Ranges, Partitions}
 use Rattle.mf_policy.specs.Modules.{facts_of, range_asked, number_asked, labels_by, labels_kind, is_named, takes, boot_by, boot_value, inherited_by, inherited, is_valid_value, may_ask, has_no_range, is_process}
 use Rattle.mf_policy.proofs.EachModule.{has_elements}
-use Rattle.mf_lifetimes.specs.Marks.{is_set}
 use Rattle.mf_lifetimes.specs.Laws.{holds_valid, suits_kind}
 use Rattle.mf_lifetimes.proofs.Listing.{IsLasting, SuitKinds, lasting_facts}
+use Rattle.mf_objects.specs.Live.{is_set}
 
 -- a valid label of the module, for that kind
 abbrev pub IsValidOf : Module → Kind → LabelValue → Type 0

@@ -11,9 +11,8 @@ use Rattle.mf_item.specs.declared.view.Kind.TheVariants as kinds
 use Rattle.mf_policy.specs.declared.labels.Origin.TheVariants.{Boot}
 use Rattle.mf_policy.specs.NewLabels.{new_label}
 use Rattle.mf_policy.specs.Registration.{Entry}
-use Rattle.mf_objects.specs.declared.entity.EntityData.TheVariants.{Process}
 use Rattle.mf_objects.specs.Live.{LiveEntity, Entities, id_of, is_process, is_named}
-use Rattle.mf_objects.specs.Changes.{made, with_entity}
+use Rattle.mf_objects.specs.Changes.{made, new_process, with_entity}
 use Rattle.mf_calls.specs.declared.script.Task.{Task}
 use Rattle.mf_calls.specs.declared.script.FileLine.{FileLine}
 use Rattle.mf_calls.specs.WellFormed.{IsFormedFile, AreInDirectories}
@@ -66,16 +65,16 @@ names_differ (t ∷ ts) differ = (
   names_differ ts (λ i j d before within. differ (suc i) (suc j) d (omega (arith, before)) (omega (arith, within))),
 )
 
-abbrev new_process : List Entry → Entities → Task → LiveEntity
-new_process listed o t = made o t.name (new_label listed kinds.Process (Boot t.label)) (Process t.cred)
+abbrev booted_process : List Entry → Entities → Task → LiveEntity
+booted_process listed o t = made o t.name (new_label listed kinds.Process (Boot t.label)) (new_process t.cred)
 
-abbrev with_new_process : List Entry → Entities → Task → Entities
-with_new_process listed o t = with_entity o t.name (new_label listed kinds.Process (Boot t.label)) (Process t.cred)
+abbrev with_booted_process : List Entry → Entities → Task → Entities
+with_booted_process listed o t = with_entity o t.name (new_label listed kinds.Process (Boot t.label)) (new_process t.cred)
 
 -- a name that isn't the new process's stays free
 stays_free : (listed : List Entry) (o : Entities) (t u : Task) → (t.name ≢ u.name) × (process_named o u.name ≡ None)
-    → process_named (with_new_process listed o t) u.name ≡ None
-stays_free listed o t u both = ap id_of (find_push_miss (is_named is_process u.name) o.live (new_process listed o t) (one (bytes_eq t.name u.name) refl)) ∙ both.1
+    → process_named (with_booted_process listed o t) u.name ≡ None
+stays_free listed o t u both = ap id_of (find_push_miss (is_named is_process u.name) o.live (booted_process listed o t) (one (bytes_eq t.name u.name) refl)) ∙ both.1
   where
     one : (b : Bool) → bytes_eq t.name u.name ≡ b → (true && b) ≡ false
     one true same = absurd (both.0 ((bytes_eq-Decides t.name u.name).0 same))
@@ -85,12 +84,12 @@ tasks_made : (listed : List Entry) (o : Entities) (ts : List Task) → NamesDiff
     → length (fold (with_task listed) o ts).live ≡ length o.live + length ts
 tasks_made listed o [] differ free = omega arith
 tasks_made listed o (t ∷ ts) differ free =
-    let here : with_task listed o t ≡ with_new_process listed o t = ap (with_task_at listed o t) free.0 in
-    let rest : length (fold (with_task listed) (with_new_process listed o t) ts).live ≡ length (o.live ++ new_process listed o t ∷ []) + length ts =
-    tasks_made listed (with_new_process listed o t) ts differ.1
-    (all_from (λ u. (t.name ≢ u.name) × (process_named o u.name ≡ None)) (λ u. process_named (with_new_process listed o t) u.name ≡ None) ts (stays_free listed o t)
+    let here : with_task listed o t ≡ with_booted_process listed o t = ap (with_task_at listed o t) free.0 in
+    let rest : length (fold (with_task listed) (with_booted_process listed o t) ts).live ≡ length (o.live ++ booted_process listed o t ∷ []) + length ts =
+    tasks_made listed (with_booted_process listed o t) ts differ.1
+    (all_from (λ u. (t.name ≢ u.name) × (process_named o u.name ≡ None)) (λ u. process_named (with_booted_process listed o t) u.name ≡ None) ts (stays_free listed o t)
     (all_both (λ u. t.name ≢ u.name) (λ u. process_named o u.name ≡ None) ts differ.0 free.1)) in
-    let longer : length (o.live ++ new_process listed o t ∷ []) ≡ length o.live + 1 = length-append o.live (new_process listed o t ∷ []) in
+    let longer : length (o.live ++ booted_process listed o t ∷ []) ≡ length o.live + 1 = length-append o.live (booted_process listed o t ∷ []) in
     ap (λ (x : Entities). length (fold (with_task listed) x ts).live) here ∙ rest ∙ omega arith
 
 none_named : (name : List ℕ) (es : List LiveEntity) → AllByRecursion (λ e. is_process e.what ≡ false) es → find (is_named is_process name) es ≡ None

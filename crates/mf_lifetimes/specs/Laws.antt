@@ -13,14 +13,14 @@ use Rattle.mf_policy.specs.declared.modules.Labelling.TheVariants.{Ranges, Parti
 use Rattle.mf_policy.specs.Modules.{facts_of}
 use Rattle.mf_policy.specs.declared.registration.Registration.{Registration}
 use Rattle.mf_objects.specs.declared.id.Id.{Id}
-use Rattle.mf_objects.specs.Live.{LiveEntity, kind_of, live_at}
+use Rattle.mf_objects.specs.Live.{LiveEntity, kind_of, live_at, value_in}
 use Rattle.mf_calls.specs.declared.script.Script.{Script}
 use Rattle.mf_calls.specs.WellFormed.{IsWellFormed}
 use Rattle.mf_plan.specs.declared.state.State.{State}
 use Rattle.mf_core.specs.declared.history.History.{History}
 use Rattle.mf_core.specs.Opening.{opening_state}
 use Rattle.mf_core.specs.LegalHistory.{run_state_of, IsLegal}
-use Rattle.mf_lifetimes.specs.Marks.{Mark, labellers, value_in, marks_of}
+use Rattle.mf_lifetimes.specs.Marks.{Mark, labellers, marks_of}
 use Rattle.mf_lifetimes.specs.Marks.Mark.{Made}
 use Rattle.mf_lifetimes.specs.Once.{AreMadeOnce}
 

@@ -1,16 +1,15 @@
 -- Marks of label slots: when a slot of an entity is made, and how it ends (initialised and destroyed, in the words of mac(9)).
 use Rattle.std.specs.Option.{option_eq}
-use Rattle.std.specs.Prelude.{ℕ, Bool, true, false, not, ◌&&◌, nat_eq, if◌then◌else◌, List, [], ◌∷◌, ◌++◌, map, filter, slice_index_or, Option, Some, None}
+use Rattle.std.specs.Prelude.{ℕ, Bool, true, false, not, ◌&&◌, nat_eq, if◌then◌else◌, List, [], ◌∷◌, ◌++◌, map, filter, Option, Some, None}
 use Rattle.std.specs.List.{filter_map, list_any}
 use Rattle.mf_elem.specs.declared.label.LabelValue.{LabelValue}
-use Rattle.mf_elem.specs.declared.label.LabelValue.TheVariants.{Unset}
 use Rattle.mf_item.specs.declared.view.Kind.{Kind}
 use Rattle.mf_policy.specs.declared.registration.Registration.{Registration}
 use Rattle.mf_errno.specs.Same.{same_module}
 use Rattle.mf_policy.specs.Modules.{labels_kind}
 use Rattle.mf_policy.specs.Registration.{Entry, holds_slot}
 use Rattle.mf_objects.specs.declared.id.Id.{Id}
-use Rattle.mf_objects.specs.Live.{LiveEntity, kind_of, live_at}
+use Rattle.mf_objects.specs.Live.{LiveEntity, kind_of, live_at, value_in, is_set}
 use Rattle.mf_calls.specs.declared.script.Script.{Script}
 use Rattle.mf_plan.specs.declared.state.State.{State}
 use Rattle.mf_core.specs.declared.history.Event.{Event}
@@ -46,14 +45,6 @@ made_marks specs slot e = map Made (labellers specs (kind_of e.what) slot)
 abbrev pub end_of : List Entry → Mark → Option Mark
 end_of specs (Made r) = Some (if is_registered r specs then Ended r else Left r)
 end_of specs other = None
-
--- the value in a label slot of an entity
-abbrev pub value_in : ℕ → LiveEntity → LabelValue
-value_in slot e = slice_index_or e.label slot Unset
-
-abbrev pub is_set : LabelValue → Bool
-is_set Unset = false
-is_set other = true
 
 -- the first value of a slot that was unset
 abbrev pub is_first : LabelValue → LabelValue → Bool

@@ -1,4 +1,4 @@
--- How often list and catalogue hold a module. The catalogue is this model's own.
+-- How often lists and catalogue hold a module. The catalogue is this model's own.
 use Rattle.std.specs.Prelude.{ℕ, ◌+◌, Bool, cond, List, [], ◌∷◌}
 
 -- how many elements pass

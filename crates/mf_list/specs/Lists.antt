@@ -1,26 +1,20 @@
--- What contracts see of the list of policies and of the catalogue, which is this model's own.
-use Rattle.std.specs.Prelude.{◌≡◌, ℕ, ◌<◌, ◌≤◌, Bool, true, false, List, Option, Some, None, length}
+-- What contracts see of the lists of policies and of the catalogue, which is this model's own: the entries of each list, and the modules of the
+-- catalogue. In walk order the static list comes before the dynamic one.
+use Rattle.std.specs.Prelude.{◌≡◌, ℕ, ◌<◌, Bool, true, false, List, Option, Some, None}
 use Rattle.std.specs.List.{list_any}
 use Rattle.mf_elem.specs.declared.label.TheConstants.{SLOTS}
 use Rattle.mf_errno.specs.Same.{same_module}
 use Rattle.mf_errno.specs.declared.module.Module.{Module}
-use Rattle.mf_policy.specs.Modules.{module_of, wants_slot}
+use Rattle.mf_policy.specs.Modules.{facts_of, module_of, wants_slot}
 use Rattle.mf_policy.specs.Registration.{Entry}
 
--- the listed policies in walk order, and for how many more room is reserved
-pub record ListView : Type 0 where
-  pub entries : List Entry
-  pub spare : ℕ
+-- the policy stands in the static list: its module lacks UNLOADOK
+abbrev pub IsPinned : Entry → Type 0
+IsPinned entry = (entry.0.fixed ≡ true) × ((facts_of entry.0.module).unload_ok ≡ false)
 
--- the modules that are not listed, and for how many more room is reserved
-pub record CatalogueView : Type 0 where
-  pub modules : List Module
-  pub spare : ℕ
-
--- each has room for what the other holds
-pub record IsReady (list : ListView) (catalogue : CatalogueView) : Type 0 where
-  pub for_catalogue : length catalogue.modules ≤ list.spare
-  pub for_list : length list.entries ≤ catalogue.spare
+-- the policy stands in the dynamic list: its module has UNLOADOK
+abbrev pub MayLeave : Entry → Type 0
+MayLeave entry = (entry.0.fixed ≡ false) × ((facts_of entry.0.module).unload_ok ≡ true)
 
 -- there is a number of a label slot exactly where one is wanted
 abbrev pub HasSlot : Bool → Option ℕ → Type 0

@@ -1,4 +1,4 @@
--- Where a module stands in the list and in the catalogue.
+-- Where a module stands in a list and in the catalogue.
 use Rattle.std.specs.Prelude.{◌≡◌, ℕ, ◌<◌, true, false, Some, None, List, find, length, slice_index_or, slice_set}
 use Rattle.std.specs.List.{remove}
 use Rattle.mf_errno.specs.declared.module.Module.{Module}

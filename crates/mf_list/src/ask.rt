@@ -1,10 +1,9 @@
 //! What the listed policies answer together.
-ghost use Rattle.std.specs.Prelude.{◌≡◌, ◌≤◌, length, map, option_and_then, take};
+ghost use Rattle.std.specs.Prelude.{◌≡◌, length, map, option_and_then, take};
 ghost use Rattle.std.specs.List.{list_any};
 ghost use Rattle.mf_list.specs.Asked as spec;
 
-use crate::listed::ListedPolicy;
-use crate::policy_list::PolicyList;
+use crate::walked::Listed;
 use mf_compose::{decider, fold, granted};
 use mf_errno::{Errno, Module};
 use mf_item::{CheckOp, Item};
@@ -18,22 +17,21 @@ pub struct Answer {
     pub by: Option<Module>,
 }
 
-impl<P: Policy> PolicyList<P> {
+impl<'a, P: Policy> Listed<'a, P> {
     /// The composition of all policies' answers, composed as by the kernel's `mac_error_select`, and the policy that
     /// decides it: the first one in walk order whose answer is the composition. Every policy is asked, also after a
     /// denial. For a privilege all policies must answer success, and the subject must be root or be granted it by a
     /// policy; a refusal is always EPERM, whatever the policies answered.
     pub fn ask(&self, item: &Item) -> Answer
-        ensures { result ≡ spec.answer_to self.now.entries item.now }
+        ensures { result ≡ spec.answer_to self.now item.now }
     {
-        let policies = self.as_slice();
-        let room = answers(policies, item);
-        let answers = &room[..policies.len()];
+        let room = answers(self, item);
+        let answers = &room[..self.len()];
         match item.op() {
-            CheckOp::Priv => privilege_answer(fold(answers), has_privilege(policies, item)),
+            CheckOp::Priv => privilege_answer(fold(answers), has_privilege(self, item)),
             _ => Answer {
                 errno: fold(answers),
-                by: module_at(policies, decider(answers)),
+                by: module_at(self, decider(answers)),
             },
         }
     }
@@ -51,50 +49,50 @@ fn privilege_answer(composition: Errno, has_privilege: bool) -> Answer
 }
 
 /// Whether the subject has the privilege that the item asks for.
-fn has_privilege<P: Policy>(policies: &[ListedPolicy<P>], item: &Item) -> bool
-    requires { length policies.now ≤ MOST_LISTED }
-    ensures { result ≡ spec.has_privilege policies.now item.now }
+fn has_privilege<P: Policy>(listed: &Listed<'_, P>, item: &Item) -> bool
+    ensures { result ≡ spec.has_privilege listed.now item.now }
 {
-    item.subject().cred.is_root() || is_granted(policies, item)
+    item.subject().cred.is_root() || is_granted(listed, item)
 }
 
 /// Whether some policy grants the privilege that the item asks for.
-fn is_granted<P: Policy>(policies: &[ListedPolicy<P>], item: &Item) -> bool
-    requires { length policies.now ≤ MOST_LISTED }
-    ensures { result ≡ list_any (spec.grant_of item.now.privilege item.now.subject.cred) policies.now }
+fn is_granted<P: Policy>(listed: &Listed<'_, P>, item: &Item) -> bool
+    ensures { result ≡ list_any (spec.grant_of item.now.privilege item.now.subject.cred) listed.now }
 {
-    let room = grants(policies, item);
-    granted(&room[..policies.len()])
+    let room = grants(listed, item);
+    granted(&room[..listed.len()])
 }
 
 /// The module of the policy in that place.
-fn module_at<P: Policy>(policies: &[ListedPolicy<P>], place: Option<usize>) -> Option<Module>
-    ensures { result ≡ option_and_then (spec.module_at policies.now) place }
+fn module_at<P: Policy>(listed: &Listed<'_, P>, place: Option<usize>) -> Option<Module>
+    ensures { result ≡ option_and_then (spec.module_at listed.now) place }
 {
-    let policy = policies.get(place?)?;
-    Some(policy.registration().module)
+    let place = place?;
+    if place < listed.len() {
+        Some(listed.policy(place).registration().module)
+    } else {
+        None
+    }
 }
 
 /// The answers of the policies in walk order. The rest of the array is success.
-fn answers<P: Policy>(policies: &[ListedPolicy<P>], item: &Item) -> [Errno; MOST_LISTED]
-    requires { length policies.now ≤ MOST_LISTED }
-    ensures { take (length policies.now) result ≡ spec.answers policies.now item.now }
+fn answers<P: Policy>(listed: &Listed<'_, P>, item: &Item) -> [Errno; MOST_LISTED]
+    ensures { take (length listed.now) result ≡ spec.answers listed.now item.now }
 {
     let mut answers = [Errno::Success; MOST_LISTED];
-    for (place, policy) in policies.iter().enumerate() {
-        answers[place] = policy.check(item);
+    for place in 0..listed.len() {
+        answers[place] = listed.policy(place).check(item);
     }
     answers
 }
 
 /// Which policies grant the privilege, in walk order. The rest of the array is false.
-fn grants<P: Policy>(policies: &[ListedPolicy<P>], item: &Item) -> [bool; MOST_LISTED]
-    requires { length policies.now ≤ MOST_LISTED }
-    ensures { take (length policies.now) result ≡ map (spec.grant_of item.now.privilege item.now.subject.cred) policies.now }
+fn grants<P: Policy>(listed: &Listed<'_, P>, item: &Item) -> [bool; MOST_LISTED]
+    ensures { take (length listed.now) result ≡ map (spec.grant_of item.now.privilege item.now.subject.cred) listed.now }
 {
     let mut grants = [false; MOST_LISTED];
-    for (place, policy) in policies.iter().enumerate() {
-        grants[place] = policy.grants(item);
+    for place in 0..listed.len() {
+        grants[place] = listed.policy(place).grants(item);
     }
     grants
 }

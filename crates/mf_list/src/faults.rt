@@ -9,7 +9,7 @@ use thiserror::Error;
 /// Why a module isn't registered: the first of these that applies.
 #[derive(Clone, Copy, Debug, PartialEq, Eq, Error)]
 pub enum RegisterFault {
-    /// Neither the list nor the catalogue has a module of that name.
+    /// Neither the lists nor the catalogue have a module of that name.
     #[error("no such module")]
     Unknown,
     /// Boot has ended, and the module has the flag NOTLATE.

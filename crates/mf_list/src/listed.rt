@@ -1,9 +1,8 @@
-//! A policy in the list.
+//! A policy in a list.
 ghost use Rattle.std.specs.Prelude.{◌≡◌, IsTrue, ◌↔◌, IfOk, OnErr};
 ghost use Rattle.mf_policy.specs.LoadFlags.{flags_of};
 ghost use Rattle.mf_policy.specs.Modules as facts;
 ghost use Rattle.mf_policy.specs.Registration.{is_of};
-ghost use Rattle.mf_policy.specs.Dynamic.{is_dynamic};
 ghost use Rattle.mf_policy.specs.Settings.{change_of};
 ghost use Rattle.mf_policy.specs.IsChange.{IsChange};
 ghost use Rattle.mf_list.specs.Asked.{answer_of, grant_of};
@@ -58,13 +57,6 @@ impl<P: Policy> ListedPolicy<P> {
         ensures { result ≡ is_of wanted self.now }
     {
         wanted.is(self.registration.module)
-    }
-
-    /// Whether it is in the dynamic list.
-    pub fn is_dynamic(&self) -> bool
-        ensures { result ≡ is_dynamic self.now }
-    {
-        !self.registration.fixed
     }
 
     /// The flags of its module.

@@ -1,75 +1,67 @@
-//! The listed policies in walk order.
-ghost use Rattle.std.specs.Prelude.{◌≡◌, ◌+◌, ◌<◌, ◌≤◌, [], IsTrue, ◌↔◌, length, map, OnOk, OnErr, IfOk, false, true, MatchOption, position, slice_index_or};
-ghost use Rattle.std.specs.List.{insert, position_or_len, remove};
+//! The dynamic list.
+ghost use Rattle.std.specs.Prelude.{◌≡◌, ◌<◌, [], ◌∷◌, All, IfOk, OnErr, MatchOption, false, find, length, slice_index_or};
+ghost use Rattle.std.specs.List.{remove};
+ghost use Rattle.std.specs.Option.{option_copied};
 ghost use Rattle.mf_policy.specs.Settings.{change_in};
 ghost use Rattle.mf_policy.specs.IsChange.{IsChange};
-ghost use Rattle.mf_policy.specs.Registration.{Entry, is_listed, is_of, with_newest};
-ghost use Rattle.mf_policy.specs.Dynamic.{is_dynamic};
-ghost use Rattle.mf_list.specs.Lists.{IsReady};
+ghost use Rattle.mf_policy.specs.Registration.{Entry, is_listed, is_of};
+ghost use Rattle.mf_list.specs.Lists.{MayLeave};
+ghost use Rattle.mf_list.specs.Once.{IsListedOnce};
 ghost use Rattle.mf_list.specs.Places.{IsAbsent, IsEntryPlace};
 
-use crate::catalogue::Catalogue;
+use crate::entries::Entries;
 use crate::listed::ListedPolicy;
-use mf_cred::ArrayVec;
 use mf_errno::Module;
-use mf_policy::{Change, Changed, MOST_LISTED, Policy, Registration, SpecList};
+use mf_policy::{Change, Changed, Policy};
 use std::alloc::{AllocError, Global};
 use std::marker::Model;
 
-/// The listed policies in walk order: the static list, of those that can't leave, before the dynamic list; in each the
-/// newest first. A module is listed at most once. Contracts see the entries, and for how many more room is reserved.
+/// The dynamic list, newest first: policies that may leave it. A module is listed at most once. No call after `new` takes
+/// memory for the list; a change of a setting takes what the policy wants.
 #[derive(Drop)]
 pub struct PolicyList<P: Policy> {
-    policies: Vec<ListedPolicy<P>>,
+    entries: Entries<P>,
 }
 
 impl<P: Policy> Model for PolicyList<P> {
-    ghost use Rattle.std.specs.Prelude.{◌-◌, vec_len, vec_capacity};
-    ghost use Rattle.mf_list.specs.Once.{IsListedOnce};
-    ghost use Rattle.mf_list.specs.Lists.{ListView};
+    ghost use Rattle.std.specs.Prelude.{All, List};
+    ghost use Rattle.mf_policy.specs.Registration.{Entry};
+    ghost use Rattle.mf_list.specs.Lists.{MayLeave};
 
-    ghost Value = { ListView };
+    ghost Value = { List Entry };
 
-    ghost view = { λ a. record { entries = a.policies.items; spare = vec_capacity a.policies - vec_len a.policies } };
+    ghost view = { λ a. a.entries };
 
-    ghost invariant = { λ a. IsListedOnce a.policies.items };
+    ghost invariant = { λ a. All MayLeave a.entries };
 }
 
 impl<P: Policy> PolicyList<P> {
     /// No policies.
-    pub fn new(alloc: Global) -> PolicyList<P>
-        ensures { result.entries ≡ [] }
+    pub fn new(alloc: Global) -> Result<PolicyList<P>, AllocError>
+        ensures { IfOk result (λ list. list ≡ []) }
     {
-        PolicyList {
-            policies: Vec::new(alloc),
-        }
+        Ok(PolicyList {
+            entries: Entries::new(alloc)?,
+        })
     }
 
-    /// Reserves, in list and catalogue each, room for all policies of the other, so that registering and unregistering
-    /// don't allocate.
-    pub fn ready(&mut self, catalogue: &mut Catalogue<P>) -> Result<(), AllocError>
-        ensures ready { OnOk result (IsReady self.new catalogue.new) }
-        ensures entries { self.new.entries ≡ self.old.entries }
-        ensures modules { catalogue.new.modules ≡ catalogue.old.modules }
-        ensures kept { IsReady self.old catalogue.old → IsReady self.new catalogue.new }
+    /// That each of them may leave the list, for proofs.
+    pub fn may_leave(&self)
+        ensures { All MayLeave self.now }
     {
-        self.policies.reserve(catalogue.len())?;
-        catalogue.reserve(self.policies.len())?;
-        Ok(())
+        let _ = &self.entries;
     }
 
-    /// The registrations in walk order.
-    pub fn listed(&self) -> ArrayVec<Registration, MOST_LISTED>
-        ensures { result ≡ map (λ entry. entry.0) self.now.entries }
+    /// The number of policies.
+    pub(crate) fn len(&self) -> usize
+        ensures value { result ≡ length self.now }
+        ensures once { IsListedOnce self.now }
+        ensures may_leave { All MayLeave self.now }
     {
-        let mut registrations = ArrayVec::new();
-        for policy in self.as_slice() {
-            registrations.push(policy.registration());
-        }
-        registrations
+        self.entries.len()
     }
 
-    /// Changes a setting of the module's policy. The result is ENOENT where the module isn't listed. If memory runs
+    /// Changes a setting of the module's policy. The result is ENOENT where the module isn't listed here. If memory runs
     /// out, the list is unchanged.
     pub fn change(
         &mut self,
@@ -78,113 +70,49 @@ impl<P: Policy> PolicyList<P> {
         change: &Change,
     ) -> Result<Changed, AllocError>
         requires { IsChange change.now }
-        ensures ok { IfOk result (λ changed. (changed, self.new.entries) ≡ change_in «module» change.now self.old.entries) }
+        ensures ok { IfOk result (λ changed. (changed, self.new) ≡ change_in «module» change.now self.old) }
         ensures err { OnErr result (self.new ≡ self.old) }
-        ensures spare { self.new.spare ≡ self.old.spare }
     {
-        match self.place_of(module) {
-            Some(place) => self.policies[place].change(alloc, change),
-            None => Ok(Changed::no_setting()),
-        }
+        self.entries.change(alloc, module, change)
     }
 
-    /// Whether the registrations with their specs, in walk order, are these.
-    pub fn same_specs(&self, specs: &SpecList) -> bool
-        ensures { IsTrue result ↔ (self.now.entries ≡ specs.now) }
+    /// The policy at a place.
+    pub(crate) fn policy(&self, place: usize) -> &ListedPolicy<P>
+        requires { place < length self.now }
+        ensures { (other : Entry) → result.now ≡ slice_index_or self.now place other }
     {
-        if self.policies.len() != specs.len() {
-            return false;
-        }
-        for place in 0..specs.len() {
-            if !self.agrees_at(specs, place) {
-                return false;
-            }
-        }
-        true
+        self.entries.policy(place)
     }
 
-    fn agrees_at(&self, specs: &SpecList, place: usize) -> bool
-        requires listed { place < length self.now.entries }
-        requires given { place < length specs.now }
-        ensures { (other : Entry) → IsTrue result ↔ (slice_index_or self.now.entries place other ≡ slice_index_or specs.now place other) }
+    /// The module's policy, where it is listed here.
+    pub(crate) fn find(&self, wanted: Module) -> Option<&ListedPolicy<P>>
+        ensures { option_copied result ≡ find (is_of wanted) self.now }
     {
-        self.policies[place].is(specs.registration(place), specs.spec(place))
+        self.entries.find(wanted)
     }
 
-    /// The listed policies in walk order.
-    pub(crate) fn as_slice(&self) -> &[ListedPolicy<P>]
-        ensures value { result.now ≡ self.now.entries }
-        ensures few { length self.now.entries ≤ MOST_LISTED }
-    {
-        self.policies.as_slice()
-    }
-
-    /// Whether the module is listed.
-    pub(crate) fn holds(&self, wanted: Module) -> bool
-        ensures { result ≡ is_listed wanted self.now.entries }
-    {
-        self.place_of(wanted).is_some()
-    }
-
+    /// Where the module's policy stands.
     pub(crate) fn place_of(&self, wanted: Module) -> Option<usize>
-        ensures { MatchOption result (IsAbsent wanted self.now.entries) (λ place. IsEntryPlace wanted self.now.entries place) }
+        ensures { MatchOption result (IsAbsent wanted self.now) (λ place. IsEntryPlace wanted self.now place) }
     {
-        self.position_of(wanted)
+        self.entries.place_of(wanted)
     }
 
-    fn position_of(&self, wanted: Module) -> Option<usize>
-        ensures { result ≡ position (is_of wanted) self.now.entries }
-    {
-        self.policies.iter().position(|policy| policy.is_of(wanted))
-    }
-
-    /// Inserts a policy in its place. There must be room for it.
+    /// Puts a policy before the others.
     pub(crate) fn put(&mut self, listed: ListedPolicy<P>)
-        requires room { 0 < self.old.spare }
-        requires absent { is_listed listed.0.«module» self.old.entries ≡ false }
-        ensures entries { self.new.entries ≡ with_newest listed self.old.entries }
-        ensures len { length self.new.entries ≡ length self.old.entries + 1 }
-        ensures spare { self.old.spare ≤ self.new.spare + 1 }
+        requires may_leave { MayLeave listed }
+        requires absent { is_listed listed.0.«module» self.old ≡ false }
+        ensures { self.new ≡ listed ∷ self.old }
     {
-        let place = self.place_for(listed.registration().fixed);
-        match self.policies.insert(place, listed) {
-            Ok(()) => {}
-            Err(_) => unreachable!(),
-        }
+        self.entries.put(listed);
     }
 
     /// Removes the policy at a place and returns it.
     pub(crate) fn take(&mut self, place: usize) -> ListedPolicy<P>
-        requires { place < length self.old.entries }
-        ensures value { (other : Entry) → result ≡ slice_index_or self.old.entries place other }
-        ensures entries { self.new.entries ≡ remove self.old.entries place }
-        ensures len { length self.new.entries + 1 ≡ length self.old.entries }
-        ensures spare { self.old.spare + 1 ≤ self.new.spare }
+        requires { place < length self.old }
+        ensures value { (other : Entry) → result ≡ slice_index_or self.old place other }
+        ensures entries { self.new ≡ remove self.old place }
     {
-        self.policies.remove(place)
-    }
-
-    fn place_for(&self, fixed: bool) -> usize
-        ensures within { result ≤ length self.now.entries }
-        ensures place { (entry : Entry) → entry.0.fixed ≡ fixed → insert self.now.entries result entry ≡ with_newest entry self.now.entries }
-    {
-        if fixed { 0 } else { self.static_len() }
-    }
-
-    /// The length of the static list.
-    fn static_len(&self) -> usize
-        ensures value { result ≡ position_or_len is_dynamic self.now.entries }
-        ensures within { result ≤ length self.now.entries }
-    {
-        match self.first_dynamic() {
-            Some(place) => place,
-            None => self.policies.len(),
-        }
-    }
-
-    fn first_dynamic(&self) -> Option<usize>
-        ensures { result ≡ position is_dynamic self.now.entries }
-    {
-        self.policies.iter().position(|policy| policy.is_dynamic())
+        self.entries.take(place)
     }
 }

@@ -70,19 +70,19 @@ abbrev written : List ℕ → ℕ → LiveEntity → LiveEntity
 written text n e = changed_at (with_what (appended text)) (at n) e
 
 appended_entry : (text : List ℕ) (dir : Id) (w : EntityData) → is_entry dir (appended text w) ≡ is_entry dir w
-appended_entry text dir (Process cred) = refl
+appended_entry text dir (Process process) = refl
 appended_entry text dir (Vnode vnode) = refl
 appended_entry text dir (Pipe pipe) = refl
 appended_entry text dir (Socket socket) = refl
 
 appended_process : (text : List ℕ) (w : EntityData) → is_process (appended text w) ≡ is_process w
-appended_process text (Process cred) = refl
+appended_process text (Process process) = refl
 appended_process text (Vnode vnode) = refl
 appended_process text (Pipe pipe) = refl
 appended_process text (Socket socket) = refl
 
 appended_low : (text : List ℕ) (n : ℕ) (w : EntityData) → IsLow n w → IsLow n (appended text w)
-appended_low text n (Process cred) low = low
+appended_low text n (Process process) low = low
 appended_low text n (Vnode vnode) low = low
 appended_low text n (Pipe pipe) low = low
 appended_low text n (Socket socket) low = low

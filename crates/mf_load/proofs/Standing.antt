@@ -100,7 +100,7 @@ and_false false = refl
 
 -- one entity is one file
 parent_number : EntityData → ℕ
-parent_number (Process cred) = 0
+parent_number (Process process) = 0
 parent_number (Vnode vnode) = elim vnode.parent [ None ↦ 0 | Some dir ↦ dir.0 ]
 parent_number (Pipe pipe) = 0
 parent_number (Socket socket) = 0

@@ -26,7 +26,7 @@ pub Belongs-weaker : (live live' : List LiveEntity) (n : ℕ) (w : EntityData)
     → ((dir : Id) → is_entry dir w ≡ true → IsTrue (passes is_directory (find (has_id dir) live)) → IsTrue (passes is_directory (find (has_id dir) live')))
     → ((maker : Id) → is_made_by maker w ≡ true → IsTrue (passes is_process (find (has_id maker) live)) → IsTrue (passes is_process (find (has_id maker) live')))
     → Belongs live n w → Belongs live' n w
-Belongs-weaker live live' n (Process cred) dirs makers belongs = tt
+Belongs-weaker live live' n (Process process) dirs makers belongs = tt
 Belongs-weaker live live' n (Vnode vnode) dirs makers belongs = by_parent vnode.parent refl belongs
   where
     by_parent : (parent : Option Id) → vnode.parent ≡ parent → MatchOption parent (n ≡ 0) (λ dir. HasOlder is_directory live n dir)
@@ -39,7 +39,7 @@ Belongs-weaker live live' n (Socket socket) dirs makers belongs = (belongs.0, ma
 -- What an entity belongs to
 
 pub entry_directory : (live : List LiveEntity) (n : ℕ) (dir : Id) (w : EntityData) → Belongs live n w → is_entry dir w ≡ true → HasOlder is_directory live n dir
-entry_directory live n dir (Process cred) belongs entry = absurd (false≢true entry)
+entry_directory live n dir (Process process) belongs entry = absurd (false≢true entry)
 entry_directory live n dir (Vnode vnode) belongs entry = by_parent vnode.parent belongs entry
   where
     by_parent : (parent : Option Id) → MatchOption parent (n ≡ 0) (λ d. HasOlder is_directory live n d) → is_held_by dir parent ≡ true → HasOlder is_directory live n dir
@@ -49,7 +49,7 @@ entry_directory live n dir (Pipe pipe) belongs entry = absurd (false≢true entr
 entry_directory live n dir (Socket socket) belongs entry = absurd (false≢true entry)
 
 pub maker_process : (live : List LiveEntity) (n : ℕ) (maker : Id) (w : EntityData) → Belongs live n w → is_made_by maker w ≡ true → HasOlder is_process live n maker
-maker_process live n maker (Process cred) belongs made = absurd (false≢true made)
+maker_process live n maker (Process process) belongs made = absurd (false≢true made)
 maker_process live n maker (Vnode vnode) belongs made = absurd (false≢true made)
 maker_process live n maker (Pipe pipe) belongs made =
     subst (λ (i : Id). HasOlder is_process live n i) (same_id pipe.maker maker (eqb-true pipe.maker.0 maker.0 made)) belongs
@@ -99,7 +99,7 @@ none_of : (live : List LiveEntity) (id : Id) → All (λ e. is_entry id e.what �
 none_of live id entry made k d l = (entry k d l, made k d l)
 
 pub bare_none : (live : List LiveEntity) (id : Id) (w : EntityData) → AllBelong live → ((test : EntityData → Bool) → passes test (find (has_id id) live) ≡ test w) → IsBare live id w → NoneBelongs id live
-bare_none live id (Process cred) all is bare =
+bare_none live id (Process process) all is bare =
     none_of live id (no_entry live id all (is is_directory)) (none_counted (λ (e : LiveEntity). is_made_by id e.what) live bare)
 bare_none live id (Vnode vnode) all is bare =
     none_of live id (none_counted (λ (e : LiveEntity). is_entry id e.what) live bare) (no_made live id all (is is_process))
@@ -153,7 +153,7 @@ live_below test id least next (e ∷ es) rising is = one (has_id id e) refl (liv
     one false has later is = later is
 
 pub joins : (objects : Entities) (w : EntityData) → IsRising 0 objects.next objects.live → MayJoin objects w → Belongs objects.live objects.next w
-joins objects (Process cred) rising join = tt
+joins objects (Process process) rising join = tt
 joins objects (Vnode vnode) rising join = by_parent vnode.parent join.0
   where
     by_parent : (parent : Option Id) → MatchOption parent ⊥ (λ dir. IsLive is_directory objects dir)
@@ -164,7 +164,7 @@ joins objects (Pipe pipe) rising join = (live_below is_process pipe.maker 0 obje
 joins objects (Socket socket) rising join = (live_below is_process socket.maker 0 objects.next objects.live rising join, join)
 
 pub joins_bare : (objects : Entities) (w : EntityData) → MayJoin objects w → NoBytesIfDirectory w
-joins_bare objects (Process cred) join directory = absurd (false≢true directory)
+joins_bare objects (Process process) join directory = absurd (false≢true directory)
 joins_bare objects (Vnode vnode) join directory = join.1 directory
 joins_bare objects (Pipe pipe) join directory = absurd (false≢true directory)
 joins_bare objects (Socket socket) join directory = absurd (false≢true directory)
@@ -234,7 +234,7 @@ pub stays_same : (w : EntityData) → Stays w w
 stays_same w = record { process = refl; directory = refl; belongs = λ live n b. b; pipe = refl; socket = refl; entry = λ dir. refl; names = λ other. refl; no_bytes = λ held. held }
 
 pub appended_stays : (text : List ℕ) (w : EntityData) → FitsBytes (length text) w → Stays w (appended text w)
-appended_stays text (Process cred) fits = absurd fits
+appended_stays text (Process process) fits = absurd fits
 appended_stays text (Vnode vnode) fits =
     record { process = refl; directory = refl; belongs = λ live n b. b; pipe = refl; socket = refl; entry = λ dir. refl; names = λ other. refl; no_bytes = λ held directory. absurd (false≢true (sym fits.0 ∙ directory)) }
 appended_stays text (Pipe pipe) fits =
@@ -242,20 +242,20 @@ appended_stays text (Pipe pipe) fits =
 appended_stays text (Socket socket) fits = absurd fits
 
 pub cleared_stays : (w : EntityData) → Stays w (cleared w)
-cleared_stays (Process cred) = stays_same (Process cred)
+cleared_stays (Process process) = stays_same (Process process)
 cleared_stays (Vnode vnode) = stays_same (Vnode vnode)
 cleared_stays (Pipe pipe) =
     record { process = refl; directory = refl; belongs = λ live n b. b; pipe = refl; socket = refl; entry = λ dir. refl; names = λ other. refl; no_bytes = λ held directory. absurd (false≢true directory) }
 cleared_stays (Socket socket) = stays_same (Socket socket)
 
 pub mode_stays : (mode : ℕ) (w : EntityData) → Stays w (with_mode mode w)
-mode_stays mode (Process cred) = stays_same (Process cred)
+mode_stays mode (Process process) = stays_same (Process process)
 mode_stays mode (Vnode vnode) = record { process = refl; directory = refl; belongs = λ live n b. b; pipe = refl; socket = refl; entry = λ dir. refl; names = λ other. refl; no_bytes = λ held. held }
 mode_stays mode (Pipe pipe) = stays_same (Pipe pipe)
 mode_stays mode (Socket socket) = stays_same (Socket socket)
 
 pub messages_stay : (change : List (List ℕ) → List (List ℕ)) (w : EntityData) → Stays w (with_messages change w)
-messages_stay change (Process cred) = stays_same (Process cred)
+messages_stay change (Process process) = stays_same (Process process)
 messages_stay change (Vnode vnode) = stays_same (Vnode vnode)
 messages_stay change (Pipe pipe) = stays_same (Pipe pipe)
 messages_stay change (Socket socket) =

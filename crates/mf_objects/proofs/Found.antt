@@ -158,7 +158,7 @@ pub named_kind : (kind : EntityData → Bool) (name : List ℕ) (x : LiveEntity)
 named_kind kind name x h = first_true (kind x.what) (bytes_eq x.name name) h
 
 entry_vnode : (dir : Id) (w : EntityData) → is_entry dir w ≡ true → is_vnode w ≡ true
-entry_vnode dir (Process cred) h = h
+entry_vnode dir (Process process) h = h
 entry_vnode dir (Vnode vnode) h = refl
 entry_vnode dir (Pipe pipe) h = h
 entry_vnode dir (Socket socket) h = h

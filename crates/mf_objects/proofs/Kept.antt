@@ -299,7 +299,7 @@ place_found next zones (r ∷ es) id i sound at =
     later_place (suc k) root ne has = omega arith
 
 -- the value of a label slot of the entity at a place
-get_values : (zones : Contents) (label : Handles) (slot : ℕ) → slot < 4 → get_or (label_values zones label) slot Unset ≡ value_of zones label slot
+pub get_values : (zones : Contents) (label : Handles) (slot : ℕ) → slot < 4 → get_or (label_values zones label) slot Unset ≡ value_of zones label slot
 unfolding label_values
 get_values zones label zero four = refl
 get_values zones label (suc zero) four = refl

@@ -12,7 +12,7 @@ use Rattle.mf_objects.proofs.Names.{one_name}
 use Rattle.mf_objects.proofs.Belonging.{counted_none, no_entry, belongs_at, find_all, entry_directory, maker_process}
 
 message_fits : (entries : ℕ) (w : EntityData) → is_socket w ≡ true → count_of entries w < 16 → FitsMessage w
-message_fits entries (Process cred) kind few = absurd (false≢true kind)
+message_fits entries (Process process) kind few = absurd (false≢true kind)
 message_fits entries (Vnode vnode) kind few = absurd (false≢true kind)
 message_fits entries (Pipe pipe) kind few = absurd (false≢true kind)
 message_fits entries (Socket socket) kind few = few
@@ -26,7 +26,7 @@ pub fits_message : (objects : Entities) (id : Id) → IsLive is_socket objects i
 fits_message objects id live few = message_found (entry_count objects id) (live_at objects id) live few
 
 message_has : (entries : ℕ) (w : EntityData) → is_socket w ≡ true → 0 < count_of entries w → HasMessage w
-message_has entries (Process cred) kind some = absurd (false≢true kind)
+message_has entries (Process process) kind some = absurd (false≢true kind)
 message_has entries (Vnode vnode) kind some = absurd (false≢true kind)
 message_has entries (Pipe pipe) kind some = absurd (false≢true kind)
 message_has entries (Socket socket) kind some = some
@@ -40,7 +40,7 @@ pub has_message : (objects : Entities) (id : Id) → IsLive is_socket objects id
 has_message objects id live some = message_waits (entry_count objects id) (live_at objects id) live some
 
 pipe_fits : (more : ℕ) (w : EntityData) → is_pipe w ≡ true → length (content_of w) + more ≤ 16384 → FitsBytes more w
-pipe_fits more (Process cred) kind room = absurd (false≢true kind)
+pipe_fits more (Process process) kind room = absurd (false≢true kind)
 pipe_fits more (Vnode vnode) kind room = absurd (false≢true kind)
 pipe_fits more (Pipe pipe) kind room = room
 pipe_fits more (Socket socket) kind room = absurd (false≢true kind)
@@ -54,7 +54,7 @@ pub fits_pipe : (more : ℕ) (objects : Entities) (id : Id) → IsLive is_pipe o
 fits_pipe more objects id live room = pipe_found more (live_at objects id) live room
 
 file_fits : (more : ℕ) (w : EntityData) → is_vnode w ≡ true → (file_of w).dir ≡ false → length (content_of w) + more ≤ 65536 → FitsBytes more w
-file_fits more (Process cred) kind regular room = absurd (false≢true kind)
+file_fits more (Process process) kind regular room = absurd (false≢true kind)
 file_fits more (Vnode vnode) kind regular room = (regular, room)
 file_fits more (Pipe pipe) kind regular room = absurd (false≢true kind)
 file_fits more (Socket socket) kind regular room = absurd (false≢true kind)
@@ -70,7 +70,7 @@ pub fits_file : (more : ℕ) (objects : Entities) (id : Id) → IsLive is_vnode 
 fits_file more objects id live regular room = file_found more (live_at objects id) live regular room
 
 what_directory : (w : EntityData) → is_directory w ≡ true → is_vnode w ≡ true
-what_directory (Process cred) kind = kind
+what_directory (Process process) kind = kind
 what_directory (Vnode vnode) kind = refl
 what_directory (Pipe pipe) kind = kind
 what_directory (Socket socket) kind = kind
@@ -84,7 +84,7 @@ pub directory_vnode : (objects : Entities) (id : Id) → IsLive is_directory obj
 directory_vnode objects id live = found_directory (live_at objects id) live
 
 vnode_directory : (w : EntityData) → (file_of w).dir ≡ true → is_directory w ≡ true
-vnode_directory (Process cred) dir = dir
+vnode_directory (Process process) dir = dir
 vnode_directory (Vnode vnode) dir = dir
 vnode_directory (Pipe pipe) dir = dir
 vnode_directory (Socket socket) dir = dir
@@ -102,7 +102,7 @@ regular_other None regular = refl
 regular_other (Some e) regular = by_what e.what regular
   where
     by_what : (w : EntityData) → (file_of w).dir ≡ false → is_directory w ≡ false
-    by_what (Process cred) regular = refl
+    by_what (Process process) regular = refl
     by_what (Vnode vnode) regular = regular
     by_what (Pipe pipe) regular = refl
     by_what (Socket socket) regular = refl
@@ -118,7 +118,7 @@ vnode_counts entries None vnode = absurd (false≢true vnode)
 vnode_counts entries (Some e) vnode = by_what e.what vnode
   where
     by_what : (w : EntityData) → is_vnode w ≡ true → count_of entries w ≡ entries
-    by_what (Process cred) vnode = refl
+    by_what (Process process) vnode = refl
     by_what (Vnode v) vnode = refl
     by_what (Pipe pipe) vnode = refl
     by_what (Socket socket) vnode = absurd (false≢true vnode)
@@ -160,25 +160,25 @@ directory_empty objects id population directory = by_found (live_at objects id) 
 -- One name, one entity
 
 process_shares : (w other : EntityData) → is_process w ≡ true → is_process other ≡ true → shares_names w other ≡ true
-process_shares (Process cred) other own is = is
+process_shares (Process process) other own is = is
 process_shares (Vnode vnode) other own is = absurd (false≢true own)
 process_shares (Pipe pipe) other own is = absurd (false≢true own)
 process_shares (Socket socket) other own is = absurd (false≢true own)
 
 pipe_shares : (w other : EntityData) → is_pipe w ≡ true → is_pipe other ≡ true → shares_names w other ≡ true
-pipe_shares (Process cred) other own is = absurd (false≢true own)
+pipe_shares (Process process) other own is = absurd (false≢true own)
 pipe_shares (Vnode vnode) other own is = absurd (false≢true own)
 pipe_shares (Pipe pipe) other own is = is
 pipe_shares (Socket socket) other own is = absurd (false≢true own)
 
 socket_shares : (w other : EntityData) → is_socket w ≡ true → is_socket other ≡ true → shares_names w other ≡ true
-socket_shares (Process cred) other own is = absurd (false≢true own)
+socket_shares (Process process) other own is = absurd (false≢true own)
 socket_shares (Vnode vnode) other own is = absurd (false≢true own)
 socket_shares (Pipe pipe) other own is = absurd (false≢true own)
 socket_shares (Socket socket) other own is = is
 
 entry_shares : (dir : Id) (w other : EntityData) → is_entry dir w ≡ true → is_entry dir other ≡ true → shares_names w other ≡ true
-entry_shares dir (Process cred) other own is = absurd (false≢true own)
+entry_shares dir (Process process) other own is = absurd (false≢true own)
 entry_shares dir (Vnode vnode) other own is = by_parent vnode.parent own
   where
     by_parent : (parent : Option Id) → is_held_by dir parent ≡ true → is_entry_beside parent other ≡ true

@@ -11,6 +11,7 @@ pub mod ById
 pub mod Indexed
 pub mod Members
 pub mod Found
+pub mod Held
 pub mod Removing
 pub mod Naming
 pub mod ByteOrder

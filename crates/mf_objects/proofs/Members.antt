@@ -57,15 +57,15 @@ own_id es by_id k d l =
 
 -- what belongs to a group is of that group
 in_group : (group : Group) (w : EntityData) → is_in group w ≡ true → group_of w ≡ group
-in_group Processes (Process cred) is = refl
+in_group Processes (Process process) is = refl
 in_group Processes (Vnode vnode) is = absurd (false≢true is)
 in_group Processes (Pipe pipe) is = absurd (false≢true is)
 in_group Processes (Socket socket) is = absurd (false≢true is)
-in_group Pipes (Process cred) is = absurd (false≢true is)
+in_group Pipes (Process process) is = absurd (false≢true is)
 in_group Pipes (Vnode vnode) is = absurd (false≢true is)
 in_group Pipes (Pipe pipe) is = refl
 in_group Pipes (Socket socket) is = absurd (false≢true is)
-in_group Sockets (Process cred) is = absurd (false≢true is)
+in_group Sockets (Process process) is = absurd (false≢true is)
 in_group Sockets (Vnode vnode) is = absurd (false≢true is)
 in_group Sockets (Pipe pipe) is = absurd (false≢true is)
 in_group Sockets (Socket socket) is = refl
@@ -77,7 +77,7 @@ in_group (Entries parent) w is = by_parent parent w is
 
     by_parent : (parent : Option Id) (w : EntityData) → is_entry_beside parent w ≡ true → group_of w ≡ Entries parent
     by_parent None w is = absurd (false≢true is)
-    by_parent (Some dir) (Process cred) is = absurd (false≢true is)
+    by_parent (Some dir) (Process process) is = absurd (false≢true is)
     by_parent (Some dir) (Vnode vnode) is = ap (λ (p : Option Id). Entries p) (by_other dir vnode.parent is)
     by_parent (Some dir) (Pipe pipe) is = absurd (false≢true is)
     by_parent (Some dir) (Socket socket) is = absurd (false≢true is)

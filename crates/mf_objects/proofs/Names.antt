@@ -19,7 +19,7 @@ use Rattle.mf_objects.proofs.Belonging.{Stays, StaysAt, stays_same, find_all}
 
 -- what needs another name than the other still does
 shares_kept : (w w' other : EntityData) → Stays w w' → shares_names other w' ≡ shares_names other w
-shares_kept w w' (Process cred) stays = stays.process
+shares_kept w w' (Process process) stays = stays.process
 shares_kept w w' (Vnode vnode) stays = by_parent vnode.parent
   where
     by_parent : (parent : Option Id) → is_entry_beside parent w' ≡ is_entry_beside parent w
@@ -73,14 +73,14 @@ names_one x i j d before within = absurd (omega (arith, before, within))
 -- One name, one entity
 
 shares_flip : (w other : EntityData) → shares_names w other ≡ shares_names other w
-shares_flip (Process cred) (Process other) = refl
-shares_flip (Process cred) (Vnode other) = by_parent other.parent
+shares_flip (Process process) (Process other) = refl
+shares_flip (Process process) (Vnode other) = by_parent other.parent
   where
-    by_parent : (parent : Option Id) → false ≡ is_entry_beside parent (Process cred)
+    by_parent : (parent : Option Id) → false ≡ is_entry_beside parent (Process process)
     by_parent None = refl
     by_parent (Some dir) = refl
-shares_flip (Process cred) (Pipe other) = refl
-shares_flip (Process cred) (Socket other) = refl
+shares_flip (Process process) (Pipe other) = refl
+shares_flip (Process process) (Socket other) = refl
 shares_flip (Vnode vnode) (Process other) = by_parent vnode.parent
   where
     by_parent : (parent : Option Id) → is_entry_beside parent (Process other) ≡ false

@@ -121,7 +121,7 @@ pushed (Err error) new old text whole is same = tt
 
 -- a title is its two parts
 pub title_parts : (path name : List ℕ) (what : EntityData) → prefix_of what ++ own_name path name what ≡ title_of path name what
-title_parts path name (Process cred) = refl
+title_parts path name (Process process) = refl
 title_parts path name (Vnode vnode) = refl
 title_parts path name (Pipe pipe) = refl
 title_parts path name (Socket socket) = refl

@@ -80,7 +80,7 @@ in_directory front least next (x ∷ es) id dir e rising is parent older =
         subst (λ (ls : List LiveEntity). path_in (reverse ls) id ≡ path_in (reverse ls) dir ++ codes "/" ++ e.name) joined (later is parent older)
 
 parent_older : (live : List LiveEntity) (n : ℕ) (w : EntityData) (dir : Id) → Belongs live n w → parent_of w ≡ Some dir → dir.0 < n
-parent_older live n (Process cred) dir belongs parent = cc
+parent_older live n (Process process) dir belongs parent = cc
 parent_older live n (Vnode vnode) dir belongs parent =
     let older : MatchOption (Some dir) (n ≡ 0) (λ d. HasOlder is_directory live n d) =
     subst (λ (o : Option Id). MatchOption o (n ≡ 0) (λ d. HasOlder is_directory live n d)) parent belongs in
@@ -96,7 +96,7 @@ path_of_entry objects id dir e population is parent =
     (parent_older objects.live e.id.0 e.what dir (belongs_at objects id e population is) parent)
 
 no_parent : (live : List LiveEntity) (n : ℕ) (w : EntityData) → n ≡ 0 → Belongs live n w → parent_of w ≡ None
-no_parent live n (Process cred) first belongs = refl
+no_parent live n (Process process) first belongs = refl
 no_parent live n (Vnode vnode) first belongs = by_parent vnode.parent belongs
   where
     by_parent : (o : Option Id) → MatchOption o (n ≡ 0) (λ d. HasOlder is_directory live n d) → o ≡ None

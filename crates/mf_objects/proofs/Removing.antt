@@ -25,7 +25,7 @@ pub record IsRemoving (start : Entities) (maker : Id) (now : Entities) (place le
   pub rooted : HasRoot now.live
 
 made_by_directory : (id : Id) (w : EntityData) → is_directory w ≡ true → is_made_by id w ≡ false
-made_by_directory id (Process cred) d = refl
+made_by_directory id (Process process) d = refl
 made_by_directory id (Vnode vnode) d = refl
 made_by_directory id (Pipe pipe) d = absurd (false≢true d)
 made_by_directory id (Socket socket) d = absurd (false≢true d)
@@ -133,7 +133,7 @@ pub made_bare : (live : List LiveEntity) (maker : Id) (e : LiveEntity) → is_ma
 made_bare live maker e made = by_what e.what made
   where
     by_what : (w : EntityData) → is_made_by maker w ≡ true → IsBare live e.id w
-    by_what (Process cred) made = absurd (false≢true made)
+    by_what (Process process) made = absurd (false≢true made)
     by_what (Vnode vnode) made = absurd (false≢true made)
     by_what (Pipe pipe) made = tt
     by_what (Socket socket) made = tt
@@ -146,7 +146,7 @@ not_root next (r ∷ es) id root live same =
     both_kinds r.what (rw hit at live) root.1
   where
     both_kinds : (w : EntityData) → is_process w ≡ true → is_directory w ≡ true → ⊥
-    both_kinds (Process cred) p d = false≢true d
+    both_kinds (Process process) p d = false≢true d
     both_kinds (Vnode vnode) p d = false≢true p
     both_kinds (Pipe pipe) p d = false≢true p
     both_kinds (Socket socket) p d = false≢true p
@@ -167,7 +167,7 @@ find_filter p q (e ∷ es) x is keeps = one (p e) (q e) refl refl (λ here. find
     one false false miss kept rest is = rest is
 
 not_made : (maker : Id) (w : EntityData) → is_process w ≡ true → not (is_made_by maker w) ≡ true
-not_made maker (Process cred) process = refl
+not_made maker (Process own) process = refl
 not_made maker (Vnode vnode) process = refl
 not_made maker (Pipe pipe) process = absurd (false≢true process)
 not_made maker (Socket socket) process = absurd (false≢true process)
@@ -186,7 +186,7 @@ pub process_bare : (live : List LiveEntity) (e : LiveEntity) → is_process e.wh
 process_bare live e process none = by_what e.what process
   where
     by_what : (w : EntityData) → is_process w ≡ true → IsBare live e.id w
-    by_what (Process cred) process = none
+    by_what (Process own) process = none
     by_what (Vnode vnode) process = absurd (false≢true process)
     by_what (Pipe pipe) process = absurd (false≢true process)
     by_what (Socket socket) process = absurd (false≢true process)
@@ -196,7 +196,7 @@ pub vnode_bare : (live : List LiveEntity) (e : LiveEntity) → is_vnode e.what �
 vnode_bare live e vnode none = by_what e.what vnode
   where
     by_what : (w : EntityData) → is_vnode w ≡ true → IsBare live e.id w
-    by_what (Process cred) vnode = absurd (false≢true vnode)
+    by_what (Process process) vnode = absurd (false≢true vnode)
     by_what (Vnode v) vnode = none
     by_what (Pipe pipe) vnode = absurd (false≢true vnode)
     by_what (Socket socket) vnode = absurd (false≢true vnode)

@@ -1,11 +1,12 @@
 -- What the calls change. Entities, ids and limits are this model's own.
 use Rattle.std.specs.Prelude.{ℕ, ◌+◌, Bool, true, not, ◌||◌, List, [], ◌∷◌, ◌++◌, map, filter, if◌then◌else◌, Some, None}
 use Rattle.mf_elem.specs.declared.label.LabelValue.{LabelValue}
+use Rattle.mf_cred.specs.declared.cred.Cred.{Cred}
 use Rattle.mf_cred.specs.declared.cred.FileView.{FileView}
 use Rattle.mf_objects.specs.declared.limits.TheConstants.{ROOT_MODE}
 use Rattle.mf_objects.specs.declared.id.Id.{Id}
 use Rattle.mf_objects.specs.declared.entity.EntityData.{EntityData}
-use Rattle.mf_objects.specs.declared.entity.EntityData.TheVariants.{Vnode, Pipe, Socket}
+use Rattle.mf_objects.specs.declared.entity.EntityData.TheVariants.{Process, Vnode, Pipe, Socket}
 use Rattle.mf_objects.specs.Live.{LiveEntity, Entities, has_id, is_made_by}
 
 -- the entity that a call makes: it gets the next id
@@ -56,6 +57,9 @@ with_mode mode (Vnode vnode) = Vnode (record vnode { file = record vnode.file { 
 with_mode mode other = other
 
 -- What is made
+
+abbrev pub new_process : Cred → EntityData
+new_process cred = Process (record { cred = cred })
 
 abbrev pub new_vnode : Id → FileView → List ℕ → EntityData
 new_vnode dir file text = Vnode (record { parent = Some dir; file = file; content = text })

@@ -26,13 +26,13 @@ HasMessage other = ⊥
 
 -- what a new entity is to belong to is live: its directory, or the process that makes it; and a new directory is empty
 abbrev pub MayJoin : Entities → EntityData → Type 0
-MayJoin objects (Process cred) = Unit {0}
+MayJoin objects (Process process) = Unit {0}
 MayJoin objects (Vnode vnode) = MatchOption vnode.parent ⊥ (λ dir. IsLive is_directory objects dir) × (IsTrue vnode.file.dir → vnode.content ≡ [])
 MayJoin objects (Pipe pipe) = IsLive is_process objects pipe.maker
 MayJoin objects (Socket socket) = IsLive is_process objects socket.maker
 
 -- nothing that lives belongs to the entity of this id
 abbrev pub IsBare : List LiveEntity → Id → EntityData → Type 0
-IsBare live id (Process cred) = count_by (λ e. is_made_by id e.what) live ≡ 0
+IsBare live id (Process process) = count_by (λ e. is_made_by id e.what) live ≡ 0
 IsBare live id (Vnode vnode) = count_by (λ e. is_entry id e.what) live ≡ 0
 IsBare live id other = Unit {0}

@@ -13,7 +13,7 @@ use Rattle.mf_objects.specs.Population.{is_entry_beside}
 
 -- the group in which the name of such an entity differs
 abbrev pub group_of : EntityData → Group
-group_of (Process cred) = Processes
+group_of (Process process) = Processes
 group_of (Vnode vnode) = Entries vnode.parent
 group_of (Pipe pipe) = Pipes
 group_of (Socket socket) = Sockets

@@ -1,8 +1,9 @@
 -- The live entities, as contracts see them: the listing of a finite map by rising id. Ids that are never used again are this model's own.
 use Rattle.std.specs.Option.{option_map_or}
-use Rattle.std.specs.Prelude.{ℕ, Bool, true, false, nat_eq, ◌&&◌, List, [], ◌∷◌, length, Option, find, count_by, option_map}
+use Rattle.std.specs.Prelude.{ℕ, Bool, true, false, nat_eq, ◌&&◌, List, [], ◌∷◌, length, Option, find, count_by, option_map, slice_index_or}
 use Rattle.std.specs.Str.{bytes_eq}
 use Rattle.mf_elem.specs.declared.label.LabelValue.{LabelValue}
+use Rattle.mf_elem.specs.declared.label.LabelValue.TheVariants.{Unset}
 use Rattle.mf_cred.specs.declared.cred.Cred.{Cred}
 use Rattle.mf_cred.specs.declared.cred.FileView.{FileView}
 use Rattle.mf_item.specs.declared.view.Kind.{Kind}
@@ -33,7 +34,7 @@ abbrev pub live_at : Entities → Id → Option LiveEntity
 live_at objects id = find (has_id id) objects.live
 
 abbrev pub is_process : EntityData → Bool
-is_process (Process cred) = true
+is_process (Process process) = true
 is_process other = false
 
 abbrev pub is_pipe : EntityData → Bool
@@ -73,7 +74,7 @@ id_of found = option_map (λ e. e.id) found
 -- What an entity holds. What doesn't live, or is of another kind, holds nothing: no bytes, no messages, numbers that are 0.
 
 abbrev pub kind_of : EntityData → Kind
-kind_of (Process cred) = kinds.Process
+kind_of (Process process) = kinds.Process
 kind_of (Vnode vnode) = kinds.Vnode
 kind_of (Pipe pipe) = kinds.Pipe
 kind_of (Socket socket) = kinds.Socket
@@ -89,7 +90,7 @@ file_of (Vnode vnode) = vnode.file
 file_of other = no_file
 
 abbrev pub cred_of : EntityData → Cred
-cred_of (Process cred) = cred
+cred_of (Process process) = process.cred
 cred_of other = no_cred
 
 -- the bytes of a vnode or a pipe
@@ -135,3 +136,11 @@ count_at objects id = reading (count_of (entry_count objects id)) 0 (live_at obj
 -- the values of the four label slots
 abbrev pub label_at : Entities → Id → List LabelValue
 label_at objects id = option_map_or (λ e. e.label) (live_at objects id) []
+
+-- the value in a label slot of an entity
+abbrev pub value_in : ℕ → LiveEntity → LabelValue
+value_in slot e = slice_index_or e.label slot Unset
+
+abbrev pub is_set : LabelValue → Bool
+is_set Unset = false
+is_set other = true

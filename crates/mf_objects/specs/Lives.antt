@@ -1,13 +1,13 @@
 -- Which entities live, and what they hold, as contracts ask it.
 use Rattle.std.specs.Option.{option_map_or}
-use Rattle.std.specs.Prelude.{nat_eq, ◌≡◌, ◌≢◌, ◌<◌, ◌≤◌, ℕ, All, Bool, true, false, IsTrue, nat_le, List, Option, Some, None, find, slice_index_or, IfSome, IfNone}
+use Rattle.std.specs.Prelude.{nat_eq, ◌≡◌, ◌≢◌, ◌<◌, ◌≤◌, ℕ, All, Bool, true, false, IsTrue, nat_le, List, Option, Some, None, find, count_by, slice_index_or, IfSome, IfNone}
 use Rattle.mf_elem.specs.declared.label.LabelValue.{LabelValue}
 use Rattle.mf_elem.specs.declared.label.TheConstants.{SLOTS}
 use Rattle.mf_elem.specs.declared.label.LabelValue.TheVariants as values
 use Rattle.mf_objects.specs.declared.id.Id.{Id}
 use Rattle.mf_objects.specs.declared.entity.EntityData.{EntityData}
 use Rattle.mf_objects.specs.declared.entity.EntityData.TheVariants.{Vnode}
-use Rattle.mf_objects.specs.Live.{Entities, LiveEntity, id_of, label_at, live_at}
+use Rattle.mf_objects.specs.Live.{Entities, LiveEntity, id_of, label_at, live_at, is_set, value_in}
 
 -- the id is held by this directory
 abbrev pub is_held_by : Id → Option Id → Bool
@@ -48,6 +48,10 @@ pub record IsFound (test : LiveEntity → Bool) (objects : Entities) (found : Op
   pub id : found ≡ id_of (find test objects.live)
   pub live : IfSome found (λ id. live_at objects id ≡ find test objects.live)
   pub absent : IfNone found (find test objects.live ≡ None)
+
+-- how many live entities have the slot made
+abbrev pub made_count : Entities → ℕ → ℕ
+made_count objects slot = count_by (λ e. is_set (value_in slot e)) objects.live
 
 -- the value of a label slot
 abbrev pub value_at : Entities → Id → ℕ → LabelValue

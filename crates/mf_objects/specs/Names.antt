@@ -24,7 +24,7 @@ pub record IsAppended (old new : List ℕ) : Type 0 where
 
 -- what it begins with: the kind
 abbrev pub prefix_of : EntityData → List ℕ
-prefix_of (Process cred) = codes "proc:"
+prefix_of (Process process) = codes "proc:"
 prefix_of (Vnode vnode) = codes "vnode:"
 prefix_of (Pipe pipe) = codes "pipe:"
 prefix_of (Socket socket) = codes "socket:"

@@ -24,7 +24,7 @@ HasOlder test live n id = (id.0 < n) × IsTrue (passes test (find (has_id id) li
 -- the directory in which the entity of this number lies, or the process that made it, is live and older. The root alone lies
 -- in no directory.
 abbrev pub Belongs : List LiveEntity → ℕ → EntityData → Type 0
-Belongs live n (Process cred) = Unit {0}
+Belongs live n (Process process) = Unit {0}
 Belongs live n (Vnode vnode) = MatchOption vnode.parent (n ≡ 0) (λ dir. HasOlder is_directory live n dir)
 Belongs live n (Pipe pipe) = HasOlder is_process live n pipe.maker
 Belongs live n (Socket socket) = HasOlder is_process live n socket.maker
@@ -43,7 +43,7 @@ is_entry_beside (Some dir) other = is_entry dir other
 
 -- The two need different names: processes, pipes, sockets, and the entries of one directory. The root has no name to share.
 abbrev pub shares_names : EntityData → EntityData → Bool
-shares_names (Process cred) other = is_process other
+shares_names (Process process) other = is_process other
 shares_names (Vnode vnode) other = is_entry_beside vnode.parent other
 shares_names (Pipe pipe) other = is_pipe other
 shares_names (Socket socket) other = is_socket other

@@ -52,7 +52,7 @@ path_at objects id = path_in (reverse objects.live) id
 
 -- its kind, and its name or the path of a vnode
 abbrev pub title_of : List ℕ → List ℕ → EntityData → List ℕ
-title_of path name (Process cred) = codes "proc:" ++ name
+title_of path name (Process process) = codes "proc:" ++ name
 title_of path name (Vnode vnode) = codes "vnode:" ++ rooted_path path
 title_of path name (Pipe pipe) = codes "pipe:" ++ name
 title_of path name (Socket socket) = codes "socket:" ++ name

@@ -19,6 +19,12 @@ use mf_names::{Bytes, CONTENT_LIMIT, Name, SCRIPT_LIMIT};
 use mf_slots::Label;
 use std::alloc::AllocError;
 
+/// A process: its credential.
+#[derive(Drop)]
+pub struct Process {
+    pub cred: Cred,
+}
+
 /// A directory or a regular file: the directory that holds it, its attributes, and its bytes. A directory has no bytes, and
 /// the root is held by no directory.
 #[derive(Drop)]
@@ -45,7 +51,7 @@ pub struct Socket {
 /// What an entity is, with the data of its kind.
 #[derive(Drop)]
 pub enum EntityData {
-    Process(Cred),
+    Process(Process),
     Vnode(Vnode),
     Pipe(Pipe),
     Socket(Socket),
@@ -93,7 +99,7 @@ impl EntityData {
         ensures { result ≡ live.cred_of self.now }
     {
         match self {
-            EntityData::Process(cred) => cred.copy(),
+            EntityData::Process(process) => process.cred.copy(),
             EntityData::Vnode(_) | EntityData::Pipe(_) | EntityData::Socket(_) => no_cred(),
         }
     }
@@ -103,7 +109,7 @@ impl EntityData {
         ensures { IsTrue result ↔ (cred.now ≡ live.cred_of self.now) }
     {
         match self {
-            EntityData::Process(own) => cred.same(own),
+            EntityData::Process(process) => cred.same(&process.cred),
             EntityData::Vnode(_) | EntityData::Pipe(_) | EntityData::Socket(_) => cred.same(
                 &no_cred(),
             ),

@@ -10,14 +10,13 @@ ghost use Rattle.mf_objects.specs.Population.{is_namesake};
 ghost use Rattle.mf_objects.specs.Sound.{IsPlace, IsById};
 ghost use Rattle.mf_objects.specs.Index.{bucket_of, with_id};
 ghost use Rattle.mf_slots.specs.Zones.{MakesLabel};
-ghost use Rattle.mf_objects.specs.declared.entity.EntityData.TheVariants as what;
 
 mod changing;
 mod naming;
 mod reading;
 mod removing;
 
-use crate::entity::{Entity, EntityData, Pipe, Socket, Vnode};
+use crate::entity::{Entity, EntityData, Pipe, Process, Socket, Vnode};
 use crate::id::Id;
 use crate::index::{Group, NameIndex};
 use crate::limits::ROOT_MODE;
@@ -96,12 +95,13 @@ impl Objects {
         requires few { length self.old.live < MOST_ENTITIES }
         requires next { self.old.next < ID_LIMIT }
         requires name { live.live_named live.is_process self.old name.now ≡ None }
-        ensures ok { OnOk result (self.new ≡ change.with_entity self.old name.now values.now (what.Process cred.now)) }
-        ensures found { IfOk result (λ id. live.live_at self.new id ≡ Some (change.made self.old name.now values.now (what.Process cred.now))) }
+        ensures ok { OnOk result (self.new ≡ change.with_entity self.old name.now values.now (change.new_process cred.now)) }
+        ensures found { IfOk result (λ id. live.live_at self.new id ≡ Some (change.made self.old name.now values.now (change.new_process cred.now))) }
         ensures id { IfOk result (λ id. id.0 ≡ self.old.next) }
         ensures err { OnErr result (self.new ≡ self.old) }
     {
-        self.add(alloc, name, values, EntityData::Process(cred.copy()))
+        let process = Process { cred: cred.copy() };
+        self.add(alloc, name, values, EntityData::Process(process))
     }
 
     /// Makes a directory, or a regular file with this text.

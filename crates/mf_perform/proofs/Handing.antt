@@ -1,6 +1,7 @@
 -- What the row of a call says, by what was found.
 use Rattle.std.proofs.Common.{◌≡◌, ℕ, Bool, true, false, not, List, Option, Some, None, Result, Ok, Err, refl, ap, sym, ◌∙◌, if◌then◌else◌}
-use Rattle.std.specs.Prelude.{nat_eq, option_and_then}
+use Rattle.std.specs.Option.{option_zip}
+use Rattle.std.specs.Prelude.{nat_eq}
 use Rattle.mf_errno.specs.Names.{module_named}
 use Rattle.mf_errno.specs.declared.errno.Errno.TheVariants as errno
 use Rattle.mf_errno.specs.declared.module.Module.{Module}
@@ -20,8 +21,7 @@ use Rattle.mf_plan.specs.Found.{IsFound}
 use Rattle.mf_plan.specs.Plan.{row_for}
 use Rattle.mf_plan.specs.Row.{Row, through}
 use Rattle.mf_plan.specs.Rows.{about_of}
-use Rattle.mf_plan.specs.Settings.{both, if_listed}
-use Rattle.mf_plan.specs.Ways.{At, go_on, look_up, or_fail, request_in, target_in}
+use Rattle.mf_plan.specs.Ways.{At, go_on, look_up, or_fail, asked_in, target_in}
 use Rattle.mf_perform.specs.Found.{added, effect_found, payload_found, slot}
 
 module _ (s : State) (task : List ℕ) (me : Id) (c : Call) (found : Found) (is : IsFound s task me c found) where
@@ -45,7 +45,7 @@ module _ (s : State) (task : List ℕ) (me : Id) (c : Call) (found : Found) (is 
 -- hands back
 
 effect_row : (s : State) (task : List ℕ) (me : Id) (c : Call) (what : At (about_of s task me c).place) → is_change c ≡ false
-    → effect_found s task me c (target_in (about_of s task me c).place what) (request_in (about_of s task me c).place what) ≡ ((about_of s task me c).row what).effect
+    → effect_found s task me c (target_in (about_of s task me c).place what) (asked_in (about_of s task me c).place what) ≡ ((about_of s task me c).row what).effect
 effect_row s task me (call.Kldload name) what entry = cc
 effect_row s task me (call.Kldunload name) what entry = cc
 effect_row s task me (call.Sysctl name value) what entry = cc
@@ -61,13 +61,13 @@ named_so e (Some x) a is = cc
 set_so : (s : State) (root : Bool) (m : Option Module) (change : Option Change) (asked : Module × Change)
     → (if root then Err errno.Eperm else
     go_on (or_fail errno.Enoent m) (λ m. if not (is_listed m s.specs) then Err errno.Enoent else go_on (or_fail errno.Einval change) (λ change. Ok (m, change)))) ≡ Ok asked
-    → both (option_and_then (if_listed s.specs) m) change ≡ Some asked
+    → option_zip m change ≡ Some asked
 set_so s true m change asked is = cc
 set_so s false None change asked is = cc
 set_so s false (Some m) change asked is = one (is_listed m s.specs) change is
   where
     one : (b : Bool) (change : Option Change) → (if not b then Err errno.Enoent else go_on (or_fail errno.Einval change) (λ change. Ok (m, change))) ≡ Ok asked
-        → both (if b then Some m else None) change ≡ Some asked
+        → option_zip (Some m) change ≡ Some asked
     one true (Some change) is = cc
     one true None is = cc
     one false change is = cc

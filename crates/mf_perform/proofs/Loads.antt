@@ -1,8 +1,9 @@
 -- What a call that may be done asks of the list of policies: a module that may be loaded, or unloaded, or a setting.
 use Rattle.std.proofs.Common.{◌≡◌, ℕ, ◌<◌, ◌&&◌, Bool, true, false, not, List, [], Option, Some, None, option_map, Ok, Err, refl, ap, sym, ◌∙◌, if◌then◌else◌}
 use Rattle.std.proofs.lemmas.Bool.{leb-false}
-use Rattle.std.specs.Option.{option_map_or}
-use Rattle.std.specs.Prelude.{nat_eq, nat_le, option_and_then}
+use Rattle.std.specs.Option.{option_map_or, option_zip}
+use Rattle.std.specs.Prelude.{nat_eq, nat_le, codes, IfSome}
+use Rattle.std.specs.Str.{bytes_eq}
 use Rattle.mf_errno.specs.Names.{module_named}
 use Rattle.mf_errno.specs.declared.errno.Errno.{Errno}
 use Rattle.mf_errno.specs.declared.errno.Errno.TheVariants as errno
@@ -28,13 +29,14 @@ use Rattle.mf_plan.specs.Plan.{row_for}
 use Rattle.mf_plan.specs.Payloads.{rule_number}
 use Rattle.mf_plan.specs.Row.{Row, changes, gives, refuse_by, through}
 use Rattle.mf_plan.specs.Rows.{about_of}
-use Rattle.mf_plan.specs.Settings.{both, if_listed, listed_change, switch, sysctl_module, unless_success}
+use Rattle.mf_plan.specs.Settings.{switch, sysctl_module, unless_success}
 use Rattle.mf_policy.specs.Settings.{change_in}
 use Rattle.mf_calls.specs.Tasks.{is_change}
 use Rattle.mf_perform.specs.declared.relisting.Relisting.{Relisting}
 use Rattle.mf_perform.specs.declared.relisting.Relisting.TheVariants.{Load as ToLoad, Unload as ToUnload, Set as ToSet}
-use Rattle.mf_perform.specs.Relisting.{effect_in, relisting_in}
-use Rattle.mf_plan.specs.Ways.{At, change_at, go_on, or_fail, straight}
+use Rattle.mf_perform.specs.Relisting.{effect_in, relisting_at, SetsDynamic}
+use Rattle.mf_plan.specs.Ways.{At, go_on, or_fail, setting_found, straight}
+use Rattle.mf_plan.specs.Ways.Place.{Setting}
 
 -- What an effect needs of the list
 
@@ -54,7 +56,7 @@ no_errno errno (Some f) none = cc
 pub suits_list : (s : State) (task : List ℕ) (me : Id) (c : Call) (what : At (about_of s task me c).place) → ((about_of s task me c).row what).tail ≡ Do
     → SuitsList s ((about_of s task me c).row what).effect
 suits_list s task me (call.Kldload name) m done = no_errno load_errno (load_fault s.booted s.specs s.numbers m) (no_refusal (load_refusal s m) done)
-suits_list s task me (call.Kldunload name) m done = no_errno unload_errno (unload_fault s.specs m) (no_refusal (unload_refusal s (Some m)) done)
+suits_list s task me (call.Kldunload name) m done = no_errno unload_errno (unload_fault s.specs m) (no_refusal (unload_refusal s m) done)
 suits_list s task me other what done = tt
 
 -- a module that can be loaded and wants a slot finds one
@@ -96,7 +98,7 @@ module _ (s : State) (me : Id) (rest : Module × Change → Row) (same : (asked 
 
   by_listed : (b : Bool) (m : Module) (change : Option Change)
       → (through (straight (if not b then Err errno.Enoent else go_on (or_fail errno.Einval change) (λ change. Ok (m, change)))) set_row).tail ≡ Do
-      → option_map to_set (both (if b then Some m else None) change)
+      → option_map to_set (option_zip (Some m) change)
       ≡ Some (through (straight (if not b then Err errno.Enoent else go_on (or_fail errno.Einval change) (λ change. Ok (m, change)))) set_row).effect
   by_listed true m (Some change) done = ap (λ (e : Effect). Some e) (sym (same (m, change)))
   by_listed true m None done = cc
@@ -105,34 +107,61 @@ module _ (s : State) (me : Id) (rest : Module × Change → Row) (same : (asked 
   by_root : (b : Bool) (m : Option Module) (change : Option Change)
       → (through (straight (if b then Err errno.Eperm else
       go_on (or_fail errno.Enoent m) (λ m. if not (is_listed m s.specs) then Err errno.Enoent else go_on (or_fail errno.Einval change) (λ change. Ok (m, change))))) set_row).tail ≡ Do
-      → option_map to_set (both (option_and_then (if_listed s.specs) m) change)
+      → option_map to_set (option_zip m change)
       ≡ Some (through (straight (if b then Err errno.Eperm else
       go_on (or_fail errno.Enoent m) (λ m. if not (is_listed m s.specs) then Err errno.Enoent else go_on (or_fail errno.Einval change) (λ change. Ok (m, change))))) set_row).effect
   by_root false (Some m) change done = by_listed (is_listed m s.specs) m change done
   by_root false None change done = cc
   by_root true m change done = cc
 
-  found_setting : (m : Option Module) (change : Option Change) → (through (straight (change_at s me m change)) set_row).tail ≡ Do
-      → option_map to_set (both (option_and_then (if_listed s.specs) m) change) ≡ Some (through (straight (change_at s me m change)) set_row).effect
-  found_setting m change done = by_root (not (nat_eq (cred_at s.objects me).uid 0)) m change done
+  set_there : (m : Option Module) (change : Option Change) → (through (straight (setting_found s me m change)) set_row).tail ≡ Do
+      → option_map effect_in (relisting_at (Setting m change)) ≡ Some (through (straight (setting_found s me m change)) set_row).effect
+  set_there m change done = told_setting (option_zip m change) ∙ by_root (not (nat_eq (cred_at s.objects me).uid 0)) m change done
 
 -- a change that may be done has the effect that is told, whoever makes it
 pub relisting_is : (s : State) (task : List ℕ) (me : Id) (c : Call) → is_change c ≡ true → (row_for s task c me).tail ≡ Do
-    → option_map effect_in (relisting_in s.specs c) ≡ Some (row_for s task c me).effect
+    → option_map effect_in (relisting_at (about_of s task me c).place) ≡ Some (row_for s task c me).effect
 relisting_is s task me (call.Kldload name) change done =
     told_module (module_named name) (λ m. ToLoad m) (λ m. Load m) (λ m. refl) ∙ found_module [] (about_of s task me (call.Kldload name)).row (λ m. Load m) (λ m. refl) (module_named name) done
 relisting_is s task me (call.Kldunload name) change done =
     told_module (module_named name) (λ m. ToUnload m) (λ m. Unload m) (λ m. refl) ∙ found_module [] (about_of s task me (call.Kldunload name)).row (λ m. Unload m) (λ m. refl) (module_named name) done
 relisting_is s task me (call.Sysctl name value) change done =
-    told_setting (listed_change s.specs (call.Sysctl name value))
-    ∙ found_setting s me (λ asked. changes (Set asked.0 asked.1)) (λ asked. refl) (sysctl_module name) (option_map FirstMatch (switch value)) done
+    set_there s me (λ asked. changes (Set asked.0 asked.1)) (λ asked. refl) (sysctl_module name) (option_map FirstMatch (switch value)) done
 relisting_is s task me (call.UgidfwAdd rule) change done =
-    told_setting (listed_change s.specs (call.UgidfwAdd rule))
-    ∙ found_setting s me (λ asked. gives (rule_number (change_in asked.0 asked.1 s.specs).0.number) (Set asked.0 asked.1)) (λ asked. refl) (Some modules.Bsdextended) (Some (RuleAdd rule)) done
+    set_there s me (λ asked. gives (rule_number (change_in asked.0 asked.1 s.specs).0.number) (Set asked.0 asked.1)) (λ asked. refl) (Some modules.Bsdextended) (Some (RuleAdd rule)) done
 relisting_is s task me (call.UgidfwSet n rule) change done =
-    told_setting (listed_change s.specs (call.UgidfwSet n rule))
-    ∙ found_setting s me (λ asked. changes (Set asked.0 asked.1)) (λ asked. refl) (Some modules.Bsdextended) (Some (RuleSet n rule)) done
+    set_there s me (λ asked. changes (Set asked.0 asked.1)) (λ asked. refl) (Some modules.Bsdextended) (Some (RuleSet n rule)) done
 relisting_is s task me (call.UgidfwRemove n) change done =
-    told_setting (listed_change s.specs (call.UgidfwRemove n))
-    ∙ found_setting s me (λ asked. changes (Set asked.0 asked.1)) (λ asked. refl) (Some modules.Bsdextended) (Some (RuleRemove n)) done
+    set_there s me (λ asked. changes (Set asked.0 asked.1)) (λ asked. refl) (Some modules.Bsdextended) (Some (RuleRemove n)) done
 relisting_is s task me other change done = cc
+
+-- A change of a setting is of a module that may be unloaded: no other has one
+
+abbrev MayBeUnloaded : Module → Type 0
+MayBeUnloaded m = (facts_of m).unload_ok ≡ true
+
+of_sysctl : (b : Bool) → IfSome (if b then Some modules.Bsdextended else None) MayBeUnloaded
+of_sysctl true = refl
+of_sysctl false = tt
+
+sysctl_unloadable : (name : List ℕ) → IfSome (sysctl_module name) MayBeUnloaded
+unfolding sysctl_module
+sysctl_unloadable name = of_sysctl (bytes_eq name (codes "security.mac.bsdextended.firstmatch_enabled"))
+
+no_setting : (to : Module → Relisting) → ((m : Module) → SetsDynamic (to m)) → (found : Option Module) → IfSome (option_map to found) SetsDynamic
+no_setting to is None = tt
+no_setting to is (Some m) = is m
+
+sets : (m : Option Module) (change : Option Change) → IfSome m MayBeUnloaded → IfSome (option_map (λ asked. ToSet asked.0 asked.1) (option_zip m change)) SetsDynamic
+sets None change may = tt
+sets (Some m) None may = tt
+sets (Some m) (Some change) may = may
+
+pub sets_dynamic : (s : State) (task : List ℕ) (me : Id) (c : Call) → IfSome (relisting_at (about_of s task me c).place) SetsDynamic
+sets_dynamic s task me (call.Kldload name) = no_setting (λ m. ToLoad m) (λ m. tt) (module_named name)
+sets_dynamic s task me (call.Kldunload name) = no_setting (λ m. ToUnload m) (λ m. tt) (module_named name)
+sets_dynamic s task me (call.Sysctl name value) = sets (sysctl_module name) (option_map FirstMatch (switch value)) (sysctl_unloadable name)
+sets_dynamic s task me (call.UgidfwAdd rule) = refl
+sets_dynamic s task me (call.UgidfwSet n rule) = refl
+sets_dynamic s task me (call.UgidfwRemove n) = refl
+sets_dynamic s task me other = tt

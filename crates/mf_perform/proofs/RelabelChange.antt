@@ -29,7 +29,7 @@ use Rattle.mf_errno.specs.declared.errno.Errno.{Errno}
 use Rattle.mf_errno.specs.declared.errno.Errno.TheVariants as errno
 use Rattle.mf_plan.specs.declared.outline.Check.{Check}
 use Rattle.mf_plan.specs.Checks.{alone, on}
-use Rattle.mf_plan.specs.Effect.{relabels, request_of}
+use Rattle.mf_plan.specs.Effect.{relabelled_by, request_of}
 use Rattle.mf_plan.specs.Outline.{is_relabel, item_asking}
 use Rattle.mf_plan.specs.Plan.{plan_in, row_by}
 use Rattle.mf_plan.specs.Relabels.{claimed_in, if_claimed}
@@ -175,7 +175,7 @@ module _ (s : State) (task : List ℕ) (caller : Id) (rooted : IsRooted s.object
   call_made : (c : Call) (what : At (about_of s task caller c).place) → (look_up s caller (about_of s task caller c).place).there ≡ Ok what
       → (before : List Check)
       → AllByRecursion (IsGranted s.specs) (map (item_asking s.objects (request_of ((about_of s task caller c).row what).effect)) (before ++ ((about_of s task caller c).row what).checks))
-      → RelabelMade s (relabels ((about_of s task caller c).row what).effect)
+      → RelabelMade s (relabelled_by ((about_of s task caller c).row what).effect)
   call_made (call.Setpmac text) what there before granted =
       let asked = asked_there (claimed_in s.specs kinds.Process text) [] (Ok caller) what there in
       let same : caller ≡ what.1 = cc asked.1 in
@@ -196,13 +196,13 @@ module _ (s : State) (task : List ℕ) (caller : Id) (rooted : IsRooted s.object
 
   row_made : (c : Call) (checks : List Check) (there : Result (At (about_of s task caller c).place) Errno) → (look_up s caller (about_of s task caller c).place).there ≡ there
       → MayBeDone s.specs (plan_in s (through (record { checks = checks; there = there }) (about_of s task caller c).row))
-      → RelabelMade s (relabels (through (record { checks = checks; there = there }) (about_of s task caller c).row).effect)
+      → RelabelMade s (relabelled_by (through (record { checks = checks; there = there }) (about_of s task caller c).row).effect)
   row_made c checks (Ok what) is may = call_made c what is checks may.granted
   row_made c checks (Err e) is may = cc may.proceeds
 
 -- the process of that name that makes the call
 pub relabel_made : (s : State) (task name : List ℕ) (c : Call) (caller : Option Id) → process_named s.objects name ≡ caller → IsRooted s.objects
-    → MayBeDone s.specs (plan_in s (row_by s task c caller)) → RelabelMade s (relabels (row_by s task c caller).effect)
+    → MayBeDone s.specs (plan_in s (row_by s task c caller)) → RelabelMade s (relabelled_by (row_by s task c caller).effect)
 relabel_made s task name c None found rooted may = cc may.proceeds
 relabel_made s task name c (Some caller) found rooted may =
     let place = (about_of s task caller c).place in

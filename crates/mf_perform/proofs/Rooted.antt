@@ -87,7 +87,7 @@ named_process o name id found rising =
     has_kind is_process o id (subst (λ (at : Option Id). IfSome at (λ id. IsLive is_process o id)) found (named_lives is_process o name rising))
 
 pub process_kind : (what : EntityData) → is_process what ≡ true → kind_of what ≡ kinds.Process
-process_kind (Process cred) is = refl
+process_kind (Process process) is = refl
 process_kind other is = cc
 
 pub pipe_kind : (what : EntityData) → is_pipe what ≡ true → kind_of what ≡ kinds.Pipe

@@ -25,10 +25,10 @@ use Rattle.mf_plan.specs.declared.plan.Tail.TheVariants.{Do, Refuse}
 use Rattle.mf_plan.specs.declared.reply.Payload.{Payload}
 use Rattle.mf_plan.specs.declared.reply.Reply.{Reply}
 use Rattle.mf_plan.specs.declared.state.State.{State}
-use Rattle.mf_plan.specs.Effect.{Effect, relabels as relabelled_by}
+use Rattle.mf_plan.specs.Effect.{Effect, relabelled_by}
 use Rattle.mf_plan.specs.Effect.Effect.{Unchanged, Make, Append, Deliver, Empty, Receive, SetMode, Unlink, End, Relabel, Load, Unload, Set}
 use Rattle.mf_plan.specs.Names.{caller_name}
-use Rattle.mf_plan.specs.Plan.{plan_of, row_by, row_for, row_of}
+use Rattle.mf_plan.specs.Plan.{plan_of, row_by, row_for, call_row}
 use Rattle.mf_plan.specs.Row.{through}
 use Rattle.mf_plan.specs.Rows.{about_of}
 use Rattle.mf_plan.specs.Views.{process_named}
@@ -75,25 +75,25 @@ pub data StateChange (by : Deed) (s s' : State) : Type 0 where
 -- Changes keep the kind
 
 appended_kind : (text : List ℕ) (what : EntityData) → kind_of (appended text what) ≡ kind_of what
-appended_kind text (Process cred) = refl
+appended_kind text (Process process) = refl
 appended_kind text (Vnode vnode) = refl
 appended_kind text (Pipe pipe) = refl
 appended_kind text (Socket socket) = refl
 
 cleared_kind : (what : EntityData) → kind_of (cleared what) ≡ kind_of what
-cleared_kind (Process cred) = refl
+cleared_kind (Process process) = refl
 cleared_kind (Vnode vnode) = refl
 cleared_kind (Pipe pipe) = refl
 cleared_kind (Socket socket) = refl
 
 messages_kind : (change : List (List ℕ) → List (List ℕ)) (what : EntityData) → kind_of (with_messages change what) ≡ kind_of what
-messages_kind change (Process cred) = refl
+messages_kind change (Process process) = refl
 messages_kind change (Vnode vnode) = refl
 messages_kind change (Pipe pipe) = refl
 messages_kind change (Socket socket) = refl
 
 mode_kind : (mode : ℕ) (what : EntityData) → kind_of (with_mode mode what) ≡ kind_of what
-mode_kind mode (Process cred) = refl
+mode_kind mode (Process process) = refl
 mode_kind mode (Vnode vnode) = refl
 mode_kind mode (Pipe pipe) = refl
 mode_kind mode (Socket socket) = refl
@@ -180,7 +180,7 @@ abbrev pub step_by : State → List ℕ → Option (List ℕ) → Call → Deed
 step_by s task child c =
     record {
       caller = process_named s.objects (caller_name task child);
-      asked = after_reply (call_reply s task child c) None (relabelled_by (row_of s task child c).effect);
+      asked = after_reply (call_reply s task child c) None (relabelled_by (call_row s task child c).effect);
     }
 
 pub step_change : (s : State) (task : List ℕ) (child : Option (List ℕ)) (c : Call) → IsRooted s.objects
@@ -198,7 +198,7 @@ step_change s task child c rooted =
     caller = process_named s.objects (caller_name task child)
 
     asked : Option (Id × Request)
-    asked = relabelled_by (row_of s task child c).effect
+    asked = relabelled_by (call_row s task child c).effect
 
     by : Deed
     by = record { caller = caller; asked = asked }

@@ -1,5 +1,5 @@
 -- By place what is found lives and is as the place says; and by call what a call that may be done changes suits its change.
-use Rattle.std.proofs.Common.{◌≡◌, ◌≢◌, ℕ, Bool, true, false, not, List, Option, Some, None, IsSome, is_some, option_map, length, Result, Ok, Err, refl, ap, sym, subst, ◌∙◌, if◌then◌else◌, arith}
+use Rattle.std.proofs.Common.{◌≡◌, ◌≢◌, ℕ, Bool, true, false, List, Option, Some, None, IsSome, is_some, option_map, length, Result, Ok, Err, refl, ap, sym, subst, ◌∙◌, if◌then◌else◌, arith}
 use Rattle.std.specs.Prelude.{find, IfSome}
 use Rattle.std.specs.Option.{option_map_or}
 use Rattle.std.proofs.lemmas.Bool.{eqb-false, leb-false, ltb-false}
@@ -30,7 +30,7 @@ use Rattle.mf_plan.specs.Checks.{on}
 use Rattle.mf_plan.specs.Found.{AreFound}
 use Rattle.mf_plan.specs.Names.{caller_name}
 use Rattle.mf_plan.specs.Plan.{row_for}
-use Rattle.mf_plan.specs.Path.{entry_at, found_at, last_name, lookup_along}
+use Rattle.mf_plan.specs.Path.{last_name}
 use Rattle.mf_plan.specs.Relabels.{claimed_in}
 use Rattle.mf_plan.specs.Views.{is_dir, is_full, has_entries, overfills, is_empty_socket, is_full_socket, pipe_named, process_named, socket_named}
 use Rattle.mf_perform.proofs.Rooted.{named_lives}
@@ -155,7 +155,7 @@ module _ (s : State) (me : Id) (population : IsPopulation s.objects) (lives : Is
     row_suits (call.Setpipemac text name) asked holds done = some_live is_pipe s.objects asked.1 holds
     row_suits (call.Setsockmac text name) asked holds done = some_live is_socket s.objects asked.1 holds
     row_suits (call.Kldload name) m holds done = no_errno load_errno (load_fault s.booted s.specs s.numbers m) (no_refusal (load_refusal s m) done)
-    row_suits (call.Kldunload name) m holds done = no_errno unload_errno (unload_fault s.specs m) (no_refusal (unload_refusal s (Some m)) done)
+    row_suits (call.Kldunload name) m holds done = no_errno unload_errno (unload_fault s.specs m) (no_refusal (unload_refusal s m) done)
     row_suits other found holds done = tt
 
     call_suits : (c : Call) → (row_for s task c me).tail ≡ Do → Suits s (row_for s task c me).effect

@@ -1,18 +1,19 @@
 -- What a call gives and changes by what was found; inner contracts alone cite this.
 use Rattle.std.specs.Option.{option_map_or, option_zip}
-use Rattle.std.specs.Prelude.{ℕ, Bool, true, false, List, [], map, Option}
+use Rattle.std.specs.Prelude.{ℕ, Bool, true, false, List, [], map, Option, Some}
 use Rattle.mf_cred.specs.declared.cred.TheConstants.{FILE_MODE, DIRECTORY_MODE}
 use Rattle.mf_errno.specs.Names.{module_named}
 use Rattle.mf_errno.specs.declared.module.Module.{Module}
+use Rattle.mf_errno.specs.declared.module.Module.TheVariants as modules
 use Rattle.mf_elem.specs.declared.label.Request.{Request}
 use Rattle.mf_objects.specs.declared.id.Id.{Id}
-use Rattle.mf_objects.specs.declared.entity.EntityData.TheVariants.{Process}
-use Rattle.mf_objects.specs.Changes.{new_pipe, new_socket, new_vnode}
+use Rattle.mf_objects.specs.Changes.{new_pipe, new_process, new_socket, new_vnode}
 use Rattle.mf_objects.specs.Live.{cred_at}
 use Rattle.mf_policy.specs.Modules.{wants_slot}
 use Rattle.mf_policy.specs.Registration.{Entry, slot_for}
 use Rattle.mf_policy.specs.Settings.{change_in, listed_rules}
 use Rattle.mf_policy.specs.declared.settings.Change.{Change}
+use Rattle.mf_policy.specs.declared.settings.Change.TheVariants.{RuleAdd}
 use Rattle.mf_calls.specs.declared.script.Call.{Call}
 use Rattle.mf_calls.specs.declared.script.Call.TheVariants as call
 use Rattle.mf_plan.specs.declared.reply.Payload.{Payload}
@@ -24,7 +25,6 @@ use Rattle.mf_plan.specs.Names.{child_name}
 use Rattle.mf_plan.specs.Path.{last_name}
 use Rattle.mf_plan.specs.Payloads.{head, label, loaded, message, names, rule_number, rules, size, stat}
 use Rattle.mf_plan.specs.Rows.{new_file}
-use Rattle.mf_plan.specs.Settings.{listed_change}
 
 -- Effects
 
@@ -40,7 +40,7 @@ make_file s me path mode is_dir found = at (λ dir. Make (last_name path) (new_v
 
 -- what the call of an entry changes, by the target and the request that were found
 abbrev pub effect_found : State → List ℕ → Id → Call → Option Id → Option Request → Effect
-effect_found s task me (call.Fork child) found asked = Make (child_name task child) (Process (cred_at s.objects me))
+effect_found s task me (call.Fork child) found asked = Make (child_name task child) (new_process (cred_at s.objects me))
 effect_found s task me call.Exit found asked = End me
 effect_found s task me (call.Setpmac label) found asked = relabelling found asked
 effect_found s task me (call.Create path) found asked = make_file s me path FILE_MODE false found
@@ -57,7 +57,28 @@ effect_found s task me (call.Setpipemac label name) found asked = relabelling fo
 effect_found s task me (call.Send from to text) found asked = at (λ id. Deliver id text) found
 effect_found s task me (call.Recv name) found asked = at Receive found
 effect_found s task me (call.Setsockmac label name) found asked = relabelling found asked
-effect_found s task me other found asked = Unchanged
+effect_found s task me (call.See name) found asked = Unchanged
+effect_found s task me (call.Signal name) found asked = Unchanged
+effect_found s task me (call.Debug name) found asked = Unchanged
+effect_found s task me (call.Sched name) found asked = Unchanged
+effect_found s task me (call.Priv p) found asked = Unchanged
+effect_found s task me call.Getpmac found asked = Unchanged
+effect_found s task me (call.Exec path) found asked = Unchanged
+effect_found s task me (call.Read path) found asked = Unchanged
+effect_found s task me (call.Stat path) found asked = Unchanged
+effect_found s task me (call.Getfmac path) found asked = Unchanged
+effect_found s task me (call.Readdir path) found asked = Unchanged
+effect_found s task me (call.Pstat name) found asked = Unchanged
+effect_found s task me (call.Seesock name) found asked = Unchanged
+effect_found s task me call.Kldstat found asked = Unchanged
+effect_found s task me call.UgidfwList found asked = Unchanged
+-- changes of the policies, whose effect `relisting_at` tells
+effect_found s task me (call.Kldload name) found asked = Unchanged
+effect_found s task me (call.Kldunload name) found asked = Unchanged
+effect_found s task me (call.Sysctl name value) found asked = Unchanged
+effect_found s task me (call.UgidfwAdd rule) found asked = Unchanged
+effect_found s task me (call.UgidfwSet n rule) found asked = Unchanged
+effect_found s task me (call.UgidfwRemove n) found asked = Unchanged
 
 -- Payloads
 
@@ -86,5 +107,30 @@ payload_found s (call.Recv name) found = payload_of_found (message s.objects) fo
 payload_found s call.Kldstat found = payload.Modules (map loaded s.specs)
 payload_found s (call.Kldload name) found = slot s.numbers (module_named name)
 payload_found s call.UgidfwList found = rules (listed_rules s.specs)
-payload_found s (call.UgidfwAdd rule) found = added s.specs (listed_change s.specs (call.UgidfwAdd rule))
-payload_found s other found = payload.None
+payload_found s (call.UgidfwAdd rule) found = added s.specs (Some (modules.Bsdextended, RuleAdd rule))
+payload_found s (call.Fork child) found = payload.None
+payload_found s call.Exit found = payload.None
+payload_found s (call.See name) found = payload.None
+payload_found s (call.Signal name) found = payload.None
+payload_found s (call.Debug name) found = payload.None
+payload_found s (call.Sched name) found = payload.None
+payload_found s (call.Priv p) found = payload.None
+payload_found s (call.Setpmac label) found = payload.None
+payload_found s (call.Exec path) found = payload.None
+payload_found s (call.Create path) found = payload.None
+payload_found s (call.Mkdir path) found = payload.None
+payload_found s (call.Write path text) found = payload.None
+payload_found s (call.Setfmac label path) found = payload.None
+payload_found s (call.Chmod path mode) found = payload.None
+payload_found s (call.Unlink path) found = payload.None
+payload_found s (call.Pipe name) found = payload.None
+payload_found s (call.Socket name) found = payload.None
+payload_found s (call.Pwrite name text) found = payload.None
+payload_found s (call.Setpipemac label name) found = payload.None
+payload_found s (call.Send from to text) found = payload.None
+payload_found s (call.Seesock name) found = payload.None
+payload_found s (call.Setsockmac label name) found = payload.None
+payload_found s (call.Kldunload name) found = payload.None
+payload_found s (call.Sysctl name value) found = payload.None
+payload_found s (call.UgidfwSet n rule) found = payload.None
+payload_found s (call.UgidfwRemove n) found = payload.None

@@ -1,9 +1,9 @@
 pub mod Effect
 pub mod Found
+pub mod OneCall
 pub mod Passed
 pub mod Refused
 pub mod Relisting
 pub mod Reply
-pub mod Step
 pub mod Suits
 pub mod Verdict

@@ -8,7 +8,7 @@ use Rattle.mf_plan.specs.declared.reply.Reply.{Reply}
 use Rattle.mf_plan.specs.declared.reply.Reply.TheVariants as reply
 use Rattle.mf_plan.specs.declared.state.State.{State}
 use Rattle.mf_plan.specs.Names.{caller_name}
-use Rattle.mf_plan.specs.Plan.{plan_of, row_for, row_of}
+use Rattle.mf_plan.specs.Plan.{plan_of, row_for, call_row}
 use Rattle.mf_plan.specs.Views.{process_named}
 use Rattle.mf_perform.specs.Verdict.{verdict_of}
 use Rattle.mf_perform.specs.Reply.{reply_to}
@@ -16,7 +16,7 @@ use Rattle.mf_perform.specs.Effect.{after}
 
 -- what a call of the task's own process, or of its child of that name, hands back where it is done
 abbrev pub call_payload : State → List ℕ → Option (List ℕ) → Call → Payload
-call_payload s task child call = (row_of s task child call).payload
+call_payload s task child call = (call_row s task child call).payload
 
 -- the reply to it
 abbrev pub call_reply : State → List ℕ → Option (List ℕ) → Call → Reply

@@ -1,11 +1,12 @@
 //! What a call hands back.
-ghost use Rattle.std.specs.Prelude.{◌≡◌, ◌≤◌, ℕ, List, Option, IfOk, IsOk, IfSome, IsSome, false, length, map};
+ghost use Rattle.std.specs.Prelude.{◌≡◌, ◌≤◌, ℕ, List, Option, IfOk, IsOk, IfSome, IsSome, Some, false, length, map};
 ghost use Rattle.mf_errno.specs.Names.{module_named};
 ghost use Rattle.mf_objects.specs.Live.{live_at};
 ghost use Rattle.mf_plan.specs.Found.{AreFound};
 ghost use Rattle.mf_plan.specs.Payloads as read;
-ghost use Rattle.mf_plan.specs.Plan.{row_of};
-ghost use Rattle.mf_plan.specs.Settings as settings;
+ghost use Rattle.mf_plan.specs.Plan.{call_row};
+ghost use Rattle.mf_policy.specs.declared.settings.Change.TheVariants as changes;
+ghost use Rattle.mf_errno.specs.declared.module.Module.TheVariants as modules;
 ghost use Rattle.mf_policy.specs.Settings.{listed_rules};
 ghost use Rattle.mf_calls.specs.WellFormed.{IsFormedCall};
 ghost use Rattle.mf_perform.specs.Found as spec;
@@ -16,8 +17,9 @@ use mf_calls::Call;
 use mf_cred::ArrayVec;
 use mf_errno::Module;
 use mf_objects::{Id, Objects};
-use mf_plan::{Found, Loaded, Payload, State, listed_change};
-use mf_policy::{MOST_LISTED, SpecList, registration_of};
+use mf_plan::{Found, Loaded, Payload, State};
+use mf_policy::{Change, MOST_LISTED, SpecList, registration_of};
+use mf_rule::Rule;
 use std::alloc::{AllocError, Global};
 
 /// What the call, which is about what was found, hands back where it is done. Only a label, the names of a directory and
@@ -32,9 +34,9 @@ pub fn payload_of(
     requires formed { IsFormedCall call.now }
     requires few { length state.now.specs ≤ MOST_LISTED }
     ensures value { IfOk result (λ payload. (task : List ℕ) → (child : Option (List ℕ)) → AreFound state.now task child call.now found.now
-        → payload ≡ (row_of state.now task child call.now).payload) }
+        → payload ≡ (call_row state.now task child call.now).payload) }
     ensures memory { (task : List ℕ) → (child : Option (List ℕ)) → AreFound state.now task child call.now found.now
-        → payload_takes_memory (row_of state.now task child call.now).payload ≡ false → IsOk result }
+        → payload_takes_memory (call_row state.now task child call.now).payload ≡ false → IsOk result }
 {
     // Counting the entities shows the proof that the target lives.
     let _live = state.objects.live();
@@ -65,7 +67,7 @@ fn read_found(
         Call::Kldstat => Ok(Payload::Modules(loaded(&state.specs))),
         Call::Kldload(name) => Ok(slot(state, name.as_str())),
         Call::UgidfwList => rules(alloc, &state.specs),
-        Call::UgidfwAdd(_) => Ok(added(state, call)),
+        Call::UgidfwAdd(rule) => Ok(added(&state.specs, *rule)),
         Call::Fork(_)
         | Call::Exit
         | Call::See(_)
@@ -210,13 +212,11 @@ fn rules(alloc: Global, specs: &SpecList) -> Result<Payload, AllocError>
 }
 
 /// The number that a rule gets.
-fn added(state: &State, call: &Call) -> Payload
-    ensures { result ≡ spec.added state.now.specs (settings.listed_change state.now.specs call.now) }
+fn added(specs: &SpecList, rule: Rule) -> Payload
+    ensures { result ≡ spec.added specs.now (Some (modules.Bsdextended, changes.RuleAdd rule)) }
 {
-    let Some((module, change)) = listed_change(state, call) else {
-        return Payload::None;
-    };
-    match state.specs.answer_to(module, &change).number {
+    let change = Change::RuleAdd(rule);
+    match specs.answer_to(Module::Bsdextended, &change).number {
         Some(number) => Payload::Rule(number),
         None => Payload::None,
     }

@@ -4,7 +4,7 @@ ghost use Rattle.mf_objects.specs.declared.limits.TheConstants.{ID_LIMIT};
 ghost use Rattle.mf_objects.specs.Live.{is_process};
 ghost use Rattle.mf_objects.specs.Lives.{IsLive};
 ghost use Rattle.mf_plan.specs.Found.{AreFound};
-ghost use Rattle.mf_plan.specs.Plan.{plan_of, row_of};
+ghost use Rattle.mf_plan.specs.Plan.{plan_of, call_row};
 ghost use Rattle.mf_plan.specs.declared.plan.Tail.TheVariants.{Do};
 ghost use Rattle.mf_calls.specs.Tasks.{is_change};
 ghost use Rattle.mf_calls.specs.WellFormed.{IsFormedCall, IsFormedLine, IsName};
@@ -44,7 +44,7 @@ pub fn perform(
     ensures next { state.new.objects.next ≤ state.old.objects.next + 1 }
     ensures rises { state.old.objects.next ≤ state.new.objects.next }
     ensures kept { state.new.booted ≡ state.old.booted }
-    ensures memory { takes_memory (row_of state.old task.now line.now.child line.now.call).effect ≡ false → IsOk result }
+    ensures memory { takes_memory (call_row state.old task.now line.now.child line.now.call).effect ≡ false → IsOk result }
 {
     // Counting the entities shows the proof that what was found among them lives.
     let _live = state.objects.live();

@@ -3,7 +3,7 @@ ghost use Rattle.std.specs.Prelude.{◌≡◌, ◌<◌, OnOk, OnErr, IsSome};
 ghost use Rattle.mf_objects.specs.declared.limits.TheConstants.{ID_LIMIT};
 ghost use Rattle.mf_objects.specs.Live.{cred_at, is_process, label_at, live_at};
 ghost use Rattle.mf_objects.specs.Lives.{IsLive};
-ghost use Rattle.mf_objects.specs.declared.entity.EntityData.TheVariants as what;
+ghost use Rattle.mf_objects.specs.Changes.{new_process};
 ghost use Rattle.mf_plan.specs.Names as names;
 ghost use Rattle.mf_calls.specs.WellFormed.{IsName};
 ghost use Rattle.mf_policy.specs.NewLabels.{new_label};
@@ -39,10 +39,10 @@ pub(crate) fn fork(
     requires task { IsName task.now }
     requires child { IsName child.now }
     requires caller { IsLive is_process state.old.objects caller }
-    requires room { Suits state.old (Make (names.child_name task.now child.now) (what.Process (cred_at state.old.objects caller))) }
+    requires room { Suits state.old (Make (names.child_name task.now child.now) (new_process (cred_at state.old.objects caller))) }
     requires next { state.old.objects.next < ID_LIMIT }
     ensures ok { OnOk result (state.new
-        ≡ after state.old caller (Make (names.child_name task.now child.now) (what.Process (cred_at state.old.objects caller)))) }
+        ≡ after state.old caller (Make (names.child_name task.now child.now) (new_process (cred_at state.old.objects caller)))) }
     ensures err { OnErr result (state.new ≡ state.old) }
 {
     let name = child_name(task, child);

@@ -1,18 +1,17 @@
 //! What the calls change that load and unload modules, or change a setting.
-ghost use Rattle.std.specs.Prelude.{◌≡◌, ℕ, List, IfSome, Some, option_map, true};
+ghost use Rattle.std.specs.Prelude.{◌≡◌, ℕ, List, IfSome};
 ghost use Rattle.mf_objects.specs.declared.id.Id.{Id};
-ghost use Rattle.mf_calls.specs.Tasks.{is_change};
 ghost use Rattle.mf_calls.specs.WellFormed.{IsFormedCall};
-ghost use Rattle.mf_plan.specs.Plan.{row_for};
-ghost use Rattle.mf_plan.specs.declared.plan.Tail.TheVariants.{Do};
+ghost use Rattle.mf_plan.specs.declared.state.State.{State};
+ghost use Rattle.mf_plan.specs.Rows.{about_of};
 ghost use Rattle.mf_perform.specs.Relisting as spec;
 
 use mf_calls::Call;
 use mf_errno::Module;
-use mf_plan::{State, listed_change};
+use mf_plan::{State, asked_change};
 use mf_policy::Change;
 
-/// What a call changes of the policies: a module is registered, is taken off the list, or has another setting. List, catalogue
+/// What a call changes of the policies: a module is registered, is taken off the list, or has another setting. Dynamic list, catalogue
 /// and state follow it one after another.
 #[derive(Clone, Copy)]
 pub enum Relisting {
@@ -21,21 +20,19 @@ pub enum Relisting {
     Set(Module, Change),
 }
 
-/// What the call changes of the policies, whoever makes it, where it may be done: then that is the effect of its row.
-pub fn relisting_of(state: &State, call: &Call) -> Option<Relisting>
+/// What the call changes of the policies, where it may be done: then that is the effect of its row, whoever makes it.
+pub fn relisting_of(_state: &State, call: &Call) -> Option<Relisting>
     requires formed { IsFormedCall call.now }
-    ensures value { result ≡ spec.relisting_in state.now.specs call.now }
+    ensures tells { spec.Tells _state.now call.now result }
     ensures formed { IfSome result spec.IsFormed }
-    ensures effect { is_change call.now ≡ true → (task : List ℕ) → (me : Id) → (row_for state.now task call.now me).tail ≡ Do
-        → option_map spec.effect_in result ≡ Some (row_for state.now task call.now me).effect }
 {
-    asked_of(state, call)
+    told_by(call)
 }
 
 /// The change that the words of the call ask for.
-fn asked_of(state: &State, call: &Call) -> Option<Relisting>
+fn told_by(call: &Call) -> Option<Relisting>
     requires formed { IsFormedCall call.now }
-    ensures value { result ≡ spec.relisting_in state.now.specs call.now }
+    ensures value { (state : State) → (task : List ℕ) → (me : Id) → result ≡ spec.relisting_at (about_of state task me call.now).place }
     ensures formed { IfSome result spec.IsFormed }
 {
     match call {
@@ -47,9 +44,41 @@ fn asked_of(state: &State, call: &Call) -> Option<Relisting>
             let wanted = Module::from_name(name.as_str())?;
             Some(Relisting::Unload(wanted))
         }
-        _ => {
-            let (module, change) = listed_change(state, call)?;
+        Call::Sysctl(..) | Call::UgidfwAdd(_) | Call::UgidfwSet(..) | Call::UgidfwRemove(_) => {
+            let (module, change) = asked_change(call)?;
             Some(Relisting::Set(module, change))
         }
+        Call::Fork(_)
+        | Call::Exit
+        | Call::See(_)
+        | Call::Signal(_)
+        | Call::Debug(_)
+        | Call::Sched(_)
+        | Call::Priv(_)
+        | Call::Getpmac
+        | Call::Setpmac(_)
+        | Call::Exec(_)
+        | Call::Create(_)
+        | Call::Mkdir(_)
+        | Call::Read(_)
+        | Call::Write(..)
+        | Call::Stat(_)
+        | Call::Getfmac(_)
+        | Call::Setfmac(..)
+        | Call::Readdir(_)
+        | Call::Chmod(..)
+        | Call::Unlink(_)
+        | Call::Pipe(_)
+        | Call::Socket(_)
+        | Call::Pread(_)
+        | Call::Pwrite(..)
+        | Call::Pstat(_)
+        | Call::Setpipemac(..)
+        | Call::Send(..)
+        | Call::Recv(_)
+        | Call::Seesock(_)
+        | Call::Setsockmac(..)
+        | Call::Kldstat
+        | Call::UgidfwList => None,
     }
 }

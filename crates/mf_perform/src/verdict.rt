@@ -3,7 +3,7 @@ ghost use Rattle.std.specs.Prelude.{◌≡◌};
 ghost use Rattle.mf_perform.specs.Verdict as spec;
 
 use mf_errno::{Errno, Module};
-use mf_list::PolicyList;
+use mf_list::Listed;
 use mf_plan::Plan;
 use mf_policy::Policy;
 
@@ -23,8 +23,8 @@ pub struct Verdict {
 }
 
 /// Asks the policies for each check of the plan in turn, and stops at the first that is denied.
-pub fn verdict_of<P: Policy>(list: &PolicyList<P>, plan: &Plan) -> Verdict
-    ensures { result ≡ spec.verdict_of list.now.entries plan.now }
+pub fn verdict_of<P: Policy>(list: &Listed<'_, P>, plan: &Plan) -> Verdict
+    ensures { result ≡ spec.verdict_of list.now plan.now }
 {
     let mut number = 1;
     for place in 0..plan.len() {

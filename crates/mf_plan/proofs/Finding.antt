@@ -15,20 +15,20 @@ use Rattle.mf_plan.specs.declared.plan.Tail.{Tail}
 use Rattle.mf_plan.specs.declared.plan.Tail.TheVariants.{Do, Refuse}
 use Rattle.mf_plan.specs.declared.state.State.{State}
 use Rattle.mf_plan.specs.Checks.{alone, on}
-use Rattle.mf_plan.specs.Effect.{Effect, request_of}
+use Rattle.mf_plan.specs.Effect.{request_of}
 use Rattle.mf_plan.specs.Effect.Effect.{Unchanged}
 use Rattle.mf_plan.specs.Ended.{Ended, end_by, end_of}
-use Rattle.mf_plan.specs.Found.{AreFound, IsFound, asked_at, target_at}
+use Rattle.mf_plan.specs.Found.{AreFound, asked_at, target_at}
 use Rattle.mf_plan.specs.Names.{caller_name}
 use Rattle.mf_plan.specs.Outline.{item_asking}
-use Rattle.mf_plan.specs.Path.{entry_at, found_at, lookup_along}
+use Rattle.mf_plan.specs.Path.{found_at, lookup_along}
 use Rattle.mf_plan.specs.Plan.{plan_in, plan_of, row_by, row_for}
 use Rattle.mf_plan.specs.Planned.{Plan}
 use Rattle.mf_plan.specs.Relabels.{claimed_in}
 use Rattle.mf_plan.specs.Row.{Row, if_there, relabel_by, through}
 use Rattle.mf_plan.specs.Rows.{about_of}
 use Rattle.mf_plan.specs.Views.{pipe_named, process_named, socket_named}
-use Rattle.mf_plan.specs.Ways.{At, Place, Way, along, asking, go_on, look_up, missing, named, or_fail, request_in, straight, target_in, then_way, with_first}
+use Rattle.mf_plan.specs.Ways.{At, Place, Way, along, asking, go_on, look_up, missing, named, or_fail, asked_in, straight, target_in, then_way, with_first}
 use Rattle.mf_plan.specs.Ways.Place.{Asking, Caller, Entry, File, Free, Named, Sockets}
 
 -- What is there
@@ -68,7 +68,7 @@ module _ (s : State) (me : Id) where
       target_there place found.1 (are_asked (claimed_in s.specs kind text) (look_up s me place).checks (look_up s me place).there found is).on_the_way
   target_there other found is = refl
 
-  pub request_there : (place : Place) (found : At place) → (look_up s me place).there ≡ Ok found → asked_at s place ≡ request_in place found
+  pub request_there : (place : Place) (found : At place) → (look_up s me place).there ≡ Ok found → asked_at s place ≡ asked_in place found
   request_there (Asking kind text place) found is = (are_asked (claimed_in s.specs kind text) (look_up s me place).checks (look_up s me place).there found is).claimed
   request_there other found is = refl
 

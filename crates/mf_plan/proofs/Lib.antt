@@ -2,3 +2,4 @@ pub mod LookingUp
 pub mod Finding
 mod Relabelling
 mod Viewing
+mod Setting

@@ -11,8 +11,8 @@ use Rattle.mf_plan.specs.declared.outline.Check.{Check}
 abbrev pub on : Id → CheckOp → Id → Check
 on me op id = record { op = op; caller = me; subject = me; object = Some id; privilege = None }
 
-abbrev pub privileged : Id → Priv → Check
-privileged me p = record { op = op.Priv; caller = me; subject = me; object = None; privilege = Some p }
+abbrev pub for_privilege : Id → Priv → Check
+for_privilege me p = record { op = op.Priv; caller = me; subject = me; object = None; privilege = Some p }
 
 abbrev pub alone : Id → CheckOp → Check
 alone me op = record { op = op; caller = me; subject = me; object = None; privilege = None }

@@ -22,10 +22,10 @@ pub data Effect : Type 0 where
   Set : Module → Change → Effect
 
 -- the entity that is relabelled, and what is asked for it
-abbrev pub relabels : Effect → Option (Id × Request)
-relabels (Relabel id request) = Some (id, request)
-relabels other = None
+abbrev pub relabelled_by : Effect → Option (Id × Request)
+relabelled_by (Relabel id request) = Some (id, request)
+relabelled_by other = None
 
 -- what is asked of a label
 abbrev pub request_of : Effect → Option Request
-request_of effect = option_map (λ asked. asked.1) (relabels effect)
+request_of effect = option_map (λ asked. asked.1) (relabelled_by effect)

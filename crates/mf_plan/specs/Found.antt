@@ -1,7 +1,10 @@
 -- What a call is about, as it was found.
-use Rattle.std.specs.Prelude.{◌≡◌, ℕ, List, Option, Some, None, Ok}
+use Rattle.std.specs.Option.{option_zip}
+use Rattle.std.specs.Prelude.{◌≡◌, ℕ, Bool, true, false, List, Option, Some, None, Ok}
+use Rattle.mf_errno.specs.declared.module.Module.{Module}
 use Rattle.mf_elem.specs.declared.label.Request.{Request}
 use Rattle.mf_objects.specs.declared.id.Id.{Id}
+use Rattle.mf_policy.specs.declared.settings.Change.{Change}
 use Rattle.mf_calls.specs.declared.script.Call.{Call}
 use Rattle.mf_plan.specs.declared.found.Found.{Found}
 use Rattle.mf_plan.specs.declared.state.State.{State}
@@ -11,15 +14,15 @@ use Rattle.mf_plan.specs.Places.{entry_at_path, free_dir_at}
 use Rattle.mf_plan.specs.Relabels.{claimed_in}
 use Rattle.mf_plan.specs.Rows.{about_of}
 use Rattle.mf_plan.specs.Views.{process_named, socket_named}
-use Rattle.mf_plan.specs.Ways.{At, Place, look_up, named, request_in, target_in}
-use Rattle.mf_plan.specs.Ways.Place.{Asking, Caller, Entry, File, Free, Named, Sockets}
+use Rattle.mf_plan.specs.Ways.{At, Place, look_up, named, asked_in, target_in}
+use Rattle.mf_plan.specs.Ways.Place.{Asking, Caller, Entry, File, Free, Named, Setting, Sockets}
 
 -- what a call of this process is about
 pub record IsFound (s : State) (task : List ℕ) (me : Id) (c : Call) (found : Found) : Type 0 where
   pub what : At (about_of s task me c).place
   pub there : (look_up s me (about_of s task me c).place).there ≡ Ok what
   pub target : found.target ≡ target_in (about_of s task me c).place what
-  pub request : found.request ≡ request_in (about_of s task me c).place what
+  pub request : found.request ≡ asked_in (about_of s task me c).place what
 
 -- who calls, and what the call is about
 pub record AreFound (s : State) (task : List ℕ) (child : Option (List ℕ)) (c : Call) (found : Found) : Type 0 where
@@ -45,3 +48,16 @@ target_at s me other = None
 abbrev pub asked_at : State → Place → Option Request
 asked_at s (Asking kind text place) = claimed_in s.specs kind text
 asked_at s other = None
+
+-- the module whose setting is to be changed, and the change that it is to have
+abbrev pub setting_at : Place → Option Module × Option Change
+setting_at (Setting m change) = (m, change)
+setting_at other = (None, None)
+
+abbrev pub is_setting : Place → Bool
+is_setting (Setting m change) = true
+is_setting other = false
+
+-- the change of a setting, where there is a setting of the name and it has such a value
+abbrev pub asked_change : Place → Option (Module × Change)
+asked_change place = option_zip (setting_at place).0 (setting_at place).1

@@ -23,12 +23,12 @@ abbrev pub row_by : State → List ℕ → Call → Option Id → Row
 row_by s task c caller = option_map_or (row_for s task c) caller (refuse errno.Esrch)
 
 -- the row of a call of the task's own process, or of its child of that name
-abbrev pub row_of : State → List ℕ → Option (List ℕ) → Call → Row
-row_of s task child c = row_by s task c (process_named s.objects (caller_name task child))
+abbrev pub call_row : State → List ℕ → Option (List ℕ) → Call → Row
+call_row s task child c = row_by s task c (process_named s.objects (caller_name task child))
 
 -- the checks of a row as policies see them, with what its effect asks of a label, and its end
 abbrev pub plan_in : State → Row → Plan
 plan_in s row = record { items = map (item_asking s.objects (request_of row.effect)) row.checks; tail = row.tail }
 
 abbrev pub plan_of : State → List ℕ → Option (List ℕ) → Call → Plan
-plan_of s task child c = plan_in s (row_of s task child c)
+plan_of s task child c = plan_in s (call_row s task child c)

@@ -12,9 +12,8 @@ use Rattle.mf_cred.specs.declared.cred.FileView.{FileView}
 use Rattle.mf_cred.specs.declared.cred.TheConstants.{FILE_MODE, DIRECTORY_MODE}
 use Rattle.mf_names.specs.declared.limits.TheConstants.{CONTENT_LIMIT}
 use Rattle.mf_objects.specs.declared.limits.TheConstants.{PIPE_LIMIT}
-use Rattle.mf_objects.specs.declared.entity.EntityData.TheVariants.{Process}
 use Rattle.mf_objects.specs.declared.id.Id.{Id}
-use Rattle.mf_objects.specs.Changes.{new_vnode, new_pipe, new_socket}
+use Rattle.mf_objects.specs.Changes.{new_process, new_vnode, new_pipe, new_socket}
 use Rattle.mf_objects.specs.Live.{Entities, cred_at, file_at}
 use Rattle.mf_policy.specs.Loading.{load_errno, load_fault, unload_errno, unload_fault}
 use Rattle.mf_policy.specs.Modules.{wants_slot}
@@ -29,7 +28,7 @@ use Rattle.mf_calls.specs.declared.script.Call.TheVariants as call
 use Rattle.mf_plan.specs.declared.reply.Payload.{Payload}
 use Rattle.mf_plan.specs.declared.reply.Payload.TheVariants as payload
 use Rattle.mf_plan.specs.declared.state.State.{State}
-use Rattle.mf_plan.specs.Checks.{on, privileged, alone, by_socket}
+use Rattle.mf_plan.specs.Checks.{on, for_privilege, alone, by_socket}
 use Rattle.mf_plan.specs.Names.{child_name}
 use Rattle.mf_plan.specs.Path.{last_name}
 use Rattle.mf_plan.specs.Settings.{switch, sysctl_module, unless_success}
@@ -45,8 +44,8 @@ abbrev pub new_file : Entities → Id → Id → ℕ → Bool → FileView
 new_file objects maker dir mode is_dir =
     record { uid = (cred_at objects maker).uid; gid = (file_at objects dir).gid; mode = mode; dir = is_dir }
 
-abbrev pub make_file : State → Id → List (List ℕ) → ℕ → Bool → Id → Row
-make_file s me path mode is_dir dir =
+abbrev pub makes_file : State → Id → List (List ℕ) → ℕ → Bool → Id → Row
+makes_file s me path mode is_dir dir =
     ask (on me op.VnodeCreate dir) (if_room s (changes (Make (last_name path) (new_vnode dir (new_file s.objects me dir mode is_dir) []))))
 
 -- a change that the policy may refuse
@@ -65,18 +64,18 @@ about s me place row = record { place = place; row = row; whole = through (look_
 -- The table: what a call of this process of the task is about, and its row, once that is found.
 abbrev pub about_of : State → List ℕ → Id → Call → About
 about_of s task me (call.Fork child) = about s me (Unused kinds.Process (child_name task child)) (λ free.
-    if_room s (changes (Make (child_name task child) (Process (cred_at s.objects me)))))
+    if_room s (changes (Make (child_name task child) (new_process (cred_at s.objects me)))))
 about_of s task me call.Exit = about s me Nothing (λ none. changes (End me))
 about_of s task me (call.See name) = about s me (Named kinds.Process name) (λ id. ask (on me op.ProcVisible id) done)
 about_of s task me (call.Signal name) = about s me (Named kinds.Process name) (λ id. ask (on me op.ProcSignal id) done)
 about_of s task me (call.Debug name) = about s me (Named kinds.Process name) (λ id. ask (on me op.ProcDebug id) done)
 about_of s task me (call.Sched name) = about s me (Named kinds.Process name) (λ id. ask (on me op.ProcSched id) done)
-about_of s task me (call.Priv p) = about s me Nothing (λ none. ask (privileged me p) done)
+about_of s task me (call.Priv p) = about s me Nothing (λ none. ask (for_privilege me p) done)
 about_of s task me call.Getpmac = about s me Caller (λ id. shows (label s id))
 about_of s task me (call.Setpmac text) = about s me (Asking kinds.Process text Caller) (relabel_by (λ id. alone me op.CredRelabel))
 about_of s task me (call.Exec path) = about s me (File path) (λ id. refuse_if (is_dir s.objects id) errno.Eacces (ask (on me op.VnodeExec id) done))
-about_of s task me (call.Create path) = about s me (Free path) (λ dir. make_file s me path FILE_MODE false dir)
-about_of s task me (call.Mkdir path) = about s me (Free path) (λ dir. make_file s me path DIRECTORY_MODE true dir)
+about_of s task me (call.Create path) = about s me (Free path) (λ dir. makes_file s me path FILE_MODE false dir)
+about_of s task me (call.Mkdir path) = about s me (Free path) (λ dir. makes_file s me path DIRECTORY_MODE true dir)
 about_of s task me (call.Read path) = about s me (File path) (λ id.
     refuse_if (is_dir s.objects id) errno.Eisdir (ask (on me op.VnodeOpenRead id) (ask (on me op.VnodeRead id) (shows (head s.objects id)))))
 about_of s task me (call.Write path text) = about s me (File path) (λ id.

@@ -19,7 +19,7 @@ use Rattle.mf_plan.specs.declared.lookup.Lookup.{Lookup}
 use Rattle.mf_plan.specs.declared.state.State.{State}
 use Rattle.mf_plan.specs.declared.target.Target.{Target}
 use Rattle.mf_plan.specs.Path.{lookup_along, found_at, free_at, entry_at}
-use Rattle.mf_plan.specs.Checks.{on, alone, privileged}
+use Rattle.mf_plan.specs.Checks.{on, alone, for_privilege}
 use Rattle.mf_plan.specs.Relabels.{claimed_in}
 use Rattle.mf_plan.specs.Views.{process_named, pipe_named, socket_named}
 
@@ -102,8 +102,8 @@ abbrev pub along : {A : Type 0} → Id → (Target → Result A Errno) → Looku
 along me place walk = record { checks = map (on me op.VnodeLookup) walk.lookups; there = place walk.target }
 
 -- root alone changes a listed module's setting, to a value that it has
-abbrev pub change_at : State → Id → Option Module → Option Change → Result (Module × Change) Errno
-change_at s me m change =
+abbrev pub setting_found : State → Id → Option Module → Option Change → Result (Module × Change) Errno
+setting_found s me m change =
     if not (nat_eq (cred_at s.objects me).uid 0) then Err errno.Eperm else
     go_on (or_fail errno.Enoent m) (λ m. if not (is_listed m s.specs) then Err errno.Enoent else
     go_on (or_fail errno.Einval change) (λ change. Ok (m, change)))
@@ -122,11 +122,11 @@ look_up s me (Sockets from to) =
     asking (on me op.SocketSend from) (straight (go_on (or_fail errno.Enoent (socket_named s.objects to)) (λ to. Ok (from, to)))))
 look_up s me (Listed m) = straight (if is_listed m s.specs then Ok tt else Err errno.Enoent)
 look_up s me (Loading name) =
-    asking (privileged me privilege.KldLoad) (straight (or_fail errno.Enoent (module_named name)))
+    asking (for_privilege me privilege.KldLoad) (straight (or_fail errno.Enoent (module_named name)))
 look_up s me (Unloading name) =
-    asking (privileged me privilege.KldUnload) (asking (alone me op.KldUnload)
+    asking (for_privilege me privilege.KldUnload) (asking (alone me op.KldUnload)
     (straight (or_fail errno.Enoent (module_named name))))
-look_up s me (Setting m change) = straight (change_at s me m change)
+look_up s me (Setting m change) = straight (setting_found s me m change)
 look_up s me (Asking kind text place) =
     then_way (or_fail errno.Einval (claimed_in s.specs kind text)) (λ request. with_first request (look_up s me place))
 
@@ -142,6 +142,6 @@ target_in (Asking kind text place) asked = target_in place asked.1
 target_in other found = None
 
 -- what is asked of a label
-abbrev pub request_in : (place : Place) → At place → Option Request
-request_in (Asking kind text place) asked = Some asked.0
-request_in other found = None
+abbrev pub asked_in : (place : Place) → At place → Option Request
+asked_in (Asking kind text place) asked = Some asked.0
+asked_in other found = None

@@ -1,5 +1,5 @@
 //! Calls on files and directories: what a path leads to, and the checks and tests there.
-ghost use Rattle.std.specs.Prelude.{◌≡◌, ◌≤◌, [], ◌∷◌, map, length, All, IfOk};
+ghost use Rattle.std.specs.Prelude.{◌≡◌, ◌≤◌, [], map, length, All, IfOk};
 ghost use Rattle.mf_item.specs.declared.operation.CheckOp.TheVariants as op;
 ghost use Rattle.mf_objects.specs.Lives.{IsLive, is_directory, is_vnode};
 ghost use Rattle.mf_calls.specs.declared.script.Call.TheVariants as call;

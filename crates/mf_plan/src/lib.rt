@@ -26,6 +26,6 @@ pub use outline::{Check, Outline};
 pub use plan::{MOST_CHECKS, Plan, Tail};
 pub use planning::{outline_of, plan_of};
 pub use reply::{LabelPart, Loaded, Payload, Reply};
-pub use settings::listed_change;
+pub use settings::asked_change;
 pub use state::State;
 pub use target::Target;

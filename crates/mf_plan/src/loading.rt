@@ -1,5 +1,5 @@
 //! The checks and tests of the calls that load and unload modules.
-ghost use Rattle.std.specs.Prelude.{◌≡◌, [], IfOk, None, Some};
+ghost use Rattle.std.specs.Prelude.{◌≡◌, [], IfOk, None};
 ghost use Rattle.mf_calls.specs.declared.script.Call.TheVariants as call;
 ghost use Rattle.mf_plan.specs.Ended.{ended, end_of, end_for};
 ghost use Rattle.mf_plan.specs.Loading as spec;
@@ -26,7 +26,7 @@ fn end_of_load(state: &State, wanted: Module) -> Result<Option<Id>, Errno>
 
 /// How an unload of the module ends.
 fn end_of_unload(state: &State, wanted: Module) -> Result<Option<Id>, Errno>
-    ensures row { ended [] result ≡ end_of (row.refuse_by (spec.unload_refusal state.now (Some wanted)) row.done) }
+    ensures row { ended [] result ≡ end_of (row.refuse_by (spec.unload_refusal state.now wanted) row.done) }
     ensures target { IfOk result (λ target. target ≡ None) }
 {
     match unload_fault(&state.specs, wanted) {

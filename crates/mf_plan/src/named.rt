@@ -1,7 +1,8 @@
 //! Calls on processes, pipes and sockets, which go by name.
-ghost use Rattle.std.specs.Prelude.{◌≡◌, ◌≤◌, [], length, if◌then◌else◌, is_some, Err, IfOk, None, Ok};
+ghost use Rattle.std.specs.Prelude.{◌≡◌, ◌≤◌, [], length, if◌then◌else◌, is_some, Err, IfOk, IfSome, IsSome, None, Ok};
 ghost use Rattle.mf_errno.specs.declared.errno.Errno.TheVariants as errno;
 ghost use Rattle.mf_item.specs.declared.view.Kind.TheVariants as kinds;
+ghost use Rattle.mf_objects.specs.Live.{live_at};
 ghost use Rattle.mf_calls.specs.WellFormed.{IsName};
 ghost use Rattle.mf_calls.specs.declared.script.Call.TheVariants as call;
 ghost use Rattle.mf_plan.specs.Checks.{on};
@@ -9,7 +10,7 @@ ghost use Rattle.mf_plan.specs.Ended.{ended, end_of, end_by, end_for};
 ghost use Rattle.mf_plan.specs.Found.{target_at};
 ghost use Rattle.mf_plan.specs.Outline as outline;
 ghost use Rattle.mf_plan.specs.Row as row;
-ghost use Rattle.mf_plan.specs.Ways.{look_up, straight};
+ghost use Rattle.mf_plan.specs.Ways as way;
 ghost use Rattle.mf_plan.specs.Ways.Place.{Named, Sockets};
 
 use crate::names::child_name;
@@ -17,15 +18,15 @@ use crate::outline::{Checks, ask, ask_delivery};
 use crate::state::State;
 use crate::views::{is_full, overfills_pipe};
 use mf_errno::Errno;
-use mf_item::CheckOp;
+use mf_item::{CheckOp, Kind};
 use mf_names::{Name, SCRIPT_LIMIT};
-use mf_objects::{Id, MOST_MESSAGES};
+use mf_objects::{Id, MOST_MESSAGES, Objects};
 
 /// The tests of a call that makes an entity: EEXIST where `holder` has its name already, ENFILE where no further entity
 /// can be made.
 pub(crate) fn make(state: &State, holder: Option<Id>) -> Result<Option<Id>, Errno>
     ensures row { ended [] result
-        ≡ end_of (row.through (straight (if is_some holder then Err errno.Eexist else Ok (tt {0}))) (λ free. row.if_room state.now row.done)) }
+        ≡ end_of (row.through (way.straight (if is_some holder then Err errno.Eexist else Ok (tt {0}))) (λ free. row.if_room state.now row.done)) }
     ensures target { IfOk result (λ target. target ≡ None) }
 {
     if holder.is_some() {
@@ -48,59 +49,54 @@ pub(crate) fn fork(state: &State, task: &str, _caller: Id, child: &str) -> Resul
     make(state, state.objects.process(name.as_str()))
 }
 
-/// One check of a process.
-pub(crate) fn on_process(
-    state: &State,
-    caller: Id,
-    op: CheckOp,
-    name: &Name,
-    checks: &mut Checks,
-) -> Result<Option<Id>, Errno>
-    requires empty { checks.old ≡ [] }
-    requires asking { outline.IsAsking state.now.objects caller checks.old }
-    ensures row { ended checks.new result ≡ end_of (row.through (look_up state.now caller (Named kinds.Process name.now)) (λ id. row.ask (on caller op id) row.done)) }
-    ensures target { IfOk result (λ target. target ≡ target_at state.now caller (Named kinds.Process name.now)) }
-    ensures asking { outline.IsAsking state.now.objects caller checks.new }
+/// The live process, pipe or socket of a name.
+fn named(objects: &Objects, kind: Kind, name: &str) -> Option<Id>
+    ensures value { result ≡ way.named objects.now kind name.now }
+    ensures live { IfSome result (λ id. IsSome (live_at objects.now id)) }
 {
-    let id = state.objects.process(name.as_str()).ok_or(Errno::Esrch)?;
-    ask(&state.objects, caller, op, id, checks);
-    Ok(Some(id))
+    match kind {
+        Kind::Process => objects.process(name),
+        Kind::Vnode => None,
+        Kind::Pipe => objects.pipe(name),
+        Kind::Socket => objects.socket(name),
+    }
 }
 
-/// One check of a pipe.
-pub(crate) fn on_pipe(
-    state: &State,
-    caller: Id,
-    op: CheckOp,
-    name: &Name,
-    checks: &mut Checks,
-) -> Result<Option<Id>, Errno>
-    requires empty { checks.old ≡ [] }
-    requires asking { outline.IsAsking state.now.objects caller checks.old }
-    ensures row { ended checks.new result ≡ end_of (row.through (look_up state.now caller (Named kinds.Pipe name.now)) (λ id. row.ask (on caller op id) row.done)) }
-    ensures target { IfOk result (λ target. target ≡ target_at state.now caller (Named kinds.Pipe name.now)) }
-    ensures asking { outline.IsAsking state.now.objects caller checks.new }
+/// The errno where none has the name.
+fn missing(kind: Kind) -> Errno
+    ensures { result ≡ way.missing kind }
 {
-    let id = state.objects.pipe(name.as_str()).ok_or(Errno::Enoent)?;
-    ask(&state.objects, caller, op, id, checks);
-    Ok(Some(id))
+    match kind {
+        Kind::Process => Errno::Esrch,
+        Kind::Vnode | Kind::Pipe | Kind::Socket => Errno::Enoent,
+    }
 }
 
-/// One check of a socket.
-pub(crate) fn on_socket(
+/// Which process, pipe or socket a name names.
+fn holder(state: &State, kind: Kind, name: &Name) -> Result<Id, Errno>
+    ensures there { result ≡ way.or_fail (way.missing kind) (way.named state.now.objects kind name.now) }
+    ensures live { IfOk result (λ id. IsSome (live_at state.now.objects id)) }
+{
+    named(&state.objects, kind, name.as_str()).ok_or(missing(kind))
+}
+
+/// One check of the process, pipe or socket of a name.
+pub(crate) fn on_named(
     state: &State,
     caller: Id,
+    kind: Kind,
     op: CheckOp,
     name: &Name,
     checks: &mut Checks,
 ) -> Result<Option<Id>, Errno>
     requires empty { checks.old ≡ [] }
     requires asking { outline.IsAsking state.now.objects caller checks.old }
-    ensures row { ended checks.new result ≡ end_of (row.through (look_up state.now caller (Named kinds.Socket name.now)) (λ id. row.ask (on caller op id) row.done)) }
-    ensures target { IfOk result (λ target. target ≡ target_at state.now caller (Named kinds.Socket name.now)) }
+    ensures row { ended checks.new result
+        ≡ end_of (row.through (way.look_up state.now caller (Named kind name.now)) (λ id. row.ask (on caller op id) row.done)) }
+    ensures target { IfOk result (λ target. target ≡ target_at state.now caller (Named kind name.now)) }
     ensures asking { outline.IsAsking state.now.objects caller checks.new }
 {
-    let id = state.objects.socket(name.as_str()).ok_or(Errno::Enoent)?;
+    let id = holder(state, kind, name)?;
     ask(&state.objects, caller, op, id, checks);
     Ok(Some(id))
 }
@@ -117,7 +113,7 @@ pub(crate) fn pread(
     ensures target { IfOk result (λ target. target ≡ target_at state.now caller (Named kinds.Pipe name.now)) }
     ensures asking { outline.IsAsking state.now.objects caller checks.new }
 {
-    let id = state.objects.pipe(name.as_str()).ok_or(Errno::Enoent)?;
+    let id = holder(state, Kind::Pipe, name)?;
     ask(&state.objects, caller, CheckOp::PipeRead, id, checks);
     if state.objects.size(id) == 0 {
         return Err(Errno::Eagain);
@@ -139,7 +135,7 @@ pub(crate) fn pwrite(
     ensures target { IfOk result (λ target. target ≡ target_at state.now caller (Named kinds.Pipe name.now)) }
     ensures asking { outline.IsAsking state.now.objects caller checks.new }
 {
-    let id = state.objects.pipe(name.as_str()).ok_or(Errno::Enoent)?;
+    let id = holder(state, Kind::Pipe, name)?;
     ask(&state.objects, caller, CheckOp::PipeWrite, id, checks);
     if overfills_pipe(&state.objects, text, id) {
         return Err(Errno::Eagain);
@@ -163,9 +159,9 @@ pub(crate) fn send(
     ensures asking { outline.IsAsking state.now.objects caller checks.new }
 {
     let objects = &state.objects;
-    let from = objects.socket(from.as_str()).ok_or(Errno::Enoent)?;
+    let from = holder(state, Kind::Socket, from)?;
     ask(objects, caller, CheckOp::SocketSend, from, checks);
-    let to = objects.socket(to.as_str()).ok_or(Errno::Enoent)?;
+    let to = holder(state, Kind::Socket, to)?;
     ask_delivery(objects, caller, from, to, checks);
     if objects.count(to) as usize >= MOST_MESSAGES {
         return Err(Errno::Enobufs);
@@ -185,7 +181,7 @@ pub(crate) fn recv(
     ensures target { IfOk result (λ target. target ≡ target_at state.now caller (Named kinds.Socket name.now)) }
     ensures asking { outline.IsAsking state.now.objects caller checks.new }
 {
-    let id = state.objects.socket(name.as_str()).ok_or(Errno::Enoent)?;
+    let id = holder(state, Kind::Socket, name)?;
     ask(&state.objects, caller, CheckOp::SocketReceive, id, checks);
     if state.objects.count(id) == 0 {
         return Err(Errno::Eagain);

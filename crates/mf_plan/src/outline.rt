@@ -98,7 +98,7 @@ pub(crate) fn ask_delivery(_objects: &Objects, caller: Id, from: Id, to: Id, che
 pub(crate) fn ask_privilege(_objects: &Objects, caller: Id, privilege: Priv, checks: &mut Checks)
     requires few { length checks.old < MOST_CHECKS }
     requires asking { spec.IsAsking _objects.now caller checks.old }
-    ensures checks { checks.new ≡ checks.old ++ check.privileged caller privilege ∷ [] }
+    ensures checks { checks.new ≡ checks.old ++ check.for_privilege caller privilege ∷ [] }
     ensures asking { spec.IsAsking _objects.now caller checks.new }
 {
     checks.push(Check {

@@ -1,7 +1,6 @@
 //! Plans: the checks that a call asks the policies for, in order, and how it ends where none is denied.
 ghost use Rattle.std.specs.Prelude.{◌≡◌, ◌↔◌, ◌<◌, ◌≤◌, length, slice_index_or, IsTrue};
 ghost use Rattle.mf_item.specs.Item.{Item};
-ghost use Rattle.mf_objects.specs.Live.{Entities};
 ghost use Rattle.mf_plan.specs.Outline as outlines;
 ghost use Rattle.mf_plan.specs.Planned.{proceed};
 

@@ -17,20 +17,20 @@ use crate::files::{create, exec, on_file, read, readdir, unlink, write};
 use crate::found::Found;
 use crate::last_label::LastLabel;
 use crate::loading::{kldload, kldunload};
-use crate::named::{fork, make, on_pipe, on_process, on_socket, pread, pwrite, recv, send};
+use crate::named::{fork, make, on_named, pread, pwrite, recv, send};
 use crate::names::caller_of;
 use crate::outline::{Checks, Outline, ask_alone, ask_privilege};
 use crate::plan::{Plan, Tail};
 use crate::relabels::claim;
-use crate::settings::{change_rules, list_rules, sysctl};
+use crate::settings::{change_setting, list_rules};
 use crate::state::State;
 use mf_calls::Call;
 use mf_cred::ArrayVec;
 use mf_elem::Request;
 use mf_errno::{Errno, Priv};
-use mf_item::{CheckOp, Kind};
+use mf_item::CheckOp;
+use mf_item::Kind::{Pipe, Process, Socket, Vnode};
 use mf_objects::{Id, Objects};
-use mf_policy::Change;
 
 /// The plan of a call of the task's own process, or of its child of that name. Where that process isn't live, the plan
 /// has no check and ends with ESRCH.
@@ -139,7 +139,7 @@ fn has_privilege(
 ) -> Result<Option<Id>, Errno>
     requires empty { checks.old ≡ [] }
     requires asking { outlines.IsAsking objects.now caller checks.old }
-    ensures checks { checks.new ≡ check.privileged caller privilege ∷ [] }
+    ensures checks { checks.new ≡ check.for_privilege caller privilege ∷ [] }
     ensures target { result ≡ Ok None }
     ensures asking { outlines.IsAsking objects.now caller checks.new }
 {
@@ -186,13 +186,13 @@ fn ask_for(
         Call::Exit | Call::Kldstat => Ok(None),
         Call::Getpmac => Ok(Some(caller)),
         Call::Setpmac(label) => {
-            claim(specs, Kind::Process, label.as_str(), last, asked)?;
+            claim(specs, Process, label.as_str(), last, asked)?;
             on_caller(objects, caller, checks)
         }
-        Call::See(name) => on_process(state, caller, CheckOp::ProcVisible, name, checks),
-        Call::Signal(name) => on_process(state, caller, CheckOp::ProcSignal, name, checks),
-        Call::Debug(name) => on_process(state, caller, CheckOp::ProcDebug, name, checks),
-        Call::Sched(name) => on_process(state, caller, CheckOp::ProcSched, name, checks),
+        Call::See(name) => on_named(state, caller, Process, CheckOp::ProcVisible, name, checks),
+        Call::Signal(name) => on_named(state, caller, Process, CheckOp::ProcSignal, name, checks),
+        Call::Debug(name) => on_named(state, caller, Process, CheckOp::ProcDebug, name, checks),
+        Call::Sched(name) => on_named(state, caller, Process, CheckOp::ProcSched, name, checks),
         Call::Priv(privilege) => has_privilege(objects, caller, *privilege, checks),
         Call::Exec(path) => exec(state, caller, path, checks),
         Call::Create(path) | Call::Mkdir(path) => create(state, caller, path, checks),
@@ -201,7 +201,7 @@ fn ask_for(
         Call::Stat(path) => on_file(state, caller, CheckOp::VnodeStat, path, checks),
         Call::Getfmac(path) => on_file(state, caller, CheckOp::VnodeStat, path, checks),
         Call::Setfmac(label, path) => {
-            claim(specs, Kind::Vnode, label.as_str(), last, asked)?;
+            claim(specs, Vnode, label.as_str(), last, asked)?;
             on_file(state, caller, CheckOp::VnodeRelabel, path, checks)
         }
         Call::Readdir(path) => readdir(state, caller, path, checks),
@@ -211,26 +211,30 @@ fn ask_for(
         Call::Socket(name) => make(state, objects.socket(name.as_str())),
         Call::Pread(name) => pread(state, caller, name, checks),
         Call::Pwrite(name, text) => pwrite(state, caller, name, text.as_slice(), checks),
-        Call::Pstat(name) => on_pipe(state, caller, CheckOp::PipeStat, name, checks),
+        Call::Pstat(name) => on_named(state, caller, Pipe, CheckOp::PipeStat, name, checks),
         Call::Setpipemac(label, name) => {
-            claim(specs, Kind::Pipe, label.as_str(), last, asked)?;
-            on_pipe(state, caller, CheckOp::PipeRelabel, name, checks)
+            claim(specs, Pipe, label.as_str(), last, asked)?;
+            on_named(state, caller, Pipe, CheckOp::PipeRelabel, name, checks)
         }
         Call::Send(from, to, _) => send(state, caller, from, to, checks),
         Call::Recv(name) => recv(state, caller, name, checks),
-        Call::Seesock(name) => on_socket(state, caller, CheckOp::SocketVisible, name, checks),
+        Call::Seesock(name) => on_named(
+            state,
+            caller,
+            Socket,
+            CheckOp::SocketVisible,
+            name,
+            checks,
+        ),
         Call::Setsockmac(label, name) => {
-            claim(specs, Kind::Socket, label.as_str(), last, asked)?;
-            on_socket(state, caller, CheckOp::SocketRelabel, name, checks)
+            claim(specs, Socket, label.as_str(), last, asked)?;
+            on_named(state, caller, Socket, CheckOp::SocketRelabel, name, checks)
         }
         Call::Kldload(name) => kldload(state, caller, name.as_str(), checks),
         Call::Kldunload(name) => kldunload(state, caller, name.as_str(), checks),
-        Call::Sysctl(name, value) => sysctl(state, caller, name.as_str(), value.as_str()),
         Call::UgidfwList => list_rules(state, caller),
-        Call::UgidfwAdd(rule) => change_rules(state, caller, Change::RuleAdd(*rule)),
-        Call::UgidfwSet(number, rule) => {
-            change_rules(state, caller, Change::RuleSet(*number, *rule))
+        Call::Sysctl(..) | Call::UgidfwAdd(_) | Call::UgidfwSet(..) | Call::UgidfwRemove(_) => {
+            change_setting(state, task, caller, call)
         }
-        Call::UgidfwRemove(number) => change_rules(state, caller, Change::RuleRemove(*number)),
     }
 }

@@ -1,14 +1,17 @@
 //! Calls that change a policy's setting.
-ghost use Rattle.std.specs.Prelude.{◌≡◌, [], IfOk, IfSome, IsSome, None, Some};
+ghost use Rattle.std.specs.Prelude.{◌≡◌, ℕ, true, List, [], IfOk, IfSome, IsSome, None, Some};
 ghost use Rattle.mf_calls.specs.WellFormed.{IsFormedCall};
 ghost use Rattle.mf_policy.specs.IsChange.{IsChange};
+ghost use Rattle.mf_objects.specs.declared.id.Id.{Id};
 ghost use Rattle.mf_objects.specs.Live.{live_at};
 ghost use Rattle.mf_calls.specs.declared.script.Call.TheVariants as call;
 ghost use Rattle.mf_errno.specs.declared.module.Module.TheVariants as modules;
 ghost use Rattle.mf_plan.specs.declared.reply.Payload.TheVariants as payload;
-ghost use Rattle.mf_plan.specs.Ended.{ended, end_of, end_for};
+ghost use Rattle.mf_plan.specs.declared.state.State.{State};
+ghost use Rattle.mf_plan.specs.Ended.{ended, end_by, end_of, end_for};
+ghost use Rattle.mf_plan.specs.Found.{asked_change, is_setting, setting_at};
 ghost use Rattle.mf_plan.specs.Row as row;
-ghost use Rattle.mf_plan.specs.Rows.{set};
+ghost use Rattle.mf_plan.specs.Rows.{about_of, set};
 ghost use Rattle.mf_plan.specs.Settings as spec;
 ghost use Rattle.mf_plan.specs.Ways.{look_up};
 ghost use Rattle.mf_plan.specs.Ways.Place.{Setting};
@@ -17,18 +20,17 @@ use crate::state::State;
 use mf_calls::Call;
 use mf_errno::{Errno, Module};
 use mf_objects::Id;
-use mf_policy::{Change, SpecList};
+use mf_policy::Change;
 
-/// The change that the call asks of a listed module's policy. None where its module isn't listed, where no module has a
-/// setting of that name, where the setting has no such value, and for a call that changes none. Whether the change is
-/// refused is the plan's matter.
-pub fn listed_change(state: &State, call: &Call) -> Option<(Module, Change)>
-    ensures value { result ≡ spec.listed_change state.now.specs call.now }
+/// The change of a setting that the call asks for, and of which module's. None where no module has a setting of that name, where the
+/// setting has no such value, and for a call that changes none. Whether the module is listed, and the change is refused, is the plan's
+/// matter.
+pub fn asked_change(call: &Call) -> Option<(Module, Change)>
+    ensures value { (state : State) → (task : List ℕ) → (me : Id) → result ≡ asked_change (about_of state task me call.now).place }
     ensures change { IsFormedCall call.now → IfSome result (λ asked. IsChange asked.1) }
 {
-    let module = listed_module(&state.specs, call)?;
-    let change = change_asked(call)?;
-    Some((module, change))
+    let (module, change) = setting_of(call);
+    Some((module?, change?))
 }
 
 /// The module of a sysctl.
@@ -55,44 +57,81 @@ fn switch(value: &str) -> Option<bool>
     }
 }
 
-fn setting_module(call: &Call) -> Option<Module>
-    ensures { result ≡ spec.setting_module call.now }
+/// The module whose setting the call changes, and the change that it is to have, where they are known.
+fn setting_of(call: &Call) -> (Option<Module>, Option<Change>)
+    ensures value { (state : State) → (task : List ℕ) → (me : Id) → result ≡ setting_at (about_of state task me call.now).place }
+    ensures change { IsFormedCall call.now → IfSome result.1 IsChange }
 {
     match call {
-        Call::Sysctl(name, _) => sysctl_module(name.as_str()),
-        Call::UgidfwAdd(_) | Call::UgidfwSet(..) | Call::UgidfwRemove(_) => Some(
-            Module::Bsdextended,
+        Call::Sysctl(name, value) => (
+            sysctl_module(name.as_str()),
+            switch(value.as_str()).map(Change::FirstMatch),
         ),
-        _ => None,
+        Call::UgidfwAdd(rule) => of_rules(Change::RuleAdd(*rule)),
+        Call::UgidfwSet(number, rule) => of_rules(Change::RuleSet(*number, *rule)),
+        Call::UgidfwRemove(number) => of_rules(Change::RuleRemove(*number)),
+        Call::Fork(_)
+        | Call::Exit
+        | Call::See(_)
+        | Call::Signal(_)
+        | Call::Debug(_)
+        | Call::Sched(_)
+        | Call::Priv(_)
+        | Call::Getpmac
+        | Call::Setpmac(_)
+        | Call::Exec(_)
+        | Call::Create(_)
+        | Call::Mkdir(_)
+        | Call::Read(_)
+        | Call::Write(..)
+        | Call::Stat(_)
+        | Call::Getfmac(_)
+        | Call::Setfmac(..)
+        | Call::Readdir(_)
+        | Call::Chmod(..)
+        | Call::Unlink(_)
+        | Call::Pipe(_)
+        | Call::Socket(_)
+        | Call::Pread(_)
+        | Call::Pwrite(..)
+        | Call::Pstat(_)
+        | Call::Setpipemac(..)
+        | Call::Send(..)
+        | Call::Recv(_)
+        | Call::Seesock(_)
+        | Call::Setsockmac(..)
+        | Call::Kldstat
+        | Call::Kldload(_)
+        | Call::Kldunload(_)
+        | Call::UgidfwList => (None, None),
     }
 }
 
-fn change_asked(call: &Call) -> Option<Change>
-    ensures value { result ≡ spec.change_asked call.now }
-    ensures change { IsFormedCall call.now → IfSome result IsChange }
+/// A change of the rules about files.
+fn of_rules(change: Change) -> (Option<Module>, Option<Change>)
+    ensures { result ≡ (Some modules.Bsdextended, Some change) }
 {
-    match call {
-        Call::Sysctl(_, value) => switch(value.as_str()).map(Change::FirstMatch),
-        Call::UgidfwAdd(rule) => Some(Change::RuleAdd(*rule)),
-        Call::UgidfwSet(number, rule) => Some(Change::RuleSet(*number, *rule)),
-        Call::UgidfwRemove(number) => Some(Change::RuleRemove(*number)),
-        _ => None,
-    }
+    (Some(Module::Bsdextended), Some(change))
 }
 
-fn listed_module(specs: &SpecList, call: &Call) -> Option<Module>
-    ensures { result ≡ spec.listed_module specs.now call.now }
+/// The tests of a call that changes a setting.
+pub(crate) fn change_setting(
+    state: &State,
+    _task: &str,
+    caller: Id,
+    call: &Call,
+) -> Result<Option<Id>, Errno>
+    requires lives { IsSome (live_at state.now.objects caller) }
+    requires setting { is_setting (about_of state.now _task.now caller call.now).place ≡ true }
+    ensures row { ended [] result ≡ end_by state.now _task.now caller call.now }
+    ensures target { IfOk result (λ target. target ≡ None) }
 {
-    let module = setting_module(call)?;
-    if specs.is_listed(module) {
-        Some(module)
-    } else {
-        None
-    }
+    let (module, change) = setting_of(call);
+    judge(state, caller, module, change)
 }
 
-/// The tests of a call that changes a setting, which root alone does.
-fn change_setting(
+/// The tests of a change of a setting, which root alone makes.
+fn judge(
     state: &State,
     caller: Id,
     module: Option<Module>,
@@ -115,31 +154,6 @@ fn change_setting(
         Errno::Success => Ok(None),
         errno => Err(errno),
     }
-}
-
-/// The tests of `sysctl`.
-pub(crate) fn sysctl(
-    state: &State,
-    caller: Id,
-    name: &str,
-    value: &str,
-) -> Result<Option<Id>, Errno>
-    requires lives { IsSome (live_at state.now.objects caller) }
-    ensures row { ended [] result ≡ end_for state.now caller (call.Sysctl name.now value.now) }
-    ensures target { IfOk result (λ target. target ≡ None) }
-{
-    let change = switch(value).map(Change::FirstMatch);
-    change_setting(state, caller, sysctl_module(name), change)
-}
-
-/// The tests of a call that changes the rules about files.
-pub(crate) fn change_rules(state: &State, caller: Id, change: Change) -> Result<Option<Id>, Errno>
-    requires lives { IsSome (live_at state.now.objects caller) }
-    ensures row { ended [] result
-        ≡ end_of (row.through (look_up state.now caller (Setting (Some modules.Bsdextended) (Some change))) (set state.now payload.None)) }
-    ensures target { IfOk result (λ target. target ≡ None) }
-{
-    change_setting(state, caller, Some(Module::Bsdextended), Some(change))
 }
 
 /// The test of the call that lists the rules about files.

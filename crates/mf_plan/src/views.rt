@@ -1,5 +1,5 @@
 //! Checks and live entities as policies see them, and what the framework tests of entities.
-ghost use Rattle.std.specs.Prelude.{◌≡◌, ◌↔◌, ◌≤◌, ◌<◌, ◌+◌, [], length, map, option_map, take, IfSome, IsSome, IsTrue, Some, None, slice_index_or};
+ghost use Rattle.std.specs.Prelude.{◌≡◌, ◌↔◌, ◌≤◌, ◌<◌, ◌+◌, length, map, option_map, take, IfSome, IsSome, IsTrue, Some, None, slice_index_or};
 ghost use Rattle.mf_objects.specs.Live.{live_at};
 ghost use Rattle.mf_plan.specs.Outline as outline;
 ghost use Rattle.mf_plan.specs.Items.{HaveSubjects, item_with, items_with, nobody};

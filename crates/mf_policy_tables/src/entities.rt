@@ -150,6 +150,81 @@ fn an_exit_takes_its_pipes(rt: HostRuntime) -> Result<(), AllocError> {
     use_and_exit(&rt, rt.alloc(), &mut objects)
 }
 
+/// The process of this name, with these label values.
+fn add_labelled(
+    rt: &impl Abort,
+    alloc: Global,
+    objects: &mut Objects,
+    name: &str,
+    values: &[LabelValue; 4],
+) -> Result<(), AllocError> {
+    assert!(rt; objects.live() < MOST_ENTITIES && objects.next_id() < ID_LIMIT);
+    if objects.process(name).is_none() {
+        let _id = objects.add_process(alloc, name, &Cred::default(), values)?;
+    }
+    Ok(())
+}
+
+/// The pipe p, which the process of this name makes.
+fn add_pipe_of(
+    rt: &impl Abort,
+    alloc: Global,
+    objects: &mut Objects,
+    maker: &str,
+) -> Result<(), AllocError> {
+    assert!(rt; objects.live() < MOST_ENTITIES && objects.next_id() < ID_LIMIT);
+    if let Some(maker) = objects.process(maker) {
+        if objects.pipe("p").is_none() {
+            let _p = objects.add_pipe(alloc, "p", maker, &labelled(3))?;
+        }
+    }
+    Ok(())
+}
+
+/// The process of this name ends.
+fn exit_of(objects: &mut Objects, name: &str) {
+    if let Some(id) = objects.process(name) {
+        objects.remove_process(id);
+    }
+}
+
+/// How many live entities have each label slot made.
+fn held(objects: &Objects) -> [u32; 4] {
+    [
+        objects.held(0),
+        objects.held(1),
+        objects.held(2),
+        objects.held(3),
+    ]
+}
+
+/// The child t.c of t makes the pipe p, which goes with it; then there is a child without one.
+fn children_come_and_go(
+    rt: &impl Abort,
+    alloc: Global,
+    objects: &mut Objects,
+) -> Result<(), AllocError> {
+    let (five, unset) = (LabelValue::Number(5), LabelValue::Unset);
+    let values = [five, unset, five, unset];
+    add_labelled(rt, alloc, objects, "t", &values)?;
+    add_labelled(rt, alloc, objects, "t.c", &values)?;
+    add_pipe_of(rt, alloc, objects, "t.c")?;
+    assert!(rt; held(objects) == [4, 0, 2, 0]);
+    exit_of(objects, "t.c");
+    assert!(rt; held(objects) == [2, 0, 1, 0]);
+    add_labelled(rt, alloc, objects, "t.c", &values)?;
+    assert!(rt; held(objects) == [3, 0, 2, 0]);
+    exit_of(objects, "t.c");
+    assert!(rt; held(objects) == [2, 0, 1, 0]);
+    Ok(())
+}
+
+#[test]
+fn an_exit_gives_up_its_slots(rt: HostRuntime) -> Result<(), AllocError> {
+    let mut objects = Objects::new(rt.alloc(), &labelled(7))?;
+    children_come_and_go(&rt, rt.alloc(), &mut objects)
+}
+
 /// The socket s of t, without a message.
 pub fn add_socket(rt: &impl Abort, alloc: Global, objects: &mut Objects) -> Result<(), AllocError> {
     assert!(rt; objects.live() < MOST_ENTITIES && objects.next_id() < ID_LIMIT);

@@ -5,14 +5,10 @@ ghost use Rattle.std.specs.Prelude.{◌≡◌, IsSome};
 ghost use Rattle.mf_objects.specs.Live.{live_at};
 
 use crate::entities;
-use crate::one_of::OneOf;
-use mf_biba::Biba;
+use crate::registrations::all_three;
 use mf_elem::LabelValue;
 use mf_errno::Module;
-use mf_list::{Catalogue, PolicyList};
-use mf_mls::Mls;
 use mf_objects::{Id, Objects};
-use mf_partition::Partition;
 use mf_policy::{Registration, Spec, SpecList};
 use std::alloc::{AllocError, Global};
 use std::process::Abort;
@@ -195,27 +191,17 @@ fn specs_after_refused_growths(rt: HostRuntime) -> Result<(), AllocError> {
     Ok(())
 }
 
-/// Makes room in list and catalogue; where that is refused, both hold what they held, and it is
-/// done once more.
-fn ready_or_stay(
-    rt: &impl Abort,
-    list: &mut PolicyList<OneOf>,
-    catalogue: &mut Catalogue<OneOf>,
-) -> Result<(), AllocError> {
-    if list.ready(catalogue).is_err() {
-        assert!(rt; list.listed().len() == 0 && catalogue.knows(list, "mac_mls"));
-        list.ready(catalogue)?;
-    }
-    assert!(rt; list.listed().len() == 0 && catalogue.knows(list, "mac_partition"));
-    Ok(())
-}
-
+/// The lists and the catalogue are made; where that is refused, it is done once more. No call after that takes memory.
 #[test]
 fn policies_after_refused_growths(rt: HostRuntime) -> Result<(), AllocError> {
-    let biba = OneOf::Biba(Biba::new());
-    let mls = OneOf::Mls(Mls::new());
-    let partition = OneOf::Partition(Partition::new());
-    let mut catalogue = Catalogue::new(vec![in rt.alloc(); biba, mls, partition]?);
-    let mut list = PolicyList::new(rt.alloc());
-    ready_or_stay(&rt, &mut list, &mut catalogue)
+    let mut policies = match all_three(rt.alloc()) {
+        Ok(policies) => policies,
+        Err(_) => all_three(rt.alloc())?,
+    };
+    let biba = policies.register("mac_biba", false);
+    let partition = policies.register("mac_partition", true);
+    assert!(rt; biba.is_ok() && partition.is_ok());
+    let left = policies.unregister("mac_partition");
+    assert!(rt; left.is_ok() && policies.knows("mac_partition"));
+    Ok(())
 }

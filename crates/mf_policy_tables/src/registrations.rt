@@ -1,6 +1,8 @@
-//! The list of policies over Biba, MLS and mac_partition: registration, and what the three answer together.
-ghost use Rattle.std.specs.Prelude.{IfOk};
-ghost use Rattle.mf_list.specs.Lists.{IsReady};
+//! The lists of policies over Biba, MLS and mac_partition: registration, and what the three answer together.
+ghost use Rattle.std.specs.Prelude.{◌≡◌, ◌++◌, All, IfOk, IsTrue, map};
+ghost use Rattle.mf_policy.specs.Modules.{module_of};
+ghost use Rattle.mf_list.specs.Fresh.{IsFresh};
+ghost use Rattle.mf_list.specs.Once.{IsHeldOnce, are_distinct};
 
 use crate::one_of::OneOf;
 use mf_biba::Biba;
@@ -8,7 +10,7 @@ use mf_cred::Cred;
 use mf_elem::{Elem, LabelValue, RangeLabel};
 use mf_errno::{Errno, Module, Priv};
 use mf_item::{CheckOp, Item, Kind, ObjectView, SubjectView};
-use mf_list::{Answer, Catalogue, PolicyList, RegisterFault, UnregisterFault};
+use mf_list::{Answer, Catalogue, Fixed, Listed, PolicyList, RegisterFault, UnregisterFault};
 use mf_mls::Mls;
 use mf_partition::Partition;
 use mf_policy::{Change, Changed, LoadFlags, Policy, Registration, Spec, SpecList};
@@ -17,9 +19,10 @@ use std::alloc::{AllocError, Global};
 use std::process::Abort;
 use std::sync::atomic::{AtomicU64, Ordering};
 
-/// The list, the catalogue, and the slot numbers that are left.
+/// The lists, the catalogue, and the slot numbers that are left.
 #[derive(Drop)]
-struct Policies<P: Policy> {
+pub struct Policies<P: Policy> {
+    fixed: Fixed<P>,
     list: PolicyList<P>,
     catalogue: Catalogue<P>,
     numbers: SlotNumbers,
@@ -27,52 +30,74 @@ struct Policies<P: Policy> {
 
 impl<P: Policy> Policies<P> {
     /// No policy is listed yet.
-    fn new(alloc: Global, mut catalogue: Catalogue<P>) -> Result<Policies<P>, AllocError>
-        ensures { IfOk result (λ policies. IsReady policies.list policies.catalogue) }
+    #[tactic(auto, using(mf_list::proofs::Counts::once_if_distinct))]
+    fn new(alloc: Global, modules: Vec<P>) -> Result<Policies<P>, AllocError>
+        requires distinct { IsTrue (are_distinct (map (λ p. module_of (P.spec p)) modules.items)) }
+        requires fresh { All (λ p. IsFresh (P.spec p)) modules.items }
+        ensures { IfOk result (λ policies. IsHeldOnce (policies.fixed ++ policies.list) policies.catalogue) }
     {
-        let mut list = PolicyList::new(alloc);
-        list.ready(&mut catalogue)?;
         Ok(Policies {
-            list,
-            catalogue,
+            fixed: Fixed::new(alloc)?,
+            list: PolicyList::new(alloc)?,
+            catalogue: Catalogue::new(modules)?,
             numbers: SlotNumbers::new(),
         })
     }
 
-    fn register(&mut self, name: &str, booted: bool) -> Result<Registration, RegisterFault>
-        requires { IsReady self.old.list self.old.catalogue }
-        ensures { IsReady self.new.list self.new.catalogue }
+    fn walk(&self) -> Listed<'_, P>
+        ensures { result ≡ self.now.fixed ++ self.now.list }
     {
-        self.list
-            .register(&mut self.catalogue, &mut self.numbers, name, booted)
+        Listed::new(&self.fixed, &self.list)
     }
 
-    fn unregister(&mut self, name: &str) -> Result<Registration, UnregisterFault>
-        requires { IsReady self.old.list self.old.catalogue }
-        ensures { IsReady self.new.list self.new.catalogue }
+    pub fn register(&mut self, name: &str, booted: bool) -> Result<Registration, RegisterFault>
+        requires { IsHeldOnce (self.old.fixed ++ self.old.list) self.old.catalogue }
+        ensures { IsHeldOnce (self.new.fixed ++ self.new.list) self.new.catalogue }
     {
-        self.list.unregister(&mut self.catalogue, name)
+        let (catalogue, numbers) = (&mut self.catalogue, &mut self.numbers);
+        if booted {
+            self.list.register(&self.fixed, catalogue, numbers, name)
+        } else {
+            self.list.boot(&mut self.fixed, catalogue, numbers, name)
+        }
+    }
+
+    pub fn unregister(&mut self, name: &str) -> Result<Registration, UnregisterFault>
+        requires { IsHeldOnce (self.old.fixed ++ self.old.list) self.old.catalogue }
+        ensures { IsHeldOnce (self.new.fixed ++ self.new.list) self.new.catalogue }
+    {
+        self.list.unregister(&self.fixed, &mut self.catalogue, name)
+    }
+
+    pub fn knows(&self, name: &str) -> bool {
+        self.catalogue.knows(&self.fixed, &self.list, name)
+    }
+
+    /// How many policies are listed, and how many slot numbers were given.
+    fn counts(&self) -> (usize, u8) {
+        (self.walk().listed().len(), self.numbers.given())
     }
 }
 
-fn all_three(alloc: Global) -> Result<Policies<OneOf>, AllocError>
-    ensures { IfOk result (λ policies. IsReady policies.list policies.catalogue) }
+/// All three, none of them listed.
+pub fn all_three(alloc: Global) -> Result<Policies<OneOf>, AllocError>
+    ensures { IfOk result (λ policies. IsHeldOnce (policies.fixed ++ policies.list) policies.catalogue) }
 {
     let biba = OneOf::Biba(Biba::new());
     let mls = OneOf::Mls(Mls::new());
     let partition = OneOf::Partition(Partition::new());
     let modules = vec![in alloc; biba, mls, partition]?;
-    Policies::new(alloc, Catalogue::new(modules))
+    Policies::new(alloc, modules)
 }
 
 /// Registers all three at boot, and looks at their places in walk order.
 fn register_three(rt: &impl Abort, policies: &mut Policies<OneOf>)
-    requires { IsReady policies.old.list policies.old.catalogue }
+    requires { IsHeldOnce (policies.old.fixed ++ policies.old.list) policies.old.catalogue }
 {
     let partition = policies.register("mac_partition", false);
     let biba = policies.register("mac_biba", false);
     let mls = policies.register("mac_mls", false);
-    let listed = policies.list.listed();
+    let listed = policies.walk().listed();
     let registrations = listed.as_slice();
     assert!(rt; registrations.len() == 3);
     assert!(rt; Some(registrations[0]) == mls.ok());
@@ -84,12 +109,11 @@ fn register_three(rt: &impl Abort, policies: &mut Policies<OneOf>)
 fn registrations_in_walk_order(rt: HostRuntime) -> Result<(), AllocError> {
     let mut policies = all_three(rt.alloc())?;
     register_three(&rt, &mut policies);
-    assert!(rt; policies.catalogue.knows(&policies.list, "mac_mls"));
-    assert!(rt; !policies.catalogue.knows(&policies.list, "mac_lomac"));
+    assert!(rt; policies.knows("mac_mls") && !policies.knows("mac_lomac"));
     let change = Change::FirstMatch(true);
     let changed = policies.list.change(rt.alloc(), Module::Mls, &change)?;
     assert!(rt; changed.errno == Errno::Enoent);
-    assert!(rt; !policies.list.same_specs(&SpecList::new(rt.alloc())));
+    assert!(rt; !policies.walk().same_specs(&SpecList::new(rt.alloc())));
     Ok(())
 }
 
@@ -113,18 +137,39 @@ fn a_partition_goes_and_comes_back(rt: HostRuntime) -> Result<(), AllocError> {
     Ok(())
 }
 
+/// The registration is refused, and leaves what is listed, given and known as it was.
+fn wants_refusal(
+    rt: &impl Abort,
+    policies: &mut Policies<OneOf>,
+    name: &str,
+    booted: bool,
+    fault: RegisterFault,
+)
+    requires { IsHeldOnce (policies.old.fixed ++ policies.old.list) policies.old.catalogue }
+    ensures { IsHeldOnce (policies.new.fixed ++ policies.new.list) policies.new.catalogue }
+{
+    let (counts, known) = (policies.counts(), policies.knows(name));
+    let refused = policies.register(name, booted);
+    assert!(rt; refused == Err(fault));
+    assert!(rt; policies.counts() == counts && policies.knows(name) == known);
+}
+
 #[test]
 fn registration_is_refused(rt: HostRuntime) -> Result<(), AllocError> {
     let mut policies = all_three(rt.alloc())?;
-    let unknown = policies.register("mac_lomac", true);
-    assert!(rt; unknown == Err(RegisterFault::Unknown));
-    let late = policies.register("mac_biba", true);
-    assert!(rt; late == Err(RegisterFault::NotLate));
     let first = policies.register("mac_biba", false);
     assert!(rt; first.is_ok());
-    let again = policies.register("mac_biba", false);
-    assert!(rt; again == Err(RegisterFault::Exists));
-    assert!(rt; again.map_err(RegisterFault::errno) == Err(Errno::Eexist));
+    wants_refusal(
+        &rt,
+        &mut policies,
+        "mac_lomac",
+        true,
+        RegisterFault::Unknown,
+    );
+    wants_refusal(&rt, &mut policies, "mac_mls", true, RegisterFault::NotLate);
+    wants_refusal(&rt, &mut policies, "mac_biba", true, RegisterFault::NotLate);
+    wants_refusal(&rt, &mut policies, "mac_biba", false, RegisterFault::Exists);
+    assert!(rt; RegisterFault::Exists.errno() == Errno::Eexist);
     let pinned = policies.unregister("mac_biba");
     assert!(rt; pinned == Err(UnregisterFault::Pinned));
     let absent = policies.unregister("mac_mls");
@@ -186,7 +231,7 @@ fn biba_and(rt: &impl Abort, alloc: Global, name: &str) -> Result<Policies<OneOf
 
 /// The answer to a process with this label that does so to a process with that one.
 fn answer_of(
-    list: &PolicyList<OneOf>,
+    list: &Listed<'_, OneOf>,
     op: CheckOp,
     of_subject: [LabelValue; 4],
     of_object: [LabelValue; 4],
@@ -200,7 +245,7 @@ fn answer_of(
 fn precedence_against_walk_order(rt: HostRuntime) -> Result<(), AllocError> {
     let policies = biba_and(&rt, rt.alloc(), "mac_mls")?;
     let (low, high) = (labelled(Elem::Low), labelled(Elem::High));
-    let answer = answer_of(&policies.list, CheckOp::ProcSignal, high, low);
+    let answer = answer_of(&policies.walk(), CheckOp::ProcSignal, high, low);
     let by = Some(Module::Biba);
     assert!(rt;
         answer
@@ -209,7 +254,7 @@ fn precedence_against_walk_order(rt: HostRuntime) -> Result<(), AllocError> {
                 by
             }
     );
-    let answer = answer_of(&policies.list, CheckOp::ProcVisible, low, low);
+    let answer = answer_of(&policies.walk(), CheckOp::ProcVisible, low, low);
     assert!(rt;
         answer
             == Answer {
@@ -227,7 +272,7 @@ fn partition_against_biba(rt: HostRuntime) -> Result<(), AllocError> {
     low[1] = LabelValue::Number(1);
     let mut high = labelled(Elem::High);
     high[1] = LabelValue::Number(2);
-    let answer = answer_of(&policies.list, CheckOp::ProcSignal, low, high);
+    let answer = answer_of(&policies.walk(), CheckOp::ProcSignal, low, high);
     let by = Some(Module::Partition);
     assert!(rt;
         answer
@@ -239,8 +284,28 @@ fn partition_against_biba(rt: HostRuntime) -> Result<(), AllocError> {
     Ok(())
 }
 
+/// Both policies hide the process; Biba decides, though mac_partition is the newer one.
+#[test]
+fn a_static_policy_is_asked_first(rt: HostRuntime) -> Result<(), AllocError> {
+    let policies = biba_and(&rt, rt.alloc(), "mac_partition")?;
+    let mut high = labelled(Elem::High);
+    high[1] = LabelValue::Number(1);
+    let mut low = labelled(Elem::Low);
+    low[1] = LabelValue::Number(2);
+    let answer = answer_of(&policies.walk(), CheckOp::ProcVisible, high, low);
+    let by = Some(Module::Biba);
+    assert!(rt;
+        answer
+            == Answer {
+                errno: Errno::Esrch,
+                by
+            }
+    );
+    Ok(())
+}
+
 /// The answer to a subject with this uid that asks for a privilege.
-fn answer_to(list: &PolicyList<OneOf>, uid: u32) -> Answer {
+fn answer_to(list: &Listed<'_, OneOf>, uid: u32) -> Answer {
     let mut subject = SubjectView::default();
     subject.cred.uid = uid;
     let item = Item::new(CheckOp::Priv, &subject, None, None, Some(Priv::SchedRtprio));
@@ -252,14 +317,14 @@ fn root_has_every_privilege(rt: HostRuntime) -> Result<(), AllocError> {
     let mut policies = all_three(rt.alloc())?;
     let biba = policies.register("mac_biba", false);
     assert!(rt; biba.is_ok());
-    let root = answer_to(&policies.list, 0);
+    let root = answer_to(&policies.walk(), 0);
     assert!(rt;
         root == Answer {
             errno: Errno::Success,
             by: None
         }
     );
-    let other = answer_to(&policies.list, 1001);
+    let other = answer_to(&policies.walk(), 1001);
     assert!(rt;
         other
             == Answer {
@@ -325,7 +390,7 @@ fn a_policy_that_goes_back_is_reset(rt: HostRuntime) -> Result<(), AllocError> {
         resets: &resets,
     };
     let modules = vec![in rt.alloc(); policy]?;
-    let mut policies = Policies::new(rt.alloc(), Catalogue::new(modules))?;
+    let mut policies = Policies::new(rt.alloc(), modules)?;
     let loaded = policies.register("mac_partition", true);
     assert!(rt; loaded == Ok(of_partition(0)));
     assert!(rt; resets.load(Ordering::SeqCst) == 0);

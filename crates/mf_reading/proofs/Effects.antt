@@ -20,9 +20,8 @@ use Rattle.mf_names.specs.declared.limits.TheConstants.{CONTENT_LIMIT, SCRIPT_LI
 use Rattle.mf_objects.specs.declared.limits.TheConstants.{MOST_ENTITIES, PIPE_LIMIT}
 use Rattle.mf_objects.specs.declared.id.Id.{Id}
 use Rattle.mf_objects.specs.declared.entity.EntityData.{EntityData}
-use Rattle.mf_objects.specs.declared.entity.EntityData.TheVariants.{Process}
 use Rattle.mf_objects.specs.Live.{LiveEntity, Entities, content_at, content_of, cred_at, has_id, kind_of, label_at, live_at, reading}
-use Rattle.mf_objects.specs.Changes.{appended, cleared, goes_with, new_pipe, new_socket, new_vnode, with_message, with_messages, with_mode, with_what, without}
+use Rattle.mf_objects.specs.Changes.{appended, cleared, goes_with, new_pipe, new_process, new_socket, new_vnode, with_message, with_messages, with_mode, with_what, without}
 use Rattle.mf_calls.specs.declared.script.Call.{Call}
 use Rattle.mf_calls.specs.declared.script.Call.TheVariants as call
 use Rattle.mf_calls.specs.Names.{is_component}
@@ -68,7 +67,7 @@ last_component o (name ∷ names) dir is all = last_of name names (by_place (λ 
 
 -- What is made
 
-process_data : (o : Entities) (id : Id) → AreBounded o → IsBoundedData (Process (cred_at o id))
+process_data : (o : Entities) (id : Id) → AreBounded o → IsBoundedData (new_process (cred_at o id))
 process_data o id bounded =
     record { content = no_text CONTENT_LIMIT; messages = tt; file = record { uid = omega arith; gid = omega arith; mode = omega arith }; uid = uid_fits o id bounded }
 

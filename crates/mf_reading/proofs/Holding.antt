@@ -63,13 +63,13 @@ module _ (text : List ℕ) (is : IsText SCRIPT_LIMIT text) where
   }
 
   appended_like : (w : EntityData) → IsLike w (appended text w)
-  appended_like (Process cred) = record { entry = λ dir. refl; kind = refl }
+  appended_like (Process process) = record { entry = λ dir. refl; kind = refl }
   appended_like (Vnode vnode) = record { entry = λ dir. refl; kind = refl }
   appended_like (Pipe pipe) = record { entry = λ dir. refl; kind = refl }
   appended_like (Socket socket) = record { entry = λ dir. refl; kind = refl }
 
   appended_data : (w : EntityData) → HasRoom text w → IsBoundedData w → IsBoundedData (appended text w)
-  appended_data (Process cred) room held = held
+  appended_data (Process process) room held = held
   appended_data (Vnode vnode) room held = record { content = more_text vnode.content room held.content; messages = held.messages; file = held.file; uid = held.uid }
   appended_data (Pipe pipe) room held = record { content = more_text pipe.bytes room held.content; messages = held.messages; file = held.file; uid = held.uid }
   appended_data (Socket socket) room held = held
@@ -78,7 +78,7 @@ module _ (text : List ℕ) (is : IsText SCRIPT_LIMIT text) where
   appending = keeping (appended text) (HasRoom text) appended_like appended_data
 
 messages_like : (change : List (List ℕ) → List (List ℕ)) (w : EntityData) → IsLike w (with_messages change w)
-messages_like change (Process cred) = record { entry = λ dir. refl; kind = refl }
+messages_like change (Process process) = record { entry = λ dir. refl; kind = refl }
 messages_like change (Vnode vnode) = record { entry = λ dir. refl; kind = refl }
 messages_like change (Pipe pipe) = record { entry = λ dir. refl; kind = refl }
 messages_like change (Socket socket) = record { entry = λ dir. refl; kind = refl }
@@ -86,7 +86,7 @@ messages_like change (Socket socket) = record { entry = λ dir. refl; kind = ref
 messages_data : (change : List (List ℕ) → List (List ℕ))
     → ((messages : List (List ℕ)) → AllByRecursion (IsText SCRIPT_LIMIT) messages → AllByRecursion (IsText SCRIPT_LIMIT) (change messages))
     → (w : EntityData) → Unit {0} → IsBoundedData w → IsBoundedData (with_messages change w)
-messages_data change kept (Process cred) any held = held
+messages_data change kept (Process process) any held = held
 messages_data change kept (Vnode vnode) any held = held
 messages_data change kept (Pipe pipe) any held = held
 messages_data change kept (Socket socket) any held = record { content = held.content; messages = kept socket.messages held.messages; file = held.file; uid = held.uid }
@@ -104,13 +104,13 @@ pub receiving : Keeps (with_what (with_messages (drop 1))) (λ w. Unit {0})
 receiving = keeping (with_messages (drop 1)) (λ w. Unit {0}) (messages_like (drop 1)) (messages_data (drop 1) all_dropped)
 
 cleared_like : (w : EntityData) → IsLike w (cleared w)
-cleared_like (Process cred) = record { entry = λ dir. refl; kind = refl }
+cleared_like (Process process) = record { entry = λ dir. refl; kind = refl }
 cleared_like (Vnode vnode) = record { entry = λ dir. refl; kind = refl }
 cleared_like (Pipe pipe) = record { entry = λ dir. refl; kind = refl }
 cleared_like (Socket socket) = record { entry = λ dir. refl; kind = refl }
 
 cleared_data : (w : EntityData) → Unit {0} → IsBoundedData w → IsBoundedData (cleared w)
-cleared_data (Process cred) any held = held
+cleared_data (Process process) any held = held
 cleared_data (Vnode vnode) any held = held
 cleared_data (Pipe pipe) any held = record { content = no_text CONTENT_LIMIT; messages = held.messages; file = held.file; uid = held.uid }
 cleared_data (Socket socket) any held = held
@@ -119,13 +119,13 @@ pub clearing : Keeps (with_what cleared) (λ w. Unit {0})
 clearing = keeping cleared (λ w. Unit {0}) cleared_like cleared_data
 
 mode_like : (mode : ℕ) (w : EntityData) → IsLike w (with_mode mode w)
-mode_like mode (Process cred) = record { entry = λ dir. refl; kind = refl }
+mode_like mode (Process process) = record { entry = λ dir. refl; kind = refl }
 mode_like mode (Vnode vnode) = record { entry = λ dir. refl; kind = refl }
 mode_like mode (Pipe pipe) = record { entry = λ dir. refl; kind = refl }
 mode_like mode (Socket socket) = record { entry = λ dir. refl; kind = refl }
 
 mode_data : (mode : ℕ) → mode ≤ MODE_LIMIT → (w : EntityData) → Unit {0} → IsBoundedData w → IsBoundedData (with_mode mode w)
-mode_data mode fits (Process cred) any held = held
+mode_data mode fits (Process process) any held = held
 mode_data mode fits (Vnode vnode) any held =
     record {
       content = held.content;
@@ -218,13 +218,13 @@ removed_bounded o gone keeps bounded =
 -- a vnode is no process, and no process made it
 
 vnode_process : (w : EntityData) → kind_of w ≡ kinds.Vnode → is_process w ≡ false
-vnode_process (Process cred) is = cc
+vnode_process (Process process) is = cc
 vnode_process (Vnode vnode) is = refl
 vnode_process (Pipe pipe) is = cc
 vnode_process (Socket socket) is = cc
 
 vnode_unmade : (w : EntityData) (maker : Id) → kind_of w ≡ kinds.Vnode → is_made_by maker w ≡ false
-vnode_unmade (Process cred) maker is = cc
+vnode_unmade (Process process) maker is = cc
 vnode_unmade (Vnode vnode) maker is = refl
 vnode_unmade (Pipe pipe) maker is = cc
 vnode_unmade (Socket socket) maker is = cc

@@ -20,9 +20,8 @@ use Rattle.mf_names.specs.declared.limits.TheConstants.{CONTENT_LIMIT}
 use Rattle.mf_objects.specs.declared.limits.TheConstants.{MOST_ENTITIES}
 use Rattle.mf_objects.specs.declared.id.Id.{Id}
 use Rattle.mf_objects.specs.declared.entity.EntityData.{EntityData}
-use Rattle.mf_objects.specs.declared.entity.EntityData.TheVariants.{Process}
 use Rattle.mf_objects.specs.Live.{LiveEntity, Entities, kind_of}
-use Rattle.mf_objects.specs.Changes.{made, new_vnode, root_entity, with_entity}
+use Rattle.mf_objects.specs.Changes.{made, new_process, new_vnode, root_entity, with_entity}
 use Rattle.mf_calls.specs.WellFormed.{AreBoots, IsFormedFile, IsFormedTask, IsWellFormed}
 use Rattle.mf_calls.specs.declared.script.FileLine.{FileLine}
 use Rattle.mf_calls.specs.declared.script.Script.{Script}
@@ -171,7 +170,7 @@ module _ (listed : List Entry) (given : ℕ) (few : given ≤ SLOTS) (below : Al
   task_opened : (boots : List Module) (n : ℕ) (o : Entities) (t : Task) (found : Option Id) → IsFormedTask boots t → n < MOST_ENTITIES
       → IsOpened n o → IsOpened (n + 1) (with_task_at listed o t found)
   task_opened boots n o t None formed room opened =
-      opened_more n o t.name t.label (Process t.cred) room formed.label.spelled
+      opened_more n o t.name t.label (new_process t.cred) room formed.label.spelled
       (record {
         content = no_text CONTENT_LIMIT;
         messages = tt;

@@ -26,7 +26,7 @@ use Rattle.mf_plan.specs.declared.outline.Check.{Check}
 use Rattle.mf_plan.specs.Checks.{on}
 use Rattle.mf_plan.specs.Effect.{request_of}
 use Rattle.mf_plan.specs.Outline.{item_asking}
-use Rattle.mf_plan.specs.Plan.{plan_of, row_by, row_for, row_of}
+use Rattle.mf_plan.specs.Plan.{plan_of, row_by, row_for, call_row}
 use Rattle.mf_plan.specs.Relabels.{claimed_in}
 use Rattle.mf_plan.specs.Row.{Row, if_there}
 use Rattle.mf_plan.specs.Rows.{about_of}
@@ -139,7 +139,7 @@ module _ (s : State) (me : Id) where
     few_row (call.Send from to text) ends = omega (arith, few_if 0 (is_full_socket s.objects ends.1) [] (omega arith))
     few_row (call.Recv name) id = omega (arith, few_if 0 (is_empty_socket s.objects id) [] (omega arith))
     few_row (call.Kldload name) m = omega (arith, few_by 0 (load_refusal s m) [] (omega arith))
-    few_row (call.Kldunload name) m = few_by 2 (unload_refusal s (Some m)) [] (omega arith)
+    few_row (call.Kldunload name) m = few_by 2 (unload_refusal s m) [] (omega arith)
     few_row (call.Sysctl name value) asked = few_set asked
     few_row (call.UgidfwAdd rule) asked = few_set asked
     few_row (call.UgidfwSet n rule) asked = few_set asked
@@ -160,7 +160,7 @@ few_called s task c (Some me) formed = few_for s me task c formed
 -- no call asks for more than a plan has room for
 pub few_checks : (s : State) (task : List ℕ) (child : Option (List ℕ)) (c : Call) → IsFormedCall c → length (plan_of s task child c).items ≤ 12
 few_checks s task child c formed =
-    let row = row_of s task child c in
+    let row = call_row s task child c in
     omega (arith, length-map row.checks (item_asking s.objects (request_of row.effect)), few_called s task c (process_named s.objects (caller_name task child)) formed)
 
 -- Denials

@@ -18,9 +18,9 @@ use Rattle.mf_plan.specs.declared.reply.Reply.{Reply}
 use Rattle.mf_plan.specs.declared.reply.Reply.TheVariants as reply
 use Rattle.mf_plan.specs.declared.state.State.{State}
 use Rattle.mf_plan.specs.Names.{caller_name}
-use Rattle.mf_plan.specs.Effect.{relabels}
+use Rattle.mf_plan.specs.Effect.{relabelled_by}
 use Rattle.mf_plan.specs.Effect.Effect.{Relabel, Unchanged}
-use Rattle.mf_plan.specs.Plan.{row_by, row_for, row_of}
+use Rattle.mf_plan.specs.Plan.{row_by, row_for, call_row}
 use Rattle.mf_plan.specs.Relabels.{claimed_in, if_claimed}
 use Rattle.mf_plan.specs.Row.{if_there}
 use Rattle.mf_plan.specs.Rows.{about_of}
@@ -61,27 +61,27 @@ same_second a b is = let same : a ≡ b = cc in ap (λ (x : Id × Request). x.1)
 
 module _ (s : State) (task : List ℕ) (me : Id) where
   asked_request : (kind : Kind) (text : List ℕ) (place : Place) (asked : Request × At place) (id to : Id) (request : Request)
-      → (look_up s me (Asking kind text place)).there ≡ Ok asked → relabels (Relabel to asked.0) ≡ Some (id, request) → IsRequest request
+      → (look_up s me (Asking kind text place)).there ≡ Ok asked → relabelled_by (Relabel to asked.0) ≡ Some (id, request) → IsRequest request
   asked_request kind text place asked id to request there is =
       subst IsRequest (same_second (to, asked.0) (id, request) is) (claimed_request s.specs kind text asked.0 (request_there s me (Asking kind text place) asked there))
 
   row_request : (c : Call) (what : At (about_of s task me c).place) → (look_up s me (about_of s task me c).place).there ≡ Ok what → (id : Id) (request : Request)
-      → relabels ((about_of s task me c).row what).effect ≡ Some (id, request) → IsRequest request
+      → relabelled_by ((about_of s task me c).row what).effect ≡ Some (id, request) → IsRequest request
   row_request (call.Setpmac text) asked there id request is = asked_request kinds.Process text Caller asked id asked.1 request there is
   row_request (call.Setfmac text path) asked there id request is = asked_request kinds.Vnode text (File path) asked id asked.1 request there is
   row_request (call.Setpipemac text name) asked there id request is = asked_request kinds.Pipe text (Named kinds.Pipe name) asked id asked.1 request there is
   row_request (call.Setsockmac text name) asked there id request is = asked_request kinds.Socket text (Named kinds.Socket name) asked id asked.1 request there is
   row_request other what there id request is = cc
 
-  call_request : (c : Call) (id : Id) (request : Request) → relabels (row_for s task c me).effect ≡ Some (id, request) → IsRequest request
+  call_request : (c : Call) (id : Id) (request : Request) → relabelled_by (row_for s task c me).effect ≡ Some (id, request) → IsRequest request
   call_request c id request is = one (look_up s me (about_of s task me c).place).there refl is
     where
       one : (there : Result (At (about_of s task me c).place) Errno) → (look_up s me (about_of s task me c).place).there ≡ there
-          → relabels (if_there (λ found. ((about_of s task me c).row found).effect) (λ e. Unchanged) there) ≡ Some (id, request) → IsRequest request
+          → relabelled_by (if_there (λ found. ((about_of s task me c).row found).effect) (λ e. Unchanged) there) ≡ Some (id, request) → IsRequest request
       one (Ok what) at asked = row_request c what at id request asked
       one (Err e) at asked = cc
 
-caller_request : (s : State) (task : List ℕ) (c : Call) (caller : Option Id) (id : Id) (request : Request) → relabels (row_by s task c caller).effect ≡ Some (id, request)
+caller_request : (s : State) (task : List ℕ) (c : Call) (caller : Option Id) (id : Id) (request : Request) → relabelled_by (row_by s task c caller).effect ≡ Some (id, request)
     → IsRequest request
 caller_request s task c None id request is = cc
 caller_request s task c (Some me) id request is = call_request s task me c id request is
@@ -90,7 +90,7 @@ caller_request s task c (Some me) id request is = call_request s task me c id re
 pub step_requests : (s : State) (task : List ℕ) (child : Option (List ℕ)) (c : Call) → AsksRequests (step_by s task child c)
 step_requests s task child c id request asked = one (call_reply s task child c) asked
   where
-    one : (r : Reply) → after_reply r None (relabels (row_of s task child c).effect) ≡ Some (id, request) → IsRequest request
+    one : (r : Reply) → after_reply r None (relabelled_by (call_row s task child c).effect) ≡ Some (id, request) → IsRequest request
     one (reply.Ok p) is = caller_request s task c (process_named s.objects (caller_name task child)) id request is
     one (reply.Denied errno op item by) is = cc
     one (reply.Refused errno) is = cc

@@ -16,7 +16,7 @@ use Rattle.mf_rule.specs.declared.uid_index.Stretch.{Stretch}
 abbrev pub Stretches : Type 0
 Stretches = List Stretch
 
--- by rising first uid
+-- no stretch begins below the one before it
 abbrev pub IsRising : Stretches → Type 0
 IsRising stretches = IsNonDecreasingBy (λ stretch. stretch.from) stretches
 
@@ -44,7 +44,7 @@ pub record IsEnd (uid end : ℕ) (stretches : Stretches) : Type 0 where
 abbrev pub is_cut : ℕ → Stretches → Bool
 is_cut uid stretches = list_any (λ stretch. nat_eq stretch.from uid) stretches
 
--- Ranges of uids, both ends included, if any; the `!` of a test isn't looked at.
+-- the uid lies in the range, both ends included, where there is a range; the `!` of a test isn't looked at
 abbrev pub is_within : Option IdTest → ℕ → Bool
 is_within range uid = option_map_or (λ range. has range uid) range false
 
@@ -62,11 +62,11 @@ abbrev pub marked : ℕ → Option IdTest → Stretch → Stretch
 marked number range stretch =
     record { from = stretch.from; rules = with_bit number (is_within range stretch.from) stretch.rules }
 
--- a subject with this uid alone
+-- a subject whose effective, real and saved uid is this one
 abbrev pub lone : ℕ → Cred
 lone uid = record { uid = uid; ruid = uid; svuid = uid; groups = [] }
 
--- at each uid the stretches have just the numbers of the rules that may match a subject with it alone, and a directory or another file
+-- at each uid the stretches have just the numbers of the rules that may match a subject with no other uid, and a directory or another file
 abbrev pub IsIndexOf : Slots → Bool → Stretches → Type 0
 IsIndexOf slots dir stretches =
     (uid number : ℕ) → uid ≤ LAST_ID → number < 256 → has_bit number (rules_at stretches uid) ≡ may_match (lone uid) dir (slice_index_or slots number None)

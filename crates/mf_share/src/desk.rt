@@ -1,5 +1,5 @@
 //! The value behind the kernel's lock: the core, with the books of lines done and of open entries.
-ghost use Rattle.std.specs.Prelude.{◌≡◌, ◌<◌, true, false, IfOk, IsOk, IfErr, IfNone, IfSome, IsTrue, OnErr, Some};
+ghost use Rattle.std.specs.Prelude.{◌≡◌, ◌<◌, ◌++◌, true, false, IfOk, IsOk, IfErr, IfNone, IfSome, IsTrue, OnErr, Some};
 ghost use Rattle.mf_calls.specs.declared.limits.TheConstants.{TASK_LIMIT};
 ghost use Rattle.mf_plan.specs.declared.reply.Payload.TheVariants as payload;
 ghost use Rattle.mf_plan.specs.declared.reply.Reply.{Reply};
@@ -11,7 +11,7 @@ ghost use Rattle.mf_core.specs.declared.progress.Turn.TheVariants as turn;
 ghost use Rattle.mf_core.specs.LegalHistory.{next_reply};
 ghost use Rattle.mf_core.specs.Next.{next_plan};
 ghost use Rattle.mf_core.specs.WithEvent.{with_event};
-ghost use Rattle.mf_core.specs.Policies.{StaysWhileWaiting};
+ghost use Rattle.mf_core.specs.Policies.{StaysWhileWaiting, static_of};
 ghost use Rattle.mf_core.specs.CoreView.{specs_of, run_state, open_of, Changes, Commits};
 ghost use Rattle.mf_share.specs.Passes.{AgreesWithPass, AgreesWithTicket, IsCoreOf, pass_changed, pass_left, pass_turn, ticket_after, ticket_for};
 ghost use Rattle.mf_share.specs.Weights.{entry_weight};
@@ -19,7 +19,7 @@ ghost use Rattle.mf_share.specs.Weights.{entry_weight};
 use crate::pass::{Job, Pass, Ticket};
 use crate::policies::Policies;
 use mf_core::{ChangeOutcome, Commit, Core, Turn};
-use mf_list::PolicyList;
+use mf_list::{Fixed, Listed};
 use mf_perform::Verdict;
 use mf_plan::Plan;
 use mf_policy::Policy;
@@ -112,15 +112,15 @@ impl<'s, J: Job, B: Ledger> Desk<'s, J, B> {
         &mut self,
         alloc: Global,
         ticket: &mut Ticket<J, B>,
-        list: &PolicyList<P>,
+        list: &Listed<'_, P>,
         plan: &Plan,
         verdict: &Verdict,
     ) -> Result<Option<Commit>, AllocError>
         requires undone { ticket.old.committed ≡ false }
-        requires verdict { verdict.now ≡ verdict_of list.now.entries plan.now }
+        requires verdict { verdict.now ≡ verdict_of list.now plan.now }
         ensures entries { 0 < open_of self.old }
         ensures some { IfOk result (λ found. IfSome found (λ commit. AgreesWithTicket self.old ticket.old
-            × Commits self.old ticket.old.task list.now.entries plan.now commit self.new
+            × Commits self.old ticket.old.task list.now plan.now commit self.new
             × (ticket.new ≡ ticket_after commit ticket.old))) }
         ensures none { IfOk result (λ found. IfNone found (¬ AgreesWithTicket self.old ticket.old × (self.new ≡ self.old) × (ticket.new ≡ ticket.old))) }
         ensures err { OnErr result (AgreesWithTicket self.old ticket.old × (self.new ≡ self.old) × (ticket.new ≡ ticket.old)) }
@@ -192,20 +192,22 @@ impl<'s, J: Job, B: Ledger> Desk<'s, J, B> {
         &mut self,
         alloc: Global,
         pass: &mut Pass<J, B>,
-        policies: &mut Policies<P>,
+        fixed: &Fixed<P>,
+        policies: &mut Policies<P, J>,
     ) -> Result<Option<ChangeOutcome>, AllocError>
+        requires fixed { fixed.now ≡ static_of J.script }
         requires out { pass.old.out ≡ false }
         requires turn { pass_turn J.script pass.old ≡ turn.Change }
         ensures some { IfOk result (λ found. IfSome found (λ outcome. AgreesWithPass self.old pass.old
-            × (policies.old.list.entries ≡ specs_of self.old)
+            × (fixed.now ++ policies.old.list ≡ specs_of self.old)
             × Changes self.old pass.old.task outcome self.new
-            × (policies.new.list.entries ≡ specs_of self.new)
+            × (fixed.now ++ policies.new.list ≡ specs_of self.new)
             × StaysWhileWaiting outcome policies.old.list policies.new.list policies.old.catalogue policies.new.catalogue
             × (pass.new ≡ pass_changed outcome pass.old))) }
-        ensures none { IfOk result (λ found. IfNone found (¬ (AgreesWithPass self.old pass.old × (policies.old.list.entries ≡ specs_of self.old))
+        ensures none { IfOk result (λ found. IfNone found (¬ (AgreesWithPass self.old pass.old × (fixed.now ++ policies.old.list ≡ specs_of self.old))
             × (self.new ≡ self.old) × (policies.new ≡ policies.old) × (pass.new ≡ pass.old))) }
         ensures err { OnErr result (AgreesWithPass self.old pass.old
-            × (policies.old.list.entries ≡ specs_of self.old)
+            × (fixed.now ++ policies.old.list ≡ specs_of self.old)
             × (self.new ≡ self.old) × (policies.new ≡ policies.old) × (pass.new ≡ record pass.old { stopped = true })) }
         ensures memory { (reply : Reply) → next_reply self.old.script (run_state self.old) pass.old.task ≡ Some reply → is_ok reply ≡ false → IsOk result }
         ensures core { IsCoreOf J.script self.old }
@@ -216,13 +218,16 @@ impl<'s, J: Job, B: Ledger> Desk<'s, J, B> {
         if self.core.turn(task) != Turn::Change || self.core.lines(task) != lines {
             return Ok(None);
         }
-        if !policies.list.same_specs(&self.core.state().specs) {
+        if !Listed::new(fixed, &policies.list).same_specs(&self.core.state().specs) {
             return Ok(None);
         }
-        match self
-            .core
-            .change(alloc, task, &mut policies.list, &mut policies.catalogue)
-        {
+        match self.core.change(
+            alloc,
+            task,
+            fixed,
+            &mut policies.list,
+            &mut policies.catalogue,
+        ) {
             Ok(ChangeOutcome::Done) => {
                 self.done.add(&mut pass.done, 1);
                 pass.lines += 1;

@@ -1,4 +1,4 @@
-//! The kernel: the desk and the policies, each behind a lock of its own.
+//! The kernel: the desk and the policies that may change, each behind a lock of its own, and the static policies.
 ghost use Rattle.std.specs.Prelude.{◌≡◌, ◌+◌, [], true, false, All, length, map, IfOk, OnErr, OnOk, Some};
 ghost use Rattle.mf_policy.specs.Modules.{module_of};
 ghost use Rattle.mf_list.specs.Fresh.{IsFresh};
@@ -7,6 +7,7 @@ ghost use Rattle.mf_perform.specs.Verdict as step;
 ghost use Rattle.mf_core.specs.declared.progress.ChangeOutcome.TheVariants as outcome;
 ghost use Rattle.mf_core.specs.declared.progress.Turn.TheVariants as turn;
 ghost use Rattle.mf_core.specs.AllModules.{AreAllModules};
+ghost use Rattle.mf_core.specs.Policies.{static_of};
 ghost use Rattle.mf_core.specs.Next.{next_plan};
 ghost use Rattle.mf_core.specs.CoreView.{CoreView, done_of, open_of, run_state, Changes, Commits};
 ghost use Rattle.mf_share.specs.Passes.{AgreesWithPass, AgreesWithTicket, AreBack, AreFirst, AreOneEach, IsCoreOf, lines_sum, pass_left, pass_turn, ticket_after, ticket_for};
@@ -16,12 +17,12 @@ use crate::pass::{Job, Pass, Ticket};
 use crate::policies::Policies;
 use mf_calls::Script;
 use mf_core::{ChangeOutcome, Commit, Core, Turn};
-use mf_list::PolicyList;
+use mf_list::{Fixed, Listed};
 use mf_perform::Verdict;
 use mf_plan::Plan;
 use mf_policy::Policy;
 use std::alloc::{AllocError, Global};
-use std::marker::Model;
+use std::marker::{Model, PhantomData};
 use std::sync::ledger::{Blank, Ledger, Share};
 use std::sync::{Condvar, Mutex, RwLock, RwLockReadGuard, Wait};
 
@@ -51,6 +52,7 @@ impl<J: Job, B: Ledger> Model for Own<J, B> {
 /// | `enter` | one | Enter |
 /// | `plan` | one | none |
 /// | `turn`, `policies`, `walk` | none | none |
+/// | `fixed` | none | none |
 /// | `commit` | one | Done; none for `Stale`, and where memory runs out |
 /// | `leave` | one | Leave |
 /// | `change` | one for each look while it waits | Changed at the last; none where memory runs out |
@@ -65,10 +67,12 @@ impl<J: Job, B: Ledger> Model for Own<J, B> {
 pub struct Kernel<'s, P: Policy, J: Job, B: Ledger> {
     script: &'s Script,
     desk: Mutex<Desk<'s, J, B>>,
-    policies: RwLock<Policies<P>>,
+    fixed: Fixed<P>,
+    policies: RwLock<Policies<P, J>>,
     quiet: Condvar,
     own: Mutex<Own<J, B>>,
     ghost script_is: { script.now ≡ J.script },
+    ghost fixed_is: { fixed ≡ static_of J.script },
 }
 
 impl<'s, P: Policy, J: Job, B: Ledger> Kernel<'s, P, J, B> {
@@ -96,7 +100,7 @@ impl<'s, P: Policy, J: Job, B: Ledger> Kernel<'s, P, J, B> {
         let (done_book, mut done) = lines.open::<J>();
         let (busy_book, mut busy) = busy.open::<B>();
         let passes = first_passes(alloc, script, &mut done, &mut busy)?;
-        let (core, list, catalogue) = Core::new(alloc, script, modules)?;
+        let (core, fixed, list, catalogue) = Core::new(alloc, script, modules)?;
         let kernel = Kernel {
             script,
             desk: Mutex::new(Desk {
@@ -104,7 +108,12 @@ impl<'s, P: Policy, J: Job, B: Ledger> Kernel<'s, P, J, B> {
                 done: done_book,
                 busy: busy_book,
             }),
-            policies: RwLock::new(Policies { list, catalogue }),
+            fixed,
+            policies: RwLock::new(Policies {
+                list,
+                catalogue,
+                of: PhantomData,
+            }),
             quiet: Condvar::new(),
             own: Mutex::new(Own { done, busy }),
         };
@@ -139,8 +148,15 @@ impl<'s, P: Policy, J: Job, B: Ledger> Kernel<'s, P, J, B> {
         unreachable!()
     }
 
-    /// The policies, for a shared look at their list.
-    pub fn policies<R: Wait>(&self, rt: &R) -> RwLockReadGuard<'_, Policies<P>> {
+    /// The static policies. They lie behind no lock, since nothing changes them after boot.
+    pub fn fixed(&self) -> &Fixed<P>
+        ensures { result.now ≡ static_of J.script }
+    {
+        &self.fixed
+    }
+
+    /// The policies that may change, for a shared look at the dynamic list.
+    pub fn policies<R: Wait>(&self, rt: &R) -> RwLockReadGuard<'_, Policies<P, J>> {
         self.policies.read(rt)
     }
 
@@ -160,8 +176,8 @@ impl<'s, P: Policy, J: Job, B: Ledger> Kernel<'s, P, J, B> {
     }
 
     /// The listed policies' verdict on a plan, as of `Core::walk`. It takes no lock.
-    pub fn walk(list: &PolicyList<P>, _ticket: &Ticket<J, B>, plan: &Plan) -> Verdict
-        ensures { result ≡ step.verdict_of list.now.entries plan.now }
+    pub fn walk(list: &Listed<'_, P>, _ticket: &Ticket<J, B>, plan: &Plan) -> Verdict
+        ensures { result ≡ step.verdict_of list.now plan.now }
     {
         Core::walk(list, plan)
     }
@@ -172,16 +188,16 @@ impl<'s, P: Policy, J: Job, B: Ledger> Kernel<'s, P, J, B> {
         rt: &R,
         alloc: Global,
         ticket: &mut Ticket<J, B>,
-        list: &PolicyList<P>,
+        list: &Listed<'_, P>,
         plan: &Plan,
         verdict: &Verdict,
     ) -> Result<Commit, AllocError>
         requires undone { ticket.old.committed ≡ false }
-        requires verdict { verdict.now ≡ step.verdict_of list.now.entries plan.now }
+        requires verdict { verdict.now ≡ step.verdict_of list.now plan.now }
         ensures ok { IfOk result (λ commit. ticket.new ≡ ticket_after commit ticket.old) }
         ensures err { OnErr result (ticket.new ≡ ticket.old) }
         ensures found { IfOk result (λ commit. (old : CoreView) × (new : CoreView) × IsCoreOf J.script old × AgreesWithTicket old ticket.old
-            × Commits old ticket.old.task list.now.entries plan.now commit new) }
+            × Commits old ticket.old.task list.now plan.now commit new) }
     {
         for _ in rt.forever() {
             let found = self
@@ -238,7 +254,7 @@ impl<'s, P: Policy, J: Job, B: Ledger> Kernel<'s, P, J, B> {
         for _ in rt.forever() {
             if desk.open_entries() == 0 {
                 let mut policies = self.policies.write(rt);
-                let found = desk.change(alloc, pass, &mut policies)?;
+                let found = desk.change(alloc, pass, &self.fixed, &mut policies)?;
                 if let Some(ChangeOutcome::Done) = found {
                     self.quiet.notify_all();
                     return Ok(());
@@ -260,6 +276,7 @@ impl<'s, P: Policy, J: Job, B: Ledger> Kernel<'s, P, J, B> {
         let Kernel {
             script: _,
             desk,
+            fixed: _,
             policies: _,
             quiet: _,
             own,

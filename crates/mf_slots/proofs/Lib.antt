@@ -1,3 +1,4 @@
 pub mod Places
 pub mod ZonesLaws
+pub mod Counted
 pub mod Relabelling

@@ -2,11 +2,13 @@
 use Rattle.std.proofs.Common.{◌≡◌, ◌≢◌, ℕ, ◌<◌, ◌≤◌, ◌+◌, List, [], ◌∷◌, Option, Some, None, get_or, set, length, replicate, refl, ap, sym, ◌∙◌, subst, arith, inl, inr, ◌⊎◌, IsSome, zero, suc, Result, Ok, Err, OnErr}
 use Rattle.std.proofs.lemmas.List.{get_or-set_same, get_or-set_other, get_or_past, length-set, length-map}
 use Rattle.std.proofs.lemmas.Bool.{cases_eq, cases_lt}
-use Rattle.slab.specs.Slab.{Slab}
+use Rattle.slab.specs.Slab.{Slab, slab_len}
 use Rattle.mf_elem.specs.declared.label.LabelValue.{LabelValue}
 use Rattle.mf_elem.specs.declared.label.LabelValue.TheVariants.{Unset, Range, Number}
-use Rattle.mf_slots.specs.Zones.{Zone, Contents, Handles, handle, zone_of, under, at_handle, value_for, value_or_unset, held_in, value_at, value_of, given, given_to, label_values, IsIn, NoneUnset, Updates, Adds, Rewrites, Relabels, MakesLabel, HasRoomToWrite}
+use Rattle.mf_slots.specs.Zones.{Zone, Contents, Handles, handle, zone_of, under, at_handle, value_for, value_or_unset, held_in, value_at, value_of, given, given_to, label_values, IsIn, NoneUnset, NoneOverfull, Updates, Adds, Rewrites, Relabels, MakesLabel, HasRoomToWrite}
 use Rattle.mf_slots.proofs.Places.{seen, seen_at, seen_set, seen_kept}
+use Rattle.mf_slots.proofs.Counted.{few_changed}
+use Rattle.mf_slots.specs.declared.zones.TheConstants.{MOST_HELD}
 use Rattle.mf_slots.proofs.ZonesLaws.{has_handle}
 
 -- what one slot is after a change: it keeps its handle, or gets a free one
@@ -230,12 +232,13 @@ pub record RewritesBelow (n : ℕ) (zones : Contents) (slabs : List (Slab LabelV
       → Rewrites (zone_of zones slot) (zone_of (seen slabs) slot) (handle label slot) (handle keys slot) (given (value_for values slot) (value_of zones label slot))
   pub zone : (slot : ℕ) → n ≤ slot → zone_of (seen slabs) slot ≡ zone_of zones slot
   pub key : (slot : ℕ) → n ≤ slot → handle keys slot ≡ handle label slot
+  pub few : NoneOverfull (seen slabs)
   pub room : (slot : ℕ) (d : Slab LabelValue) → n ≤ slot → slot < 4 → HasRoomToWrite (get_or slabs slot d) (handle keys slot) (value_for values slot)
 
 pub rewrites_more : (n : ℕ) (zones : Contents) (slabs : List (Slab LabelValue)) (old new : Slab LabelValue) (label keys : Handles) (key : Option ℕ) (values : List LabelValue)
     → n < 4 → get_or slabs n old ≡ old → Rewrites old.slots new.slots (handle keys n) key (given (value_for values n) (held_in old.slots (handle keys n)))
-    → RewritesBelow n zones slabs label keys values → RewritesBelow (n + 1) zones (set slabs n new) label (set keys n key) values
-rewrites_more n zones slabs old new label keys key values within is rewrites below =
+    → (slab_len old ≤ MOST_HELD → slab_len new ≤ MOST_HELD) → RewritesBelow n zones slabs label keys values → RewritesBelow (n + 1) zones (set slabs n new) label (set keys n key) values
+rewrites_more n zones slabs old new label keys key values within is rewrites most below =
     let short : n < length slabs = omega (arith, below.long) in
     let short_seen : n < length (seen slabs) = omega (arith, below.long, length-map slabs (λ (s : Slab LabelValue). s.slots)) in
     let was : old.slots ≡ zone_of zones n =
@@ -260,6 +263,7 @@ rewrites_more n zones slabs old new label keys key values within is rewrites bel
       ];
       zone = λ slot l. other_zone slot (omega arith) ∙ below.zone slot (omega arith);
       key = λ slot l. other_key slot (omega arith) ∙ below.key slot (omega arith);
+      few = few_changed slabs n old new short is most below.few;
       room = λ slot d l four.
           let same_slab : get_or (set slabs n new) slot d ≡ get_or slabs slot d = get_or-set_other slabs n slot new d (omega arith) in
           let same_key : handle (set keys n key) slot ≡ handle keys slot = other_key slot (omega arith) in

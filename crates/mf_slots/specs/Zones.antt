@@ -1,9 +1,10 @@
 -- Label values in zones: one zone for each slot number, in which each value lies under a handle.
-use Rattle.std.specs.Prelude.{◌≡◌, ◌≢◌, ℕ, ◌<◌, List, [], ◌∷◌, Option, Some, None, IsSome, slice_index_or}
-use Rattle.slab.specs.Slab.{Slab, HasRoomFor}
+use Rattle.std.specs.Prelude.{◌≡◌, ◌≢◌, ℕ, ◌<◌, List, [], ◌∷◌, Option, Some, None, IsSome, is_some, count_by, All, ◌≤◌, slice_index_or}
+use Rattle.slab.specs.Slab.{Slab, HasRoomFor, slab_len}
 use Rattle.mf_elem.specs.declared.label.LabelValue.{LabelValue}
 use Rattle.mf_elem.specs.declared.label.TheConstants.{SLOTS}
 use Rattle.mf_elem.specs.declared.label.LabelValue.TheVariants.{Unset}
+use Rattle.mf_slots.specs.declared.zones.TheConstants.{MOST_HELD}
 
 -- a label: the handle of each slot that is made
 abbrev pub Handles : Type 0
@@ -32,6 +33,14 @@ zone_of zones slot = slice_index_or zones slot []
 -- what the zone of a slot has under a handle
 abbrev pub under : Contents → ℕ → ℕ → Option LabelValue
 under zones slot h = at_handle (zone_of zones slot) h
+
+-- how many values lie in the zone of a slot
+abbrev pub value_count : Contents → ℕ → ℕ
+value_count zones slot = count_by is_some (zone_of zones slot)
+
+-- no zone has more values than it may
+abbrev pub NoneOverfull : Contents → Type 0
+NoneOverfull zones = All (λ zone. count_by is_some zone ≤ MOST_HELD) zones
 
 -- no value in the zones is Unset: a slot is Unset where it isn't made
 pub record NoneUnset (zones : Contents) : Type 0 where
@@ -164,8 +173,12 @@ IsMadeFor key v = IsSome key
 abbrev pub AreMade : Handles → List LabelValue → Type 0
 AreMade label values = (slot : ℕ) → slot < SLOTS → IsMadeFor (handle label slot) (value_for values slot)
 
+-- one value more can be written without an allocation
+abbrev pub HasRoom : Slab LabelValue → Type 0
+HasRoom zone = HasRoomFor zone 1 × (slab_len zone < MOST_HELD)
+
 -- the value can be written without an allocation
 abbrev pub HasRoomToWrite : Slab LabelValue → Option ℕ → LabelValue → Type 0
 HasRoomToWrite zone (Some h) v = Unit {0}
 HasRoomToWrite zone None Unset = Unit {0}
-HasRoomToWrite zone None v = HasRoomFor zone 1
+HasRoomToWrite zone None v = HasRoom zone

@@ -5,4 +5,4 @@ mod numbers;
 mod zones;
 
 pub use numbers::SlotNumbers;
-pub use zones::{Label, Zones};
+pub use zones::{Label, MOST_HELD, Zones};

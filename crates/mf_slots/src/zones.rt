@@ -1,14 +1,18 @@
 //! Zones of label values over slabs, whose keys are the handles that labels hold.
-ghost use Rattle.std.specs.Prelude.{◌≡◌, ◌≢◌, ◌<◌, ◌↔◌, [], ◌∷◌, Some, None, OnOk, OnErr, IfOk, IsOk, IsTrue, IsSome, replicate, ℕ};
+ghost use Rattle.std.specs.Prelude.{◌≡◌, ◌≢◌, ◌<◌, ◌≤◌, ◌↔◌, [], ◌∷◌, Some, None, OnOk, OnErr, IfOk, IsOk, IsTrue, IsSome, replicate, ℕ};
 ghost use Rattle.mf_elem.specs.declared.label.TheConstants.{SLOTS};
-ghost use Rattle.slab.specs.Slab.{HasRoomFor};
-ghost use Rattle.mf_slots.specs.Zones.{IsHeld, IsIn, IsMadeAt, IsHeldAt, Makes, MakesLabel, SetsAt, Frees, GivesUp, handle, held_in, value_at, value_of, value_for, label_values, given, given_to, Adds, Updates, Relabels, Rewrites, AreMade, IsMadeFor, HasRoomToWrite};
+ghost use Rattle.slab.specs.Slab.{slab_len};
+ghost use Rattle.mf_slots.specs.Zones.{IsHeld, IsIn, IsMadeAt, IsHeldAt, Makes, MakesLabel, SetsAt, Frees, GivesUp, handle, held_in, value_at, value_of, value_for, label_values, given, given_to, Adds, Updates, Relabels, Rewrites, AreMade, IsMadeFor, HasRoom, HasRoomToWrite, value_count};
+ghost use Rattle.mf_slots.specs.declared.zones.TheConstants.{MOST_HELD};
 ghost use Rattle.mf_elem.specs.declared.label.LabelValue.TheVariants.{Unset};
 
 use mf_elem::{LabelValue, SLOTS};
 use slab::Slab;
 use std::alloc::{AllocError, Global};
 use std::marker::Model;
+
+/// The most values that a zone holds: as many as `held` can count. In a zone that holds them memory has run out.
+pub const MOST_HELD: u32 = u32::MAX;
 
 /// The zones, modelled on uma(9), from which label values come: one for each slot number.
 #[derive(Drop)]
@@ -19,13 +23,13 @@ pub struct Zones {
 impl Model for Zones {
     ghost use Rattle.mf_elem.specs.declared.label.TheConstants.{SLOTS};
     ghost use Rattle.std.specs.Prelude.{◌≡◌, map, length};
-    ghost use Rattle.mf_slots.specs.Zones.{Contents, NoneUnset};
+    ghost use Rattle.mf_slots.specs.Zones.{Contents, NoneUnset, NoneOverfull};
 
     ghost Value = { Contents };
 
     ghost view = { λ a. map (λ zone. zone.slots) a.zones.items };
 
-    ghost invariant = { λ a. (length a.zones.items ≡ SLOTS) × NoneUnset (map (λ zone. zone.slots) a.zones.items) };
+    ghost invariant = { λ a. let zones = map (λ zone. zone.slots) a.zones.items in (length a.zones.items ≡ SLOTS) × NoneUnset zones × NoneOverfull zones };
 }
 
 /// The label of an entity: for each slot that is made, the handle of its value in the zones.
@@ -126,6 +130,14 @@ impl Zones {
         Ok(())
     }
 
+    /// How many values lie in the zone of a slot.
+    pub fn held(&self, slot: u8) -> u32
+        requires { slot < SLOTS }
+        ensures { result ≡ value_count self.now slot }
+    {
+        self.zones[slot as usize].len() as u32
+    }
+
     /// Writes a slot that is made.
     pub fn set(&mut self, label: &Label, slot: u8, value: LabelValue)
         requires slot { slot < SLOTS }
@@ -222,7 +234,7 @@ fn make_room(
     ensures same { zone.new.slots ≡ zone.old.slots }
 {
     match (key, value) {
-        (None, LabelValue::Range(_) | LabelValue::Number(_)) => zone.reserve(1),
+        (None, LabelValue::Range(_) | LabelValue::Number(_)) => reserve(zone),
         (Some(_), _) | (None, LabelValue::Unset) => Ok(()),
     }
 }
@@ -232,7 +244,8 @@ fn rewrite(zone: &mut Slab<LabelValue>, key: Option<usize>, value: &LabelValue) 
     requires room { HasRoomToWrite zone.old key value.now }
     requires held { IsIn zone.old.slots key }
     requires set { held_in zone.old.slots key ≡ Unset → key ≡ None }
-    ensures { Rewrites zone.old.slots zone.new.slots key result (given value.now (held_in zone.old.slots key)) }
+    ensures rewrites { Rewrites zone.old.slots zone.new.slots key result (given value.now (held_in zone.old.slots key)) }
+    ensures most { slab_len zone.old ≤ MOST_HELD → slab_len zone.new ≤ MOST_HELD }
 {
     match (key, value) {
         (_, LabelValue::Unset) => key,
@@ -247,7 +260,8 @@ fn rewrite(zone: &mut Slab<LabelValue>, key: Option<usize>, value: &LabelValue) 
 /// Writes the value under a key that has one.
 fn put(zone: &mut Slab<LabelValue>, key: usize, value: LabelValue)
     requires { IsIn zone.old.slots (Some key) }
-    ensures { Updates zone.old.slots zone.new.slots key (Some value) }
+    ensures updates { Updates zone.old.slots zone.new.slots key (Some value) }
+    ensures len { slab_len zone.new ≡ slab_len zone.old }
 {
     if let Some(place) = zone.get_mut(key) {
         *place = value;
@@ -257,16 +271,29 @@ fn put(zone: &mut Slab<LabelValue>, key: usize, value: LabelValue)
 /// Puts the value under a free key.
 fn keep(zone: &mut Slab<LabelValue>, value: LabelValue) -> Result<usize, AllocError>
     ensures ok { IfOk result (λ key. Adds zone.old.slots zone.new.slots (Some key) value) }
+    ensures most { OnOk result (slab_len zone.new ≤ MOST_HELD) }
     ensures err { OnErr result (zone.new.slots ≡ zone.old.slots) }
 {
-    zone.reserve(1)?;
+    reserve(zone)?;
     Ok(add(zone, value))
+}
+
+/// Makes room for one value more, which a full zone has not.
+fn reserve(zone: &mut Slab<LabelValue>) -> Result<(), AllocError>
+    ensures room { OnOk result (HasRoom zone.new) }
+    ensures same { zone.new.slots ≡ zone.old.slots }
+{
+    if zone.len() >= MOST_HELD as usize {
+        return Err(AllocError);
+    }
+    zone.reserve(1)
 }
 
 /// Puts the value under a free key, for which there is room.
 fn add(zone: &mut Slab<LabelValue>, value: LabelValue) -> usize
-    requires { HasRoomFor zone.old 1 }
-    ensures { Adds zone.old.slots zone.new.slots (Some result) value }
+    requires { HasRoom zone.old }
+    ensures adds { Adds zone.old.slots zone.new.slots (Some result) value }
+    ensures most { slab_len zone.new ≤ MOST_HELD }
 {
     zone.insert_reserved(value)
 }

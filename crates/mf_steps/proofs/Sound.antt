@@ -18,7 +18,7 @@ use Rattle.mf_core.specs.declared.progress.ChangeOutcome.{ChangeOutcome}
 use Rattle.mf_core.specs.declared.progress.ChangeOutcome.TheVariants as outcomes
 use Rattle.mf_core.specs.Policies.{AreOf}
 use Rattle.mf_core.specs.CoreView.{CoreView, run_state, specs_of, progress_of, turn_at, AdvancesOn, Changes, Commits}
-use Rattle.mf_list.specs.Lists.{ListView, CatalogueView}
+use Rattle.mf_errno.specs.declared.module.Module.{Module}
 use Rattle.mf_policy.specs.Registration.{Entry}
 use Rattle.mf_plan.specs.Planned.{Plan}
 use Rattle.mf_calls.specs.Tasks.{is_change}
@@ -130,18 +130,18 @@ not_true e = cc
 
 -- Soundness, step by step
 
-module _ (s : Script) (list : ListView) (cat : CatalogueView) where
-  pub sound_on : (old new : CoreView) (t : ℕ) (p : Progress) (kept : List (Option KeptPlan)) → IsSound s old list cat kept → new.script ≡ old.script → Advances (progress_of old) (progress_of new) t p
-      → specs_of new ≡ specs_of old → turn_at old t ≢ turn.Entered → IsSound s new list cat kept
+module _ (s : Script) (fixed list : List Entry) (cat : List Module) where
+  pub sound_on : (old new : CoreView) (t : ℕ) (p : Progress) (kept : List (Option KeptPlan)) → IsSound s old fixed list cat kept → new.script ≡ old.script → Advances (progress_of old) (progress_of new) t p
+      → specs_of new ≡ specs_of old → turn_at old t ≢ turn.Entered → IsSound s new fixed list cat kept
   sound_on old new t p kept i script moves specs other = record {
     same = i.same ∙ sym script;
     few = subst (λ (s : Script). length s.tasks ≤ TASK_LIMIT) (sym script) i.few;
-    policies = subst (λ specs. AreOf specs list cat) (sym specs) i.policies;
+    policies = subst (λ specs. AreOf specs fixed list cat) (sym specs) i.policies;
     places = i.places ∙ ap (λ (s : Script). length s.tasks) (sym script);
     good = good_on old new t p kept i.good moves specs (λ u k is. other_task old kept t u k i.good is other);
   }
 
-  pub sound_kept : (core : CoreView) (t : ℕ) (kept : List (Option KeptPlan)) (new : KeptPlan) → IsSound s core list cat kept → t < length kept → IsGood core t new → IsSound s core list cat (slice_set kept t (Some new))
+  pub sound_kept : (core : CoreView) (t : ℕ) (kept : List (Option KeptPlan)) (new : KeptPlan) → IsSound s core fixed list cat kept → t < length kept → IsGood core t new → IsSound s core fixed list cat (slice_set kept t (Some new))
   sound_kept core t kept new i lt fresh = record {
     same = i.same;
     few = i.few;
@@ -150,7 +150,7 @@ module _ (s : Script) (list : ListView) (cat : CatalogueView) where
     good = good_kept core t kept new i.good lt fresh;
   }
 
-  pub sound_dropped : (core : CoreView) (t : ℕ) (kept : List (Option KeptPlan)) → IsSound s core list cat kept → t < length kept → IsSound s core list cat (slice_set kept t None)
+  pub sound_dropped : (core : CoreView) (t : ℕ) (kept : List (Option KeptPlan)) → IsSound s core fixed list cat kept → t < length kept → IsSound s core fixed list cat (slice_set kept t None)
   sound_dropped core t kept i lt = record {
     same = i.same;
     few = i.few;
@@ -159,14 +159,14 @@ module _ (s : Script) (list : ListView) (cat : CatalogueView) where
     good = good_dropped core t kept i.good lt;
   }
 
-  pub sound_committed : (old new : CoreView) (t : ℕ) (commit : Commit) (kept : List (Option KeptPlan)) → IsSound s old list cat kept → t < length kept → new.script ≡ old.script
-      → AdvancesOn commit (progress_of old) t (progress_of new) → specs_of new ≡ specs_of old → IsSound s new list cat (slice_set kept t None)
+  pub sound_committed : (old new : CoreView) (t : ℕ) (commit : Commit) (kept : List (Option KeptPlan)) → IsSound s old fixed list cat kept → t < length kept → new.script ≡ old.script
+      → AdvancesOn commit (progress_of old) t (progress_of new) → specs_of new ≡ specs_of old → IsSound s new fixed list cat (slice_set kept t None)
   sound_committed old new t commit kept i lt script moves specs =
       let drop = sound_dropped old t kept i lt in
       record {
         same = i.same ∙ sym script;
         few = subst (λ (s : Script). length s.tasks ≤ TASK_LIMIT) (sym script) i.few;
-        policies = subst (λ specs. AreOf specs list cat) (sym specs) i.policies;
+        policies = subst (λ specs. AreOf specs fixed list cat) (sym specs) i.policies;
         places = drop.places ∙ ap (λ (s : Script). length s.tasks) (sym script);
         good = by_commit commit moves;
       } where
@@ -187,9 +187,9 @@ good_changed : (old new : CoreView) (t : ℕ) (outcome : ChangeOutcome) (kept : 
 good_changed old new t outcomes.Done kept good c = λ u k is. absurd (none_entered (progress_of old) u c.0 (good u k is).entered)
 good_changed old new t (outcomes.Waits n) kept good c = subst (λ core. AreGood core kept) (sym c.2) good
 
-pub sound_changed : (s : Script) (old new : CoreView) (list list' : ListView) (cat cat' : CatalogueView) (t : ℕ) (outcome : ChangeOutcome) (kept : List (Option KeptPlan)) → IsSound s old list cat kept
-    → Changes old t outcome new → AreOf (specs_of new) list' cat' → IsSound s new list' cat' kept
-sound_changed s old new list list' cat cat' t outcome kept i c policies =
+pub sound_changed : (s : Script) (old new : CoreView) (fixed list list' : List Entry) (cat cat' : List Module) (t : ℕ) (outcome : ChangeOutcome) (kept : List (Option KeptPlan)) → IsSound s old fixed list cat kept
+    → Changes old t outcome new → AreOf (specs_of new) fixed list' cat' → IsSound s new fixed list' cat' kept
+sound_changed s old new fixed list list' cat cat' t outcome kept i c policies =
     let script = changed_script old new t outcome c in
     record {
       same = i.same ∙ sym script;

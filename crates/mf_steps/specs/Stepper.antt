@@ -2,7 +2,8 @@
 use Rattle.std.specs.Prelude.{◌≡◌, ℕ, ◌≤◌, List, Option, Some, length}
 use Rattle.mf_calls.specs.declared.limits.TheConstants.{TASK_LIMIT}
 use Rattle.mf_calls.specs.declared.script.Script.{Script}
-use Rattle.mf_list.specs.Lists.{ListView, CatalogueView}
+use Rattle.mf_errno.specs.declared.module.Module.{Module}
+use Rattle.mf_policy.specs.Registration.{Entry}
 use Rattle.mf_perform.specs.Verdict.{verdict_of}
 use Rattle.mf_core.specs.declared.progress.Phase.TheVariants as phase
 use Rattle.mf_core.specs.CoreView.{CoreView, specs_of, progress_of}
@@ -28,9 +29,9 @@ abbrev pub AreGood : CoreView → List (Option KeptPlan) → Type 0
 AreGood core kept = (t : ℕ) (k : KeptPlan) → kept_at kept t ≡ Some k → IsGood core t k
 
 -- The script is the core's and within its limits, the policies are those of the core, there is a place for each task, and what is kept is good.
-pub record IsSound (script : Script) (core : CoreView) (list : ListView) (catalogue : CatalogueView) (kept : List (Option KeptPlan)) : Type 0 where
+pub record IsSound (script : Script) (core : CoreView) (fixed list : List Entry) (catalogue : List Module) (kept : List (Option KeptPlan)) : Type 0 where
   pub same : script ≡ core.script
   pub few : length core.script.tasks ≤ TASK_LIMIT
-  pub policies : AreOf (specs_of core) list catalogue
+  pub policies : AreOf (specs_of core) fixed list catalogue
   pub places : length kept ≡ length core.script.tasks
   pub good : AreGood core kept

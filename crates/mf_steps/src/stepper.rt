@@ -13,17 +13,18 @@ use crate::kept::{KeptPlan, KeptPlans};
 use mf_calls::{Script, Step, StepKind};
 use mf_core::{ChangeOutcome, Commit, Core, Event, Turn};
 use mf_hist::print_event;
-use mf_list::{Catalogue, PolicyList};
+use mf_list::{Catalogue, Fixed, Listed, PolicyList};
 use mf_plan::Plan;
 use mf_policy::Policy;
 use std::alloc::{AllocError, Global};
 use std::marker::Model;
 
-/// A core with its list of policies, the catalogue of the others, and the kept plans. Contracts see the core and the plans.
+/// A core with its lists of policies, the catalogue of the others, and the kept plans. Contracts see the core and the plans.
 #[derive(Drop)]
 pub struct Stepper<'s, P: Policy> {
     script: &'s Script,
     core: Core<'s>,
+    fixed: Fixed<P>,
     list: PolicyList<P>,
     catalogue: Catalogue<P>,
     kept: KeptPlans,
@@ -36,7 +37,7 @@ impl<'s, P: Policy> Model for Stepper<'s, P> {
 
     ghost view = { λ f. record { core = f.core; kept = f.kept } };
 
-    ghost invariant = { λ f. IsSound f.script.now f.core f.list f.catalogue f.kept };
+    ghost invariant = { λ f. IsSound f.script.now f.core f.fixed f.list f.catalogue f.kept };
 }
 
 impl<'s, P: Policy> Stepper<'s, P> {
@@ -55,11 +56,12 @@ impl<'s, P: Policy> Stepper<'s, P> {
         ensures script { IfOk result (λ f. f.core.script ≡ script.now) }
         ensures opening { IfOk result (λ f. step_run f ≡ step_opening script.now) }
     {
-        let (core, list, catalogue) = Core::new(alloc, script, modules)?;
+        let (core, fixed, list, catalogue) = Core::new(alloc, script, modules)?;
         let kept = KeptPlans::for_tasks(alloc, &script.tasks)?;
         Ok(Stepper {
             script,
             core,
+            fixed,
             list,
             catalogue,
             kept,
@@ -158,7 +160,8 @@ impl<'s, P: Policy> Stepper<'s, P> {
     {
         let mut plan = Plan::new();
         self.core.plan(task, &mut plan);
-        let verdict = Core::walk(&self.list, &plan);
+        let listed = Listed::new(&self.fixed, &self.list);
+        let verdict = Core::walk(&listed, &plan);
         self.kept.keep(task as usize, KeptPlan { plan, verdict });
     }
 
@@ -172,7 +175,8 @@ impl<'s, P: Policy> Stepper<'s, P> {
             unreachable!()
         };
         let KeptPlan { plan, verdict } = kept;
-        match self.core.done(alloc, task, &self.list, &plan, &verdict)? {
+        let listed = Listed::new(&self.fixed, &self.list);
+        match self.core.done(alloc, task, &listed, &plan, &verdict)? {
             Commit::Done => {
                 let events = self.core.history().events.as_slice();
                 print_last(self.script, events, out)
@@ -200,10 +204,13 @@ impl<'s, P: Policy> Stepper<'s, P> {
         ensures script { self.new.core.script ≡ self.old.core.script }
         ensures does { OnOk result (Gives self.old step.Change task self.new (string_bytes out.old) (string_bytes out.new)) }
     {
-        match self
-            .core
-            .change(alloc, task, &mut self.list, &mut self.catalogue)?
-        {
+        match self.core.change(
+            alloc,
+            task,
+            &self.fixed,
+            &mut self.list,
+            &mut self.catalogue,
+        )? {
             ChangeOutcome::Done => {
                 let events = self.core.history().events.as_slice();
                 print_last(self.script, events, out)

@@ -16,6 +16,7 @@ use crate::text::whole_text;
 use mf_calls::{Script, generate};
 use mf_core::{Commit, Core, Turn};
 use mf_io::Gate;
+use mf_list::Listed;
 use mf_load::{summary_is_settled, summary_text};
 use mf_plan::Plan;
 use mf_policy::Policy;
@@ -252,11 +253,11 @@ fn run_call<P: Policy, J: Job, B: Ledger, G: Gate, R: Threads + Wait + Sync>(
 {
     for _ in rt.forever() {
         let policies = kernel.policies(rt);
-        let list = policies.list();
+        let listed = Listed::new(kernel.fixed(), policies.list());
         kernel.plan(rt, ticket, plan);
-        let verdict = Kernel::walk(list, ticket, plan);
+        let verdict = Kernel::walk(&listed, ticket, plan);
         gate.between(rt, at.task, at.line);
-        match kernel.commit(rt, alloc, ticket, list, plan, &verdict) {
+        match kernel.commit(rt, alloc, ticket, &listed, plan, &verdict) {
             Ok(Commit::Done) => return Ok(()),
             Ok(Commit::Stale) => {}
             Err(error) => return Err(error),

@@ -21,6 +21,7 @@ fn make_two(rt: &impl Abort, zones: &mut Zones) -> Result<(), AllocError> {
     let second = zones.make_label(&[two, two, LabelValue::Unset, LabelValue::Unset])?;
     assert!(rt; first.is_made(3) && !first.is_made(1));
     assert!(rt; zones.value(&first, 0) == one && zones.value(&second, 0) == two);
+    assert!(rt; zones.held(0) == 2 && zones.held(1) == 1 && zones.held(2) == 0);
     Ok(())
 }
 
@@ -36,8 +37,9 @@ fn a_slot_through_its_life(rt: HostRuntime) -> Result<(), AllocError> {
     let mut label = Label::new();
     zones.make(&mut label, 2, LabelValue::Number(1))?;
     zones.set(&label, 2, LabelValue::Number(2));
-    assert!(rt; zones.value(&label, 2) == LabelValue::Number(2));
+    assert!(rt; zones.value(&label, 2) == LabelValue::Number(2) && zones.held(2) == 1);
     zones.give_up(label);
+    assert!(rt; zones.held(2) == 0);
     Ok(())
 }
 

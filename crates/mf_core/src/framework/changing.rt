@@ -15,28 +15,28 @@ ghost use Rattle.mf_core.specs.CoreView.{run_state, specs_of, progress_of, turn_
 use super::Core;
 use crate::history::Event;
 use crate::progress::{ChangeOutcome, Commit};
-use mf_list::{Catalogue, PolicyList};
+use mf_list::{Catalogue, Fixed, Listed, PolicyList};
 use mf_perform::Verdict;
 use mf_plan::{Found, Plan};
 use mf_policy::Policy;
 use std::alloc::{AllocError, Global};
 
 impl<'s> Core<'s> {
-    /// Commits the call that the task has entered for. The plan must still be that of `plan()`, and the list have the
+    /// Commits the call that the task has entered for. The plan must still be that of `plan()`, and the lists have the
     /// policies and specs of the core's state; else the result is `Stale` and nothing changes. If memory runs out,
     /// nothing changes. A call that is denied or refused takes no memory.
     pub fn done<P: Policy>(
         &mut self,
         alloc: Global,
         task: u32,
-        list: &PolicyList<P>,
+        list: &Listed<'_, P>,
         plan: &Plan,
         verdict: &Verdict,
     ) -> Result<Commit, AllocError>
         requires task { task < length self.old.script.tasks }
         requires turn { turn_at self.old task ≡ turn.Entered }
-        requires verdict { verdict.now ≡ verdict_of list.now.entries plan.now }
-        ensures commit { IfOk result (λ commit. Commits self.old task list.now.entries plan.now commit self.new) }
+        requires verdict { verdict.now ≡ verdict_of list.now plan.now }
+        ensures commit { IfOk result (λ commit. Commits self.old task list.now plan.now commit self.new) }
         ensures progress { IfOk result (λ commit. AdvancesOn commit (progress_of self.old) task (progress_of self.new)) }
         ensures specs { specs_of self.new ≡ specs_of self.old }
         ensures entries { open_of self.new ≡ open_of self.old }
@@ -54,12 +54,12 @@ impl<'s> Core<'s> {
         Ok(Commit::Done)
     }
 
-    /// What the task's call is about, where the plan is that of the call and the list has the policies and specs of the core's
+    /// What the task's call is about, where the plan is that of the call and the lists have the policies and specs of the core's
     /// state. None where they aren't.
-    fn found_now<P: Policy>(&self, task: u32, list: &PolicyList<P>, plan: &Plan) -> Option<Found>
+    fn found_now<P: Policy>(&self, task: u32, list: &Listed<'_, P>, plan: &Plan) -> Option<Found>
         requires task { task < length self.now.script.tasks }
         requires turn { turn_at self.now task ≡ turn.Entered }
-        ensures is { IsSome result ↔ IsCurrent self.now task list.now.entries plan.now }
+        ensures is { IsSome result ↔ IsCurrent self.now task list.now plan.now }
         ensures found { plan.now.tail ≡ Do → IfSome result (λ found. IsNextFound self.now.script (run_state self.now) task found) }
     {
         if !list.same_specs(&self.run.state().specs) {
@@ -69,21 +69,22 @@ impl<'s> Core<'s> {
     }
 
     /// Makes the change of the task's next line. While entries are open nothing changes, and the result is `Waits` with
-    /// their number. The list and the catalogue must be those that came with this core. If memory runs out, nothing
+    /// their number. The lists and the catalogue must be those that came with this core. If memory runs out, nothing
     /// changes. A change that is denied or refused takes no memory.
     pub fn change<P: Policy>(
         &mut self,
         alloc: Global,
         task: u32,
+        fixed: &Fixed<P>,
         list: &mut PolicyList<P>,
         catalogue: &mut Catalogue<P>,
     ) -> Result<ChangeOutcome, AllocError>
         requires task { task < length self.old.script.tasks }
         requires turn { turn_at self.old task ≡ turn.Change }
-        requires policies { AreOf (specs_of self.old) list.old catalogue.old }
+        requires policies { AreOf (specs_of self.old) fixed.now list.old catalogue.old }
         ensures outcome { IfOk result (λ outcome. Changes self.old task outcome self.new) }
         ensures progress { IfOk result (λ outcome. AdvancesBy outcome (progress_of self.old) task (progress_of self.new)) }
-        ensures policies { AreOf (specs_of self.new) list.new catalogue.new }
+        ensures policies { AreOf (specs_of self.new) fixed.now list.new catalogue.new }
         ensures entries { open_of self.new ≡ open_of self.old }
         ensures lines { IfOk result (λ outcome. done_of self.new ≡ done_of self.old + lines_changed outcome) }
         ensures waits { IfOk result (λ outcome. StaysWhileWaiting outcome list.old list.new catalogue.old catalogue.new) }
@@ -94,8 +95,11 @@ impl<'s> Core<'s> {
         if waiting > 0 {
             return Ok(ChangeOutcome::Waits(waiting));
         }
-        let reply = self.run.change_reply(alloc, task, list)?;
-        let listed = self.run.relisted(alloc, task, &reply, list, catalogue)?;
+        let walked = Listed::new(fixed, list);
+        let reply = self.run.change_reply(alloc, task, &walked)?;
+        let listed = self
+            .run
+            .relisted(alloc, task, &reply, fixed, list, catalogue)?;
         let number = self.run.lines(task) + 1;
         self.run.put(task, number, &reply, listed);
         self.history

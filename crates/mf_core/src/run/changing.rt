@@ -1,5 +1,5 @@
-//! A change of the policies in three acts: the listed specs after it are made beside those of the state, the list and the
-//! catalogue follow, and the specs are put into the state. The first two may run out of memory, and then nothing has changed.
+//! A change of the policies in three acts: the listed specs after it are made beside those of the state, the dynamic list
+//! and the catalogue follow, and the specs are put into the state. The first two may run out of memory, and then nothing has changed.
 ghost use Rattle.std.specs.Prelude.{◌≡◌, ◌<◌, length, true, false, IfOk, IsOk, IfSome, IsSome, MatchOption, OnOk, OnErr, Some};
 ghost use Rattle.mf_objects.specs.declared.id.Id.{Id};
 ghost use Rattle.mf_plan.specs.declared.reply.Reply.{Reply};
@@ -16,7 +16,7 @@ ghost use Rattle.mf_core.specs.Relisted.{AreListedAfter, IsMade};
 use super::Run;
 use crate::kept_reply::KeptReply;
 use crate::relisting::relist;
-use mf_list::{Catalogue, PolicyList};
+use mf_list::{Catalogue, Fixed, Listed, PolicyList};
 use mf_perform::{Relisting, listed_after, put_listed, relisting_of, verdict_of};
 use mf_plan::{Plan, State};
 use mf_policy::{Policy, SpecList};
@@ -53,11 +53,11 @@ impl<'s> Run<'s> {
         &self,
         alloc: Global,
         task: u32,
-        list: &PolicyList<P>,
+        list: &Listed<'_, P>,
     ) -> Result<KeptReply, AllocError>
         requires task { task < length self.now.script.tasks }
         requires line { IsSome (next_line self.now.script self.now.run.progress task) }
-        requires listed { list.now.entries ≡ self.now.run.state.specs }
+        requires listed { list.now ≡ self.now.run.state.specs }
         ensures value { IfOk result (λ reply. next_reply self.now.script self.now.run task ≡ Some reply) }
         ensures memory { (reply : Reply) → next_reply self.now.script self.now.run task ≡ Some reply → is_ok reply ≡ false → IsOk result }
     {
@@ -74,21 +74,29 @@ impl<'s> Run<'s> {
         alloc: Global,
         task: u32,
         reply: &KeptReply,
+        fixed: &Fixed<P>,
         list: &mut PolicyList<P>,
         catalogue: &mut Catalogue<P>,
     ) -> Result<Option<Relisted>, AllocError>
         requires turn { turn_of self.now.script self.now.run.progress task ≡ turn.Change }
         requires reply { next_reply self.now.script self.now.run task ≡ Some reply.now }
-        requires policies { AreOf self.now.run.state.specs list.old catalogue.old }
+        requires policies { AreOf self.now.run.state.specs fixed.now list.old catalogue.old }
         ensures value { IfOk result (AreListedAfter self.now.run.state (next_state self.now.script self.now.run task) reply.now) }
-        ensures policies { OnOk result (AreOf (next_state self.now.script self.now.run task).specs list.new catalogue.new) }
+        ensures policies { OnOk result (AreOf (next_state self.now.script self.now.run task).specs fixed.now list.new catalogue.new) }
         ensures err { OnErr result ((list.new ≡ list.old) × (catalogue.new ≡ catalogue.old)) }
         ensures memory { is_ok reply.now ≡ false → IsOk result }
     {
         let Some(listed) = self.listed_after(alloc, task, reply)? else {
             return Ok(None);
         };
-        relist(alloc, list, catalogue, &self.state, &listed.relisting)?;
+        relist(
+            alloc,
+            fixed,
+            list,
+            catalogue,
+            &self.state,
+            &listed.relisting,
+        )?;
         Ok(Some(listed))
     }
 

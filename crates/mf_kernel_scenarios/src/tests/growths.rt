@@ -14,7 +14,7 @@ use mf_bsdextended::Bsdextended;
 use mf_calls::Script;
 use mf_core::{ChangeOutcome, Commit, Core, Turn};
 use mf_hist::print_history;
-use mf_list::{Catalogue, PolicyList};
+use mf_list::{Catalogue, Fixed, Listed, PolicyList};
 use mf_mls::Mls;
 use mf_names::SCRIPT_LIMIT;
 use mf_partition::Partition;
@@ -84,10 +84,11 @@ const REPLIES: &[&str] = &[
 #[derive(Drop)]
 struct Machine<'s, P: Policy> {
     core: Core<'s>,
+    fixed: Fixed<P>,
     list: PolicyList<P>,
     catalogue: Catalogue<P>,
 
-    ghost policies: { AreOf (specs_of core) list catalogue },
+    ghost policies: { AreOf (specs_of core) fixed list catalogue },
     ghost tasks: { 0 < length core.script.tasks },
 }
 
@@ -127,7 +128,8 @@ fn wants_reading<P: Policy>(
 ) -> Result<(), AllocError> {
     let after = reading_of(alloc, script, machine)?;
     assert!(rt; after.as_str() == before);
-    assert!(rt; machine.list.same_specs(&machine.core.state().specs));
+    let listed = Listed::new(&machine.fixed, &machine.list);
+    assert!(rt; listed.same_specs(&machine.core.state().specs));
     Ok(())
 }
 
@@ -140,8 +142,9 @@ fn commit<P: Policy>(
     assert!(rt; machine.core.turn(0) == Turn::Entered);
     let mut plan = Plan::new();
     machine.core.plan(0, &mut plan);
-    let verdict = Core::walk(&machine.list, &plan);
-    machine.core.done(alloc, 0, &machine.list, &plan, &verdict)
+    let listed = Listed::new(&machine.fixed, &machine.list);
+    let verdict = Core::walk(&listed, &plan);
+    machine.core.done(alloc, 0, &listed, &plan, &verdict)
 }
 
 /// Commits the call of the open entry; where memory is refused, the core is as it was, and the call
@@ -171,9 +174,13 @@ fn change<P: Policy>(
     machine: &mut Machine<P>,
 ) -> Result<ChangeOutcome, AllocError> {
     assert!(rt; machine.core.turn(0) == Turn::Change);
-    machine
-        .core
-        .change(alloc, 0, &mut machine.list, &mut machine.catalogue)
+    machine.core.change(
+        alloc,
+        0,
+        &machine.fixed,
+        &mut machine.list,
+        &mut machine.catalogue,
+    )
 }
 
 /// Makes the change of the task's next line; where memory is refused, core and policies are as they
@@ -237,9 +244,10 @@ fn history_over<P: Policy>(
     requires modules { AreAllModules (map (λ p. module_of (P.spec p)) modules.items) }
     requires fresh { All (λ p. IsFresh (P.spec p)) modules.items }
 {
-    let (core, list, catalogue) = Core::new(alloc, script, modules)?;
+    let (core, fixed, list, catalogue) = Core::new(alloc, script, modules)?;
     let mut machine = Machine {
         core,
+        fixed,
         list,
         catalogue,
     };

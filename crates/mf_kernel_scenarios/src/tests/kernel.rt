@@ -12,7 +12,7 @@ use mf_bsdextended::Bsdextended;
 use mf_calls::Script;
 use mf_core::{Commit, Turn};
 use mf_hist::print_history;
-use mf_list::PolicyList;
+use mf_list::Listed;
 use mf_mls::Mls;
 use mf_names::SCRIPT_LIMIT;
 use mf_partition::Partition;
@@ -69,7 +69,7 @@ fn relabelled_during_a_read<P: Policy, J: Job, B: Ledger, R: Wait + Abort>(
     let (kernel, mut passes) = Kernel::<P, J, B>::open(alloc, script, modules, lines, busy)?;
     assert!(rt; passes.len() == 2);
     let policies = kernel.policies(rt);
-    let list = policies.list();
+    let list = &Listed::new(kernel.fixed(), policies.list());
     assert!(rt; kernel.turn(&passes[0]) == Turn::Entry);
     let mut first = kernel.enter(rt, &mut passes[0]);
     assert!(rt; kernel.turn(&passes[1]) == Turn::Entry);
@@ -95,7 +95,7 @@ fn commit_new_plan<P: Policy, J: Job, B: Ledger, R: Wait>(
     alloc: Global,
     kernel: &Kernel<P, J, B>,
     ticket: &mut Ticket<J, B>,
-    list: &PolicyList<P>,
+    list: &Listed<'_, P>,
 ) -> Result<Commit, AllocError>
     requires { ticket.old.committed ≡ false }
     ensures { IsSameTicket ticket.old ticket.new }
@@ -112,12 +112,12 @@ fn commit_twice<P: Policy, J: Job, B: Ledger, R: Wait>(
     alloc: Global,
     kernel: &Kernel<P, J, B>,
     ticket: &mut Ticket<J, B>,
-    list: &PolicyList<P>,
+    list: &Listed<'_, P>,
     early: &Plan,
     early_verdict: &Verdict,
 ) -> Result<Commit, AllocError>
     requires undone { ticket.old.committed ≡ false }
-    requires verdict { early_verdict.now ≡ verdict_of list.now.entries early.now }
+    requires verdict { early_verdict.now ≡ verdict_of list.now early.now }
     ensures { IsSameTicket ticket.old ticket.new }
 {
     match kernel.commit(rt, alloc, ticket, list, early, early_verdict) {

@@ -11,7 +11,7 @@ use mf_biba::Biba;
 use mf_bsdextended::Bsdextended;
 use mf_calls::Script;
 use mf_core::{ChangeOutcome, Commit, Core, Turn};
-use mf_list::{Catalogue, PolicyList};
+use mf_list::{Catalogue, Fixed, Listed, PolicyList};
 use mf_mls::Mls;
 use mf_names::SCRIPT_LIMIT;
 use mf_partition::Partition;
@@ -48,7 +48,7 @@ fn finish_entry<P: Policy, R: Abort>(
     rt: &R,
     alloc: Global,
     core: &mut Core,
-    list: &PolicyList<P>,
+    list: &Listed<'_, P>,
 ) -> Result<(), AllocError>
     requires { length core.old.script.tasks ≡ 2 }
     ensures script { OnOk result (core.new.script ≡ core.old.script) }
@@ -70,16 +70,17 @@ fn try_change<P: Policy, R: Abort>(
     rt: &R,
     alloc: Global,
     core: &mut Core,
+    fixed: &Fixed<P>,
     list: &mut PolicyList<P>,
     catalogue: &mut Catalogue<P>,
 ) -> Result<ChangeOutcome, AllocError>
     requires tasks { length core.old.script.tasks ≡ 2 }
-    requires policies { AreOf (specs_of core.old) list.old catalogue.old }
+    requires policies { AreOf (specs_of core.old) fixed.now list.old catalogue.old }
     ensures script { OnOk result (core.new.script ≡ core.old.script) }
-    ensures policies { AreOf (specs_of core.new) list.new catalogue.new }
+    ensures policies { AreOf (specs_of core.new) fixed.now list.new catalogue.new }
 {
     assert!(rt; core.turn(1) == Turn::Change);
-    core.change(alloc, 1, list, catalogue)
+    core.change(alloc, 1, fixed, list, catalogue)
 }
 
 /// Task 1 would change the list of policies while task 0 is in its entry, and does once that has ended.
@@ -87,18 +88,19 @@ fn wait_and_change<P: Policy, R: Abort>(
     rt: &R,
     alloc: Global,
     core: &mut Core,
+    fixed: &Fixed<P>,
     list: &mut PolicyList<P>,
     catalogue: &mut Catalogue<P>,
 ) -> Result<(), AllocError>
     requires tasks { length core.old.script.tasks ≡ 2 }
-    requires policies { AreOf (specs_of core.old) list.old catalogue.old }
+    requires policies { AreOf (specs_of core.old) fixed.now list.old catalogue.old }
 {
     begin_entry(rt, core);
-    let early = try_change(rt, alloc, core, list, catalogue)?;
+    let early = try_change(rt, alloc, core, fixed, list, catalogue)?;
     assert!(rt; early == ChangeOutcome::Waits(1));
-    finish_entry(rt, alloc, core, list)?;
-    let late = try_change(rt, alloc, core, list, catalogue)?;
-    assert!(rt; late == ChangeOutcome::Done && list.listed().len() == 0);
+    finish_entry(rt, alloc, core, &Listed::new(fixed, list))?;
+    let late = try_change(rt, alloc, core, fixed, list, catalogue)?;
+    assert!(rt; late == ChangeOutcome::Done && Listed::new(fixed, list).listed().len() == 0);
     Ok(())
 }
 
@@ -114,8 +116,8 @@ fn change_during_entry<P: Policy, R: Abort>(
     requires modules { AreAllModules (map (λ p. module_of (P.spec p)) modules.items) }
     requires fresh { All (λ p. IsFresh (P.spec p)) modules.items }
 {
-    let (mut core, mut list, mut catalogue) = Core::new(alloc, script, modules)?;
-    wait_and_change(rt, alloc, &mut core, &mut list, &mut catalogue)
+    let (mut core, fixed, mut list, mut catalogue) = Core::new(alloc, script, modules)?;
+    wait_and_change(rt, alloc, &mut core, &fixed, &mut list, &mut catalogue)
 }
 
 #[test]

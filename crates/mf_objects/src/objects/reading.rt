@@ -6,7 +6,7 @@ ghost use Rattle.mf_objects.specs.declared.limits.TheConstants.{MOST_ENTITIES};
 ghost use Rattle.mf_elem.specs.declared.label.TheConstants.{SLOTS};
 ghost use Rattle.mf_objects.specs.Head.{head_of};
 ghost use Rattle.mf_objects.specs.Live as live;
-ghost use Rattle.mf_objects.specs.Lives.{is_vnode, is_directory, IsLive, is_from, IsLeast, IsFound, value_at};
+ghost use Rattle.mf_objects.specs.Lives.{is_vnode, is_directory, IsLive, is_from, IsLeast, IsFound, value_at, made_count};
 ghost use Rattle.mf_objects.specs.Population.{IsPopulation};
 ghost use Rattle.mf_objects.specs.Index as index;
 ghost use Rattle.mf_objects.specs.Sound.{shown, IsById};
@@ -195,6 +195,14 @@ impl Objects {
     {
         let place = self.place(id);
         self.zones.value(&self.entities[place].label, slot)
+    }
+
+    /// How many live entities have the slot made.
+    pub fn held(&self, slot: u8) -> u32
+        requires { slot < SLOTS }
+        ensures { result ≡ made_count self.now slot }
+    {
+        self.zones.held(slot)
     }
 
     /// The live entity of this name in a group.

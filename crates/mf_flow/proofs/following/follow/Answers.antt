@@ -1,4 +1,4 @@
-use Rattle.std.proofs.Common.{◌≡◌, ap, sym, subst, map, List, ℕ, Option, Some, None, refl, ◌∙◌}
+use Rattle.std.proofs.Common.{◌≡◌, ap, sym, subst, map, List, ℕ, Option, None, refl, ◌∙◌}
 use Rattle.std.specs.Option.{option_zip}
 use Rattle.std.proofs.lemmas.Result.{on_ok_weaker}
 use Rattle.mf_calls.specs.declared.script.Script.{Script}

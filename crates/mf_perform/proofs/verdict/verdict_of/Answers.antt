@@ -9,7 +9,7 @@ loop-place-preserved g c =
     record {
       counts = omega (arith, c.loop-place.invariant.counts);
       so_far = c.loop-place.invariant.so_far
-          ∙ goes_on c.args.list.now.entries c.loop-place.number c.loop-place.place c.args.plan.now.items c.item.result c.ask-answer.result (omega arith) c.item.ensures
+          ∙ goes_on c.args.list.now c.loop-place.number c.loop-place.place c.args.plan.now.items c.item.result c.ask-answer.result (omega arith) c.item.ensures
           c.ask-answer.ensures c.in-Success.is;
     }
 
@@ -17,5 +17,5 @@ pub returns-in_default : goal.returns-in_default
 returns-in_default g c =
     ap {B = Verdict} (λ (denied : Option Denial). record { denied = denied })
     (sym (c.loop-place.invariant.so_far
-    ∙ stops c.args.list.now.entries c.loop-place.number c.loop-place.place c.args.plan.now.items c.item.result c.ask-answer.result (omega arith) c.item.ensures
+    ∙ stops c.args.list.now c.loop-place.number c.loop-place.place c.args.plan.now.items c.item.result c.ask-answer.result (omega arith) c.item.ensures
     c.ask-answer.ensures c.in_default.not-Success))

@@ -17,18 +17,15 @@ returns-in_ok-claim-in-Setfmac-clause-row c =
 
 pub returns-in_ok-claim-in-Setpipemac-clause-row : goal.returns-in_ok-claim-in-Setpipemac-clause-row
 returns-in_ok-claim-in-Setpipemac-clause-row c =
-    rw c.in-Setpipemac.is (c.on_pipe-in-Setpipemac.ensures.row
+    rw c.in-Setpipemac.is (c.on_named-in-Setpipemac.ensures.row
     ∙ claimed c.args.state.now.specs kinds.Pipe _ _ c.claim-in-Setpipemac.new.asked (straight (or_fail errno.Enoent (pipe_named c.args.state.now.objects c.in-Setpipemac.name))) (on c.args.caller op.PipeRelabel) c.as_str-in-Setpipemac.ensures
     c.claim-in-Setpipemac.ensures.asked c.in_ok-claim-in-Setpipemac.ensures.ok)
 
 pub returns-in_ok-claim-in-Setsockmac-clause-row : goal.returns-in_ok-claim-in-Setsockmac-clause-row
 returns-in_ok-claim-in-Setsockmac-clause-row c =
-    rw c.in-Setsockmac.is (c.on_socket-in-Setsockmac.ensures.row
+    rw c.in-Setsockmac.is (c.on_named-in-Setsockmac.ensures.row
     ∙ claimed c.args.state.now.specs kinds.Socket _ _ c.claim-in-Setsockmac.new.asked (straight (or_fail errno.Enoent (socket_named c.args.state.now.objects c.in-Setsockmac.name))) (on c.args.caller op.SocketRelabel) c.as_str-in-Setsockmac.ensures
     c.claim-in-Setsockmac.ensures.asked c.in_ok-claim-in-Setsockmac.ensures.ok)
 
 pub returns-in-Send-clause-row : goal.returns-in-Send-clause-row
 returns-in-Send-clause-row c = rw c.in-Send.is c.send.ensures.row
-
-pub returns-in-UgidfwSet-clause-row : goal.returns-in-UgidfwSet-clause-row
-returns-in-UgidfwSet-clause-row c = rw (c.in-UgidfwSet.is, c.requires.empty) c.change_rules-in-UgidfwSet.ensures.row

@@ -1,4 +1,4 @@
-use Rattle.std.proofs.Common.{Some, None, Ok, Err, refl, ap, sym, ◌∙◌}
+use Rattle.std.proofs.Common.{None, Ok, refl, ap, sym, ◌∙◌}
 use Rattle.std.specs.Option.{option_copied}
 use Rattle.mf_plan.specs.Ended.{Ended, ended}
 use Rattle.mf_plan.proofs.Finding.{are_found, plan_by, planned}

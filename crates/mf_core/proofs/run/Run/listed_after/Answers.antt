@@ -1,4 +1,4 @@
-use Rattle.std.proofs.Common.{◌≡◌, ap, sym, ◌∙◌}
+use Rattle.std.proofs.Common.{ap, sym, ◌∙◌}
 use Rattle.mf_objects.specs.declared.id.Id.{Id}
 use Rattle.mf_plan.specs.declared.state.State.{State}
 use Rattle.mf_perform.specs.Effect.{after}

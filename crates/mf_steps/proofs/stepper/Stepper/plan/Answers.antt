@@ -13,11 +13,11 @@ invariant_of-self g c =
     let lt : c.args.task < length c.self.inside.core.script.tasks = subst (λ (r : StepperView). c.args.task < length r.core.script.tasks) (sym c.self.view_is) c.requires.task in
     let here : c.args.task < length c.self.inside.kept = omega (arith, lt, c.self.invariant.places) in
     let turn_is : turn_at c.self.inside.core c.args.task ≡ turn.Entered = subst (λ (r : StepperView). turn_at r.core c.args.task ≡ turn.Entered) (sym c.self.view_is) c.requires.turn in
-    subst (λ kept. IsSound c.self.inside.script.now c.self.inside.core c.self.inside.list c.self.inside.catalogue kept) (sym c.keep.ensures)
-    (sound_kept c.self.inside.script.now c.self.inside.list c.self.inside.catalogue c.self.inside.core c.args.task c.self.inside.kept
+    subst (λ kept. IsSound c.self.inside.script.now c.self.inside.core c.self.inside.fixed c.self.inside.list c.self.inside.catalogue kept) (sym c.keep.ensures)
+    (sound_kept c.self.inside.script.now c.self.inside.fixed c.self.inside.list c.self.inside.catalogue c.self.inside.core c.args.task c.self.inside.kept
     (record { plan = c.plan.new.plan; verdict = c.walk-verdict.result }) c.self.invariant here
     (record {
-      verdict = c.walk-verdict.ensures ∙ ap (λ entries. verdict_of entries c.plan.new.plan) c.self.invariant.policies.listed;
+      verdict = c.walk-verdict.ensures ∙ ap (λ entries. verdict_of entries c.plan.new.plan) (c.new-listed.ensures.entries ∙ c.self.invariant.policies.listed);
       entered = phase_entered c.self.inside.core c.args.task turn_is;
     }))
 
@@ -26,4 +26,4 @@ returns-clause-does g c =
     let inside : StepperView = record { core = c.self.inside.core; kept = c.self.inside.kept } in
     subst (λ (old : StepperView). KeepsPlan old.core.script (step_run old) c.args.task [] (step_run (record inside { kept = c.keep.new.self }))) c.self.view_is
     (planned inside c.args.task c.plan.new.plan c.walk-verdict.result c.keep.new.self c.plan.ensures
-    (c.walk-verdict.ensures ∙ ap (λ entries. verdict_of entries c.plan.new.plan) c.self.invariant.policies.listed) c.keep.ensures)
+    (c.walk-verdict.ensures ∙ ap (λ entries. verdict_of entries c.plan.new.plan) (c.new-listed.ensures.entries ∙ c.self.invariant.policies.listed)) c.keep.ensures)

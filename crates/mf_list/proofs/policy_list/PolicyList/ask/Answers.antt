@@ -1,5 +1,0 @@
-use Rattle.std.proofs.Common.{rules}
-use Rattle.mf_list.proofs.policy_list.PolicyList.ask.Goals as goal
-
-pub returns-in-Priv : goal.returns-in-Priv
-returns-in-Priv g c = search rules

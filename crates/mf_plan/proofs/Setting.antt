@@ -1,0 +1,31 @@
+-- How a call ends that changes a setting.
+use Rattle.std.proofs.Common.{◌≡◌, ℕ, true, List, Option, refl, ap, ◌∙◌}
+use Rattle.mf_errno.specs.declared.module.Module.{Module}
+use Rattle.mf_objects.specs.declared.id.Id.{Id}
+use Rattle.mf_policy.specs.declared.settings.Change.{Change}
+use Rattle.mf_calls.specs.declared.script.Call.{Call}
+use Rattle.mf_calls.specs.declared.script.Call.TheVariants as call
+use Rattle.mf_plan.specs.declared.reply.Payload.TheVariants as payload
+use Rattle.mf_plan.specs.declared.state.State.{State}
+use Rattle.mf_plan.specs.Ended.{Ended, end_by, end_of}
+use Rattle.mf_plan.specs.Found.{is_setting, setting_at}
+use Rattle.mf_plan.specs.Row.{through}
+use Rattle.mf_plan.specs.Rows.{about_of, set}
+use Rattle.mf_plan.specs.Ways.{look_up}
+use Rattle.mf_plan.specs.Ways.Place.{Setting}
+
+module _ (s : State) (task : List ℕ) (me : Id) where
+  -- the end of such a call goes by its place, whatever it hands back
+  abbrev end_at : Option Module × Option Change → Ended
+  end_at setting = end_of (through (look_up s me (Setting setting.0 setting.1)) (set s payload.None))
+
+  by_place : (c : Call) → is_setting (about_of s task me c).place ≡ true → end_at (setting_at (about_of s task me c).place) ≡ end_by s task me c
+  by_place (call.Sysctl name value) is = refl
+  by_place (call.UgidfwAdd rule) is = refl
+  by_place (call.UgidfwSet n rule) is = refl
+  by_place (call.UgidfwRemove n) is = refl
+  by_place other is = cc
+
+  pub ends : (c : Call) (setting : Option Module × Option Change) → is_setting (about_of s task me c).place ≡ true → setting ≡ setting_at (about_of s task me c).place
+      → end_at setting ≡ end_by s task me c
+  ends c setting is same = ap end_at same ∙ by_place c is
