@@ -4,6 +4,7 @@ use Rattle.mf_elem.specs.declared.elem.TheConstants.{LAST_GRADE}
 use Rattle.mf_elem.specs.declared.label.TheConstants.{LAST_PARTITION}
 use Rattle.mf_elem.specs.declared.elem.Elem.{Elem}
 use Rattle.mf_elem.specs.declared.elem.Elem.TheVariants.{Grade}
+use Rattle.mf_elem.specs.Elem.{is_plain}
 use Rattle.mf_elem.specs.declared.label.RangeLabel.{RangeLabel}
 use Rattle.mf_elem.specs.declared.label.Request.{Request}
 
@@ -23,8 +24,9 @@ pub record IsAskedLabel (label : RangeLabel) : Type 0 where
   pub range : IfSome label.range (λ ends. IsElement ends.0 × IsElement ends.1)
   pub not_empty : (is_some label.effective || is_some label.range) ≡ true
 
--- a request that it can spell: such labels, and a partition that there can be
+-- a request that it can spell: such labels, one without compartments for mac_lomac, and a partition that there can be
 pub record IsRequest (request : Request) : Type 0 where
   pub biba : IfSome request.biba IsAskedLabel
   pub mls : IfSome request.mls IsAskedLabel
+  pub lomac : IfSome request.lomac (λ element. IsElement element × (is_plain element ≡ true))
   pub partition : IfSome request.partition (λ n. n ≤ LAST_PARTITION)

@@ -19,6 +19,11 @@ abbrev pub is_equal : Elem → Bool
 is_equal Equal = true
 is_equal other = false
 
+-- whether an element has no compartments, as those of mac_lomac
+abbrev pub is_plain : Elem → Bool
+is_plain (Grade grade comps) = set.is_subset (compartments_of comps) set.empty
+is_plain other = true
+
 -- Whether two elements are of the same level: each dominates the other, as where one is equal, or they are the same, their compartments too.
 abbrev pub same_level : Elem → Elem → Bool
 same_level a b = dominates a b && dominates b a

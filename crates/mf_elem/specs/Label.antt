@@ -1,9 +1,9 @@
 -- What a range label says of its subject, which label is valid, and what a label text can ask for: ranges and the privilege of a subject are those
 -- of mac_biba(4) and mac_mls(4).
 use Rattle.std.specs.Option.{option_map_or, option_or}
-use Rattle.std.specs.Prelude.{Bool, true, false, ◌||◌, Option, Some, None}
+use Rattle.std.specs.Prelude.{Bool, true, false, ◌&&◌, ◌||◌, Option, Some, None, is_none}
 pub use Rattle.mf_elem.specs.Elem.{is_equal}
-use Rattle.mf_elem.specs.Elem.{in_range, range_in_range}
+use Rattle.mf_elem.specs.Elem.{in_range, is_plain, range_in_range}
 use Rattle.mf_elem.specs.declared.elem.Elem.{Elem}
 use Rattle.mf_elem.specs.declared.elem.Elem.TheVariants.{Low, High}
 use Rattle.mf_elem.specs.declared.label.RangeLabel.{RangeLabel}
@@ -25,9 +25,17 @@ is_privileged label = has_equal label || option_map_or (λ ends. range_in_range 
 abbrev pub is_valid : RangeLabel → Bool
 is_valid label = option_map_or (λ element. option_map_or (λ ends. in_range element ends.0 ends.1) label.range true) label.effective false
 
+-- the label with an effective element and no range
+abbrev pub element_alone : Elem → RangeLabel
+element_alone element = record { effective = Some element; range = None }
+
+-- a label of mac_lomac: an element without compartments, and no range
+abbrev pub is_plain_label : RangeLabel → Bool
+is_plain_label label = option_map_or is_plain label.effective false && is_none label.range
+
 -- the request that names no policy
 abbrev pub no_request : Request
-no_request = record { biba = None; mls = None; partition = None; other = false }
+no_request = record { biba = None; mls = None; lomac = None; partition = None; other = false }
 
 -- the label with the parts that are given in place of its own
 abbrev pub replaced : RangeLabel → Option RangeLabel → RangeLabel

@@ -7,8 +7,9 @@ use crate::Comps;
 /// The greatest grade.
 pub const LAST_GRADE: u16 = 65535;
 
-/// An element of a Biba or MLS label, as maclabel(7) writes it: `low`, `high`, `equal`, or a grade with its compartments.
-/// The order is that of integrity in mac_biba(4) and of sensitivity in mac_mls(4).
+/// An element of a Biba, MLS or LOMAC label, as maclabel(7) writes it: `low`, `high`, `equal`, or a grade with its
+/// compartments, of which LOMAC has none. The order is that of integrity in mac_biba(4) and mac_lomac(4) and of
+/// sensitivity in mac_mls(4).
 #[derive(Clone, Copy, PartialEq, Eq, Debug)]
 pub enum Elem {
     /// Below every grade, the grade 0 without compartments too.
@@ -46,6 +47,16 @@ pub fn same_level(a: &Elem, b: &Elem) -> bool
             *grade == *other && comps.contains(others) && others.contains(comps)
         }
         _ => false,
+    }
+}
+
+/// Whether the element has no compartments, as those of mac_lomac.
+pub fn is_plain(e: &Elem) -> bool
+    ensures { result ≡ spec.is_plain e.now }
+{
+    match e {
+        Elem::Grade(_, comps) => Comps::empty().contains(comps),
+        _ => true,
     }
 }
 

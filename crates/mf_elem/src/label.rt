@@ -13,8 +13,8 @@ pub const SLOTS: usize = 4;
 /// The greatest partition number that a label text can name.
 pub const LAST_PARTITION: u32 = 2_147_483_647;
 
-/// A Biba or MLS label: the effective element, and the range of elements that a subject may take, low end first. In a
-/// request either may be missing.
+/// A label of Biba, MLS or LOMAC: the effective element, and the range of elements that a subject may take, low end
+/// first. In a request either may be missing; LOMAC has no range.
 #[derive(Clone, Copy, PartialEq, Eq, Debug)]
 pub struct RangeLabel {
     pub effective: Option<Elem>,
@@ -26,7 +26,7 @@ pub struct RangeLabel {
 pub enum LabelValue {
     /// Not initialised.
     Unset,
-    /// A label of Biba or MLS.
+    /// A label of Biba, MLS or LOMAC.
     Range(RangeLabel),
     /// A partition number of mac_partition; 0 is no partition.
     Number(u32),
@@ -45,9 +45,11 @@ impl Default for LabelValue {
 pub struct Request {
     pub biba: Option<RangeLabel>,
     pub mls: Option<RangeLabel>,
+    /// An element without compartments.
+    pub lomac: Option<Elem>,
     /// A partition number; 0 asks for no partition.
     pub partition: Option<u32>,
-    /// Whether the text names a policy beside these three.
+    /// Whether the text names a policy beside these four.
     pub other: bool,
 }
 
@@ -59,6 +61,7 @@ impl Request {
         Request {
             biba: None,
             mls: None,
+            lomac: None,
             partition: None,
             other: false,
         }
@@ -70,6 +73,7 @@ impl Request {
     {
         same_part(&self.biba, &other.biba)
             && same_part(&self.mls, &other.mls)
+            && self.lomac == other.lomac
             && self.partition == other.partition
             && self.other == other.other
     }
@@ -117,7 +121,7 @@ fn has_equal_end(range: &Option<(Elem, Elem)>) -> bool
 impl RangeLabel {
     /// A label with an effective element alone, as objects have it.
     pub fn effective(element: Elem) -> RangeLabel
-        ensures { result ≡ record { effective = Some element; range = None } }
+        ensures { result ≡ spec.element_alone element }
     {
         RangeLabel {
             effective: Some(element),

@@ -4,7 +4,7 @@ use Rattle.std.specs.Str.{bytes_eq}
 use Rattle.mf_errno.specs.declared.errno.Errno.{Errno}
 use Rattle.mf_errno.specs.declared.errno.Errno.TheVariants.{Success, Eperm, Enoent, Esrch, Edeadlk, Enomem, Eacces, Ebusy, Eexist, Enotdir, Eisdir, Einval, Enfile, Efbig, Eagain, Enobufs, Enotempty}
 use Rattle.mf_errno.specs.declared.module.Module.{Module}
-use Rattle.mf_errno.specs.declared.module.Module.TheVariants.{Biba, Mls, Partition, Bsdextended, Priority}
+use Rattle.mf_errno.specs.declared.module.Module.TheVariants.{Biba, Mls, Lomac, Partition, Bsdextended, Priority}
 
 -- the name that a history prints
 abbrev pub text_of : Errno → List ℕ
@@ -34,6 +34,7 @@ all_errors = Success ∷ Eperm ∷ Enoent ∷ Esrch ∷ Edeadlk ∷ Enomem ∷ E
 abbrev pub policy_text : Module → List ℕ
 policy_text Biba = codes "biba"
 policy_text Mls = codes "mls"
+policy_text Lomac = codes "lomac"
 policy_text Partition = codes "partition"
 policy_text Bsdextended = codes "bsdextended"
 policy_text Priority = codes "priority"
@@ -43,7 +44,7 @@ module_text m = codes "mac_" ++ policy_text m
 
 -- all of them
 abbrev pub all_modules : List Module
-all_modules = Biba ∷ Mls ∷ Partition ∷ Bsdextended ∷ Priority ∷ []
+all_modules = Biba ∷ Mls ∷ Lomac ∷ Partition ∷ Bsdextended ∷ Priority ∷ []
 
 -- the module of that name
 unfoldable pub module_named : List ℕ → Option Module

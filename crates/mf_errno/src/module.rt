@@ -10,6 +10,7 @@ use std::fmt;
 pub enum Module {
     Biba,
     Mls,
+    Lomac,
     Partition,
     Bsdextended,
     Priority,
@@ -17,12 +18,13 @@ pub enum Module {
 
 impl Module {
     /// Every module.
-    pub fn all() -> [Module; 5]
+    pub fn all() -> [Module; 6]
         ensures { result ≡ all_modules }
     {
         [
             Module::Biba,
             Module::Mls,
+            Module::Lomac,
             Module::Partition,
             Module::Bsdextended,
             Module::Priority,
@@ -36,6 +38,7 @@ impl Module {
         match self {
             Module::Biba => "mac_biba",
             Module::Mls => "mac_mls",
+            Module::Lomac => "mac_lomac",
             Module::Partition => "mac_partition",
             Module::Bsdextended => "mac_bsdextended",
             Module::Priority => "mac_priority",
@@ -50,6 +53,7 @@ impl Module {
         match name {
             "mac_biba" => Some(Module::Biba),
             "mac_mls" => Some(Module::Mls),
+            "mac_lomac" => Some(Module::Lomac),
             "mac_partition" => Some(Module::Partition),
             "mac_bsdextended" => Some(Module::Bsdextended),
             "mac_priority" => Some(Module::Priority),
