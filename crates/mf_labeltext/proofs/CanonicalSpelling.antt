@@ -1,15 +1,17 @@
 -- The canonical text of parts spells them.
-use Rattle.std.proofs.Common.{◌≡◌, ℕ, ◌^◌, ◌<◌, ◌≤◌, true, false, cond, eqb, List, [], ◌∷◌, ◌++◌, map, Option, Some, None, refl, sym, subst, arith, inl, inr, append-nil, lit<, codes, is_some, ◌||◌, IfSome}
+use Rattle.std.proofs.Common.{◌≡◌, ℕ, ◌^◌, ◌<◌, ◌≤◌, true, false, cond, eqb, List, [], ◌∷◌, ◌++◌, map, Option, Some, None, refl, sym, ap, subst, arith, inl, inr, append-nil, lit<, codes, is_some, ◌||◌, IfSome}
 use Rattle.std.proofs.lemmas.Bool.{eqb-true}
 use Rattle.std.proofs.lemmas.Fmt.{decimal_is_IsNumeral}
 use Rattle.std.specs.List.{list_all, AllByRecursion, join_with_byte}
 use Rattle.std.specs.Fmt.{decimal}
 use Rattle.std.specs.FinSet as set
 use Rattle.mf_errno.specs.declared.module.Module.{Module}
-use Rattle.mf_errno.specs.declared.module.Module.TheVariants.{Biba, Mls, Partition}
+use Rattle.mf_errno.specs.declared.module.Module.TheVariants.{Biba, Mls, Lomac, Partition}
 use Rattle.mf_elem.specs.Comps.{rising}
 use Rattle.mf_elem.specs.OfSets.{comps_of}
 use Rattle.mf_elem.specs.Bounds.{IsElement, IsAskedLabel}
+use Rattle.mf_elem.specs.Elem.{is_plain}
+use Rattle.mf_elem.specs.Label.{is_plain_label}
 use Rattle.mf_elem.specs.declared.comps.Comps.{Comps}
 use Rattle.mf_elem.specs.declared.elem.Elem.{Elem}
 use Rattle.mf_elem.specs.declared.elem.Elem.TheVariants.{Low, High, Equal, Grade}
@@ -18,11 +20,11 @@ use Rattle.mf_elem.specs.declared.label.LabelValue.{LabelValue}
 use Rattle.mf_elem.specs.declared.label.LabelValue.TheVariants.{Unset, Range, Number}
 use Rattle.mf_elem.specs.declared.label.Request.{Request}
 use Rattle.std.specs.Option.{option_map_or}
-use Rattle.mf_labeltext.specs.LabelGrammar.{SpellsNumber, SpellEach, SpellsGrade, SpellsElem, SpellsParts, SpellsLabel, SpellsPartition, IsName, SpellsElement}
+use Rattle.mf_labeltext.specs.LabelGrammar.{SpellsNumber, SpellEach, SpellsGrade, SpellsElem, SpellsParts, SpellsLabel, SpellsPlain, SpellsPartition, IsName, SpellsElement}
 use Rattle.mf_labeltext.specs.Canonical.{comps_text, elem_text, range_text, label_text, value_text, element_text}
-use Rattle.mf_labeltext.specs.RoundTrip.{range_of, number_of, IsValueOf}
+use Rattle.mf_labeltext.specs.RoundTrip.{range_of, element_of, number_of, IsValueOf}
 use Rattle.mf_labeltext.proofs.Cutting.{IsFree}
-use Rattle.mf_labeltext.proofs.Spelling.{elem_inner, inner_free}
+use Rattle.mf_labeltext.proofs.Spelling.{each_true, elem_inner, inner_free}
 use Rattle.mf_labeltext.proofs.Requests.{name_bytes_are, is_policy_name_byte}
 use Rattle.mf_labeltext.proofs.Rising.{IsCompartment, rising_again, rising_are}
 
@@ -73,6 +75,14 @@ parts_spell (Some element) (Some range) one ends some =
 label_text_spells : (label : RangeLabel) → IsAskedLabel label → SpellsLabel (label_text label) label
 label_text_spells label is = parts_spell label.effective label.range is.effective is.range is.not_empty
 
+-- ---- the value of lomac
+plain_spells : (effective : Option Elem) (range : Option (Elem × Elem)) → IfSome effective IsElement → is_plain_label (record { effective = effective; range = range }) ≡ true
+    → (element : Elem) × SpellsPlain (effective_text effective ++ range_text range) element × (effective ≡ Some element)
+plain_spells None range one plain = absurd cc
+plain_spells (Some element) None one plain =
+    (element, (subst (λ text. SpellsElem text element) (sym (append-nil (elem_text element))) (elem_text_spells element one), (each_true (is_plain element) true plain).0), refl)
+plain_spells (Some element) (Some ends) one plain = absurd (let ranged = (each_true (is_plain element) false plain).1 in cc)
+
 -- ---- the value of partition
 abbrev pub partition_text : ℕ → List ℕ
 partition_text n = value_text (Number n)
@@ -88,6 +98,7 @@ partition_spells n fits =
 unfoldable pub with_value : Request → Module → LabelValue → Request
 with_value before Biba value = record before { biba = range_of (Some value) }
 with_value before Mls value = record before { mls = range_of (Some value) }
+with_value before Lomac value = record before { lomac = element_of (Some value) }
 with_value before Partition value = record before { partition = number_of (Some value) }
 with_value before policy value = before
 
@@ -104,11 +115,21 @@ element_spells Mls Unset before is = absurd is
 element_spells Mls (Range label) before is =
     (codes "mls", label_text label, refl, name_is 109 (108 ∷ 115 ∷ []) refl, inr (inl (refl, label, label_text_spells label is, refl)))
 element_spells Mls (Number n) before is = absurd is
+element_spells Lomac Unset before is = absurd is
+element_spells Lomac (Range label) before is =
+    let plain = plain_spells label.effective label.range is.0.effective is.1 in (
+      codes "lomac",
+      label_text label,
+      refl,
+      name_is 108 (111 ∷ 109 ∷ 97 ∷ 99 ∷ []) refl,
+      inr (inr (inl (refl, plain.0, plain.1, ap (λ effective. record before { lomac = effective }) plain.2))),
+    )
+element_spells Lomac (Number n) before is = absurd is
 element_spells Partition Unset before is =
-    (codes "partition", codes "none", refl, name_is 112 (97 ∷ 114 ∷ 116 ∷ 105 ∷ 116 ∷ 105 ∷ 111 ∷ 110 ∷ []) refl, inr (inr (inl (refl, 0, inl (refl, refl), refl))))
+    (codes "partition", codes "none", refl, name_is 112 (97 ∷ 114 ∷ 116 ∷ 105 ∷ 116 ∷ 105 ∷ 111 ∷ 110 ∷ []) refl, inr (inr (inr (inl (refl, 0, inl (refl, refl), refl)))))
 element_spells Partition (Range label) before is = absurd is
 element_spells Partition (Number n) before is =
-    (codes "partition", partition_text n, refl, name_is 112 (97 ∷ 114 ∷ 116 ∷ 105 ∷ 116 ∷ 105 ∷ 111 ∷ 110 ∷ []) refl, inr (inr (inl (refl, n, partition_spells n is, refl))))
+    (codes "partition", partition_text n, refl, name_is 112 (97 ∷ 114 ∷ 116 ∷ 105 ∷ 116 ∷ 105 ∷ 111 ∷ 110 ∷ []) refl, inr (inr (inr (inl (refl, n, partition_spells n is, refl)))))
 element_spells other value before is = absurd is
 
 -- ---- no comma stands in an element

@@ -24,8 +24,9 @@ err_is x y is = cc
 asks_too : (name value : List ℕ) (one after other : Request) → Asks name value one after → (next : Request) × Asks name value other next
 asks_too name value one after other (inl biba) = (record other { biba = Some biba.1 }, inl (biba.0, biba.1, biba.2, refl))
 asks_too name value one after other (inr (inl mls)) = (record other { mls = Some mls.1 }, inr (inl (mls.0, mls.1, mls.2, refl)))
-asks_too name value one after other (inr (inr (inl partition))) = (record other { partition = Some partition.1 }, inr (inr (inl (partition.0, partition.1, partition.2, refl))))
-asks_too name value one after other (inr (inr (inr others))) = (record other { other = true }, inr (inr (inr (others.0, refl))))
+asks_too name value one after other (inr (inr (inl lomac))) = (record other { lomac = Some lomac.1 }, inr (inr (inl (lomac.0, lomac.1, lomac.2, refl))))
+asks_too name value one after other (inr (inr (inr (inl partition)))) = (record other { partition = Some partition.1 }, inr (inr (inr (inl (partition.0, partition.1, partition.2, refl)))))
+asks_too name value one after other (inr (inr (inr (inr others)))) = (record other { other = true }, inr (inr (inr (inr (others.0, refl)))))
 
 spells_too : (element : List ℕ) (one after other : Request) → SpellsElement element one after → (next : Request) × SpellsElement element other next
 spells_too element one after other spells =

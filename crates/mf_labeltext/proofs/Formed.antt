@@ -1,10 +1,11 @@
 -- What a label text asks for is of the ranges that there are.
-use Rattle.std.proofs.Common.{◌≡◌, ℕ, ◌≤◌, List, [], ◌∷◌, Option, Some, None, Result, Ok, Err, IfOk, refl, sym, subst, arith, inl, inr}
+use Rattle.std.proofs.Common.{◌≡◌, ℕ, ◌≤◌, true, List, [], ◌∷◌, Option, Some, None, Result, Ok, Err, IfOk, refl, sym, subst, arith, inl, inr}
 use Rattle.std.specs.FinSet as set
 use Rattle.std.specs.FinSet.{FinSet}
 use Rattle.std.specs.Ordering.{nat_cmp}
 use Rattle.mf_elem.specs.OfSets.{comps_of}
 use Rattle.mf_elem.specs.Bounds.{AreWords, IsElement, IsAskedLabel, IsRequest}
+use Rattle.mf_elem.specs.Elem.{is_plain}
 use Rattle.mf_elem.specs.Label.{no_request}
 use Rattle.mf_elem.specs.declared.comps.Comps.{Comps}
 use Rattle.mf_elem.specs.declared.elem.Elem.{Elem}
@@ -12,7 +13,7 @@ use Rattle.mf_elem.specs.declared.elem.Elem.TheVariants.{Low, High, Equal, Grade
 use Rattle.mf_elem.specs.declared.label.RangeLabel.{RangeLabel}
 use Rattle.mf_elem.specs.declared.label.Request.{Request}
 use Rattle.mf_elem.proofs.CompsLaws.{set_are_words}
-use Rattle.mf_labeltext.specs.LabelGrammar.{SpellsElem, SpellsParts, SpellsLabel, SpellsPartition, Asks, SpellElements, Spells}
+use Rattle.mf_labeltext.specs.LabelGrammar.{SpellsElem, SpellsParts, SpellsLabel, SpellsPlain, SpellsPartition, Asks, SpellElements, Spells}
 use Rattle.mf_labeltext.specs.declared.fault.LabelFault.{LabelFault}
 
 -- ---- compartments
@@ -38,16 +39,21 @@ parts_formed text (Some element) (Some ends) spells =
 label_formed : (text : List ℕ) (label : RangeLabel) → SpellsLabel text label → IsAskedLabel label
 label_formed text label spells = parts_formed text label.effective label.range spells
 
+plain_formed : (text : List ℕ) (element : Elem) → SpellsPlain text element → IsElement element × (is_plain element ≡ true)
+plain_formed text element spells = (elem_formed text element spells.0, spells.1)
+
 partition_formed : (text : List ℕ) (n : ℕ) → SpellsPartition text n → n ≤ 2147483647
 partition_formed text n (inl none) = let zero : n ≡ 0 = none.1 in omega (arith, zero)
 partition_formed text n (inr spells) = spells.below
 
 -- ---- one element after another
 asked_formed : (name value : List ℕ) (before after : Request) → IsRequest before → Asks name value before after → IsRequest after
-asked_formed name value before after is (inl biba) = subst IsRequest (sym biba.3) (record { biba = label_formed value biba.1 biba.2; mls = is.mls; partition = is.partition })
-asked_formed name value before after is (inr (inl mls)) = subst IsRequest (sym mls.3) (record { biba = is.biba; mls = label_formed value mls.1 mls.2; partition = is.partition })
-asked_formed name value before after is (inr (inr (inl partition))) = subst IsRequest (sym partition.3) (record { biba = is.biba; mls = is.mls; partition = partition_formed value partition.1 partition.2 })
-asked_formed name value before after is (inr (inr (inr other))) = subst IsRequest (sym other.1) (record { biba = is.biba; mls = is.mls; partition = is.partition })
+asked_formed name value before after is (inl biba) = subst IsRequest (sym biba.3) (record { biba = label_formed value biba.1 biba.2; mls = is.mls; lomac = is.lomac; partition = is.partition })
+asked_formed name value before after is (inr (inl mls)) = subst IsRequest (sym mls.3) (record { biba = is.biba; mls = label_formed value mls.1 mls.2; lomac = is.lomac; partition = is.partition })
+asked_formed name value before after is (inr (inr (inl lomac))) = subst IsRequest (sym lomac.3) (record { biba = is.biba; mls = is.mls; lomac = plain_formed value lomac.1 lomac.2; partition = is.partition })
+asked_formed name value before after is (inr (inr (inr (inl partition)))) =
+    subst IsRequest (sym partition.3) (record { biba = is.biba; mls = is.mls; lomac = is.lomac; partition = partition_formed value partition.1 partition.2 })
+asked_formed name value before after is (inr (inr (inr (inr other)))) = subst IsRequest (sym other.1) (record { biba = is.biba; mls = is.mls; lomac = is.lomac; partition = is.partition })
 
 elements_formed : (elements : List (List ℕ)) (before after : Request) → IsRequest before → SpellElements elements before after → IsRequest after
 elements_formed [] before after is spell = subst IsRequest spell is
@@ -57,7 +63,7 @@ elements_formed (element ∷ elements) before after is spell =
 
 -- ---- whole texts
 pub spelled_is_request : (text : List ℕ) (request : Request) → Spells text request → IsRequest request
-spelled_is_request text request spells = elements_formed spells.elements no_request request (record { biba = tt; mls = tt; partition = tt }) spells.each
+spelled_is_request text request spells = elements_formed spells.elements no_request request (record { biba = tt; mls = tt; lomac = tt; partition = tt }) spells.each
 
 pub read_is_request : (read : Result Request LabelFault) (text : List ℕ) → ((request : Request) → read ≡ Ok request → Spells text request) → IfOk read IsRequest
 read_is_request (Ok request) text spells = spelled_is_request text request (spells request refl)

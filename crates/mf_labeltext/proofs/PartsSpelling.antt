@@ -3,7 +3,8 @@ use Rattle.std.proofs.Common.{◌≡◌, ◌≢◌, ℕ, ◌≤◌, true, false,
 use Rattle.std.specs.List.{AllByRecursion, join_with_byte}
 use Rattle.mf_errno.specs.Same.{same_module}
 use Rattle.mf_errno.specs.declared.module.Module.{Module}
-use Rattle.mf_errno.specs.declared.module.Module.TheVariants.{Biba, Mls, Partition}
+use Rattle.mf_errno.specs.declared.module.Module.TheVariants.{Biba, Mls, Lomac, Partition}
+use Rattle.mf_elem.specs.declared.elem.Elem.{Elem}
 use Rattle.mf_elem.specs.declared.label.RangeLabel.{RangeLabel}
 use Rattle.mf_elem.specs.declared.label.LabelValue.{LabelValue}
 use Rattle.mf_elem.specs.declared.label.LabelValue.TheVariants.{Unset, Range, Number}
@@ -11,7 +12,7 @@ use Rattle.mf_elem.specs.declared.label.Request.{Request}
 use Rattle.mf_labeltext.specs.LabelGrammar.{SpellElements, HasNoComma, Spells}
 use Rattle.mf_elem.specs.Label.{no_request}
 use Rattle.mf_labeltext.specs.Canonical.{label_text, element_text, parts_of, in_order, elements_text, canonical_label}
-use Rattle.mf_labeltext.specs.RoundTrip.{value_of, range_of, number_of, request_of, IsValueOf, IsPart, AreParts}
+use Rattle.mf_labeltext.specs.RoundTrip.{value_of, range_of, element_of, number_of, request_of, IsValueOf, IsPart, AreParts}
 use Rattle.mf_labeltext.proofs.Cutting.{IsFree}
 use Rattle.mf_labeltext.proofs.Spelling.{inner_free, partition_inner}
 use Rattle.mf_labeltext.proofs.CanonicalSpelling.{with_value, element_spells, free_both, label_free, partition_spells, partition_text}
@@ -33,6 +34,9 @@ element_free Biba (Number n) is = absurd is
 element_free Mls Unset is = absurd is
 element_free Mls (Range label) is = free_both (codes "mls/") (label_text label) (inner_free 44 (codes "mls/") refl refl) (label_free label is)
 element_free Mls (Number n) is = absurd is
+element_free Lomac Unset is = absurd is
+element_free Lomac (Range label) is = free_both (codes "lomac/") (label_text label) (inner_free 44 (codes "lomac/") refl refl) (label_free label is.0)
+element_free Lomac (Number n) is = absurd is
 element_free Partition Unset is = inner_free 44 (codes "partition/none") refl refl
 element_free Partition (Range label) is = absurd is
 element_free Partition (Number n) is = free_both (codes "partition/") (partition_text n) (inner_free 44 (codes "partition/") refl refl) (partition_free n is)
@@ -87,85 +91,115 @@ first_of policy (part ∷ parts) =
       | false ↦ first_of policy parts
     ]
 
--- what was asked for of the three policies
-abbrev asking : Option RangeLabel → Option RangeLabel → Option ℕ → Request
-asking biba mls partition = record { biba = biba; mls = mls; partition = partition; other = false }
+-- what was asked for of the four policies
+abbrev asking : Option RangeLabel → Option RangeLabel → Option Elem → Option ℕ → Request
+asking biba mls lomac partition = record { biba = biba; mls = mls; lomac = lomac; partition = partition; other = false }
 
-with_biba : (policy : Module) (value : LabelValue) → same_module Biba policy ≡ true → with_value no_request policy value ≡ asking (range_of (Some value)) None None
+with_biba : (policy : Module) (value : LabelValue) → same_module Biba policy ≡ true → with_value no_request policy value ≡ asking (range_of (Some value)) None None None
 unfolding with_value
 with_biba Biba value same = refl
 with_biba other value same = absurd cc
 
-with_mls : (biba : Option RangeLabel) (policy : Module) (value : LabelValue) → same_module Mls policy ≡ true → with_value (asking biba None None) policy value ≡ asking biba (range_of (Some value)) None
+with_mls : (biba : Option RangeLabel) (policy : Module) (value : LabelValue) → same_module Mls policy ≡ true → with_value (asking biba None None None) policy value ≡ asking biba (range_of (Some value)) None None
 unfolding with_value
 with_mls biba Mls value same = refl
 with_mls biba other value same = absurd cc
 
-with_partition : (biba mls : Option RangeLabel) (policy : Module) (value : LabelValue) → same_module Partition policy ≡ true
-    → with_value (asking biba mls None) policy value ≡ asking biba mls (number_of (Some value))
+with_lomac : (biba mls : Option RangeLabel) (policy : Module) (value : LabelValue) → same_module Lomac policy ≡ true
+    → with_value (asking biba mls None None) policy value ≡ asking biba mls (element_of (Some value)) None
 unfolding with_value
-with_partition biba mls Partition value same = refl
-with_partition biba mls other value same = absurd cc
+with_lomac biba mls Lomac value same = refl
+with_lomac biba mls other value same = absurd cc
 
-after_biba : (parts : Parts) → AreOf Biba parts → length parts ≤ 1 → asked_after no_request parts ≡ asking (range_of (first_value parts)) None None
+with_partition : (biba mls : Option RangeLabel) (lomac : Option Elem) (policy : Module) (value : LabelValue) → same_module Partition policy ≡ true
+    → with_value (asking biba mls lomac None) policy value ≡ asking biba mls lomac (number_of (Some value))
+unfolding with_value
+with_partition biba mls lomac Partition value same = refl
+with_partition biba mls lomac other value same = absurd cc
+
+after_biba : (parts : Parts) → AreOf Biba parts → length parts ≤ 1 → asked_after no_request parts ≡ asking (range_of (first_value parts)) None None None
 unfolding asked_after
 after_biba [] are once = refl
 after_biba (part ∷ []) are once = with_biba part.0 part.1 are.0.0
 after_biba (part ∷ next ∷ parts) are once = absurd (omega arith)
 
-after_mls : (biba : Option RangeLabel) (parts : Parts) → AreOf Mls parts → length parts ≤ 1 → asked_after (asking biba None None) parts ≡ asking biba (range_of (first_value parts)) None
+after_mls : (biba : Option RangeLabel) (parts : Parts) → AreOf Mls parts → length parts ≤ 1 → asked_after (asking biba None None None) parts ≡ asking biba (range_of (first_value parts)) None None
 unfolding asked_after
 after_mls biba [] are once = refl
 after_mls biba (part ∷ []) are once = with_mls biba part.0 part.1 are.0.0
 after_mls biba (part ∷ next ∷ parts) are once = absurd (omega arith)
 
-after_partition : (biba mls : Option RangeLabel) (parts : Parts) → AreOf Partition parts → length parts ≤ 1 → asked_after (asking biba mls None) parts ≡ asking biba mls (number_of (first_value parts))
+after_lomac : (biba mls : Option RangeLabel) (parts : Parts) → AreOf Lomac parts → length parts ≤ 1 → asked_after (asking biba mls None None) parts ≡ asking biba mls (element_of (first_value parts)) None
 unfolding asked_after
-after_partition biba mls [] are once = refl
-after_partition biba mls (part ∷ []) are once = with_partition biba mls part.0 part.1 are.0.0
-after_partition biba mls (part ∷ next ∷ parts) are once = absurd (omega arith)
+after_lomac biba mls [] are once = refl
+after_lomac biba mls (part ∷ []) are once = with_lomac biba mls part.0 part.1 are.0.0
+after_lomac biba mls (part ∷ next ∷ parts) are once = absurd (omega arith)
+
+after_partition : (biba mls : Option RangeLabel) (lomac : Option Elem) (parts : Parts) → AreOf Partition parts → length parts ≤ 1
+    → asked_after (asking biba mls lomac None) parts ≡ asking biba mls lomac (number_of (first_value parts))
+unfolding asked_after
+after_partition biba mls lomac [] are once = refl
+after_partition biba mls lomac (part ∷ []) are once = with_partition biba mls lomac part.0 part.1 are.0.0
+after_partition biba mls lomac (part ∷ next ∷ parts) are once = absurd (omega arith)
+
+firsts_are : {biba mls lomac partition biba_value mls_value lomac_value partition_value : Option LabelValue} → biba ≡ biba_value → mls ≡ mls_value → lomac ≡ lomac_value → partition ≡ partition_value
+    → asking (range_of biba) (range_of mls) (element_of lomac) (number_of partition) ≡ asking (range_of biba_value) (range_of mls_value) (element_of lomac_value) (number_of partition_value)
+firsts_are biba mls lomac partition = rw (biba, mls, lomac, partition) refl
 
 asked_in_order : (parts : Parts) → AreParts parts → asked_after no_request (in_order parts) ≡ request_of parts
 unfolding in_order
 asked_in_order parts are =
     let biba = parts_of Biba parts in
     let mls = parts_of Mls parts in
+    let lomac = parts_of Lomac parts in
     let partition = parts_of Partition parts in
-    after_append no_request (biba ++ mls) partition
-    ∙ ap (λ before. asked_after before partition) (after_append no_request biba mls)
-    ∙ ap (λ before. asked_after (asked_after before mls) partition) (after_biba biba (are_of Biba parts are.each) (are.once Biba))
-    ∙ ap (λ before. asked_after before partition) (after_mls (range_of (first_value biba)) mls (are_of Mls parts are.each) (are.once Mls))
-    ∙ after_partition (range_of (first_value biba)) (range_of (first_value mls)) partition (are_of Partition parts are.each) (are.once Partition)
-    ∙ ap (λ value. asking (range_of value) (range_of (first_value mls)) (number_of (first_value partition))) (first_of Biba parts)
-    ∙ ap (λ value. asking (range_of (value_of Biba parts)) (range_of value) (number_of (first_value partition))) (first_of Mls parts)
-    ∙ ap (λ value. asking (range_of (value_of Biba parts)) (range_of (value_of Mls parts)) (number_of value)) (first_of Partition parts)
+    let asked_biba = range_of (first_value biba) in
+    let asked_mls = range_of (first_value mls) in
+    after_append no_request (biba ++ mls ++ lomac) partition
+    ∙ ap (λ before. asked_after before partition) (after_append no_request (biba ++ mls) lomac)
+    ∙ ap (λ before. asked_after (asked_after before lomac) partition) (after_append no_request biba mls)
+    ∙ ap (λ before. asked_after (asked_after (asked_after before mls) lomac) partition) (after_biba biba (are_of Biba parts are.each) (are.once Biba))
+    ∙ ap (λ before. asked_after (asked_after before lomac) partition) (after_mls asked_biba mls (are_of Mls parts are.each) (are.once Mls))
+    ∙ ap (λ before. asked_after before partition) (after_lomac asked_biba asked_mls lomac (are_of Lomac parts are.each) (are.once Lomac))
+    ∙ after_partition asked_biba asked_mls (element_of (first_value lomac)) partition (are_of Partition parts are.each) (are.once Partition)
+    ∙ firsts_are (first_of Biba parts) (first_of Mls parts) (first_of Lomac parts) (first_of Partition parts)
 
 -- ---- all parts stand in order
 append_parts : (front back : Parts) → AllByRecursion IsPart front → AllByRecursion IsPart back → AllByRecursion IsPart (front ++ back)
 append_parts [] back one other = other
 append_parts (part ∷ front) back one other = (one.0, append_parts front back one.1 other)
 
+only : (policy : Module) (parts : Parts) → AllByRecursion IsPart parts → AllByRecursion IsPart (parts_of policy parts)
+only policy parts all = forget policy (parts_of policy parts) (are_of policy parts all)
+
 ordered_parts : (parts : Parts) → AllByRecursion IsPart parts → AllByRecursion IsPart (in_order parts)
 unfolding in_order
 ordered_parts parts all =
-    append_parts (parts_of Biba parts ++ parts_of Mls parts) (parts_of Partition parts)
-    (append_parts (parts_of Biba parts) (parts_of Mls parts) (forget Biba (parts_of Biba parts) (are_of Biba parts all)) (forget Mls (parts_of Mls parts) (are_of Mls parts all)))
-    (forget Partition (parts_of Partition parts) (are_of Partition parts all))
+    append_parts (parts_of Biba parts ++ parts_of Mls parts ++ parts_of Lomac parts) (parts_of Partition parts)
+    (append_parts (parts_of Biba parts ++ parts_of Mls parts) (parts_of Lomac parts)
+    (append_parts (parts_of Biba parts) (parts_of Mls parts) (only Biba parts all) (only Mls parts all))
+    (only Lomac parts all))
+    (only Partition parts all)
 
 some_behind : (front : Parts) (part : Part) (back : Parts) → front ++ part ∷ back ≢ []
 some_behind [] part back none = cc
 some_behind (first ∷ front) part back none = cc
 
-some_within : (front : Parts) (part : Part) (middle back : Parts) → (front ++ part ∷ middle) ++ back ≢ []
-some_within [] part middle back none = cc
-some_within (first ∷ front) part middle back none = cc
+some_front : (front back : Parts) → front ≢ [] → front ++ back ≢ []
+some_front [] back some none = some refl
+some_front (first ∷ front) back some none = cc
 
 some_with : (policy : Module) (value : LabelValue) (parts : Parts) → IsValueOf policy value → in_order ((policy, value) ∷ parts) ≢ []
 unfolding in_order
-some_with Biba value parts is none = cc
-some_with Mls value parts is none = some_within (parts_of Biba parts) (Mls, value) (parts_of Mls parts) (parts_of Partition parts) none
-some_with Partition value parts is none = some_behind (parts_of Biba parts ++ parts_of Mls parts) (Partition, value) (parts_of Partition parts) none
-some_with other value parts is none = is
+some_with Biba value parts is = λ none. cc
+some_with Mls value parts is =
+    some_front (parts_of Biba parts ++ (Mls, value) ∷ parts_of Mls parts ++ parts_of Lomac parts) (parts_of Partition parts)
+    (some_front (parts_of Biba parts ++ (Mls, value) ∷ parts_of Mls parts) (parts_of Lomac parts) (some_behind (parts_of Biba parts) (Mls, value) (parts_of Mls parts)))
+some_with Lomac value parts is =
+    some_front (parts_of Biba parts ++ parts_of Mls parts ++ (Lomac, value) ∷ parts_of Lomac parts) (parts_of Partition parts)
+    (some_behind (parts_of Biba parts ++ parts_of Mls parts) (Lomac, value) (parts_of Lomac parts))
+some_with Partition value parts is = some_behind (parts_of Biba parts ++ parts_of Mls parts ++ parts_of Lomac parts) (Partition, value) (parts_of Partition parts)
+some_with other value parts is = absurd is
 
 some_in_order : (parts : Parts) → AllByRecursion IsPart parts → parts ≢ [] → in_order parts ≢ []
 some_in_order [] all some = absurd (some refl)

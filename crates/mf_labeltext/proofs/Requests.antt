@@ -10,12 +10,12 @@ use Rattle.mf_labeltext.specs.LabelGrammar.{IsNameByte, IsName, Asks, SpellsElem
 use Rattle.mf_elem.specs.Label.{no_request}
 use Rattle.mf_text.specs.Results.{and_then}
 use Rattle.std.specs.Char.{is_ascii_digit, is_ascii_lowercase}
-use Rattle.mf_labeltext.specs.Reading.{cut, parts, label_in, partition_in, with_part, is_policy_name, element_from_halves, element_in, elements_in, request_in, ◌>>=◌}
+use Rattle.mf_labeltext.specs.Reading.{cut, parts, label_in, plain_in, partition_in, with_part, is_policy_name, element_from_halves, element_in, elements_in, request_in, ◌>>=◌}
 use Rattle.mf_labeltext.specs.declared.fault.LabelFault.{LabelFault}
 use Rattle.mf_labeltext.specs.declared.fault.LabelFault.TheVariants.{NoSlash, BadValue}
 use Rattle.mf_labeltext.proofs.Cutting.{IsFree, cut_is, cut_free, parts_free, parts_are_some, parts_join, join_parts}
 use Rattle.mf_labeltext.proofs.Numbers.{bind_some, some_is}
-use Rattle.mf_labeltext.proofs.Spelling.{chosen, either, each_true, both_true, same_text, label_spells, spells_label, partition_spells, spells_partition}
+use Rattle.mf_labeltext.proofs.Spelling.{chosen, either, each_true, both_true, same_text, label_spells, spells_label, plain_spells, spells_plain, partition_spells, spells_partition}
 
 -- ---- names
 abbrev pub is_policy_name_byte : ℕ → Bool
@@ -84,25 +84,37 @@ differs text word other = false_from_ne_true (bytes_eq text word) (λ is. other 
 abbrev if_partition : List ℕ → List ℕ → Request → Option Request
 if_partition name value request = cond (bytes_eq name (codes "partition")) (partition_in value >>= λ n. Some (record request { partition = Some n })) (Some (record request { other = true }))
 
-abbrev if_mls : List ℕ → List ℕ → Request → Option Request
-if_mls name value request = cond (bytes_eq name (codes "mls")) (label_in value >>= λ label. Some (record request { mls = Some label })) (if_partition name value request)
+abbrev if_lomac : List ℕ → List ℕ → Request → Option Request
+if_lomac name value request = cond (bytes_eq name (codes "lomac")) (plain_in value >>= λ element. Some (record request { lomac = Some element })) (if_partition name value request)
 
-partition_asks : (name value : List ℕ) (before after : Request) → name ≢ codes "biba" → name ≢ codes "mls" → if_partition name value before ≡ Some after → Asks name value before after
-partition_asks name value before after no_biba no_mls is =
+abbrev if_mls : List ℕ → List ℕ → Request → Option Request
+if_mls name value request = cond (bytes_eq name (codes "mls")) (label_in value >>= λ label. Some (record request { mls = Some label })) (if_lomac name value request)
+
+partition_asks : (name value : List ℕ) (before after : Request) → name ≢ codes "biba" → name ≢ codes "mls" → name ≢ codes "lomac" → if_partition name value before ≡ Some after → Asks name value before after
+partition_asks name value before after no_biba no_mls no_lomac is =
     elim (chosen (bytes_eq name (codes "partition")) (partition_in value >>= λ n. Some (record before { partition = Some n })) (Some (record before { other = true })) (Some after) is) [
       | inl partition ↦
           let read = bind_some (partition_in value) (λ n. Some (record before { partition = Some n })) after partition.1 in
-          inr (inr (inl (same_text name (codes "partition") partition.0, read.0, partition_spells value read.0 read.1, sym (some_is (record before { partition = Some read.0 }) after read.2))))
-      | inr others ↦ inr (inr (inr ((no_biba, no_mls, differ name (codes "partition") others.0), sym (some_is (record before { other = true }) after others.1))))
+          inr (inr (inr (inl (same_text name (codes "partition") partition.0, read.0, partition_spells value read.0 read.1, sym (some_is (record before { partition = Some read.0 }) after read.2)))))
+      | inr others ↦ inr (inr (inr (inr ((no_biba, no_mls, no_lomac, differ name (codes "partition") others.0), sym (some_is (record before { other = true }) after others.1)))))
+    ]
+
+lomac_asks : (name value : List ℕ) (before after : Request) → name ≢ codes "biba" → name ≢ codes "mls" → if_lomac name value before ≡ Some after → Asks name value before after
+lomac_asks name value before after no_biba no_mls is =
+    elim (chosen (bytes_eq name (codes "lomac")) (plain_in value >>= λ element. Some (record before { lomac = Some element })) (if_partition name value before) (Some after) is) [
+      | inl lomac ↦
+          let read = bind_some (plain_in value) (λ element. Some (record before { lomac = Some element })) after lomac.1 in
+          inr (inr (inl (same_text name (codes "lomac") lomac.0, read.0, plain_spells value read.0 read.1, sym (some_is (record before { lomac = Some read.0 }) after read.2))))
+      | inr others ↦ partition_asks name value before after no_biba no_mls (differ name (codes "lomac") others.0) others.1
     ]
 
 mls_asks : (name value : List ℕ) (before after : Request) → name ≢ codes "biba" → if_mls name value before ≡ Some after → Asks name value before after
 mls_asks name value before after no_biba is =
-    elim (chosen (bytes_eq name (codes "mls")) (label_in value >>= λ label. Some (record before { mls = Some label })) (if_partition name value before) (Some after) is) [
+    elim (chosen (bytes_eq name (codes "mls")) (label_in value >>= λ label. Some (record before { mls = Some label })) (if_lomac name value before) (Some after) is) [
       | inl mls ↦
           let read = bind_some (label_in value) (λ label. Some (record before { mls = Some label })) after mls.1 in
           inr (inl (same_text name (codes "mls") mls.0, read.0, label_spells value read.0 read.1, sym (some_is (record before { mls = Some read.0 }) after read.2)))
-      | inr others ↦ partition_asks name value before after no_biba (differ name (codes "mls") others.0) others.1
+      | inr others ↦ lomac_asks name value before after no_biba (differ name (codes "mls") others.0) others.1
     ]
 
 pub part_asks : (name value : List ℕ) (before after : Request) → with_part name value before ≡ Some after → Asks name value before after
@@ -125,12 +137,16 @@ asks_part name value before after (inr (inl mls)) =
     ap (λ n. with_part n value before) mls.0
     ∙ ap (λ read. read >>= λ label. Some (record before { mls = Some label })) (spells_label value mls.1 mls.2)
     ∙ ap Some (sym mls.3)
-asks_part name value before after (inr (inr (inl partition))) =
+asks_part name value before after (inr (inr (inl lomac))) =
+    ap (λ n. with_part n value before) lomac.0
+    ∙ ap (λ read. read >>= λ element. Some (record before { lomac = Some element })) (spells_plain value lomac.1 lomac.2)
+    ∙ ap Some (sym lomac.3)
+asks_part name value before after (inr (inr (inr (inl partition)))) =
     ap (λ n. with_part n value before) partition.0
     ∙ ap (λ read. read >>= λ n. Some (record before { partition = Some n })) (spells_partition value partition.1 partition.2)
     ∙ ap Some (sym partition.3)
-asks_part name value before after (inr (inr (inr other))) =
-    rw (differs name (codes "biba") other.0.0) (rw (differs name (codes "mls") other.0.1) (rw (differs name (codes "partition") other.0.2) (ap Some (sym other.1))))
+asks_part name value before after (inr (inr (inr (inr other)))) =
+    rw (differs name (codes "biba") other.0.0) (rw (differs name (codes "mls") other.0.1) (rw (differs name (codes "lomac") other.0.2) (rw (differs name (codes "partition") other.0.3) (ap Some (sym other.1)))))
 
 -- ---- elements
 ok_or_is : (read : Option Request) (fault : LabelFault) (after : Request) → ok_or read fault ≡ Ok after → read ≡ Some after

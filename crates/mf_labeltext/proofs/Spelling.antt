@@ -10,13 +10,14 @@ use Rattle.std.specs.Char.{digit_value}
 use Rattle.std.specs.Str.{bytes_eq}
 use Rattle.std.specs.Str.Parse.{AllDigits}
 use Rattle.mf_elem.specs.Comps.{no_comps}
+use Rattle.mf_elem.specs.Elem.{is_plain}
 use Rattle.mf_elem.proofs.CompsLaws.{none_is}
 use Rattle.mf_elem.specs.declared.comps.Comps.{Comps}
 use Rattle.mf_elem.specs.declared.elem.Elem.{Elem}
 use Rattle.mf_elem.specs.declared.elem.Elem.TheVariants.{Low, High, Equal, Grade}
 use Rattle.mf_elem.specs.declared.label.RangeLabel.{RangeLabel}
-use Rattle.mf_labeltext.specs.LabelGrammar.{SpellEach, SpellsGrade, SpellsElem, SpellsRange, SpellsParts, SpellsLabel, SpellsPartition}
-use Rattle.mf_labeltext.specs.Reading.{cut, number, comps_in, grade_from_halves, grade_in, elem_in, range_in, effective_in, label_from_halves, label_in, partition_in, ◌>>=◌}
+use Rattle.mf_labeltext.specs.LabelGrammar.{SpellEach, SpellsGrade, SpellsElem, SpellsRange, SpellsParts, SpellsLabel, SpellsPlain, SpellsPartition}
+use Rattle.mf_labeltext.specs.Reading.{cut, number, comps_in, grade_from_halves, grade_in, elem_in, range_in, effective_in, label_from_halves, label_in, plain_in, partition_in, ◌>>=◌}
 use Rattle.mf_labeltext.proofs.Cutting.{IsFree, cut_is, cut_free, cut_free_none}
 use Rattle.mf_labeltext.proofs.Numbers.{bind_some, some_is, number_spells, spells_number, comps_spells, spells_comps, digits_free}
 
@@ -282,6 +283,22 @@ spells_parts text (Some element) (Some ends) spells =
 
 pub spells_label : (text : List ℕ) (label : RangeLabel) → SpellsLabel text label → label_in text ≡ Some label
 spells_label text label spells = spells_parts text label.effective label.range spells
+
+-- ---- the value of lomac
+pub plain_spells : (text : List ℕ) (element : Elem) → plain_in text ≡ Some element → SpellsPlain text element
+unfolding plain_in
+plain_spells text element is =
+    let read = bind_some (elem_in text) (λ element. cond (is_plain element) (Some element) None) element is in
+    elim (chosen (is_plain read.0) (Some read.0) None (Some element) read.2) [
+      | inl plain ↦ subst (SpellsPlain text) (some_is read.0 element plain.1) (elem_spells text read.0 read.1, plain.0)
+      | inr other ↦ absurd (let e = other.1 in cc)
+    ]
+
+pub spells_plain : (text : List ℕ) (element : Elem) → SpellsPlain text element → plain_in text ≡ Some element
+unfolding plain_in
+spells_plain text element spells =
+    ap (λ read. read >>= λ element. cond (is_plain element) (Some element) None) (spells_elem text element spells.0)
+    ∙ ap (λ b. cond b (Some element) None) spells.1
 
 -- ---- the value of partition
 pub partition_spells : (text : List ℕ) (n : ℕ) → partition_in text ≡ Some n → SpellsPartition text n

@@ -6,7 +6,7 @@ use Rattle.std.specs.Fmt.{decimal}
 use Rattle.mf_errno.specs.Names.{policy_text}
 use Rattle.mf_errno.specs.Same.{same_module}
 use Rattle.mf_errno.specs.declared.module.Module.{Module}
-use Rattle.mf_errno.specs.declared.module.Module.TheVariants.{Biba, Mls, Partition}
+use Rattle.mf_errno.specs.declared.module.Module.TheVariants.{Biba, Mls, Lomac, Partition}
 use Rattle.mf_elem.specs.Comps.{rising}
 use Rattle.mf_elem.specs.declared.elem.Elem.{Elem}
 use Rattle.mf_elem.specs.declared.elem.Elem.TheVariants.{Low, High, Equal, Grade}
@@ -47,7 +47,7 @@ abbrev pub parts_of : Module → List (Module × LabelValue) → List (Module ×
 parts_of policy parts = filter (λ part. same_module policy part.0) parts
 
 unfoldable pub in_order : List (Module × LabelValue) → List (Module × LabelValue)
-in_order parts = parts_of Biba parts ++ parts_of Mls parts ++ parts_of Partition parts
+in_order parts = parts_of Biba parts ++ parts_of Mls parts ++ parts_of Lomac parts ++ parts_of Partition parts
 
 -- the elements with a comma between each two; where there are none, a dash
 abbrev pub elements_text : List (List ℕ) → List ℕ

@@ -1,14 +1,15 @@
 -- The label texts of maclabel(7), and what each of them asks for.
 --
 -- A text is label elements, parted by commas. An element is the name of a policy, a slash and a value. The value of biba and
--- mls is an effective element, a range "(low end-high end)", or both, one behind the other; that of partition is a number, or
--- "none", which is 0. Of several elements of one policy the last one counts.
+-- mls is an effective element, a range "(low end-high end)", or both, one behind the other; that of lomac an element without compartments;
+-- that of partition a number, or "none", which is 0. Of several elements of one policy the last one counts.
 use Rattle.std.specs.Prelude.{◌≡◌, ◌≢◌, ℕ, ◌≤◌, ◌⊎◌, List, [], ◌∷◌, ◌++◌, Option, Some, None, codes, true}
 use Rattle.std.specs.List.{join_with_byte, AllByRecursion}
 use Rattle.std.specs.Int.{IsInRange}
 use Rattle.std.specs.Str.Parse.{IsNumeral, digits_value}
 use Rattle.std.specs.FinSet as set
 use Rattle.mf_elem.specs.OfSets.{comps_of}
+use Rattle.mf_elem.specs.Elem.{is_plain}
 use Rattle.mf_elem.specs.Label.{no_request}
 use Rattle.mf_elem.specs.declared.comps.Comps.{Comps}
 use Rattle.mf_elem.specs.declared.comps.TheConstants.{LAST_COMPARTMENT}
@@ -74,6 +75,10 @@ SpellsParts text (Some element) (Some ends) =
 abbrev pub SpellsLabel : List ℕ → RangeLabel → Type 0
 SpellsLabel text label = SpellsParts text label.effective label.range
 
+-- the value of lomac: no compartments
+abbrev pub SpellsPlain : List ℕ → Elem → Type 0
+SpellsPlain text element = SpellsElem text element × (is_plain element ≡ true)
+
 -- the value of partition
 abbrev pub SpellsPartition : List ℕ → ℕ → Type 0
 SpellsPartition text n = ((text ≡ codes "none") × (n ≡ 0)) ⊎ SpellsNumber 0 LAST_PARTITION text n
@@ -88,7 +93,7 @@ IsName name = (name ≢ []) × AllByRecursion IsNameByte name
 
 -- the name of any other policy
 abbrev pub IsOtherName : List ℕ → Type 0
-IsOtherName name = (name ≢ codes "biba") × (name ≢ codes "mls") × (name ≢ codes "partition")
+IsOtherName name = (name ≢ codes "biba") × (name ≢ codes "mls") × (name ≢ codes "lomac") × (name ≢ codes "partition")
 
 -- The element of this name and value asks for its policy's part, whole, and leaves the others as they are: with it, before
 -- becomes after. The value of any other policy may be anything.
@@ -96,6 +101,7 @@ abbrev pub Asks : List ℕ → List ℕ → Request → Request → Type 0
 Asks name value before after =
     ((name ≡ codes "biba") × (label : RangeLabel) × SpellsLabel value label × (after ≡ record before { biba = Some label }))
     ⊎ ((name ≡ codes "mls") × (label : RangeLabel) × SpellsLabel value label × (after ≡ record before { mls = Some label }))
+    ⊎ ((name ≡ codes "lomac") × (element : Elem) × SpellsPlain value element × (after ≡ record before { lomac = Some element }))
     ⊎ ((name ≡ codes "partition") × (n : ℕ) × SpellsPartition value n × (after ≡ record before { partition = Some n }))
     ⊎ (IsOtherName name × (after ≡ record before { other = true }))
 

@@ -16,6 +16,7 @@ use Rattle.mf_elem.specs.declared.elem.Elem.{Elem}
 use Rattle.mf_elem.specs.declared.elem.Elem.TheVariants.{Low, High, Equal, Grade}
 use Rattle.mf_elem.specs.declared.label.RangeLabel.{RangeLabel}
 use Rattle.mf_elem.specs.declared.label.Request.{Request}
+use Rattle.mf_elem.specs.Elem.{is_plain}
 use Rattle.mf_elem.specs.Label.{no_request}
 use Rattle.mf_labeltext.specs.declared.fault.LabelFault.{LabelFault}
 use Rattle.mf_labeltext.specs.declared.fault.LabelFault.TheVariants.{NoSlash, BadValue, EmptyElement}
@@ -89,6 +90,10 @@ label_from_halves text (Some halves) = do
 unfoldable pub label_in : List ℕ → Option RangeLabel
 label_in text = label_from_halves text (cut open_parenthesis text)
 
+-- the value of lomac
+unfoldable pub plain_in : List ℕ → Option Elem
+plain_in text = elem_in text >>= λ element. if is_plain element then Some element else None
+
 -- the value of partition
 unfoldable pub partition_in : List ℕ → Option ℕ
 partition_in text = if bytes_eq text (codes "none") then Some 0 else number 0 LAST_PARTITION text
@@ -98,6 +103,7 @@ unfoldable pub with_part : List ℕ → List ℕ → Request → Option Request
 with_part name value request =
     if bytes_eq name (codes "biba") then (label_in value >>= λ label. Some (record request { biba = Some label }))
     else if bytes_eq name (codes "mls") then (label_in value >>= λ label. Some (record request { mls = Some label }))
+    else if bytes_eq name (codes "lomac") then (plain_in value >>= λ element. Some (record request { lomac = Some element }))
     else if bytes_eq name (codes "partition") then (partition_in value >>= λ n. Some (record request { partition = Some n }))
     else Some (record request { other = true })
 

@@ -1,10 +1,12 @@
 -- The canonical text of the parts of a label asks for just these parts.
-use Rattle.std.specs.Prelude.{◌≢◌, ℕ, ◌≤◌, List, [], ◌∷◌, length, Option, Some, None, false, if◌then◌else◌}
+use Rattle.std.specs.Prelude.{◌≡◌, ◌≢◌, ℕ, ◌≤◌, List, [], ◌∷◌, length, Option, Some, None, true, false, if◌then◌else◌, option_and_then}
 use Rattle.std.specs.List.{AllByRecursion}
 use Rattle.mf_errno.specs.Same.{same_module}
 use Rattle.mf_errno.specs.declared.module.Module.{Module}
-use Rattle.mf_errno.specs.declared.module.Module.TheVariants.{Biba, Mls, Partition}
+use Rattle.mf_errno.specs.declared.module.Module.TheVariants.{Biba, Mls, Lomac, Partition}
 use Rattle.mf_elem.specs.Bounds.{IsAskedLabel}
+use Rattle.mf_elem.specs.Label.{is_plain_label}
+use Rattle.mf_elem.specs.declared.elem.Elem.{Elem}
 use Rattle.mf_elem.specs.declared.label.TheConstants.{LAST_PARTITION}
 use Rattle.mf_elem.specs.declared.label.RangeLabel.{RangeLabel}
 use Rattle.mf_elem.specs.declared.label.LabelValue.{LabelValue}
@@ -22,6 +24,9 @@ abbrev pub range_of : Option LabelValue → Option RangeLabel
 range_of (Some (Range label)) = Some label
 range_of other = None
 
+abbrev pub element_of : Option LabelValue → Option Elem
+element_of value = option_and_then (λ label. label.effective) (range_of value)
+
 -- an Unset partition is 0
 abbrev pub number_of : Option LabelValue → Option ℕ
 number_of (Some Unset) = Some 0
@@ -29,13 +34,21 @@ number_of (Some (Number n)) = Some n
 number_of other = None
 
 abbrev pub request_of : List (Module × LabelValue) → Request
-request_of parts = record { biba = range_of (value_of Biba parts); mls = range_of (value_of Mls parts); partition = number_of (value_of Partition parts); other = false }
+request_of parts =
+    record {
+      biba = range_of (value_of Biba parts);
+      mls = range_of (value_of Mls parts);
+      lomac = element_of (value_of Lomac parts);
+      partition = number_of (value_of Partition parts);
+      other = false;
+    }
 
 -- ---- which parts a label may have
--- a label or a partition that a label text can ask for; an Unset partition is 0
+-- a label, an element or a partition that a label text can ask for; an Unset partition is 0
 abbrev pub IsValueOf : Module → LabelValue → Type 0
 IsValueOf Biba (Range label) = IsAskedLabel label
 IsValueOf Mls (Range label) = IsAskedLabel label
+IsValueOf Lomac (Range label) = IsAskedLabel label × (is_plain_label label ≡ true)
 IsValueOf Partition Unset = Unit {0}
 IsValueOf Partition (Number n) = n ≤ LAST_PARTITION
 IsValueOf policy value = ⊥

@@ -30,8 +30,8 @@ pub fn print_elem(element: &Elem, out: &mut String) -> Result<(), AllocError>
     appended
 }
 
-/// Appends the canonical text of a label's parts: their elements in the order biba, mls, partition, whatever their
-/// order here, or `-` for no part. A partition that is 0 or Unset is `none`. Parts of other policies, which label
+/// Appends the canonical text of a label's parts: their elements in the order biba, mls, lomac, partition, whatever
+/// their order here, or `-` for no part. A partition that is 0 or Unset is `none`. Parts of other policies, which label
 /// nothing, have no text. If memory runs out, `out` is unchanged.
 pub fn print_label(
     alloc: Global,
@@ -75,6 +75,7 @@ fn in_order(
     let mut ordered = Vec::new(alloc);
     push_parts_of(Module::Biba, parts, &mut ordered)?;
     push_parts_of(Module::Mls, parts, &mut ordered)?;
+    push_parts_of(Module::Lomac, parts, &mut ordered)?;
     push_parts_of(Module::Partition, parts, &mut ordered)?;
     Ok(ordered)
 }
@@ -146,6 +147,7 @@ pub fn policy_name(policy: Module) -> &'static str
     match policy {
         Module::Biba => "biba",
         Module::Mls => "mls",
+        Module::Lomac => "lomac",
         Module::Partition => "partition",
         Module::Bsdextended => "bsdextended",
         Module::Priority => "priority",

@@ -11,7 +11,7 @@ ghost use Rattle.mf_labeltext.specs.declared.fault.LabelFault.{LabelFault};
 
 use crate::LabelFault;
 use crate::splitting::split_once;
-use crate::values::{read_label, read_partition};
+use crate::values::{read_label, read_partition, read_plain};
 use mf_elem::Request;
 
 /// What a label text of maclabel(7) asks for. Of several elements of one policy the last one counts, whole, though each has to be
@@ -69,6 +69,8 @@ fn with_part(name: &str, value: &str, request: &Request) -> Option<Request>
         next.biba = Some(read_label(value)?);
     } else if name == "mls" {
         next.mls = Some(read_label(value)?);
+    } else if name == "lomac" {
+        next.lomac = Some(read_plain(value)?);
     } else if name == "partition" {
         next.partition = Some(read_partition(value)?);
     } else {

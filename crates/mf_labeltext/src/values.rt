@@ -1,9 +1,9 @@
 //! The values of label elements: elements with grades and compartments, ranges, and partition numbers.
 ghost use Rattle.std.specs.Prelude.{◌≡◌, ◌≤◌, IfSome, IsTrue};
-ghost use Rattle.mf_labeltext.specs.Reading.{number, comps_in, grade_in, elem_in, effective_in, range_in, label_in, partition_in};
+ghost use Rattle.mf_labeltext.specs.Reading.{number, comps_in, grade_in, elem_in, effective_in, range_in, label_in, plain_in, partition_in};
 
 use crate::splitting::split_once;
-use mf_elem::{Comps, Elem, LAST_COMPARTMENT, LAST_GRADE, LAST_PARTITION, RangeLabel};
+use mf_elem::{Comps, Elem, LAST_COMPARTMENT, LAST_GRADE, LAST_PARTITION, RangeLabel, is_plain};
 use mf_text::read_number;
 
 #[tactic(auto, unfolding(crate::specs::Reading::number))]
@@ -121,6 +121,18 @@ pub fn read_label(text: &str) -> Option<RangeLabel>
             range: Some(read_range(range)?),
         }),
     }
+}
+
+/// The value of a LOMAC element.
+#[tactic(auto, unfolding(crate::specs::Reading::plain_in))]
+pub fn read_plain(text: &str) -> Option<Elem>
+    ensures { result ≡ plain_in text.now }
+{
+    let element = read_elem(text)?;
+    if !is_plain(&element) {
+        return None;
+    }
+    Some(element)
 }
 
 /// The value of a partition element.
