@@ -7,8 +7,8 @@ use mf_elem::{Elem, RangeLabel, Request, dominates};
 use mf_errno::{Errno, Module, Priv};
 use mf_item::Item;
 use mf_policy::{
-    Change, Changed, Lattice, LoadFlags, Policy, Spec, flags_of, lattice_answer, range_asked,
-    wants_slot,
+    Change, Changed, Lattice, LoadFlags, Policy, Spec, credential_relabel, flags_of,
+    lattice_answer, object_relabel, range_asked, wants_slot,
 };
 use std::alloc::{AllocError, Global};
 
@@ -73,11 +73,19 @@ impl Lattice for Mls {
         dominates(object, subject)
     }
 
-    fn part(request: &Request) -> &Option<RangeLabel> {
+    fn part(request: &Request) -> Option<RangeLabel> {
         range_asked(Module::Mls, request)
     }
 
     fn guards_modules() -> bool {
         false
+    }
+
+    fn take(_subject: &Elem, label: &RangeLabel, asked: &RangeLabel) -> Errno {
+        credential_relabel(label, asked)
+    }
+
+    fn give(_subject: &Elem, label: &RangeLabel, old: &Elem, asked: &RangeLabel) -> Errno {
+        object_relabel(label, old, asked)
     }
 }

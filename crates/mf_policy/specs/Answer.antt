@@ -1,7 +1,7 @@
--- What a policy answers to an item, by its spec and the table of operations: mac_biba(4), mac_mls(4), mac_partition(4), mac_bsdextended(4)
--- and mac_priority(4), with the errnos of docs/MANUAL.md (POLICIES).
+-- What a policy answers to an item, by its spec and the table of operations: mac_biba(4), mac_mls(4), mac_lomac(4), mac_partition(4),
+-- mac_bsdextended(4) and mac_priority(4), with the errnos of docs/MANUAL.md (POLICIES).
 use Rattle.std.specs.Option.{option_map_or}
-use Rattle.std.specs.Prelude.{ℕ, Bool, true, false, cond, ◌||◌, nat_eq, Option, Some, None, unwrap_or, slice_index_or, option_and_then}
+use Rattle.std.specs.Prelude.{ℕ, Bool, true, false, cond, not, ◌&&◌, ◌||◌, nat_eq, Option, Some, None, unwrap_or, slice_index_or, option_and_then}
 use Rattle.mf_errno.specs.declared.errno.Errno.{Errno}
 use Rattle.mf_errno.specs.declared.errno.Errno.TheVariants.{Success, Esrch, Eacces, Eperm}
 use Rattle.mf_errno.specs.declared.module.Module.TheVariants as modules
@@ -12,7 +12,7 @@ use Rattle.mf_elem.specs.declared.label.RangeLabel.{RangeLabel}
 use Rattle.mf_elem.specs.declared.label.LabelValue.{LabelValue}
 use Rattle.mf_elem.specs.declared.label.LabelValue.TheVariants.{Unset, Range, Number}
 use Rattle.mf_elem.specs.declared.label.Request.{Request}
-use Rattle.mf_elem.specs.Elem.{dominates, same_level}
+use Rattle.mf_elem.specs.Elem.{dominates, is_equal, same_level}
 use Rattle.mf_elem.specs.Label.{is_privileged}
 use Rattle.mf_cred.specs.declared.cred.Cred.{Cred}
 use Rattle.mf_cred.specs.declared.cred.FileView.{FileView}
@@ -32,13 +32,17 @@ use Rattle.mf_policy.specs.declared.operations.Letters.TheVariants.{Asked, NotAs
 use Rattle.mf_policy.specs.Operations.{row_of}
 use Rattle.mf_policy.specs.Relabel.{credential_relabel, object_relabel}
 
--- A policy whose labels have ranges: whether a subject of one element may observe and may modify an object of another, which part of a request
--- is the policy's, and whether the policy guards the kernel's modules.
+-- A policy whose labels have elements: whether a subject of one element may observe and may modify an object of another, which part of a request
+-- is the policy's, whether it guards the kernel's modules, and what it answers to relabels.
 pub record LatticePolicy : Type 0 where
   pub may_observe : Elem → Elem → Bool
   pub may_modify : Elem → Elem → Bool
   pub part : Request → Option RangeLabel
   pub guards_modules : Bool
+  -- the answer to a subject of this element and label that asks for that label of its own
+  pub take : Elem → RangeLabel → RangeLabel → Errno
+  -- the answer to it where it asks for that label of an object, whose element is the old one so far
+  pub give : Elem → RangeLabel → Elem → RangeLabel → Errno
 
 -- integrity: one reads up and writes down
 abbrev pub biba : LatticePolicy
@@ -48,6 +52,8 @@ biba =
       may_modify = λ subject object. dominates subject object;
       part = range_asked modules.Biba;
       guards_modules = true;
+      take = λ subject label asked. credential_relabel label asked;
+      give = λ subject label old asked. object_relabel label old asked;
     }
 
 -- confidentiality: one reads down and writes up
@@ -58,6 +64,30 @@ mls =
       may_modify = λ subject object. dominates object subject;
       part = range_asked modules.Mls;
       guards_modules = false;
+      take = λ subject label asked. credential_relabel label asked;
+      give = λ subject label old asked. object_relabel label old asked;
+    }
+
+-- success where the test holds, else the error
+abbrev pub errno_unless : Bool → Errno → Errno
+errno_unless true errno = Success
+errno_unless false errno = errno
+
+-- whether a subject may take or give an element: one that it dominates, and `equal` only where it is equal itself
+abbrev pub may_assign : Elem → Option Elem → Bool
+may_assign subject None = true
+may_assign subject (Some asked) = dominates subject asked && (is_equal subject || not (is_equal asked))
+
+-- integrity by low watermark: one reads everything, and writes down; labels are elements alone, without ranges
+abbrev pub lomac : LatticePolicy
+lomac =
+    record {
+      may_observe = λ subject object. true;
+      may_modify = λ subject object. dominates subject object;
+      part = range_asked modules.Lomac;
+      guards_modules = false;
+      take = λ subject label asked. errno_unless (may_assign subject asked.effective) Eperm;
+      give = λ subject label old asked. errno_unless (dominates subject old && may_assign subject asked.effective) Eperm;
     }
 
 -- a label with nothing in it
@@ -77,11 +107,6 @@ object_slot object slot = option_map_or (λ object. slice_index_or object.label 
 abbrev pub part_of : LatticePolicy → Option Request → RangeLabel
 part_of policy request = unwrap_or (option_and_then policy.part request) nothing
 
--- success where the test holds, else the error
-abbrev pub errno_unless : Bool → Errno → Errno
-errno_unless true errno = Success
-errno_unless false errno = errno
-
 -- The answer by whether the subject may observe the object, may modify it, and is of its level. Tests of other things pass.
 abbrev pub element_answer : Test → Bool → Bool → Bool → Errno
 element_answer (Observe errno) may_observe may_modify same_level = errno_unless may_observe errno
@@ -98,10 +123,10 @@ guard_answer policy label = cond policy.guards_modules (errno_unless (is_privile
 -- the subject alone, the relabel of an object, and the tests of elements.
 abbrev pub labels_answer : LatticePolicy → Test → RangeLabel → RangeLabel → Option Elem → Option Elem → Errno
 labels_answer policy test label asked None object = Success
-labels_answer policy RelabelCredential label asked (Some subject) object = credential_relabel label asked
+labels_answer policy RelabelCredential label asked (Some subject) object = policy.take subject label asked
 labels_answer policy GuardModules label asked (Some subject) object = guard_answer policy label
 labels_answer policy test label asked (Some subject) None = Success
-labels_answer policy RelabelObject label asked (Some subject) (Some object) = object_relabel label object asked
+labels_answer policy RelabelObject label asked (Some subject) (Some object) = policy.give subject label object asked
 labels_answer policy test label asked (Some subject) (Some object) =
     element_answer test (policy.may_observe subject object) (policy.may_modify subject object) (same_level subject object)
 
@@ -160,6 +185,7 @@ rules_answer rules first item = letters_answer rules first (row_of item.op).lett
 abbrev pub answer : Spec → ℕ → Item → Errno
 answer means.Biba slot item = lattice_answer biba slot item
 answer means.Mls slot item = lattice_answer mls slot item
+answer means.Lomac slot item = lattice_answer lomac slot item
 answer means.Partition slot item = partition_answer slot item
 answer (means.Bsdextended rules first) slot item = rules_answer rules first item
 answer means.Priority slot item = Success

@@ -7,13 +7,14 @@ use Rattle.mf_errno.specs.declared.module.Module.{Module}
 use Rattle.mf_elem.specs.declared.label.Request.{Request}
 use Rattle.mf_item.specs.declared.view.Kind.{Kind}
 use Rattle.mf_policy.specs.declared.modules.Labelling.{Labelling}
-use Rattle.mf_policy.specs.declared.modules.Labelling.TheVariants.{Nothing, Ranges, Partitions}
+use Rattle.mf_policy.specs.declared.modules.Labelling.TheVariants.{Nothing, Ranges, Elements, Partitions}
 use Rattle.mf_policy.specs.Modules.{facts_of, is_named, is_process}
 use Rattle.mf_policy.specs.Registration.{Entry, is_listed}
 
 abbrev pub takes_by : Labelling → Kind → Bool
 takes_by Nothing kind = false
 takes_by (Ranges process other) kind = true
+takes_by (Elements element) kind = true
 takes_by Partitions kind = is_process kind
 
 -- whether a module's policy takes requests to change the label of an entity of that kind

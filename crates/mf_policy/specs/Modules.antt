@@ -1,7 +1,7 @@
 -- What is true of each module whatever its settings, and its spec in its initial state. When a module may be loaded is mac(4)'s table, and the
--- labels at boot are those of mac_biba(4) and mac_mls(4). That mac_bsdextended begins with first match is mac_bsdextended(4)'s.
+-- labels at boot are those of mac_biba(4), mac_mls(4) and mac_lomac(4). That mac_bsdextended begins with first match is mac_bsdextended(4)'s.
 use Rattle.std.specs.Option.{option_map_or}
-use Rattle.std.specs.Prelude.{ℕ, Bool, true, false, not, ◌&&◌, ◌||◌, if◌then◌else◌, Option, Some, None, is_none, is_some, replicate, unwrap_or}
+use Rattle.std.specs.Prelude.{ℕ, Bool, true, false, not, ◌&&◌, ◌||◌, if◌then◌else◌, Option, Some, None, is_none, is_some, option_map, replicate, unwrap_or}
 use Rattle.mf_errno.specs.declared.module.Module.{Module}
 use Rattle.mf_errno.specs.declared.module.Module.TheVariants as modules
 use Rattle.mf_elem.specs.declared.elem.Elem.{Elem}
@@ -10,13 +10,13 @@ use Rattle.mf_elem.specs.declared.label.RangeLabel.{RangeLabel}
 use Rattle.mf_elem.specs.declared.label.LabelValue.{LabelValue}
 use Rattle.mf_elem.specs.declared.label.LabelValue.TheVariants.{Unset, Range, Number}
 use Rattle.mf_elem.specs.declared.label.Request.{Request}
-use Rattle.mf_elem.specs.Label.{is_valid, replaced}
+use Rattle.mf_elem.specs.Label.{element_alone, is_valid, replaced}
 use Rattle.mf_item.specs.declared.view.Kind.{Kind}
 use Rattle.mf_item.specs.declared.view.Kind.TheVariants as kinds
 use Rattle.mf_rule.specs.declared.rule_list.TheConstants.{MAX_RULES}
 use Rattle.mf_policy.specs.declared.modules.Facts.{Facts}
 use Rattle.mf_policy.specs.declared.modules.Labelling.{Labelling}
-use Rattle.mf_policy.specs.declared.modules.Labelling.TheVariants.{Nothing, Ranges, Partitions}
+use Rattle.mf_policy.specs.declared.modules.Labelling.TheVariants.{Nothing, Ranges, Elements, Partitions}
 use Rattle.mf_policy.specs.declared.spec.Spec.{Spec}
 use Rattle.mf_policy.specs.declared.spec.Spec.TheVariants as means
 
@@ -28,18 +28,20 @@ ranges_at element =
     Ranges (record { effective = Some element; range = Some (Low, High) }) (record { effective = Some element; range = None })
 
 -- Of each module: when it may be loaded and unloaded, and what its labels are, with those at boot: biba/high(low-high) of a process and
--- biba/high of another entity, mls/low(low-high) and mls/low.
+-- biba/high of another entity, mls/low(low-high) and mls/low, and lomac/high.
 abbrev pub facts_of : Module → Facts
 facts_of modules.Biba = record { not_late = true; unload_ok = false; labels = ranges_at High }
 facts_of modules.Mls = record { not_late = true; unload_ok = false; labels = ranges_at Low }
+facts_of modules.Lomac = record { not_late = true; unload_ok = false; labels = Elements High }
 facts_of modules.Partition = record { not_late = false; unload_ok = true; labels = Partitions }
 facts_of modules.Bsdextended = record { not_late = false; unload_ok = true; labels = Nothing }
 facts_of modules.Priority = record { not_late = false; unload_ok = true; labels = Nothing }
 
--- the label with ranges that a request asks of a module
+-- the label that a request asks of a module whose labels have elements
 abbrev pub range_asked : Module → Request → Option RangeLabel
 range_asked modules.Biba request = request.biba
 range_asked modules.Mls request = request.mls
+range_asked modules.Lomac request = option_map element_alone request.lomac
 range_asked other request = None
 
 -- the partition that a request asks of a module
@@ -51,6 +53,7 @@ number_asked other request = None
 abbrev pub module_of : Spec → Module
 module_of means.Biba = modules.Biba
 module_of means.Mls = modules.Mls
+module_of means.Lomac = modules.Lomac
 module_of means.Partition = modules.Partition
 module_of (means.Bsdextended rules first) = modules.Bsdextended
 module_of means.Priority = modules.Priority
@@ -59,6 +62,7 @@ module_of means.Priority = modules.Priority
 abbrev pub fresh_of : Module → Spec
 fresh_of modules.Biba = means.Biba
 fresh_of modules.Mls = means.Mls
+fresh_of modules.Lomac = means.Lomac
 fresh_of modules.Partition = means.Partition
 fresh_of modules.Bsdextended = means.Bsdextended (replicate MAX_RULES None) true
 fresh_of modules.Priority = means.Priority
@@ -81,6 +85,7 @@ has_partition other = true
 abbrev pub labels_by : Labelling → Kind → Bool
 labels_by Nothing kind = false
 labels_by (Ranges process other) kind = true
+labels_by (Elements element) kind = true
 labels_by Partitions kind = has_partition kind
 
 -- which kinds of entities a module labels
@@ -113,6 +118,7 @@ default_range kind process other = other
 abbrev pub boot_by : Labelling → Kind → Option RangeLabel → Option ℕ → LabelValue
 boot_by Nothing kind range number = Unset
 boot_by (Ranges process other) kind range number = Range (replaced (default_range kind process other) range)
+boot_by (Elements element) kind range number = Range (replaced (element_alone element) range)
 boot_by Partitions kind range number = Number (unwrap_or number 0)
 
 -- what a module gives an entity of that kind at boot: what is asked of it, and its default for the rest
@@ -134,6 +140,7 @@ inherited_partition other = Number 0
 abbrev pub inherited_by : Labelling → Kind → LabelValue → LabelValue
 inherited_by Nothing kind value = Unset
 inherited_by (Ranges process other) kind value = inherited_range kind value
+inherited_by (Elements element) kind value = inherited_range kind value
 inherited_by Partitions kind value = inherited_partition value
 
 -- what a module gives a created entity of that kind, where this is its maker's

@@ -1,4 +1,4 @@
--- The label of an entity after a relabel: mac_biba(4) and mac_mls(4) put the effective element and the range that are asked in the place of their own.
+-- The label of an entity after a relabel: mac_biba(4), mac_mls(4) and mac_lomac(4) put the effective element and the range that are asked in the place of their own.
 -- That partition 0 changes nothing is the manner of FreeBSD's mac_partition; what becomes of an unset value is this model's own choice.
 use Rattle.std.specs.Option.{option_map_or}
 use Rattle.std.specs.Prelude.{ℕ, cond, nat_eq, List, [], ◌∷◌, map, slice_index_or, Option, Some, None, find}
@@ -9,7 +9,7 @@ use Rattle.mf_elem.specs.declared.label.LabelValue.TheVariants.{Unset, Range, Nu
 use Rattle.mf_elem.specs.declared.label.Request.{Request}
 use Rattle.mf_elem.specs.Label.{replaced}
 use Rattle.mf_policy.specs.declared.modules.Labelling.{Labelling}
-use Rattle.mf_policy.specs.declared.modules.Labelling.TheVariants.{Nothing, Ranges, Partitions}
+use Rattle.mf_policy.specs.declared.modules.Labelling.TheVariants.{Nothing, Ranges, Elements, Partitions}
 use Rattle.mf_policy.specs.Answer.{range_label}
 use Rattle.mf_policy.specs.Modules.{facts_of, range_asked, number_asked}
 use Rattle.mf_policy.specs.Registration.{Entry, holds_slot}
@@ -27,6 +27,7 @@ number_after (Some n) value = cond (nat_eq n 0) value (Number n)
 abbrev pub after_by : Labelling → Option RangeLabel → Option ℕ → LabelValue → LabelValue
 after_by Nothing range number value = value
 after_by (Ranges process other) range number value = range_after range value
+after_by (Elements element) range number value = range_after range value
 after_by Partitions range number value = number_after number value
 
 -- what a module makes of the value in its slot

@@ -40,7 +40,7 @@ fn takes_requests(module: Module, kind: Kind) -> bool
 {
     match facts_of(module).labels {
         Labelling::Nothing => false,
-        Labelling::Ranges(..) => true,
+        Labelling::Ranges(..) | Labelling::Elements(_) => true,
         Labelling::Partitions => matches!(kind, Kind::Process),
     }
 }

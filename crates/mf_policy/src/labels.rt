@@ -93,7 +93,9 @@ pub fn value_after(module: Module, request: &Request, value: &LabelValue) -> Lab
 {
     match facts_of(module).labels {
         Labelling::Nothing => *value,
-        Labelling::Ranges(..) => range_after(range_asked(module, request), value),
+        Labelling::Ranges(..) | Labelling::Elements(_) => {
+            range_after(&range_asked(module, request), value)
+        }
         Labelling::Partitions => number_after(number_asked(module, request), value),
     }
 }

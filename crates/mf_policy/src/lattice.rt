@@ -1,14 +1,13 @@
-//! What Biba and MLS share: the answer to a check, by the two directions of the policy.
+//! What Biba, MLS and LOMAC share: the answer to a check, by the two directions of the policy.
 ghost use Rattle.std.specs.Prelude.{◌≡◌, ◌<◌, option_copied};
 ghost use Rattle.mf_policy.specs.Answer as spec;
 
 use crate::operations::{Test, row_of};
-use crate::relabel::{credential_relabel, object_relabel};
 use mf_elem::{Elem, LabelValue, RangeLabel, Request, SLOTS, privileged, same_level};
 use mf_errno::Errno;
 use mf_item::{Item, ObjectView};
 
-/// A policy whose labels have ranges.
+/// A policy whose labels have elements.
 pub trait Lattice {
     ghost use Rattle.mf_policy.specs.Answer.{LatticePolicy};
 
@@ -23,12 +22,20 @@ pub trait Lattice {
         ensures { result ≡ lattice.may_modify subject.now object.now };
 
     /// The policy's part of a request.
-    fn part(request: &Request) -> &Option<RangeLabel>
-        ensures { result.now ≡ lattice.part request.now };
+    fn part(request: &Request) -> Option<RangeLabel>
+        ensures { result ≡ lattice.part request.now };
 
     /// Whether only a privileged subject may load and unload modules.
     fn guards_modules() -> bool
         ensures { result ≡ lattice.guards_modules };
+
+    /// The answer to a subject of this element and label that asks for that label of its own.
+    fn take(subject: &Elem, label: &RangeLabel, asked: &RangeLabel) -> Errno
+        ensures { result ≡ lattice.take subject.now label.now asked.now };
+
+    /// The answer to it where it asks for that label of an object, whose element is the old one so far.
+    fn give(subject: &Elem, label: &RangeLabel, old: &Elem, asked: &RangeLabel) -> Errno
+        ensures { result ≡ lattice.give subject.now label.now old.now asked.now };
 }
 
 /// What such a policy, which holds this slot, answers to an item.
@@ -64,10 +71,10 @@ fn labels_answer<P: Lattice>(
         return Errno::Success;
     };
     match (test, object) {
-        (Test::RelabelCredential, _) => credential_relabel(label, asked),
+        (Test::RelabelCredential, _) => P::take(subject, label, asked),
         (Test::GuardModules, _) => guard_answer::<P>(label),
         (_, None) => Errno::Success,
-        (Test::RelabelObject, Some(object)) => object_relabel(label, object, asked),
+        (Test::RelabelObject, Some(object)) => P::give(subject, label, object, asked),
         (test, Some(object)) => {
             let may_observe = P::may_observe(subject, object);
             let may_modify = P::may_modify(subject, object);
@@ -129,10 +136,7 @@ fn part_of<P: Lattice>(request: Option<&Request>) -> RangeLabel
 {
     match request {
         None => nothing(),
-        Some(request) => match P::part(request) {
-            Some(label) => *label,
-            None => nothing(),
-        },
+        Some(request) => P::part(request).unwrap_or(nothing()),
     }
 }
 

@@ -1,5 +1,5 @@
-//! The interface of a policy module, the specs of policies, the tables of modules and of operations, and what Biba and MLS
-//! share.
+//! The interface of a policy module, the specs of policies, the tables of modules and of operations, and what Biba, MLS
+//! and LOMAC share.
 #![tactic(auto)]
 
 mod claims;

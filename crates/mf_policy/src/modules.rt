@@ -24,6 +24,8 @@ pub enum Labelling {
     Nothing,
     /// It labels every entity by elements. At boot a process has the first label, another entity the second.
     Ranges(RangeLabel, RangeLabel),
+    /// It labels every entity by an element without compartments, at boot by this one.
+    Elements(Elem),
     /// It gives processes and sockets a partition's number.
     Partitions,
 }
@@ -42,6 +44,11 @@ pub fn facts_of(module: Module) -> Facts
             not_late: true,
             unload_ok: false,
             labels: ranges_at(Elem::Low),
+        },
+        Module::Lomac => Facts {
+            not_late: true,
+            unload_ok: false,
+            labels: Labelling::Elements(Elem::High),
         },
         Module::Partition => Facts {
             not_late: false,
@@ -71,14 +78,15 @@ fn ranges_at(element: Elem) -> Labelling
     )
 }
 
-/// The label with ranges that a request asks of the module.
-pub fn range_asked(module: Module, request: &Request) -> &Option<RangeLabel>
-    ensures { result.now ≡ facts.range_asked «module» request.now }
+/// The label that a request asks of a module whose labels have elements.
+pub fn range_asked(module: Module, request: &Request) -> Option<RangeLabel>
+    ensures { result ≡ facts.range_asked «module» request.now }
 {
     match module {
-        Module::Biba => &request.biba,
-        Module::Mls => &request.mls,
-        Module::Partition | Module::Bsdextended | Module::Priority => &None,
+        Module::Biba => request.biba,
+        Module::Mls => request.mls,
+        Module::Lomac => request.lomac.map(RangeLabel::effective),
+        Module::Partition | Module::Bsdextended | Module::Priority => None,
     }
 }
 
@@ -88,7 +96,7 @@ pub fn number_asked(module: Module, request: &Request) -> Option<u32>
 {
     match module {
         Module::Partition => request.partition,
-        Module::Biba | Module::Mls | Module::Bsdextended | Module::Priority => None,
+        Module::Biba | Module::Mls | Module::Lomac | Module::Bsdextended | Module::Priority => None,
     }
 }
 
@@ -98,18 +106,18 @@ pub fn wants_slot(module: Module) -> bool
 {
     match facts_of(module).labels {
         Labelling::Nothing => false,
-        Labelling::Ranges(..) | Labelling::Partitions => true,
+        Labelling::Ranges(..) | Labelling::Elements(_) | Labelling::Partitions => true,
     }
 }
 
-/// Whether the module labels entities of that kind: mac_biba and mac_mls label all, mac_partition processes and sockets,
+/// Whether the module labels entities of that kind: mac_biba, mac_mls and mac_lomac label all, mac_partition processes and sockets,
 /// and a module without a label slot none.
 pub fn labels_kind(module: Module, kind: Kind) -> bool
     ensures { result ≡ facts.labels_kind «module» kind }
 {
     match facts_of(module).labels {
         Labelling::Nothing => false,
-        Labelling::Ranges(..) => true,
+        Labelling::Ranges(..) | Labelling::Elements(_) => true,
         Labelling::Partitions => matches!(kind, Kind::Process | Kind::Socket),
     }
 }
@@ -127,7 +135,7 @@ pub fn takes(module: Module, kind: Kind, request: &Request) -> bool
     ensures { result ≡ facts.takes «module» kind request.now }
 {
     (labels_kind(module, kind) || !is_named(module, request))
-        && (matches!(kind, Kind::Process) || has_no_range(range_asked(module, request)))
+        && (matches!(kind, Kind::Process) || has_no_range(&range_asked(module, request)))
 }
 
 fn has_no_range(asked: &Option<RangeLabel>) -> bool
@@ -150,7 +158,11 @@ pub fn boot_value(module: Module, kind: Kind, request: &Request) -> LabelValue
         Labelling::Nothing => LabelValue::Unset,
         Labelling::Ranges(process, other) => {
             let default = default_range(kind, process, other);
-            LabelValue::Range(default.replaced_by(range_asked(module, request)))
+            LabelValue::Range(default.replaced_by(&range_asked(module, request)))
+        }
+        Labelling::Elements(element) => {
+            let default = RangeLabel::effective(element);
+            LabelValue::Range(default.replaced_by(&range_asked(module, request)))
         }
         Labelling::Partitions => LabelValue::Number(number_asked(module, request).unwrap_or(0)),
     }
@@ -174,7 +186,7 @@ pub fn inherited(module: Module, kind: Kind, value: &LabelValue) -> LabelValue
     }
     match facts_of(module).labels {
         Labelling::Nothing => LabelValue::Unset,
-        Labelling::Ranges(..) => inherited_range(kind, value),
+        Labelling::Ranges(..) | Labelling::Elements(_) => inherited_range(kind, value),
         Labelling::Partitions => inherited_partition(value),
     }
 }

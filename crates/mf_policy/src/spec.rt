@@ -15,6 +15,7 @@ use std::alloc::{AllocError, Global};
 pub enum Spec {
     Biba,
     Mls,
+    Lomac,
     Partition,
     /// Its rules about files, and whether the first of them that matches decides.
     Bsdextended { rules: RuleList, first_match: bool },
@@ -29,6 +30,7 @@ impl Spec {
         match module {
             Module::Biba => Ok(Spec::Biba),
             Module::Mls => Ok(Spec::Mls),
+            Module::Lomac => Ok(Spec::Lomac),
             Module::Partition => Ok(Spec::Partition),
             Module::Bsdextended => Ok(Spec::Bsdextended {
                 rules: RuleList::new(alloc)?,
@@ -45,6 +47,7 @@ impl Spec {
         match self {
             Spec::Biba => Ok(Spec::Biba),
             Spec::Mls => Ok(Spec::Mls),
+            Spec::Lomac => Ok(Spec::Lomac),
             Spec::Partition => Ok(Spec::Partition),
             Spec::Bsdextended { rules, first_match } => Ok(Spec::Bsdextended {
                 rules: rules.copy(alloc)?,
@@ -58,19 +61,19 @@ impl Spec {
     pub fn same(&self, other: &Spec) -> bool
         ensures { IsTrue result ↔ (self.now ≡ other.now) }
     {
-        match (self, other) {
-            (Spec::Biba, Spec::Biba)
-            | (Spec::Mls, Spec::Mls)
-            | (Spec::Partition, Spec::Partition)
-            | (Spec::Priority, Spec::Priority) => true,
-            (
-                Spec::Bsdextended { rules, first_match },
+        match self {
+            Spec::Biba => matches!(other, Spec::Biba),
+            Spec::Mls => matches!(other, Spec::Mls),
+            Spec::Lomac => matches!(other, Spec::Lomac),
+            Spec::Partition => matches!(other, Spec::Partition),
+            Spec::Bsdextended { rules, first_match } => match other {
                 Spec::Bsdextended {
                     rules: other_rules,
                     first_match: other_first,
-                },
-            ) => *first_match == *other_first && rules.same(other_rules),
-            _ => false,
+                } => *first_match == *other_first && rules.same(other_rules),
+                _ => false,
+            },
+            Spec::Priority => matches!(other, Spec::Priority),
         }
     }
 
@@ -80,7 +83,9 @@ impl Spec {
     {
         match self {
             Spec::Bsdextended { rules, .. } => answer_of_rules(rules, change),
-            Spec::Biba | Spec::Mls | Spec::Partition | Spec::Priority => Changed::no_setting(),
+            Spec::Biba | Spec::Mls | Spec::Lomac | Spec::Partition | Spec::Priority => {
+                Changed::no_setting()
+            }
         }
     }
 
@@ -92,7 +97,9 @@ impl Spec {
     {
         match self {
             Spec::Bsdextended { rules, first_match } => change_rules(rules, first_match, change),
-            Spec::Biba | Spec::Mls | Spec::Partition | Spec::Priority => Ok(Changed::no_setting()),
+            Spec::Biba | Spec::Mls | Spec::Lomac | Spec::Partition | Spec::Priority => {
+                Ok(Changed::no_setting())
+            }
         }
     }
 
@@ -102,7 +109,7 @@ impl Spec {
     {
         match self {
             Spec::Bsdextended { rules, .. } => Some(rules),
-            Spec::Biba | Spec::Mls | Spec::Partition | Spec::Priority => None,
+            Spec::Biba | Spec::Mls | Spec::Lomac | Spec::Partition | Spec::Priority => None,
         }
     }
 }

@@ -14,6 +14,8 @@ mod growths;
 #[cfg(test)]
 mod labels;
 #[cfg(test)]
+mod lomac;
+#[cfg(test)]
 mod mls;
 #[cfg(test)]
 mod one_of;

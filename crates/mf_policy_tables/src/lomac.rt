@@ -1,0 +1,93 @@
+//! LOMAC by itself.
+
+use crate::asked::{grade, is_module, wants_answers, wants_by_level};
+use mf_cred::{Cred, FileView};
+use mf_elem::{Elem, LabelValue, RangeLabel, Request, SLOTS};
+use mf_errno::{Errno, Module, Priv};
+use mf_item::{CheckOp, Item, Kind, ObjectView, SubjectView};
+use mf_lomac::Lomac;
+use mf_policy::{Policy, Spec};
+
+#[test]
+fn facts_of_the_module(rt: HostRuntime) {
+    let mut policy = Lomac::new();
+    policy.reset();
+    let granted = policy.grant(&Cred::default(), Priv::KldLoad);
+    let is_lomac = is_module(&policy, Module::Lomac, true, false) && policy.same(&Spec::Lomac);
+    assert!(rt; is_lomac && !granted && !policy.same(&Spec::Biba));
+}
+
+#[test]
+fn reads_everything_and_writes_down(rt: HostRuntime) {
+    let rows = [
+        (Errno::Success, Errno::Success),
+        (Errno::Success, Errno::Success),
+        (Errno::Success, Errno::Eacces),
+        (Errno::Success, Errno::Eacces),
+    ];
+    wants_by_level(&rt, &Lomac::new(), &rows);
+}
+
+#[test]
+fn processes_sockets_and_modules(rt: HostRuntime) {
+    let (low, high) = (Elem::Low, Elem::High);
+    let rows = [
+        (CheckOp::ProcSignal, low, high, Errno::Eacces),
+        (CheckOp::ProcDebug, high, low, Errno::Success),
+        (CheckOp::ProcSched, grade(5), grade(9), Errno::Eacces),
+        (CheckOp::ProcVisible, low, high, Errno::Success),
+        (CheckOp::SocketVisible, low, high, Errno::Success),
+        (CheckOp::SocketDeliver, high, low, Errno::Eacces),
+        (CheckOp::SocketDeliver, high, Elem::Equal, Errno::Success),
+        (CheckOp::KldLoad, low, high, Errno::Success),
+    ];
+    wants_answers(&rt, &Lomac::new(), &rows);
+}
+
+/// A label without a range, in each slot.
+fn labelled(element: Elem) -> [LabelValue; SLOTS] {
+    [LabelValue::Range(RangeLabel::effective(element)); SLOTS]
+}
+
+/// The answer to a relabel, of the subject's own credential or of a file with the old element.
+fn relabel(op: CheckOp, subject: Elem, old: Elem, asked: Option<Elem>) -> Errno {
+    let subject = SubjectView {
+        id: 0,
+        cred: Cred::default(),
+        label: labelled(subject),
+    };
+    let object = ObjectView {
+        id: 1,
+        kind: Kind::Vnode,
+        file: FileView::default(),
+        label: labelled(old),
+    };
+    let mut request = Request::none();
+    request.lomac = asked;
+    Lomac::new().check(
+        0,
+        &Item::new(op, &subject, Some(&object), Some(&request), None),
+    )
+}
+
+#[test]
+fn gives_what_it_dominates(rt: HostRuntime) {
+    let (five, nine, equal) = (grade(5), grade(9), Elem::Equal);
+    let (own, file) = (CheckOp::CredRelabel, CheckOp::VnodeRelabel);
+    let rows: &[(CheckOp, Elem, Elem, Option<Elem>, Errno)] = &[
+        (own, nine, Elem::Low, Some(five), Errno::Success),
+        (own, five, Elem::Low, Some(nine), Errno::Eperm),
+        (own, nine, Elem::Low, Some(equal), Errno::Eperm),
+        (own, equal, Elem::Low, Some(equal), Errno::Success),
+        (own, equal, Elem::Low, Some(nine), Errno::Success),
+        (own, five, Elem::Low, None, Errno::Success),
+        (file, five, nine, Some(five), Errno::Eperm),
+        (file, five, nine, None, Errno::Eperm),
+        (file, nine, five, Some(nine), Errno::Success),
+        (file, nine, five, Some(equal), Errno::Eperm),
+        (file, nine, five, None, Errno::Success),
+    ];
+    for (op, subject, old, asked, errno) in rows {
+        assert!(rt; relabel(*op, *subject, *old, *asked) == *errno);
+    }
+}
