@@ -1,5 +1,6 @@
 -- What the listed policies allow of a relabel that is made.
 use Rattle.std.proofs.Common.{◌≡◌, true, List, Some}
+use Rattle.mf_elem.specs.Bounds.{IsRequest}
 use Rattle.mf_elem.specs.declared.label.LabelValue.{LabelValue}
 use Rattle.mf_elem.specs.declared.label.Request.{Request}
 use Rattle.mf_item.specs.declared.view.Kind.{Kind}
@@ -21,8 +22,9 @@ pub data AsksFor (s : State) (kind : Kind) (label : List LabelValue) (request : 
       → kind_of maker.what ≡ kinds.Process → item.subject.label ≡ maker.label → (object : ObjectView) → item.object ≡ Some object → object.label ≡ label
       → AsksFor s kind label request item
 
--- The listed policies claim the request for the entity, and each lets it be made.
+-- A label text can spell the request; the listed policies claim it for the entity, and each lets it be made.
 pub record IsAllowed (s : State) (e : LiveEntity) (request : Request) : Type 0 where
+  pub spelled : IsRequest request
   pub claimed : is_claimed s.specs (kind_of e.what) request ≡ true
   pub item : Item
   pub asked : item.request ≡ Some request

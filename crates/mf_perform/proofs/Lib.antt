@@ -1,5 +1,6 @@
 pub mod Granted
 pub mod Allowed
+mod Requests
 pub mod Rooted
 pub mod RelabelChange
 pub mod StateChange

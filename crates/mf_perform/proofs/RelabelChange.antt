@@ -42,6 +42,7 @@ use Rattle.mf_perform.specs.Effect.{with_objects, with_request}
 use Rattle.mf_perform.proofs.Allowed.{IsAllowed}
 use Rattle.mf_perform.proofs.Allowed.AsksFor.{of_itself, of_object}
 use Rattle.mf_perform.proofs.Granted.{IsGranted, last_granted}
+use Rattle.mf_perform.proofs.Requests.{claimed_request}
 use Rattle.mf_perform.proofs.Rooted.{HasKind, IsRooted, file_kind, has_kind, inside_some, named_lives, named_process, pipe_kind, process_kind, socket_kind, vnode_kind}
 
 -- what is asked is made, where something is
@@ -118,6 +119,7 @@ module _ (s : State) (caller : Id) (me : HasKind is_process s.objects caller) wh
       let kind : kind_of me.entity.what ≡ kinds.Process = process_kind me.entity.what me.passes in
       permitted caller me.entity request (ap (λ (x : Id). Some (x, request)) (sym same)) me.live
       (record {
+        spelled = claimed_request s.specs kinds.Process text request claimed;
         claimed = ap (λ (k : Kind). is_claimed s.specs k request) kind ∙ claim_of s.specs kinds.Process text request claimed;
         item = item_asking s.objects (Some request) (alone caller op.CredRelabel);
         asked = refl;
@@ -142,6 +144,7 @@ module _ (s : State) (caller : Id) (me : HasKind is_process s.objects caller) wh
           let is : kind_of e.what ≡ kind = has e live in
           permitted id e request refl live
           (record {
+            spelled = claimed_request s.specs kind text request claimed;
             claimed = ap (λ (k : Kind). is_claimed s.specs k request) is ∙ claim_of s.specs kind text request claimed;
             item = item_asking s.objects (Some request) (on caller operation id);
             asked = ap (λ (b : Bool). if b then Some request else None) relabel;
