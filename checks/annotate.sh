@@ -121,6 +121,9 @@ while read -r errno module operations; do
 done >"$folder/history" <<'END'
 EACCES mac_biba vnode_lookup vnode_readdir vnode_open_read vnode_read vnode_exec vnode_stat vnode_open_write vnode_write vnode_create
 EACCES mac_mls vnode_unlink_dir vnode_unlink vnode_setmode pipe_read pipe_stat pipe_write socket_send socket_deliver socket_receive
+EACCES mac_lomac vnode_open_write vnode_write vnode_create vnode_unlink_dir vnode_unlink vnode_setmode pipe_write socket_send socket_deliver
+EACCES mac_lomac proc_signal proc_sched proc_debug
+EPERM mac_lomac cred_relabel vnode_relabel pipe_relabel socket_relabel
 EACCES mac_bsdextended vnode_lookup vnode_readdir vnode_open_read vnode_open_write vnode_exec vnode_stat vnode_create
 EACCES mac_bsdextended vnode_unlink_dir vnode_unlink vnode_setmode
 EACCES mac_mls proc_signal proc_sched proc_debug

@@ -59,6 +59,7 @@ NUMBERS = [
     ("octal numbers", lambda n: of_file(mode=n), 0o7777, "1 fault 5 BadNumber"),
     ("numbers of rules", lambda n: in_task(f"ugidfw remove {n}"), 249, "2 fault 5 BadNumber"),
     ("grades", lambda n: labelled("biba", n), 65535, "2 fault 6 BadLabel"),
+    ("grades of mac_lomac", lambda n: labelled("lomac", n), 65535, "2 fault 6 BadLabel"),
     ("compartments", lambda n: labelled("mls", f"1:{n}"), 256, "2 fault 6 BadLabel"),
     ("partitions", lambda n: labelled("partition", n), 2**31 - 1, "2 fault 6 BadLabel"),
     ("boot lines", lambda n: "boot mac_biba\n" * n, 1, "2 fault 12 BootRefused EEXIST"),

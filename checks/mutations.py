@@ -37,6 +37,7 @@ WORDS = [
     *(b"/" + b"c" * 32, b"/" + b"c" * 33, b"/c" * 8, b"/c" * 9, b"other/x", b"biba/low,", b"mls/"),
     *(b"biba/65535", b"biba/65536", b"biba/5:256", b"biba/5:257", b"biba/5:0", b"biba/(1-2"),
     *(b"partition/2147483647", b"partition/2147483648"),
+    *(b"mac_lomac", b"lomac/5", b"lomac/5:1", b"lomac/(1-2)", b"lomac/"),
 ]
 
 

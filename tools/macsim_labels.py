@@ -9,12 +9,15 @@ LOW, HIGH, EQUAL = (0,), (2,), (3,)
 GRADE = 1
 NAMED = {"low": LOW, "lo": LOW, "high": HIGH, "hi": HIGH, "equal": EQUAL, "eq": EQUAL}
 
-# What mac_biba or mac_mls has in a label. Each part may be None: of a text what it doesn't give, and the range of what is no process.
+# What mac_biba, mac_mls or mac_lomac has in a label. Each part may be None: of a text what it doesn't give, and the range of what is no process.
+# That of mac_lomac has never a range.
 Levels = namedtuple("Levels", "effective range")
 
-BIBA, MLS, PARTITION = "mac_biba", "mac_mls", "mac_partition"
-MODULES = {"biba": BIBA, "mls": MLS, "partition": PARTITION}
-LATTICES = {BIBA: HIGH, MLS: LOW}
+BIBA, MLS, LOMAC, PARTITION = "mac_biba", "mac_mls", "mac_lomac", "mac_partition"
+MODULES = {"biba": BIBA, "mls": MLS, "lomac": LOMAC, "partition": PARTITION}
+LATTICES = {BIBA: HIGH, MLS: LOW, LOMAC: HIGH}
+# Those whose labels have ranges, and those of which lines of sources are printed, in their order.
+WITH_RANGES = WITH_SOURCES = (BIBA, MLS)
 
 
 def element_of(text):
@@ -35,10 +38,19 @@ def levels_of(text):
     return Levels(element_of(effective) if effective else None, (element_of(bottom), element_of(top)) if bottom is not None else None)
 
 
+def plain_of(text):
+    if text not in NAMED and not re.fullmatch(DIGITS, text):
+        raise ValueError(f"`{text}` is no element of mac_lomac")
+    return Levels(element_of(text), None)
+
+
 def partition_of(text):
     if text != "none" and not re.fullmatch(DIGITS, text):
         raise ValueError(f"`{text}` is no partition")
     return 0 if text == "none" else number_of(text)
+
+
+VALUES = {"biba": levels_of, "mls": levels_of, "lomac": plain_of, "partition": partition_of}
 
 
 def request_of(text):
@@ -48,7 +60,7 @@ def request_of(text):
         name, slash, value = part.partition("/")
         if not slash or name not in MODULES:
             raise ValueError(f"`{part}` is no element of a label")
-        request[MODULES[name]] = partition_of(value) if name == "partition" else levels_of(value)
+        request[MODULES[name]] = VALUES[name](value)
     return request
 
 
@@ -72,7 +84,7 @@ def boot_label(slots, kind, request):
     label = {}
     for module, slot in slots.items():
         if module in LATTICES:
-            default = Levels(LATTICES[module], (LOW, HIGH) if kind == "proc" else None)
+            default = Levels(LATTICES[module], (LOW, HIGH) if kind == "proc" and module in WITH_RANGES else None)
             label[slot] = replaced(default, request.get(module, Levels(None, None)))
         elif labels_kind(module, kind):
             label[slot] = request.get(module, 0)

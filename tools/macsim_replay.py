@@ -5,12 +5,12 @@ from collections import namedtuple
 
 from macsim_checks import CREATING, RELABELS, checks_of, is_change, is_reply_to
 from macsim_kernel import Kernel
-from macsim_labels import BIBA, MLS, PARTITION, boot_label, new_label, relabelled, request_of
+from macsim_labels import LATTICES, PARTITION, WITH_SOURCES, boot_label, new_label, relabelled, request_of
 from macsim_text import BadInput, denial_of
 from macsim_things import Credential, FileFacts, Thing, Things
 
 MODES = {"create": 0o644, "mkdir": 0o755}
-LABELLING = (BIBA, MLS, PARTITION)
+LABELLING = (*LATTICES, PARTITION)
 # The step of a line whose first word is another.
 STEPS = {"stale": "done", "changed": "change", "waits": "change"}
 
@@ -188,7 +188,7 @@ class Replay:
 
     def source_lines(self):
         """The beginning of each line of sources, and the thing that it is about."""
-        lattices = [module.removeprefix("mac_") for module in (BIBA, MLS) if module in self.slots]
+        lattices = [module.removeprefix("mac_") for module in WITH_SOURCES if module in self.slots]
         return [(f"source {name} {thing.title} ", thing) for name in lattices for thing in self.things]
 
     def line_of_source(self, event):

@@ -66,7 +66,7 @@ WORDS = {
     "L": ".+",
     "LABEL": ".+",
     "WORD": ".+",
-    "MODULE": "mac_biba|mac_mls|mac_partition|mac_bsdextended|mac_priority",
+    "MODULE": "mac_biba|mac_mls|mac_lomac|mac_partition|mac_bsdextended|mac_priority",
     "PRIVILEGE": "KLD_LOAD|KLD_UNLOAD|MAC_PARTITION|SCHED_RTPRIO|SCHED_IDPRIO",
     "NAME=VALUE": "[^=]*=.*",
     "TEXT": r"(?:[^\\]|\\[0-9A-Fa-f]{2})+",

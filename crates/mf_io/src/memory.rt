@@ -44,7 +44,10 @@ impl MemSource {
     /// A source of the bytes. A call moves at most `most` bytes. The calls of the numbers in `fails` fail; calls count from 1.
     pub fn new(bytes: Vec<u8>, most: usize, fails: Vec<u64>) -> Self
         requires { 1 ≤ most }
-        ensures { result ≡ record { left = bytes.items; calls = record { most = most; fails = fails; made = 0; faults = 0 } } }
+        ensures { result ≡ record {
+          left = bytes.items;
+          calls = record { most = most; fails = fails; made = 0; faults = 0 };
+        } }
     {
         MemSource {
             bytes,
@@ -65,7 +68,8 @@ impl Source for MemSource {
     /// Moves the least of `most`, the length of the buffer, and what is left. It fails exactly at the numbers in `fails`.
     fn read(&mut self, buffer: &mut [u8]) -> Result<usize, Failed>
         ensures fits { IfOk result (λ n. n ≤ length buffer.old) }
-        ensures bytes { IfOk result (λ n. Gave (Some self.old.left) (Some self.new.left) (length buffer.old) n buffer.new) }
+        ensures bytes { IfOk result (λ n.
+            Gave (Some self.old.left) (Some self.new.left) (length buffer.old) n buffer.new) }
         ensures cause { HasCause self.old.calls.faults self.new.calls.faults result }
         ensures failed { IsErr result ↔ IsTrue (fails_next self.old.calls) }
         ensures err { OnErr result ((self.new ≡ read_failed self.old) × (buffer.new ≡ buffer.old)) }
@@ -96,7 +100,8 @@ impl Model for MemSink {
 
     ghost view = { λ s. record { taken = s.bytes.items; room = s.room; calls = s.calls } };
 
-    ghost invariant = { λ s. (vec_len s.bytes ≤ s.room) × (s.room ≤ vec_capacity s.bytes) × (1 ≤ s.calls.most) };
+    ghost invariant = { λ s. (vec_len s.bytes ≤ s.room) × (s.room ≤ vec_capacity s.bytes)
+        × (1 ≤ s.calls.most) };
 }
 
 impl MemSink {
@@ -104,7 +109,11 @@ impl MemSink {
     /// The calls of the numbers in `fails` fail; calls count from 1.
     pub fn new(alloc: Global, room: usize, most: usize, fails: Vec<u64>) -> Result<Self, AllocError>
         requires { 1 ≤ most }
-        ensures { IfOk result (λ s. s ≡ record { taken = []; room = room; calls = record { most = most; fails = fails; made = 0; faults = 0 } }) }
+        ensures { IfOk result (λ s. s ≡ record {
+          taken = [];
+          room = room;
+          calls = record { most = most; fails = fails; made = 0; faults = 0 };
+        }) }
     {
         Ok(MemSink {
             bytes: Vec::with_capacity(alloc, room)?,
@@ -135,7 +144,8 @@ impl Sink for MemSink {
     fn write(&mut self, piece: &[u8]) -> Result<usize, Failed>
         ensures fits { IfOk result (λ n. n ≤ length piece.now) }
         ensures some { IfOk result (λ n. 0 < length piece.now → 0 < n) }
-        ensures bytes { IfOk result (λ n. Took (Some self.old.taken) (Some self.new.taken) (take n piece.now)) }
+        ensures bytes { IfOk result (λ n.
+            Took (Some self.old.taken) (Some self.new.taken) (take n piece.now)) }
         ensures same { OnErr result (Took (Some self.old.taken) (Some self.new.taken) []) }
         ensures cause { HasCause self.old.calls.faults self.new.calls.faults result }
         ensures failed { IsErr result ↔ Refuses self.old piece.now }

@@ -17,7 +17,8 @@ pub trait Sink {
     fn write(&mut self, piece: &[u8]) -> Result<usize, Failed>
         ensures fits { IfOk result (λ n. n ≤ length piece.now) }
         ensures some { IfOk result (λ n. 0 < length piece.now → 0 < n) }
-        ensures bytes { IfOk result (λ n. Took (taken self.old) (taken self.new) (take n piece.now)) }
+        ensures bytes { IfOk result (λ n.
+            Took (taken self.old) (taken self.new) (take n piece.now)) }
         ensures err { OnErr result (Took (taken self.old) (taken self.new) []) }
         ensures cause { HasCause (faults self.old) (faults self.new) result };
 }

@@ -18,6 +18,7 @@ pub trait Source {
     /// input.
     fn read(&mut self, buffer: &mut [u8]) -> Result<usize, Failed>
         ensures fits { IfOk result (λ n. n ≤ length buffer.old) }
-        ensures bytes { IfOk result (λ n. Gave (left self.old) (left self.new) (length buffer.old) n buffer.new) }
+        ensures bytes { IfOk result (λ n.
+            Gave (left self.old) (left self.new) (length buffer.old) n buffer.new) }
         ensures cause { HasCause (faults self.old) (faults self.new) result };
 }

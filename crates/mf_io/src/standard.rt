@@ -34,11 +34,14 @@ impl<R: Read + Drop> Source for StdSource<R> {
 
     fn read(&mut self, buffer: &mut [u8]) -> Result<usize, Failed>
         ensures fits { IfOk result (λ n. n ≤ length buffer.old) }
-        ensures bytes { IfOk result (λ n. Gave (R.remaining self.old.reader) (R.remaining self.new.reader) (length buffer.old) n buffer.new) }
+        ensures bytes { IfOk result (λ n.
+            Gave (R.remaining self.old.reader) (R.remaining self.new.reader)
+            (length buffer.old) n buffer.new) }
         ensures cause { HasCause self.old.faults self.new.faults result }
         ensures counted { OnErr result (self.new.faults ≡ counted self.old.faults) }
         // A read that failed leaves the bytes that are known.
-        ensures kept { OnErr result (Keeps (R.remaining self.old.reader) (R.remaining self.new.reader)) }
+        ensures kept { OnErr result
+            (Keeps (R.remaining self.old.reader) (R.remaining self.new.reader)) }
     {
         match self.reader.read(buffer) {
             Ok(count) => Ok(count),
@@ -80,8 +83,10 @@ impl<W: Write + Drop> Sink for StdSink<W> {
         ensures cause { HasCause self.old.faults self.new.faults result }
         ensures counted { OnErr result (self.new.faults ≡ counted self.old.faults) }
         // Where the writer knows its bytes, those that it took came behind them.
-        ensures took { IfOk result (λ n. Appends (W.contents self.old.writer) (W.contents self.new.writer) (take n piece.now)) }
-        ensures kept { OnErr result (Keeps (W.contents self.old.writer) (W.contents self.new.writer)) }
+        ensures took { IfOk result (λ n.
+            Appends (W.contents self.old.writer) (W.contents self.new.writer) (take n piece.now)) }
+        ensures kept { OnErr result
+            (Keeps (W.contents self.old.writer) (W.contents self.new.writer)) }
     {
         if let Ok(count) = self.writer.write(piece)
             && (count > 0 || piece.is_empty())

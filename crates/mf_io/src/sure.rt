@@ -45,7 +45,8 @@ impl Source for SureSource {
     /// Moves what fits. It never fails.
     fn read(&mut self, buffer: &mut [u8]) -> Result<usize, Failed>
         ensures fits { IfOk result (λ n. n ≤ length buffer.old) }
-        ensures bytes { IfOk result (λ n. Gave (Some self.old) (Some self.new) (length buffer.old) n buffer.new) }
+        ensures bytes { IfOk result (λ n.
+            Gave (Some self.old) (Some self.new) (length buffer.old) n buffer.new) }
         ensures cause { HasCause 0 0 result }
         ensures ok { SureSupplies self.old self.new buffer.old buffer.new result }
     {
@@ -69,7 +70,10 @@ impl Model for SureSink {
 
     ghost Value = { SureStore };
 
-    ghost view = { λ s. record { taken = if s.tells then Some s.bytes.items else None; room = s.room } };
+    ghost view = { λ s. record {
+      taken = if s.tells then Some s.bytes.items else None;
+      room = s.room;
+    } };
 
     ghost invariant = { λ s. (vec_len s.bytes ≤ s.room) × (s.room ≤ vec_capacity s.bytes) };
 }
