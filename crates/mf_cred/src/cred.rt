@@ -1,5 +1,5 @@
 //! Credentials of processes, and attributes of files, as far as policies look at them.
-ghost use Rattle.std.specs.Prelude.{◌≡◌, nat_eq, IsTrue, ◌↔◌, Contains, [], ◌∷◌};
+ghost use Rattle.std.specs.Prelude.{◌≡◌, ◌==◌, IsTrue, ◌↔◌, Contains, [], ◌∷◌};
 ghost use Rattle.mf_cred.specs.Groups.{in_group};
 
 use crate::{ArrayVec, Duplicate};
@@ -28,7 +28,7 @@ impl Cred {
 
     /// Whether the effective uid is 0.
     pub fn is_root(&self) -> bool
-        ensures { result ≡ nat_eq self.now.uid 0 }
+        ensures { result ≡ (self.now.uid == 0) }
     {
         self.uid == 0
     }

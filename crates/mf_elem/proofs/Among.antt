@@ -1,9 +1,22 @@
--- What stands among the numbers that pass.
-use Rattle.std.proofs.Common.{◌≡◌, ◌≢◌, ℕ, ◌<◌, ◌≤◌, suc, zero, Bool, true, false, cond, ◌||◌, eqb, List, [], ◌∷◌, ◌++◌, filter, refl, sym, ap, ◌∙◌, arith, inl, inr}
+-- The numbers from 1 up to one, and what stands among those that pass.
+use Rattle.std.proofs.Common.{◌≡◌, ◌≢◌, ℕ, ◌+◌, ◌<◌, ◌≤◌, suc, zero, Bool, true, false, cond, ◌||◌, eqb, List, [], ◌∷◌, ◌++◌, filter, refl, sym, ap, ◌∙◌, arith, inl, inr}
 use Rattle.std.proofs.lemmas.Bool.{ne_eqb, eq-eqb, cases_eq}
 use Rattle.std.proofs.lemmas.List.Elements.{filter-append}
-use Rattle.std.specs.List.{list_any}
-use Rattle.mf_elem.specs.Comps.{numbers_to}
+use Rattle.std.specs.List.{list_any, range_with_len}
+
+abbrev pub numbers_to : ℕ → List ℕ
+numbers_to zero = []
+numbers_to (suc n) = numbers_to n ++ suc n ∷ []
+
+range_push : (a n : ℕ) → range_with_len a (suc n) ≡ range_with_len a n ++ (a + n) ∷ []
+range_push a zero = let same : a + 0 ≡ a = omega arith in rw same refl
+range_push a (suc n) = let same : a + suc n ≡ a + 1 + n = omega arith in rw same (ap (λ ns. a ∷ ns) (range_push (a + 1) n))
+
+pub range_is : (n : ℕ) → range_with_len 1 n ≡ numbers_to n
+range_is zero = refl
+range_is (suc n) =
+    let last : 1 + n ≡ suc n = omega arith in
+    range_push 1 n ∙ ap (λ k. range_with_len 1 n ++ k ∷ []) last ∙ ap (λ ns. ns ++ suc n ∷ []) (range_is n)
 
 abbrev pub is_among : ℕ → List ℕ → Bool
 is_among q ns = list_any (λ n. eqb n q) ns

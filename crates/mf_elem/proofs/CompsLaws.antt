@@ -12,10 +12,10 @@ use Rattle.std.specs.FinSet.{FinSet, members, contains-from_list_nat, contains-e
 use Rattle.std.specs.Cmp.{nat_cmp_total}
 use Rattle.std.proofs.lemmas.Nat.Bits.{same_from_bits_below, bit_at-lt, bit_at_cat_low, bit_at_cat_high, bit_at-zero, bit_at_set_same, bit_at_set_other, bit_at_and}
 use Rattle.std.proofs.lemmas.List.{get_or-set_same, get_or-set_other}
-use Rattle.mf_elem.specs.Comps.{is_there, numbers_to, rising, compartments_of, no_comps, with_compartment}
+use Rattle.mf_elem.specs.Comps.{is_there, rising, compartments_of, no_comps, with_compartment}
 use Rattle.mf_elem.specs.OfSets.{number_with, word_of, words_of, comps_of}
 use Rattle.mf_elem.specs.declared.comps.Comps.{Comps}
-use Rattle.mf_elem.proofs.Among.{among_is, above, zero_not_among, filter_same}
+use Rattle.mf_elem.proofs.Among.{numbers_to, range_is, among_is, above, zero_not_among, filter_same}
 use Rattle.mf_elem.specs.Bounds.{AreWords}
 
 -- whether the bit of this place is set, counted through the words
@@ -36,10 +36,17 @@ none_over : (m : ℕ) (b : Bool) → ltb m 256 ≡ false → (ltb m 256 && b) �
 none_over m b h = rw h refl
 
 -- ---- what the set contains, number by number
-pub contains_suc : (words : List ℕ) (m : ℕ) → set.contains (numbers_of words) (suc m) ≡ (ltb m 256 && is_bit words m)
+pub rising_to : (comps : Comps) → rising comps ≡ filter (is_there comps.words) (numbers_to 256)
 unfolding rising
+rising_to comps = ap (filter (is_there comps.words)) (range_is 256)
+
+among_rising : (words : List ℕ) (q : ℕ) → set.contains (numbers_of words) q ≡ set.contains (set.from_list {K = ℕ} {R = nat_cmp} (filter (is_there words) (numbers_to 256))) q
+among_rising words q = ap (λ (ns : List ℕ). set.contains (set.from_list {K = ℕ} {R = nat_cmp} ns) q) (rising_to (record { words = words }))
+
+pub contains_suc : (words : List ℕ) (m : ℕ) → set.contains (numbers_of words) (suc m) ≡ (ltb m 256 && is_bit words m)
 contains_suc words m =
-    contains-from_list_nat (filter (is_there words) (numbers_to 256)) (suc m)
+    among_rising words (suc m)
+    ∙ contains-from_list_nat (filter (is_there words) (numbers_to 256)) (suc m)
     ∙ (elim (cases_lt m 256) [
       | inl within ↦
           among_is (is_there words) 256 (suc m) (omega arith) (omega (arith, within))
@@ -49,16 +56,15 @@ contains_suc words m =
     ])
 
 pub contains_zero : (words : List ℕ) → set.contains (numbers_of words) 0 ≡ false
-unfolding rising
-contains_zero words = contains-from_list_nat (filter (is_there words) (numbers_to 256)) 0 ∙ zero_not_among (is_there words) 256
+contains_zero words = among_rising words 0 ∙ contains-from_list_nat (filter (is_there words) (numbers_to 256)) 0 ∙ zero_not_among (is_there words) 256
 
 -- the rising compartments are those that the set contains
 pub rising_contained : (comps : Comps) → rising comps ≡ filter (set.contains (compartments_of comps)) (numbers_to 256)
-unfolding rising
 rising_contained comps =
     let test : ℕ → Bool = is_there comps.words in
-    filter_same test (set.contains (set.from_list (filter test (numbers_to 256)))) 256 (λ q least most.
-    sym (contains-from_list_nat (filter test (numbers_to 256)) q ∙ among_is test 256 q least most))
+    rising_to comps
+    ∙ filter_same test (set.contains (compartments_of comps)) 256 (λ q least most.
+    sym (among_rising comps.words q ∙ contains-from_list_nat (filter test (numbers_to 256)) q ∙ among_is test 256 q least most))
 
 -- the number fits
 one_more_bit : (n i c : ℕ) → n < 2 ^ i → c ≤ 2 ^ i → n + c < 2 ^ suc i

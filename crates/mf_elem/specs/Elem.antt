@@ -28,10 +28,8 @@ is_plain other = true
 abbrev pub same_level : Elem → Elem → Bool
 same_level a b = dominates a b && dominates b a
 
--- the high end dominates the element, and the element the low end
 abbrev pub in_range : Elem → Elem → Elem → Bool
 in_range element low high = dominates high element && dominates element low
 
--- The range from low to high holds the range from inner_low to inner_high.
 abbrev pub range_in_range : Elem → Elem → Elem → Elem → Bool
 range_in_range inner_low inner_high low high = dominates high inner_high && dominates inner_low low

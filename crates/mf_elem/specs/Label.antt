@@ -9,12 +9,8 @@ use Rattle.mf_elem.specs.declared.elem.Elem.TheVariants.{Low, High}
 use Rattle.mf_elem.specs.declared.label.RangeLabel.{RangeLabel}
 use Rattle.mf_elem.specs.declared.label.Request.{Request}
 
-abbrev pub has_equal_effective : Option Elem → Bool
-has_equal_effective effective = option_map_or is_equal effective false
-
--- the effective element or an end of the range is equal
 abbrev pub has_equal : RangeLabel → Bool
-has_equal label = has_equal_effective label.effective || option_map_or (λ ends. is_equal ends.0 || is_equal ends.1) label.range false
+has_equal label = option_map_or is_equal label.effective false || option_map_or (λ ends. is_equal ends.0 || is_equal ends.1) label.range false
 
 -- A subject with this label is privileged, since some part is `equal`, or its range goes from low to high: it may ask for `equal` in a
 -- relabel, and mac_biba lets it load modules. Privilege alone doesn't exempt it from the other checks.
@@ -33,7 +29,6 @@ element_alone element = record { effective = Some element; range = None }
 abbrev pub is_plain_label : RangeLabel → Bool
 is_plain_label label = option_map_or is_plain label.effective false && is_none label.range
 
--- the request that names no policy
 abbrev pub no_request : Request
 no_request = record { biba = None; mls = None; lomac = None; partition = None; other = false }
 

@@ -1,5 +1,5 @@
 -- The one value of each set of compartments.
-use Rattle.std.specs.Prelude.{ℕ, ◌+◌, ◌*◌, ◌^◌, Bool, cond, List, [], ◌∷◌}
+use Rattle.std.specs.Prelude.{ℕ, ◌+◌, ◌*◌, ◌^◌, Bool, if◌then◌else◌, List, [], ◌∷◌}
 use Rattle.std.specs.Ordering.{nat_cmp}
 use Rattle.std.specs.FinSet as set
 use Rattle.std.specs.FinSet.{FinSet}
@@ -9,7 +9,7 @@ use Prim.Native.Nat.{suc, zero}
 -- the number whose bits below k are those that pass
 unfoldable pub number_with : (ℕ → Bool) → ℕ → ℕ
 number_with f zero = 0
-number_with f (suc i) = number_with f i + cond (f i) (2 ^ i) 0
+number_with f (suc i) = number_with f i + (if f i then 2 ^ i else 0)
 
 -- a word of a set
 abbrev pub word_of : FinSet nat_cmp → ℕ → ℕ

@@ -107,7 +107,7 @@ pub fn is_valid(l: &RangeLabel) -> bool
 }
 
 fn is_equal_effective(effective: &Option<Elem>) -> bool
-    ensures { result ≡ spec.has_equal_effective effective.now }
+    ensures { result ≡ option_map_or is_equal effective.now false }
 {
     matches!(effective, Some(Elem::Equal))
 }

@@ -5,7 +5,7 @@ use Rattle.std.specs.Str.{bytes_eq}
 use Rattle.std.proofs.lemmas.Slice.Eq.{bytes_eq-Decides}
 use Rattle.mf_errno.specs.Errno.{number_of, errno_named}
 use Rattle.mf_errno.specs.Same.{is_same}
-use Rattle.mf_errno.specs.Names.{text_of, all_errors}
+use Rattle.mf_errno.specs.Names.{error_text, all_errors}
 use Rattle.mf_errno.specs.declared.errno.Errno.{Errno}
 use Rattle.mf_errno.specs.declared.errno.Errno.TheVariants.{Success, Eperm, Enoent, Esrch, Edeadlk, Enomem, Eacces, Ebusy, Eexist, Enotdir, Eisdir, Einval, Enfile, Efbig, Eagain, Enobufs, Enotempty}
 use Rattle.mf_errno.proofs.Modules.{differs}
@@ -34,7 +34,7 @@ own_number Enobufs = refl
 own_number Enotempty = refl
 
 -- each error is found by its own name
-pub own_name : (e : Errno) → errno_named (text_of e) ≡ Some e
+pub own_name : (e : Errno) → errno_named (error_text e) ≡ Some e
 unfolding errno_named
 own_name Success = refl
 own_name Eperm = refl
@@ -62,11 +62,11 @@ pub numbers_differ : (e f : Errno) → number_of e ≡ number_of f → e ≡ f
 numbers_differ e f same = found_once e f (sym (own_number e) ∙ ap errno_numbered same ∙ own_number f)
 
 -- two errors of one name are one
-pub names_differ : (e f : Errno) → text_of e ≡ text_of f → e ≡ f
+pub names_differ : (e f : Errno) → error_text e ≡ error_text f → e ≡ f
 names_differ e f same = found_once e f (sym (own_name e) ∙ ap errno_named same ∙ own_name f)
 
 pub is_same-is : (e f : Errno) → is_same e f ≡ true → e ≡ f
-is_same-is e f h = names_differ e f ((bytes_eq-Decides (text_of e) (text_of f)).0 h)
+is_same-is e f h = names_differ e f ((bytes_eq-Decides (error_text e) (error_text f)).0 h)
 
 pub is_same-refl : (e : Errno) → is_same e e ≡ true
 is_same-refl Success = refl
@@ -87,11 +87,11 @@ is_same-refl Eagain = refl
 is_same-refl Enobufs = refl
 is_same-refl Enotempty = refl
 
-found_nowhere : (text : List ℕ) → ((e : Errno) → text ≢ text_of e) → (es : List Errno) → find (λ e. bytes_eq (text_of e) text) es ≡ None
+found_nowhere : (text : List ℕ) → ((e : Errno) → text ≢ error_text e) → (es : List Errno) → find (λ e. bytes_eq (error_text e) text) es ≡ None
 found_nowhere text other [] = refl
-found_nowhere text other (e ∷ es) = let here : bytes_eq (text_of e) text ≡ false = differs (text_of e) text (other e) in let later = found_nowhere text other es in rw here later
+found_nowhere text other (e ∷ es) = let here : bytes_eq (error_text e) text ≡ false = differs (error_text e) text (other e) in let later = found_nowhere text other es in rw here later
 
 -- no error is found by a text that is no error's name
-pub no_name : (text : List ℕ) → ((e : Errno) → text ≢ text_of e) → errno_named text ≡ None
+pub no_name : (text : List ℕ) → ((e : Errno) → text ≢ error_text e) → errno_named text ≡ None
 unfolding errno_named
 no_name text other = found_nowhere text other all_errors

@@ -2,7 +2,7 @@
 use Rattle.std.specs.Prelude.{◌≡◌, ℕ, List, Option, find}
 use Rattle.mf_errno.specs.declared.errno.Errno.{Errno}
 use Rattle.mf_errno.specs.declared.errno.Errno.TheVariants.{Success, Eperm, Enoent, Esrch, Edeadlk, Enomem, Eacces, Ebusy, Eexist, Enotdir, Eisdir, Einval, Enfile, Efbig, Eagain, Enobufs, Enotempty}
-use Rattle.mf_errno.specs.Names.{text_of, all_errors}
+use Rattle.mf_errno.specs.Names.{error_text, all_errors}
 use Rattle.std.specs.Str.{bytes_eq}
 
 -- the number of errno(2), and 0 for success
@@ -31,8 +31,8 @@ NumbersDiffer = (a b : Errno) → number_of a ≡ number_of b → a ≡ b
 
 -- no two errors have one name
 abbrev pub NamesDiffer : Type 0
-NamesDiffer = (a b : Errno) → text_of a ≡ text_of b → a ≡ b
+NamesDiffer = (a b : Errno) → error_text a ≡ error_text b → a ≡ b
 
 -- the error of that name
 unfoldable pub errno_named : List ℕ → Option Errno
-errno_named name = find (λ e. bytes_eq (text_of e) name) all_errors
+errno_named name = find (λ e. bytes_eq (error_text e) name) all_errors

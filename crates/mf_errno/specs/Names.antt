@@ -1,4 +1,4 @@
--- The names of the errors, as errno(2) has them, and of the modules, as their manual pages have them. The name of success is this model's own.
+-- The names of the errors, as errno(2) has them and a history prints them, and of the modules, as their manual pages have them. The name of success is this model's own.
 use Rattle.std.specs.Prelude.{ℕ, List, [], ◌∷◌, ◌++◌, Option, find, codes}
 use Rattle.std.specs.Str.{bytes_eq}
 use Rattle.mf_errno.specs.declared.errno.Errno.{Errno}
@@ -6,25 +6,24 @@ use Rattle.mf_errno.specs.declared.errno.Errno.TheVariants.{Success, Eperm, Enoe
 use Rattle.mf_errno.specs.declared.module.Module.{Module}
 use Rattle.mf_errno.specs.declared.module.Module.TheVariants.{Biba, Mls, Lomac, Partition, Bsdextended, Priority}
 
--- the name that a history prints
-abbrev pub text_of : Errno → List ℕ
-text_of Success = codes "ok"
-text_of Eperm = codes "EPERM"
-text_of Enoent = codes "ENOENT"
-text_of Esrch = codes "ESRCH"
-text_of Edeadlk = codes "EDEADLK"
-text_of Enomem = codes "ENOMEM"
-text_of Eacces = codes "EACCES"
-text_of Ebusy = codes "EBUSY"
-text_of Eexist = codes "EEXIST"
-text_of Enotdir = codes "ENOTDIR"
-text_of Eisdir = codes "EISDIR"
-text_of Einval = codes "EINVAL"
-text_of Enfile = codes "ENFILE"
-text_of Efbig = codes "EFBIG"
-text_of Eagain = codes "EAGAIN"
-text_of Enobufs = codes "ENOBUFS"
-text_of Enotempty = codes "ENOTEMPTY"
+abbrev pub error_text : Errno → List ℕ
+error_text Success = codes "ok"
+error_text Eperm = codes "EPERM"
+error_text Enoent = codes "ENOENT"
+error_text Esrch = codes "ESRCH"
+error_text Edeadlk = codes "EDEADLK"
+error_text Enomem = codes "ENOMEM"
+error_text Eacces = codes "EACCES"
+error_text Ebusy = codes "EBUSY"
+error_text Eexist = codes "EEXIST"
+error_text Enotdir = codes "ENOTDIR"
+error_text Eisdir = codes "EISDIR"
+error_text Einval = codes "EINVAL"
+error_text Enfile = codes "ENFILE"
+error_text Efbig = codes "EFBIG"
+error_text Eagain = codes "EAGAIN"
+error_text Enobufs = codes "ENOBUFS"
+error_text Enotempty = codes "ENOTEMPTY"
 
 -- all of them, by their numbers
 abbrev pub all_errors : List Errno
@@ -42,10 +41,8 @@ policy_text Priority = codes "priority"
 abbrev pub module_text : Module → List ℕ
 module_text m = codes "mac_" ++ policy_text m
 
--- all of them
 abbrev pub all_modules : List Module
 all_modules = Biba ∷ Mls ∷ Lomac ∷ Partition ∷ Bsdextended ∷ Priority ∷ []
 
--- the module of that name
 unfoldable pub module_named : List ℕ → Option Module
 module_named name = find (λ m. bytes_eq (module_text m) name) all_modules

@@ -1,7 +1,7 @@
 //! The error numbers of errno(2) that policies answer and calls return.
 ghost use Rattle.std.specs.Prelude.{◌≡◌};
 ghost use Rattle.mf_errno.specs.Errno.{number_of, errno_named};
-ghost use Rattle.mf_errno.specs.Names.{text_of};
+ghost use Rattle.mf_errno.specs.Names.{error_text, all_errors};
 
 use std::fmt;
 
@@ -28,6 +28,31 @@ pub enum Errno {
 }
 
 impl Errno {
+    /// Success and every error, by rising number.
+    pub fn all() -> &'static [Errno]
+        ensures { result.now ≡ all_errors }
+    {
+        &[
+            Errno::Success,
+            Errno::Eperm,
+            Errno::Enoent,
+            Errno::Esrch,
+            Errno::Edeadlk,
+            Errno::Enomem,
+            Errno::Eacces,
+            Errno::Ebusy,
+            Errno::Eexist,
+            Errno::Enotdir,
+            Errno::Eisdir,
+            Errno::Einval,
+            Errno::Enfile,
+            Errno::Efbig,
+            Errno::Eagain,
+            Errno::Enobufs,
+            Errno::Enotempty,
+        ]
+    }
+
     /// The number that errno(2) gives the error, and 0 for success.
     pub fn number(self) -> u32
         ensures { result ≡ number_of self }
@@ -55,7 +80,7 @@ impl Errno {
 
     /// The name as a history prints it: that of errno(2), and `ok` for success.
     pub fn name(self) -> &'static str
-        ensures { result.now ≡ text_of self }
+        ensures { result.now ≡ error_text self }
     {
         match self {
             Errno::Success => "ok",
@@ -109,7 +134,7 @@ impl Errno {
 impl fmt::Display for Errno {
     ghost use Rattle.std.specs.Prelude.{Some};
 
-    ghost output = { λ errno. Some (text_of errno) };
+    ghost output = { λ errno. Some (error_text errno) };
 
     fn fmt<W: fmt::Write>(&self, f: &mut fmt::Formatter<W>) -> fmt::Result {
         f.write_str(self.name())

@@ -9,7 +9,8 @@ use Rattle.std.specs.Cmp.{tied_itself}
 use Rattle.std.specs.Cmp.Lexicographic.{slice_cmp, nat_list_cmp_total, pointwise, same_text}
 use Rattle.std.specs.FinSet as set
 use Rattle.std.proofs.lemmas.Bool.Decides.{nat_tests}
-use Rattle.mf_elem.specs.Comps.{compartments_of, numbers_to, rising}
+use Rattle.mf_elem.specs.Comps.{compartments_of, rising}
+use Rattle.mf_elem.proofs.Among.{numbers_to}
 use Rattle.mf_elem.proofs.CompsLaws.{rising_contained}
 use Rattle.mf_elem.specs.declared.comps.Comps.{Comps}
 use Rattle.mf_flow.specs.Numbers.{with_number}

@@ -8,7 +8,8 @@ use Rattle.std.specs.Fmt.{decimal}
 use Rattle.mf_labeltext.specs.Canonical.{comps_text}
 use Rattle.mf_labeltext.specs.Commas.{comma_behind}
 use Rattle.std.specs.FinSet as set
-use Rattle.mf_elem.specs.Comps.{compartments_of, numbers_to, rising}
+use Rattle.mf_elem.specs.Comps.{compartments_of, rising}
+use Rattle.mf_elem.proofs.Among.{numbers_to}
 use Rattle.mf_elem.proofs.CompsLaws.{rising_contained}
 use Rattle.mf_elem.specs.declared.comps.Comps.{Comps}
 

@@ -1,12 +1,13 @@
 -- The rising compartments of a set make the set again.
-use Rattle.std.proofs.Common.{◌≡◌, ℕ, ◌≤◌, suc, zero, Bool, true, false, cond, List, [], ◌∷◌, ◌++◌, filter, refl, arith}
+use Rattle.std.proofs.Common.{◌≡◌, ℕ, ◌≤◌, suc, zero, Bool, true, false, cond, List, [], ◌∷◌, ◌++◌, filter, refl, sym, subst, arith}
 use Rattle.std.specs.List.{AllByRecursion}
 use Rattle.std.specs.FinSet as set
-use Rattle.mf_elem.specs.Comps.{is_there, numbers_to, rising, compartments_of}
+use Rattle.mf_elem.specs.Comps.{is_there, rising, compartments_of}
+use Rattle.mf_elem.proofs.Among.{numbers_to}
 use Rattle.mf_elem.specs.OfSets.{comps_of}
 use Rattle.mf_elem.specs.Bounds.{AreWords}
 use Rattle.mf_elem.specs.declared.comps.Comps.{Comps}
-use Rattle.mf_elem.proofs.CompsLaws.{comps_again}
+use Rattle.mf_elem.proofs.CompsLaws.{comps_again, rising_to}
 
 -- ---- the set again
 pub rising_again : (comps : Comps) → AreWords comps.words → comps ≡ comps_of (set.from_list (rising comps))
@@ -33,5 +34,4 @@ all_filter test (x ∷ xs) all =
     ]
 
 pub rising_are : (comps : Comps) → AllByRecursion IsCompartment (rising comps)
-unfolding rising
-rising_are comps = all_filter (is_there comps.words) (numbers_to 256) (all_numbers 256 (omega arith))
+rising_are comps = subst (AllByRecursion IsCompartment) (sym (rising_to comps)) (all_filter (is_there comps.words) (numbers_to 256) (all_numbers 256 (omega arith)))

@@ -1,12 +1,13 @@
 -- The rules for relabels, which Biba and MLS share: the tests in order, of which the first that fits answers. They are in the
 -- manner of FreeBSD's two modules; their order, and the second test of a credential, are this model's own choice.
 use Rattle.std.specs.Prelude.{Bool, true, false, not, ◌&&◌, if◌then◌else◌, Option, Some, None, is_some, is_none}
+use Rattle.std.specs.Option.{option_map_or}
 use Rattle.mf_errno.specs.declared.errno.Errno.{Errno}
 use Rattle.mf_errno.specs.declared.errno.Errno.TheVariants.{Success, Einval, Eperm}
 use Rattle.mf_elem.specs.declared.elem.Elem.{Elem}
 use Rattle.mf_elem.specs.declared.label.RangeLabel.{RangeLabel}
-use Rattle.mf_elem.specs.Elem.{in_range, range_in_range}
-use Rattle.mf_elem.specs.Label.{has_equal, has_equal_effective, is_privileged}
+use Rattle.mf_elem.specs.Elem.{in_range, is_equal, range_in_range}
+use Rattle.mf_elem.specs.Label.{has_equal, is_privileged}
 
 -- an element that is there lies outside the range; all lie outside where there is no range
 abbrev pub is_outside : Option Elem → Option (Elem × Elem) → Bool
@@ -36,5 +37,5 @@ object_relabel subject old asked =
     if is_some asked.range then Einval
     else if is_outside (Some old) subject.range then Eperm
     else if is_outside asked.effective subject.range then Eperm
-    else if has_equal_effective asked.effective && not (is_privileged subject) then Eperm
+    else if option_map_or is_equal asked.effective false && not (is_privileged subject) then Eperm
     else Success

@@ -11,7 +11,6 @@ is_literal byte = nat_le 33 byte && nat_le byte 126 && not (byte == 92)
 abbrev pub escaped_byte : ℕ → List ℕ
 escaped_byte byte = if is_literal byte then byte ∷ [] else 92 ∷ digit_char (byte / 16) ∷ digit_char (byte % 16) ∷ []
 
--- the escaped text of bytes
 unfoldable pub escaped : List ℕ → List ℕ
 escaped bytes = flat_map escaped_byte bytes
 
@@ -30,6 +29,5 @@ bytes_from place (c ∷ d ∷ e ∷ rest) =
     else with_first c (bytes_from (place + 1) (d ∷ e ∷ rest))
 bytes_from place (c ∷ rest) = if c == 92 then Err place else with_first c (bytes_from (place + 1) rest)
 
--- the bytes that a whole text stands for
 abbrev pub bytes_of : List ℕ → Result (List ℕ) ℕ
 bytes_of text = bytes_from 0 text

@@ -2,7 +2,7 @@
 use Rattle.std.specs.Prelude.{◌≡◌, ◌⊎◌, ℕ, ◌≤◌, List, [], ◌++◌, length, Some, Option, None, IfSome, IsSomeAnd, Result, Ok, Err, codes, ◌+◌, ◌<◌}
 use Rattle.std.specs.Fmt.{decimal}
 use Rattle.mf_errno.specs.declared.errno.Errno.{Errno}
-use Rattle.mf_errno.specs.Names.{text_of}
+use Rattle.mf_errno.specs.Names.{error_text}
 use Rattle.mf_calls.specs.declared.script.Script.{Script}
 use Rattle.mf_script.specs.declared.error.ScriptFault.{ScriptFault}
 use Rattle.mf_script.specs.declared.error.ScriptError.TheVariants as script_error
@@ -108,7 +108,7 @@ refusal_status refusal.Memory = 9
 -- behind the name of a fault: the errno of a module that can't be booted
 abbrev pub errno_text : Option Errno → List ℕ
 errno_text None = []
-errno_text (Some errno) = codes " " ++ text_of errno
+errno_text (Some errno) = codes " " ++ error_text errno
 
 -- the line of a script's fault
 abbrev pub fault_text : ℕ → ScriptFault → Option Errno → List ℕ

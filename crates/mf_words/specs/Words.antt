@@ -15,7 +15,6 @@ space = 32
 abbrev pub number_sign : ℕ
 number_sign = 35
 
--- a space or a tab
 abbrev pub is_blank : ℕ → Bool
 is_blank b = b == space || b == tab
 

@@ -1,5 +1,5 @@
 use Rattle.std.proofs.Common.{◌≢◌, sym}
-use Rattle.mf_errno.specs.Names.{text_of}
+use Rattle.mf_errno.specs.Names.{error_text}
 use Rattle.mf_errno.specs.declared.errno.Errno.{Errno}
 use Rattle.mf_errno.specs.declared.errno.Errno.TheVariants.{Success, Eperm, Enoent, Esrch, Edeadlk, Enomem, Eacces, Ebusy, Eexist, Enotdir, Eisdir, Einval, Enfile, Efbig, Eagain, Enobufs, Enotempty}
 use Rattle.mf_errno.proofs.Errors.{no_name}
@@ -9,7 +9,7 @@ pub returns-in_default : goal.returns-in_default
 returns-in_default c =
     let text = c.args.name.now in
     let other = c.in_default in
-    let each : (e : Errno) → text ≢ text_of e = λ e. elim e as (λ k. text ≢ text_of k) [
+    let each : (e : Errno) → text ≢ error_text e = λ e. elim e as (λ k. text ≢ error_text k) [
       | Success ↦ other.not-ok
       | Eperm ↦ other.not-EPERM
       | Enoent ↦ other.not-ENOENT
