@@ -38,7 +38,7 @@ booted_specs s = fold with_registered [] (boots_of s)
 
 -- the root directory alone, with the label of a file for which nothing is asked: biba/high, mls/low
 abbrev pub root_alone : List Entry → Entities
-root_alone listed = objects.opening (new_label listed kinds.Vnode (Boot no_request))
+root_alone listed = objects.with_root (new_label listed kinds.Vnode (Boot no_request))
 
 -- A file is made in the directory that its path names. In a well-formed script that is there, and the name is free.
 abbrev pub with_file_at : List Entry → Entities → FileLine → Target → Entities

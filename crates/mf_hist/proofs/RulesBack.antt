@@ -21,8 +21,7 @@ use Rattle.mf_rule.specs.Canonical.{rule_text}
 use Rattle.mf_rule.specs.Reading.{rule_in}
 use Rattle.mf_rule.specs.RuleGrammar.{IsRule}
 use Rattle.mf_rule.specs.RuleList.{Slots}
-use Rattle.mf_rule.proofs.Formed.{read_is_rule}
-use Rattle.mf_rule.proofs.RoundTrips.{canonical_text_reads}
+use Rattle.mf_rule.proofs.Formed.{canonical_text_reads, read_is_rule}
 use Rattle.mf_hist.specs.Lines.{AreRules}
 use Rattle.mf_hist.specs.ReplyText.{numbered_from, numbered_text}
 use Rattle.mf_hist.specs.Reading.{greatest_u32, and_then, only_if, word_by, number_of, all_added, no_rules, by_semicolons, with_rule, rules_of}

@@ -13,7 +13,8 @@ use Rattle.mf_policy.specs.Registration.{Entry}
 use Rattle.mf_objects.specs.declared.id.Id.{Id}
 use Rattle.mf_objects.specs.declared.entity.EntityData.{EntityData}
 use Rattle.mf_objects.specs.declared.entity.EntityData.TheVariants.{Process, Vnode, Pipe, Socket}
-use Rattle.mf_objects.specs.Live.{LiveEntity, Entities, id_of, has_id, is_process, is_child, live_at, reading, file_of, no_file}
+use Rattle.mf_objects.specs.Live.{LiveEntity, Entities, id_of, has_id, is_process, is_one_named, is_entry, live_at, file_of, no_file}
+use Rattle.mf_objects.proofs.Shorthands.{reading}
 use Rattle.mf_objects.specs.Changes.{made, with_entity, new_vnode}
 use Rattle.mf_objects.specs.Population.{IsRising}
 use Rattle.mf_objects.proofs.Rising.{rising_push, below_next}
@@ -84,7 +85,7 @@ pub record AreMade (o : Entities) (earlier later : List FileLine) (paths : ℕ �
 -- the name of a file to come is free in its directory
 is_free : (o : Entities) (earlier later : List FileLine) (f : FileLine) (paths : ℕ → List (List ℕ)) (dir : Id) → AreMade o earlier (f ∷ later) paths → 1 ≤ length f.path
     → Leads o root (directory_of f.path) dir → entry_of o dir (last_name f.path) ≡ None
-is_free o earlier later f paths dir are below leads = one (find (is_child dir (last_name f.path)) o.live) refl
+is_free o earlier later f paths dir are below leads = one (find (is_one_named (is_entry dir) (last_name f.path)) o.live) refl
   where
     whole : paths dir.0 ++ last_name f.path ∷ [] ≡ f.path
     whole =
@@ -92,16 +93,16 @@ is_free o earlier later f paths dir are below leads = one (find (is_child dir (l
         leads_path paths o (directory_of f.path) root dir are.tells leads ∙ ap (λ (p : List (List ℕ)). p ++ directory_of f.path) are.at_root in
         ap (λ (p : List (List ℕ)). p ++ last_name f.path ∷ []) directory ∙ directory_and_last f.path below
 
-    taken : (es : List LiveEntity) (e : LiveEntity) → AllByRecursion (Differs paths (f ∷ later)) es → find (is_child dir (last_name f.path)) es ≡ Some e → paths e.id.0 ≢ f.path
+    taken : (es : List LiveEntity) (e : LiveEntity) → AllByRecursion (Differs paths (f ∷ later)) es → find (is_one_named (is_entry dir) (last_name f.path)) es ≡ Some e → paths e.id.0 ≢ f.path
     taken [] e differs found = cc
-    taken (x ∷ es) e differs found = two (is_child dir (last_name f.path) x) (taken es e differs.1) found
+    taken (x ∷ es) e differs found = two (is_one_named (is_entry dir) (last_name f.path) x) (taken es e differs.1) found
       where
-        two : (b : Bool) → (find (is_child dir (last_name f.path)) es ≡ Some e → paths e.id.0 ≢ f.path)
-            → cond b (Some x) (find (is_child dir (last_name f.path)) es) ≡ Some e → paths e.id.0 ≢ f.path
+        two : (b : Bool) → (find (is_one_named (is_entry dir) (last_name f.path)) es ≡ Some e → paths e.id.0 ≢ f.path)
+            → cond b (Some x) (find (is_one_named (is_entry dir) (last_name f.path)) es) ≡ Some e → paths e.id.0 ≢ f.path
         two true rest here = let is : x ≡ e = cc in subst (λ (y : LiveEntity). paths y.id.0 ≢ f.path) is differs.0.0
         two false rest there = rest there
 
-    one : (found : Option LiveEntity) → find (is_child dir (last_name f.path)) o.live ≡ found → id_of found ≡ None
+    one : (found : Option LiveEntity) → find (is_one_named (is_entry dir) (last_name f.path)) o.live ≡ found → id_of found ≡ None
     one None is = refl
     one (Some e) is =
         let there : paths e.id.0 ≡ paths dir.0 ++ last_name f.path ∷ [] = found_path paths o.next dir e.id (last_name f.path) o.live are.tells (ap id_of is) in
@@ -198,9 +199,9 @@ module _ (listed : List Entry) (o : Entities) (earlier later : List FileLine) (f
   new_entry =
       let here : nat_eq dir.0 dir.0 ≡ true = eq-eqb dir.0 dir.0 refl in
       let named : bytes_eq (last_name f.path) (last_name f.path) ≡ true = (bytes_eq-Decides (last_name f.path) (last_name f.path)).1 refl in
-      let hit : is_child dir (last_name f.path) (new_file listed o f dir) ≡ true = rw (here, named) refl in
-      ap id_of (find_push_hit (is_child dir (last_name f.path)) o.live (new_file listed o f dir)
-      (none_found (find (is_child dir (last_name f.path)) o.live) free) hit)
+      let hit : is_one_named (is_entry dir) (last_name f.path) (new_file listed o f dir) ≡ true = rw (here, named) refl in
+      ap id_of (find_push_hit (is_one_named (is_entry dir) (last_name f.path)) o.live (new_file listed o f dir)
+      (none_found (find (is_one_named (is_entry dir) (last_name f.path)) o.live) free) hit)
 
   new_dir : f.file.dir ≡ true → is_dir (with_new_file listed o f dir) (new_file listed o f dir).id ≡ true
   new_dir is =

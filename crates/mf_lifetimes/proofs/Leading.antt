@@ -10,7 +10,8 @@ use Rattle.mf_errno.specs.declared.errno.Errno.TheVariants.{Enotdir}
 use Rattle.mf_objects.specs.declared.id.Id.{Id}
 use Rattle.mf_objects.specs.declared.entity.EntityData.{EntityData}
 use Rattle.mf_objects.specs.declared.entity.EntityData.TheVariants.{Process, Vnode, Pipe, Socket}
-use Rattle.mf_objects.specs.Live.{LiveEntity, Entities, id_of, has_id, is_process, is_entry, is_child, reading, file_of, no_file, live_at}
+use Rattle.mf_objects.specs.Live.{LiveEntity, Entities, id_of, has_id, is_process, is_entry, is_one_named, file_of, no_file, live_at}
+use Rattle.mf_objects.proofs.Shorthands.{reading}
 use Rattle.mf_objects.specs.Lives.{is_held_by}
 use Rattle.mf_objects.specs.Population.{IsRising}
 use Rattle.mf_calls.specs.Paths.{directory_of}
@@ -101,7 +102,7 @@ pub leads_kept : (o o' : Entities) (ys : List LiveEntity) (names : List (List �
 leads_kept o o' ys [] from to more leads = leads
 leads_kept o o' ys (name ∷ names) from to more leads =
     let entry : entry_of o' from name ≡ Some leads.0 =
-    ap (λ (live : List LiveEntity). id_of (find (is_child from name) live)) more ∙ entry_kept (is_child from name) o.live ys leads.0 leads.1 in
+    ap (λ (live : List LiveEntity). id_of (find (is_one_named (is_entry from) name) live)) more ∙ entry_kept (is_one_named (is_entry from) name) o.live ys leads.0 leads.1 in
     (leads.0, entry, dir_kept o o' ys leads.0 more leads.2, leads_kept o o' ys names leads.0 to more leads.3)
 
 -- the id of a directory was given
@@ -145,7 +146,7 @@ entry_path paths next id from own name (Vnode vnode) entry same tells = held_pat
 entry_path paths next id from own name (Pipe pipe) entry same tells = absurd tells
 entry_path paths next id from own name (Socket socket) entry same tells = absurd tells
 
-child_path : (paths : ℕ → List (List ℕ)) (next : ℕ) (from : Id) (name : List ℕ) (e : LiveEntity) → is_child from name e ≡ true → Tells paths next e
+child_path : (paths : ℕ → List (List ℕ)) (next : ℕ) (from : Id) (name : List ℕ) (e : LiveEntity) → is_one_named (is_entry from) name e ≡ true → Tells paths next e
     → paths e.id.0 ≡ paths from.0 ++ name ∷ []
 child_path paths next from name e child tells = one (is_entry from e.what) (bytes_eq e.name name) refl refl child
   where
@@ -155,12 +156,12 @@ child_path paths next from name e child tells = one (is_entry from e.what) (byte
     one false b entry same both = cc
 
 pub found_path : (paths : ℕ → List (List ℕ)) (next : ℕ) (from mid : Id) (name : List ℕ) (es : List LiveEntity) → AllByRecursion (Tells paths next) es
-    → id_of (find (is_child from name) es) ≡ Some mid → paths mid.0 ≡ paths from.0 ++ name ∷ []
+    → id_of (find (is_one_named (is_entry from) name) es) ≡ Some mid → paths mid.0 ≡ paths from.0 ++ name ∷ []
 found_path paths next from mid name [] tells found = cc
-found_path paths next from mid name (e ∷ es) tells found = one (is_child from name e) refl (found_path paths next from mid name es tells.1) found
+found_path paths next from mid name (e ∷ es) tells found = one (is_one_named (is_entry from) name e) refl (found_path paths next from mid name es tells.1) found
   where
-    one : (b : Bool) → is_child from name e ≡ b → (id_of (find (is_child from name) es) ≡ Some mid → paths mid.0 ≡ paths from.0 ++ name ∷ [])
-        → id_of (cond b (Some e) (find (is_child from name) es)) ≡ Some mid → paths mid.0 ≡ paths from.0 ++ name ∷ []
+    one : (b : Bool) → is_one_named (is_entry from) name e ≡ b → (id_of (find (is_one_named (is_entry from) name) es) ≡ Some mid → paths mid.0 ≡ paths from.0 ++ name ∷ [])
+        → id_of (cond b (Some e) (find (is_one_named (is_entry from) name) es)) ≡ Some mid → paths mid.0 ≡ paths from.0 ++ name ∷ []
     one true child rest found =
         let is : e.id ≡ mid = cc in
         subst (λ (id : Id). paths id.0 ≡ paths from.0 ++ name ∷ []) is (child_path paths next from name e child tells.0)

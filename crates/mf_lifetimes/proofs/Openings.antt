@@ -12,7 +12,8 @@ use Rattle.mf_policy.specs.Registration.{Entry}
 use Rattle.mf_objects.specs.declared.id.Id.{Id}
 use Rattle.mf_objects.specs.declared.entity.EntityData.{EntityData}
 use Rattle.mf_objects.specs.Live.{LiveEntity, Entities, has_id, kind_of, live_at}
-use Rattle.mf_objects.specs.Changes.{made, with_entity, new_process, new_vnode, root_entity}
+use Rattle.mf_objects.specs.Changes.{made, with_entity, new_process, new_vnode}
+use Rattle.mf_objects.proofs.Shorthands.{root_entity}
 use Rattle.mf_objects.proofs.Rising.{rising_push, id_is, id_differs}
 use Rattle.mf_calls.specs.declared.script.Task.{Task}
 use Rattle.mf_calls.specs.declared.script.FileLine.{FileLine}

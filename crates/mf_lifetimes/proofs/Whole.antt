@@ -11,7 +11,7 @@ use Rattle.mf_item.specs.declared.view.Kind.TheVariants as kinds
 use Rattle.mf_policy.specs.declared.labels.Origin.TheVariants.{Boot}
 use Rattle.mf_policy.specs.NewLabels.{new_label}
 use Rattle.mf_policy.specs.Registration.{Entry}
-use Rattle.mf_objects.specs.Live.{LiveEntity, Entities, id_of, is_process, is_named}
+use Rattle.mf_objects.specs.Live.{LiveEntity, Entities, id_of, is_process, is_one_named}
 use Rattle.mf_objects.specs.Changes.{made, new_process, with_entity}
 use Rattle.mf_calls.specs.declared.script.Task.{Task}
 use Rattle.mf_calls.specs.declared.script.FileLine.{FileLine}
@@ -74,7 +74,7 @@ with_booted_process listed o t = with_entity o t.name (new_label listed kinds.Pr
 -- a name that isn't the new process's stays free
 stays_free : (listed : List Entry) (o : Entities) (t u : Task) → (t.name ≢ u.name) × (process_named o u.name ≡ None)
     → process_named (with_booted_process listed o t) u.name ≡ None
-stays_free listed o t u both = ap id_of (find_push_miss (is_named is_process u.name) o.live (booted_process listed o t) (one (bytes_eq t.name u.name) refl)) ∙ both.1
+stays_free listed o t u both = ap id_of (find_push_miss (is_one_named is_process u.name) o.live (booted_process listed o t) (one (bytes_eq t.name u.name) refl)) ∙ both.1
   where
     one : (b : Bool) → bytes_eq t.name u.name ≡ b → (true && b) ≡ false
     one true same = absurd (both.0 ((bytes_eq-Decides t.name u.name).0 same))
@@ -92,7 +92,7 @@ tasks_made listed o (t ∷ ts) differ free =
     let longer : length (o.live ++ booted_process listed o t ∷ []) ≡ length o.live + 1 = length-append o.live (booted_process listed o t ∷ []) in
     ap (λ (x : Entities). length (fold (with_task listed) x ts).live) here ∙ rest ∙ omega arith
 
-none_named : (name : List ℕ) (es : List LiveEntity) → AllByRecursion (λ e. is_process e.what ≡ false) es → find (is_named is_process name) es ≡ None
+none_named : (name : List ℕ) (es : List LiveEntity) → AllByRecursion (λ e. is_process e.what ≡ false) es → find (is_one_named is_process name) es ≡ None
 none_named name [] files = refl
 none_named name (e ∷ es) files = rw files.0 (none_named name es files.1)
 

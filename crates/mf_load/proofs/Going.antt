@@ -1,6 +1,6 @@
 -- What a line of one task makes of what stands of a load.
 use Rattle.std.proofs.Common.{◌≡◌, ◌≢◌, ℕ, ◌<◌, ◌≤◌, ◌+◌, ◌*◌, nat_eq, Bool, true, false, cond, not, ◌&&◌, List, [], ◌∷◌, ◌++◌, Some, None, length, length-append, refl, ap, sym, ◌∙◌, subst, arith, eq-eqb, codes}
-use Rattle.std.specs.Prelude.{find, filter}
+use Rattle.std.specs.Prelude.{find, filter, take}
 use Rattle.std.specs.List.{AllByRecursion}
 use Rattle.std.specs.Str.{bytes_eq}
 use Rattle.std.proofs.lemmas.Bool.Decides.{nat_tests}
@@ -9,9 +9,9 @@ use Rattle.mf_errno.specs.declared.errno.Errno.TheVariants as errno
 use Rattle.mf_item.specs.declared.operation.CheckOp.TheVariants as op
 use Rattle.mf_objects.proofs.Entities.{changed_at}
 use Rattle.mf_objects.specs.declared.id.Id.{Id}
-use Rattle.mf_objects.specs.Live.{LiveEntity, live_at, has_id, is_child, is_entry}
+use Rattle.mf_objects.specs.Live.{LiveEntity, live_at, has_id, is_one_named, is_entry}
 use Rattle.mf_objects.specs.Head.{head_of}
-use Rattle.mf_objects.specs.Titles.{entry_names, first_names}
+use Rattle.mf_objects.specs.Titles.{entry_names, in_byte_order}
 use Rattle.mf_objects.specs.Changes.{appended, with_what, with_change, without}
 use Rattle.mf_calls.specs.Generated.{LoadCall, call_of, task_name, scratch_name, is_even}
 use Rattle.mf_calls.specs.Generated.{LoadCall as load}
@@ -89,7 +89,7 @@ module _ (t k : ℕ) (s : State) (own own' : ℕ → Own) (few : t ≤ 16) (with
 
   lists_own : own' k ≡ own_step k (own k) load.Readdir → Goes t k s own own' load.Readdir
   lists_own step =
-      same_by load.Readdir (reply.Ok (payload.Names (length (own k).names) (first_names 16 (own k).names)))
+      same_by load.Readdir (reply.Ok (payload.Names (length (own k).names) (take 16 (in_byte_order (own k).names))))
       (lists t k s (λ u. (own u).content) within stands.fixed specs (own k).names (stands.names k within)) refl step
 
   -- a byte is written
@@ -144,12 +144,12 @@ module _ (t k : ℕ) (s : State) (own own' : ℕ → Own) (few : t ≤ 16) (with
       one true is = let here : u ≡ k = grind (arith, nat_tests) in subst (λ v. (own' v).content ≡ (own v).content) (sym here) (ap (λ (x : Own). x.content) step)
       one false differs = ap (λ (x : Own). x.content) (others u (grind (arith, nat_tests)))
 
-  module _ (j : ℕ) (few_j : j < 4) (absent : find (is_child (at (directory_id k)) (scratch_name j)) s.objects.live ≡ None) (held_none : (own k).held j ≡ false)
+  module _ (j : ℕ) (few_j : j < 4) (absent : find (is_one_named (is_entry (at (directory_id k))) (scratch_name j)) s.objects.live ≡ None) (held_none : (own k).held j ≡ false)
       (step : own' k ≡ made (own k) j) where
     new_low : IsLow (2 * t + 1) (the_scratch s.objects.next k j).what
     new_low dir same = let is : at (directory_id k) ≡ dir = cc in omega (arith, ap (λ (i : Id). i.0) is)
 
-    new_hit : is_child (at (directory_id k)) (scratch_name j) (the_scratch s.objects.next k j) ≡ true
+    new_hit : is_one_named (is_entry (at (directory_id k))) (scratch_name j) (the_scratch s.objects.next k j) ≡ true
     new_hit =
         let here : nat_eq (directory_id k) (directory_id k) ≡ true = eq-eqb (directory_id k) (directory_id k) refl in
         let named : bytes_eq (scratch_name j) (scratch_name j) ≡ true = bytes_same (scratch_name j) (scratch_name j) refl in
@@ -160,14 +160,14 @@ module _ (t k : ℕ) (s : State) (own own' : ℕ → Own) (few : t ≤ 16) (with
         record {
           id = s.objects.next;
           late = stands.next;
-          named = find_push_hit (is_child (at (directory_id k)) (scratch_name j)) s.objects.live (the_scratch s.objects.next k j) absent new_hit;
+          named = find_push_hit (is_one_named (is_entry (at (directory_id k))) (scratch_name j)) s.objects.live (the_scratch s.objects.next k j) absent new_hit;
           here = find_push_hit (has_id (at s.objects.next)) s.objects.live (the_scratch s.objects.next k j)
               (find_beyond (at s.objects.next) 0 s.objects.next s.objects.live (omega arith) stands.fixed.rising)
               (eq-eqb s.objects.next s.objects.next refl);
-          only = all_push (λ e. is_child (at (directory_id k)) (scratch_name j) e ≡ true → e.id.0 ≡ s.objects.next) s.objects.live (the_scratch s.objects.next k j)
-              (all_from (λ e. is_child (at (directory_id k)) (scratch_name j) e ≡ false)
-              (λ e. is_child (at (directory_id k)) (scratch_name j) e ≡ true → e.id.0 ≡ s.objects.next) s.objects.live
-              (λ e miss hit. cc) (none_passes (is_child (at (directory_id k)) (scratch_name j)) s.objects.live absent)) (λ hit. refl);
+          only = all_push (λ e. is_one_named (is_entry (at (directory_id k))) (scratch_name j) e ≡ true → e.id.0 ≡ s.objects.next) s.objects.live (the_scratch s.objects.next k j)
+              (all_from (λ e. is_one_named (is_entry (at (directory_id k))) (scratch_name j) e ≡ false)
+              (λ e. is_one_named (is_entry (at (directory_id k))) (scratch_name j) e ≡ true → e.id.0 ≡ s.objects.next) s.objects.live
+              (λ e miss hit. cc) (none_passes (is_one_named (is_entry (at (directory_id k))) (scratch_name j)) s.objects.live absent)) (λ hit. refl);
         }
 
     made_scratch : (u i : ℕ) → u < t → i < 4 → HasScratch t u i (pushed s.objects (the_scratch s.objects.next k j)) ((own' u).held i)
@@ -186,7 +186,7 @@ module _ (t k : ℕ) (s : State) (own own' : ℕ → Own) (few : t ≤ 16) (with
             let file : i ≢ j = grind (arith, nat_tests) in
             let held : (own' k).held i ≡ (own k).held i = ap (λ (x : Own). x.held i) step ∙ held_other (own k).held j i true file in
             let names : bytes_eq (scratch_name j) (scratch_name i) ≡ false = scratches_differ j i few_j few_i (λ same. file (sym same)) in
-            let miss : is_child (at (directory_id k)) (scratch_name i) (the_scratch s.objects.next k j) ≡ false =
+            let miss : is_one_named (is_entry (at (directory_id k))) (scratch_name i) (the_scratch s.objects.next k j) ≡ false =
             ap (λ (c : Bool). nat_eq (directory_id k) (directory_id k) && c) names ∙ and_false (nat_eq (directory_id k) (directory_id k)) in
             subst (λ v. HasScratch t v i (pushed s.objects (the_scratch s.objects.next k j)) ((own' v).held i)) (sym here)
             (subst (HasScratch t k i (pushed s.objects (the_scratch s.objects.next k j))) (sym held)
@@ -194,7 +194,7 @@ module _ (t k : ℕ) (s : State) (own own' : ℕ → Own) (few : t ≤ 16) (with
         one false c other file =
             let apart : u ≢ k = grind (arith, nat_tests) in
             let ids : nat_eq (directory_id k) (directory_id u) ≡ false = ids_differ (directory_id k) (directory_id u) (λ same. apart (omega arith)) in
-            let miss : is_child (at (directory_id u)) (scratch_name i) (the_scratch s.objects.next k j) ≡ false =
+            let miss : is_one_named (is_entry (at (directory_id u))) (scratch_name i) (the_scratch s.objects.next k j) ≡ false =
             ap (λ (c : Bool). c && bytes_eq (scratch_name j) (scratch_name i)) ids in
             subst (HasScratch t u i (pushed s.objects (the_scratch s.objects.next k j))) (sym (ap (λ (x : Own). x.held i) (others u apart)))
             (push_scratch t u i s.objects (the_scratch s.objects.next k j) ((own u).held i) miss (stands.scratch u i below few_i))
@@ -249,11 +249,11 @@ module _ (t k : ℕ) (s : State) (own own' : ℕ → Own) (few : t ≤ 16) (with
 
   module _ (j : ℕ) (few_j : j < 4) (has : IsScratch t k j s.objects) (held_one : (own k).held j ≡ true)
       (step : own' k ≡ removed (own k) j) where
-    gone : find (is_child (at (directory_id k)) (scratch_name j)) (without (has_id (at has.id)) s.objects).live ≡ None
+    gone : find (is_one_named (is_entry (at (directory_id k))) (scratch_name j)) (without (has_id (at has.id)) s.objects).live ≡ None
     gone =
-        find_filter_gone (is_child (at (directory_id k)) (scratch_name j)) (λ e. not (has_id (at has.id) e)) s.objects.live
-        (all_from (λ e. is_child (at (directory_id k)) (scratch_name j) e ≡ true → e.id.0 ≡ has.id)
-        (λ e. is_child (at (directory_id k)) (scratch_name j) e ≡ true → not (has_id (at has.id) e) ≡ false) s.objects.live
+        find_filter_gone (is_one_named (is_entry (at (directory_id k))) (scratch_name j)) (λ e. not (has_id (at has.id) e)) s.objects.live
+        (all_from (λ e. is_one_named (is_entry (at (directory_id k))) (scratch_name j) e ≡ true → e.id.0 ≡ has.id)
+        (λ e. is_one_named (is_entry (at (directory_id k))) (scratch_name j) e ≡ true → not (has_id (at has.id) e) ≡ false) s.objects.live
         (λ e only hit. ap not (eq-eqb e.id.0 has.id (only hit))) has.only)
 
     apart : (u i : ℕ) → i < 4 → (u ≡ k → i ≡ j → ⊥) → (b : Bool) (one : HasScratch t u i s.objects b) → OtherThan t has.id u i s.objects b one
@@ -304,13 +304,13 @@ module _ (t k : ℕ) (s : State) (own own' : ℕ → Own) (few : t ≤ 16) (with
     goes_by_name : AllByRecursion (λ e. is_entry (at (directory_id k)) e.what ≡ true → not (has_id (at has.id) e) ≡ is_other_name j e.name) s.objects.live
     goes_by_name =
         both_ways (λ e. has_id (at has.id) e ≡ true → e ≡ the_scratch has.id k j)
-        (λ e. is_child (at (directory_id k)) (scratch_name j) e ≡ true → e.id.0 ≡ has.id)
+        (λ e. is_one_named (is_entry (at (directory_id k))) (scratch_name j) e ≡ true → e.id.0 ≡ has.id)
         (λ e. is_entry (at (directory_id k)) e.what ≡ true → not (has_id (at has.id) e) ≡ is_other_name j e.name) s.objects.live
         (λ e one only inside. by_name e (has_id (at has.id) e) (bytes_eq e.name (scratch_name j)) refl refl one only inside)
         (only_one (at has.id) 0 s.objects.next s.objects.live (the_scratch has.id k j) stands.fixed.rising has.here) has.only
       where
         by_name : (e : LiveEntity) (goes named : Bool) → has_id (at has.id) e ≡ goes → bytes_eq e.name (scratch_name j) ≡ named
-            → (has_id (at has.id) e ≡ true → e ≡ the_scratch has.id k j) → (is_child (at (directory_id k)) (scratch_name j) e ≡ true → e.id.0 ≡ has.id)
+            → (has_id (at has.id) e ≡ true → e ≡ the_scratch has.id k j) → (is_one_named (is_entry (at (directory_id k))) (scratch_name j) e ≡ true → e.id.0 ≡ has.id)
             → is_entry (at (directory_id k)) e.what ≡ true → not (has_id (at has.id) e) ≡ not (bytes_eq e.name (scratch_name j))
         by_name e true true hit same one only inside = ap not (hit ∙ sym same)
         by_name e true false hit other one only inside =
@@ -318,7 +318,7 @@ module _ (t k : ℕ) (s : State) (own own' : ℕ → Own) (few : t ≤ 16) (with
             let same : bytes_eq e.name (scratch_name j) ≡ true = bytes_same e.name (scratch_name j) (ap (λ (x : LiveEntity). x.name) is) in
             cc
         by_name e false true miss same one only inside =
-            let child : is_child (at (directory_id k)) (scratch_name j) e ≡ true =
+            let child : is_one_named (is_entry (at (directory_id k))) (scratch_name j) e ≡ true =
             ap (λ (b : Bool). b && bytes_eq e.name (scratch_name j)) inside ∙ same in
             let hit : has_id (at has.id) e ≡ true = eq-eqb e.id.0 has.id (only child) in
             cc

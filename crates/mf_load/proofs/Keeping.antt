@@ -7,7 +7,7 @@ use Rattle.mf_objects.proofs.Entities.{changed_at}
 use Rattle.mf_objects.specs.declared.id.Id.{Id}
 use Rattle.mf_objects.specs.declared.entity.EntityData.{EntityData}
 use Rattle.mf_objects.specs.declared.entity.EntityData.TheVariants.{Process, Vnode, Pipe, Socket}
-use Rattle.mf_objects.specs.Live.{LiveEntity, Entities, has_id, is_process, is_entry, is_named, is_child}
+use Rattle.mf_objects.specs.Live.{LiveEntity, Entities, has_id, is_process, is_entry, is_one_named}
 use Rattle.mf_objects.specs.Changes.{appended, with_what, with_change, without}
 use Rattle.mf_objects.specs.Titles.{entry_names}
 use Rattle.mf_objects.proofs.Rising.{rising_push, rising_changed}
@@ -33,35 +33,35 @@ push_fixed t a b o content x next low fixed =
       directories = λ u within.
           let is = fixed.directories u within in
           record {
-            named = find_push_found (is_child (at 0) (directory_name u)) o.live x (the_directory u) is.named;
+            named = find_push_found (is_one_named (is_entry (at 0)) (directory_name u)) o.live x (the_directory u) is.named;
             here = find_push_found (has_id (at (directory_id u))) o.live x (the_directory u) is.here;
           };
       files = λ u within.
           let is = fixed.files u within in
           record {
-            named = find_push_found (is_child (at (directory_id u)) file_name) o.live x (the_file u (content u)) is.named;
+            named = find_push_found (is_one_named (is_entry (at (directory_id u))) file_name) o.live x (the_file u (content u)) is.named;
             here = find_push_found (has_id (at (file_id u))) o.live x (the_file u (content u)) is.here;
           };
       tasks = λ u within.
           let is = fixed.tasks u within in
           record {
-            named = find_push_found (is_named is_process (task_name u)) o.live x (the_task t u) is.named;
+            named = find_push_found (is_one_named is_process (task_name u)) o.live x (the_task t u) is.named;
             here = find_push_found (has_id (at (task_id t u))) o.live x (the_task t u) is.here;
           };
       low = all_push (λ e. IsLow (2 * t + 1) e.what) o.live x fixed.low low;
     }
 
 -- another file of the load
-pub push_scratch : (t u j : ℕ) (o : Entities) (x : LiveEntity) (held : Bool) → is_child (at (directory_id u)) (scratch_name j) x ≡ false
+pub push_scratch : (t u j : ℕ) (o : Entities) (x : LiveEntity) (held : Bool) → is_one_named (is_entry (at (directory_id u))) (scratch_name j) x ≡ false
     → HasScratch t u j o held → HasScratch t u j (pushed o x) held
-push_scratch t u j o x false miss has = find_push_miss (is_child (at (directory_id u)) (scratch_name j)) o.live x miss ∙ has
+push_scratch t u j o x false miss has = find_push_miss (is_one_named (is_entry (at (directory_id u))) (scratch_name j)) o.live x miss ∙ has
 push_scratch t u j o x true miss has =
     record {
       id = has.id;
       late = has.late;
-      named = find_push_found (is_child (at (directory_id u)) (scratch_name j)) o.live x (the_scratch has.id u j) has.named;
+      named = find_push_found (is_one_named (is_entry (at (directory_id u))) (scratch_name j)) o.live x (the_scratch has.id u j) has.named;
       here = find_push_found (has_id (at has.id)) o.live x (the_scratch has.id u j) has.here;
-      only = all_push (λ e. is_child (at (directory_id u)) (scratch_name j) e ≡ true → e.id.0 ≡ has.id) o.live x has.only (λ passes. cc);
+      only = all_push (λ e. is_one_named (is_entry (at (directory_id u))) (scratch_name j) e ≡ true → e.id.0 ≡ has.id) o.live x has.only (λ passes. cc);
     }
 
 -- A file is written
@@ -87,10 +87,10 @@ appended_low text n (Vnode vnode) low = low
 appended_low text n (Pipe pipe) low = low
 appended_low text n (Socket socket) low = low
 
-written_child : (text : List ℕ) (n : ℕ) (dir : Id) (name : List ℕ) (e : LiveEntity) → is_child dir name (written text n e) ≡ is_child dir name e
+written_child : (text : List ℕ) (n : ℕ) (dir : Id) (name : List ℕ) (e : LiveEntity) → is_one_named (is_entry dir) name (written text n e) ≡ is_one_named (is_entry dir) name e
 written_child text n dir name e = one (has_id (at n) e)
   where
-    one : (b : Bool) → is_child dir name (cond b (with_what (appended text) e) e) ≡ is_child dir name e
+    one : (b : Bool) → is_one_named (is_entry dir) name (cond b (with_what (appended text) e) e) ≡ is_one_named (is_entry dir) name e
     one true = ap (λ (c : Bool). c && bytes_eq e.name name) (appended_entry text dir e.what)
     one false = refl
 
@@ -108,10 +108,10 @@ written_name text n e = one (has_id (at n) e)
     one true = refl
     one false = refl
 
-written_process : (text : List ℕ) (n : ℕ) (name : List ℕ) (e : LiveEntity) → is_named is_process name (written text n e) ≡ is_named is_process name e
+written_process : (text : List ℕ) (n : ℕ) (name : List ℕ) (e : LiveEntity) → is_one_named is_process name (written text n e) ≡ is_one_named is_process name e
 written_process text n name e = one (has_id (at n) e)
   where
-    one : (b : Bool) → is_named is_process name (cond b (with_what (appended text) e) e) ≡ is_named is_process name e
+    one : (b : Bool) → is_one_named is_process name (cond b (with_what (appended text) e) e) ≡ is_one_named is_process name e
     one true = ap (λ (c : Bool). c && bytes_eq e.name name) (appended_process text e.what)
     one false = refl
 
@@ -160,7 +160,7 @@ write_fixed t k o content content' text few more others fixed =
       directories = λ u within.
           let is = fixed.directories u within in
           record {
-            named = written_other text (file_id k) (is_child (at 0) (directory_name u)) o.live (the_directory u)
+            named = written_other text (file_id k) (is_one_named (is_entry (at 0)) (directory_name u)) o.live (the_directory u)
                 (written_child text (file_id k) (at 0) (directory_name u)) (λ same. omega arith) is.named;
             here = written_other text (file_id k) (has_id (at (directory_id u))) o.live (the_directory u)
                 (written_id text (file_id k) (at (directory_id u))) (λ same. omega arith) is.here;
@@ -169,7 +169,7 @@ write_fixed t k o content content' text few more others fixed =
       tasks = λ u within.
           let is = fixed.tasks u within in
           record {
-            named = written_other text (file_id k) (is_named is_process (task_name u)) o.live (the_task t u)
+            named = written_other text (file_id k) (is_one_named is_process (task_name u)) o.live (the_task t u)
                 (written_process text (file_id k) (task_name u)) (λ same. omega arith) is.named;
             here = written_other text (file_id k) (has_id (at (task_id t u))) o.live (the_task t u)
                 (written_id text (file_id k) (at (task_id t u))) (λ same. omega arith) is.here;
@@ -184,7 +184,7 @@ write_fixed t k o content content' text few more others fixed =
         let old = fixed.files u within in
         subst (λ (bytes : List ℕ). IsFile u bytes (with_change (with_what (appended text)) o (at (file_id k)))) (sym longer)
         (record {
-          named = written_there text (file_id k) (is_child (at (directory_id u)) file_name) o.live (the_file u (content u))
+          named = written_there text (file_id k) (is_one_named (is_entry (at (directory_id u))) file_name) o.live (the_file u (content u))
               (written_child text (file_id k) (at (directory_id u)) file_name) (ap file_id is) old.named;
           here = written_there text (file_id k) (has_id (at (file_id u))) o.live (the_file u (content u))
               (written_id text (file_id k) (at (file_id u))) (ap file_id is) old.here;
@@ -194,7 +194,7 @@ write_fixed t k o content content' text few more others fixed =
         let old = fixed.files u within in
         subst (λ (bytes : List ℕ). IsFile u bytes (with_change (with_what (appended text)) o (at (file_id k)))) (sym (others u other))
         (record {
-          named = written_other text (file_id k) (is_child (at (directory_id u)) file_name) o.live (the_file u (content u))
+          named = written_other text (file_id k) (is_one_named (is_entry (at (directory_id u))) file_name) o.live (the_file u (content u))
               (written_child text (file_id k) (at (directory_id u)) file_name) (λ same. other (omega arith)) old.named;
           here = written_other text (file_id k) (has_id (at (file_id u))) o.live (the_file u (content u))
               (written_id text (file_id k) (at (file_id u))) (λ same. other (omega arith)) old.here;
@@ -203,7 +203,7 @@ write_fixed t k o content content' text few more others fixed =
 pub write_scratch : (t k u j : ℕ) (o : Entities) (text : List ℕ) (held : Bool) → k < t → HasScratch t u j o held
     → HasScratch t u j (with_change (with_what (appended text)) o (at (file_id k))) held
 write_scratch t k u j o text false few has =
-    find_map (is_child (at (directory_id u)) (scratch_name j)) (written text (file_id k)) o.live
+    find_map (is_one_named (is_entry (at (directory_id u))) (scratch_name j)) (written text (file_id k)) o.live
     (written_child text (file_id k) (at (directory_id u)) (scratch_name j))
     ∙ ap (option_map (written text (file_id k))) has
 write_scratch t k u j o text true few has =
@@ -211,11 +211,11 @@ write_scratch t k u j o text true few has =
     record {
       id = has.id;
       late = has.late;
-      named = written_other text (file_id k) (is_child (at (directory_id u)) (scratch_name j)) o.live (the_scratch has.id u j)
+      named = written_other text (file_id k) (is_one_named (is_entry (at (directory_id u))) (scratch_name j)) o.live (the_scratch has.id u j)
           (written_child text (file_id k) (at (directory_id u)) (scratch_name j)) (λ same. omega arith) has.named;
       here = written_other text (file_id k) (has_id (at has.id)) o.live (the_scratch has.id u j)
           (written_id text (file_id k) (at has.id)) (λ same. omega arith) has.here;
-      only = all_map (λ e. is_child (at (directory_id u)) (scratch_name j) e ≡ true → e.id.0 ≡ has.id) (written text (file_id k)) o.live
+      only = all_map (λ e. is_one_named (is_entry (at (directory_id u))) (scratch_name j) e ≡ true → e.id.0 ≡ has.id) (written text (file_id k)) o.live
           (λ e one passes.
           ap (λ (id : Id). id.0) (written_same_id text (file_id k) e)
           ∙ one (sym (written_child text (file_id k) (at (directory_id u)) (scratch_name j) e) ∙ passes)) has.only;
@@ -243,21 +243,21 @@ remove_fixed t n o content late fixed =
           let is = fixed.directories u within in
           let kept : stays n (the_directory u) ≡ true = stays_other n (the_directory u) (λ same. omega arith) in
           record {
-            named = find_filter_kept (is_child (at 0) (directory_name u)) (stays n) o.live (the_directory u) is.named kept;
+            named = find_filter_kept (is_one_named (is_entry (at 0)) (directory_name u)) (stays n) o.live (the_directory u) is.named kept;
             here = find_filter_kept (has_id (at (directory_id u))) (stays n) o.live (the_directory u) is.here kept;
           };
       files = λ u within.
           let is = fixed.files u within in
           let kept : stays n (the_file u (content u)) ≡ true = stays_other n (the_file u (content u)) (λ same. omega arith) in
           record {
-            named = find_filter_kept (is_child (at (directory_id u)) file_name) (stays n) o.live (the_file u (content u)) is.named kept;
+            named = find_filter_kept (is_one_named (is_entry (at (directory_id u))) file_name) (stays n) o.live (the_file u (content u)) is.named kept;
             here = find_filter_kept (has_id (at (file_id u))) (stays n) o.live (the_file u (content u)) is.here kept;
           };
       tasks = λ u within.
           let is = fixed.tasks u within in
           let kept : stays n (the_task t u) ≡ true = stays_other n (the_task t u) (λ same. omega arith) in
           record {
-            named = find_filter_kept (is_named is_process (task_name u)) (stays n) o.live (the_task t u) is.named kept;
+            named = find_filter_kept (is_one_named is_process (task_name u)) (stays n) o.live (the_task t u) is.named kept;
             here = find_filter_kept (has_id (at (task_id t u))) (stays n) o.live (the_task t u) is.here kept;
           };
       low = all_filter (λ e. IsLow (2 * t + 1) e.what) (stays n) o.live fixed.low;
@@ -271,13 +271,13 @@ OtherThan t n u j o false has = Unit {0}
 -- another file of the load
 pub remove_scratch : (t n u j : ℕ) (o : Entities) (held : Bool) (has : HasScratch t u j o held) → OtherThan t n u j o held has
     → HasScratch t u j (without (has_id (at n)) o) held
-remove_scratch t n u j o false has other = find_filter_none (is_child (at (directory_id u)) (scratch_name j)) (stays n) o.live has
+remove_scratch t n u j o false has other = find_filter_none (is_one_named (is_entry (at (directory_id u))) (scratch_name j)) (stays n) o.live has
 remove_scratch t n u j o true has other =
     let kept : stays n (the_scratch has.id u j) ≡ true = stays_other n (the_scratch has.id u j) other in
     record {
       id = has.id;
       late = has.late;
-      named = find_filter_kept (is_child (at (directory_id u)) (scratch_name j)) (stays n) o.live (the_scratch has.id u j) has.named kept;
+      named = find_filter_kept (is_one_named (is_entry (at (directory_id u))) (scratch_name j)) (stays n) o.live (the_scratch has.id u j) has.named kept;
       here = find_filter_kept (has_id (at has.id)) (stays n) o.live (the_scratch has.id u j) has.here kept;
-      only = all_filter (λ e. is_child (at (directory_id u)) (scratch_name j) e ≡ true → e.id.0 ≡ has.id) (stays n) o.live has.only;
+      only = all_filter (λ e. is_one_named (is_entry (at (directory_id u))) (scratch_name j) e ≡ true → e.id.0 ≡ has.id) (stays n) o.live has.only;
     }

@@ -9,7 +9,7 @@ use Rattle.std.proofs.lemmas.List.Sums.{fold-append}
 use Rattle.mf_core.proofs.LookedUp.{with_task_at}
 use Rattle.mf_errno.specs.declared.errno.Errno.{Errno}
 use Rattle.mf_objects.specs.declared.id.Id.{Id}
-use Rattle.mf_objects.specs.Live.{LiveEntity, Entities, id_of, live_at, has_id, is_child, is_named, is_process}
+use Rattle.mf_objects.specs.Live.{LiveEntity, Entities, id_of, live_at, has_id, is_one_named, is_entry, is_process}
 use Rattle.mf_objects.specs.Titles.{entry_names}
 use Rattle.mf_calls.specs.declared.script.Task.{Task}
 use Rattle.mf_calls.specs.Generated.{task_name, directory_name, file_name, scratch_name, load_directory, load_file, load_files, load_task, load_tasks, generated}
@@ -43,9 +43,9 @@ record IsFiled (t a : ℕ) (o : Entities) : Type 0 where
   fixed : IsFixed t a 0 o (λ u. [])
   next : o.next ≡ 2 * a + 1
   long : length o.live ≡ 2 * a + 1
-  free : (u : ℕ) → a ≤ u → u < 16 → find (is_child (at 0) (directory_name u)) o.live ≡ None
-  bare : (u : ℕ) → a ≤ u → (name : List ℕ) → find (is_child (at (directory_id u)) name) o.live ≡ None
-  scratch : (u j : ℕ) → u < a → find (is_child (at (directory_id u)) (scratch_name j)) o.live ≡ None
+  free : (u : ℕ) → a ≤ u → u < 16 → find (is_one_named (is_entry (at 0)) (directory_name u)) o.live ≡ None
+  bare : (u : ℕ) → a ≤ u → (name : List ℕ) → find (is_one_named (is_entry (at (directory_id u))) name) o.live ≡ None
+  scratch : (u j : ℕ) → u < a → find (is_one_named (is_entry (at (directory_id u))) (scratch_name j)) o.live ≡ None
   names : (u : ℕ) → u < a → entry_names (at (directory_id u)) o.live ≡ file_name ∷ []
   empty : (u : ℕ) → a ≤ u → entry_names (at (directory_id u)) o.live ≡ []
   files : AllByRecursion (λ e. is_process e.what ≡ false) o.live
@@ -87,9 +87,9 @@ module _ (t a : ℕ) (o : Entities) (few : t ≤ 16) (within : a < t) (filed : I
   directory_fixed : IsFixed t a 0 (pushed o (the_directory a)) (λ u. [])
   directory_fixed = push_fixed t a 0 o (λ u. []) (the_directory a) (sym filed.next) low_directory filed.fixed
 
-  directory_named : find (is_child (at 0) (directory_name a)) (pushed o (the_directory a)).live ≡ Some (the_directory a)
+  directory_named : find (is_one_named (is_entry (at 0)) (directory_name a)) (pushed o (the_directory a)).live ≡ Some (the_directory a)
   directory_named =
-      find_push_hit (is_child (at 0) (directory_name a)) o.live (the_directory a) (filed.free a (omega arith) (omega arith))
+      find_push_hit (is_one_named (is_entry (at 0)) (directory_name a)) o.live (the_directory a) (filed.free a (omega arith) (omega arith))
       (bytes_same (directory_name a) (directory_name a) refl)
 
   directory_here : live_at (pushed o (the_directory a)) (at (directory_id a)) ≡ Some (the_directory a)
@@ -98,14 +98,14 @@ module _ (t a : ℕ) (o : Entities) (few : t ≤ 16) (within : a < t) (filed : I
       (find_beyond (at (directory_id a)) 0 o.next o.live (omega (arith, filed.next)) filed.fixed.rising) (eq-eqb (directory_id a) (directory_id a) refl)
 
   -- it lies in no directory of a task
-  directory_apart : (u : ℕ) (name : List ℕ) → is_child (at (directory_id u)) name (the_directory a) ≡ false
+  directory_apart : (u : ℕ) (name : List ℕ) → is_one_named (is_entry (at (directory_id u))) name (the_directory a) ≡ false
   directory_apart u name = ap (λ (b : Bool). b && bytes_eq (directory_name a) name) (ids_differ 0 (directory_id u) (λ same. omega arith))
 
   -- the file
 
-  no_file_yet : find (is_child (at (directory_id a)) file_name) (pushed o (the_directory a)).live ≡ None
+  no_file_yet : find (is_one_named (is_entry (at (directory_id a))) file_name) (pushed o (the_directory a)).live ≡ None
   no_file_yet =
-      find_push_miss (is_child (at (directory_id a)) file_name) o.live (the_directory a) (directory_apart a file_name) ∙ filed.bare a (omega arith) file_name
+      find_push_miss (is_one_named (is_entry (at (directory_id a))) file_name) o.live (the_directory a) (directory_apart a file_name) ∙ filed.bare a (omega arith) file_name
 
   file_made : with_file biba_alone (pushed o (the_directory a)) (load_file a) ≡ pushed (pushed o (the_directory a)) (the_file a [])
   file_made =
@@ -129,23 +129,23 @@ module _ (t a : ℕ) (o : Entities) (few : t ≤ 16) (within : a < t) (filed : I
   both_fixed : IsFixed t a 0 (pushed (pushed o (the_directory a)) (the_file a [])) (λ u. [])
   both_fixed = push_fixed t a 0 (pushed o (the_directory a)) (λ u. []) (the_file a []) file_next low_file directory_fixed
 
-  file_elsewhere : (u : ℕ) (name : List ℕ) → u ≢ a → is_child (at (directory_id u)) name (the_file a []) ≡ false
+  file_elsewhere : (u : ℕ) (name : List ℕ) → u ≢ a → is_one_named (is_entry (at (directory_id u))) name (the_file a []) ≡ false
   file_elsewhere u name other =
       ap (λ (b : Bool). b && bytes_eq file_name name) (ids_differ (directory_id a) (directory_id u) (λ same. other (omega arith)))
 
   new_directory : IsDirectory a (pushed (pushed o (the_directory a)) (the_file a []))
   new_directory =
       record {
-        named = find_push_found (is_child (at 0) (directory_name a)) (pushed o (the_directory a)).live (the_file a []) (the_directory a) directory_named;
+        named = find_push_found (is_one_named (is_entry (at 0)) (directory_name a)) (pushed o (the_directory a)).live (the_file a []) (the_directory a) directory_named;
         here = find_push_found (has_id (at (directory_id a))) (pushed o (the_directory a)).live (the_file a []) (the_directory a) directory_here;
       }
 
   new_file : IsFile a [] (pushed (pushed o (the_directory a)) (the_file a []))
   new_file =
       let here : nat_eq (directory_id a) (directory_id a) ≡ true = eq-eqb (directory_id a) (directory_id a) refl in
-      let hit : is_child (at (directory_id a)) file_name (the_file a []) ≡ true = ap (λ (b : Bool). b && bytes_eq file_name file_name) here in
+      let hit : is_one_named (is_entry (at (directory_id a))) file_name (the_file a []) ≡ true = ap (λ (b : Bool). b && bytes_eq file_name file_name) here in
       record {
-        named = find_push_hit (is_child (at (directory_id a)) file_name) (pushed o (the_directory a)).live (the_file a []) no_file_yet hit;
+        named = find_push_hit (is_one_named (is_entry (at (directory_id a))) file_name) (pushed o (the_directory a)).live (the_file a []) no_file_yet hit;
         here = find_push_hit (has_id (at (file_id a))) (pushed o (the_directory a)).live (the_file a [])
             (find_beyond (at (file_id a)) 0 (o.next + 1) (pushed o (the_directory a)).live (omega (arith, filed.next)) directory_fixed.rising)
             (eq-eqb (file_id a) (file_id a) refl);
@@ -166,13 +166,13 @@ module _ (t a : ℕ) (o : Entities) (few : t ≤ 16) (within : a < t) (filed : I
         next = omega (arith, filed.next);
         long = omega (arith, length-append (pushed o (the_directory a)).live (the_file a [] ∷ []), length-append o.live (the_directory a ∷ []), filed.long);
         free = λ u late few_u.
-            find_push_miss (is_child (at 0) (directory_name u)) (pushed o (the_directory a)).live (the_file a [])
+            find_push_miss (is_one_named (is_entry (at 0)) (directory_name u)) (pushed o (the_directory a)).live (the_file a [])
             (ap (λ (b : Bool). b && bytes_eq file_name (directory_name u)) (ids_differ (directory_id a) 0 (λ same. omega arith)))
-            ∙ find_push_miss (is_child (at 0) (directory_name u)) o.live (the_directory a) (directories_differ a u (omega arith) few_u (λ same. omega arith))
+            ∙ find_push_miss (is_one_named (is_entry (at 0)) (directory_name u)) o.live (the_directory a) (directories_differ a u (omega arith) few_u (λ same. omega arith))
             ∙ filed.free u (omega arith) few_u;
         bare = λ u late name.
-            find_push_miss (is_child (at (directory_id u)) name) (pushed o (the_directory a)).live (the_file a []) (file_elsewhere u name (λ same. omega arith))
-            ∙ find_push_miss (is_child (at (directory_id u)) name) o.live (the_directory a) (directory_apart u name)
+            find_push_miss (is_one_named (is_entry (at (directory_id u))) name) (pushed o (the_directory a)).live (the_file a []) (file_elsewhere u name (λ same. omega arith))
+            ∙ find_push_miss (is_one_named (is_entry (at (directory_id u))) name) o.live (the_directory a) (directory_apart u name)
             ∙ filed.bare u (omega arith) name;
         scratch = λ u j below. one_scratch u j below (nat_eq u a) refl;
         names = λ u below. one_names u below (nat_eq u a) refl;
@@ -214,18 +214,18 @@ module _ (t a : ℕ) (o : Entities) (few : t ≤ 16) (within : a < t) (filed : I
           let other : u ≢ a = grind (arith, nat_tests) in both_fixed.files u (omega (arith, other))
 
       one_scratch : (u j : ℕ) → u < suc a → (b : Bool) → nat_eq u a ≡ b
-          → find (is_child (at (directory_id u)) (scratch_name j)) (pushed (pushed o (the_directory a)) (the_file a [])).live ≡ None
+          → find (is_one_named (is_entry (at (directory_id u))) (scratch_name j)) (pushed (pushed o (the_directory a)) (the_file a [])).live ≡ None
       one_scratch u j below true is =
           let here : u ≡ a = grind (arith, nat_tests) in
-          subst (λ v. find (is_child (at (directory_id v)) (scratch_name j)) (pushed (pushed o (the_directory a)) (the_file a [])).live ≡ None) (sym here)
-          (find_push_miss (is_child (at (directory_id a)) (scratch_name j)) (pushed o (the_directory a)).live (the_file a [])
+          subst (λ v. find (is_one_named (is_entry (at (directory_id v))) (scratch_name j)) (pushed (pushed o (the_directory a)) (the_file a [])).live ≡ None) (sym here)
+          (find_push_miss (is_one_named (is_entry (at (directory_id a))) (scratch_name j)) (pushed o (the_directory a)).live (the_file a [])
           (ap (λ (b : Bool). nat_eq (directory_id a) (directory_id a) && b) (file_no_scratch j) ∙ and_none (nat_eq (directory_id a) (directory_id a)))
-          ∙ find_push_miss (is_child (at (directory_id a)) (scratch_name j)) o.live (the_directory a) (directory_apart a (scratch_name j))
+          ∙ find_push_miss (is_one_named (is_entry (at (directory_id a))) (scratch_name j)) o.live (the_directory a) (directory_apart a (scratch_name j))
           ∙ filed.bare a (omega arith) (scratch_name j))
       one_scratch u j below false differs =
           let other : u ≢ a = grind (arith, nat_tests) in
-          find_push_miss (is_child (at (directory_id u)) (scratch_name j)) (pushed o (the_directory a)).live (the_file a []) (file_elsewhere u (scratch_name j) other)
-          ∙ find_push_miss (is_child (at (directory_id u)) (scratch_name j)) o.live (the_directory a) (directory_apart u (scratch_name j))
+          find_push_miss (is_one_named (is_entry (at (directory_id u))) (scratch_name j)) (pushed o (the_directory a)).live (the_file a []) (file_elsewhere u (scratch_name j) other)
+          ∙ find_push_miss (is_one_named (is_entry (at (directory_id u))) (scratch_name j)) o.live (the_directory a) (directory_apart u (scratch_name j))
           ∙ filed.scratch u j (omega (arith, other))
 
 all_filed : (t a : ℕ) → t ≤ 16 → a ≤ t → IsFiled t a (fold (with_file biba_alone) (root_alone biba_alone) (load_files a))
@@ -245,11 +245,11 @@ record IsTasked (t b : ℕ) (o : Entities) : Type 0 where
   fixed : IsFixed t t b o (λ u. [])
   next : o.next ≡ 2 * t + 1 + b
   long : length o.live ≡ 2 * t + 1 + b
-  free : (u : ℕ) → b ≤ u → u < 16 → find (is_named is_process (task_name u)) o.live ≡ None
-  scratch : (u j : ℕ) → u < t → find (is_child (at (directory_id u)) (scratch_name j)) o.live ≡ None
+  free : (u : ℕ) → b ≤ u → u < 16 → find (is_one_named is_process (task_name u)) o.live ≡ None
+  scratch : (u j : ℕ) → u < t → find (is_one_named (is_entry (at (directory_id u))) (scratch_name j)) o.live ≡ None
   names : (u : ℕ) → u < t → entry_names (at (directory_id u)) o.live ≡ file_name ∷ []
 
-no_process : (name : List ℕ) (e : LiveEntity) → is_process e.what ≡ false → is_named is_process name e ≡ false
+no_process : (name : List ℕ) (e : LiveEntity) → is_process e.what ≡ false → is_one_named is_process name e ≡ false
 no_process name e other = ap (λ (b : Bool). b && bytes_eq e.name name) other
 
 none_tasked : (t : ℕ) (o : Entities) → IsFiled t t o → IsTasked t 0 o
@@ -259,8 +259,8 @@ none_tasked t o filed =
       next = omega (arith, filed.next);
       long = omega (arith, filed.long);
       free = λ u late few.
-          all_pass (is_named is_process (task_name u)) o.live
-          (all_from (λ e. is_process e.what ≡ false) (λ e. is_named is_process (task_name u) e ≡ false) o.live (no_process (task_name u)) filed.files);
+          all_pass (is_one_named is_process (task_name u)) o.live
+          (all_from (λ e. is_process e.what ≡ false) (λ e. is_one_named is_process (task_name u) e ≡ false) o.live (no_process (task_name u)) filed.files);
       scratch = filed.scratch;
       names = filed.names;
     }
@@ -277,7 +277,7 @@ module _ (n t b : ℕ) (o : Entities) (few : t ≤ 16) (within : b < t) (tasked 
   new_task : IsTask t b (pushed o (the_task t b))
   new_task =
       record {
-        named = find_push_hit (is_named is_process (task_name b)) o.live (the_task t b) (tasked.free b (omega arith) (omega arith))
+        named = find_push_hit (is_one_named is_process (task_name b)) o.live (the_task t b) (tasked.free b (omega arith) (omega arith))
             (bytes_same (task_name b) (task_name b) refl);
         here = find_push_hit (has_id (at (task_id t b))) o.live (the_task t b)
             (find_beyond (at (task_id t b)) 0 o.next o.live (omega (arith, tasked.next)) tasked.fixed.rising) (eq-eqb (task_id t b) (task_id t b) refl);
@@ -298,9 +298,9 @@ module _ (n t b : ℕ) (o : Entities) (few : t ≤ 16) (within : b < t) (tasked 
         next = omega (arith, tasked.next);
         long = omega (arith, length-append o.live (the_task t b ∷ []), tasked.long);
         free = λ u late few_u.
-            find_push_miss (is_named is_process (task_name u)) o.live (the_task t b) (tasks_differ b u (omega arith) few_u (λ same. omega arith))
+            find_push_miss (is_one_named is_process (task_name u)) o.live (the_task t b) (tasks_differ b u (omega arith) few_u (λ same. omega arith))
             ∙ tasked.free u (omega arith) few_u;
-        scratch = λ u j below. find_push_miss (is_child (at (directory_id u)) (scratch_name j)) o.live (the_task t b) refl ∙ tasked.scratch u j below;
+        scratch = λ u j below. find_push_miss (is_one_named (is_entry (at (directory_id u))) (scratch_name j)) o.live (the_task t b) refl ∙ tasked.scratch u j below;
         names = λ u below. names_push_other (at (directory_id u)) o.live (the_task t b) refl ∙ tasked.names u below;
       }
     where

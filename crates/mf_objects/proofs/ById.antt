@@ -16,7 +16,7 @@ use Rattle.mf_objects.specs.declared.id.Id.{Id}
 use Rattle.mf_objects.specs.declared.entity.Entity.{Entity}
 use Rattle.mf_objects.specs.Live.{LiveEntity}
 use Rattle.mf_objects.specs.Population.{IsRising}
-use Rattle.mf_objects.specs.Sound.{seen, live_of, IsById}
+use Rattle.mf_objects.specs.Sound.{live_entity, live_of, IsById}
 use Rattle.mf_objects.proofs.Rising.{at_least}
 
 -- the entities of rising ids stand by rising id
@@ -24,8 +24,8 @@ pub stand_by_id : (zones : Contents) (least next : ℕ) (es : List Entity) → I
 stand_by_id zones least next [] rising i j d before within = absurd (omega arith)
 stand_by_id zones least next (e ∷ es) rising zero zero d before within = absurd (omega arith)
 stand_by_id zones least next (e ∷ es) rising zero (suc j) d before within =
-    let same : get_or (live_of zones es) j (seen zones d) ≡ seen zones (get_or es j d) = get_or-map (seen zones) es j d (seen zones d) (omega arith) in
-    let later : e.id.0 + 1 ≤ (get_or (live_of zones es) j (seen zones d)).id.0 = at_least (e.id.0 + 1) next (live_of zones es) j (seen zones d) (omega (arith, within, length-map es (seen zones))) rising.1 in
+    let same : get_or (live_of zones es) j (live_entity zones d) ≡ live_entity zones (get_or es j d) = get_or-map (live_entity zones) es j d (live_entity zones d) (omega arith) in
+    let later : e.id.0 + 1 ≤ (get_or (live_of zones es) j (live_entity zones d)).id.0 = at_least (e.id.0 + 1) next (live_of zones es) j (live_entity zones d) (omega (arith, within, length-map es (live_entity zones))) rising.1 in
     omega (arith, later, ap (λ (l : LiveEntity). l.id.0) same)
 stand_by_id zones least next (e ∷ es) rising (suc i) zero d before within = absurd (omega arith)
 stand_by_id zones least next (e ∷ es) rising (suc i) (suc j) d before within =

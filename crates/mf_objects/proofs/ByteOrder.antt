@@ -18,7 +18,7 @@ use Rattle.std.proofs.lemmas.List.MinMax.{ranks_by}
 use Rattle.std.proofs.lemmas.Map.Text.{is_eq-slice_cmp}
 use Rattle.std.proofs.lemmas.Slice.Eq.{bytes_eq-Decides}
 use Rattle.mf_objects.specs.declared.limits.TheConstants.{MOST_NAMES}
-use Rattle.mf_objects.specs.Titles.{in_byte_order, first_names}
+use Rattle.mf_objects.specs.Titles.{in_byte_order}
 use Rattle.mf_objects.specs.Names.{IsFirstNames}
 
 -- the first name isn't after the second
@@ -176,7 +176,7 @@ is_byte_order names sorted same order =
     one_order sorted (in_byte_order names) order (byte_order_sorted names)
     (λ f. sum_by-IsPermutation f names sorted same ∙ sym (sum_by-IsPermutation f names (in_byte_order names) (byte_order_permutation names)))
 
-pub first_are_first : (names : List (List ℕ)) → IsFirstNames (first_names MOST_NAMES names) names
+pub first_are_first : (names : List (List ℕ)) → IsFirstNames (take MOST_NAMES (in_byte_order names)) names
 first_are_first names =
     let ordered : List (List ℕ) = in_byte_order names in
     let whole : take MOST_NAMES ordered ++ drop MOST_NAMES ordered ≡ ordered = take-append-drop MOST_NAMES ordered in
@@ -190,7 +190,7 @@ first_are_first names =
 -- names that are sorted, as references to them, and cut to the first
 pub first_sorted : (names : List (List ℕ)) (found sorted : List (Bor (List ℕ))) → map (λ (name : Bor (List ℕ)). name.now) found ≡ names → IsPermutation found sorted
     → IsSorted (λ (x y : Bor (List ℕ)). slice_cmp nat_cmp x.now y.now) sorted
-    → map (λ (name : Bor (List ℕ)). name.now) (take MOST_NAMES sorted) ≡ first_names MOST_NAMES names
+    → map (λ (name : Bor (List ℕ)). name.now) (take MOST_NAMES sorted) ≡ take MOST_NAMES (in_byte_order names)
 first_sorted names found sorted are same order =
     let now : Bor (List ℕ) → List ℕ = λ name. name.now in
     let bytes : List (List ℕ) = map now sorted in

@@ -4,32 +4,33 @@ use Rattle.std.specs.declared.alloc.AllocError.{AllocError}
 use Rattle.std.proofs.lemmas.List.Elements.{All-nil, All-cons, All-weaker}
 use Rattle.std.proofs.lemmas.Bool.Decides.{nat_tests}
 use Rattle.std.specs.Prelude.{find, All, IfSome, IfNone}
-use Rattle.mf_slots.specs.Zones.{Contents, label_values, value_of}
+use Rattle.mf_slots.specs.Zones.{Contents, label_values, slot_value}
 use Rattle.mf_objects.proofs.Entities.{label_of}
 use Rattle.mf_objects.specs.declared.id.Id.{Id}
 use Rattle.mf_objects.specs.declared.entity.Entity.{Entity}
 use Rattle.mf_objects.specs.declared.entity.EntityData.{EntityData}
 use Rattle.mf_objects.specs.declared.entity.EntityData.TheVariants.{Process, Vnode, Pipe, Socket}
-use Rattle.mf_objects.specs.Live.{LiveEntity, Entities, has_id, live_at, id_of, messages_at, messages_of, reading, label_at, is_named, is_child, is_entry}
-use Rattle.mf_objects.specs.Lives.{is_from, IsLeast, is_directory, IsFound, IsLiveWhere, IsLive, is_vnode}
+use Rattle.mf_objects.specs.Live.{LiveEntity, Entities, has_id, live_at, id_of, messages_at, messages_of, label_at, is_one_named, is_entry}
+use Rattle.mf_objects.proofs.Shorthands.{reading}
+use Rattle.mf_objects.specs.Lives.{is_from, IsLeast, is_directory, IsFirstLive, IsLiveWhere, IsLive, is_vnode}
 use Rattle.std.specs.Str.{bytes_eq}
 use Rattle.mf_objects.specs.Population.{Belongs, IsPopulation, IsRising, HasRoot}
-use Rattle.mf_objects.specs.Sound.{seen, shown, live_of, IsSound, IsPlace}
+use Rattle.mf_objects.specs.Sound.{live_entity, with_values, live_of, IsSound, IsPlace}
 use Rattle.mf_objects.proofs.Rising.{id_differs, at_least}
 use Rattle.mf_objects.proofs.Belonging.{Stays, entry_directory, find_all}
 use Rattle.mf_objects.proofs.Kept.{view, found_place, what_changed, set_same}
 
 find-live : (test : LiveEntity → Bool) (zones : Contents) (es : List Entity)
-    → find test (live_of zones es) ≡ option_map (seen zones) (find (λ (e : Entity). test (seen zones e)) es)
+    → find test (live_of zones es) ≡ option_map (live_entity zones) (find (λ (e : Entity). test (live_entity zones e)) es)
 find-live test zones [] = refl
-find-live test zones (e ∷ es) = one (test (seen zones e)) (find-live test zones es)
+find-live test zones (e ∷ es) = one (test (live_entity zones e)) (find-live test zones es)
   where
-    one : (b : Bool) → find test (live_of zones es) ≡ option_map (seen zones) (find (λ (x : Entity). test (seen zones x)) es)
-        → cond b (Some (seen zones e)) (find test (live_of zones es)) ≡ option_map (seen zones) (cond b (Some e) (find (λ (x : Entity). test (seen zones x)) es))
+    one : (b : Bool) → find test (live_of zones es) ≡ option_map (live_entity zones) (find (λ (x : Entity). test (live_entity zones x)) es)
+        → cond b (Some (live_entity zones e)) (find test (live_of zones es)) ≡ option_map (live_entity zones) (cond b (Some e) (find (λ (x : Entity). test (live_entity zones x)) es))
     one true rest = refl
     one false rest = rest
 
-ids_map : (zones : Contents) (found : Option Entity) → option_map (λ (e : LiveEntity). e.id) (option_map (seen zones) found) ≡ option_map (λ (e : Entity). e.id) found
+ids_map : (zones : Contents) (found : Option Entity) → option_map (λ (e : LiveEntity). e.id) (option_map (live_entity zones) found) ≡ option_map (λ (e : Entity). e.id) found
 ids_map zones None = refl
 ids_map zones (Some e) = refl
 
@@ -64,10 +65,10 @@ own_id test least next (e ∷ es) x rising is = one (test e) (own_id test (e.id.
         rw miss (rest is)
 
 pub found_id : (test : LiveEntity → Bool) (next : ℕ) (zones : Contents) (es : List Entity) (found : Option Id) → IsSound next zones es
-    → found ≡ option_map (λ (e : Entity). e.id) (find (λ (e : Entity). test (seen zones e)) es) → IsFound test (view next zones es) found
+    → found ≡ option_map (λ (e : Entity). e.id) (find (λ (e : Entity). test (live_entity zones e)) es) → IsFirstLive test (view next zones es) found
 found_id test next zones es found sound is =
     let ids : found ≡ id_of (find test (live_of zones es)) =
-    is ∙ sym (ids_map zones (find (λ (e : Entity). test (seen zones e)) es)) ∙ ap id_of (sym (find-live test zones es)) in
+    is ∙ sym (ids_map zones (find (λ (e : Entity). test (live_entity zones e)) es)) ∙ ap id_of (sym (find-live test zones es)) in
     record {
       id = ids;
       live = subst (λ (o : Option Id). IfSome o (λ id. live_at (view next zones es) id ≡ find test (live_of zones es))) (sym ids)
@@ -85,10 +86,10 @@ found_id test next zones es found sound is =
 
 -- what contracts see of the entity at a place
 pub shown_place : (next : ℕ) (zones : Contents) (es : List Entity) (id : Id) (i : ℕ) (e : Entity) → IsPlace (view next zones es) id i → e ≡ get_or es i e
-    → live_at (view next zones es) id ≡ Some (shown (label_of (live_at (view next zones es) id)) e)
+    → live_at (view next zones es) id ≡ Some (with_values (label_of (live_at (view next zones es) id)) e)
 shown_place next zones es id i e place is =
-    let found : live_at (view next zones es) id ≡ Some (seen zones e) = found_place next zones es id i e place is in
-    found ∙ ap (λ (o : Option LiveEntity). Some (shown (label_of o) e)) (sym found)
+    let found : live_at (view next zones es) id ≡ Some (live_entity zones e) = found_place next zones es id i e place is in
+    found ∙ ap (λ (o : Option LiveEntity). Some (with_values (label_of o) e)) (sym found)
 
 pub where_place : (P : EntityData → Type 0) (next : ℕ) (zones : Contents) (es : List Entity) (id : Id) (i : ℕ) (e : Entity) → IsPlace (view next zones es) id i → e ≡ get_or es i e
     → IsLiveWhere P (live_at (view next zones es) id) → P e.what
@@ -117,7 +118,7 @@ label_there next zones es id i e place is = ap label_of (sym (found_place next z
 
 -- the four values of the label of the entity at a place
 pub label_place : (next : ℕ) (zones : Contents) (es : List Entity) (id : Id) (i : ℕ) (e : Entity) → IsPlace (view next zones es) id i → e ≡ get_or es i e
-    → value_of zones e.label 0 ∷ value_of zones e.label 1 ∷ value_of zones e.label 2 ∷ value_of zones e.label 3 ∷ [] ≡ label_at (view next zones es) id
+    → slot_value zones e.label 0 ∷ slot_value zones e.label 1 ∷ slot_value zones e.label 2 ∷ slot_value zones e.label 3 ∷ [] ≡ label_at (view next zones es) id
 unfolding label_values
 label_place next zones es id i e place is = label_there next zones es id i e place is
 
@@ -140,7 +141,7 @@ passes_found test (e ∷ es) x is = one (test e) refl (passes_found test es x) i
 
 -- what is found is of the kind that the test asks for
 pub kind_found : (test : LiveEntity → Bool) (kind : EntityData → Bool) → ((x : LiveEntity) → test x ≡ true → kind x.what ≡ true)
-    → (objects : Entities) (found : Option Id) → IsFound test objects found → IfSome found (λ id. IsLive kind objects id)
+    → (objects : Entities) (found : Option Id) → IsFirstLive test objects found → IfSome found (λ id. IsLive kind objects id)
 kind_found test kind asks objects None is = tt
 kind_found test kind asks objects (Some id) is = by_live (find test objects.live) refl is.id
   where
@@ -154,7 +155,7 @@ first_true : (a b : Bool) → a && b ≡ true → a ≡ true
 first_true true b h = refl
 first_true false b h = h
 
-pub named_kind : (kind : EntityData → Bool) (name : List ℕ) (x : LiveEntity) → is_named kind name x ≡ true → kind x.what ≡ true
+pub named_kind : (kind : EntityData → Bool) (name : List ℕ) (x : LiveEntity) → is_one_named kind name x ≡ true → kind x.what ≡ true
 named_kind kind name x h = first_true (kind x.what) (bytes_eq x.name name) h
 
 entry_vnode : (dir : Id) (w : EntityData) → is_entry dir w ≡ true → is_vnode w ≡ true
@@ -163,10 +164,10 @@ entry_vnode dir (Vnode vnode) h = refl
 entry_vnode dir (Pipe pipe) h = h
 entry_vnode dir (Socket socket) h = h
 
-pub child_kind : (dir : Id) (name : List ℕ) (x : LiveEntity) → is_child dir name x ≡ true → is_vnode x.what ≡ true
+pub child_kind : (dir : Id) (name : List ℕ) (x : LiveEntity) → is_one_named (is_entry dir) name x ≡ true → is_vnode x.what ≡ true
 child_kind dir name x h = entry_vnode dir x.what (first_true (is_entry dir x.what) (bytes_eq x.name name) h)
 
-pub live_found : (test : LiveEntity → Bool) (objects : Entities) (found : Option Id) → IsFound test objects found → IfSome found (λ id. IsSome (live_at objects id))
+pub live_found : (test : LiveEntity → Bool) (objects : Entities) (found : Option Id) → IsFirstLive test objects found → IfSome found (λ id. IsSome (live_at objects id))
 live_found test objects None is = tt
 live_found test objects (Some id) is = by_live (find test objects.live) refl is.id
   where
@@ -175,20 +176,20 @@ live_found test objects (Some id) is = by_live (find test objects.live) refl is.
     by_live (Some x) e ids = let at : live_at objects id ≡ Some x = is.live ∙ e in rw at refl
 
 -- an entry isn't the root
-pub child_not_root : (dir : Id) (name : List ℕ) (objects : Entities) (found : Option Id) → IsPopulation objects → IsFound (is_child dir name) objects found
+pub child_not_root : (dir : Id) (name : List ℕ) (objects : Entities) (found : Option Id) → IsPopulation objects → IsFirstLive (is_one_named (is_entry dir) name) objects found
     → IfSome found (λ id. id.0 ≢ 0)
 child_not_root dir name objects None population is = tt
-child_not_root dir name objects (Some id) population is = by_live (find (is_child dir name) objects.live) refl is.id
+child_not_root dir name objects (Some id) population is = by_live (find (is_one_named (is_entry dir) name) objects.live) refl is.id
   where
     inside_id : (a b : Id) → Some a ≡ Some b → a ≡ b
     inside_id a b e = cc
 
-    by_live : (o : Option LiveEntity) → find (is_child dir name) objects.live ≡ o → Some id ≡ id_of (find (is_child dir name) objects.live) → id.0 ≢ 0
+    by_live : (o : Option LiveEntity) → find (is_one_named (is_entry dir) name) objects.live ≡ o → Some id ≡ id_of (find (is_one_named (is_entry dir) name) objects.live) → id.0 ≢ 0
     by_live None e ids = absurd (cc (ids ∙ ap id_of e))
     by_live (Some x) e ids =
         let belongs : Belongs objects.live x.id.0 x.what =
-        find_all (λ (y : LiveEntity). Belongs objects.live y.id.0 y.what) (is_child dir name) objects.live x population.belong e in
-        let entry : is_entry dir x.what ≡ true = first_true (is_entry dir x.what) (bytes_eq x.name name) (passes_found (is_child dir name) objects.live x e) in
+        find_all (λ (y : LiveEntity). Belongs objects.live y.id.0 y.what) (is_one_named (is_entry dir) name) objects.live x population.belong e in
+        let entry : is_entry dir x.what ≡ true = first_true (is_entry dir x.what) (bytes_eq x.name name) (passes_found (is_one_named (is_entry dir) name) objects.live x e) in
         let older = entry_directory objects.live x.id.0 dir x.what belongs entry in
         let same : id ≡ x.id = inside_id id x.id (ids ∙ ap id_of e) in
         λ first. omega (arith, older.0, first, ap (λ (i : Id). i.0) same)
@@ -223,7 +224,7 @@ least_is n least next (e ∷ es) x rising is = one (nat_le n e.id.0) refl (least
           least = All-cons (P x.id) e es (λ from. absurd (omega (arith, from, le_false n e.id.0 before))) rest.least;
         }
 
-pub found_least : (n : ℕ) (objects : Entities) (found : Option Id) → IsRising 0 objects.next objects.live → IsFound (is_from n) objects found
+pub found_least : (n : ℕ) (objects : Entities) (found : Option Id) → IsRising 0 objects.next objects.live → IsFirstLive (is_from n) objects found
     → IfSome found (λ id. IsLeast n objects.live id)
 found_least n objects None rising is = tt
 found_least n objects (Some id) rising is = by_live (find (is_from n) objects.live) refl is.id
@@ -244,6 +245,6 @@ all_before n (e ∷ es) none = one (nat_le n e.id.0) refl (all_before n es) none
     one true from later none = absurd (cc none)
     one false before later none = All-cons (λ (x : LiveEntity). x.id.0 < n) e es (le_false n e.id.0 before) (later none)
 
-pub none_from : (n : ℕ) (objects : Entities) (found : Option Id) → IsFound (is_from n) objects found → IfNone found (All (λ e. e.id.0 < n) objects.live)
+pub none_from : (n : ℕ) (objects : Entities) (found : Option Id) → IsFirstLive (is_from n) objects found → IfNone found (All (λ e. e.id.0 < n) objects.live)
 none_from n objects None is = all_before n objects.live is.absent
 none_from n objects (Some id) is = tt

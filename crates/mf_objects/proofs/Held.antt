@@ -3,13 +3,13 @@ use Rattle.std.proofs.Common.{◌≡◌, ℕ, ◌<◌, ◌≤◌, ◌≢◌, ◌
 use Rattle.std.proofs.lemmas.List.Sums.{sum_by-cons}
 use Rattle.mf_elem.specs.declared.label.LabelValue.{LabelValue}
 use Rattle.mf_elem.specs.declared.label.LabelValue.TheVariants.{Unset, Range, Number}
-use Rattle.mf_slots.specs.Zones.{Zone, Contents, Handles, handle, at_handle, under, zone_of, value_of, IsHeldAt, NoneUnset, value_count}
+use Rattle.mf_slots.specs.Zones.{Zone, Contents, Handles, handle, at_handle, under, zone_of, slot_value, IsHeldAt, NoneUnset, value_count}
 use Rattle.mf_slots.proofs.Places.{has_place}
 use Rattle.mf_slots.proofs.ZonesLaws.{unset_exactly}
 use Rattle.mf_objects.specs.declared.entity.Entity.{Entity}
 use Rattle.mf_objects.specs.Live.{LiveEntity, is_set, value_in}
 use Rattle.mf_objects.specs.Lives.{made_count}
-use Rattle.mf_objects.specs.Sound.{seen, labels_of, owned, owner_count, held_count, IsExact, live_of}
+use Rattle.mf_objects.specs.Sound.{live_entity, labels_of, owned, owner_count, held_count, IsExact, live_of}
 use Rattle.mf_objects.proofs.Zoned.{owned_yes, owned_no}
 use Rattle.mf_objects.proofs.Kept.{get_values}
 
@@ -85,8 +85,8 @@ zone_labels zones labels slot four exact =
 
 -- a slot is made exactly where its value isn't Unset
 set_value : (zones : Contents) (label : Handles) (slot : ℕ) → NoneUnset zones → IsHeldAt zones slot (handle label slot)
-    → is_set (value_of zones label slot) ≡ is_some (handle label slot)
-set_value zones label slot set held = by_value (value_of zones label slot) (handle label slot) (unset_exactly zones label slot set held).0 (unset_exactly zones label slot set held).1
+    → is_set (slot_value zones label slot) ≡ is_some (handle label slot)
+set_value zones label slot set held = by_value (slot_value zones label slot) (handle label slot) (unset_exactly zones label slot set held).0 (unset_exactly zones label slot set held).1
   where
     by_value : (v : LabelValue) (key : Option ℕ) → (v ≡ Unset → key ≡ None) → (key ≡ None → v ≡ Unset) → is_set v ≡ is_some key
     by_value Unset key none unset = ap is_some (sym (none refl))
@@ -100,9 +100,9 @@ live_labels : (zones : Contents) (es : List Entity) (slot : ℕ) → slot < 4 �
 live_labels zones [] slot four set held = refl
 live_labels zones (e ∷ es) slot four set held =
     let key = handle e.label slot in
-    let here : is_set (value_in slot (seen zones e)) ≡ is_some key =
+    let here : is_set (value_in slot (live_entity zones e)) ≡ is_some key =
     ap is_set (get_values zones e.label slot four) ∙ set_value zones e.label slot set (held_at key (λ h own. held h (omega (arith, owned_yes key h own)))) in
-    count_cons (λ (x : LiveEntity). is_set (value_in slot x)) (seen zones e) (live_of zones es)
+    count_cons (λ (x : LiveEntity). is_set (value_in slot x)) (live_entity zones e) (live_of zones es)
     ∙ ap (λ (b : Bool). cond b 1 0 + count_by (λ (x : LiveEntity). is_set (value_in slot x)) (live_of zones es)) here
     ∙ ap (λ (n : ℕ). cond (is_some key) 1 0 + n) (live_labels zones es slot four set (λ h own. held h (omega (arith, own))))
   where

@@ -9,7 +9,7 @@ use Rattle.std.proofs.lemmas.List.Quantifiers.{position-Some, all_pairs_remove}
 use Rattle.std.proofs.lemmas.Bool.{lt-ltb, false≢true}
 use Rattle.mf_elem.specs.declared.label.LabelValue.{LabelValue}
 use Rattle.mf_elem.specs.declared.label.LabelValue.TheVariants.{Unset, Range, Number}
-use Rattle.mf_slots.specs.Zones.{Contents, Handles, handle, label_values, MakesLabel, GivesUp, Relabels, IsMadeFor, AreMade, value_for, SetsAt, IsMadeAt, Makes, IsHeld, IsHeldAt, NoneUnset, value_of, value_at as value_under}
+use Rattle.mf_slots.specs.Zones.{Contents, Handles, handle, label_values, MakesLabel, GivesUp, Relabels, IsMadeFor, AreMade, value_for, SetsAt, IsMadeAt, Makes, IsHeld, IsHeldAt, NoneUnset, slot_value, value_at as value_under}
 use Rattle.mf_slots.proofs.ZonesLaws.{set_none, set_writes, set_makes, set_gives_up, unset_exactly}
 use Rattle.mf_slots.proofs.Relabelling.{set_relabels}
 use Rattle.mf_objects.proofs.Entities.{label_of, changed_at}
@@ -22,7 +22,7 @@ use Rattle.mf_objects.specs.Changes.{with_change, with_what}
 use Rattle.mf_objects.specs.Labels.{with_value, with_label}
 use Rattle.mf_objects.specs.Fits.{IsBare}
 use Rattle.mf_objects.specs.Population.{NoBytesIfDirectory, Belongs, IsPopulation, is_namesake}
-use Rattle.mf_objects.specs.Sound.{seen, labels_of, IsExact, live_of, IsSound, IsPlace}
+use Rattle.mf_objects.specs.Sound.{live_entity, labels_of, IsExact, live_of, IsSound, IsPlace}
 use Rattle.mf_objects.proofs.Zoned.{exact_push, live_push, exact_drop, live_drop, is_held, SetsSlot, relabels_set, relabels_make, exact_relabel, live_relabel, split_place, live_split, exact_none}
 use Rattle.mf_objects.proofs.Relabelled.{exact_whole, live_whole}
 use Rattle.mf_objects.proofs.Rising.{rising_push, rising_remove, rising_changed, root_push, root_remove, root_changed, set_changed, find_first, id_is}
@@ -65,12 +65,12 @@ added next zones zones' es e values is room four sound belongs no_bytes free mak
 
 live_remove : (zones : Contents) (es : List Entity) (i : ℕ) → live_of zones (remove es i) ≡ remove (live_of zones es) i
 live_remove zones es i =
-    map-append (seen zones) (take i es) (drop (suc i) es)
-    ∙ ap (λ (ls : List LiveEntity). ls ++ map (seen zones) (drop (suc i) es)) (sym (take-map (seen zones) i es))
-    ∙ ap (λ (ls : List LiveEntity). take i (map (seen zones) es) ++ ls) (sym (drop-map (seen zones) (suc i) es))
+    map-append (live_entity zones) (take i es) (drop (suc i) es)
+    ∙ ap (λ (ls : List LiveEntity). ls ++ map (live_entity zones) (drop (suc i) es)) (sym (take-map (live_entity zones) i es))
+    ∙ ap (λ (ls : List LiveEntity). take i (map (live_entity zones) es) ++ ls) (sym (drop-map (live_entity zones) (suc i) es))
 
-seen_place : (zones : Contents) (es : List Entity) (i : ℕ) (e : Entity) → i < length es → e ≡ get_or es i e → seen zones e ≡ get_or (live_of zones es) i (seen zones e)
-seen_place zones es i e within is = ap (seen zones) is ∙ sym (get_or-map (seen zones) es i e (seen zones e) within)
+seen_place : (zones : Contents) (es : List Entity) (i : ℕ) (e : Entity) → i < length es → e ≡ get_or es i e → live_entity zones e ≡ get_or (live_of zones es) i (live_entity zones e)
+seen_place zones es i e within is = ap (live_entity zones) is ∙ sym (get_or-map (live_entity zones) es i e (live_entity zones e) within)
 
 pub dropped : (next : ℕ) (zones zones' : Contents) (es : List Entity) (i : ℕ) (e : Entity) → i < length es → 0 < i → e ≡ get_or es i e
     → IsSound next zones es → IsBare (live_of zones es) e.id e.what → GivesUp zones zones' e.label
@@ -81,15 +81,15 @@ dropped next zones zones' es i e within later is sound bare gives =
     let live : live_of zones' (remove es i) ≡ remove (live_of zones es) i =
     live_drop zones zones' (take i es) (drop (suc i) es) e exact gives ∙ live_remove zones es i in
     let lives : List LiveEntity = live_of zones es in
-    let long : i < length lives = omega (arith, within, length-map es (seen zones)) in
-    let at : seen zones e ≡ get_or lives i (seen zones e) = seen_place zones es i e within is in
-    let own : find (has_id e.id) lives ≡ Some (seen zones e) =
-    subst (λ (x : LiveEntity). find (has_id x.id) lives ≡ Some x) (sym at) (find_own 0 next lives i (seen zones e) long sound.population.rising) in
+    let long : i < length lives = omega (arith, within, length-map es (live_entity zones)) in
+    let at : live_entity zones e ≡ get_or lives i (live_entity zones e) = seen_place zones es i e within is in
+    let own : find (has_id e.id) lives ≡ Some (live_entity zones e) =
+    subst (λ (x : LiveEntity). find (has_id x.id) lives ≡ Some x) (sym at) (find_own 0 next lives i (live_entity zones e) long sound.population.rising) in
     let shrunk : IsPopulation (record { next = next; live = remove lives i }) =
     record {
       rising = rising_remove 0 next lives i sound.population.rising;
       rooted = root_remove lives i later sound.population.rooted;
-      belong = belong_remove lives i (seen zones e) long at sound.population.belong
+      belong = belong_remove lives i (live_entity zones e) long at sound.population.belong
           (bare_none lives e.id e.what sound.population.belong (λ test. ap (passes test) own) bare);
       directories = All-remove (λ (l : LiveEntity). NoBytesIfDirectory l.what) lives i sound.population.directories;
       names = all_pairs_remove (λ (older l : LiveEntity). is_namesake l.name l.what older ≡ false) lives i long sound.population.names;
@@ -108,8 +108,8 @@ pub bare_place : (next : ℕ) (zones : Contents) (es : List Entity) (objects : E
     → ((d : LiveEntity) → IsBare objects.live (get_or objects.live i d).id (get_or objects.live i d).what) → IsBare (live_of zones es) e.id e.what
 bare_place next zones es objects i e shows within is bare =
     let lives : List LiveEntity = live_of zones es in
-    let here : IsBare lives (get_or lives i (seen zones e)).id (get_or lives i (seen zones e)).what =
-    subst (λ (o : Entities). IsBare o.live (get_or o.live i (seen zones e)).id (get_or o.live i (seen zones e)).what) (sym shows) (bare (seen zones e)) in
+    let here : IsBare lives (get_or lives i (live_entity zones e)).id (get_or lives i (live_entity zones e)).what =
+    subst (λ (o : Entities). IsBare o.live (get_or o.live i (live_entity zones e)).id (get_or o.live i (live_entity zones e)).what) (sym shows) (bare (live_entity zones e)) in
     subst (λ (x : LiveEntity). IsBare lives x.id x.what) (sym (seen_place zones es i e within is)) here
 
 pub held_place : (next : ℕ) (zones : Contents) (es : List Entity) (i : ℕ) (e : Entity) → i < length es → e ≡ get_or es i e
@@ -119,7 +119,7 @@ held_place next zones es i e within is sound =
 
 -- a slot of an entity is made exactly where its value isn't Unset
 pub made_exactly : (next : ℕ) (zones : Contents) (es : List Entity) (i : ℕ) (e : Entity) (slot : ℕ) → i < length es → e ≡ get_or es i e → slot < 4
-    → IsSound next zones es → (value_of zones e.label slot ≡ Unset) ↔ (handle e.label slot ≡ None)
+    → IsSound next zones es → (slot_value zones e.label slot ≡ Unset) ↔ (handle e.label slot ≡ None)
 made_exactly next zones es i e slot within is four sound =
     let held = held_place next zones es i e within is sound in
     unset_exactly zones e.label slot sound.set (held.each slot four)
@@ -131,28 +131,28 @@ made_place zones slot (Some h) held some = held
 -- places
 
 pub place_within : (next : ℕ) (zones : Contents) (es : List Entity) (id : Id) (i : ℕ) → IsPlace (view next zones es) id i → i < length es
-place_within next zones es id i place = omega (arith, place.within, length-map es (seen zones))
+place_within next zones es id i place = omega (arith, place.within, length-map es (live_entity zones))
 
 -- what contracts see of the entity at a place
 pub found_place : (next : ℕ) (zones : Contents) (es : List Entity) (id : Id) (i : ℕ) (e : Entity) → IsPlace (view next zones es) id i → e ≡ get_or es i e
-    → live_at (view next zones es) id ≡ Some (seen zones e)
+    → live_at (view next zones es) id ≡ Some (live_entity zones e)
 found_place next zones es id i e place is =
-    place.found (seen zones e) ∙ ap (λ (x : LiveEntity). Some x) (sym (seen_place zones es i e (place_within next zones es id i place) is))
+    place.found (live_entity zones e) ∙ ap (λ (x : LiveEntity). Some x) (sym (seen_place zones es i e (place_within next zones es id i place) is))
 
 -- the entity at a place is changed, as contracts see it
 changes : (next : ℕ) (zones zones' : Contents) (es es' : List Entity) (id : Id) (i : ℕ) (e : Entity) (change : LiveEntity → LiveEntity)
     → IsPlace (view next zones es) id i → e ≡ get_or es i e → IsSound next zones es
-    → ((x : LiveEntity) → (change x).id ≡ x.id) → ((x : LiveEntity) → (change x).name ≡ x.name) → Stays e.what (change (seen zones e)).what
-    → live_of zones' es' ≡ set (live_of zones es) i (change (seen zones e)) → length es' ≡ length es → IsExact zones' (labels_of es') → NoneUnset zones'
+    → ((x : LiveEntity) → (change x).id ≡ x.id) → ((x : LiveEntity) → (change x).name ≡ x.name) → Stays e.what (change (live_entity zones e)).what
+    → live_of zones' es' ≡ set (live_of zones es) i (change (live_entity zones e)) → length es' ≡ length es → IsExact zones' (labels_of es') → NoneUnset zones'
     → Becomes next zones' es' (with_change change (view next zones es) id)
 changes next zones zones' es es' id i e change place is sound ids named stays shows len exact set_now =
     let within : i < length es = place_within next zones es id i place in
     let long : i < length (live_of zones es) = place.within in
-    let at : seen zones e ≡ get_or (live_of zones es) i (seen zones e) = seen_place zones es i e within is in
-    let has : has_id id (seen zones e) ≡ true = ap (has_id id) at ∙ place.has (seen zones e) in
+    let at : live_entity zones e ≡ get_or (live_of zones es) i (live_entity zones e) = seen_place zones es i e within is in
+    let has : has_id id (live_entity zones e) ≡ true = ap (has_id id) at ∙ place.has (live_entity zones e) in
     let live : live_of zones' es' ≡ map (changed_at change id) (live_of zones es) =
-    shows ∙ set_changed change id 0 next (live_of zones es) i (seen zones e) long sound.population.rising at has in
-    let at_id : StaysAt change id (live_of zones es) = stays_at change id next (live_of zones es) i (seen zones e) long sound.population.rising at has stays in
+    shows ∙ set_changed change id 0 next (live_of zones es) i (live_entity zones e) long sound.population.rising at has in
+    let at_id : StaysAt change id (live_of zones es) = stays_at change id next (live_of zones es) i (live_entity zones e) long sound.population.rising at has stays in
     let changed : IsPopulation (record { next = next; live = map (changed_at change id) (live_of zones es) }) =
     record {
       rising = rising_changed change id 0 next (live_of zones es) ids sound.population.rising;
@@ -180,11 +180,11 @@ relabelled next zones zones' es id i e label slot h v place is sound value relab
     let split : es ≡ take i es ++ e ∷ drop (suc i) es = split_place es i e within is in
     let exact : IsExact zones (labels_of (take i es ++ e ∷ drop (suc i) es)) = subst (λ (xs : List Entity). IsExact zones (labels_of xs)) split sound.exact in
     let put : set es i e' ≡ take i es ++ e' ∷ drop (suc i) es = set_split es i e' within in
-    let live : live_of zones' (set es i e') ≡ set (live_of zones es) i (with_value slot v (seen zones e)) =
+    let live : live_of zones' (set es i e') ≡ set (live_of zones es) i (with_value slot v (live_entity zones e)) =
     ap (live_of zones') put
     ∙ live_relabel zones zones' (take i es) (drop (suc i) es) e label slot h v relabels
-    ∙ live_split zones (take i es) (drop (suc i) es) e i (with_value slot v (seen zones e)) (length-take-le i es (omega arith))
-    ∙ ap (λ (xs : List Entity). set (live_of zones xs) i (with_value slot v (seen zones e))) (sym split) in
+    ∙ live_split zones (take i es) (drop (suc i) es) e i (with_value slot v (live_entity zones e)) (length-take-le i es (omega arith))
+    ∙ ap (λ (xs : List Entity). set (live_of zones xs) i (with_value slot v (live_entity zones e))) (sym split) in
     changes next zones zones' es (set es i e') id i e (with_value slot v) place is sound (λ x. refl) (λ x. refl) (stays_same e.what) live (length-set es i e')
     (rw put (exact_relabel zones zones' (take i es) (drop (suc i) es) e label slot h v exact relabels))
     (set_writes zones zones' slot h v sound.set value relabels.writes)
@@ -222,11 +222,11 @@ label_changed next zones zones' es id i e label values four place is sound relab
     let split : es ≡ take i es ++ e ∷ drop (suc i) es = split_place es i e within is in
     let exact : IsExact zones (labels_of (take i es ++ e ∷ drop (suc i) es)) = subst (λ (xs : List Entity). IsExact zones (labels_of xs)) split sound.exact in
     let put : set es i e' ≡ take i es ++ e' ∷ drop (suc i) es = set_split es i e' within in
-    let live : live_of zones' (set es i e') ≡ set (live_of zones es) i (with_label values (seen zones e)) =
+    let live : live_of zones' (set es i e') ≡ set (live_of zones es) i (with_label values (live_entity zones e)) =
     ap (live_of zones') put
     ∙ live_whole zones zones' (take i es) (drop (suc i) es) e label values four exact relabels
-    ∙ live_split zones (take i es) (drop (suc i) es) e i (with_label values (seen zones e)) (length-take-le i es (omega arith))
-    ∙ ap (λ (xs : List Entity). set (live_of zones xs) i (with_label values (seen zones e))) (sym split) in
+    ∙ live_split zones (take i es) (drop (suc i) es) e i (with_label values (live_entity zones e)) (length-take-le i es (omega arith))
+    ∙ ap (λ (xs : List Entity). set (live_of zones xs) i (with_label values (live_entity zones e))) (sym split) in
     changes next zones zones' es (set es i e') id i e (with_label values) place is sound (λ x. refl) (λ x. refl) (stays_same e.what) live (length-set es i e')
     (rw put (exact_whole zones zones' (take i es) (drop (suc i) es) e label values exact relabels))
     (set_relabels zones zones' e.label label values sound.set relabels)
@@ -236,10 +236,10 @@ labels_set [] i e e' is same = refl
 labels_set (x ∷ es) zero e e' is same = ap (λ (l : Handles). l ∷ labels_of es) (same ∙ ap (λ (y : Entity). y.label) is)
 labels_set (x ∷ es) (suc i) e e' is same = ap (λ (ls : List Handles). x.label ∷ ls) (labels_set es i e e' is same)
 
-live_set : (zones : Contents) (es : List Entity) (i : ℕ) (e : Entity) → live_of zones (set es i e) ≡ set (live_of zones es) i (seen zones e)
+live_set : (zones : Contents) (es : List Entity) (i : ℕ) (e : Entity) → live_of zones (set es i e) ≡ set (live_of zones es) i (live_entity zones e)
 live_set zones [] i e = refl
 live_set zones (x ∷ es) zero e = refl
-live_set zones (x ∷ es) (suc i) e = ap (λ (ls : List LiveEntity). seen zones x ∷ ls) (live_set zones es i e)
+live_set zones (x ∷ es) (suc i) e = ap (λ (ls : List LiveEntity). live_entity zones x ∷ ls) (live_set zones es i e)
 
 -- what an entity holds is changed
 pub what_changed : (next : ℕ) (zones : Contents) (es : List Entity) (id : Id) (i : ℕ) (e : Entity) (w : EntityData) (change : EntityData → EntityData)
@@ -247,8 +247,8 @@ pub what_changed : (next : ℕ) (zones : Contents) (es : List Entity) (id : Id) 
     → Becomes next zones (set es i (record e { what = w })) (with_change (with_what change) (view next zones es) id)
 what_changed next zones es id i e w change place is sound stays changed =
     let e' : Entity = record e { what = w } in
-    let live : live_of zones (set es i e') ≡ set (live_of zones es) i (with_what change (seen zones e)) =
-    live_set zones es i e' ∙ ap (λ (x : EntityData). set (live_of zones es) i (with_what (λ _. x) (seen zones e))) changed in
+    let live : live_of zones (set es i e') ≡ set (live_of zones es) i (with_what change (live_entity zones e)) =
+    live_set zones es i e' ∙ ap (λ (x : EntityData). set (live_of zones es) i (with_what (λ _. x) (live_entity zones e))) changed in
     changes next zones zones es (set es i e') id i e (with_what change) place is sound (λ x. refl) (λ x. refl) stays live (length-set es i e')
     (subst (λ (ls : List Handles). IsExact zones ls) (sym (labels_set es i e e' is refl)) sound.exact) sound.set
 
@@ -263,7 +263,7 @@ before_end zones id (e ∷ es) some = one (nat_eq e.id.0 id.0) (before_end zones
     rest = position_or_len (λ (x : Entity). nat_eq x.id.0 id.0) es
 
     one : (b : Bool) → (IsSome (find (has_id id) (live_of zones es)) → rest < length es)
-        → IsSome (cond b (Some (seen zones e)) (find (has_id id) (live_of zones es))) → cond (not b) (1 + rest) 0 < suc (length es)
+        → IsSome (cond b (Some (live_entity zones e)) (find (has_id id) (live_of zones es))) → cond (not b) (1 + rest) 0 < suc (length es)
     one true later some = omega arith
     one false later some = omega (arith, later some)
 
@@ -280,26 +280,26 @@ place_found next zones [] id i sound at = absurd sound.population.rooted
 place_found next zones (r ∷ es) id i sound at =
     let all : List Entity = r ∷ es in
     let first = position-Some (λ (e : Entity). nat_eq e.id.0 id.0) all i r at in
-    let same : (d : LiveEntity) (k : ℕ) → k < length all → get_or (live_of zones all) k d ≡ seen zones (get_or all k r) =
-    λ d k l. get_or-map (seen zones) all k r d l in
+    let same : (d : LiveEntity) (k : ℕ) → k < length all → get_or (live_of zones all) k d ≡ live_entity zones (get_or all k r) =
+    λ d k l. get_or-map (live_entity zones) all k r d l in
     let has : (d : LiveEntity) → has_id id (get_or (live_of zones all) i d) ≡ true = λ d. ap (has_id id) (same d i first.0) ∙ first.1 in
     record {
-      within = omega (arith, first.0, length-map all (seen zones));
-      found = λ d. find_first (has_id id) (live_of zones all) i d (omega (arith, first.0, length-map all (seen zones))) (has d)
+      within = omega (arith, first.0, length-map all (live_entity zones));
+      found = λ d. find_first (has_id id) (live_of zones all) i d (omega (arith, first.0, length-map all (live_entity zones))) (has d)
           (λ k l. ap (has_id id) (same d k (omega (arith, first.0))) ∙ first.2 k l);
       has = has;
-      later = λ ne. later_place i at_root ne (has (seen zones r));
+      later = λ ne. later_place i at_root ne (has (live_entity zones r));
     }
   where
     at_root : r.id.0 ≡ 0
     at_root = sound.population.rooted.0
 
-    later_place : (k : ℕ) → r.id.0 ≡ 0 → id.0 ≢ 0 → has_id id (get_or (live_of zones (r ∷ es)) k (seen zones r)) ≡ true → 0 < k
-    later_place zero root ne has = absurd (ne (sym (id_is id (seen zones r) has) ∙ root))
+    later_place : (k : ℕ) → r.id.0 ≡ 0 → id.0 ≢ 0 → has_id id (get_or (live_of zones (r ∷ es)) k (live_entity zones r)) ≡ true → 0 < k
+    later_place zero root ne has = absurd (ne (sym (id_is id (live_entity zones r) has) ∙ root))
     later_place (suc k) root ne has = omega arith
 
 -- the value of a label slot of the entity at a place
-pub get_values : (zones : Contents) (label : Handles) (slot : ℕ) → slot < 4 → get_or (label_values zones label) slot Unset ≡ value_of zones label slot
+pub get_values : (zones : Contents) (label : Handles) (slot : ℕ) → slot < 4 → get_or (label_values zones label) slot Unset ≡ slot_value zones label slot
 unfolding label_values
 get_values zones label zero four = refl
 get_values zones label (suc zero) four = refl
@@ -308,7 +308,7 @@ get_values zones label (suc (suc (suc zero))) four = refl
 get_values zones label (suc (suc (suc (suc slot)))) four = absurd (omega arith)
 
 pub value_place : (next : ℕ) (zones : Contents) (es : List Entity) (id : Id) (i : ℕ) (e : Entity) (slot : ℕ) → slot < 4
-    → IsPlace (view next zones es) id i → e ≡ get_or es i e → live_value (view next zones es) id slot ≡ value_of zones e.label slot
+    → IsPlace (view next zones es) id i → e ≡ get_or es i e → live_value (view next zones es) id slot ≡ slot_value zones e.label slot
 value_place next zones es id i e slot four place is =
     ap (λ (o : Option LiveEntity). get_or (label_of o) slot Unset) (found_place next zones es id i e place is) ∙ get_values zones e.label slot four
 

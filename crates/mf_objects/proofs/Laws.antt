@@ -4,7 +4,8 @@ use Rattle.std.proofs.lemmas.Bool.{false≢true, eqb-true}
 use Rattle.mf_objects.specs.declared.id.Id.{Id}
 use Rattle.mf_objects.specs.declared.entity.EntityData.{EntityData}
 use Rattle.mf_objects.specs.declared.entity.EntityData.TheVariants.{Process, Vnode, Pipe, Socket}
-use Rattle.mf_objects.specs.Live.{LiveEntity, Entities, has_id, live_at, is_pipe, is_process, is_socket, is_entry, is_made_by, reading, count_of, count_at, content_of, content_at, file_of, file_at, no_file, entry_count}
+use Rattle.mf_objects.specs.Live.{LiveEntity, Entities, has_id, live_at, is_pipe, is_process, is_socket, is_entry, is_made_by, count_of, count_at, content_of, content_at, file_of, file_at, no_file, entry_count}
+use Rattle.mf_objects.proofs.Shorthands.{reading}
 use Rattle.mf_objects.specs.Lives.{passes, is_vnode, is_directory, IsLive, IsLiveWhere, is_held_by}
 use Rattle.mf_objects.specs.Fits.{FitsBytes, FitsMessage, HasMessage}
 use Rattle.mf_objects.specs.Population.{IsPopulation, NoBytesIfDirectory, shares_names, is_entry_beside}

@@ -1,3 +1,4 @@
+pub mod Shorthands
 pub mod Entities
 pub mod Zoned
 pub mod Relabelled

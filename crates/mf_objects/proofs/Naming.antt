@@ -11,8 +11,9 @@ use Rattle.mf_objects.specs.declared.entity.EntityData.{EntityData}
 use Rattle.mf_objects.specs.declared.entity.EntityData.TheVariants.{Process, Vnode, Pipe, Socket}
 use Rattle.mf_objects.specs.Live.{LiveEntity, is_entry}
 use Rattle.mf_objects.specs.Names.{prefix_of, own_name}
-use Rattle.mf_objects.specs.Titles.{path_in, below, parent_of, entry_names, title_of}
-use Rattle.mf_objects.specs.Sound.{seen, live_of, unlabelled}
+use Rattle.mf_objects.specs.Titles.{path_in, parent_of, entry_names, title_of}
+use Rattle.mf_objects.proofs.Shorthands.{below}
+use Rattle.mf_objects.specs.Sound.{live_entity, live_of, unlabelled}
 
 -- the names of the entries of a directory
 abbrev pub raw_names : Id → List Entity → List (List ℕ)
@@ -23,7 +24,7 @@ names_live dir zones [] = refl
 names_live dir zones (e ∷ es) = one (is_entry dir e.what) (names_live dir zones es)
   where
     one : (b : Bool) → entry_names dir (live_of zones es) ≡ raw_names dir es
-        → map (λ (x : LiveEntity). x.name) (cond b (seen zones e ∷ filter (λ (x : LiveEntity). is_entry dir x.what) (live_of zones es)) (filter (λ (x : LiveEntity). is_entry dir x.what) (live_of zones es)))
+        → map (λ (x : LiveEntity). x.name) (cond b (live_entity zones e ∷ filter (λ (x : LiveEntity). is_entry dir x.what) (live_of zones es)) (filter (λ (x : LiveEntity). is_entry dir x.what) (live_of zones es)))
         ≡ map (λ (x : Entity). x.name) (cond b (e ∷ filter (λ (x : Entity). is_entry dir x.what) es) (filter (λ (x : Entity). is_entry dir x.what) es))
     one true rest = ap (λ (ns : List (List ℕ)). e.name ∷ ns) rest
     one false rest = rest
@@ -58,12 +59,12 @@ below_same : (path other : Id → List ℕ) → ((id : Id) → path id ≡ other
 below_same path other same None name = refl
 below_same path other same (Some dir) name = ap (λ (p : List ℕ). p ++ codes "/" ++ name) (same dir)
 
-path_seen : (zones : Contents) (es : List Entity) (id : Id) → path_in (map (seen zones) es) id ≡ path_in (map unlabelled es) id
+path_seen : (zones : Contents) (es : List Entity) (id : Id) → path_in (map (live_entity zones) es) id ≡ path_in (map unlabelled es) id
 unfolding path_in
 path_seen zones [] id = refl
 path_seen zones (e ∷ es) id =
     elim (nat_eq e.id.0 id.0)
-    as (λ b. cond b (below (path_in (map (seen zones) es)) (parent_of e.what) e.name) (path_in (map (seen zones) es) id)
+    as (λ b. cond b (below (path_in (map (live_entity zones) es)) (parent_of e.what) e.name) (path_in (map (live_entity zones) es) id)
     ≡ cond b (below (path_in (map unlabelled es)) (parent_of e.what) e.name) (path_in (map unlabelled es) id)) [
       | true ↦ below_same _ _ (path_seen zones es) (parent_of e.what) e.name
       | false ↦ path_seen zones es id
@@ -79,7 +80,7 @@ pub path_live : (zones : Contents) (es : List Entity) (id : Id) → path_in (rev
 path_live zones es id =
     ap (λ (xs : List LiveEntity). path_in xs id) (reverse_map unlabelled es)
     ∙ sym (path_seen zones (reverse es) id)
-    ∙ ap (λ (xs : List LiveEntity). path_in xs id) (sym (reverse_map (seen zones) es))
+    ∙ ap (λ (xs : List LiveEntity). path_in xs id) (sym (reverse_map (live_entity zones) es))
 
 pub path_push : (ls : List LiveEntity) (l : LiveEntity) (id : Id)
     → path_in (reverse (ls ++ l ∷ [])) id ≡ cond (nat_eq l.id.0 id.0) (below (path_in (reverse ls)) (parent_of l.what) l.name) (path_in (reverse ls) id)

@@ -10,7 +10,8 @@ use Rattle.mf_objects.specs.declared.entity.EntityData.TheVariants.{Process, Vno
 use Rattle.mf_objects.specs.Live.{LiveEntity, Entities, has_id, live_at}
 use Rattle.mf_objects.specs.Lives.{is_directory}
 use Rattle.mf_objects.specs.Population.{Belongs, HasOlder, HasRoot, IsPopulation, IsRising}
-use Rattle.mf_objects.specs.Titles.{parent_of, path_in, path_at, below}
+use Rattle.mf_objects.specs.Titles.{parent_of, path_in}
+use Rattle.mf_objects.proofs.Shorthands.{path_at, below}
 use Rattle.mf_objects.proofs.Belonging.{belongs_at}
 use Rattle.mf_objects.proofs.Naming.{path_push}
 

@@ -8,7 +8,7 @@ use Rattle.mf_slots.proofs.Relabelling.{Moves, moves_at, has_value}
 use Rattle.mf_objects.specs.declared.entity.Entity.{Entity}
 use Rattle.mf_objects.specs.Live.{LiveEntity}
 use Rattle.mf_objects.specs.Labels.{with_label}
-use Rattle.mf_objects.specs.Sound.{seen, labels_of, owner_count, held_count, IsExact, live_of}
+use Rattle.mf_objects.specs.Sound.{live_entity, labels_of, owner_count, held_count, IsExact, live_of}
 use Rattle.mf_objects.proofs.Zoned.{owned_yes, owned_no, held_none, held_some, held_most, some_is, count_split, live_kept, values_made}
 
 -- the handles of the other entities keep what they have
@@ -63,16 +63,16 @@ exact_whole zones zones' xs ys e label values exact relabels =
 
 pub live_whole : (zones zones' : Contents) (xs ys : List Entity) (e : Entity) (label : Handles) (values : List LabelValue) → length values ≡ 4
     → IsExact zones (labels_of (xs ++ e ∷ ys)) → Relabels zones zones' e.label label values
-    → live_of zones' (xs ++ record e { label = label } ∷ ys) ≡ live_of zones xs ++ with_label values (seen zones e) ∷ live_of zones ys
+    → live_of zones' (xs ++ record e { label = label } ∷ ys) ≡ live_of zones xs ++ with_label values (live_entity zones e) ∷ live_of zones ys
 live_whole zones zones' xs ys e label values four exact relabels =
     let e' : Entity = record e { label = label } in
-    let here : seen zones' e' ≡ with_label values (seen zones e) =
+    let here : live_entity zones' e' ≡ with_label values (live_entity zones e) =
     ap (λ (ls : List LabelValue). let l : LiveEntity = record { id = e.id; name = e.name; label = ls; what = e.what } in l)
     (values_made zones' label values four (has_value zones zones' e.label label values relabels)) in
     let kept = others_kept zones zones' xs ys e label values exact relabels in
     let front : live_of zones' xs ≡ live_of zones xs = live_kept zones zones' xs (record { same = λ s k l own. kept s k l (omega (arith, own)) }) in
     let back : live_of zones' ys ≡ live_of zones ys = live_kept zones zones' ys (record { same = λ s k l own. kept s k l (omega (arith, own)) }) in
-    map-append (seen zones') xs (e' ∷ ys)
-    ∙ ap (λ (ls : List LiveEntity). ls ++ seen zones' e' ∷ live_of zones' ys) front
+    map-append (live_entity zones') xs (e' ∷ ys)
+    ∙ ap (λ (ls : List LiveEntity). ls ++ live_entity zones' e' ∷ live_of zones' ys) front
     ∙ ap (λ (x : LiveEntity). live_of zones xs ++ x ∷ live_of zones' ys) here
-    ∙ ap (λ (ls : List LiveEntity). live_of zones xs ++ with_label values (seen zones e) ∷ ls) back
+    ∙ ap (λ (ls : List LiveEntity). live_of zones xs ++ with_label values (live_entity zones e) ∷ ls) back

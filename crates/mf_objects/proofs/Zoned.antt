@@ -5,12 +5,12 @@ use Rattle.std.proofs.lemmas.Bool.{cases_eq}
 use Rattle.std.proofs.lemmas.Bool.Decides.{nat_tests}
 use Rattle.mf_elem.specs.declared.label.LabelValue.{LabelValue}
 use Rattle.mf_elem.specs.declared.label.LabelValue.TheVariants.{Unset}
-use Rattle.mf_slots.specs.Zones.{Contents, Handles, handle, label_values, under, value_of, value_at, value_or_unset, value_for, MakesLabel, GivesUp, Writes, Makes, IsHeld, IsHeldAt}
-use Rattle.mf_slots.proofs.ZonesLaws.{value_of-same, has_handle}
+use Rattle.mf_slots.specs.Zones.{Contents, Handles, handle, label_values, under, slot_value, value_under, value_or_unset, value_for, MakesLabel, GivesUp, Writes, Makes, IsHeld, IsHeldAt}
+use Rattle.mf_slots.proofs.ZonesLaws.{slot_value-same, has_handle}
 use Rattle.mf_objects.specs.declared.entity.Entity.{Entity}
 use Rattle.mf_objects.specs.Live.{LiveEntity}
 use Rattle.mf_objects.specs.Labels.{with_value}
-use Rattle.mf_objects.specs.Sound.{seen, labels_of, owned, owner_count, held_count, IsExact, live_of}
+use Rattle.mf_objects.specs.Sound.{live_entity, labels_of, owned, owner_count, held_count, IsExact, live_of}
 
 -- Owners of a handle
 
@@ -70,24 +70,24 @@ values_kept : (zones zones' : Contents) (label : Handles)
     → ((slot h : ℕ) → slot < 4 → handle label slot ≡ Some h → under zones' slot h ≡ under zones slot h) → label_values zones' label ≡ label_values zones label
 unfolding label_values
 values_kept zones zones' label same =
-    let first : value_of zones' label 0 ≡ value_of zones label 0 = value_of-same zones zones' label 0 (λ h. same 0 h (omega arith)) in
-    let second : value_of zones' label 1 ≡ value_of zones label 1 = value_of-same zones zones' label 1 (λ h. same 1 h (omega arith)) in
-    let third : value_of zones' label 2 ≡ value_of zones label 2 = value_of-same zones zones' label 2 (λ h. same 2 h (omega arith)) in
-    let fourth : value_of zones' label 3 ≡ value_of zones label 3 = value_of-same zones zones' label 3 (λ h. same 3 h (omega arith)) in
+    let first : slot_value zones' label 0 ≡ slot_value zones label 0 = slot_value-same zones zones' label 0 (λ h. same 0 h (omega arith)) in
+    let second : slot_value zones' label 1 ≡ slot_value zones label 1 = slot_value-same zones zones' label 1 (λ h. same 1 h (omega arith)) in
+    let third : slot_value zones' label 2 ≡ slot_value zones label 2 = slot_value-same zones zones' label 2 (λ h. same 2 h (omega arith)) in
+    let fourth : slot_value zones' label 3 ≡ slot_value zones label 3 = slot_value-same zones zones' label 3 (λ h. same 3 h (omega arith)) in
     rw (first, second, third, fourth) refl
 
 seen_kept : (zones zones' : Contents) (e : Entity)
-    → ((slot h : ℕ) → slot < 4 → handle e.label slot ≡ Some h → under zones' slot h ≡ under zones slot h) → seen zones' e ≡ seen zones e
+    → ((slot h : ℕ) → slot < 4 → handle e.label slot ≡ Some h → under zones' slot h ≡ under zones slot h) → live_entity zones' e ≡ live_entity zones e
 seen_kept zones zones' e same =
     ap (λ (ls : List LabelValue). let l : LiveEntity = record { id = e.id; name = e.name; label = ls; what = e.what } in l) (values_kept zones zones' e.label same)
 
 pub live_kept : (zones zones' : Contents) (es : List Entity) → Keeps zones zones' es → live_of zones' es ≡ live_of zones es
 live_kept zones zones' [] keeps = refl
 live_kept zones zones' (e ∷ es) keeps =
-    let here : seen zones' e ≡ seen zones e =
+    let here : live_entity zones' e ≡ live_entity zones e =
     seen_kept zones zones' e (λ slot h l own. keeps.same slot h l (omega (arith, owned_yes (handle e.label slot) h own))) in
     let rest : Keeps zones zones' es = record { same = λ slot h l own. keeps.same slot h l (omega (arith, own)) } in
-    ap (λ (x : LiveEntity). x ∷ live_of zones' es) here ∙ ap (λ (xs : List LiveEntity). seen zones e ∷ xs) (live_kept zones zones' es rest)
+    ap (λ (x : LiveEntity). x ∷ live_of zones' es) here ∙ ap (λ (xs : List LiveEntity). live_entity zones e ∷ xs) (live_kept zones zones' es rest)
 
 -- One entity more
 
@@ -120,14 +120,14 @@ four_values (a ∷ b ∷ c ∷ []) four = absurd (omega arith)
 four_values (a ∷ b ∷ c ∷ d ∷ []) four = refl
 four_values (a ∷ b ∷ c ∷ d ∷ x ∷ xs) four = absurd (omega arith)
 
-pub values_made : (zones : Contents) (label : Handles) (values : List LabelValue) → length values ≡ 4 → ((slot : ℕ) → value_of zones label slot ≡ value_for values slot)
+pub values_made : (zones : Contents) (label : Handles) (values : List LabelValue) → length values ≡ 4 → ((slot : ℕ) → slot_value zones label slot ≡ value_for values slot)
     → label_values zones label ≡ values
 unfolding label_values
 values_made zones label values four made =
-    let first : value_of zones label 0 ≡ get_or values 0 Unset = made 0 in
-    let second : value_of zones label 1 ≡ get_or values 1 Unset = made 1 in
-    let third : value_of zones label 2 ≡ get_or values 2 Unset = made 2 in
-    let fourth : value_of zones label 3 ≡ get_or values 3 Unset = made 3 in
+    let first : slot_value zones label 0 ≡ get_or values 0 Unset = made 0 in
+    let second : slot_value zones label 1 ≡ get_or values 1 Unset = made 1 in
+    let third : slot_value zones label 2 ≡ get_or values 2 Unset = made 2 in
+    let fourth : slot_value zones label 3 ≡ get_or values 3 Unset = made 3 in
     rw (first, second, third, fourth) (four_values values four)
 
 pub live_push : (zones zones' : Contents) (es : List Entity) (e : Entity) (values : List LabelValue) → length values ≡ 4
@@ -141,8 +141,8 @@ live_push zones zones' es e values four exact makes =
         | inr other ↦ makes.others slot h other
       ];
     } in
-    map-append (seen zones') es (e ∷ [])
-    ∙ ap (λ (xs : List LiveEntity). xs ++ seen zones' e ∷ []) (live_kept zones zones' es keeps)
+    map-append (live_entity zones') es (e ∷ [])
+    ∙ ap (λ (xs : List LiveEntity). xs ++ live_entity zones' e ∷ []) (live_kept zones zones' es keeps)
     ∙ ap (λ (ls : List LabelValue). live_of zones es ++ record { id = e.id; name = e.name; label = ls; what = e.what } ∷ []) (values_made zones' e.label values four makes.made)
 
 -- One entity less
@@ -296,14 +296,14 @@ values_relabel : (zones zones' : Contents) (old label : Handles) (slot h : ℕ) 
     → label_values zones' label ≡ set (label_values zones old) slot v
 unfolding label_values
 values_relabel zones zones' old label slot h v within writes here elsewhere =
-    let at_slot : value_of zones' label slot ≡ v = ap (value_at zones' slot) here ∙ ap value_or_unset writes.changed in
-    let other : (s : ℕ) → s ≢ slot → value_of zones' label s ≡ value_of zones old s =
-    λ s ne. ap (value_at zones' s) (elsewhere s ne) ∙ value_of-same zones zones' old s (λ k own. writes.others s k (λ same _. ne same)) in
+    let at_slot : slot_value zones' label slot ≡ v = ap (value_under zones' slot) here ∙ ap value_or_unset writes.changed in
+    let other : (s : ℕ) → s ≢ slot → slot_value zones' label s ≡ slot_value zones old s =
+    λ s ne. ap (value_under zones' s) (elsewhere s ne) ∙ slot_value-same zones zones' old s (λ k own. writes.others s k (λ same _. ne same)) in
     by_slot slot within at_slot other
   where
-    by_slot : (n : ℕ) → n < 4 → value_of zones' label n ≡ v → ((s : ℕ) → s ≢ n → value_of zones' label s ≡ value_of zones old s)
-        → value_of zones' label 0 ∷ value_of zones' label 1 ∷ value_of zones' label 2 ∷ value_of zones' label 3 ∷ []
-        ≡ set (value_of zones old 0 ∷ value_of zones old 1 ∷ value_of zones old 2 ∷ value_of zones old 3 ∷ []) n v
+    by_slot : (n : ℕ) → n < 4 → slot_value zones' label n ≡ v → ((s : ℕ) → s ≢ n → slot_value zones' label s ≡ slot_value zones old s)
+        → slot_value zones' label 0 ∷ slot_value zones' label 1 ∷ slot_value zones' label 2 ∷ slot_value zones' label 3 ∷ []
+        ≡ set (slot_value zones old 0 ∷ slot_value zones old 1 ∷ slot_value zones old 2 ∷ slot_value zones old 3 ∷ []) n v
     by_slot zero l here other = rw (here, other 1 (omega arith), other 2 (omega arith), other 3 (omega arith)) refl
     by_slot (suc zero) l here other = rw (other 0 (omega arith), here, other 2 (omega arith), other 3 (omega arith)) refl
     by_slot (suc (suc zero)) l here other = rw (other 0 (omega arith), other 1 (omega arith), here, other 3 (omega arith)) refl
@@ -312,19 +312,19 @@ values_relabel zones zones' old label slot h v within writes here elsewhere =
 
 pub live_relabel : (zones zones' : Contents) (xs ys : List Entity) (e : Entity) (label : Handles) (slot h : ℕ) (v : LabelValue)
     → SetsSlot zones zones' xs ys e label slot h v
-    → live_of zones' (xs ++ record e { label = label } ∷ ys) ≡ live_of zones xs ++ with_value slot v (seen zones e) ∷ live_of zones ys
+    → live_of zones' (xs ++ record e { label = label } ∷ ys) ≡ live_of zones xs ++ with_value slot v (live_entity zones e) ∷ live_of zones ys
 live_relabel zones zones' xs ys e label slot h v relabels =
     let e' : Entity = record e { label = label } in
     let values : label_values zones' label ≡ set (label_values zones e.label) slot v =
     values_relabel zones zones' e.label label slot h v relabels.within relabels.writes relabels.here relabels.elsewhere in
-    let here : seen zones' e' ≡ with_value slot v (seen zones e) =
+    let here : live_entity zones' e' ≡ with_value slot v (live_entity zones e) =
     ap (λ (ls : List LabelValue). let l : LiveEntity = record { id = e.id; name = e.name; label = ls; what = e.what } in l) values in
     let front : live_of zones' xs ≡ live_of zones xs = live_kept zones zones' xs (record { same = λ s k l own. relabels.writes.others s k (apart xs relabels.before s k own) }) in
     let back : live_of zones' ys ≡ live_of zones ys = live_kept zones zones' ys (record { same = λ s k l own. relabels.writes.others s k (apart ys relabels.after s k own) }) in
-    map-append (seen zones') xs (e' ∷ ys)
-    ∙ ap (λ (ls : List LiveEntity). ls ++ seen zones' e' ∷ live_of zones' ys) front
+    map-append (live_entity zones') xs (e' ∷ ys)
+    ∙ ap (λ (ls : List LiveEntity). ls ++ live_entity zones' e' ∷ live_of zones' ys) front
     ∙ ap (λ (x : LiveEntity). live_of zones xs ++ x ∷ live_of zones' ys) here
-    ∙ ap (λ (ls : List LiveEntity). live_of zones xs ++ with_value slot v (seen zones e) ∷ ls) back
+    ∙ ap (λ (ls : List LiveEntity). live_of zones xs ++ with_value slot v (live_entity zones e) ∷ ls) back
   where
     apart : (zs : List Entity) → owner_count slot h (labels_of zs) ≡ 0 → (s k : ℕ) → 1 ≤ owner_count s k (labels_of zs) → s ≡ slot → k ≡ h → ⊥
     apart zs none s k own same too =
@@ -340,8 +340,8 @@ split_place es i e within is = sym (set-get_or es i e) ∙ ap (set es i) (sym is
 pub live_split : (zones : Contents) (xs ys : List Entity) (e : Entity) (i : ℕ) (x : LiveEntity) → length xs ≡ i
     → live_of zones xs ++ x ∷ live_of zones ys ≡ set (live_of zones (xs ++ e ∷ ys)) i x
 live_split zones xs ys e i x len =
-    sym (ap (λ (ls : List LiveEntity). set ls i x) (map-append (seen zones) xs (e ∷ ys))
-    ∙ set_at (live_of zones xs) (seen zones e) (live_of zones ys) x i (length-map xs (seen zones) ∙ len))
+    sym (ap (λ (ls : List LiveEntity). set ls i x) (map-append (live_entity zones) xs (e ∷ ys))
+    ∙ set_at (live_of zones xs) (live_entity zones e) (live_of zones ys) x i (length-map xs (live_entity zones) ∙ len))
 
 -- Nothing yet
 

@@ -72,16 +72,8 @@ new_socket maker = Socket (record { maker = maker; messages = [] })
 
 -- The beginning
 
--- the root directory: of uid 0 and gid 0, with mode 755
-abbrev pub root_entity : List LabelValue → LiveEntity
-root_entity values =
-    record {
-      id = record { 0 = 0 };
-      name = [];
-      label = values;
-      what = Vnode (record { parent = None; file = record { uid = 0; gid = 0; mode = ROOT_MODE; dir = true }; content = [] });
-    }
-
--- the root alone
-abbrev pub opening : List LabelValue → Entities
-opening values = record { next = 1; live = root_entity values ∷ [] }
+-- the root directory alone, of uid 0 and gid 0, with mode 755
+abbrev pub with_root : List LabelValue → Entities
+with_root values =
+    with_entity (record { next = 0; live = [] }) [] values
+    (Vnode (record { parent = None; file = record { uid = 0; gid = 0; mode = ROOT_MODE; dir = true }; content = [] }))

@@ -1,5 +1,5 @@
 -- The index of names: the groups in which names differ, and the buckets over which the ids are spread.
-use Rattle.std.specs.Prelude.{◌≡◌, ℕ, ◌+◌, ◌-◌, ◌*◌, ◌%◌, ◌<◌, Bool, false, not, ◌&&◌, nat_eq, List, [], ◌∷◌, ◌++◌, length, map, filter, find, fold, take, slice_index_or, slice_set, Option, Some, None}
+use Rattle.std.specs.Prelude.{◌≡◌, ◌==◌, ℕ, ◌+◌, ◌-◌, ◌*◌, ◌%◌, ◌<◌, Bool, false, not, ◌&&◌, List, [], ◌∷◌, ◌++◌, length, map, filter, find, fold, take, slice_index_or, slice_set, Option, Some, None}
 use Rattle.std.specs.Str.{bytes_eq}
 use Rattle.mf_objects.specs.declared.index.TheConstants.{BUCKETS, SPREAD, FACTOR}
 use Rattle.mf_objects.specs.declared.index.Group.{Group}
@@ -50,7 +50,7 @@ bucket_of group name = fold mixed (seed_of group) name % BUCKETS
 
 -- the ids of the entities whose names fall into a bucket
 abbrev pub bucket : ℕ → List Entity → List Id
-bucket at entities = map (λ (e : Entity). e.id) (filter (λ (e : Entity). nat_eq (bucket_of (group_of e.what) e.name) at) entities)
+bucket at entities = map (λ (e : Entity). e.id) (filter (λ (e : Entity). bucket_of (group_of e.what) e.name == at) entities)
 
 -- each id stands in the bucket of its entity's name, by rising id, and nowhere else
 pub record IsIndex (buckets : List (List Id)) (entities : List Entity) : Type 0 where
@@ -67,7 +67,7 @@ without_last at buckets = slice_set buckets at (take (length (slice_index_or buc
 
 -- an id less in a bucket
 abbrev pub without_id : ℕ → Id → List (List Id) → List (List Id)
-without_id at id buckets = slice_set buckets at (filter (λ (other : Id). not (nat_eq other.0 id.0)) (slice_index_or buckets at []))
+without_id at id buckets = slice_set buckets at (filter (λ (other : Id). not (other.0 == id.0)) (slice_index_or buckets at []))
 
 abbrev pub found_passes : (Entity → Bool) → Option Entity → Bool
 found_passes test None = false
@@ -76,4 +76,4 @@ found_passes test (Some e) = test e
 -- the entity of this id belongs to the group and has the name
 abbrev pub is_named_at : List Entity → Group → List ℕ → Id → Bool
 is_named_at entities group name id =
-    found_passes (λ (e : Entity). is_in group e.what && bytes_eq e.name name) (find (λ (e : Entity). nat_eq e.id.0 id.0) entities)
+    found_passes (λ (e : Entity). is_in group e.what && bytes_eq e.name name) (find (λ (e : Entity). e.id.0 == id.0) entities)

@@ -1,6 +1,6 @@
 -- The live entities, as contracts see them: the listing of a finite map by rising id. Ids that are never used again are this model's own.
 use Rattle.std.specs.Option.{option_map_or}
-use Rattle.std.specs.Prelude.{ℕ, Bool, true, false, nat_eq, ◌&&◌, List, [], ◌∷◌, length, Option, find, count_by, option_map, slice_index_or}
+use Rattle.std.specs.Prelude.{ℕ, ◌==◌, Bool, true, false, ◌&&◌, List, [], ◌∷◌, length, Option, find, count_by, option_map, slice_index_or}
 use Rattle.std.specs.Str.{bytes_eq}
 use Rattle.mf_elem.specs.declared.label.LabelValue.{LabelValue}
 use Rattle.mf_elem.specs.declared.label.LabelValue.TheVariants.{Unset}
@@ -27,9 +27,8 @@ pub record Entities : Type 0 where
 -- Which entity it is
 
 abbrev pub has_id : Id → LiveEntity → Bool
-has_id id e = nat_eq e.id.0 id.0
+has_id id e = e.id.0 == id.0
 
--- the live entity of an id
 abbrev pub live_at : Entities → Id → Option LiveEntity
 live_at objects id = find (has_id id) objects.live
 
@@ -47,26 +46,22 @@ is_socket other = false
 
 -- it is an entry of this directory
 abbrev pub is_entry : Id → EntityData → Bool
-is_entry dir (Vnode vnode) = option_map_or (λ parent. nat_eq parent.0 dir.0) vnode.parent false
+is_entry dir (Vnode vnode) = option_map_or (λ parent. parent.0 == dir.0) vnode.parent false
 is_entry dir other = false
 
 -- it was made by this process: pipes and sockets alone have a maker
 abbrev pub is_made_by : Id → EntityData → Bool
-is_made_by maker (Pipe pipe) = nat_eq pipe.maker.0 maker.0
-is_made_by maker (Socket socket) = nat_eq socket.maker.0 maker.0
+is_made_by maker (Pipe pipe) = pipe.maker.0 == maker.0
+is_made_by maker (Socket socket) = socket.maker.0 == maker.0
 is_made_by maker other = false
 
 -- it passes the test and has this name
-abbrev pub is_named : (EntityData → Bool) → List ℕ → LiveEntity → Bool
-is_named test name e = test e.what && bytes_eq e.name name
+abbrev pub is_one_named : (EntityData → Bool) → List ℕ → LiveEntity → Bool
+is_one_named test name e = test e.what && bytes_eq e.name name
 
 -- the live entity of this name that passes the test
 abbrev pub live_named : (EntityData → Bool) → Entities → List ℕ → Option LiveEntity
-live_named test objects name = find (is_named test name) objects.live
-
--- it is an entry of this directory, and has this name
-abbrev pub is_child : Id → List ℕ → LiveEntity → Bool
-is_child dir name e = is_entry dir e.what && bytes_eq e.name name
+live_named test objects name = find (is_one_named test name) objects.live
 
 abbrev pub id_of : Option LiveEntity → Option Id
 id_of found = option_map (λ e. e.id) found
@@ -103,41 +98,36 @@ abbrev pub messages_of : EntityData → List (List ℕ)
 messages_of (Socket socket) = socket.messages
 messages_of other = []
 
-abbrev pub reading : {A : Type 0} → (EntityData → A) → A → Option LiveEntity → A
-reading read none found = option_map_or (λ e. read e.what) found none
-
 abbrev pub kind_at : Entities → Id → Kind
-kind_at objects id = reading kind_of kinds.Process (live_at objects id)
+kind_at objects id = option_map_or (λ e. kind_of e.what) (live_at objects id) kinds.Process
 
 abbrev pub file_at : Entities → Id → FileView
-file_at objects id = reading file_of no_file (live_at objects id)
+file_at objects id = option_map_or (λ e. file_of e.what) (live_at objects id) no_file
 
 abbrev pub cred_at : Entities → Id → Cred
-cred_at objects id = reading cred_of no_cred (live_at objects id)
+cred_at objects id = option_map_or (λ e. cred_of e.what) (live_at objects id) no_cred
 
 abbrev pub content_at : Entities → Id → List ℕ
-content_at objects id = reading content_of [] (live_at objects id)
+content_at objects id = option_map_or (λ e. content_of e.what) (live_at objects id) []
 
 abbrev pub messages_at : Entities → Id → List (List ℕ)
-messages_at objects id = reading messages_of [] (live_at objects id)
+messages_at objects id = option_map_or (λ e. messages_of e.what) (live_at objects id) []
 
 -- how many messages a socket has, and for all else this number of entries
 abbrev pub count_of : ℕ → EntityData → ℕ
 count_of entries (Socket socket) = length socket.messages
 count_of entries other = entries
 
--- how many entries a directory has
 abbrev pub entry_count : Entities → Id → ℕ
 entry_count objects dir = count_by (λ e. is_entry dir e.what) objects.live
 
 abbrev pub count_at : Entities → Id → ℕ
-count_at objects id = reading (count_of (entry_count objects id)) 0 (live_at objects id)
+count_at objects id = option_map_or (λ e. count_of (entry_count objects id) e.what) (live_at objects id) 0
 
 -- the values of the four label slots
 abbrev pub label_at : Entities → Id → List LabelValue
 label_at objects id = option_map_or (λ e. e.label) (live_at objects id) []
 
--- the value in a label slot of an entity
 abbrev pub value_in : ℕ → LiveEntity → LabelValue
 value_in slot e = slice_index_or e.label slot Unset
 

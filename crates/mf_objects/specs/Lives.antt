@@ -1,6 +1,6 @@
 -- Which entities live, and what they hold, as contracts ask it.
 use Rattle.std.specs.Option.{option_map_or}
-use Rattle.std.specs.Prelude.{nat_eq, ◌≡◌, ◌≢◌, ◌<◌, ◌≤◌, ℕ, All, Bool, true, false, IsTrue, nat_le, List, Option, Some, None, find, count_by, slice_index_or, IfSome, IfNone}
+use Rattle.std.specs.Prelude.{◌≡◌, ◌==◌, ◌≢◌, ◌<◌, ◌≤◌, ℕ, All, Bool, true, false, IsTrue, nat_le, List, Option, Some, None, find, count_by, slice_index_or, IfSome, IfNone}
 use Rattle.mf_elem.specs.declared.label.LabelValue.{LabelValue}
 use Rattle.mf_elem.specs.declared.label.TheConstants.{SLOTS}
 use Rattle.mf_elem.specs.declared.label.LabelValue.TheVariants as values
@@ -11,7 +11,7 @@ use Rattle.mf_objects.specs.Live.{Entities, LiveEntity, id_of, label_at, live_at
 
 -- the id is held by this directory
 abbrev pub is_held_by : Id → Option Id → Bool
-is_held_by dir parent = option_map_or (λ parent. nat_eq parent.0 dir.0) parent false
+is_held_by dir parent = option_map_or (λ parent. parent.0 == dir.0) parent false
 
 abbrev pub is_vnode : EntityData → Bool
 is_vnode (Vnode vnode) = true
@@ -44,7 +44,7 @@ pub record IsLeast (n : ℕ) (live : List LiveEntity) (id : Id) : Type 0 where
   pub least : All (λ e. n ≤ e.id.0 → id.0 ≤ e.id.0) live
 
 -- the id is that of the first live entity that passes the test, and none where no live entity passes it
-pub record IsFound (test : LiveEntity → Bool) (objects : Entities) (found : Option Id) : Type 0 where
+pub record IsFirstLive (test : LiveEntity → Bool) (objects : Entities) (found : Option Id) : Type 0 where
   pub id : found ≡ id_of (find test objects.live)
   pub live : IfSome found (λ id. live_at objects id ≡ find test objects.live)
   pub absent : IfNone found (find test objects.live ≡ None)

@@ -1,5 +1,5 @@
 -- What is true of every population of live entities and the zones of their labels.
-use Rattle.std.specs.Prelude.{◌≡◌, ◌≢◌, ℕ, ◌+◌, ◌<◌, ◌≤◌, nat_eq, true, slice_index_or, List, [], ◌∷◌, length, map, AllPairs, Option, Some, None, if◌then◌else◌}
+use Rattle.std.specs.Prelude.{◌≡◌, ◌==◌, ◌≢◌, ℕ, ◌+◌, ◌<◌, ◌≤◌, true, slice_index_or, List, [], ◌∷◌, length, map, AllPairs, Option, Some, None, if◌then◌else◌}
 use Rattle.mf_elem.specs.declared.label.LabelValue.{LabelValue}
 use Rattle.mf_elem.specs.declared.label.TheConstants.{SLOTS}
 use Rattle.mf_slots.specs.Zones.{Contents, Handles, handle, under, label_values, NoneUnset}
@@ -10,8 +10,8 @@ use Rattle.mf_objects.specs.Live.{LiveEntity, Entities, has_id, live_at}
 use Rattle.mf_objects.specs.Population.{IsPopulation}
 
 -- an entity as contracts see it
-abbrev pub seen : Contents → Entity → LiveEntity
-seen zones e = record { id = e.id; name = e.name; label = label_values zones e.label; what = e.what }
+abbrev pub live_entity : Contents → Entity → LiveEntity
+live_entity zones e = record { id = e.id; name = e.name; label = label_values zones e.label; what = e.what }
 
 abbrev pub labels_of : List Entity → List Handles
 labels_of entities = map (λ (e : Entity). e.label) entities
@@ -19,7 +19,7 @@ labels_of entities = map (λ (e : Entity). e.label) entities
 -- 1 where the handle is this one, and else 0
 abbrev pub owned : Option ℕ → ℕ → ℕ
 owned None h = 0
-owned (Some k) h = if nat_eq k h then 1 else 0
+owned (Some k) h = if k == h then 1 else 0
 
 -- how many of the labels have this handle in this slot
 abbrev pub owner_count : ℕ → ℕ → List Handles → ℕ
@@ -37,7 +37,7 @@ pub record IsExact (zones : Contents) (labels : List Handles) : Type 0 where
 
 -- the live entities as contracts see them
 abbrev pub live_of : Contents → List Entity → List LiveEntity
-live_of zones entities = map (seen zones) entities
+live_of zones entities = map (live_entity zones) entities
 
 -- the entities are a population of no more than may live, and the zones hold the values of their labels: a slot is Unset where it isn't made
 pub record IsSound (next : ℕ) (zones : Contents) (entities : List Entity) : Type 0 where
@@ -58,9 +58,9 @@ pub record IsPlace (objects : Entities) (id : Id) (place : ℕ) : Type 0 where
   pub later : id.0 ≢ 0 → 0 < place
 
 -- an entity as contracts see it, with these label values
-abbrev pub shown : List LabelValue → Entity → LiveEntity
-shown label e = record { id = e.id; name = e.name; label = label; what = e.what }
+abbrev pub with_values : List LabelValue → Entity → LiveEntity
+with_values label e = record { id = e.id; name = e.name; label = label; what = e.what }
 
 -- an entity without its label, which no path depends on
 abbrev pub unlabelled : Entity → LiveEntity
-unlabelled e = shown [] e
+unlabelled e = with_values [] e

@@ -1,6 +1,6 @@
 -- The entries of directories in byte order, the paths of vnodes, and the titles of entities. All of it is this model's own.
 use Rattle.std.specs.Option.{option_map_or}
-use Rattle.std.specs.Prelude.{ℕ, List, [], ◌∷◌, ◌++◌, Option, Some, None, take, insert, filter, map, reverse, codes, if◌then◌else◌, nat_eq}
+use Rattle.std.specs.Prelude.{ℕ, List, [], ◌∷◌, ◌++◌, Option, Some, None, take, insert, filter, map, reverse, codes, if◌then◌else◌, ◌==◌}
 use Rattle.std.specs.List.{position_or_len}
 use Rattle.std.specs.Ordering.{nat_cmp, is_le}
 use Rattle.std.specs.Cmp.Lexicographic.{slice_cmp}
@@ -21,34 +21,25 @@ in_byte_order (name ∷ names) =
 abbrev pub entry_names : Id → List LiveEntity → List (List ℕ)
 entry_names dir live = map (λ e. e.name) (filter (λ e. is_entry dir e.what) live)
 
-abbrev pub first_names : ℕ → List (List ℕ) → List (List ℕ)
-first_names most names = take most (in_byte_order names)
-
 -- the first names in byte order of the entries of a directory
 unfoldable pub names_at : Entities → Id → List (List ℕ)
-names_at objects dir = first_names MOST_NAMES (entry_names dir objects.live)
+names_at objects dir = take MOST_NAMES (in_byte_order (entry_names dir objects.live))
 
 abbrev pub parent_of : EntityData → Option Id
 parent_of (Vnode vnode) = vnode.parent
 parent_of other = None
 
--- the path of its directory, a slash and its name, or nothing for the root
-abbrev pub below : (Id → List ℕ) → Option Id → List ℕ → List ℕ
-below path None name = []
-below path (Some dir) name = path dir ++ codes "/" ++ name
-
--- The path of an id, where the newest entity comes first: a directory is older than what it holds.
+-- The path of an id: that of its directory, a slash and its name, and nothing for the root. The newest entity comes first, since a directory
+-- is older than what it holds.
 unfoldable pub path_in : List LiveEntity → Id → List ℕ
 path_in [] id = []
-path_in (e ∷ older) id = if nat_eq e.id.0 id.0 then below (path_in older) (parent_of e.what) e.name else path_in older id
+path_in (e ∷ older) id =
+    if e.id.0 == id.0 then option_map_or (λ dir. path_in older dir ++ codes "/" ++ e.name) (parent_of e.what) [] else path_in older id
 
 -- the path of the root is a slash
 abbrev pub rooted_path : List ℕ → List ℕ
 rooted_path [] = codes "/"
 rooted_path (byte ∷ bytes) = byte ∷ bytes
-
-abbrev pub path_at : Entities → Id → List ℕ
-path_at objects id = path_in (reverse objects.live) id
 
 -- its kind, and its name or the path of a vnode
 abbrev pub title_of : List ℕ → List ℕ → EntityData → List ℕ
@@ -59,4 +50,4 @@ title_of path name (Socket socket) = codes "socket:" ++ name
 
 -- how outputs name the entity: its kind with its name, or with its path
 abbrev pub title_at : Entities → Id → List ℕ
-title_at objects id = option_map_or (λ e. title_of (path_at objects id) e.name e.what) (live_at objects id) []
+title_at objects id = option_map_or (λ e. title_of (path_in (reverse objects.live) id) e.name e.what) (live_at objects id) []

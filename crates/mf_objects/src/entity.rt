@@ -1,5 +1,5 @@
 //! Entities, and what each kind of them holds.
-ghost use Rattle.std.specs.Prelude.{◌≡◌, ◌↔◌, IsTrue, ◌≤◌, nat_eq, nat_le, length, ◌∷◌, ◌&&◌, OnOk, OnErr, [], drop, slice_index_or};
+ghost use Rattle.std.specs.Prelude.{◌≡◌, ◌==◌, ◌↔◌, IsTrue, ◌≤◌, nat_le, length, ◌∷◌, ◌&&◌, OnOk, OnErr, [], drop, slice_index_or};
 ghost use Rattle.std.specs.Str.{bytes_eq};
 ghost use Rattle.mf_names.specs.declared.limits.TheConstants.{CONTENT_LIMIT, SCRIPT_LIMIT};
 ghost use Rattle.mf_objects.specs.Index as index;
@@ -223,7 +223,8 @@ impl EntityData {
     /// Appends a message to those of a socket. If memory runs out, they are unchanged.
     pub fn push_message(&mut self, message: Bytes<SCRIPT_LIMIT>) -> Result<(), AllocError>
         requires { FitsMessage self.old }
-        ensures ok { OnOk result (self.new ≡ change.with_messages (change.with_message message) self.old) }
+        ensures ok { OnOk result (self.new
+            ≡ change.with_messages (change.with_message message) self.old) }
         ensures err { OnErr result (self.new ≡ self.old) }
         ensures group { index.group_of self.new ≡ index.group_of self.old }
     {
@@ -281,7 +282,7 @@ fn no_cred() -> Cred
 impl Entity {
     /// Whether it has this id.
     pub fn has_id(&self, id: Id) -> bool
-        ensures { result ≡ nat_eq self.now.id.0 id.0 }
+        ensures { result ≡ (self.now.id.0 == id.0) }
     {
         self.id.0 == id.0
     }

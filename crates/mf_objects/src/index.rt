@@ -1,5 +1,5 @@
 //! The index of names, by which a look-up compares a name or two and not those of all entities.
-ghost use Rattle.std.specs.Prelude.{◌≡◌, ◌≤◌, ◌<◌, ◌+◌, ◌-◌, take, length, [], ◌∷◌, ◌++◌, not, nat_eq, filter, replicate, IfOk, OnOk, OnErr, slice_index_or};
+ghost use Rattle.std.specs.Prelude.{◌≡◌, ◌==◌, ◌≤◌, ◌<◌, ◌+◌, ◌-◌, take, length, [], ◌∷◌, ◌++◌, not, filter, replicate, IfOk, OnOk, OnErr, slice_index_or};
 ghost use Rattle.mf_objects.specs.declared.index.TheConstants.{BUCKETS, SPREAD};
 ghost use Rattle.mf_objects.specs.Index as index;
 
@@ -108,7 +108,7 @@ impl Bucket {
     }
 
     fn remove(&mut self, id: Id)
-        ensures { self.new ≡ filter (λ other. not (nat_eq other.0 id.0)) self.old }
+        ensures { self.new ≡ filter (λ other. not (other.0 == id.0)) self.old }
     {
         self.ids.retain(|other| other.0 != id.0);
     }
@@ -153,7 +153,8 @@ impl NameIndex {
 
     /// Adds an id. If memory runs out, the index is unchanged.
     pub fn insert(&mut self, group: Group, name: &str, id: Id) -> Result<(), AllocError>
-        ensures ok { OnOk result (self.new ≡ index.with_id (index.bucket_of group name.now) id self.old) }
+        ensures ok { OnOk result (self.new
+            ≡ index.with_id (index.bucket_of group name.now) id self.old) }
         ensures err { OnErr result (self.new ≡ self.old) }
         ensures within { index.bucket_of group name.now < length self.old }
     {

@@ -1,5 +1,5 @@
 //! The live entities, and the calls that make and remove them.
-ghost use Rattle.std.specs.Prelude.{◌≡◌, ◌<◌, ◌≤◌, [], length, IsTrue, IsSome, OnOk, OnErr, IfOk, Some, None, nat_eq, position, find};
+ghost use Rattle.std.specs.Prelude.{◌≡◌, ◌==◌, ◌<◌, ◌≤◌, [], length, IsTrue, IsSome, OnOk, OnErr, IfOk, Some, None, position, find};
 ghost use Rattle.mf_names.specs.declared.limits.TheConstants.{CONTENT_LIMIT};
 ghost use Rattle.mf_objects.specs.declared.limits.TheConstants.{ID_LIMIT, MOST_ENTITIES};
 ghost use Rattle.mf_objects.specs.Live as live;
@@ -47,13 +47,14 @@ impl Model for Objects {
 
     ghost view = { λ a. record { next = a.next; live = live_of a.zones a.entities.items } };
 
-    ghost invariant = { λ a. IsSound a.next a.zones a.entities.items × IsIndex a.index a.entities.items };
+    ghost invariant = { λ a. IsSound a.next a.zones a.entities.items
+        × IsIndex a.index a.entities.items };
 }
 
 impl Objects {
     /// The root directory alone, with these label values: of uid 0 and gid 0, with mode 755.
     pub fn new(alloc: Global, values: &[LabelValue; SLOTS]) -> Result<Objects, AllocError>
-        ensures { IfOk result (λ objects. objects ≡ change.opening values.now) }
+        ensures { IfOk result (λ objects. objects ≡ change.with_root values.now) }
     {
         let mut zones = Zones::new(alloc)?;
         let label = zones.make_label(values)?;
@@ -95,8 +96,11 @@ impl Objects {
         requires few { length self.old.live < MOST_ENTITIES }
         requires next { self.old.next < ID_LIMIT }
         requires name { live.live_named live.is_process self.old name.now ≡ None }
-        ensures ok { OnOk result (self.new ≡ change.with_entity self.old name.now values.now (change.new_process cred.now)) }
-        ensures found { IfOk result (λ id. live.live_at self.new id ≡ Some (change.made self.old name.now values.now (change.new_process cred.now))) }
+        ensures ok { OnOk result (self.new
+            ≡ change.with_entity self.old name.now values.now (change.new_process cred.now)) }
+        ensures found { IfOk result
+            (λ id. live.live_at self.new id
+            ≡ Some (change.made self.old name.now values.now (change.new_process cred.now))) }
         ensures id { IfOk result (λ id. id.0 ≡ self.old.next) }
         ensures err { OnErr result (self.new ≡ self.old) }
     {
@@ -117,12 +121,15 @@ impl Objects {
         requires few { length self.old.live < MOST_ENTITIES }
         requires next { self.old.next < ID_LIMIT }
         requires dir { IsLive is_directory self.old dir }
-        requires name { find (live.is_child dir name.now) self.old.live ≡ None }
+        requires name { find (live.is_one_named (live.is_entry dir) name.now) self.old.live ≡ None }
         requires fits { length text.now ≤ CONTENT_LIMIT }
         requires bare { IsTrue file.now.dir → text.now ≡ [] }
-        ensures ok { OnOk result (self.new ≡ change.with_entity self.old name.now values.now (change.new_vnode dir file.now text.now)) }
+        ensures ok { OnOk result (self.new
+            ≡ change.with_entity self.old name.now values.now
+            (change.new_vnode dir file.now text.now)) }
         ensures found { IfOk result (λ id. live.live_at self.new id
-            ≡ Some (change.made self.old name.now values.now (change.new_vnode dir file.now text.now))) }
+            ≡ Some (change.made self.old name.now values.now
+            (change.new_vnode dir file.now text.now))) }
         ensures id { IfOk result (λ id. id.0 ≡ self.old.next) }
         ensures err { OnErr result (self.new ≡ self.old) }
     {
@@ -147,8 +154,11 @@ impl Objects {
         requires next { self.old.next < ID_LIMIT }
         requires maker { IsLive live.is_process self.old maker }
         requires name { live.live_named live.is_pipe self.old name.now ≡ None }
-        ensures ok { OnOk result (self.new ≡ change.with_entity self.old name.now values.now (change.new_pipe maker)) }
-        ensures found { IfOk result (λ id. live.live_at self.new id ≡ Some (change.made self.old name.now values.now (change.new_pipe maker))) }
+        ensures ok { OnOk result (self.new
+            ≡ change.with_entity self.old name.now values.now (change.new_pipe maker)) }
+        ensures found { IfOk result
+            (λ id. live.live_at self.new id
+            ≡ Some (change.made self.old name.now values.now (change.new_pipe maker))) }
         ensures id { IfOk result (λ id. id.0 ≡ self.old.next) }
         ensures err { OnErr result (self.new ≡ self.old) }
     {
@@ -168,8 +178,11 @@ impl Objects {
         requires next { self.old.next < ID_LIMIT }
         requires maker { IsLive live.is_process self.old maker }
         requires name { live.live_named live.is_socket self.old name.now ≡ None }
-        ensures ok { OnOk result (self.new ≡ change.with_entity self.old name.now values.now (change.new_socket maker)) }
-        ensures found { IfOk result (λ id. live.live_at self.new id ≡ Some (change.made self.old name.now values.now (change.new_socket maker))) }
+        ensures ok { OnOk result (self.new
+            ≡ change.with_entity self.old name.now values.now (change.new_socket maker)) }
+        ensures found { IfOk result
+            (λ id. live.live_at self.new id
+            ≡ Some (change.made self.old name.now values.now (change.new_socket maker))) }
         ensures id { IfOk result (λ id. id.0 ≡ self.old.next) }
         ensures err { OnErr result (self.new ≡ self.old) }
     {
@@ -196,7 +209,9 @@ impl Objects {
         requires joins { MayJoin self.old what }
         requires name { find (is_namesake name.now what) self.old.live ≡ None }
         ensures ok { OnOk result (self.new ≡ change.with_entity self.old name.now values.now what) }
-        ensures found { IfOk result (λ id. live.live_at self.new id ≡ Some (change.made self.old name.now values.now what)) }
+        ensures found { IfOk result
+            (λ id. live.live_at self.new id
+            ≡ Some (change.made self.old name.now values.now what)) }
         ensures id { IfOk result (λ id. id.0 ≡ self.old.next) }
         ensures err { OnErr result (self.new ≡ self.old) }
     {
@@ -258,7 +273,7 @@ fn enroll(
 /// The place of an id among entities that stand by rising id.
 fn place_of(entities: &[Entity], id: Id) -> Option<usize>
     requires { IsById entities.now }
-    ensures { result ≡ position (λ e. nat_eq e.id.0 id.0) entities.now }
+    ensures { result ≡ position (λ e. e.id.0 == id.0) entities.now }
 {
     // Where nothing older is gone, an entity stands at the place of its number.
     let first = id.0 as usize;

@@ -5,7 +5,7 @@ use Rattle.std.proofs.lemmas.Bool.{false≢true}
 use Rattle.mf_errno.specs.declared.errno.Errno.TheVariants.{Enotdir}
 use Rattle.mf_objects.specs.declared.id.Id.{Id}
 use Rattle.mf_objects.specs.declared.entity.EntityData.{EntityData}
-use Rattle.mf_objects.specs.Live.{LiveEntity, Entities, has_id, is_child, is_process, live_at}
+use Rattle.mf_objects.specs.Live.{LiveEntity, Entities, has_id, is_one_named, is_entry, is_process, live_at}
 use Rattle.mf_objects.specs.Lives.{IsLive, is_directory, is_vnode, passes}
 use Rattle.mf_objects.specs.Population.{HasRoot, IsPopulation}
 use Rattle.mf_objects.proofs.Found.{child_kind, child_not_root, kind_found}
@@ -27,8 +27,8 @@ root_lives (e ∷ es) rooted = let hit : has_id root e ≡ true = eq-eqb e.id.0 
 module _ (o : Entities) (population : IsPopulation o) where
   entry_lives : (dir : Id) (name : List ℕ) → IfSome (entry_of o dir name) (λ id. IsLive is_vnode o id × (id.0 ≢ 0))
   entry_lives dir name =
-      let found = is_found (is_child dir name) o population.rising in
-      both (entry_of o dir name) (kind_found (is_child dir name) is_vnode (child_kind dir name) o (entry_of o dir name) found)
+      let found = is_found (is_one_named (is_entry dir) name) o population.rising in
+      both (entry_of o dir name) (kind_found (is_one_named (is_entry dir) name) is_vnode (child_kind dir name) o (entry_of o dir name) found)
       (child_not_root dir name o (entry_of o dir name) population found)
     where
       both : (entry : Option Id) → IfSome entry (λ id. IsLive is_vnode o id) → IfSome entry (λ id. id.0 ≢ 0) → IfSome entry (λ id. IsLive is_vnode o id × (id.0 ≢ 0))
@@ -66,11 +66,11 @@ module _ (o : Entities) (population : IsPopulation o) where
 
   -- a directory in which a name is free
   pub dir_lives : (path : List (List ℕ)) (dir : Id) → free_at (lookup_along o path).target ≡ Ok dir
-      → IsLive is_directory o dir × (find (is_child dir (last_name path)) o.live ≡ None)
+      → IsLive is_directory o dir × (find (is_one_named (is_entry dir) (last_name path)) o.live ≡ None)
   dir_lives path dir is = one (lookup_along o path).target refl (path_lives path) is
     where
       one : (target : Target) → (lookup_along o path).target ≡ target → IsTarget o target → free_at target ≡ Ok dir
-          → IsLive is_directory o dir × (find (is_child dir (last_name path)) o.live ≡ None)
+          → IsLive is_directory o dir × (find (is_one_named (is_entry dir) (last_name path)) o.live ≡ None)
       one Root at live is = cc
       one (Name d None) at live is =
           let same : d ≡ dir = cc in

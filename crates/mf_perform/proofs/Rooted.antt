@@ -7,8 +7,8 @@ use Rattle.mf_item.specs.declared.view.Kind.TheVariants as kinds
 use Rattle.mf_objects.specs.declared.id.Id.{Id}
 use Rattle.mf_objects.specs.declared.entity.EntityData.{EntityData}
 use Rattle.mf_objects.specs.declared.entity.EntityData.TheVariants.{Process, Vnode, Pipe, Socket}
-use Rattle.mf_objects.specs.Live.{LiveEntity, Entities, has_id, id_of, is_child, is_named, is_pipe, is_process, is_socket, kind_of, live_at, live_named}
-use Rattle.mf_objects.specs.Lives.{IsFound, IsLive, is_vnode, passes}
+use Rattle.mf_objects.specs.Live.{LiveEntity, Entities, has_id, id_of, is_one_named, is_entry, is_pipe, is_process, is_socket, kind_of, live_at, live_named}
+use Rattle.mf_objects.specs.Lives.{IsFirstLive, IsLive, is_vnode, passes}
 use Rattle.mf_objects.specs.Population.{IsRising}
 use Rattle.mf_objects.proofs.Found.{child_kind, kind_found, named_kind}
 use Rattle.mf_objects.proofs.Rising.{id_differs}
@@ -53,7 +53,7 @@ found_again test least next (e ∷ es) x rising is = one (test e) (found_again t
         let miss : has_id x.id e ≡ false = id_differs x.id e (λ (same : e.id.0 ≡ x.id.0). omega (arith, same, above)) in
         rw miss (rest is)
 
-pub is_found : (test : LiveEntity → Bool) (o : Entities) → IsRising 0 o.next o.live → IsFound test o (id_of (find test o.live))
+pub is_found : (test : LiveEntity → Bool) (o : Entities) → IsRising 0 o.next o.live → IsFirstLive test o (id_of (find test o.live))
 is_found test o rising = record { id = refl; live = again (find test o.live) refl; absent = nothing (find test o.live) }
   where
     nothing : (found : Option LiveEntity) → IfNone (id_of found) (found ≡ None)
@@ -66,7 +66,7 @@ is_found test o rising = record { id = refl; live = again (find test o.live) ref
 
 -- a process, pipe or socket that is found by its name
 pub named_lives : (kind : EntityData → Bool) (o : Entities) (name : List ℕ) → IsRising 0 o.next o.live → IfSome (id_of (live_named kind o name)) (λ id. IsLive kind o id)
-named_lives kind o name rising = kind_found (is_named kind name) kind (named_kind kind name) o (id_of (live_named kind o name)) (is_found (is_named kind name) o rising)
+named_lives kind o name rising = kind_found (is_one_named kind name) kind (named_kind kind name) o (id_of (live_named kind o name)) (is_found (is_one_named kind name) o rising)
 
 -- a live entity that passes the test has this id
 pub record HasKind (test : EntityData → Bool) (o : Entities) (id : Id) : Type 0 where
@@ -117,7 +117,7 @@ module _ (o : Entities) (rooted : IsRooted o) where
   walk_kind : (path : List (List ℕ)) (from : Id) → LeadsToVnode o (lookup_from o path from).target
   unfolding lookup_from
   walk_kind [] from = tt
-  walk_kind (name ∷ []) from = kind_found (is_child from name) is_vnode (child_kind from name) o (entry_of o from name) (is_found (is_child from name) o rooted.rising)
+  walk_kind (name ∷ []) from = kind_found (is_one_named (is_entry from) name) is_vnode (child_kind from name) o (entry_of o from name) (is_found (is_one_named (is_entry from) name) o rooted.rising)
   walk_kind (name ∷ below ∷ rest) from = by_entry (λ (id : Id). walk_kind (below ∷ rest) id) (entry_of o from name)
     where
       by_test : (b : Bool) (id : Id) → LeadsToVnode o (lookup_from o (below ∷ rest) id).target

@@ -14,7 +14,7 @@ use Rattle.mf_names.specs.declared.limits.TheConstants.{CONTENT_LIMIT}
 use Rattle.mf_objects.specs.declared.limits.TheConstants.{PIPE_LIMIT}
 use Rattle.mf_objects.specs.declared.id.Id.{Id}
 use Rattle.mf_objects.specs.declared.entity.EntityData.{EntityData}
-use Rattle.mf_objects.specs.Live.{LiveEntity, Entities, id_of, is_child, is_pipe, is_process, is_socket, live_at, live_named}
+use Rattle.mf_objects.specs.Live.{LiveEntity, Entities, id_of, is_one_named, is_entry, is_pipe, is_process, is_socket, live_at, live_named}
 use Rattle.mf_objects.specs.Lives.{IsLive, is_directory, is_vnode}
 use Rattle.mf_objects.specs.Population.{IsPopulation}
 use Rattle.mf_objects.proofs.Laws.{fits_file, fits_pipe, fits_message, has_message, vnode_count}
@@ -56,7 +56,7 @@ Holds o (Unused kinds.Process name) free = live_named is_process o name ≡ None
 Holds o (Unused kinds.Pipe name) free = live_named is_pipe o name ≡ None
 Holds o (Unused kinds.Socket name) free = live_named is_socket o name ≡ None
 Holds o (File path) id = IsLive is_vnode o id
-Holds o (Free path) dir = IsLive is_directory o dir × (find (is_child dir (last_name path)) o.live ≡ None)
+Holds o (Free path) dir = IsLive is_directory o dir × (find (is_one_named (is_entry dir) (last_name path)) o.live ≡ None)
 Holds o (Entry path) entry = IsLive is_vnode o entry.1 × (entry.1.0 ≢ 0)
 Holds o (Sockets from to) ends = IsLive is_socket o ends.1
 Holds o (Asking kind text place) asked = Holds o place asked.1

@@ -5,7 +5,7 @@ use Rattle.mf_objects.specs.declared.entity.EntityData.{EntityData}
 use Rattle.mf_objects.specs.declared.entity.EntityData.TheVariants.{Process, Vnode, Pipe, Socket}
 use Rattle.mf_objects.specs.declared.limits.TheConstants.{MOST_ENTITIES}
 use Rattle.mf_objects.specs.Fits.{FitsBytes, FitsMessage, HasMessage}
-use Rattle.mf_objects.specs.Live.{Entities, entry_count, is_child, is_named, is_pipe, is_process, is_socket, live_at}
+use Rattle.mf_objects.specs.Live.{Entities, entry_count, is_one_named, is_entry, is_pipe, is_process, is_socket, live_at}
 use Rattle.mf_objects.specs.Lives.{IsLive, IsLiveWhere, is_directory, is_vnode}
 use Rattle.mf_policy.specs.Loading.{load_fault, unload_fault}
 use Rattle.mf_plan.specs.declared.state.State.{State}
@@ -20,10 +20,10 @@ pub record IsRemovable (o : Entities) (id : Id) : Type 0 where
 
 -- a name that is free: of an entry in its directory, which lives, or of a process, a pipe or a socket
 abbrev pub IsFree : Entities → EntityData → List ℕ → Type 0
-IsFree o (Process process) name = find (is_named is_process name) o.live ≡ None
-IsFree o (Vnode vnode) name = IfSome vnode.parent (λ dir. IsLive is_directory o dir × (find (is_child dir name) o.live ≡ None))
-IsFree o (Pipe pipe) name = find (is_named is_pipe name) o.live ≡ None
-IsFree o (Socket socket) name = find (is_named is_socket name) o.live ≡ None
+IsFree o (Process process) name = find (is_one_named is_process name) o.live ≡ None
+IsFree o (Vnode vnode) name = IfSome vnode.parent (λ dir. IsLive is_directory o dir × (find (is_one_named (is_entry dir) name) o.live ≡ None))
+IsFree o (Pipe pipe) name = find (is_one_named is_pipe name) o.live ≡ None
+IsFree o (Socket socket) name = find (is_one_named is_socket name) o.live ≡ None
 
 -- one entity more finds room, and its name is free
 pub record HasRoom (o : Entities) (name : List ℕ) (what : EntityData) : Type 0 where

@@ -5,7 +5,7 @@ use Rattle.std.proofs.lemmas.List.Elements.{All-push}
 use Rattle.mf_errno.specs.declared.errno.Errno.{Errno}
 use Rattle.mf_errno.specs.declared.errno.Errno.TheVariants.{Enotdir}
 use Rattle.mf_objects.specs.declared.id.Id.{Id}
-use Rattle.mf_objects.specs.Live.{LiveEntity, Entities, id_of, is_child}
+use Rattle.mf_objects.specs.Live.{LiveEntity, Entities, id_of, is_one_named, is_entry}
 use Rattle.mf_objects.specs.Lives.{IsLive, is_directory, is_vnode}
 use Rattle.mf_plan.specs.declared.target.Target.{Target}
 use Rattle.mf_plan.specs.declared.target.Target.TheVariants.{Root, Name}
@@ -113,5 +113,5 @@ nothing_found (Some e) is = cc
 
 -- a name under which there is no entry is free
 pub free_name : (objects : Entities) (path : List (List ℕ)) (dir : Id) → (lookup_along objects path).target ≡ Name dir None
-    → find (is_child dir (last_name path)) objects.live ≡ None
-free_name objects path dir is = nothing_found (find (is_child dir (last_name path)) objects.live) (last_entry objects path root dir None is)
+    → find (is_one_named (is_entry dir) (last_name path)) objects.live ≡ None
+free_name objects path dir is = nothing_found (find (is_one_named (is_entry dir) (last_name path)) objects.live) (last_entry objects path root dir None is)

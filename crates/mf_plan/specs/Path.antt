@@ -1,10 +1,10 @@
 -- Where a path leads, and the directories in which its components are looked up, as namei(9) does without links and mounts.
-use Rattle.std.specs.Prelude.{ℕ, List, [], ◌∷◌, Option, Some, None, Result, Ok, Err, find, if◌then◌else◌}
+use Rattle.std.specs.Prelude.{ℕ, List, [], ◌∷◌, Option, Some, None, Result, Ok, Err, if◌then◌else◌}
 use Rattle.std.specs.Result.{result_ok}
 use Rattle.mf_errno.specs.declared.errno.Errno.{Errno}
 use Rattle.mf_errno.specs.declared.errno.Errno.TheVariants.{Enoent, Eexist, Enotdir, Einval}
 use Rattle.mf_objects.specs.declared.id.Id.{Id}
-use Rattle.mf_objects.specs.Live.{Entities, id_of, is_child}
+use Rattle.mf_objects.specs.Live.{Entities, id_of, live_named, is_entry}
 use Rattle.mf_plan.specs.declared.target.Target.{Target}
 use Rattle.mf_plan.specs.declared.target.Target.TheVariants.{Root, Name, Nowhere}
 use Rattle.mf_plan.specs.declared.lookup.Lookup.{Lookup}
@@ -15,7 +15,7 @@ root = record { 0 = 0 }
 
 -- the entry of that name in a directory
 abbrev pub entry_of : Entities → Id → List ℕ → Option Id
-entry_of objects dir name = id_of (find (is_child dir name) objects.live)
+entry_of objects dir name = id_of (live_named (is_entry dir) objects name)
 
 -- the path leads nowhere
 abbrev pub nowhere : Errno → Lookup

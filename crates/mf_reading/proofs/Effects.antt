@@ -20,7 +20,8 @@ use Rattle.mf_names.specs.declared.limits.TheConstants.{CONTENT_LIMIT, SCRIPT_LI
 use Rattle.mf_objects.specs.declared.limits.TheConstants.{MOST_ENTITIES, PIPE_LIMIT}
 use Rattle.mf_objects.specs.declared.id.Id.{Id}
 use Rattle.mf_objects.specs.declared.entity.EntityData.{EntityData}
-use Rattle.mf_objects.specs.Live.{LiveEntity, Entities, content_at, content_of, cred_at, has_id, kind_of, label_at, live_at, reading}
+use Rattle.mf_objects.specs.Live.{LiveEntity, Entities, content_at, content_of, cred_at, has_id, kind_of, label_at, live_at}
+use Rattle.mf_objects.proofs.Shorthands.{reading}
 use Rattle.mf_objects.specs.Changes.{appended, cleared, goes_with, new_pipe, new_process, new_socket, new_vnode, with_message, with_messages, with_mode, with_what, without}
 use Rattle.mf_calls.specs.declared.script.Call.{Call}
 use Rattle.mf_calls.specs.declared.script.Call.TheVariants as call

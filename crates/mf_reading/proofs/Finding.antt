@@ -6,7 +6,7 @@ use Rattle.std.specs.List.{AllByRecursion}
 use Rattle.std.proofs.lemmas.Bool.Decides.{nat_tests}
 use Rattle.mf_item.specs.declared.view.Kind.TheVariants as kinds
 use Rattle.mf_objects.specs.declared.id.Id.{Id}
-use Rattle.mf_objects.specs.Live.{LiveEntity, Entities, has_id, id_of, is_child, kind_of, live_at}
+use Rattle.mf_objects.specs.Live.{LiveEntity, Entities, has_id, id_of, is_one_named, is_entry, kind_of, live_at}
 use Rattle.mf_objects.specs.Population.{IsRising}
 use Rattle.mf_objects.proofs.Belonging.{find_own}
 use Rattle.mf_objects.proofs.Finding.{found_live}
@@ -88,7 +88,7 @@ module _ (o : Entities) (path : List (List ℕ)) (id : Id) (rooted : RootIsFirst
   target_lives (Name dir None) is found = cc
   target_lives (Name dir (Some entry)) is found =
       let same : Some entry ≡ Some id = cc in
-      found_live (is_child dir (last_name path)) id o.live (last_entry o path root dir (Some entry) is ∙ same)
+      found_live (is_one_named (is_entry dir) (last_name path)) id o.live (last_entry o path root dir (Some entry) is ∙ same)
   target_lives (Nowhere errno) is found = cc
 
   -- the file or directory at a path is live

@@ -13,7 +13,7 @@ use Rattle.mf_objects.specs.declared.limits.TheConstants.{MOST_ENTITIES}
 use Rattle.mf_objects.specs.declared.id.Id.{Id}
 use Rattle.mf_objects.specs.declared.entity.EntityData.{EntityData}
 use Rattle.mf_objects.specs.declared.entity.EntityData.TheVariants.{Process, Vnode, Pipe, Socket}
-use Rattle.mf_objects.specs.Live.{LiveEntity, Entities, content_of, has_id, id_of, is_child, is_entry, is_made_by, is_named, is_process, kind_of, live_at}
+use Rattle.mf_objects.specs.Live.{LiveEntity, Entities, content_of, has_id, id_of, is_one_named, is_entry, is_made_by, is_process, kind_of, live_at}
 use Rattle.mf_objects.specs.Changes.{appended, cleared, goes_with, made, with_change, with_entity, with_message, with_messages, with_mode, with_what, without}
 use Rattle.mf_objects.specs.Population.{IsRising}
 use Rattle.mf_objects.proofs.Belonging.{same_id}
@@ -230,22 +230,22 @@ vnode_unmade (Pipe pipe) maker is = cc
 vnode_unmade (Socket socket) maker is = cc
 
 -- an entry of a directory isn't the root
-pub entry_goes : (dir id : Id) (name : List ℕ) (next : ℕ) (live : List LiveEntity) → IsRising 0 next live → RootIsFirst live → id_of (find (is_child dir name) live) ≡ Some id
+pub entry_goes : (dir id : Id) (name : List ℕ) (next : ℕ) (live : List LiveEntity) → IsRising 0 next live → RootIsFirst live → id_of (find (is_one_named (is_entry dir) name) live) ≡ Some id
     → KeepsFirst (has_id id) live
 entry_goes dir id name next [] rising rooted is = tt
 entry_goes dir id name next (x ∷ live) rising rooted is =
-    let found = found_with (find (is_child dir name) (x ∷ live)) id is in
-    let fails : is_child dir name x ≡ false = ap (λ (b : Bool). b && bytes_eq x.name name) (rooted.1.entry dir) in
-    other_id x id (omega (arith, later (is_child dir name) next x live found.e rising fails found.is, ap (λ (i : Id). i.0) found.own))
+    let found = found_with (find (is_one_named (is_entry dir) name) (x ∷ live)) id is in
+    let fails : is_one_named (is_entry dir) name x ≡ false = ap (λ (b : Bool). b && bytes_eq x.name name) (rooted.1.entry dir) in
+    other_id x id (omega (arith, later (is_one_named (is_entry dir) name) next x live found.e rising fails found.is, ap (λ (i : Id). i.0) found.own))
 
 -- neither is it a process, or made by one
 pub process_goes : (caller : Id) (name : List ℕ) (next : ℕ) (live : List LiveEntity) → IsRising 0 next live → RootIsFirst live
-    → id_of (find (is_named is_process name) live) ≡ Some caller → KeepsFirst (goes_with caller) live
+    → id_of (find (is_one_named is_process name) live) ≡ Some caller → KeepsFirst (goes_with caller) live
 process_goes caller name next [] rising rooted is = tt
 process_goes caller name next (x ∷ live) rising rooted is =
-    let found = found_with (find (is_named is_process name) (x ∷ live)) caller is in
-    let fails : is_named is_process name x ≡ false = ap (λ (b : Bool). b && bytes_eq x.name name) (vnode_process x.what rooted.1.kind) in
+    let found = found_with (find (is_one_named is_process name) (x ∷ live)) caller is in
+    let fails : is_one_named is_process name x ≡ false = ap (λ (b : Bool). b && bytes_eq x.name name) (vnode_process x.what rooted.1.kind) in
     let other : has_id caller x ≡ false =
-    other_id x caller (omega (arith, later (is_named is_process name) next x live found.e rising fails found.is, ap (λ (i : Id). i.0) found.own)) in
+    other_id x caller (omega (arith, later (is_one_named is_process name) next x live found.e rising fails found.is, ap (λ (i : Id). i.0) found.own)) in
     let unmade : is_made_by caller x.what ≡ false = vnode_unmade x.what caller rooted.1.kind in
     rw (other, unmade) refl

@@ -21,7 +21,8 @@ use Rattle.mf_objects.specs.declared.limits.TheConstants.{MOST_ENTITIES}
 use Rattle.mf_objects.specs.declared.id.Id.{Id}
 use Rattle.mf_objects.specs.declared.entity.EntityData.{EntityData}
 use Rattle.mf_objects.specs.Live.{LiveEntity, Entities, kind_of}
-use Rattle.mf_objects.specs.Changes.{made, new_process, new_vnode, root_entity, with_entity}
+use Rattle.mf_objects.specs.Changes.{made, new_process, new_vnode, with_entity}
+use Rattle.mf_objects.proofs.Shorthands.{root_entity}
 use Rattle.mf_calls.specs.WellFormed.{AreBoots, IsFormedFile, IsFormedTask, IsWellFormed}
 use Rattle.mf_calls.specs.declared.script.FileLine.{FileLine}
 use Rattle.mf_calls.specs.declared.script.Script.{Script}

@@ -21,7 +21,7 @@ use Rattle.mf_list.proofs.Counts.{listed_few}
 use Rattle.mf_names.specs.declared.limits.TheConstants.{CONTENT_LIMIT, SCRIPT_LIMIT}
 use Rattle.mf_objects.proofs.Entities.{label_of}
 use Rattle.mf_objects.specs.declared.id.Id.{Id}
-use Rattle.mf_objects.specs.Live.{LiveEntity, Entities, content_at, count_at, has_id, is_named, is_process, kind_at, label_at, live_at, messages_at}
+use Rattle.mf_objects.specs.Live.{LiveEntity, Entities, content_at, count_at, has_id, is_one_named, is_process, kind_at, label_at, live_at, messages_at}
 use Rattle.mf_objects.specs.Titles.{names_at}
 use Rattle.mf_objects.proofs.Finding.{found_live}
 use Rattle.mf_calls.specs.declared.script.Call.{Call}
@@ -124,7 +124,7 @@ module _ (s : State) (bounded : IsBoundedState s) where
       parts_fit s.specs (label_at s.objects id) (subst (AllFit s.specs) (sym is) fit) bounded.listed.slotted (kind_at s.objects id)
 
   caller_label : (name : List ℕ) (id : Id) → process_named s.objects name ≡ Some id → IsPayload (label s id)
-  caller_label name id found = let here = found_live (is_named is_process name) id s.objects.live found in label_fits id here.0 here.1
+  caller_label name id found = let here = found_live (is_one_named is_process name) id s.objects.live found in label_fits id here.0 here.1
 
   file_label : (path : List (List ℕ)) (id : Id) → file_at_path s.objects path ≡ Some id → IsPayload (label s id)
   file_label path id found = let here = file_lives s.objects path id bounded.holds.objects.rooted found in label_fits id here.0 here.1

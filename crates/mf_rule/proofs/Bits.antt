@@ -6,7 +6,7 @@ use Rattle.std.proofs.lemmas.Grind.{common_steps}
 use Rattle.std.proofs.lemmas.Nat.Bits.{bit_at_or, bit_at-lt, bit_at-zero, bit_at_set_same, bit_at_set_other, bit_at_clear_same, bit_at_clear_other, bit_at-trailing_zeros}
 use Rattle.std.specs.Int.{bit_at, bit_not, trailing_zeros, w128}
 use Rattle.std.specs.List.{filter, list_any, range_with_len}
-use Rattle.mf_rule.specs.RuleBits.{has_bit, no_bits, word_with, with_bit, IsLeast, numbers}
+use Rattle.mf_rule.specs.RuleBits.{has_bit, no_bits, word_with, with_bit, IsLeastBit, numbers}
 use Rattle.mf_rule.specs.declared.rule_bits.Bits.{Bits}
 
 -- a bit of two words together
@@ -76,7 +76,7 @@ bit_of_none n =
     ]
 
 -- the least number
-pub least_low : (bits : Bits) → 0 < bits.low → bits.low < 2 ^ 128 → IsLeast (trailing_zeros w128 bits.low) bits
+pub least_low : (bits : Bits) → 0 < bits.low → bits.low < 2 ^ 128 → IsLeastBit (trailing_zeros w128 bits.low) bits
 least_low bits some fits =
     let found = bit_at-trailing_zeros w128 bits.low some fits in
     let l : ltb (trailing_zeros w128 bits.low) 128 ≡ true = grind (arith, found) in
@@ -88,7 +88,7 @@ least_low bits some fits =
           rw m (ap (λ b. eqb b 1) (found.2 n h));
     }
 
-pub least_high : (bits : Bits) → bits.low ≡ 0 → 0 < bits.high → bits.high < 2 ^ 128 → IsLeast (128 + trailing_zeros w128 bits.high) bits
+pub least_high : (bits : Bits) → bits.low ≡ 0 → 0 < bits.high → bits.high < 2 ^ 128 → IsLeastBit (128 + trailing_zeros w128 bits.high) bits
 least_high bits none some fits =
     let found = bit_at-trailing_zeros w128 bits.high some fits in
     let t : ℕ = trailing_zeros w128 bits.high in

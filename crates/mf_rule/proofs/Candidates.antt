@@ -1,14 +1,15 @@
 -- Which rules may match, by an index, and that a verdict may look at them alone.
-use Rattle.std.proofs.Common.{◌≡◌, ℕ, zero, suc, ◌<◌, ◌≤◌, Bool, true, false, ◌&&◌, ◌||◌, eqb, [], ◌∷◌, Option, Some, None, find, length, get_or, set, refl, sym, ap, subst, ◌∙◌, arith, inl, inr, if◌then◌else◌}
+use Rattle.std.proofs.Common.{◌≡◌, ℕ, zero, suc, ◌<◌, ◌≤◌, Bool, true, false, not, ◌&&◌, ◌||◌, eqb, [], ◌∷◌, Option, Some, None, find, length, get_or, set, refl, sym, ap, subst, ◌∙◌, arith, inl, inr, if◌then◌else◌}
 use Rattle.std.proofs.lemmas.Bool.{cases_eq, cases_lt}
 use Rattle.std.proofs.lemmas.List.{get_or-set_same, get_or-set_other, get_or_past}
-use Rattle.std.specs.List.{list_all}
+use Rattle.std.specs.List.{list_all, list_any}
+use Rattle.std.specs.Option.{option_map_or}
 use Rattle.mf_cred.specs.declared.cred.Cred.{Cred}
 use Rattle.mf_cred.specs.declared.cred.FileView.{FileView}
-use Rattle.mf_rule.specs.Candidates.{subject_may, object_may, may_match, candidates}
-use Rattle.mf_rule.specs.Match.{has, has_uid, if_asked, turned, has_group, has_type, subject_matches, object_matches, object_tests}
+use Rattle.mf_rule.specs.Candidates.{subject_may, object_may, may_match, candidates, decided}
+use Rattle.mf_rule.specs.Match.{has, has_uid, if_asked, turned, has_type, subject_matches, object_tests}
 use Rattle.mf_rule.specs.RuleBits.{has_bit, with_bit, numbers}
-use Rattle.mf_rule.specs.RuleList.{Slots, is_match}
+use Rattle.mf_rule.specs.RuleList.{Slots, is_match, slot_gives, verdict}
 use Rattle.mf_rule.specs.UidIndex.{Stretches, rules_at, is_within, lone, IsIndexOf, AreCandidates}
 use Rattle.mf_rule.specs.declared.rule.IdTest.{IdTest}
 use Rattle.mf_rule.specs.declared.rule.ObjectSide.{ObjectSide}
@@ -113,7 +114,7 @@ test_may (Some t) cred h =
 -- the tests of a subject, before `not` turns them
 abbrev subject_tests : Side → Cred → Bool
 subject_tests side cred =
-    if_asked side.uid (λ test. turned test.not (has_uid test cred)) && if_asked side.gid (λ test. turned test.not (has_group test cred))
+    if_asked side.uid (λ test. turned test.not (has_uid test cred)) && if_asked side.gid (λ test. turned test.not (list_any (has test) cred.groups))
 
 subject_may_match : (side : Side) (cred : Cred) → subject_matches side cred ≡ true → subject_may side cred ≡ true
 subject_may_match side cred h =
@@ -122,7 +123,7 @@ subject_may_match side cred h =
       | false ↦ λ h. test_may side.uid cred (front_true _ _ h)
     ] h
 
-object_may_match : (object : ObjectSide) (cred : Cred) (file : FileView) → object_matches object cred file ≡ true → object_may object file.dir ≡ true
+object_may_match : (object : ObjectSide) (cred : Cred) (file : FileView) → turned object.side.not (object_tests object cred file) ≡ true → object_may object file.dir ≡ true
 object_may_match object cred file h =
     elim object.side.not as (λ n. turned n (object_tests object cred file) ≡ true → (n || if_asked object.types (λ test. turned test.not (has_type test.types file.dir))) ≡ true) [
       | true ↦ λ h. refl
@@ -144,7 +145,7 @@ no_candidate slot cred file out =
     ] refl
 
 -- ---- a verdict by the slots of some numbers
-pub first_found : (test : Option Rule → Bool) (slots : Slots) (n : ℕ) → n < length slots → test (get_or slots n None) ≡ true → ((m : ℕ) → m < n → test (get_or slots m None) ≡ false)
+first_found : (test : Option Rule → Bool) (slots : Slots) (n : ℕ) → n < length slots → test (get_or slots n None) ≡ true → ((m : ℕ) → m < n → test (get_or slots m None) ≡ false)
     → find test slots ≡ Some (get_or slots n None)
 first_found test [] n h there least = absurd (omega (arith, h))
 first_found test (slot ∷ slots) zero h there least = rw there refl
@@ -152,19 +153,19 @@ first_found test (slot ∷ slots) (suc n) h there least =
     let first = least 0 (omega arith) in
     rw first (first_found test slots n (omega (arith, h)) there (λ m k. least (suc m) (omega (arith, k))))
 
-pub none_found : (test : Option Rule → Bool) (slots : Slots) → ((m : ℕ) → m < length slots → test (get_or slots m None) ≡ false) → find test slots ≡ None
+none_found : (test : Option Rule → Bool) (slots : Slots) → ((m : ℕ) → m < length slots → test (get_or slots m None) ≡ false) → find test slots ≡ None
 none_found test [] none = refl
 none_found test (slot ∷ slots) none =
     let first = none 0 (omega arith) in
     rw first (none_found test slots (λ m k. none (suc m) (omega (arith, k))))
 
-pub all_pass : (test : Option Rule → Bool) (slots : Slots) → ((m : ℕ) → m < length slots → test (get_or slots m None) ≡ true) → list_all test slots ≡ true
+all_pass : (test : Option Rule → Bool) (slots : Slots) → ((m : ℕ) → m < length slots → test (get_or slots m None) ≡ true) → list_all test slots ≡ true
 all_pass test [] all = refl
 all_pass test (slot ∷ slots) all =
     let first = all 0 (omega arith) in
     rw first (all_pass test slots (λ m k. all (suc m) (omega (arith, k))))
 
-pub one_fails : (test : Option Rule → Bool) (slots : Slots) (n : ℕ) → n < length slots → test (get_or slots n None) ≡ false → list_all test slots ≡ false
+one_fails : (test : Option Rule → Bool) (slots : Slots) (n : ℕ) → n < length slots → test (get_or slots n None) ≡ false → list_all test slots ≡ false
 one_fails test [] n h fails = absurd (omega (arith, h))
 one_fails test (slot ∷ slots) zero h fails = rw fails refl
 one_fails test (slot ∷ slots) (suc n) h fails =
@@ -181,7 +182,7 @@ within_slots slots cred dir bits are n h there =
       | inr past ↦ let may = sym there ∙ are n h ∙ ap (may_match cred dir) (get_or_past slots n None past) in cc
     ]
 
-pub unmatched : (slots : Slots) (cred : Cred) (file : FileView) (bits : Bits) → AreCandidates slots cred file.dir bits → (n : ℕ) → n < 256 → has_bit n bits ≡ false → is_match cred file (get_or slots n None) ≡ false
+unmatched : (slots : Slots) (cred : Cred) (file : FileView) (bits : Bits) → AreCandidates slots cred file.dir bits → (n : ℕ) → n < 256 → has_bit n bits ≡ false → is_match cred file (get_or slots n None) ≡ false
 unmatched slots cred file bits are n h out = no_candidate (get_or slots n None) cred file (sym (are n h) ∙ out)
 
 pub left_within : (P : ℕ → Type 0) (number : ℕ) (bits : Bits) → number < 256 → ((n : ℕ) → n < 256 → has_bit n bits ≡ true → P n)
@@ -207,6 +208,51 @@ some_within slots n rule is =
       | inr past ↦ let none = is ∙ get_or_past slots n None past in cc
     ]
 
-pub or_true : (a : Bool) → (a || true) ≡ true
-or_true true = refl
-or_true false = refl
+-- ---- a verdict by what the rules decide
+missed : (first is gives : Bool) → is ≡ false → decided first is gives ≡ None
+missed first true gives miss = absurd cc
+missed first false gives miss = refl
+
+first_hit : (is gives x : Bool) → decided true is gives ≡ Some x → (is ≡ true) × (x ≡ gives)
+first_hit true gives x some = (refl, let same : gives ≡ x = cc in sym same)
+first_hit false gives x some = absurd cc
+
+first_miss : (is gives : Bool) → decided true is gives ≡ None → is ≡ false
+first_miss true gives none = absurd cc
+first_miss false gives none = refl
+
+any_hit : (is gives x : Bool) → decided false is gives ≡ Some x → ((not is || gives) ≡ false) × (x ≡ false)
+any_hit true true x some = absurd cc
+any_hit true false x some = (refl, let same : false ≡ x = cc in sym same)
+any_hit false gives x some = absurd cc
+
+any_miss : (is gives : Bool) → decided false is gives ≡ None → (not is || gives) ≡ true
+any_miss true true none = refl
+any_miss true false none = absurd cc
+any_miss false gives none = refl
+
+abbrev pub decision : Bool → Cred → FileView → ℕ → Option Rule → Option Bool
+decision first cred file wanted slot = decided first (is_match cred file slot) (slot_gives wanted slot)
+
+pub undecided : (first : Bool) (slots : Slots) (cred : Cred) (file : FileView) (wanted : ℕ) (bits : Bits) → AreCandidates slots cred file.dir bits
+    → (n : ℕ) → n < 256 → has_bit n bits ≡ false → decision first cred file wanted (get_or slots n None) ≡ None
+undecided first slots cred file wanted bits are n h out =
+    missed first (is_match cred file (get_or slots n None)) (slot_gives wanted (get_or slots n None)) (unmatched slots cred file bits are n h out)
+
+pub first_decides : (first : Bool) (slots : Slots) (cred : Cred) (file : FileView) (wanted n : ℕ) (x : Bool) → n < length slots
+    → decision first cred file wanted (get_or slots n None) ≡ Some x → ((m : ℕ) → m < n → decision first cred file wanted (get_or slots m None) ≡ None)
+    → x ≡ verdict first slots cred file wanted
+first_decides true slots cred file wanted n x below here before =
+    let hit = first_hit (is_match cred file (get_or slots n None)) (slot_gives wanted (get_or slots n None)) x here in
+    let found = first_found (is_match cred file) slots n below hit.0 (λ m k. first_miss (is_match cred file (get_or slots m None)) (slot_gives wanted (get_or slots m None)) (before m k)) in
+    hit.1 ∙ sym (ap (λ f. option_map_or (slot_gives wanted) f true) found)
+first_decides false slots cred file wanted n x below here before =
+    let hit = any_hit (is_match cred file (get_or slots n None)) (slot_gives wanted (get_or slots n None)) x here in
+    hit.1 ∙ sym (one_fails (λ slot. not (is_match cred file slot) || slot_gives wanted slot) slots n below hit.0)
+
+pub none_decides : (first : Bool) (slots : Slots) (cred : Cred) (file : FileView) (wanted : ℕ)
+    → ((m : ℕ) → m < length slots → decision first cred file wanted (get_or slots m None) ≡ None) → true ≡ verdict first slots cred file wanted
+none_decides true slots cred file wanted none =
+    sym (ap (λ f. option_map_or (slot_gives wanted) f true) (none_found (is_match cred file) slots (λ m k. first_miss (is_match cred file (get_or slots m None)) (slot_gives wanted (get_or slots m None)) (none m k))))
+none_decides false slots cred file wanted none =
+    sym (all_pass (λ slot. not (is_match cred file slot) || slot_gives wanted slot) slots (λ m k. any_miss (is_match cred file (get_or slots m None)) (slot_gives wanted (get_or slots m None)) (none m k)))

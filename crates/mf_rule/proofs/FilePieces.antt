@@ -11,7 +11,7 @@ use Rattle.mf_rule.specs.Words.{types_in, mode_in}
 use Rattle.mf_rule.specs.Words.{type_letters}
 use Rattle.mf_rule.specs.Canonical.{mark_text, not_text, flag_text, types_text, letters_text}
 use Rattle.mf_text.specs.Results.{and_then}
-use Rattle.mf_rule.specs.Reading.{reads_on, once, by_value, side_of, with_side, fitted, tested, named, file_test, flagged, read_from}
+use Rattle.mf_rule.specs.Reading.{reads_on, once, by_value, side_of, with_side, fitted, tested, test_named, file_test, flagged, read_from}
 use Rattle.mf_rule.proofs.Pieces.{free_by, tail, Led, word_then, begun, open_at, On, on_trans, on_words, on_same, mark_step}
 use Rattle.mf_rule.proofs.Letters.{types_back}
 
@@ -75,12 +75,12 @@ abbrev pub put_suid : Rule → Option Bool → Rule
 put_suid rule wanted = record rule { object = record rule.object { suid = wanted } }
 
 pub suid_name : (b : Bool) (rule : Rule) (ws : List (List ℕ)) → rule.object.suid ≡ None → On (begun (open_at Object b) rule) (codes "suid" ∷ ws) (begun (next.Test Object) (put_suid rule (Some true))) ws
-unfolding read_from fitted tested named file_test
+unfolding read_from fitted tested test_named file_test
 suid_name true rule ws none = λ place. (place + 1, ap (λ t. and_then (once place t (flagged (put_suid rule (Some true)))) (λ more. read_from (place + 1) more ws)) none)
 suid_name false rule ws none = λ place. (place + 1, ap (λ t. and_then (once place t (flagged (put_suid rule (Some true)))) (λ more. read_from (place + 1) more ws)) none)
 
 pub suid_marked : (rule : Rule) (ws : List (List ℕ)) → rule.object.suid ≡ None → On (begun (next.Name Object) rule) (codes "suid" ∷ ws) (begun (next.Test Object) (put_suid rule (Some false))) ws
-unfolding read_from fitted named file_test
+unfolding read_from fitted test_named file_test
 suid_marked rule ws none = λ place. (place + 1, ap (λ t. and_then (once place t (flagged (put_suid rule (Some false)))) (λ more. read_from (place + 1) more ws)) none)
 
 pub suid_piece : (b : Bool) (rule : Rule) (wanted : Option Bool) (x : List ℕ) → Led x → rule.object.suid ≡ None
@@ -106,12 +106,12 @@ abbrev pub put_sgid : Rule → Option Bool → Rule
 put_sgid rule wanted = record rule { object = record rule.object { sgid = wanted } }
 
 pub sgid_name : (b : Bool) (rule : Rule) (ws : List (List ℕ)) → rule.object.sgid ≡ None → On (begun (open_at Object b) rule) (codes "sgid" ∷ ws) (begun (next.Test Object) (put_sgid rule (Some true))) ws
-unfolding read_from fitted tested named file_test
+unfolding read_from fitted tested test_named file_test
 sgid_name true rule ws none = λ place. (place + 1, ap (λ t. and_then (once place t (flagged (put_sgid rule (Some true)))) (λ more. read_from (place + 1) more ws)) none)
 sgid_name false rule ws none = λ place. (place + 1, ap (λ t. and_then (once place t (flagged (put_sgid rule (Some true)))) (λ more. read_from (place + 1) more ws)) none)
 
 pub sgid_marked : (rule : Rule) (ws : List (List ℕ)) → rule.object.sgid ≡ None → On (begun (next.Name Object) rule) (codes "sgid" ∷ ws) (begun (next.Test Object) (put_sgid rule (Some false))) ws
-unfolding read_from fitted named file_test
+unfolding read_from fitted test_named file_test
 sgid_marked rule ws none = λ place. (place + 1, ap (λ t. and_then (once place t (flagged (put_sgid rule (Some false)))) (λ more. read_from (place + 1) more ws)) none)
 
 pub sgid_piece : (b : Bool) (rule : Rule) (wanted : Option Bool) (x : List ℕ) → Led x → rule.object.sgid ≡ None
@@ -137,12 +137,12 @@ abbrev pub put_uid_of_subject : Rule → Option Bool → Rule
 put_uid_of_subject rule wanted = record rule { object = record rule.object { uid_of_subject = wanted } }
 
 pub uid_of_subject_name : (b : Bool) (rule : Rule) (ws : List (List ℕ)) → rule.object.uid_of_subject ≡ None → On (begun (open_at Object b) rule) (codes "uid_of_subject" ∷ ws) (begun (next.Test Object) (put_uid_of_subject rule (Some true))) ws
-unfolding read_from fitted tested named file_test
+unfolding read_from fitted tested test_named file_test
 uid_of_subject_name true rule ws none = λ place. (place + 1, ap (λ t. and_then (once place t (flagged (put_uid_of_subject rule (Some true)))) (λ more. read_from (place + 1) more ws)) none)
 uid_of_subject_name false rule ws none = λ place. (place + 1, ap (λ t. and_then (once place t (flagged (put_uid_of_subject rule (Some true)))) (λ more. read_from (place + 1) more ws)) none)
 
 pub uid_of_subject_marked : (rule : Rule) (ws : List (List ℕ)) → rule.object.uid_of_subject ≡ None → On (begun (next.Name Object) rule) (codes "uid_of_subject" ∷ ws) (begun (next.Test Object) (put_uid_of_subject rule (Some false))) ws
-unfolding read_from fitted named file_test
+unfolding read_from fitted test_named file_test
 uid_of_subject_marked rule ws none = λ place. (place + 1, ap (λ t. and_then (once place t (flagged (put_uid_of_subject rule (Some false)))) (λ more. read_from (place + 1) more ws)) none)
 
 pub uid_of_subject_piece : (b : Bool) (rule : Rule) (wanted : Option Bool) (x : List ℕ) → Led x → rule.object.uid_of_subject ≡ None
@@ -168,12 +168,12 @@ abbrev pub put_gid_of_subject : Rule → Option Bool → Rule
 put_gid_of_subject rule wanted = record rule { object = record rule.object { gid_of_subject = wanted } }
 
 pub gid_of_subject_name : (b : Bool) (rule : Rule) (ws : List (List ℕ)) → rule.object.gid_of_subject ≡ None → On (begun (open_at Object b) rule) (codes "gid_of_subject" ∷ ws) (begun (next.Test Object) (put_gid_of_subject rule (Some true))) ws
-unfolding read_from fitted tested named file_test
+unfolding read_from fitted tested test_named file_test
 gid_of_subject_name true rule ws none = λ place. (place + 1, ap (λ t. and_then (once place t (flagged (put_gid_of_subject rule (Some true)))) (λ more. read_from (place + 1) more ws)) none)
 gid_of_subject_name false rule ws none = λ place. (place + 1, ap (λ t. and_then (once place t (flagged (put_gid_of_subject rule (Some true)))) (λ more. read_from (place + 1) more ws)) none)
 
 pub gid_of_subject_marked : (rule : Rule) (ws : List (List ℕ)) → rule.object.gid_of_subject ≡ None → On (begun (next.Name Object) rule) (codes "gid_of_subject" ∷ ws) (begun (next.Test Object) (put_gid_of_subject rule (Some false))) ws
-unfolding read_from fitted named file_test
+unfolding read_from fitted test_named file_test
 gid_of_subject_marked rule ws none = λ place. (place + 1, ap (λ t. and_then (once place t (flagged (put_gid_of_subject rule (Some false)))) (λ more. read_from (place + 1) more ws)) none)
 
 pub gid_of_subject_piece : (b : Bool) (rule : Rule) (wanted : Option Bool) (x : List ℕ) → Led x → rule.object.gid_of_subject ≡ None
@@ -202,12 +202,12 @@ abbrev pub type_test : Bool → ℕ → TypeTest
 type_test turned types = record { not = turned; types = types }
 
 pub type_name : (b : Bool) (rule : Rule) (ws : List (List ℕ)) → rule.object.types ≡ None → On (begun (open_at Object b) rule) (codes "type" ∷ ws) (begun (next.Types false) rule) ws
-unfolding read_from fitted tested named file_test
+unfolding read_from fitted tested test_named file_test
 type_name true rule ws none = λ place. (place + 1, ap (λ t. and_then (once place t (reads_on (next.Types false) rule)) (λ more. read_from (place + 1) more ws)) none)
 type_name false rule ws none = λ place. (place + 1, ap (λ t. and_then (once place t (reads_on (next.Types false) rule)) (λ more. read_from (place + 1) more ws)) none)
 
 pub type_marked : (rule : Rule) (ws : List (List ℕ)) → rule.object.types ≡ None → On (begun (next.Name Object) rule) (codes "type" ∷ ws) (begun (next.Types true) rule) ws
-unfolding read_from fitted named file_test
+unfolding read_from fitted test_named file_test
 type_marked rule ws none = λ place. (place + 1, ap (λ t. and_then (once place t (reads_on (next.Types true) rule)) (λ more. read_from (place + 1) more ws)) none)
 
 pub type_value : (turned : Bool) (rule : Rule) (w : List ℕ) (types : ℕ) (ws : List (List ℕ)) → types_in w ≡ Some types

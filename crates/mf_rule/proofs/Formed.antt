@@ -16,12 +16,13 @@ use Rattle.mf_rule.specs.declared.rule.Rule.{Rule}
 use Rattle.mf_rule.specs.declared.rule.TheConstants.{ANY_TYPE}
 use Rattle.mf_rule.specs.Words.{id, id_range_in, with_letters, letters_in, mode_in, types_in}
 use Rattle.mf_rule.specs.Words.{mode_letters, type_letters}
-use Rattle.mf_rule.specs.RuleGrammar.{SpellsIdTest, SpellsFileTest, SpellsObjectTest, SpellTests, Spells, AreRanges, IsRule}
+use Rattle.mf_rule.specs.RuleGrammar.{SpellsIdTest, SpellsFileTest, SpellsObjectTest, SpellTests, SpellsRule, IsRule}
 use Rattle.mf_rule.specs.Parts.{Words, no_tests, no_object_tests}
 use Rattle.mf_rule.specs.Reading.{OrFault, rule_in}
-use Rattle.mf_rule.specs.RoundTrip.{WhatIsReadIsARule}
+use Rattle.mf_rule.specs.RoundTrip.{AreRanges, IsInBounds, CanonicalTextStandsForItsRule, WhatIsReadIsARule}
 use Rattle.mf_rule.proofs.Ranges.{ordered, ends_of}
 use Rattle.mf_rule.proofs.ReadAsSpelled.{read_is_spelled}
+use Rattle.mf_rule.proofs.RoundTrips.{text_reads}
 
 -- ---- letters
 -- what a letter adds, by a table
@@ -142,8 +143,8 @@ object_formed words before after ok (inl (side, spells, is)) = subst IsObject (s
 object_formed words before after ok (inr spells) = file_formed words before after ok spells
 
 -- ---- whole rules
-pub spelled_is_rule : (words : Words) (rule : Rule) → Spells words rule → IsRule rule
-spelled_is_rule words rule spells =
+pub in_bounds : (rule : Rule) → IsRule rule → IsInBounds rule
+in_bounds rule (words, spells) =
     let subject = spells.is_subject in
     let object = spells.is_object in
     let ids : AreRanges rule.subject = tests_keep SpellsIdTest AreRanges ids_formed subject.tests (record no_tests { not = rule.subject.not }) rule.subject (record { uid = tt; gid = tt }) subject.each in
@@ -152,8 +153,14 @@ spelled_is_rule words rule spells =
     (record { ids = record { uid = tt; gid = tt }; types = tt }) object.each in
     record { subject = ids; object = files.ids; types = files.types; mode = mode_fits spells.letters rule.mode spells.is_mode }
 
-pub read_is_rule : WhatIsReadIsARule
-read_is_rule words rule is = spelled_is_rule words rule (read_is_spelled words rule is)
+pub canonical_text_reads : CanonicalTextStandsForItsRule
+canonical_text_reads rule ok = text_reads rule (in_bounds rule ok)
+
+pub read_is_rule : (words : Words) (rule : Rule) → rule_in words ≡ Ok rule → IsRule rule
+read_is_rule words rule is = (words, read_is_spelled words rule is)
+
+pub read_is_in_bounds : WhatIsReadIsARule
+read_is_in_bounds words rule is = let formed = read_is_rule words rule is in (formed, in_bounds rule formed)
 
 pub if_read : (words : Words) (read : OrFault Rule) → read ≡ rule_in words → IfOk read IsRule
 if_read words (Ok rule) is = read_is_rule words rule (sym is)

@@ -13,9 +13,9 @@ use Rattle.mf_rule.specs.declared.begun.Begun.{Begun}
 use Rattle.mf_rule.specs.declared.fault.RuleFault.TheVariants.{BadRange}
 use Rattle.mf_rule.specs.Words.{id_range_in}
 use Rattle.mf_rule.specs.Canonical.{mark_text, id_range_text, id_text}
-use Rattle.mf_rule.specs.RuleGrammar.{IsRange}
+use Rattle.mf_rule.specs.RoundTrip.{IsRange}
 use Rattle.mf_text.specs.Results.{and_then}
-use Rattle.mf_rule.specs.Reading.{reads_on, once, by_value, side_of, with_side, id_test, fitted, tested, named, read_from}
+use Rattle.mf_rule.specs.Reading.{reads_on, once, by_value, side_of, with_side, id_test, fitted, tested, test_named, read_from}
 use Rattle.mf_rule.proofs.Ranges.{range_back}
 
 abbrev pub all_free : List ℕ → Bool
@@ -75,14 +75,14 @@ mark_step part false rule ws = λ place. (place + 1, refl)
 
 -- ---- uid
 pub uid_name : (part : Part) (b : Bool) (rule : Rule) (ws : List (List ℕ)) → (side_of part rule).uid ≡ None → On (begun (open_at part b) rule) (codes "uid" ∷ ws) (begun (next.Uid part false) rule) ws
-unfolding read_from fitted tested named
+unfolding read_from fitted tested test_named
 uid_name Subject true rule ws none = λ place. (place + 1, ap (λ t. and_then (once place t (reads_on (next.Uid Subject false) rule)) (λ more. read_from (place + 1) more ws)) none)
 uid_name Subject false rule ws none = λ place. (place + 1, ap (λ t. and_then (once place t (reads_on (next.Uid Subject false) rule)) (λ more. read_from (place + 1) more ws)) none)
 uid_name Object true rule ws none = λ place. (place + 1, ap (λ t. and_then (once place t (reads_on (next.Uid Object false) rule)) (λ more. read_from (place + 1) more ws)) none)
 uid_name Object false rule ws none = λ place. (place + 1, ap (λ t. and_then (once place t (reads_on (next.Uid Object false) rule)) (λ more. read_from (place + 1) more ws)) none)
 
 pub uid_marked : (part : Part) (rule : Rule) (ws : List (List ℕ)) → (side_of part rule).uid ≡ None → On (begun (next.Name part) rule) (codes "uid" ∷ ws) (begun (next.Uid part true) rule) ws
-unfolding read_from fitted named
+unfolding read_from fitted test_named
 uid_marked part rule ws none = λ place. (place + 1, ap (λ t. and_then (once place t (reads_on (next.Uid part true) rule)) (λ more. read_from (place + 1) more ws)) none)
 
 abbrev pub put_uid : Part → Rule → Option IdTest → Rule
@@ -125,14 +125,14 @@ uid_piece part b rule (Some test) x led none ok = (false, uid_some part b rule t
 
 -- ---- gid
 pub gid_name : (part : Part) (b : Bool) (rule : Rule) (ws : List (List ℕ)) → (side_of part rule).gid ≡ None → On (begun (open_at part b) rule) (codes "gid" ∷ ws) (begun (next.Gid part false) rule) ws
-unfolding read_from fitted tested named
+unfolding read_from fitted tested test_named
 gid_name Subject true rule ws none = λ place. (place + 1, ap (λ t. and_then (once place t (reads_on (next.Gid Subject false) rule)) (λ more. read_from (place + 1) more ws)) none)
 gid_name Subject false rule ws none = λ place. (place + 1, ap (λ t. and_then (once place t (reads_on (next.Gid Subject false) rule)) (λ more. read_from (place + 1) more ws)) none)
 gid_name Object true rule ws none = λ place. (place + 1, ap (λ t. and_then (once place t (reads_on (next.Gid Object false) rule)) (λ more. read_from (place + 1) more ws)) none)
 gid_name Object false rule ws none = λ place. (place + 1, ap (λ t. and_then (once place t (reads_on (next.Gid Object false) rule)) (λ more. read_from (place + 1) more ws)) none)
 
 pub gid_marked : (part : Part) (rule : Rule) (ws : List (List ℕ)) → (side_of part rule).gid ≡ None → On (begun (next.Name part) rule) (codes "gid" ∷ ws) (begun (next.Gid part true) rule) ws
-unfolding read_from fitted named
+unfolding read_from fitted test_named
 gid_marked part rule ws none = λ place. (place + 1, ap (λ t. and_then (once place t (reads_on (next.Gid part true) rule)) (λ more. read_from (place + 1) more ws)) none)
 
 abbrev pub put_gid : Part → Rule → Option IdTest → Rule

@@ -11,10 +11,10 @@ use Rattle.mf_rule.specs.declared.begun.Next.TheVariants as next
 use Rattle.mf_rule.specs.declared.begun.Begun.{Begun}
 use Rattle.mf_rule.specs.declared.fault.RuleFault.TheVariants.{UnknownWord, BadRange, BadType, BadMode}
 use Rattle.mf_rule.specs.Words.{id_range_in, types_in, mode_in}
-use Rattle.mf_rule.specs.RuleGrammar.{SpellsIdTest, SpellsObjectTest, SpellTests, Spells}
+use Rattle.mf_rule.specs.RuleGrammar.{SpellsIdTest, SpellsObjectTest, SpellTests, SpellsRule}
 use Rattle.mf_rule.proofs.Parts.{marked}
 use Rattle.mf_rule.specs.Parts.{Words, no_tests, no_object_tests}
-use Rattle.mf_rule.specs.Reading.{reads_on, once, side_of, with_not, id_test, no_rule, rule_in, read_from, fitted, tested, named, other_test, file_test, flagged, closing_word, behind}
+use Rattle.mf_rule.specs.Reading.{reads_on, once, side_of, with_not, id_test, no_rule, rule_in, read_from, fitted, tested, test_named, other_test, file_test, flagged, closing_word, behind}
 use Rattle.mf_rule.proofs.Pieces.{begun, put_uid, put_gid}
 use Rattle.mf_rule.proofs.FilePieces.{put_suid, put_sgid, put_uid_of_subject, put_gid_of_subject, put_types, type_test}
 use Rattle.mf_rule.proofs.Spelled.{flat}
@@ -115,8 +115,8 @@ uid_step part place turned r w b ws rule is after =
       | inr miss ↦ gid_step part place turned r w b ws rule miss.1 after
     ]
 
-named_step : (part : Part) (place : ℕ) (turned : Bool) (r : Rule) (w : List ℕ) (b : Begun) (ws : Words) (rule : Rule) → named place part turned r w ≡ Ok b → After b ws rule → PartRest part r (marked turned (w ∷ ws)) rule
-unfolding named
+named_step : (part : Part) (place : ℕ) (turned : Bool) (r : Rule) (w : List ℕ) (b : Begun) (ws : Words) (rule : Rule) → test_named place part turned r w ≡ Ok b → After b ws rule → PartRest part r (marked turned (w ∷ ws)) rule
+unfolding test_named
 named_step part place turned r w b ws rule is after = uid_step part place turned r w b ws rule is after
 
 -- ---- the end of a part
@@ -143,9 +143,9 @@ ended Object r ws rule rest =
     }
 
 end_step : (part : Part) (place : ℕ) (r : Rule) (w : List ℕ) (b : Begun) (ws : Words) (rule : Rule)
-    → cond (bytes_eq w (closing_word part)) (reads_on (behind part) r) (named place part false r w) ≡ Ok b → After b ws rule → PartRest part r (w ∷ ws) rule
+    → cond (bytes_eq w (closing_word part)) (reads_on (behind part) r) (test_named place part false r w) ≡ Ok b → After b ws rule → PartRest part r (w ∷ ws) rule
 end_step part place r w b ws rule is after =
-    elim (way (bytes_eq w (closing_word part)) (reads_on (behind part) r) (named place part false r w) (Ok b) is) [
+    elim (way (bytes_eq w (closing_word part)) (reads_on (behind part) r) (test_named place part false r w) (Ok b) is) [
       | inl hit ↦ subst (λ w. PartRest part r (w ∷ ws) rule) (sym (same_text w (closing_word part) hit.0)) (ended part r ws rule (came (behind part) r b ws rule hit.1 after))
       | inr miss ↦ named_step part place false r w b ws rule miss.1 after
     ]
@@ -153,7 +153,7 @@ end_step part place r w b ws rule is after =
 test_step : (part : Part) (place : ℕ) (r : Rule) (w : List ℕ) (b : Begun) (ws : Words) (rule : Rule) → tested place part r w ≡ Ok b → After b ws rule → PartRest part r (w ∷ ws) rule
 unfolding tested
 test_step part place r w b ws rule is after =
-    elim (way (bytes_eq w (codes "!")) (reads_on (next.Name part) r) (cond (bytes_eq w (closing_word part)) (reads_on (behind part) r) (named place part false r w)) (Ok b) is) [
+    elim (way (bytes_eq w (codes "!")) (reads_on (next.Name part) r) (cond (bytes_eq w (closing_word part)) (reads_on (behind part) r) (test_named place part false r w)) (Ok b) is) [
       | inl hit ↦ subst (λ w. PartRest part r (w ∷ ws) rule) (sym (same_text w (codes "!") hit.0)) (came (next.Name part) r b ws rule hit.1 after)
       | inr miss ↦ end_step part place r w b ws rule miss.1 after
     ]
@@ -283,6 +283,6 @@ held (w ∷ ws) place what r rule is =
     let found = then_is (fitted place what r w) (λ more. read_from (place + 1) more ws) rule is in
     step place what r w found.0 ws rule found.1 (held ws (place + 1) found.0.next found.0.rule rule found.2)
 
-pub read_is_spelled : (words : Words) (rule : Rule) → rule_in words ≡ Ok rule → Spells words rule
+pub read_is_spelled : (words : Words) (rule : Rule) → rule_in words ≡ Ok rule → SpellsRule words rule
 unfolding rule_in
 read_is_spelled words rule is = held words 0 next.Start no_rule rule is refl

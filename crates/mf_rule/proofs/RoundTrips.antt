@@ -9,11 +9,10 @@ use Rattle.mf_rule.specs.declared.rule.TypeTest.{TypeTest}
 use Rattle.mf_rule.specs.declared.rule.Rule.{Rule}
 use Rattle.mf_rule.specs.declared.begun.Part.TheVariants.{Subject, Object}
 use Rattle.mf_rule.specs.declared.begun.Next.TheVariants as next
-use Rattle.mf_rule.specs.RuleGrammar.{AreRanges, IsRule}
 use Rattle.mf_rule.specs.Parts.{no_object_tests}
 use Rattle.mf_rule.specs.Words.{mode_letters, type_letters}
 use Rattle.mf_rule.specs.Canonical.{not_text, id_text, side_text, flag_text, flags_text, types_text, object_text, rule_text, id_range_text, letters_text}
-use Rattle.mf_rule.specs.RoundTrip.{CanonicalTextStandsForItsRule}
+use Rattle.mf_rule.specs.RoundTrip.{AreRanges, IsInBounds}
 use Rattle.mf_rule.specs.Reading.{no_rule, nothing_read, rule_in, read_from, fitted}
 use Rattle.mf_rule.proofs.Pieces.{tail, Led, word_then, free_by, begun, open_at, On, on_trans, on_words, uid_piece, gid_piece, put_uid, put_gid}
 use Rattle.mf_rule.proofs.Letters.{mode_back}
@@ -143,7 +142,7 @@ led_flags object x led =
     (led_flag (codes " suid") refl object.suid (g ++ (h ++ i))
     (led_flag (codes " sgid") refl object.sgid (h ++ i) (led_flag (codes " uid_of_subject") refl object.uid_of_subject i (led_bare object.gid_of_subject)))) led
 
-object_back : (rule : Rule) (x : List ℕ) → Led x → IsRule rule
+object_back : (rule : Rule) (x : List ℕ) → Led x → IsInBounds rule
     → Ends (begun (next.First Object) (with_subject rule.subject)) (tail (object_text rule.object ++ x)) Object (with_object rule.subject rule.object) (tail x)
 object_back rule x led ok =
     let object = rule.object in
@@ -180,7 +179,7 @@ pub ends : (rule : Rule) (place : ℕ) → read_from place (begun next.End rule)
 unfolding read_from
 ends rule place = refl
 
-text_back : (rule : Rule) → IsRule rule → On nothing_read (parts 32 (rule_text rule)) (begun next.End rule) []
+text_back : (rule : Rule) → IsInBounds rule → On nothing_read (parts 32 (rule_text rule)) (begun next.End rule) []
 unfolding rule_text
 text_back rule ok =
     let s = side_text rule.subject in
@@ -207,6 +206,6 @@ text_back rule ok =
     (word_then (codes "mode") (32 ∷ m) (free_by (codes "mode") refl) refl ∙ ap (λ ws. codes "mode" ∷ ws) (alone m letters.1))
     (on_trans (begun (open_at Object object.0) z) (begun next.Letters z) end (codes "mode" ∷ last) last [] (mode_step object.0 z last) (letters_step z m rule.mode [] letters.0))))))))
 
-pub canonical_text_reads : CanonicalTextStandsForItsRule
+pub text_reads : (rule : Rule) → IsInBounds rule → rule_in (parts 32 (rule_text rule)) ≡ Ok rule
 unfolding rule_in
-canonical_text_reads rule ok = let on = text_back rule ok 0 in on.1 ∙ ends rule on.0
+text_reads rule ok = let on = text_back rule ok 0 in on.1 ∙ ends rule on.0

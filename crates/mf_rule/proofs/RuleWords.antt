@@ -23,10 +23,11 @@ use Rattle.mf_rule.specs.declared.rule.TypeTest.{TypeTest}
 use Rattle.mf_rule.specs.declared.rule.Rule.{Rule}
 use Rattle.mf_rule.specs.Canonical.{not_text, mark_text, id_range_text, id_text, flag_text, letter_text, letters_text, types_text, side_text, flags_text, object_text, rule_text}
 use Rattle.mf_text.specs.Results.{and_then}
-use Rattle.mf_rule.specs.Reading.{OrFault, with_word, file_test, tested, named, fitted, read_from, rule_in, nothing_read}
-use Rattle.mf_rule.specs.RuleGrammar.{IsRange, AreRanges, IsRule}
+use Rattle.mf_rule.specs.Reading.{OrFault, with_word, file_test, tested, test_named, fitted, read_from, rule_in, nothing_read}
+use Rattle.mf_rule.specs.RuleGrammar.{IsRule}
+use Rattle.mf_rule.specs.RoundTrip.{IsRange, AreRanges, IsInBounds}
 use Rattle.mf_rule.specs.Words.{mode_letters, type_letters, id_range_in, letters_in, types_in, mode_in}
-use Rattle.mf_rule.proofs.RoundTrips.{canonical_text_reads}
+use Rattle.mf_rule.proofs.Formed.{canonical_text_reads, in_bounds}
 use Rattle.mf_words.proofs.Behind.{behind, both, join, all_append}
 
 -- a byte of a word, and no semicolon
@@ -113,7 +114,7 @@ flags_plain object =
 object_plain : (object : ObjectSide) → AreRanges object.side → Plain (object_text object)
 object_plain object fits = then (side_plain object.side fits) (then (flags_plain object) (test_plain object.types))
 
-rule_plain : (rule : Rule) → IsRule rule → Plain (rule_text rule)
+rule_plain : (rule : Rule) → IsInBounds rule → Plain (rule_text rule)
 unfolding rule_text
 rule_plain rule fits =
     then (then (put (codes "subject") refl) (side_plain rule.subject fits.subject))
@@ -149,8 +150,8 @@ abbrev IsFault : {A : Type 0} → OrFault A → Type 0
 IsFault (Ok x) = ⊥
 IsFault (Err fault) = Unit {0}
 
-empty_named : (place : ℕ) (part : Part) (turned : Bool) (rule : Rule) → IsFault (named place part turned rule [])
-unfolding named file_test
+empty_named : (place : ℕ) (part : Part) (turned : Bool) (rule : Rule) → IsFault (test_named place part turned rule [])
+unfolding test_named file_test
 empty_named place Subject turned rule = tt
 empty_named place Object turned rule = tt
 
@@ -198,7 +199,7 @@ words_of rule = parts 32 (rule_text rule)
 
 pub words_are_plain : (rule : Rule) → IsRule rule → AllByRecursion IsPlainWord (words_of rule)
 unfolding parts
-words_are_plain rule fits = words_plain (rule_text rule) (rule_plain rule fits).each
+words_are_plain rule fits = words_plain (rule_text rule) (rule_plain rule (in_bounds rule fits)).each
 
 pub words_are_some : (rule : Rule) → IsRule rule → AllByRecursion (λ w. is_some w ≡ true) (words_of rule)
 words_are_some rule fits = read_words (words_of rule) rule (canonical_text_reads rule fits)

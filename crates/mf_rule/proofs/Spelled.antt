@@ -8,7 +8,7 @@ use Rattle.mf_rule.specs.declared.begun.Part.{Part}
 use Rattle.mf_rule.specs.declared.begun.Part.TheVariants.{Subject, Object}
 use Rattle.mf_rule.specs.declared.begun.Next.TheVariants as next
 use Rattle.mf_rule.specs.Words.{id_range_in, types_in}
-use Rattle.mf_rule.specs.RuleGrammar.{SpellsIdTest, SpellsFileTest, SpellsObjectTest, SpellTests, Spells}
+use Rattle.mf_rule.specs.RuleGrammar.{SpellsIdTest, SpellsFileTest, SpellsObjectTest, SpellTests, SpellsRule}
 use Rattle.mf_rule.proofs.Parts.{marked, with_not, SpellsSubject, SpellsObject}
 use Rattle.mf_rule.specs.Parts.{Words, no_object_tests}
 use Rattle.mf_rule.specs.Reading.{side_of, with_side, id_test, no_rule, nothing_read, rule_in, read_from}
@@ -180,7 +180,7 @@ object_part_words rule words object ws bare spells =
     )
 
 -- ---- whole rules
-words_on : (words : Words) (rule : Rule) → Spells words rule → On nothing_read words (begun next.End rule) []
+words_on : (words : Words) (rule : Rule) → SpellsRule words rule → On nothing_read words (begun next.End rule) []
 words_on words rule spells =
     let last = spells.letters ∷ [] in
     let y = codes "mode" ∷ last in
@@ -198,6 +198,6 @@ words_on words rule spells =
     (on_trans (begun (next.First Object) q) (begun (open_at Object object.0) z) end (spells.object ++ y) y [] object.1
     (on_trans (begun (open_at Object object.0) z) (begun next.Letters z) end y last [] (mode_step object.0 z last) (letters_step z spells.letters rule.mode [] spells.is_mode))))))
 
-pub spelled_is_read : (words : Words) (rule : Rule) → Spells words rule → rule_in words ≡ Ok rule
+pub spelled_is_read : (words : Words) (rule : Rule) → SpellsRule words rule → rule_in words ≡ Ok rule
 unfolding rule_in
 spelled_is_read words rule spells = let on = words_on words rule spells 0 in on.1 ∙ ends rule on.0

@@ -7,7 +7,7 @@ use Rattle.std.proofs.lemmas.List.Edits.{length-remove, get_or-remove_below, get
 use Rattle.std.specs.List.{insert, remove}
 use Rattle.mf_rule.specs.Match.{has}
 use Rattle.mf_rule.specs.RuleBits.{has_bit, no_bits, with_bit}
-use Rattle.mf_rule.specs.UidIndex.{Stretches, IsRising, rules_from, rules_at, rules_before, IsEnd, is_cut, is_within, AreCuts, IsCutAround, marked}
+use Rattle.mf_rule.specs.UidIndex.{Stretches, AreByUid, rules_from, rules_at, rules_before, IsEnd, is_cut, is_within, AreCuts, IsCutAround, stretch_with}
 use Rattle.mf_rule.specs.declared.rule.IdTest.{IdTest}
 use Rattle.mf_rule.specs.declared.rule.TheConstants.{LAST_ID}
 use Rattle.mf_rule.specs.declared.rule_bits.Bits.{Bits}
@@ -111,10 +111,10 @@ is_cut_still other uid end rules stretches was =
 abbrev pub AllFrom : ℕ → Stretches → Type 0
 AllFrom uid stretches = (k : ℕ) (d : Stretch) → k < length stretches → uid ≤ (get_or stretches k d).from
 
-rising_behind : (stretch : Stretch) (stretches : Stretches) → IsRising (stretch ∷ stretches) → IsRising stretches
+rising_behind : (stretch : Stretch) (stretches : Stretches) → AreByUid (stretch ∷ stretches) → AreByUid stretches
 rising_behind stretch stretches rising = λ i j d up h. rising (suc i) (suc j) d (omega (arith, up)) (omega (arith, h))
 
-all_from_first : (stretch : Stretch) (stretches : Stretches) → IsRising (stretch ∷ stretches) → AllFrom stretch.from stretches
+all_from_first : (stretch : Stretch) (stretches : Stretches) → AreByUid (stretch ∷ stretches) → AllFrom stretch.from stretches
 all_from_first stretch stretches rising = λ k d h. rising 0 (suc k) d (omega arith) (omega (arith, h))
 
 -- all cuts are there, too
@@ -138,22 +138,22 @@ cut_first cut stretch stretches is =
 
 -- marks of other numbers
 pub others_stay : (number : ℕ) (range : Option IdTest) (n : ℕ) → number < 256 → n < 256 → n ≢ number → (before after : Bits) (stretches : Stretches) (uid : ℕ)
-    → has_bit n after ≡ has_bit n before → has_bit n (rules_from after (map (marked number range) stretches) uid) ≡ has_bit n (rules_from before stretches uid)
+    → has_bit n after ≡ has_bit n before → has_bit n (rules_from after (map (stretch_with number range) stretches) uid) ≡ has_bit n (rules_from before stretches uid)
 others_stay number range n h hn other before after [] uid same = same
 others_stay number range n h hn other before after (stretch ∷ stretches) uid same =
     let rules = with_bit number (is_within range stretch.from) stretch.rules in
-    elim (leb stretch.from uid) as (λ b. has_bit n (cond b (rules_from rules (map (marked number range) stretches) uid) after) ≡ has_bit n (cond b (rules_from stretch.rules stretches uid) before)) [
+    elim (leb stretch.from uid) as (λ b. has_bit n (cond b (rules_from rules (map (stretch_with number range) stretches) uid) after) ≡ has_bit n (cond b (rules_from stretch.rules stretches uid) before)) [
       | true ↦ others_stay number range n h hn other stretch.rules rules stretches uid (bit_other number (is_within range stretch.from) stretch.rules n h hn other)
       | false ↦ same
     ]
 
 -- marks of the number, in no range
 pub nowhere : (number : ℕ) → number < 256 → (before : Bits) (stretches : Stretches) (uid : ℕ) → has_bit number before ≡ false
-    → has_bit number (rules_from before (map (marked number None) stretches) uid) ≡ false
+    → has_bit number (rules_from before (map (stretch_with number None) stretches) uid) ≡ false
 nowhere number h before [] uid out = out
 nowhere number h before (stretch ∷ stretches) uid out =
     let rules = with_bit number false stretch.rules in
-    elim (leb stretch.from uid) as (λ b. has_bit number (cond b (rules_from rules (map (marked number None) stretches) uid) before) ≡ false) [
+    elim (leb stretch.from uid) as (λ b. has_bit number (cond b (rules_from rules (map (stretch_with number None) stretches) uid) before) ≡ false) [
       | true ↦ nowhere number h rules stretches uid (bit_same number false stretch.rules h)
       | false ↦ out
     ]
@@ -211,25 +211,25 @@ same_to from uid range stretches up last cuts beyond =
       ]
     ])
 
-beyond_first : (uid : ℕ) (stretch : Stretch) (stretches : Stretches) → IsRising (stretch ∷ stretches) → uid < stretch.from → AllFrom (uid + 1) (stretch ∷ stretches)
+beyond_first : (uid : ℕ) (stretch : Stretch) (stretches : Stretches) → AreByUid (stretch ∷ stretches) → uid < stretch.from → AllFrom (uid + 1) (stretch ∷ stretches)
 beyond_first uid stretch stretches rising beyond = λ k d h. let up = rising 0 k d (omega arith) h in omega (arith, up, beyond)
 
 -- marks of the number in a range whose ends are cuts, in the stretches behind one that begins at `from`
-in_range_from : (number : ℕ) (range : IdTest) (uid : ℕ) → number < 256 → uid ≤ LAST_ID → (from : ℕ) (before : Bits) (stretches : Stretches) → from ≤ uid → IsRising stretches → AllFrom from stretches
+in_range_from : (number : ℕ) (range : IdTest) (uid : ℕ) → number < 256 → uid ≤ LAST_ID → (from : ℕ) (before : Bits) (stretches : Stretches) → from ≤ uid → AreByUid stretches → AllFrom from stretches
     → AreCutBehind from range stretches → has_bit number before ≡ has range from
-    → has_bit number (rules_from before (map (marked number (Some range)) stretches) uid) ≡ has range uid
+    → has_bit number (rules_from before (map (stretch_with number (Some range)) stretches) uid) ≡ has range uid
 in_range_from number range uid h last from before [] up rising all cuts is = is ∙ same_to from uid range [] up last cuts (λ k d h. absurd (omega (arith, h)))
 in_range_from number range uid h last from before (stretch ∷ stretches) up rising all cuts is =
     let rules = with_bit number (has range stretch.from) stretch.rules in
     elim (cases_le stretch.from uid) [
       | inl begins ↦
           let l : leb stretch.from uid ≡ true = le-leb stretch.from uid begins in
-          ap (λ b. has_bit number (cond b (rules_from rules (map (marked number (Some range)) stretches) uid) before)) l
+          ap (λ b. has_bit number (cond b (rules_from rules (map (stretch_with number (Some range)) stretches) uid) before)) l
           ∙ in_range_from number range uid h last stretch.from rules stretches begins (rising_behind stretch stretches rising) (all_from_first stretch stretches rising)
           (cut_behind from range stretch stretches (all 0 stretch (omega arith)) cuts) (bit_same number (has range stretch.from) stretch.rules h)
       | inr beyond ↦
           let l : leb stretch.from uid ≡ false = lt-leb stretch.from uid beyond in
-          ap (λ b. has_bit number (cond b (rules_from rules (map (marked number (Some range)) stretches) uid) before)) l
+          ap (λ b. has_bit number (cond b (rules_from rules (map (stretch_with number (Some range)) stretches) uid) before)) l
           ∙ is ∙ same_to from uid range (stretch ∷ stretches) up last cuts (beyond_first uid stretch stretches rising beyond)
     ]
 
@@ -249,36 +249,36 @@ cuts_from_first range stretch stretches cuts =
 below_range : (range : IdTest) (uid : ℕ) → uid < range.least → has range uid ≡ false
 below_range range uid h = ap (λ b. b && leb uid range.greatest) (lt-leb range.least uid h)
 
-pub in_range : (number : ℕ) (range : IdTest) (uid : ℕ) → number < 256 → uid ≤ LAST_ID → (stretches : Stretches) → IsRising stretches → AreCuts range stretches
-    → has_bit number (rules_at (map (marked number (Some range)) stretches) uid) ≡ has range uid
+pub in_range : (number : ℕ) (range : IdTest) (uid : ℕ) → number < 256 → uid ≤ LAST_ID → (stretches : Stretches) → AreByUid stretches → AreCuts range stretches
+    → has_bit number (rules_at (map (stretch_with number (Some range)) stretches) uid) ≡ has range uid
 in_range number range uid h last [] rising cuts = let c = cuts.first in cc
 in_range number range uid h last (stretch ∷ stretches) rising cuts =
     let rules = with_bit number (has range stretch.from) stretch.rules in
     elim (cases_le stretch.from uid) [
       | inl begins ↦
           let l : leb stretch.from uid ≡ true = le-leb stretch.from uid begins in
-          ap (λ b. has_bit number (cond b (rules_from rules (map (marked number (Some range)) stretches) uid) no_bits)) l
+          ap (λ b. has_bit number (cond b (rules_from rules (map (stretch_with number (Some range)) stretches) uid) no_bits)) l
           ∙ in_range_from number range uid h last stretch.from rules stretches begins (rising_behind stretch stretches rising) (all_from_first stretch stretches rising)
           (cuts_from_first range stretch stretches cuts) (bit_same number (has range stretch.from) stretch.rules h)
       | inr beyond ↦
           let l : leb stretch.from uid ≡ false = lt-leb stretch.from uid beyond in
           let least = cut_from (uid + 1) range.least (stretch ∷ stretches) (beyond_first uid stretch stretches rising beyond) cuts.first in
-          ap (λ b. has_bit number (cond b (rules_from rules (map (marked number (Some range)) stretches) uid) no_bits)) l
+          ap (λ b. has_bit number (cond b (rules_from rules (map (stretch_with number (Some range)) stretches) uid) no_bits)) l
           ∙ bit_of_none number ∙ sym (below_range range uid (omega (arith, least)))
     ]
 
-pub in_any_range : (number : ℕ) (range : Option IdTest) (uid : ℕ) → number < 256 → uid ≤ LAST_ID → (stretches : Stretches) → IsRising stretches → IsCutAround range stretches
-    → has_bit number (rules_at (map (marked number range) stretches) uid) ≡ is_within range uid
+pub in_any_range : (number : ℕ) (range : Option IdTest) (uid : ℕ) → number < 256 → uid ≤ LAST_ID → (stretches : Stretches) → AreByUid stretches → IsCutAround range stretches
+    → has_bit number (rules_at (map (stretch_with number range) stretches) uid) ≡ is_within range uid
 in_any_range number None uid h last stretches rising cuts = nowhere number h no_bits stretches uid (bit_of_none number)
 in_any_range number (Some range) uid h last stretches rising cuts = in_range number range uid h last stretches rising cuts
 
-pub marks : (number : ℕ) (range : Option IdTest) (uid n : ℕ) → number < 256 → n < 256 → uid ≤ LAST_ID → (stretches : Stretches) → IsRising stretches → IsCutAround range stretches
-    → has_bit n (rules_at (map (marked number range) stretches) uid) ≡ (if eqb n number then is_within range uid else has_bit n (rules_at stretches uid))
+pub marks : (number : ℕ) (range : Option IdTest) (uid n : ℕ) → number < 256 → n < 256 → uid ≤ LAST_ID → (stretches : Stretches) → AreByUid stretches → IsCutAround range stretches
+    → has_bit n (rules_at (map (stretch_with number range) stretches) uid) ≡ (if eqb n number then is_within range uid else has_bit n (rules_at stretches uid))
 marks number range uid n h hn last stretches rising cuts =
     elim (cases_eq n number) [
       | inl same ↦
           let e : eqb n number ≡ true = grind (arith, same) in
-          ap (λ m. has_bit m (rules_at (map (marked number range) stretches) uid)) same
+          ap (λ m. has_bit m (rules_at (map (stretch_with number range) stretches) uid)) same
           ∙ in_any_range number range uid h last stretches rising cuts
           ∙ sym (ap (λ b. if b then is_within range uid else has_bit n (rules_at stretches uid)) e)
       | inr other ↦
@@ -287,11 +287,11 @@ marks number range uid n h hn last stretches rising cuts =
           ∙ sym (ap (λ b. if b then is_within range uid else has_bit n (rules_at stretches uid)) e)
     ]
 
-pub marks_rise : (number : ℕ) (range : Option IdTest) (stretches : Stretches) → IsRising stretches → IsRising (map (marked number range) stretches)
+pub marks_rise : (number : ℕ) (range : Option IdTest) (stretches : Stretches) → AreByUid stretches → AreByUid (map (stretch_with number range) stretches)
 marks_rise number range stretches rising = λ i j d up h.
-    let below : j < length stretches = omega (arith, h, length-map stretches (marked number range)) in
+    let below : j < length stretches = omega (arith, h, length-map stretches (stretch_with number range)) in
     let from = rising i j d up below in
-    rw (get_or-map (marked number range) stretches i d d (omega (arith, up, below)), get_or-map (marked number range) stretches j d d below) from
+    rw (get_or-map (stretch_with number range) stretches i d d (omega (arith, up, below)), get_or-map (stretch_with number range) stretches j d d below) from
 
 -- a stretch with the rules of the one before is left out
 abbrev before_place : Bits → Stretches → ℕ → Bits
@@ -308,7 +308,7 @@ before_is : (place : ℕ) (stretches : Stretches) → place ≤ length stretches
 before_is zero stretches h = refl
 before_is (suc place) stretches h = before_behind no_bits place stretches (record { from = 0; rules = no_bits }) (omega (arith, h))
 
-join_from : (before : Bits) (place other : ℕ) (stretches : Stretches) (d : Stretch) → IsRising stretches → place < length stretches → (get_or stretches place d).rules ≡ before_place before stretches place
+join_from : (before : Bits) (place other : ℕ) (stretches : Stretches) (d : Stretch) → AreByUid stretches → place < length stretches → (get_or stretches place d).rules ≡ before_place before stretches place
     → rules_from before (remove stretches place) other ≡ rules_from before stretches other
 join_from before place other [] d rising h same = absurd (omega (arith, h))
 join_from before zero other (stretch ∷ stretches) d rising h same =
@@ -326,12 +326,12 @@ join_from before (suc place) other (stretch ∷ stretches) d rising h same =
     ap (λ rules. cond (leb stretch.from other) rules before)
     (join_from stretch.rules place other stretches d (rising_behind stretch stretches rising) (omega (arith, h)) same)
 
-pub join_changes_nothing : (place other : ℕ) (stretches : Stretches) (d : Stretch) → IsRising stretches → place < length stretches → (get_or stretches place d).rules ≡ rules_before stretches place
+pub join_changes_nothing : (place other : ℕ) (stretches : Stretches) (d : Stretch) → AreByUid stretches → place < length stretches → (get_or stretches place d).rules ≡ rules_before stretches place
     → rules_at (remove stretches place) other ≡ rules_at stretches other
 join_changes_nothing place other stretches d rising h same =
     join_from no_bits place other stretches d rising h (same ∙ sym (before_is place stretches (omega (arith, h))))
 
-pub joined_rise : (place : ℕ) (stretches : Stretches) → IsRising stretches → place < length stretches → IsRising (remove stretches place)
+pub joined_rise : (place : ℕ) (stretches : Stretches) → AreByUid stretches → place < length stretches → AreByUid (remove stretches place)
 joined_rise place stretches rising h = λ i j d up below.
     let count = length-remove stretches place h in
     elim (cases_lt i place) [

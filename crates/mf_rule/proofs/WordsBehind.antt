@@ -12,7 +12,7 @@ use Rattle.mf_rule.specs.declared.begun.Next.TheVariants as next
 use Rattle.mf_rule.specs.declared.begun.Begun.{Begun}
 use Rattle.mf_rule.specs.declared.fault.RuleFault.{RuleFault}
 use Rattle.mf_rule.specs.Words.{id_range_in, mode_in}
-use Rattle.mf_rule.specs.RuleGrammar.{SpellsIdTest, SpellsFileTest, SpellsObjectTest, SpellTests, Spells}
+use Rattle.mf_rule.specs.RuleGrammar.{SpellsIdTest, SpellsFileTest, SpellsObjectTest, SpellTests, SpellsRule}
 use Rattle.mf_rule.proofs.Parts.{marked, SpellsSubject, SpellsObject}
 use Rattle.mf_rule.specs.Parts.{Words, no_object_tests}
 use Rattle.mf_text.specs.Results.{and_then}
@@ -96,7 +96,7 @@ FirstRest Subject r ws rule = r ≡ no_rule → FirstSubject ws rule
 FirstRest Object r ws rule = r.object ≡ no_object_tests → FirstObject r.subject ws rule
 
 abbrev pub Holds : Next → Rule → Words → Rule → Type 0
-Holds next.Start r ws rule = r ≡ no_rule → Spells ws rule
+Holds next.Start r ws rule = r ≡ no_rule → SpellsRule ws rule
 Holds (next.First part) r ws rule = FirstRest part r ws rule
 Holds (next.Test part) r ws rule = PartRest part r ws rule
 Holds (next.Name part) r ws rule = PartRest part r (codes "!" ∷ ws) rule

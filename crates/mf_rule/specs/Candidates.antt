@@ -1,5 +1,5 @@
 -- Which rules of a list may match a subject and a file of a kind, by their tests of uids and of the type alone: this model's own.
-use Rattle.std.specs.Prelude.{ℕ, Bool, false, ◌&&◌, ◌||◌, List, Option, None, filter, slice_index_or}
+use Rattle.std.specs.Prelude.{ℕ, Bool, false, not, ◌&&◌, ◌||◌, if◌then◌else◌, List, Option, Some, None, filter, slice_index_or}
 use Rattle.std.specs.List.{range_with_len}
 use Rattle.std.specs.Option.{option_map_or}
 use Rattle.mf_cred.specs.declared.cred.Cred.{Cred}
@@ -25,3 +25,7 @@ may_match cred dir slot = option_map_or (λ rule. subject_may rule.subject cred 
 -- the numbers of the rules that may match, rising
 unfoldable pub candidates : Slots → Cred → Bool → List ℕ
 candidates slots cred dir = filter (λ n. may_match cred dir (slice_index_or slots n None)) (range_with_len 0 MAX_RULES)
+
+-- what a rule decides, where it is one that matches, and gives the letters: with first match whatever it gives, and without only that it doesn't
+abbrev pub decided : Bool → Bool → Bool → Option Bool
+decided first is_match gives = if is_match && (first || not gives) then Some gives else None

@@ -31,22 +31,15 @@ has test id = nat_le test.least id && nat_le id test.greatest
 abbrev pub has_uid : IdTest → Cred → Bool
 has_uid test cred = has test cred.uid || has test cred.ruid || has test cred.svuid
 
--- one of the groups
-abbrev pub has_group : IdTest → Cred → Bool
-has_group test cred = list_any (has test) cred.groups
-
 abbrev pub subject_matches : Side → Cred → Bool
 subject_matches side cred =
     turned side.not
     (if_asked side.uid (λ test. turned test.not (has_uid test cred))
-    && if_asked side.gid (λ test. turned test.not (has_group test cred)))
+    && if_asked side.gid (λ test. turned test.not (list_any (has test) cred.groups)))
 
--- the mode has the bit 4000, or 2000, in octal
-abbrev pub is_suid : FileView → Bool
-is_suid file = not (bit_and file.mode 2048 == 0)
-
-abbrev pub is_sgid : FileView → Bool
-is_sgid file = not (bit_and file.mode 1024 == 0)
+-- the mode has the bit: 2048 is 4000 in octal (suid), and 1024 is 2000 (sgid)
+abbrev pub has_mode_bit : ℕ → FileView → Bool
+has_mode_bit bit file = not (bit_and file.mode bit == 0)
 
 -- the file's owner is the subject, by one of its three uids
 abbrev pub owns : Cred → FileView → Bool
@@ -60,19 +53,12 @@ abbrev pub object_tests : ObjectSide → Cred → FileView → Bool
 object_tests object cred file =
     if_asked object.side.uid (λ test. turned test.not (has test file.uid))
     && if_asked object.side.gid (λ test. turned test.not (has test file.gid))
-    && if_asked object.suid (λ wanted. turned (not wanted) (is_suid file))
-    && if_asked object.sgid (λ wanted. turned (not wanted) (is_sgid file))
+    && if_asked object.suid (λ wanted. turned (not wanted) (has_mode_bit 2048 file))
+    && if_asked object.sgid (λ wanted. turned (not wanted) (has_mode_bit 1024 file))
     && if_asked object.uid_of_subject (λ wanted. turned (not wanted) (owns cred file))
     && if_asked object.gid_of_subject (λ wanted. turned (not wanted) (in_group cred file.gid))
     && if_asked object.types (λ test. turned test.not (has_type test.types file.dir))
 
-abbrev pub object_matches : ObjectSide → Cred → FileView → Bool
-object_matches object cred file = turned object.side.not (object_tests object cred file)
-
 -- a rule matches where both its parts do
 abbrev pub matches : Rule → Cred → FileView → Bool
-matches rule cred file = subject_matches rule.subject cred && object_matches rule.object cred file
-
--- all of the letters that are wanted
-abbrev pub gives : Rule → ℕ → Bool
-gives rule wanted = bit_and rule.mode wanted == wanted
+matches rule cred file = subject_matches rule.subject cred && turned rule.object.side.not (object_tests rule.object cred file)

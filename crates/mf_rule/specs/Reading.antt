@@ -77,8 +77,8 @@ other_test Subject place turned rule w = Err (UnknownWord place)
 other_test Object place turned rule w = file_test place turned rule w
 
 -- the name of a test
-unfoldable pub named : ℕ → Part → Bool → Rule → List ℕ → OrFault Begun
-named place part turned rule w =
+unfoldable pub test_named : ℕ → Part → Bool → Rule → List ℕ → OrFault Begun
+test_named place part turned rule w =
     if bytes_eq w (codes "uid") then once place (side_of part rule).uid (reads_on (next.Uid part turned) rule)
     else if bytes_eq w (codes "gid") then once place (side_of part rule).gid (reads_on (next.Gid part turned) rule)
     else other_test part place turned rule w
@@ -88,7 +88,7 @@ unfoldable pub tested : ℕ → Part → Rule → List ℕ → OrFault Begun
 tested place part rule w =
     if bytes_eq w (codes "!") then reads_on (next.Name part) rule
     else if bytes_eq w (closing_word part) then reads_on (behind part) rule
-    else named place part false rule w
+    else test_named place part false rule w
 
 -- the value of a test, where the word is one
 abbrev pub by_value : {A : Type 0} → RuleFault → Option A → (A → OrFault Begun) → OrFault Begun
@@ -102,7 +102,7 @@ unfoldable pub fitted : ℕ → Next → Rule → List ℕ → OrFault Begun
 fitted place next.Start rule w = if bytes_eq w (codes "subject") then reads_on (next.First Subject) rule else Err (UnknownWord place)
 fitted place (next.First part) rule w = if bytes_eq w (codes "not") then reads_on (next.Test part) (with_not part rule) else tested place part rule w
 fitted place (next.Test part) rule w = tested place part rule w
-fitted place (next.Name part) rule w = named place part true rule w
+fitted place (next.Name part) rule w = test_named place part true rule w
 fitted place (next.Uid part turned) rule w =
     by_value (BadRange place) (id_range_in w) (λ ends. reads_on (next.Test part) (with_side part rule (record (side_of part rule) { uid = Some (id_test turned ends) })))
 fitted place (next.Gid part turned) rule w =

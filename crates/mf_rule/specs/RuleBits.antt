@@ -1,5 +1,5 @@
 -- Sets of numbers of rules, as bits.
-use Rattle.std.specs.Prelude.{◌≡◌, ◌<◌, ◌-◌, ℕ, ◌*◌, ◌%◌, ◌^◌, Bool, true, false, nat_lt, nat_eq, if◌then◌else◌, List, filter}
+use Rattle.std.specs.Prelude.{◌≡◌, ◌==◌, ◌<◌, ◌-◌, ℕ, ◌*◌, ◌%◌, ◌^◌, Bool, true, false, nat_lt, if◌then◌else◌, List, filter}
 use Rattle.std.specs.Int.RustNames.{bit_and, bit_or}
 use Rattle.std.specs.Int.{bit_at, bit_not, w128}
 use Rattle.std.specs.List.{range_with_len}
@@ -8,7 +8,7 @@ use Rattle.mf_rule.specs.declared.rule_list.TheConstants.{MAX_RULES}
 
 -- the number is in the set
 abbrev pub has_bit : ℕ → Bits → Bool
-has_bit number bits = nat_eq (if nat_lt number 128 then bit_at bits.low number else bit_at bits.high (number - 128)) 1
+has_bit number bits = (if nat_lt number 128 then bit_at bits.low number else bit_at bits.high (number - 128)) == 1
 
 -- no number
 abbrev pub no_bits : Bits
@@ -30,7 +30,7 @@ abbrev pub IsEmpty : Bits → Type 0
 IsEmpty bits = (n : ℕ) → has_bit n bits ≡ false
 
 -- the number is in the set, and no lower one is
-pub record IsLeast (number : ℕ) (bits : Bits) : Type 0 where
+pub record IsLeastBit (number : ℕ) (bits : Bits) : Type 0 where
   pub within : number < 256
   pub there : has_bit number bits ≡ true
   pub least : (n : ℕ) → n < number → has_bit n bits ≡ false

@@ -4,12 +4,9 @@
 --
 -- A test is a name, with `!` before it where it is turned, and a value behind it where it has one. It stands at most once in a part; the order
 -- is free. ugidfw(8) has `jailid`, `filesys` and names of users and groups too, which this model lacks.
-use Rattle.std.specs.Prelude.{◌≡◌, ◌≤◌, ◌<◌, ◌⊎◌, ℕ, Bool, not, List, [], ◌∷◌, ◌++◌, Some, None, IfSome, codes, if◌then◌else◌}
-use Rattle.std.specs.Int.{IsInRange}
+use Rattle.std.specs.Prelude.{◌≡◌, ◌⊎◌, ℕ, Bool, not, List, [], ◌∷◌, ◌++◌, Some, None, codes, if◌then◌else◌}
 use Rattle.std.specs.List.{flat_map}
 use Rattle.mf_rule.specs.Words.{id_range_in, mode_in, types_in}
-use Rattle.mf_rule.specs.declared.rule.TheConstants.{LAST_ID, ANY_TYPE}
-use Rattle.mf_rule.specs.declared.rule.IdTest.{IdTest}
 use Rattle.mf_rule.specs.declared.rule.Side.{Side}
 use Rattle.mf_rule.specs.declared.rule.ObjectSide.{ObjectSide}
 use Rattle.mf_rule.specs.declared.rule.Rule.{Rule}
@@ -43,8 +40,8 @@ SpellsObjectTest words before after =
 
 -- one test after another
 abbrev pub SpellTests : {A : Type 0} → (Words → A → A → Type 0) → List Words → A → A → Type 0
-SpellTests Spells [] before after = before ≡ after
-SpellTests {A} Spells (test ∷ tests) before after = (next : A) × Spells test before next × SpellTests Spells tests next after
+SpellTests SpellsTest [] before after = before ≡ after
+SpellTests {A} SpellsTest (test ∷ tests) before after = (next : A) × SpellsTest test before next × SpellTests SpellsTest tests next after
 
 -- the words of a part are its tests, one after another: with them, before becomes after
 pub record SpellsPart {A : Type 0} (SpellsTest : Words → A → A → Type 0) (turned : Bool) (words : Words) (before after : A) : Type 0 where
@@ -53,7 +50,7 @@ pub record SpellsPart {A : Type 0} (SpellsTest : Words → A → A → Type 0) (
   pub each : SpellTests SpellsTest tests before after
 
 -- the words stand for the rule
-pub record Spells (words : Words) (rule : Rule) : Type 0 where
+pub record SpellsRule (words : Words) (rule : Rule) : Type 0 where
   pub subject : Words
   pub object : Words
   pub letters : List ℕ
@@ -63,18 +60,6 @@ pub record Spells (words : Words) (rule : Rule) : Type 0 where
       (record no_object_tests { side = record no_tests { not = rule.object.side.not } }) rule.object
   pub is_mode : mode_in letters ≡ Some rule.mode
 
--- a range of ids that there are
-pub record IsRange (test : IdTest) : Type 0 where
-  pub ordered : test.least ≤ test.greatest
-  pub below : test.greatest ≤ LAST_ID
-
-pub record AreRanges (side : Side) : Type 0 where
-  pub uid : IfSome side.uid IsRange
-  pub gid : IfSome side.gid IsRange
-
--- a rule that words can stand for: ranges, one type or more, and letters of a mode
-pub record IsRule (rule : Rule) : Type 0 where
-  pub subject : AreRanges rule.subject
-  pub object : AreRanges rule.object.side
-  pub types : IfSome rule.object.types (λ test. IsInRange 1 ANY_TYPE test.types)
-  pub mode : rule.mode < 32
+-- a rule that words can stand for
+abbrev pub IsRule : Rule → Type 0
+IsRule rule = (words : Words) × SpellsRule words rule

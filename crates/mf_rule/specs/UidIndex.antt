@@ -1,5 +1,5 @@
 -- Indexes of rules by uids of subjects: the uids are cut into stretches, each with a set of numbers of rules.
-use Rattle.std.specs.Prelude.{◌≡◌, ◌+◌, ◌<◌, ◌≤◌, ℕ, zero, suc, Bool, true, false, nat_eq, nat_le, if◌then◌else◌, List, [], ◌∷◌, Option, Some, None, length, slice_index_or}
+use Rattle.std.specs.Prelude.{◌≡◌, ◌==◌, ◌+◌, ◌<◌, ◌≤◌, ℕ, zero, suc, Bool, true, false, nat_le, if◌then◌else◌, List, [], ◌∷◌, Option, Some, None, length, slice_index_or}
 use Rattle.std.specs.List.{list_any}
 use Rattle.std.specs.List.Sorted.{IsNonDecreasingBy}
 use Rattle.std.specs.Option.{option_map_or}
@@ -17,8 +17,8 @@ abbrev pub Stretches : Type 0
 Stretches = List Stretch
 
 -- no stretch begins below the one before it
-abbrev pub IsRising : Stretches → Type 0
-IsRising stretches = IsNonDecreasingBy (λ stretch. stretch.from) stretches
+abbrev pub AreByUid : Stretches → Type 0
+AreByUid stretches = IsNonDecreasingBy (λ stretch. stretch.from) stretches
 
 -- the rules of the last stretch that begins at the uid or below; those given where there is none
 abbrev pub rules_from : Bits → Stretches → ℕ → Bits
@@ -42,7 +42,7 @@ pub record IsEnd (uid end : ℕ) (stretches : Stretches) : Type 0 where
 
 -- a stretch begins at the uid
 abbrev pub is_cut : ℕ → Stretches → Bool
-is_cut uid stretches = list_any (λ stretch. nat_eq stretch.from uid) stretches
+is_cut uid stretches = list_any (λ stretch. stretch.from == uid) stretches
 
 -- the uid lies in the range, both ends included, where there is a range; the `!` of a test isn't looked at
 abbrev pub is_within : Option IdTest → ℕ → Bool
@@ -58,8 +58,8 @@ IsCutAround None stretches = Unit
 IsCutAround (Some range) stretches = AreCuts range stretches
 
 -- the stretch with the number, where it begins in the range, or without
-abbrev pub marked : ℕ → Option IdTest → Stretch → Stretch
-marked number range stretch =
+abbrev pub stretch_with : ℕ → Option IdTest → Stretch → Stretch
+stretch_with number range stretch =
     record { from = stretch.from; rules = with_bit number (is_within range stretch.from) stretch.rules }
 
 -- a subject whose effective, real and saved uid is this one

@@ -6,7 +6,7 @@ pub fn canonical_text_stands_for_its_rule()
     ensures { CanonicalTextStandsForItsRule }
 {}
 
-/// What words stand for has ranges of ids, one type or more where it tests types, and letters of a mode.
+/// What words stand for is a rule, and has ranges of ids, one type or more where it tests types, and letters of a mode.
 pub fn what_is_read_is_a_rule()
     ensures { WhatIsReadIsARule }
 {}

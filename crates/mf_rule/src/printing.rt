@@ -12,7 +12,8 @@ use std::alloc::AllocError;
 
 /// Appends the canonical text of a rule. If memory runs out, `out` is unchanged.
 pub fn print_rule(rule: &Rule, out: &mut String) -> Result<(), AllocError>
-    ensures ok { OnOk result (string_bytes out.new ≡ string_bytes out.old ++ spec.rule_text rule.now) }
+    ensures ok { OnOk result (string_bytes out.new
+        ≡ string_bytes out.old ++ spec.rule_text rule.now) }
     ensures err { OnErr result (string_bytes out.new ≡ string_bytes out.old) }
 {
     let length = out.len();
@@ -25,7 +26,8 @@ pub fn print_rule(rule: &Rule, out: &mut String) -> Result<(), AllocError>
 
 #[tactic(auto, unfolding(crate::specs::Canonical::rule_text))]
 fn push_rule(rule: &Rule, out: &mut String) -> Result<(), AllocError>
-    ensures ok { OnOk result (string_bytes out.new ≡ string_bytes out.old ++ spec.rule_text rule.now) }
+    ensures ok { OnOk result (string_bytes out.new
+        ≡ string_bytes out.old ++ spec.rule_text rule.now) }
     ensures err { OnErr result (Extends (string_bytes out.old) (string_bytes out.new)) }
 {
     push_subject_part(&rule.subject, out)?;
@@ -34,7 +36,8 @@ fn push_rule(rule: &Rule, out: &mut String) -> Result<(), AllocError>
 }
 
 fn push_subject_part(side: &Side, out: &mut String) -> Result<(), AllocError>
-    ensures ok { OnOk result (string_bytes out.new ≡ string_bytes out.old ++ (codes "subject" ++ spec.side_text side.now)) }
+    ensures ok { OnOk result (string_bytes out.new
+        ≡ string_bytes out.old ++ (codes "subject" ++ spec.side_text side.now)) }
     ensures err { OnErr result (Extends (string_bytes out.old) (string_bytes out.new)) }
 {
     out.push_str("subject")?;
@@ -42,7 +45,8 @@ fn push_subject_part(side: &Side, out: &mut String) -> Result<(), AllocError>
 }
 
 fn push_object_part(object: &ObjectSide, out: &mut String) -> Result<(), AllocError>
-    ensures ok { OnOk result (string_bytes out.new ≡ string_bytes out.old ++ (codes " object" ++ spec.object_text object.now)) }
+    ensures ok { OnOk result (string_bytes out.new
+        ≡ string_bytes out.old ++ (codes " object" ++ spec.object_text object.now)) }
     ensures err { OnErr result (Extends (string_bytes out.old) (string_bytes out.new)) }
 {
     out.push_str(" object")?;
@@ -50,7 +54,8 @@ fn push_object_part(object: &ObjectSide, out: &mut String) -> Result<(), AllocEr
 }
 
 fn push_mode_part(mode: u8, out: &mut String) -> Result<(), AllocError>
-    ensures ok { OnOk result (string_bytes out.new ≡ string_bytes out.old ++ (codes " mode " ++ spec.letters_text mode_letters mode)) }
+    ensures ok { OnOk result (string_bytes out.new
+        ≡ string_bytes out.old ++ (codes " mode " ++ spec.letters_text mode_letters mode)) }
     ensures err { OnErr result (Extends (string_bytes out.old) (string_bytes out.new)) }
 {
     out.push_str(" mode ")?;
@@ -58,7 +63,8 @@ fn push_mode_part(mode: u8, out: &mut String) -> Result<(), AllocError>
 }
 
 fn push_side(side: &Side, out: &mut String) -> Result<(), AllocError>
-    ensures ok { OnOk result (string_bytes out.new ≡ string_bytes out.old ++ spec.side_text side.now) }
+    ensures ok { OnOk result (string_bytes out.new
+        ≡ string_bytes out.old ++ spec.side_text side.now) }
     ensures err { OnErr result (Extends (string_bytes out.old) (string_bytes out.new)) }
 {
     push_not(side.not, out)?;
@@ -67,7 +73,8 @@ fn push_side(side: &Side, out: &mut String) -> Result<(), AllocError>
 }
 
 fn push_object(object: &ObjectSide, out: &mut String) -> Result<(), AllocError>
-    ensures ok { OnOk result (string_bytes out.new ≡ string_bytes out.old ++ spec.object_text object.now) }
+    ensures ok { OnOk result (string_bytes out.new
+        ≡ string_bytes out.old ++ spec.object_text object.now) }
     ensures err { OnErr result (Extends (string_bytes out.old) (string_bytes out.new)) }
 {
     push_side(&object.side, out)?;
@@ -76,7 +83,8 @@ fn push_object(object: &ObjectSide, out: &mut String) -> Result<(), AllocError>
 }
 
 fn push_flags(object: &ObjectSide, out: &mut String) -> Result<(), AllocError>
-    ensures ok { OnOk result (string_bytes out.new ≡ string_bytes out.old ++ spec.flags_text object.now) }
+    ensures ok { OnOk result (string_bytes out.new
+        ≡ string_bytes out.old ++ spec.flags_text object.now) }
     ensures err { OnErr result (Extends (string_bytes out.old) (string_bytes out.new)) }
 {
     push_flag(" suid", object.suid, out)?;
@@ -101,7 +109,8 @@ fn push_mark(not: bool, out: &mut String) -> Result<(), AllocError>
 
 /// A test of ids behind its name, which has a blank before and after it.
 fn push_id(name: &str, test: &Option<IdTest>, out: &mut String) -> Result<(), AllocError>
-    ensures ok { OnOk result (string_bytes out.new ≡ string_bytes out.old ++ spec.id_text name.now test.now) }
+    ensures ok { OnOk result (string_bytes out.new
+        ≡ string_bytes out.old ++ spec.id_text name.now test.now) }
     ensures err { OnErr result (Extends (string_bytes out.old) (string_bytes out.new)) }
 {
     let Some(test) = test else {
@@ -113,7 +122,8 @@ fn push_id(name: &str, test: &Option<IdTest>, out: &mut String) -> Result<(), Al
 }
 
 fn push_range(least: u32, greatest: u32, out: &mut String) -> Result<(), AllocError>
-    ensures ok { OnOk result (string_bytes out.new ≡ string_bytes out.old ++ spec.id_range_text least greatest) }
+    ensures ok { OnOk result (string_bytes out.new
+        ≡ string_bytes out.old ++ spec.id_range_text least greatest) }
     ensures err { OnErr result (Extends (string_bytes out.old) (string_bytes out.new)) }
 {
     if least == greatest {
@@ -126,7 +136,8 @@ fn push_range(least: u32, greatest: u32, out: &mut String) -> Result<(), AllocEr
 
 /// A test without a value: its name, with a blank before it.
 fn push_flag(name: &str, wanted: Option<bool>, out: &mut String) -> Result<(), AllocError>
-    ensures ok { OnOk result (string_bytes out.new ≡ string_bytes out.old ++ spec.flag_text name.now wanted) }
+    ensures ok { OnOk result (string_bytes out.new
+        ≡ string_bytes out.old ++ spec.flag_text name.now wanted) }
     ensures err { OnErr result (Extends (string_bytes out.old) (string_bytes out.new)) }
 {
     let Some(wanted) = wanted else {
@@ -137,7 +148,8 @@ fn push_flag(name: &str, wanted: Option<bool>, out: &mut String) -> Result<(), A
 }
 
 fn push_types(test: &Option<TypeTest>, out: &mut String) -> Result<(), AllocError>
-    ensures ok { OnOk result (string_bytes out.new ≡ string_bytes out.old ++ spec.types_text test.now) }
+    ensures ok { OnOk result (string_bytes out.new
+        ≡ string_bytes out.old ++ spec.types_text test.now) }
     ensures err { OnErr result (Extends (string_bytes out.old) (string_bytes out.new)) }
 {
     let Some(test) = test else {
@@ -151,7 +163,8 @@ fn push_types(test: &Option<TypeTest>, out: &mut String) -> Result<(), AllocErro
 /// The letters of a table that stand for the bits.
 fn push_letters(table: &[(u8, u8)], bits: u8, out: &mut String) -> Result<(), AllocError>
     requires { All IsAsciiLetter table.now }
-    ensures ok { OnOk result (string_bytes out.new ≡ string_bytes out.old ++ spec.letters_text table.now bits) }
+    ensures ok { OnOk result (string_bytes out.new
+        ≡ string_bytes out.old ++ spec.letters_text table.now bits) }
     ensures err { OnErr result (Extends (string_bytes out.old) (string_bytes out.new)) }
 {
     let Some((whole, others)) = table.split_first() else {
@@ -166,7 +179,8 @@ fn push_letters(table: &[(u8, u8)], bits: u8, out: &mut String) -> Result<(), Al
 /// The letters of which the bits are set.
 fn push_set_letters(table: &[(u8, u8)], bits: u8, out: &mut String) -> Result<(), AllocError>
     requires { All IsAsciiLetter table.now }
-    ensures ok { OnOk result (string_bytes out.new ≡ string_bytes out.old ++ flat_map (spec.letter_text bits) table.now) }
+    ensures ok { OnOk result (string_bytes out.new
+        ≡ string_bytes out.old ++ flat_map (spec.letter_text bits) table.now) }
     ensures err { OnErr result (Extends (string_bytes out.old) (string_bytes out.new)) }
 {
     for row in table {
@@ -177,7 +191,8 @@ fn push_set_letters(table: &[(u8, u8)], bits: u8, out: &mut String) -> Result<()
 
 fn push_letter(row: (u8, u8), bits: u8, out: &mut String) -> Result<(), AllocError>
     requires { IsAsciiLetter row }
-    ensures ok { OnOk result (string_bytes out.new ≡ string_bytes out.old ++ spec.letter_text bits row) }
+    ensures ok { OnOk result (string_bytes out.new
+        ≡ string_bytes out.old ++ spec.letter_text bits row) }
     ensures err { OnErr result (Extends (string_bytes out.old) (string_bytes out.new)) }
 {
     if bits & row.1 == 0 {

@@ -1,7 +1,7 @@
 //! Reading the words of a rule.
-ghost use Rattle.std.specs.Prelude.{◌≡◌, ◌↔◌, cond, Err, Ok, IfOk, ◌<◌, ◌^◌, ◌+◌, length, map};
+ghost use Rattle.std.specs.Prelude.{◌≡◌, ◌↔◌, if◌then◌else◌, Err, Ok, IfOk, ◌<◌, ◌^◌, ◌+◌, length, map};
 ghost use Rattle.mf_rule.specs.Reading as spec;
-ghost use Rattle.mf_rule.specs.RuleGrammar.{Spells, IsRule};
+ghost use Rattle.mf_rule.specs.RuleGrammar.{SpellsRule, IsRule};
 ghost use Rattle.mf_rule.specs.declared.rule.Rule.{Rule};
 ghost use Rattle.mf_rule.specs.declared.begun.Next.TheVariants as next;
 ghost use Rattle.mf_rule.specs.declared.fault.RuleFault.TheVariants.{UnknownWord};
@@ -20,7 +20,8 @@ fn reads_on(next: Next, rule: Rule) -> Result<Begun, RuleFault>
 /// The rule that these words of ugidfw(8) stand for, or their first fault.
 pub fn read_rule(words: &[&str]) -> Result<Rule, RuleFault>
     ensures value { result ≡ spec.rule_in (map (λ word. word.now) words.now) }
-    ensures spells { (rule : Rule) → (result ≡ Ok rule) ↔ Spells (map (λ word. word.now) words.now) rule }
+    ensures spells { (rule : Rule) → (result ≡ Ok rule)
+        ↔ SpellsRule (map (λ word. word.now) words.now) rule }
     ensures formed { IfOk result IsRule }
 {
     read_words(words)
@@ -58,7 +59,7 @@ fn with_word(place: usize, begun: &Begun, word: &str) -> Result<Begun, RuleFault
         Next::Start => start(place, begun.rule, word),
         Next::First(part) => first(place, part, begun.rule, word),
         Next::Test(part) => tested(place, part, begun.rule, word),
-        Next::Name(part) => named(place, part, true, begun.rule, word),
+        Next::Name(part) => test_named(place, part, true, begun.rule, word),
         Next::Uid(part, not) => with_uid(place, part, not, begun.rule, word),
         Next::Gid(part, not) => with_gid(place, part, not, begun.rule, word),
         Next::Types(not) => with_types(place, not, begun.rule, word),
@@ -119,13 +120,13 @@ fn tested(place: usize, part: Part, rule: Rule, word: &str) -> Result<Begun, Rul
     } else if word == closing_word(part) {
         reads_on(behind(part), rule)
     } else {
-        named(place, part, false, rule, word)
+        test_named(place, part, false, rule, word)
     }
 }
 
 /// What comes behind a test's name, unless that test was there before.
 fn once(place: usize, is_there: bool, next: Next, rule: Rule) -> Result<Begun, RuleFault>
-    ensures { result ≡ cond is_there (Err (UnknownWord place)) (spec.reads_on next rule) }
+    ensures { result ≡ (if is_there then Err (UnknownWord place) else spec.reads_on next rule) }
 {
     if is_there {
         return Err(RuleFault::UnknownWord(place));
@@ -133,9 +134,15 @@ fn once(place: usize, is_there: bool, next: Next, rule: Rule) -> Result<Begun, R
     reads_on(next, rule)
 }
 
-#[tactic(auto, unfolding(crate::specs::Reading::named))]
-fn named(place: usize, part: Part, not: bool, rule: Rule, word: &str) -> Result<Begun, RuleFault>
-    ensures { result ≡ spec.named place part not rule word.now }
+#[tactic(auto, unfolding(crate::specs::Reading::test_named))]
+fn test_named(
+    place: usize,
+    part: Part,
+    not: bool,
+    rule: Rule,
+    word: &str,
+) -> Result<Begun, RuleFault>
+    ensures { result ≡ spec.test_named place part not rule word.now }
 {
     let side = rule.side(part);
     if word == "uid" {

@@ -1,5 +1,6 @@
 //! Rules, and which subjects and files they match.
-ghost use Rattle.std.specs.Prelude.{◌≡◌, ◌↔◌, ◌≤◌, ℕ, IsTrue, Some, not};
+ghost use Rattle.std.specs.Prelude.{◌≡◌, ◌↔◌, ◌≤◌, ◌==◌, ℕ, IsTrue, Some, not};
+ghost use Rattle.std.specs.Int.RustNames.{bit_and};
 ghost use Rattle.std.specs.List.{list_any};
 ghost use Rattle.mf_rule.specs.Candidates.{subject_may, object_may, may_match};
 ghost use Rattle.mf_rule.specs.Match as spec;
@@ -108,7 +109,7 @@ impl IdTest {
     }
 
     fn has_group(&self, cred: &Cred) -> bool
-        ensures { result ≡ spec.has_group self.now cred.now }
+        ensures { result ≡ list_any (spec.has self.now) cred.now.groups }
     {
         has_any(self, cred.groups.as_slice())
     }
@@ -130,7 +131,8 @@ fn subject_uid(test: &Option<IdTest>, cred: &Cred) -> bool
 }
 
 fn subject_gid(test: &Option<IdTest>, cred: &Cred) -> bool
-    ensures { result ≡ spec.if_asked test.now (λ t. spec.turned t.not (spec.has_group t cred.now)) }
+    ensures { result ≡ spec.if_asked test.now
+        (λ t. spec.turned t.not (list_any (spec.has t) cred.now.groups)) }
 {
     match test {
         None => true,
@@ -172,17 +174,11 @@ fn has_type(types: u8, dir: bool) -> bool
     types & (if dir { DIRECTORY } else { REGULAR }) != 0
 }
 
-/// Whether the file is set to run with its owner's uid.
-fn is_suid(file: &FileView) -> bool
-    ensures { result ≡ spec.is_suid file.now }
+/// Whether the file's mode has the bit.
+fn has_mode_bit(bit: u16, file: &FileView) -> bool
+    ensures { result ≡ spec.has_mode_bit bit file.now }
 {
-    file.mode & 0o4000 != 0
-}
-
-fn is_sgid(file: &FileView) -> bool
-    ensures { result ≡ spec.is_sgid file.now }
-{
-    file.mode & 0o2000 != 0
+    file.mode & bit != 0
 }
 
 fn owns(cred: &Cred, file: &FileView) -> bool
@@ -210,7 +206,8 @@ impl Side {
 
     /// The uids of the subjects that the part may match, by its test of uids alone.
     fn reach(&self) -> IdTest
-        ensures { (uid : ℕ) → uid ≤ LAST_ID → subject_may self.now (lone uid) ≡ spec.has result uid }
+        ensures { (uid : ℕ) → uid ≤ LAST_ID
+            → subject_may self.now (lone uid) ≡ spec.has result uid }
     {
         match self.uid {
             Some(test) if !self.not && !test.not => test,
@@ -241,8 +238,8 @@ impl ObjectSide {
     {
         object_id(&self.side.uid, file.uid)
             && object_id(&self.side.gid, file.gid)
-            && flag(self.suid, is_suid(file))
-            && flag(self.sgid, is_sgid(file))
+            && flag(self.suid, has_mode_bit(0o4000, file))
+            && flag(self.sgid, has_mode_bit(0o2000, file))
             && flag(self.uid_of_subject, owns(cred, file))
             && flag(self.gid_of_subject, cred.in_group(file.gid))
             && object_type(&self.types, file.dir)
@@ -256,7 +253,8 @@ impl ObjectSide {
     }
 
     fn matches(&self, cred: &Cred, file: &FileView) -> bool
-        ensures { result ≡ spec.object_matches self.now cred.now file.now }
+        ensures { result
+            ≡ spec.turned self.now.side.not (spec.object_tests self.now cred.now file.now) }
     {
         turned(self.side.not, self.holds(cred, file))
     }
@@ -272,7 +270,8 @@ impl Rule {
 
     /// The uids of the subjects that the rule may match with a directory, or with another file, if any.
     pub(crate) fn reach(&self, dir: bool) -> Option<IdTest>
-        ensures { (uid : ℕ) → uid ≤ LAST_ID → may_match (lone uid) dir (Some self.now) ≡ is_within result uid }
+        ensures { (uid : ℕ) → uid ≤ LAST_ID
+            → may_match (lone uid) dir (Some self.now) ≡ is_within result uid }
     {
         if self.object.may_match(dir) {
             Some(self.subject.reach())
@@ -283,7 +282,7 @@ impl Rule {
 
     /// Whether the rule gives all of these letters.
     pub fn gives(&self, wanted: u8) -> bool
-        ensures { result ≡ spec.gives self.now wanted }
+        ensures { result ≡ (bit_and self.now.mode wanted == wanted) }
     {
         self.mode & wanted == wanted
     }

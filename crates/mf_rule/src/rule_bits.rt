@@ -1,5 +1,5 @@
 //! Sets of numbers of rules, as bits.
-ghost use Rattle.std.specs.Prelude.{◌≡◌, ◌<◌, ℕ, nat_eq, ◌||◌, true, false, MatchOption, ◌+◌};
+ghost use Rattle.std.specs.Prelude.{◌≡◌, ◌==◌, ◌<◌, ℕ, ◌||◌, true, false, MatchOption, ◌+◌};
 ghost use Rattle.std.specs.List.{list_any};
 ghost use Rattle.mf_rule.specs.RuleBits as spec;
 
@@ -35,7 +35,8 @@ impl Bits {
 
     /// The numbers that are in one of the two.
     pub fn or(&self, other: &Bits) -> Bits
-        ensures { (n : ℕ) → spec.has_bit n result ≡ (spec.has_bit n self.now || spec.has_bit n other.now) }
+        ensures { (n : ℕ) → spec.has_bit n result
+            ≡ (spec.has_bit n self.now || spec.has_bit n other.now) }
     {
         Bits {
             low: self.low | other.low,
@@ -57,7 +58,9 @@ impl Bits {
 
     /// Takes the least number out.
     pub fn take_least(&mut self) -> Option<u32>
-        ensures { MatchOption result (spec.IsEmpty self.old) (λ n. spec.IsLeast n self.old × (self.new ≡ spec.with_bit n false self.old) × (self.new.low + self.new.high < self.old.low + self.old.high)) }
+        ensures { MatchOption result (spec.IsEmpty self.old)
+            (λ n. spec.IsLeastBit n self.old × (self.new ≡ spec.with_bit n false self.old)
+            × (self.new.low + self.new.high < self.old.low + self.old.high)) }
     {
         let number = self.least()?;
         self.put(number, false);
@@ -65,7 +68,7 @@ impl Bits {
     }
 
     fn least(&self) -> Option<u32>
-        ensures { MatchOption result (spec.IsEmpty self.now) (λ n. spec.IsLeast n self.now) }
+        ensures { MatchOption result (spec.IsEmpty self.now) (λ n. spec.IsLeastBit n self.now) }
     {
         if self.low != 0 {
             Some(self.low.trailing_zeros())
@@ -112,7 +115,7 @@ impl RuleBits {
 
     /// Whether the number is among them.
     pub fn has(&self, number: u32) -> bool
-        ensures { result ≡ list_any (λ n. nat_eq n number) self.now }
+        ensures { result ≡ list_any (λ n. n == number) self.now }
     {
         number < MAX_RULES && self.bits.has(number)
     }

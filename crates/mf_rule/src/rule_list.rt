@@ -1,9 +1,9 @@
 //! Rule lists, and their verdict.
 ghost use Rattle.std.specs.Prelude.{◌≡◌, ◌↔◌, ◌<◌, ◌≤◌, ℕ, IsTrue, true, false, Some, None, length, not, ◌||◌, position, replicate, slice_index_or, slice_set, IfOk, OnOk, OnErr, MatchResult};
 ghost use Rattle.std.specs.Option.{is_none};
-ghost use Rattle.mf_rule.specs.Candidates.{may_match, candidates};
+ghost use Rattle.mf_rule.specs.Candidates.{may_match, candidates, decided};
 ghost use Rattle.mf_rule.specs.RuleList as spec;
-ghost use Rattle.mf_rule.specs.UidIndex.{AreCandidates, is_within, lone};
+ghost use Rattle.mf_rule.specs.UidIndex.{AreCandidates, IsCutAround, is_within, lone, rules_at};
 ghost use Rattle.mf_rule.specs.declared.rule.Rule.{Rule};
 
 use crate::Rule;
@@ -45,7 +45,10 @@ impl Model for RuleList {
 
     ghost view = { λ list. list.slots.items };
 
-    ghost invariant = { λ list. (length list.slots.items ≡ MAX_RULES) × (list.used ≤ MAX_RULES) × ((number : ℕ) → list.used ≤ number → slice_index_or list.slots.items number None ≡ None) × IsIndexOf list.slots.items false list.files × IsIndexOf list.slots.items true list.directories };
+    ghost invariant = { λ list. (length list.slots.items ≡ MAX_RULES) × (list.used ≤ MAX_RULES)
+        × ((number : ℕ) → list.used ≤ number → slice_index_or list.slots.items number None ≡ None)
+        × IsIndexOf list.slots.items false list.files
+        × IsIndexOf list.slots.items true list.directories };
 }
 
 impl RuleList {
@@ -65,7 +68,7 @@ impl RuleList {
     /// Adds a rule under the lowest number that is free, and answers with it; where none is free, nothing changes.
     pub fn add(&mut self, rule: Rule) -> Result<Option<u32>, AllocError>
         ensures number { IfOk result (λ number. number ≡ position is_none self.old) }
-        ensures ok { IfOk result (λ number. self.new ≡ spec.with_rule rule number self.old) }
+        ensures ok { IfOk result (λ number. self.new ≡ spec.slots_with rule number self.old) }
         ensures err { OnErr result (self.new ≡ self.old) }
     {
         let Some(number) = first_free(&self.slots) else {
@@ -91,8 +94,12 @@ impl RuleList {
         ensures err { OnErr result (self.new ≡ self.old) }
     {
         let (of_files, of_directories) = (rule.reach(false), rule.reach(true));
-        self.files.cut_around(&of_files)?;
-        self.directories.cut_around(&of_directories)?;
+        cut_both(
+            &mut self.files,
+            &mut self.directories,
+            &of_files,
+            &of_directories,
+        )?;
         let place = number as usize;
         let old = self.slots[place];
         self.files.replace(number, &reach(&old, false), &of_files);
@@ -105,7 +112,10 @@ impl RuleList {
 
     /// Takes the rule of a number away.
     pub fn remove(&mut self, number: u32) -> Result<(), NoRule>
-        ensures { MatchResult result (λ u. (is_none (slice_index_or self.old number None) ≡ false) × (self.new ≡ slice_set self.old number None)) (λ e. (is_none (slice_index_or self.old number None) ≡ true) × (self.new ≡ self.old)) }
+        ensures { MatchResult result
+            (λ u. (is_none (slice_index_or self.old number None) ≡ false)
+            × (self.new ≡ slice_set self.old number None))
+            (λ e. (is_none (slice_index_or self.old number None) ≡ true) × (self.new ≡ self.old)) }
     {
         let Some(rule) = self.get(number) else {
             return Err(NoRule);
@@ -195,12 +205,24 @@ impl RuleList {
         ensures { result ≡ spec.verdict first_match self.now cred.now file.now wanted }
     {
         let candidates = self.candidate_bits(cred, file.dir);
-        if first_match {
-            by_first(&self.slots, candidates, cred, file, wanted)
-        } else {
-            by_all(&self.slots, candidates, cred, file, wanted)
-        }
+        by_candidates(&self.slots, candidates, first_match, cred, file, wanted)
     }
+}
+
+/// Cuts both indexes around the uids of a rule, which changes nothing.
+fn cut_both(
+    files: &mut UidIndex,
+    directories: &mut UidIndex,
+    of_files: &Option<IdTest>,
+    of_directories: &Option<IdTest>,
+) -> Result<(), AllocError>
+    ensures files { (uid : ℕ) → rules_at files.new uid ≡ rules_at files.old uid }
+    ensures directories { (uid : ℕ) → rules_at directories.new uid ≡ rules_at directories.old uid }
+    ensures cuts { IfOk result (λ u. IsCutAround of_files.now files.new
+        × IsCutAround of_directories.now directories.new) }
+{
+    files.cut_around(of_files)?;
+    directories.cut_around(of_directories)
 }
 
 /// The uids of the subjects that the rule of a slot may match with a directory, or with another file, if any.
@@ -257,43 +279,44 @@ fn slot_gives(slot: &Option<Rule>, wanted: u8) -> bool
     }
 }
 
-/// The matching rule of the least number decides.
-fn by_first(
-    slots: &[Option<Rule>],
-    mut candidates: Bits,
+/// What the rule of a slot decides, if it matches: with first match whatever it gives, and without only that it doesn't give
+/// the letters.
+fn decision(
+    slot: &Option<Rule>,
+    first_match: bool,
     cred: &Cred,
     file: &FileView,
     wanted: u8,
-) -> bool
-    requires len { length slots.now ≡ MAX_RULES }
-    requires candidates { AreCandidates slots.now cred.now file.now.dir candidates }
-    ensures { result ≡ spec.verdict true slots.now cred.now file.now wanted }
+) -> Option<bool>
+    ensures { result ≡ decided first_match (spec.is_match cred.now file.now slot.now)
+        (spec.slot_gives wanted slot.now) }
 {
-    while let Some(number) = candidates.take_least() {
-        let slot = &slots[number as usize];
-        if is_match(slot, cred, file) {
-            return slot_gives(slot, wanted);
-        }
+    let is_match = is_match(slot, cred, file);
+    let gives = slot_gives(slot, wanted);
+    if is_match && (first_match || !gives) {
+        Some(gives)
+    } else {
+        None
     }
-    true
 }
 
-/// Every matching rule has to give the letters.
-fn by_all(
+/// The first rule that decides, by the numbers of those that may match.
+fn by_candidates(
     slots: &[Option<Rule>],
     mut candidates: Bits,
+    first_match: bool,
     cred: &Cred,
     file: &FileView,
     wanted: u8,
 ) -> bool
     requires len { length slots.now ≡ MAX_RULES }
     requires candidates { AreCandidates slots.now cred.now file.now.dir candidates }
-    ensures { result ≡ spec.verdict false slots.now cred.now file.now wanted }
+    ensures { result ≡ spec.verdict first_match slots.now cred.now file.now wanted }
 {
     while let Some(number) = candidates.take_least() {
         let slot = &slots[number as usize];
-        if is_match(slot, cred, file) && !slot_gives(slot, wanted) {
-            return false;
+        if let Some(gives) = decision(slot, first_match, cred, file, wanted) {
+            return gives;
         }
     }
     true

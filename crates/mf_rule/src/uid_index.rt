@@ -1,5 +1,5 @@
 //! Indexes of rules by uids of subjects.
-ghost use Rattle.std.specs.Prelude.{◌≡◌, ◌≤◌, ◌<◌, ◌||◌, ℕ, [], length, nat_eq, if◌then◌else◌, map, slice_index_or, true, IfOk};
+ghost use Rattle.std.specs.Prelude.{◌≡◌, ◌==◌, ◌≤◌, ◌<◌, ◌||◌, ℕ, [], length, if◌then◌else◌, map, slice_index_or, true, IfOk};
 ghost use Rattle.mf_rule.specs.RuleBits.{has_bit};
 ghost use Rattle.mf_rule.specs.UidIndex as spec;
 
@@ -25,13 +25,13 @@ pub struct UidIndex {
 
 impl Model for UidIndex {
     ghost use Rattle.std.specs.Prelude.{List};
-    ghost use Rattle.mf_rule.specs.UidIndex.{Stretches, IsRising};
+    ghost use Rattle.mf_rule.specs.UidIndex.{Stretches, AreByUid};
 
     ghost Value = { Stretches };
 
     ghost view = { λ index. index.stretches.items };
 
-    ghost invariant = { λ index. IsRising index.stretches.items };
+    ghost invariant = { λ index. AreByUid index.stretches.items };
 }
 
 impl UidIndex {
@@ -69,7 +69,9 @@ impl UidIndex {
 
     /// The rules that may match a subject who has these uids.
     pub fn at_any(&self, uid: u32, ruid: u32, svuid: u32) -> Bits
-        ensures { (n : ℕ) → has_bit n result ≡ (has_bit n (spec.rules_at self.now uid) || has_bit n (spec.rules_at self.now ruid) || has_bit n (spec.rules_at self.now svuid)) }
+        ensures { (n : ℕ) → has_bit n result
+            ≡ (has_bit n (spec.rules_at self.now uid) || has_bit n (spec.rules_at self.now ruid)
+            || has_bit n (spec.rules_at self.now svuid)) }
     {
         let rules = self.at(uid);
         if ruid == uid && svuid == uid {
@@ -117,7 +119,8 @@ impl UidIndex {
     fn cut(&mut self, uid: u32) -> Result<(), AllocError>
         ensures rules { (other : ℕ) → spec.rules_at self.new other ≡ spec.rules_at self.old other }
         ensures cut { IfOk result (λ u. spec.is_cut uid self.new ≡ true) }
-        ensures cuts { (other : ℕ) → spec.is_cut other self.old ≡ true → spec.is_cut other self.new ≡ true }
+        ensures cuts { (other : ℕ) → spec.is_cut other self.old ≡ true
+            → spec.is_cut other self.new ≡ true }
     {
         let end = self.end(uid);
         if end > 0 && self.stretches[end - 1].from == uid {
@@ -132,7 +135,10 @@ impl UidIndex {
     pub fn replace(&mut self, number: u32, old: &Option<IdTest>, range: &Option<IdTest>)
         requires number { number < 256 }
         requires cuts { spec.IsCutAround range.now self.old }
-        ensures { (uid n : ℕ) → uid ≤ LAST_ID → n < 256 → has_bit n (spec.rules_at self.new uid) ≡ (if nat_eq n number then spec.is_within range.now uid else has_bit n (spec.rules_at self.old uid)) }
+        ensures { (uid n : ℕ) → uid ≤ LAST_ID → n < 256
+            → has_bit n (spec.rules_at self.new uid)
+            ≡ (if n == number then spec.is_within range.now uid
+            else has_bit n (spec.rules_at self.old uid)) }
     {
         self.mark(number, range);
         self.join_around(old);
@@ -142,7 +148,10 @@ impl UidIndex {
     fn mark(&mut self, number: u32, range: &Option<IdTest>)
         requires number { number < 256 }
         requires cuts { spec.IsCutAround range.now self.old }
-        ensures { (uid n : ℕ) → uid ≤ LAST_ID → n < 256 → has_bit n (spec.rules_at self.new uid) ≡ (if nat_eq n number then spec.is_within range.now uid else has_bit n (spec.rules_at self.old uid)) }
+        ensures { (uid n : ℕ) → uid ≤ LAST_ID → n < 256
+            → has_bit n (spec.rules_at self.new uid)
+            ≡ (if n == number then spec.is_within range.now uid
+            else has_bit n (spec.rules_at self.old uid)) }
     {
         mark_all(&mut self.stretches, number, range);
     }
@@ -172,7 +181,7 @@ impl UidIndex {
 
 fn mark_all(stretches: &mut Vec<Stretch>, number: u32, range: &Option<IdTest>)
     requires { number < 256 }
-    ensures { stretches.new.items ≡ map (spec.marked number range.now) stretches.old.items }
+    ensures { stretches.new.items ≡ map (spec.stretch_with number range.now) stretches.old.items }
 {
     for stretch in stretches.iter_mut() {
         let is_in = is_within(range, stretch.from);

@@ -13,7 +13,8 @@ use mf_text::read_number;
 /// The text before the first separator, and the text after it.
 fn split_once(text: &str, separator: char) -> Option<(&str, &str)>
     requires { separator < 128 }
-    ensures { MatchOption result (cut separator text.now ≡ None) (λ halves. cut separator text.now ≡ Some (halves.0.now, halves.1.now)) }
+    ensures { MatchOption result (cut separator text.now ≡ None)
+        (λ halves. cut separator text.now ≡ Some (halves.0.now, halves.1.now)) }
 {
     text.split_once(separator)
 }

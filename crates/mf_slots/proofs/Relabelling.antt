@@ -5,7 +5,7 @@ use Rattle.std.proofs.lemmas.Bool.{cases_eq, cases_lt}
 use Rattle.slab.specs.Slab.{Slab, slab_len}
 use Rattle.mf_elem.specs.declared.label.LabelValue.{LabelValue}
 use Rattle.mf_elem.specs.declared.label.LabelValue.TheVariants.{Unset, Range, Number}
-use Rattle.mf_slots.specs.Zones.{Zone, Contents, Handles, handle, zone_of, under, at_handle, value_for, value_or_unset, held_in, value_at, value_of, given, given_to, label_values, IsIn, NoneUnset, NoneOverfull, Updates, Adds, Rewrites, Relabels, MakesLabel, HasRoomToWrite}
+use Rattle.mf_slots.specs.Zones.{Zone, Contents, Handles, handle, zone_of, under, at_handle, value_for, value_or_unset, held_in, value_under, slot_value, given, given_to, label_values, IsIn, NoneUnset, NoneOverfull, Updates, Adds, Rewrites, Relabels, MakesLabel, HasRoomToWrite}
 use Rattle.mf_slots.proofs.Places.{seen, seen_at, seen_set, seen_kept}
 use Rattle.mf_slots.proofs.Counted.{few_changed}
 use Rattle.mf_slots.specs.declared.zones.TheConstants.{MOST_HELD}
@@ -75,7 +75,7 @@ moves_at zones zones' label label' values relabels slot =
     moves (zone_of zones slot) (zone_of zones' slot) (handle label slot) (handle label' slot) (value_for values slot) (relabels.each slot)
 
 value_there : (zones : Contents) (slot : ℕ) (key : Option ℕ) (v : LabelValue) → (v ≢ Unset → IsSome key) → ((h : ℕ) → key ≡ Some h → under zones slot h ≡ Some v)
-    → value_at zones slot key ≡ v
+    → value_under zones slot key ≡ v
 value_there zones slot None Unset some holds = refl
 value_there zones slot None (Range r) some holds = cc (some (λ e. cc))
 value_there zones slot None (Number n) some holds = cc (some (λ e. cc))
@@ -83,7 +83,7 @@ value_there zones slot (Some h) v some holds = ap value_or_unset (holds h refl)
 
 -- the value of the slot is the one that it got
 pub has_value : (zones zones' : Contents) (label label' : Handles) (values : List LabelValue) → Relabels zones zones' label label' values
-    → (slot : ℕ) → value_of zones' label' slot ≡ value_for values slot
+    → (slot : ℕ) → slot_value zones' label' slot ≡ value_for values slot
 has_value zones zones' label label' values relabels slot =
     let m : Moves (zone_of zones slot) (zone_of zones' slot) (handle label slot) (handle label' slot) (value_for values slot) =
     moves_at zones zones' label label' values relabels slot in
@@ -150,7 +150,7 @@ made_is_set zones slot (Some h) set held is = absurd (by_value (under zones slot
 
 -- the value of a slot that is given one
 given_value : (zones : Contents) (label : Handles) (values : List LabelValue) (slot : ℕ) → slot < 4
-    → value_for (given_to values (label_values zones label)) slot ≡ given (value_for values slot) (value_of zones label slot)
+    → value_for (given_to values (label_values zones label)) slot ≡ given (value_for values slot) (slot_value zones label slot)
 unfolding given_to label_values
 given_value zones label values zero four = refl
 given_value zones label values (suc zero) four = refl
@@ -181,15 +181,15 @@ given_to_new zones label (a ∷ b ∷ c ∷ []) four new = absurd (omega arith)
 given_to_new zones label (a ∷ b ∷ c ∷ d ∷ x ∷ xs) four new = absurd (omega arith)
 given_to_new zones label (a ∷ b ∷ c ∷ d ∷ []) four new = rw (given_here a 0, given_here b 1, given_here c 2, given_here d 3) refl
   where
-    unset : (slot : ℕ) → value_of zones label slot ≡ Unset
-    unset slot = ap (value_at zones slot) (new slot)
+    unset : (slot : ℕ) → slot_value zones label slot ≡ Unset
+    unset slot = ap (value_under zones slot) (new slot)
 
     given_unset : (v : LabelValue) → given v Unset ≡ v
     given_unset Unset = refl
     given_unset (Range r) = refl
     given_unset (Number n) = refl
 
-    given_here : (v : LabelValue) (slot : ℕ) → given v (value_of zones label slot) ≡ v
+    given_here : (v : LabelValue) (slot : ℕ) → given v (slot_value zones label slot) ≡ v
     given_here v slot = ap (given v) (unset slot) ∙ given_unset v
 
 pub none_made : (slot : ℕ) → handle (replicate 4 None) slot ≡ None
@@ -229,7 +229,7 @@ pub record RewritesBelow (n : ℕ) (zones : Contents) (slabs : List (Slab LabelV
   pub long : length slabs ≡ 4
   pub wide : length keys ≡ 4
   pub written : (slot : ℕ) → slot < n
-      → Rewrites (zone_of zones slot) (zone_of (seen slabs) slot) (handle label slot) (handle keys slot) (given (value_for values slot) (value_of zones label slot))
+      → Rewrites (zone_of zones slot) (zone_of (seen slabs) slot) (handle label slot) (handle keys slot) (given (value_for values slot) (slot_value zones label slot))
   pub zone : (slot : ℕ) → n ≤ slot → zone_of (seen slabs) slot ≡ zone_of zones slot
   pub key : (slot : ℕ) → n ≤ slot → handle keys slot ≡ handle label slot
   pub few : NoneOverfull (seen slabs)
@@ -248,14 +248,14 @@ rewrites_more n zones slabs old new label keys key values within is rewrites mos
     let other_zone : (slot : ℕ) → slot ≢ n → zone_of (seen (set slabs n new)) slot ≡ zone_of (seen slabs) slot =
     λ slot differ. ap (λ (z : Contents). zone_of z slot) (seen_set slabs n new) ∙ get_or-set_other (seen slabs) n slot new.slots [] differ in
     let other_key : (slot : ℕ) → slot ≢ n → handle (set keys n key) slot ≡ handle keys slot = λ slot differ. get_or-set_other keys n slot key None differ in
-    let here : Rewrites (zone_of zones n) (zone_of (seen (set slabs n new)) n) (handle label n) (handle (set keys n key) n) (given (value_for values n) (value_of zones label n)) =
+    let here : Rewrites (zone_of zones n) (zone_of (seen (set slabs n new)) n) (handle label n) (handle (set keys n key) n) (given (value_for values n) (slot_value zones label n)) =
     rw (sym was, now, key_now, sym (below.key n (omega arith))) rewrites in
     record {
       long = length-set slabs n new ∙ below.long;
       wide = length-set keys n key ∙ below.wide;
       written = λ slot l. elim (cases_eq slot n) [
         | inl same ↦
-            subst (λ (k : ℕ). Rewrites (zone_of zones k) (zone_of (seen (set slabs n new)) k) (handle label k) (handle (set keys n key) k) (given (value_for values k) (value_of zones label k)))
+            subst (λ (k : ℕ). Rewrites (zone_of zones k) (zone_of (seen (set slabs n new)) k) (handle label k) (handle (set keys n key) k) (given (value_for values k) (slot_value zones label k)))
             (sym same) here
         | inr differ ↦
             let before = below.written slot (omega (arith, differ)) in

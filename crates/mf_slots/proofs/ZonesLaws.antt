@@ -3,17 +3,17 @@ use Rattle.std.proofs.Common.{◌≡◌, ◌≢◌, ℕ, ◌↔◌, List, [], Op
 use Rattle.std.proofs.lemmas.Bool.{cases_eq, cases_lt}
 use Rattle.mf_elem.specs.declared.label.LabelValue.{LabelValue}
 use Rattle.mf_elem.specs.declared.label.LabelValue.TheVariants.{Unset}
-use Rattle.mf_slots.specs.Zones.{Contents, Handles, handle, under, value_at, value_of, value_or_unset, IsHeldAt, NoneUnset, Writes, MakesLabel, Frees, GivesUp}
+use Rattle.mf_slots.specs.Zones.{Contents, Handles, handle, under, value_under, slot_value, value_or_unset, IsHeldAt, NoneUnset, Writes, MakesLabel, Frees, GivesUp}
 
-value_at-same : (zones zones' : Contents) (slot : ℕ) (key : Option ℕ)
-    → ((h : ℕ) → key ≡ Some h → under zones' slot h ≡ under zones slot h) → value_at zones' slot key ≡ value_at zones slot key
-value_at-same zones zones' slot None same = refl
-value_at-same zones zones' slot (Some h) same = ap value_or_unset (same h refl)
+value_under-same : (zones zones' : Contents) (slot : ℕ) (key : Option ℕ)
+    → ((h : ℕ) → key ≡ Some h → under zones' slot h ≡ under zones slot h) → value_under zones' slot key ≡ value_under zones slot key
+value_under-same zones zones' slot None same = refl
+value_under-same zones zones' slot (Some h) same = ap value_or_unset (same h refl)
 
 -- a slot keeps its value where its handle keeps what it has
-pub value_of-same : (zones zones' : Contents) (label : Handles) (slot : ℕ)
-    → ((h : ℕ) → handle label slot ≡ Some h → under zones' slot h ≡ under zones slot h) → value_of zones' label slot ≡ value_of zones label slot
-value_of-same zones zones' label slot same = value_at-same zones zones' slot (handle label slot) same
+pub slot_value-same : (zones zones' : Contents) (label : Handles) (slot : ℕ)
+    → ((h : ℕ) → handle label slot ≡ Some h → under zones' slot h ≡ under zones slot h) → slot_value zones' label slot ≡ slot_value zones label slot
+slot_value-same zones zones' label slot same = value_under-same zones zones' slot (handle label slot) same
 
 -- a slot of a label has this handle, or hasn't
 pub has_handle : (key : Option ℕ) (h : ℕ) → (key ≡ Some h) ⊎ (key ≡ Some h → ⊥)
@@ -53,7 +53,7 @@ set_makes zones zones' label values set makes =
     record {
       each = λ slot h e. elim (has_handle (handle label slot) h) [
         | inl own ↦
-            let unset : value_of zones' label slot ≡ Unset = ap (value_at zones' slot) own ∙ ap value_or_unset e in
+            let unset : slot_value zones' label slot ≡ Unset = ap (value_under zones' slot) own ∙ ap value_or_unset e in
             apart h (handle label slot) (makes.unset slot (sym (makes.made slot) ∙ unset)) own
         | inr other ↦ set.each slot h (sym (makes.others slot h other) ∙ e)
       ];
@@ -95,7 +95,7 @@ set_gives_up zones zones' label set gives =
     gone o none some = cc
 
 -- what lies under a handle isn't Unset
-pub held_set : (zones : Contents) (slot h : ℕ) → NoneUnset zones → IsHeldAt zones slot (Some h) → value_at zones slot (Some h) ≢ Unset
+pub held_set : (zones : Contents) (slot h : ℕ) → NoneUnset zones → IsHeldAt zones slot (Some h) → value_under zones slot (Some h) ≢ Unset
 held_set zones slot h set held e = set.each slot h (lies (under zones slot h) held e)
   where
     lies : (o : Option LabelValue) → IsSome o → value_or_unset o ≡ Unset → o ≡ Some Unset
@@ -104,9 +104,9 @@ held_set zones slot h set held e = set.each slot h (lies (under zones slot h) he
 
 -- a slot is Unset exactly where it isn't made
 pub unset_exactly : (zones : Contents) (label : Handles) (slot : ℕ) → NoneUnset zones → IsHeldAt zones slot (handle label slot)
-    → (value_of zones label slot ≡ Unset) ↔ (handle label slot ≡ None)
-unset_exactly zones label slot set held = (made (handle label slot) held, ap (value_at zones slot))
+    → (slot_value zones label slot ≡ Unset) ↔ (handle label slot ≡ None)
+unset_exactly zones label slot set held = (made (handle label slot) held, ap (value_under zones slot))
   where
-    made : (key : Option ℕ) → IsHeldAt zones slot key → value_at zones slot key ≡ Unset → key ≡ None
+    made : (key : Option ℕ) → IsHeldAt zones slot key → value_under zones slot key ≡ Unset → key ≡ None
     made None held e = refl
     made (Some h) held e = absurd (held_set zones slot h set held e)

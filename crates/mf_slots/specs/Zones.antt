@@ -78,16 +78,16 @@ abbrev pub held_in : Zone → Option ℕ → LabelValue
 held_in zone None = Unset
 held_in zone (Some h) = value_or_unset (at_handle zone h)
 
-abbrev pub value_at : Contents → ℕ → Option ℕ → LabelValue
-value_at zones slot key = held_in (zone_of zones slot) key
+abbrev pub value_under : Contents → ℕ → Option ℕ → LabelValue
+value_under zones slot key = held_in (zone_of zones slot) key
 
 -- the value of a label's slot, Unset where the slot isn't made
-abbrev pub value_of : Contents → Handles → ℕ → LabelValue
-value_of zones label slot = value_at zones slot (handle label slot)
+abbrev pub slot_value : Contents → Handles → ℕ → LabelValue
+slot_value zones label slot = value_under zones slot (handle label slot)
 
 -- the values of the four slots of a label
 unfoldable pub label_values : Contents → Handles → List LabelValue
-label_values zones label = value_of zones label 0 ∷ value_of zones label 1 ∷ value_of zones label 2 ∷ value_of zones label 3 ∷ []
+label_values zones label = slot_value zones label 0 ∷ slot_value zones label 1 ∷ slot_value zones label 2 ∷ slot_value zones label 3 ∷ []
 
 -- one of the values of a label
 abbrev pub value_for : List LabelValue → ℕ → LabelValue
@@ -158,7 +158,7 @@ pub record Relabels (zones zones' : Contents) (label label' : Handles) (values :
 
 -- a label with these values is made: each slot under a handle that was free, and none where the value is Unset
 pub record MakesLabel (zones zones' : Contents) (label : Handles) (values : List LabelValue) : Type 0 where
-  pub made : (slot : ℕ) → value_of zones' label slot ≡ value_for values slot
+  pub made : (slot : ℕ) → slot_value zones' label slot ≡ value_for values slot
   pub unset : (slot : ℕ) → value_for values slot ≡ Unset → handle label slot ≡ None
   pub held : (slot h : ℕ) → handle label slot ≡ Some h → IsSome (under zones' slot h)
   pub was_free : (slot h : ℕ) → handle label slot ≡ Some h → under zones slot h ≡ None
@@ -174,11 +174,11 @@ abbrev pub AreMade : Handles → List LabelValue → Type 0
 AreMade label values = (slot : ℕ) → slot < SLOTS → IsMadeFor (handle label slot) (value_for values slot)
 
 -- one value more can be written without an allocation
-abbrev pub HasRoom : Slab LabelValue → Type 0
-HasRoom zone = HasRoomFor zone 1 × (slab_len zone < MOST_HELD)
+abbrev pub HasRoomForOne : Slab LabelValue → Type 0
+HasRoomForOne zone = HasRoomFor zone 1 × (slab_len zone < MOST_HELD)
 
 -- the value can be written without an allocation
 abbrev pub HasRoomToWrite : Slab LabelValue → Option ℕ → LabelValue → Type 0
 HasRoomToWrite zone (Some h) v = Unit {0}
 HasRoomToWrite zone None Unset = Unit {0}
-HasRoomToWrite zone None v = HasRoom zone
+HasRoomToWrite zone None v = HasRoomForOne zone

@@ -2,7 +2,7 @@
 ghost use Rattle.std.specs.Prelude.{◌≡◌, ◌≢◌, ◌<◌, ◌≤◌, ◌↔◌, [], ◌∷◌, Some, None, OnOk, OnErr, IfOk, IsOk, IsTrue, IsSome, replicate, ℕ};
 ghost use Rattle.mf_elem.specs.declared.label.TheConstants.{SLOTS};
 ghost use Rattle.slab.specs.Slab.{slab_len};
-ghost use Rattle.mf_slots.specs.Zones.{IsHeld, IsIn, IsMadeAt, IsHeldAt, Makes, MakesLabel, SetsAt, Frees, GivesUp, handle, held_in, value_at, value_of, value_for, label_values, given, given_to, Adds, Updates, Relabels, Rewrites, AreMade, IsMadeFor, HasRoom, HasRoomToWrite, value_count};
+ghost use Rattle.mf_slots.specs.Zones.{IsHeld, IsIn, IsMadeAt, IsHeldAt, Makes, MakesLabel, SetsAt, Frees, GivesUp, handle, held_in, value_under, slot_value, value_for, label_values, given, given_to, Adds, Updates, Relabels, Rewrites, AreMade, IsMadeFor, HasRoomForOne, HasRoomToWrite, value_count};
 ghost use Rattle.mf_slots.specs.declared.zones.TheConstants.{MOST_HELD};
 ghost use Rattle.mf_elem.specs.declared.label.LabelValue.TheVariants.{Unset};
 
@@ -29,7 +29,8 @@ impl Model for Zones {
 
     ghost view = { λ a. map (λ zone. zone.slots) a.zones.items };
 
-    ghost invariant = { λ a. let zones = map (λ zone. zone.slots) a.zones.items in (length a.zones.items ≡ SLOTS) × NoneUnset zones × NoneOverfull zones };
+    ghost invariant = { λ a. let zones = map (λ zone. zone.slots) a.zones.items in
+        (length a.zones.items ≡ SLOTS) × NoneUnset zones × NoneOverfull zones };
 }
 
 /// The label of an entity: for each slot that is made, the handle of its value in the zones.
@@ -115,7 +116,8 @@ impl Zones {
         values: &[LabelValue; SLOTS],
     ) -> Result<(), AllocError>
         requires { IsHeld self.old label.old }
-        ensures ok { OnOk result (Relabels self.old self.new label.old label.new (given_to values.now (label_values self.old label.old))) }
+        ensures ok { OnOk result (Relabels self.old self.new label.old label.new
+            (given_to values.now (label_values self.old label.old))) }
         ensures made { AreMade label.old values.now → IsOk result }
         ensures err { OnErr result ((self.new ≡ self.old) × (label.new ≡ label.old)) }
     {
@@ -154,7 +156,7 @@ impl Zones {
     pub fn value(&self, label: &Label, slot: u8) -> LabelValue
         requires slot { slot < SLOTS }
         requires held { IsHeldAt self.now slot (handle label.now slot) }
-        ensures value { result ≡ value_of self.now label.now slot }
+        ensures value { result ≡ slot_value self.now label.now slot }
         ensures unset { (result ≡ Unset) ↔ (handle label.now slot ≡ None) }
     {
         match label.handles[slot as usize] {
@@ -165,7 +167,9 @@ impl Zones {
 
     /// Whether these are the values of the label's slots, of which none is copied.
     pub fn holds(&self, label: &Label, values: &[LabelValue; SLOTS]) -> bool
-        ensures { IsTrue result ↔ ((slot : ℕ) → slot < SLOTS → value_of self.now label.now slot ≡ value_for values.now slot) }
+        ensures { IsTrue result
+            ↔ ((slot : ℕ) → slot < SLOTS
+            → slot_value self.now label.now slot ≡ value_for values.now slot) }
     {
         for slot in 0..SLOTS {
             if !self.has_under(slot, label.handles[slot], &values[slot]) {
@@ -178,7 +182,7 @@ impl Zones {
     /// Whether the zone of a slot has this value under the key. Without a key the value is Unset.
     fn has_under(&self, slot: usize, key: Option<usize>, value: &LabelValue) -> bool
         requires { slot < SLOTS }
-        ensures { IsTrue result ↔ (value_at self.now slot key ≡ value.now) }
+        ensures { IsTrue result ↔ (value_under self.now slot key ≡ value.now) }
     {
         match key {
             Some(key) => match self.zones[slot].get(key) {
@@ -191,7 +195,7 @@ impl Zones {
 
     fn under(&self, slot: u8, key: usize) -> LabelValue
         requires { slot < SLOTS }
-        ensures value { result ≡ value_at self.now slot (Some key) }
+        ensures value { result ≡ value_under self.now slot (Some key) }
         ensures set { IsHeldAt self.now slot (Some key) → result ≢ Unset }
     {
         if let Some(found) = self.zones[slot as usize].get(key) {
@@ -244,7 +248,8 @@ fn rewrite(zone: &mut Slab<LabelValue>, key: Option<usize>, value: &LabelValue) 
     requires room { HasRoomToWrite zone.old key value.now }
     requires held { IsIn zone.old.slots key }
     requires set { held_in zone.old.slots key ≡ Unset → key ≡ None }
-    ensures rewrites { Rewrites zone.old.slots zone.new.slots key result (given value.now (held_in zone.old.slots key)) }
+    ensures rewrites { Rewrites zone.old.slots zone.new.slots key result
+        (given value.now (held_in zone.old.slots key)) }
     ensures most { slab_len zone.old ≤ MOST_HELD → slab_len zone.new ≤ MOST_HELD }
 {
     match (key, value) {
@@ -280,7 +285,7 @@ fn keep(zone: &mut Slab<LabelValue>, value: LabelValue) -> Result<usize, AllocEr
 
 /// Makes room for one value more, which a full zone has not.
 fn reserve(zone: &mut Slab<LabelValue>) -> Result<(), AllocError>
-    ensures room { OnOk result (HasRoom zone.new) }
+    ensures room { OnOk result (HasRoomForOne zone.new) }
     ensures same { zone.new.slots ≡ zone.old.slots }
 {
     if zone.len() >= MOST_HELD as usize {
@@ -291,7 +296,7 @@ fn reserve(zone: &mut Slab<LabelValue>) -> Result<(), AllocError>
 
 /// Puts the value under a free key, for which there is room.
 fn add(zone: &mut Slab<LabelValue>, value: LabelValue) -> usize
-    requires { HasRoom zone.old }
+    requires { HasRoomForOne zone.old }
     ensures adds { Adds zone.old.slots zone.new.slots (Some result) value }
     ensures most { slab_len zone.new ≤ MOST_HELD }
 {

@@ -8,7 +8,7 @@ use Rattle.mf_rule.specs.declared.rule.Rule.{Rule}
 use Rattle.mf_rule.specs.Canonical.{rule_text}
 use Rattle.mf_rule.specs.RuleGrammar as rule
 use Rattle.mf_rule.proofs.ReadAsSpelled.{read_is_spelled}
-use Rattle.mf_rule.proofs.RoundTrips.{canonical_text_reads}
+use Rattle.mf_rule.proofs.Formed.{canonical_text_reads}
 use Rattle.mf_words.specs.Words.{Words}
 use Rattle.mf_calls.specs.WellFormed.{IsPrintable}
 use Rattle.mf_calls.specs.declared.limits.TheConstants.{UID_MAX, MODE_LIMIT}
@@ -80,7 +80,7 @@ one_before piece pieces so rest = record {
 no_words : (subject more : Words) → [] ≡ codes "subject" ∷ subject ++ more → ⊥
 no_words subject more e = cc
 
-rule_spelled : (r : Rule) (ws : Words) → rule.Spells ws r → SpellLine ws (Rules r ∷ [])
+rule_spelled : (r : Rule) (ws : Words) → rule.SpellsRule ws r → SpellLine ws (Rules r ∷ [])
 rule_spelled r [] spells = absurd (no_words spells.subject (codes "object" ∷ spells.object ++ (codes "mode" ∷ spells.letters ∷ [])) spells.parted)
 rule_spelled r (w ∷ ws) spells = spells
 

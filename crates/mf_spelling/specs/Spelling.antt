@@ -67,7 +67,7 @@ Spells w (Rules r) = ⊥
 
 abbrev pub SpellLine : Words → Pieces → Type 0
 SpellLine [] [] = Unit {0}
-SpellLine (w ∷ ws) (Rules r ∷ []) = rule.Spells (w ∷ ws) r
+SpellLine (w ∷ ws) (Rules r ∷ []) = rule.SpellsRule (w ∷ ws) r
 SpellLine (w ∷ ws) (piece ∷ pieces) = Spells w piece × SpellLine ws pieces
 SpellLine ws pieces = ⊥
 

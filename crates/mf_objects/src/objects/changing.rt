@@ -22,7 +22,8 @@ impl Objects {
     /// Appends to a regular file or a pipe in which the text fits.
     pub fn append(&mut self, id: Id, text: &[u8]) -> Result<(), AllocError>
         requires { IsLiveWhere (FitsBytes (length text.now)) (live.live_at self.old id) }
-        ensures ok { OnOk result (self.new ≡ change.with_change (change.with_what (change.appended text.now)) self.old id) }
+        ensures ok { OnOk result (self.new
+            ≡ change.with_change (change.with_what (change.appended text.now)) self.old id) }
         ensures err { OnErr result (self.new ≡ self.old) }
     {
         let place = self.place(id);
@@ -45,7 +46,8 @@ impl Objects {
         requires room { IsLiveWhere FitsMessage (live.live_at self.old id) }
         requires fits { length text.now ≤ SCRIPT_LIMIT }
         ensures ok { OnOk result (self.new
-            ≡ change.with_change (change.with_what (change.with_messages (change.with_message text.now))) self.old id) }
+            ≡ change.with_change
+            (change.with_what (change.with_messages (change.with_message text.now))) self.old id) }
         ensures err { OnErr result (self.new ≡ self.old) }
     {
         let message = Bytes::copy_of(alloc, text)?;
@@ -57,7 +59,8 @@ impl Objects {
     /// Removes the oldest message of a socket and returns its head.
     pub fn pop_message(&mut self, id: Id) -> Head
         requires { IsLiveWhere HasMessage (live.live_at self.old id) }
-        ensures rest { self.new ≡ change.with_change (change.with_what (change.with_messages (drop 1))) self.old id }
+        ensures rest { self.new
+            ≡ change.with_change (change.with_what (change.with_messages (drop 1))) self.old id }
         ensures oldest { result ≡ head_of (slice_index_or (live.messages_at self.old id) 0 []) }
     {
         let place = self.place(id);
@@ -69,7 +72,8 @@ impl Objects {
     /// Gives a file or a directory these mode bits, as chmod(2) has them.
     pub fn set_mode(&mut self, id: Id, mode: u16)
         requires { IsLive is_vnode self.old id }
-        ensures { self.new ≡ change.with_change (change.with_what (change.with_mode mode)) self.old id }
+        ensures { self.new
+            ≡ change.with_change (change.with_what (change.with_mode mode)) self.old id }
     {
         let place = self.place(id);
         let entity = &mut self.entities[place];
@@ -81,7 +85,8 @@ impl Objects {
         requires live { IsSome (live.live_at self.old id) }
         requires slot { slot < SLOTS }
         requires value { value ≢ Unset }
-        ensures ok { OnOk result (self.new ≡ change.with_change (with_value slot value) self.old id) }
+        ensures ok { OnOk result (self.new
+            ≡ change.with_change (with_value slot value) self.old id) }
         ensures made { value_at self.old id slot ≢ Unset → IsOk result }
         ensures err { OnErr result (self.new ≡ self.old) }
     {
@@ -97,7 +102,9 @@ impl Objects {
     /// memory.
     pub fn relabel(&mut self, id: Id, values: &[LabelValue; SLOTS]) -> Result<(), AllocError>
         requires { IsSome (live.live_at self.old id) }
-        ensures ok { OnOk result (self.new ≡ change.with_change (with_label (given_to values.now (live.label_at self.old id))) self.old id) }
+        ensures ok { OnOk result (self.new
+            ≡ change.with_change
+            (with_label (given_to values.now (live.label_at self.old id))) self.old id) }
         ensures made { HasSlotsFor (live.label_at self.old id) values.now → IsOk result }
         ensures err { OnErr result (self.new ≡ self.old) }
     {

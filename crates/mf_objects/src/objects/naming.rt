@@ -18,7 +18,8 @@ impl Objects {
     pub fn names(&self, alloc: Global, dir: Id) -> Result<NameList, AllocError>
         requires { IsLive is_directory self.now dir }
         ensures value { IfOk result (λ names. names ≡ title.names_at self.now dir) }
-        ensures first { IfOk result (λ names. IsFirstNames names (title.entry_names dir self.now.live)) }
+        ensures first { IfOk result
+            (λ names. IsFirstNames names (title.entry_names dir self.now.live)) }
     {
         let mut names = entry_names(alloc, &self.entities, dir)?;
         names.sort_unstable();
@@ -30,7 +31,8 @@ impl Objects {
     /// unchanged.
     pub fn title(&self, id: Id, out: &mut String) -> Result<(), AllocError>
         requires { IsSome (live.live_at self.now id) }
-        ensures ok { OnOk result (string_bytes out.new ≡ string_bytes out.old ++ title.title_at self.now id) }
+        ensures ok { OnOk result (string_bytes out.new
+            ≡ string_bytes out.old ++ title.title_at self.now id) }
         ensures err { OnErr result (string_bytes out.new ≡ string_bytes out.old) }
     {
         let entity = self.entity(id);
@@ -52,7 +54,9 @@ fn entry_names<'a>(
     entities: &'a [Entity],
     dir: Id,
 ) -> Result<Vec<&'a str>, AllocError>
-    ensures { IfOk result (λ names. map (λ name. name.now) names.items ≡ map (λ e. e.name) (filter (λ e. live.is_entry dir e.what) entities.now)) }
+    ensures { IfOk result
+        (λ names. map (λ name. name.now) names.items
+        ≡ map (λ e. e.name) (filter (λ e. live.is_entry dir e.what) entities.now)) }
 {
     let mut names = Vec::new(alloc);
     for entity in entities {
@@ -94,7 +98,9 @@ fn push_own_name(
     out: &mut String,
 ) -> Result<(), AllocError>
     ensures ok { OnOk result (string_bytes out.new
-        ≡ string_bytes out.old ++ own_name (title.path_in (reverse (map unlabelled entities.now)) id) entity.now.name entity.now.what) }
+        ≡ string_bytes out.old
+        ++ own_name (title.path_in (reverse (map unlabelled entities.now)) id)
+        entity.now.name entity.now.what) }
     ensures err { OnErr result (IsAppended (string_bytes out.old) (string_bytes out.new)) }
 {
     match entity.what {
@@ -107,7 +113,9 @@ fn push_own_name(
 
 /// Appends the path of an id, a slash for the root.
 fn push_rooted_path(entities: &[Entity], id: Id, out: &mut String) -> Result<(), AllocError>
-    ensures ok { OnOk result (string_bytes out.new ≡ string_bytes out.old ++ title.rooted_path (title.path_in (reverse (map unlabelled entities.now)) id)) }
+    ensures ok { OnOk result (string_bytes out.new
+        ≡ string_bytes out.old
+        ++ title.rooted_path (title.path_in (reverse (map unlabelled entities.now)) id)) }
     ensures err { OnErr result (IsAppended (string_bytes out.old) (string_bytes out.new)) }
 {
     let start = out.len();
@@ -120,7 +128,8 @@ fn push_rooted_path(entities: &[Entity], id: Id, out: &mut String) -> Result<(),
 
 /// Appends the path of an id, walking from the newest entity to its directory.
 fn push_path(entities: &[Entity], id: Id, out: &mut String) -> Result<(), AllocError>
-    ensures ok { OnOk result (string_bytes out.new ≡ string_bytes out.old ++ title.path_in (reverse (map unlabelled entities.now)) id) }
+    ensures ok { OnOk result (string_bytes out.new
+        ≡ string_bytes out.old ++ title.path_in (reverse (map unlabelled entities.now)) id) }
     ensures err { OnErr result (IsAppended (string_bytes out.old) (string_bytes out.new)) }
 {
     match entities.split_last() {
@@ -138,7 +147,8 @@ fn push_path(entities: &[Entity], id: Id, out: &mut String) -> Result<(), AllocE
 
 /// Appends a slash and the name.
 fn push_component(name: &str, out: &mut String) -> Result<(), AllocError>
-    ensures ok { OnOk result (string_bytes out.new ≡ string_bytes out.old ++ codes "/" ++ name.now) }
+    ensures ok { OnOk result (string_bytes out.new
+        ≡ string_bytes out.old ++ codes "/" ++ name.now) }
     ensures err { OnErr result (IsAppended (string_bytes out.old) (string_bytes out.new)) }
 {
     out.push_str("/")?;

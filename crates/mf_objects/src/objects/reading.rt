@@ -6,10 +6,10 @@ ghost use Rattle.mf_objects.specs.declared.limits.TheConstants.{MOST_ENTITIES};
 ghost use Rattle.mf_elem.specs.declared.label.TheConstants.{SLOTS};
 ghost use Rattle.mf_objects.specs.Head.{head_of};
 ghost use Rattle.mf_objects.specs.Live as live;
-ghost use Rattle.mf_objects.specs.Lives.{is_vnode, is_directory, IsLive, is_from, IsLeast, IsFound, value_at, made_count};
+ghost use Rattle.mf_objects.specs.Lives.{is_vnode, is_directory, IsLive, is_from, IsLeast, IsFirstLive, value_at, made_count};
 ghost use Rattle.mf_objects.specs.Population.{IsPopulation};
 ghost use Rattle.mf_objects.specs.Index as index;
-ghost use Rattle.mf_objects.specs.Sound.{shown, IsById};
+ghost use Rattle.mf_objects.specs.Sound.{with_values, IsById};
 
 use super::{Objects, place_of};
 use crate::entity::{Entity, EntityData};
@@ -49,7 +49,7 @@ impl Objects {
 
     /// The least live id of at least `n`.
     pub fn least_from(&self, n: u32) -> Option<Id>
-        ensures found { IsFound (is_from n) self.now result }
+        ensures found { IsFirstLive (is_from n) self.now result }
         ensures live { IfSome result (λ id. IsSome (live.live_at self.now id)) }
         ensures least { IfSome result (λ id. IsLeast n self.now.live id) }
         ensures none { IfNone result (All (λ e. e.id.0 < n) self.now.live) }
@@ -59,7 +59,7 @@ impl Objects {
 
     /// The live process of this name.
     pub fn process(&self, name: &str) -> Option<Id>
-        ensures found { IsFound (live.is_named live.is_process name.now) self.now result }
+        ensures found { IsFirstLive (live.is_one_named live.is_process name.now) self.now result }
         ensures process { IfSome result (λ id. IsLive live.is_process self.now id) }
     {
         self.named(Group::Processes, name)
@@ -67,7 +67,7 @@ impl Objects {
 
     /// The live pipe of this name.
     pub fn pipe(&self, name: &str) -> Option<Id>
-        ensures found { IsFound (live.is_named live.is_pipe name.now) self.now result }
+        ensures found { IsFirstLive (live.is_one_named live.is_pipe name.now) self.now result }
         ensures pipe { IfSome result (λ id. IsLive live.is_pipe self.now id) }
     {
         self.named(Group::Pipes, name)
@@ -75,7 +75,7 @@ impl Objects {
 
     /// The live socket of this name.
     pub fn socket(&self, name: &str) -> Option<Id>
-        ensures found { IsFound (live.is_named live.is_socket name.now) self.now result }
+        ensures found { IsFirstLive (live.is_one_named live.is_socket name.now) self.now result }
         ensures socket { IfSome result (λ id. IsLive live.is_socket self.now id) }
     {
         self.named(Group::Sockets, name)
@@ -83,7 +83,8 @@ impl Objects {
 
     /// The entry of this name in a directory.
     pub fn child(&self, dir: Id, name: &str) -> Option<Id>
-        ensures found { IsFound (live.is_child dir name.now) self.now result }
+        ensures found { IsFirstLive
+            (live.is_one_named (live.is_entry dir) name.now) self.now result }
         ensures vnode { IfSome result (λ id. IsLive is_vnode self.now id) }
         ensures not_root { IfSome result (λ id. id.0 ≢ 0) }
     {
@@ -207,7 +208,7 @@ impl Objects {
 
     /// The live entity of this name in a group.
     fn named(&self, group: Group, name: &str) -> Option<Id>
-        ensures found { IsFound (index.is_member group name.now) self.now result }
+        ensures found { IsFirstLive (index.is_member group name.now) self.now result }
         ensures population { IsPopulation self.now }
     {
         named_among(
@@ -220,7 +221,8 @@ impl Objects {
 
     pub(super) fn entity(&self, id: Id) -> &Entity
         requires { IsSome (live.live_at self.now id) }
-        ensures shown { live.live_at self.now id ≡ Some (shown (live.label_at self.now id) result.now) }
+        ensures shown { live.live_at self.now id
+            ≡ Some (with_values (live.label_at self.now id) result.now) }
         ensures population { IsPopulation self.now }
     {
         let place = self.place(id);

@@ -59,7 +59,8 @@ impl Objects {
 
     fn made_at(&self, place: usize, maker: Id) -> bool
         requires { place < length self.now.live }
-        ensures { (d : live.LiveEntity) → result ≡ live.is_made_by maker (slice_index_or self.now.live place d).what }
+        ensures { (d : live.LiveEntity)
+            → result ≡ live.is_made_by maker (slice_index_or self.now.live place d).what }
     {
         self.entities[place].what.is_made_by(maker)
     }
@@ -68,9 +69,11 @@ impl Objects {
     fn remove_at(&mut self, place: usize)
         requires within { place < length self.old.live }
         requires later { 0 < place }
-        requires bare { (d : live.LiveEntity) → let e = slice_index_or self.old.live place d in IsBare self.old.live e.id e.what }
+        requires bare { (d : live.LiveEntity)
+            → let e = slice_index_or self.old.live place d in IsBare self.old.live e.id e.what }
         ensures removed { self.new ≡ record self.old { live = remove self.old.live place } }
-        ensures by_id { (id : Id) → ((d : live.LiveEntity) → live.has_id id (slice_index_or self.old.live place d) ≡ true)
+        ensures by_id { (id : Id)
+            → ((d : live.LiveEntity) → live.has_id id (slice_index_or self.old.live place d) ≡ true)
             → self.new ≡ change.without (live.has_id id) self.old }
     {
         let Entity {

@@ -4,4 +4,4 @@ use Rattle.mf_rule.proofs.uid_index.mark_all.Given as goal
 
 abbrev pub invariant-loop-stretch : goal.invariant-loop-stretch
 invariant-loop-stretch l =
-    l.stretch-items ≡ map (spec.marked l.number l.range) (take l.stretch-index l.initial.stretch-items) ++ drop l.stretch-index l.initial.stretch-items
+    l.stretch-items ≡ map (spec.stretch_with l.number l.range) (take l.stretch-index l.initial.stretch-items) ++ drop l.stretch-index l.initial.stretch-items

@@ -7,7 +7,7 @@ use Rattle.mf_objects.specs.Live.{LiveEntity, Entities, live_at}
 use Rattle.mf_objects.specs.Changes.{with_entity, made}
 use Rattle.mf_objects.specs.Fits.{MayJoin}
 use Rattle.mf_objects.specs.Population.{IsRising, Belongs, is_namesake}
-use Rattle.mf_objects.specs.Sound.{live_of, seen}
+use Rattle.mf_objects.specs.Sound.{live_of, live_entity}
 use Rattle.mf_objects.proofs.Rising.{find_new}
 use Rattle.mf_objects.proofs.Belonging.{joins, joins_bare}
 use Rattle.mf_objects.proofs.Kept.{view, Becomes, added}
@@ -19,7 +19,7 @@ invariant_of-self-2 c =
     let zones = c.self.inside.zones in
     let es = c.self.inside.entities.items in
     let e : Entity = record { id = record { 0 = c.self.inside.next }; name = c.in_ok-name.name; label = c.in_ok-label.label; what = c.args.what } in
-    let room : length es < 1024 = omega (arith, c.requires.few, length-map es (seen zones), ap (λ (o : Entities). length o.live) c.self.view_is) in
+    let room : length es < 1024 = omega (arith, c.requires.few, length-map es (live_entity zones), ap (λ (o : Entities). length o.live) c.self.view_is) in
     let four : length c.args.values.now ≡ 4 = omega arith in
     let belongs : Belongs (live_of zones es) c.self.inside.next c.args.what =
     joins (view c.self.inside.next zones es) c.args.what c.self.invariant.0.population.rising (subst (λ (o : Entities). MayJoin o c.args.what) (sym c.self.view_is) c.requires.joins) in
@@ -42,7 +42,7 @@ returns-clause-ok c =
     let zones = c.self.inside.zones in
     let es = c.self.inside.entities.items in
     let e : Entity = record { id = record { 0 = c.self.inside.next }; name = c.in_ok-name.name; label = c.in_ok-label.label; what = c.args.what } in
-    let room : length es < 1024 = omega (arith, c.requires.few, length-map es (seen zones), ap (λ (o : Entities). length o.live) c.self.view_is) in
+    let room : length es < 1024 = omega (arith, c.requires.few, length-map es (live_entity zones), ap (λ (o : Entities). length o.live) c.self.view_is) in
     let four : length c.args.values.now ≡ 4 = omega arith in
     let belongs : Belongs (live_of zones es) c.self.inside.next c.args.what =
     joins (view c.self.inside.next zones es) c.args.what c.self.invariant.0.population.rising (subst (λ (o : Entities). MayJoin o c.args.what) (sym c.self.view_is) c.requires.joins) in
@@ -65,7 +65,7 @@ returns-clause-found c =
     let zones = c.self.inside.zones in
     let es = c.self.inside.entities.items in
     let e : Entity = record { id = record { 0 = c.self.inside.next }; name = c.in_ok-name.name; label = c.in_ok-label.label; what = c.args.what } in
-    let room : length es < 1024 = omega (arith, c.requires.few, length-map es (seen zones), ap (λ (o : Entities). length o.live) c.self.view_is) in
+    let room : length es < 1024 = omega (arith, c.requires.few, length-map es (live_entity zones), ap (λ (o : Entities). length o.live) c.self.view_is) in
     let four : length c.args.values.now ≡ 4 = omega arith in
     let belongs : Belongs (live_of zones es) c.self.inside.next c.args.what =
     joins (view c.self.inside.next zones es) c.args.what c.self.invariant.0.population.rising (subst (λ (o : Entities). MayJoin o c.args.what) (sym c.self.view_is) c.requires.joins) in

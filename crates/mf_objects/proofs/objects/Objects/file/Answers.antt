@@ -1,6 +1,7 @@
 use Rattle.std.proofs.Common.{◌≡◌, ap, sym, ◌∙◌}
 use Rattle.mf_cred.specs.declared.cred.FileView.{FileView}
-use Rattle.mf_objects.specs.Live.{file_at, file_of, no_file, reading}
+use Rattle.mf_objects.specs.Live.{file_at, file_of, no_file}
+use Rattle.mf_objects.proofs.Shorthands.{reading}
 use Rattle.mf_objects.proofs.Laws.{regular_empty}
 use Rattle.mf_objects.proofs.objects.Objects.file.Goals as goal
 

@@ -4,7 +4,7 @@ use Rattle.std.specs.Str.{bytes_eq}
 use Rattle.mf_objects.specs.declared.id.Id.{Id}
 use Rattle.mf_objects.specs.declared.entity.Entity.{Entity}
 use Rattle.mf_objects.specs.Live.{Entities}
-use Rattle.mf_objects.specs.Lives.{IsFound}
+use Rattle.mf_objects.specs.Lives.{IsFirstLive}
 use Rattle.mf_objects.specs.Sound.{IsById}
 use Rattle.mf_objects.specs.Index.{is_in, is_member, is_named_at, bucket, bucket_of}
 use Rattle.mf_objects.proofs.ById.{stand_by_id}
@@ -34,5 +34,5 @@ returns-clause-found c =
     ∙ ap (λ (xs : List Entity). find (is_named_at xs group name) c.candidates.result.now) c.deref.ensures.value
     ∙ ap (λ (ids : List Id). find (is_named_at es group name) ids) candidates
     ∙ member_found es group name by_id in
-    subst (λ (o : Entities). IsFound (is_member group name) o c.named_among.result) c.self.view_is
+    subst (λ (o : Entities). IsFirstLive (is_member group name) o c.named_among.result) c.self.view_is
     (found_id (is_member group name) next zones es c.named_among.result c.self.invariant.0 found)

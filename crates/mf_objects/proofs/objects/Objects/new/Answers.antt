@@ -5,7 +5,7 @@ use Rattle.mf_objects.specs.declared.entity.Entity.{Entity}
 use Rattle.mf_objects.specs.declared.entity.EntityData.TheVariants.{Vnode}
 use Rattle.mf_objects.specs.declared.id.Id.{Id}
 use Rattle.mf_objects.specs.Index.{IsIndex}
-use Rattle.mf_objects.specs.Changes.{opening}
+use Rattle.mf_objects.specs.Changes.{with_root}
 use Rattle.mf_objects.proofs.Kept.{view, opened}
 use Rattle.mf_objects.proofs.Indexed.{index_none, index_added}
 use Rattle.mf_objects.proofs.objects.Objects.new.Goals as goal
@@ -19,7 +19,7 @@ is_opening : (name content : List ℕ) (values : List LabelValue) → name ≡ [
         label = values;
         what = Vnode (record { parent = None; file = record { uid = 0; gid = 0; mode = 493; dir = true }; content = content });
       } ∷ [];
-    } ≡ opening values
+    } ≡ with_root values
 is_opening name content values none empty = rw (none, empty) refl
 
 pub invariant_of-result : goal.invariant_of-result

@@ -3,7 +3,7 @@ use Rattle.std.proofs.lemmas.List.{length-map}
 use Rattle.mf_objects.specs.declared.entity.Entity.{Entity}
 use Rattle.mf_objects.specs.Live.{LiveEntity, Entities}
 use Rattle.mf_objects.specs.Population.{IsRising}
-use Rattle.mf_objects.specs.Sound.{live_of, seen}
+use Rattle.mf_objects.specs.Sound.{live_of, live_entity}
 use Rattle.mf_objects.proofs.Rising.{remove_filter}
 use Rattle.mf_objects.proofs.Kept.{view, held_place, bare_place, dropped}
 use Rattle.mf_objects.proofs.ById.{stand_by_id}
@@ -18,7 +18,7 @@ give_up-requires c =
     let zones = c.self.inside.zones in
     let es = c.self.inside.entities.items in
     held_place c.self.inside.next zones es c.args.place c.remove-name.result
-    (within c.self.inside.next c.args.self.now es (live_of zones es) c.args.place (ap (λ (o : Entities). o.live) c.self.view_is) (length-map es (seen zones)) c.requires.within)
+    (within c.self.inside.next c.args.self.now es (live_of zones es) c.args.place (ap (λ (o : Entities). o.live) c.self.view_is) (length-map es (live_entity zones)) c.requires.within)
     c.remove-name.ensures.value c.self.invariant.0
 
 pub invariant_of-self : goal.invariant_of-self
@@ -27,16 +27,16 @@ invariant_of-self c =
     let es = c.self.inside.entities.items in
     let b =
     dropped c.self.inside.next zones c.give_up.new.self es c.args.place c.remove-name.result
-    (within c.self.inside.next c.args.self.now es (live_of zones es) c.args.place (ap (λ (o : Entities). o.live) c.self.view_is) (length-map es (seen zones)) c.requires.within)
+    (within c.self.inside.next c.args.self.now es (live_of zones es) c.args.place (ap (λ (o : Entities). o.live) c.self.view_is) (length-map es (live_entity zones)) c.requires.within)
     c.requires.later c.remove-name.ensures.value c.self.invariant.0
     (bare_place c.self.inside.next zones es c.args.self.now c.args.place c.remove-name.result c.self.view_is
-    (within c.self.inside.next c.args.self.now es (live_of zones es) c.args.place (ap (λ (o : Entities). o.live) c.self.view_is) (length-map es (seen zones)) c.requires.within)
+    (within c.self.inside.next c.args.self.now es (live_of zones es) c.args.place (ap (λ (o : Entities). o.live) c.self.view_is) (length-map es (live_entity zones)) c.requires.within)
     c.remove-name.ensures.value c.requires.bare)
     c.give_up.ensures in (
       rw c.remove-name.ensures.items b.sound,
       index_removed c.self.inside.index c.remove.new.self es c.remove-name.new.self.items c.args.place c.remove-name.result c.group.result c.as_str.result.now c.group.ensures c.as_str.ensures
           c.remove.ensures c.remove-name.ensures.items
-          (within c.self.inside.next c.args.self.now es (live_of zones es) c.args.place (ap (λ (o : Entities). o.live) c.self.view_is) (length-map es (seen zones)) c.requires.within)
+          (within c.self.inside.next c.args.self.now es (live_of zones es) c.args.place (ap (λ (o : Entities). o.live) c.self.view_is) (length-map es (live_entity zones)) c.requires.within)
           c.remove-name.ensures.value (stand_by_id zones 0 c.self.inside.next es c.self.invariant.0.population.rising) c.self.invariant.1,
     )
 
@@ -46,10 +46,10 @@ returns-clause-removed c =
     let es = c.self.inside.entities.items in
     let b =
     dropped c.self.inside.next zones c.give_up.new.self es c.args.place c.remove-name.result
-    (within c.self.inside.next c.args.self.now es (live_of zones es) c.args.place (ap (λ (o : Entities). o.live) c.self.view_is) (length-map es (seen zones)) c.requires.within)
+    (within c.self.inside.next c.args.self.now es (live_of zones es) c.args.place (ap (λ (o : Entities). o.live) c.self.view_is) (length-map es (live_entity zones)) c.requires.within)
     c.requires.later c.remove-name.ensures.value c.self.invariant.0
     (bare_place c.self.inside.next zones es c.args.self.now c.args.place c.remove-name.result c.self.view_is
-    (within c.self.inside.next c.args.self.now es (live_of zones es) c.args.place (ap (λ (o : Entities). o.live) c.self.view_is) (length-map es (seen zones)) c.requires.within)
+    (within c.self.inside.next c.args.self.now es (live_of zones es) c.args.place (ap (λ (o : Entities). o.live) c.self.view_is) (length-map es (live_entity zones)) c.requires.within)
     c.remove-name.ensures.value c.requires.bare)
     c.give_up.ensures in
     ap (λ (xs : List Entity). view c.self.inside.next c.give_up.new.self xs) c.remove-name.ensures.items
@@ -62,10 +62,10 @@ returns-clause-by_id c id has =
     let es = c.self.inside.entities.items in
     let b =
     dropped c.self.inside.next zones c.give_up.new.self es c.args.place c.remove-name.result
-    (within c.self.inside.next c.args.self.now es (live_of zones es) c.args.place (ap (λ (o : Entities). o.live) c.self.view_is) (length-map es (seen zones)) c.requires.within)
+    (within c.self.inside.next c.args.self.now es (live_of zones es) c.args.place (ap (λ (o : Entities). o.live) c.self.view_is) (length-map es (live_entity zones)) c.requires.within)
     c.requires.later c.remove-name.ensures.value c.self.invariant.0
     (bare_place c.self.inside.next zones es c.args.self.now c.args.place c.remove-name.result c.self.view_is
-    (within c.self.inside.next c.args.self.now es (live_of zones es) c.args.place (ap (λ (o : Entities). o.live) c.self.view_is) (length-map es (seen zones)) c.requires.within)
+    (within c.self.inside.next c.args.self.now es (live_of zones es) c.args.place (ap (λ (o : Entities). o.live) c.self.view_is) (length-map es (live_entity zones)) c.requires.within)
     c.remove-name.ensures.value c.requires.bare)
     c.give_up.ensures in
     let removed : view c.self.inside.next c.give_up.new.self c.remove-name.new.self.items ≡ (let p : Entities = record { next = c.args.self.now.next; live = remove c.args.self.now.live c.args.place } in p) =
@@ -74,7 +74,7 @@ returns-clause-by_id c id has =
     ∙ ap (λ (o : Entities). let p : Entities = record { next = o.next; live = remove o.live c.args.place } in p) c.self.view_is in
     let lives = live_of zones es in
     let same : lives ≡ c.args.self.now.live = ap (λ (o : Entities). o.live) c.self.view_is in
-    let first : LiveEntity = seen zones c.remove-name.result in
+    let first : LiveEntity = live_entity zones c.remove-name.result in
     let all : IsRising 0 c.self.inside.next c.args.self.now.live = subst (λ (ls : List LiveEntity). IsRising 0 c.self.inside.next ls) same c.self.invariant.0.population.rising in
     removed
     ∙ ap (λ (ls : List LiveEntity). let p : Entities = record { next = c.args.self.now.next; live = ls } in p)

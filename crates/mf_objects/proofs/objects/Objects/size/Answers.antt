@@ -1,5 +1,6 @@
 use Rattle.std.proofs.Common.{ℕ, List, [], length, ap, sym, ◌∙◌}
-use Rattle.mf_objects.specs.Live.{content_of, reading}
+use Rattle.mf_objects.specs.Live.{content_of}
+use Rattle.mf_objects.proofs.Shorthands.{reading}
 use Rattle.mf_objects.proofs.Laws.{directory_empty}
 use Rattle.mf_objects.proofs.objects.Objects.size.Goals as goal
 

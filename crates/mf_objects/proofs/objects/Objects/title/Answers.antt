@@ -2,7 +2,8 @@ use Rattle.std.proofs.Common.{◌≡◌, ◌++◌, ℕ, List, ap, sym, ◌∙◌
 use Rattle.mf_objects.specs.declared.entity.Entity.{Entity}
 use Rattle.mf_objects.specs.Live.{LiveEntity, Entities}
 use Rattle.mf_objects.specs.Names.{prefix_of, own_name}
-use Rattle.mf_objects.specs.Titles.{path_in, path_at}
+use Rattle.mf_objects.specs.Titles.{path_in}
+use Rattle.mf_objects.proofs.Shorthands.{path_at}
 use Rattle.mf_objects.specs.Sound.{unlabelled}
 use Rattle.mf_objects.proofs.Naming.{path_live, title_in, title_parts}
 use Rattle.mf_objects.proofs.objects.Objects.title.Goals as goal
