@@ -9,7 +9,7 @@ use Rattle.std.proofs.lemmas.List.Quantifiers.{position-Some, all_pairs_remove}
 use Rattle.std.proofs.lemmas.Bool.{lt-ltb, false≢true}
 use Rattle.mf_elem.specs.declared.label.LabelValue.{LabelValue}
 use Rattle.mf_elem.specs.declared.label.LabelValue.TheVariants.{Unset, Range, Number}
-use Rattle.mf_slots.specs.Zones.{Contents, Handles, handle, label_values, MakesLabel, GivesUp, Relabels, IsMadeFor, AreMade, value_for, SetsAt, IsMadeAt, Makes, IsHeld, IsHeldAt, NoneUnset, slot_value, value_at as value_under}
+use Rattle.mf_slots.specs.Zones.{Contents, Handles, handle, label_values, MakesLabel, GivesUp, Relabels, IsMadeFor, AreMade, value_for, SetsAt, IsMadeAt, Makes, IsHeld, IsHeldAt, NoneUnset, slot_value, value_under}
 use Rattle.mf_slots.proofs.ZonesLaws.{set_none, set_writes, set_makes, set_gives_up, unset_exactly}
 use Rattle.mf_slots.proofs.Relabelling.{set_relabels}
 use Rattle.mf_objects.proofs.Entities.{label_of, changed_at}

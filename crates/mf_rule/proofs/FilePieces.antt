@@ -12,7 +12,8 @@ use Rattle.mf_rule.specs.Words.{type_letters}
 use Rattle.mf_rule.specs.Canonical.{mark_text, not_text, flag_text, types_text, letters_text}
 use Rattle.mf_text.specs.Results.{and_then}
 use Rattle.mf_rule.specs.Reading.{reads_on, once, by_value, side_of, with_side, fitted, tested, test_named, file_test, flagged, read_from}
-use Rattle.mf_rule.proofs.Pieces.{free_by, tail, Led, word_then, begun, open_at, On, on_trans, on_words, on_same, mark_step}
+use Rattle.mf_labeltext.proofs.Cutting.{IsFree}
+use Rattle.mf_rule.proofs.Pieces.{free_by, tail, Led, word_then, begun, open_at, On, on_trans, on_words, on_same, mark_step, value_piece}
 use Rattle.mf_rule.proofs.Letters.{types_back}
 
 -- the part goes on, its first word or a later one next
@@ -70,6 +71,28 @@ unfolding read_from fitted
 letters_step rule w mode ws is = λ place.
     (place + 1, ap (λ v. and_then (by_value (BadMode place) v (λ mode. reads_on next.End (record rule { mode = mode }))) (λ more. read_from (place + 1) more ws)) is)
 
+-- ---- a test without a value
+-- from its text, by how its name is read, and how behind a mark
+flag_piece : (w : List ℕ) → IsFree 32 w → (put : Rule → Option Bool → Rule) (b : Bool) (rule : Rule) (wanted : Option Bool) (x : List ℕ) → Led x → rule ≡ put rule None
+    → ((ws : List (List ℕ)) → On (begun (open_at Object b) rule) (w ∷ ws) (begun (next.Test Object) (put rule (Some true))) ws)
+    → ((ws : List (List ℕ)) → On (begun (next.Name Object) rule) (w ∷ ws) (begun (next.Test Object) (put rule (Some false))) ws)
+    → Ends (begun (open_at Object b) rule) (tail (flag_text (32 ∷ w) wanted ++ x)) Object (put rule wanted) (tail x)
+flag_piece w free put b rule None x led same name mark =
+    (b, on_same (begun (open_at Object b) rule) (begun (open_at Object b) (put rule None)) (tail x) (ap (λ r. begun (open_at Object b) r) same))
+flag_piece w free put b rule (Some true) x led same name mark = (
+  false,
+  on_words (begun (open_at Object b) rule) (begun (next.Test Object) (put rule (Some true))) (tail ((32 ∷ w) ++ x)) (w ∷ tail x) (tail x) (word_then w x free led) (name (tail x)),
+)
+flag_piece w free put b rule (Some false) x led same name mark =
+    let start = begun (open_at Object b) rule in
+    let after = begun (next.Test Object) (put rule (Some false)) in
+    let ws = w ∷ tail x in (
+      false,
+      on_words start after (tail ((codes " !" ++ (32 ∷ w)) ++ x)) (codes "!" ∷ ws) (tail x)
+          (word_then (codes "!") ((32 ∷ w) ++ x) (free_by (codes "!") refl) refl ∙ ap (λ ws. codes "!" ∷ ws) (word_then w x free led))
+          (on_trans start (begun (next.Name Object) rule) after (codes "!" ∷ ws) ws (tail x) (mark_step Object b rule ws) (mark (tail x))),
+    )
+
 -- ---- suid
 abbrev pub put_suid : Rule → Option Bool → Rule
 put_suid rule wanted = record rule { object = record rule.object { suid = wanted } }
@@ -85,21 +108,8 @@ suid_marked rule ws none = λ place. (place + 1, ap (λ t. and_then (once place 
 
 pub suid_piece : (b : Bool) (rule : Rule) (wanted : Option Bool) (x : List ℕ) → Led x → rule.object.suid ≡ None
     → Ends (begun (open_at Object b) rule) (tail (flag_text (codes " suid") wanted ++ x)) Object (put_suid rule wanted) (tail x)
-suid_piece b rule None x led none = (b, on_same (begun (open_at Object b) rule) (begun (open_at Object b) (put_suid rule None)) (tail x) (ap (λ t. begun (open_at Object b) (put_suid rule t)) none))
-suid_piece b rule (Some true) x led none = (
-  false,
-  on_words (begun (open_at Object b) rule) (begun (next.Test Object) (put_suid rule (Some true))) (tail (codes " suid" ++ x)) (codes "suid" ∷ tail x) (tail x)
-      (word_then (codes "suid") x (free_by (codes "suid") refl) led) (suid_name b rule (tail x) none),
-)
-suid_piece b rule (Some false) x led none =
-    let start = begun (open_at Object b) rule in
-    let after = begun (next.Test Object) (put_suid rule (Some false)) in
-    let ws = codes "suid" ∷ tail x in (
-      false,
-      on_words start after (tail ((codes " !" ++ codes " suid") ++ x)) (codes "!" ∷ ws) (tail x)
-          (word_then (codes "!") (codes " suid" ++ x) (free_by (codes "!") refl) refl ∙ ap (λ ws. codes "!" ∷ ws) (word_then (codes "suid") x (free_by (codes "suid") refl) led))
-          (on_trans start (begun (next.Name Object) rule) after (codes "!" ∷ ws) ws (tail x) (mark_step Object b rule ws) (suid_marked rule (tail x) none)),
-    )
+suid_piece b rule wanted x led none =
+    flag_piece (codes "suid") (free_by (codes "suid") refl) put_suid b rule wanted x led (ap (put_suid rule) none) (λ ws. suid_name b rule ws none) (λ ws. suid_marked rule ws none)
 
 -- ---- sgid
 abbrev pub put_sgid : Rule → Option Bool → Rule
@@ -116,21 +126,8 @@ sgid_marked rule ws none = λ place. (place + 1, ap (λ t. and_then (once place 
 
 pub sgid_piece : (b : Bool) (rule : Rule) (wanted : Option Bool) (x : List ℕ) → Led x → rule.object.sgid ≡ None
     → Ends (begun (open_at Object b) rule) (tail (flag_text (codes " sgid") wanted ++ x)) Object (put_sgid rule wanted) (tail x)
-sgid_piece b rule None x led none = (b, on_same (begun (open_at Object b) rule) (begun (open_at Object b) (put_sgid rule None)) (tail x) (ap (λ t. begun (open_at Object b) (put_sgid rule t)) none))
-sgid_piece b rule (Some true) x led none = (
-  false,
-  on_words (begun (open_at Object b) rule) (begun (next.Test Object) (put_sgid rule (Some true))) (tail (codes " sgid" ++ x)) (codes "sgid" ∷ tail x) (tail x)
-      (word_then (codes "sgid") x (free_by (codes "sgid") refl) led) (sgid_name b rule (tail x) none),
-)
-sgid_piece b rule (Some false) x led none =
-    let start = begun (open_at Object b) rule in
-    let after = begun (next.Test Object) (put_sgid rule (Some false)) in
-    let ws = codes "sgid" ∷ tail x in (
-      false,
-      on_words start after (tail ((codes " !" ++ codes " sgid") ++ x)) (codes "!" ∷ ws) (tail x)
-          (word_then (codes "!") (codes " sgid" ++ x) (free_by (codes "!") refl) refl ∙ ap (λ ws. codes "!" ∷ ws) (word_then (codes "sgid") x (free_by (codes "sgid") refl) led))
-          (on_trans start (begun (next.Name Object) rule) after (codes "!" ∷ ws) ws (tail x) (mark_step Object b rule ws) (sgid_marked rule (tail x) none)),
-    )
+sgid_piece b rule wanted x led none =
+    flag_piece (codes "sgid") (free_by (codes "sgid") refl) put_sgid b rule wanted x led (ap (put_sgid rule) none) (λ ws. sgid_name b rule ws none) (λ ws. sgid_marked rule ws none)
 
 -- ---- uid_of_subject
 abbrev pub put_uid_of_subject : Rule → Option Bool → Rule
@@ -147,21 +144,8 @@ uid_of_subject_marked rule ws none = λ place. (place + 1, ap (λ t. and_then (o
 
 pub uid_of_subject_piece : (b : Bool) (rule : Rule) (wanted : Option Bool) (x : List ℕ) → Led x → rule.object.uid_of_subject ≡ None
     → Ends (begun (open_at Object b) rule) (tail (flag_text (codes " uid_of_subject") wanted ++ x)) Object (put_uid_of_subject rule wanted) (tail x)
-uid_of_subject_piece b rule None x led none = (b, on_same (begun (open_at Object b) rule) (begun (open_at Object b) (put_uid_of_subject rule None)) (tail x) (ap (λ t. begun (open_at Object b) (put_uid_of_subject rule t)) none))
-uid_of_subject_piece b rule (Some true) x led none = (
-  false,
-  on_words (begun (open_at Object b) rule) (begun (next.Test Object) (put_uid_of_subject rule (Some true))) (tail (codes " uid_of_subject" ++ x)) (codes "uid_of_subject" ∷ tail x) (tail x)
-      (word_then (codes "uid_of_subject") x (free_by (codes "uid_of_subject") refl) led) (uid_of_subject_name b rule (tail x) none),
-)
-uid_of_subject_piece b rule (Some false) x led none =
-    let start = begun (open_at Object b) rule in
-    let after = begun (next.Test Object) (put_uid_of_subject rule (Some false)) in
-    let ws = codes "uid_of_subject" ∷ tail x in (
-      false,
-      on_words start after (tail ((codes " !" ++ codes " uid_of_subject") ++ x)) (codes "!" ∷ ws) (tail x)
-          (word_then (codes "!") (codes " uid_of_subject" ++ x) (free_by (codes "!") refl) refl ∙ ap (λ ws. codes "!" ∷ ws) (word_then (codes "uid_of_subject") x (free_by (codes "uid_of_subject") refl) led))
-          (on_trans start (begun (next.Name Object) rule) after (codes "!" ∷ ws) ws (tail x) (mark_step Object b rule ws) (uid_of_subject_marked rule (tail x) none)),
-    )
+uid_of_subject_piece b rule wanted x led none =
+    flag_piece (codes "uid_of_subject") (free_by (codes "uid_of_subject") refl) put_uid_of_subject b rule wanted x led (ap (put_uid_of_subject rule) none) (λ ws. uid_of_subject_name b rule ws none) (λ ws. uid_of_subject_marked rule ws none)
 
 -- ---- gid_of_subject
 abbrev pub put_gid_of_subject : Rule → Option Bool → Rule
@@ -178,21 +162,8 @@ gid_of_subject_marked rule ws none = λ place. (place + 1, ap (λ t. and_then (o
 
 pub gid_of_subject_piece : (b : Bool) (rule : Rule) (wanted : Option Bool) (x : List ℕ) → Led x → rule.object.gid_of_subject ≡ None
     → Ends (begun (open_at Object b) rule) (tail (flag_text (codes " gid_of_subject") wanted ++ x)) Object (put_gid_of_subject rule wanted) (tail x)
-gid_of_subject_piece b rule None x led none = (b, on_same (begun (open_at Object b) rule) (begun (open_at Object b) (put_gid_of_subject rule None)) (tail x) (ap (λ t. begun (open_at Object b) (put_gid_of_subject rule t)) none))
-gid_of_subject_piece b rule (Some true) x led none = (
-  false,
-  on_words (begun (open_at Object b) rule) (begun (next.Test Object) (put_gid_of_subject rule (Some true))) (tail (codes " gid_of_subject" ++ x)) (codes "gid_of_subject" ∷ tail x) (tail x)
-      (word_then (codes "gid_of_subject") x (free_by (codes "gid_of_subject") refl) led) (gid_of_subject_name b rule (tail x) none),
-)
-gid_of_subject_piece b rule (Some false) x led none =
-    let start = begun (open_at Object b) rule in
-    let after = begun (next.Test Object) (put_gid_of_subject rule (Some false)) in
-    let ws = codes "gid_of_subject" ∷ tail x in (
-      false,
-      on_words start after (tail ((codes " !" ++ codes " gid_of_subject") ++ x)) (codes "!" ∷ ws) (tail x)
-          (word_then (codes "!") (codes " gid_of_subject" ++ x) (free_by (codes "!") refl) refl ∙ ap (λ ws. codes "!" ∷ ws) (word_then (codes "gid_of_subject") x (free_by (codes "gid_of_subject") refl) led))
-          (on_trans start (begun (next.Name Object) rule) after (codes "!" ∷ ws) ws (tail x) (mark_step Object b rule ws) (gid_of_subject_marked rule (tail x) none)),
-    )
+gid_of_subject_piece b rule wanted x led none =
+    flag_piece (codes "gid_of_subject") (free_by (codes "gid_of_subject") refl) put_gid_of_subject b rule wanted x led (ap (put_gid_of_subject rule) none) (λ ws. gid_of_subject_name b rule ws none) (λ ws. gid_of_subject_marked rule ws none)
 
 -- ---- type
 abbrev pub put_types : Rule → Option TypeTest → Rule
@@ -216,30 +187,12 @@ unfolding read_from fitted
 type_value turned rule w types ws is = λ place.
     (place + 1, ap (λ v. and_then (by_value (BadType place) v (λ types. reads_on (next.Test Object) (put_types rule (Some (type_test turned types))))) (λ more. read_from (place + 1) more ws)) is)
 
-type_some : (b : Bool) (rule : Rule) (turned : Bool) (types : ℕ) (x : List ℕ) → Led x → rule.object.types ≡ None → 1 ≤ types → types ≤ 127
-    → On (begun (open_at Object b) rule) (tail ((mark_text turned ++ (codes " type " ++ letters_text type_letters types)) ++ x)) (begun (next.Test Object) (put_types rule (Some (type_test turned types)))) (tail x)
-type_some b rule true types x led none some fits =
-    let w = letters_text type_letters types in
-    let back = types_back types some fits in
-    let ws = w ∷ tail x in
-    let start = begun (open_at Object b) rule in
-    let after = begun (next.Test Object) (put_types rule (Some (type_test true types))) in
-    on_words start after (tail ((codes " !" ++ (codes " type " ++ w)) ++ x)) (codes "!" ∷ codes "type" ∷ ws) (tail x)
-    (word_then (codes "!") (32 ∷ codes "type" ++ 32 ∷ w ++ x) (free_by (codes "!") refl) refl
-    ∙ ap (λ ws. codes "!" ∷ ws) (word_then (codes "type") (32 ∷ w ++ x) (free_by (codes "type") refl) refl ∙ ap (λ ws. codes "type" ∷ ws) (word_then w x back.1 led)))
-    (on_trans start (begun (next.Name Object) rule) after (codes "!" ∷ codes "type" ∷ ws) (codes "type" ∷ ws) (tail x) (mark_step Object b rule (codes "type" ∷ ws))
-    (on_trans (begun (next.Name Object) rule) (begun (next.Types true) rule) after (codes "type" ∷ ws) ws (tail x) (type_marked rule ws none) (type_value true rule w types (tail x) back.0)))
-type_some b rule false types x led none some fits =
-    let w = letters_text type_letters types in
-    let back = types_back types some fits in
-    let ws = w ∷ tail x in
-    let start = begun (open_at Object b) rule in
-    let after = begun (next.Test Object) (put_types rule (Some (type_test false types))) in
-    on_words start after (tail ((codes " type " ++ w) ++ x)) (codes "type" ∷ ws) (tail x)
-    (word_then (codes "type") (32 ∷ w ++ x) (free_by (codes "type") refl) refl ∙ ap (λ ws. codes "type" ∷ ws) (word_then w x back.1 led))
-    (on_trans start (begun (next.Types false) rule) after (codes "type" ∷ ws) ws (tail x) (type_name b rule ws none) (type_value false rule w types (tail x) back.0))
-
 pub types_piece : (b : Bool) (rule : Rule) (test : Option TypeTest) (x : List ℕ) → Led x → rule.object.types ≡ None → IfSome test (λ test. (1 ≤ test.types) × (test.types ≤ 127))
     → Ends (begun (open_at Object b) rule) (tail (types_text test ++ x)) Object (put_types rule test) (tail x)
 types_piece b rule None x led none ok = (b, on_same (begun (open_at Object b) rule) (begun (open_at Object b) (put_types rule None)) (tail x) (ap (λ t. begun (open_at Object b) (put_types rule t)) none))
-types_piece b rule (Some test) x led none ok = (false, type_some b rule test.not test.types x led none ok.0 ok.1)
+types_piece b rule (Some test) x led none ok =
+    let back = types_back test.types ok.0 ok.1 in (
+      false,
+      value_piece Object (codes "type") (letters_text type_letters test.types) (free_by (codes "type") refl) back.1 next.Types (λ turned. put_types rule (Some (type_test turned test.types))) b rule
+          test.not x led (λ ws. type_name b rule ws none) (λ ws. type_marked rule ws none) (λ turned ws. type_value turned rule (letters_text type_letters test.types) test.types ws back.0),
+    )

@@ -1,5 +1,5 @@
 -- The words of the canonical text of a rule are read back: piece by piece, whatever comes behind.
-use Rattle.std.proofs.Common.{◌≡◌, ℕ, ◌+◌, ◌≤◌, Bool, true, false, cond, eqb, List, [], ◌∷◌, ◌++◌, Option, Some, None, IfSome, codes, refl, ap, ◌∙◌, append-nil}
+use Rattle.std.proofs.Common.{◌≡◌, ℕ, ◌+◌, ◌≤◌, Bool, true, false, cond, eqb, List, [], ◌∷◌, ◌++◌, Option, Some, None, IfSome, codes, refl, ap, ◌∙◌, append-nil, append_assoc}
 use Rattle.mf_labeltext.specs.Reading.{parts}
 use Rattle.mf_labeltext.proofs.Cutting.{IsFree, cut_free, cut_free_none, parts_none, parts_some}
 use Rattle.std.proofs.lemmas.Bool.{eqb-false}
@@ -73,6 +73,30 @@ unfolding read_from fitted tested
 mark_step part true rule ws = λ place. (place + 1, refl)
 mark_step part false rule ws = λ place. (place + 1, refl)
 
+-- ---- a test with a value
+-- from its text, by how its name is read, how behind a mark, and how its value
+pub value_piece : (part : Part) (name w : List ℕ) → IsFree 32 name → IsFree 32 w → (valued : Bool → Next) (after : Bool → Rule) (b : Bool) (rule : Rule) (turned : Bool) (x : List ℕ) → Led x
+    → ((ws : List (List ℕ)) → On (begun (open_at part b) rule) (name ∷ ws) (begun (valued false) rule) ws)
+    → ((ws : List (List ℕ)) → On (begun (next.Name part) rule) (name ∷ ws) (begun (valued true) rule) ws)
+    → ((turned : Bool) (ws : List (List ℕ)) → On (begun (valued turned) rule) (w ∷ ws) (begun (next.Test part) (after turned)) ws)
+    → On (begun (open_at part b) rule) (tail ((mark_text turned ++ ((32 ∷ name) ++ 32 ∷ w)) ++ x)) (begun (next.Test part) (after turned)) (tail x)
+value_piece part name w free_name free valued after b rule turned x led plain mark value =
+    let text = (32 ∷ name) ++ 32 ∷ w in
+    let ws = w ∷ tail x in
+    let start = begun (open_at part b) rule in
+    let words : tail (text ++ x) ≡ name ∷ ws =
+    ap tail (append_assoc (32 ∷ name) (32 ∷ w) x) ∙ word_then name ((32 ∷ w) ++ x) free_name refl ∙ ap (λ ws. name ∷ ws) (word_then w x free led) in
+    elim turned as (λ turned. On start (tail ((mark_text turned ++ text) ++ x)) (begun (next.Test part) (after turned)) (tail x)) [
+      | true ↦
+          on_words start (begun (next.Test part) (after true)) (tail ((codes " !" ++ text) ++ x)) (codes "!" ∷ name ∷ ws) (tail x)
+          (word_then (codes "!") (text ++ x) (free_by (codes "!") refl) refl ∙ ap (λ ws. codes "!" ∷ ws) words)
+          (on_trans start (begun (next.Name part) rule) (begun (next.Test part) (after true)) (codes "!" ∷ name ∷ ws) (name ∷ ws) (tail x) (mark_step part b rule (name ∷ ws))
+          (on_trans (begun (next.Name part) rule) (begun (valued true) rule) (begun (next.Test part) (after true)) (name ∷ ws) ws (tail x) (mark ws) (value true (tail x))))
+      | false ↦
+          on_words start (begun (next.Test part) (after false)) (tail (text ++ x)) (name ∷ ws) (tail x) words
+          (on_trans start (begun (valued false) rule) (begun (next.Test part) (after false)) (name ∷ ws) ws (tail x) (plain ws) (value false (tail x)))
+    ]
+
 -- ---- uid
 pub uid_name : (part : Part) (b : Bool) (rule : Rule) (ws : List (List ℕ)) → (side_of part rule).uid ≡ None → On (begun (open_at part b) rule) (codes "uid" ∷ ws) (begun (next.Uid part false) rule) ws
 unfolding read_from fitted tested test_named
@@ -94,34 +118,17 @@ unfolding read_from fitted
 uid_value part turned rule w ends ws is = λ place.
     (place + 1, ap (λ v. and_then (by_value (BadRange place) v (λ ends. reads_on (next.Test part) (put_uid part rule (Some (id_test turned ends))))) (λ more. read_from (place + 1) more ws)) is)
 
-uid_some : (part : Part) (b : Bool) (rule : Rule) (turned : Bool) (least greatest : ℕ) (x : List ℕ) → Led x → (side_of part rule).uid ≡ None → least ≤ greatest → greatest ≤ 4294967295
-    → On (begun (open_at part b) rule) (tail ((mark_text turned ++ (codes " uid " ++ id_range_text least greatest)) ++ x)) (begun (next.Test part) (put_uid part rule (Some (id_test turned (least, greatest))))) (tail x)
-uid_some part b rule true least greatest x led none ordered below =
-    let w = id_range_text least greatest in
-    let back = range_back least greatest ordered below in
-    let ws = w ∷ tail x in
-    let start = begun (open_at part b) rule in
-    let after = begun (next.Test part) (put_uid part rule (Some (id_test true (least, greatest)))) in
-    on_words start after (tail ((codes " !" ++ (codes " uid " ++ w)) ++ x)) (codes "!" ∷ codes "uid" ∷ ws) (tail x)
-    (word_then (codes "!") (32 ∷ codes "uid" ++ 32 ∷ w ++ x) (free_by (codes "!") refl) refl
-    ∙ ap (λ ws. codes "!" ∷ ws) (word_then (codes "uid") (32 ∷ w ++ x) (free_by (codes "uid") refl) refl ∙ ap (λ ws. codes "uid" ∷ ws) (word_then w x back.1 led)))
-    (on_trans start (begun (next.Name part) rule) after (codes "!" ∷ codes "uid" ∷ ws) (codes "uid" ∷ ws) (tail x) (mark_step part b rule (codes "uid" ∷ ws))
-    (on_trans (begun (next.Name part) rule) (begun (next.Uid part true) rule) after (codes "uid" ∷ ws) ws (tail x) (uid_marked part rule ws none) (uid_value part true rule w (least, greatest) (tail x) back.0)))
-uid_some part b rule false least greatest x led none ordered below =
-    let w = id_range_text least greatest in
-    let back = range_back least greatest ordered below in
-    let ws = w ∷ tail x in
-    let start = begun (open_at part b) rule in
-    let after = begun (next.Test part) (put_uid part rule (Some (id_test false (least, greatest)))) in
-    on_words start after (tail ((codes " uid " ++ w) ++ x)) (codes "uid" ∷ ws) (tail x)
-    (word_then (codes "uid") (32 ∷ w ++ x) (free_by (codes "uid") refl) refl ∙ ap (λ ws. codes "uid" ∷ ws) (word_then w x back.1 led))
-    (on_trans start (begun (next.Uid part false) rule) after (codes "uid" ∷ ws) ws (tail x) (uid_name part b rule ws none) (uid_value part false rule w (least, greatest) (tail x) back.0))
-
 pub uid_piece : (part : Part) (b : Bool) (rule : Rule) (test : Option IdTest) (x : List ℕ) → Led x → (side_of part rule).uid ≡ None → IfSome test IsRange
     → (c : Bool) × On (begun (open_at part b) rule) (tail (id_text (codes " uid ") test ++ x)) (begun (open_at part c) (put_uid part rule test)) (tail x)
 uid_piece Subject b rule None x led none ok = (b, on_same (begun (open_at Subject b) rule) (begun (open_at Subject b) (put_uid Subject rule None)) (tail x) (ap (λ t. begun (open_at Subject b) (put_uid Subject rule t)) none))
 uid_piece Object b rule None x led none ok = (b, on_same (begun (open_at Object b) rule) (begun (open_at Object b) (put_uid Object rule None)) (tail x) (ap (λ t. begun (open_at Object b) (put_uid Object rule t)) none))
-uid_piece part b rule (Some test) x led none ok = (false, uid_some part b rule test.not test.least test.greatest x led none ok.ordered ok.below)
+uid_piece part b rule (Some test) x led none ok =
+    let back = range_back test.least test.greatest ok.ordered ok.below in (
+      false,
+      value_piece part (codes "uid") (id_range_text test.least test.greatest) (free_by (codes "uid") refl) back.1 (next.Uid part)
+          (λ turned. put_uid part rule (Some (id_test turned (test.least, test.greatest)))) b rule test.not x led (λ ws. uid_name part b rule ws none) (λ ws. uid_marked part rule ws none)
+          (λ turned ws. uid_value part turned rule (id_range_text test.least test.greatest) (test.least, test.greatest) ws back.0),
+    )
 
 -- ---- gid
 pub gid_name : (part : Part) (b : Bool) (rule : Rule) (ws : List (List ℕ)) → (side_of part rule).gid ≡ None → On (begun (open_at part b) rule) (codes "gid" ∷ ws) (begun (next.Gid part false) rule) ws
@@ -144,31 +151,14 @@ unfolding read_from fitted
 gid_value part turned rule w ends ws is = λ place.
     (place + 1, ap (λ v. and_then (by_value (BadRange place) v (λ ends. reads_on (next.Test part) (put_gid part rule (Some (id_test turned ends))))) (λ more. read_from (place + 1) more ws)) is)
 
-gid_some : (part : Part) (b : Bool) (rule : Rule) (turned : Bool) (least greatest : ℕ) (x : List ℕ) → Led x → (side_of part rule).gid ≡ None → least ≤ greatest → greatest ≤ 4294967295
-    → On (begun (open_at part b) rule) (tail ((mark_text turned ++ (codes " gid " ++ id_range_text least greatest)) ++ x)) (begun (next.Test part) (put_gid part rule (Some (id_test turned (least, greatest))))) (tail x)
-gid_some part b rule true least greatest x led none ordered below =
-    let w = id_range_text least greatest in
-    let back = range_back least greatest ordered below in
-    let ws = w ∷ tail x in
-    let start = begun (open_at part b) rule in
-    let after = begun (next.Test part) (put_gid part rule (Some (id_test true (least, greatest)))) in
-    on_words start after (tail ((codes " !" ++ (codes " gid " ++ w)) ++ x)) (codes "!" ∷ codes "gid" ∷ ws) (tail x)
-    (word_then (codes "!") (32 ∷ codes "gid" ++ 32 ∷ w ++ x) (free_by (codes "!") refl) refl
-    ∙ ap (λ ws. codes "!" ∷ ws) (word_then (codes "gid") (32 ∷ w ++ x) (free_by (codes "gid") refl) refl ∙ ap (λ ws. codes "gid" ∷ ws) (word_then w x back.1 led)))
-    (on_trans start (begun (next.Name part) rule) after (codes "!" ∷ codes "gid" ∷ ws) (codes "gid" ∷ ws) (tail x) (mark_step part b rule (codes "gid" ∷ ws))
-    (on_trans (begun (next.Name part) rule) (begun (next.Gid part true) rule) after (codes "gid" ∷ ws) ws (tail x) (gid_marked part rule ws none) (gid_value part true rule w (least, greatest) (tail x) back.0)))
-gid_some part b rule false least greatest x led none ordered below =
-    let w = id_range_text least greatest in
-    let back = range_back least greatest ordered below in
-    let ws = w ∷ tail x in
-    let start = begun (open_at part b) rule in
-    let after = begun (next.Test part) (put_gid part rule (Some (id_test false (least, greatest)))) in
-    on_words start after (tail ((codes " gid " ++ w) ++ x)) (codes "gid" ∷ ws) (tail x)
-    (word_then (codes "gid") (32 ∷ w ++ x) (free_by (codes "gid") refl) refl ∙ ap (λ ws. codes "gid" ∷ ws) (word_then w x back.1 led))
-    (on_trans start (begun (next.Gid part false) rule) after (codes "gid" ∷ ws) ws (tail x) (gid_name part b rule ws none) (gid_value part false rule w (least, greatest) (tail x) back.0))
-
 pub gid_piece : (part : Part) (b : Bool) (rule : Rule) (test : Option IdTest) (x : List ℕ) → Led x → (side_of part rule).gid ≡ None → IfSome test IsRange
     → (c : Bool) × On (begun (open_at part b) rule) (tail (id_text (codes " gid ") test ++ x)) (begun (open_at part c) (put_gid part rule test)) (tail x)
 gid_piece Subject b rule None x led none ok = (b, on_same (begun (open_at Subject b) rule) (begun (open_at Subject b) (put_gid Subject rule None)) (tail x) (ap (λ t. begun (open_at Subject b) (put_gid Subject rule t)) none))
 gid_piece Object b rule None x led none ok = (b, on_same (begun (open_at Object b) rule) (begun (open_at Object b) (put_gid Object rule None)) (tail x) (ap (λ t. begun (open_at Object b) (put_gid Object rule t)) none))
-gid_piece part b rule (Some test) x led none ok = (false, gid_some part b rule test.not test.least test.greatest x led none ok.ordered ok.below)
+gid_piece part b rule (Some test) x led none ok =
+    let back = range_back test.least test.greatest ok.ordered ok.below in (
+      false,
+      value_piece part (codes "gid") (id_range_text test.least test.greatest) (free_by (codes "gid") refl) back.1 (next.Gid part)
+          (λ turned. put_gid part rule (Some (id_test turned (test.least, test.greatest)))) b rule test.not x led (λ ws. gid_name part b rule ws none) (λ ws. gid_marked part rule ws none)
+          (λ turned ws. gid_value part turned rule (id_range_text test.least test.greatest) (test.least, test.greatest) ws back.0),
+    )

@@ -7,6 +7,7 @@ use Rattle.mf_rule.specs.declared.rule.Rule.{Rule}
 use Rattle.mf_rule.specs.declared.begun.Part.{Part}
 use Rattle.mf_rule.specs.declared.begun.Part.TheVariants.{Subject, Object}
 use Rattle.mf_rule.specs.declared.begun.Next.TheVariants as next
+use Rattle.mf_rule.specs.declared.begun.Begun.{Begun}
 use Rattle.mf_rule.specs.Words.{id_range_in, types_in}
 use Rattle.mf_rule.specs.RuleGrammar.{SpellsIdTest, SpellsFileTest, SpellsObjectTest, SpellTests, SpellsRule}
 use Rattle.mf_rule.proofs.Parts.{marked, with_not, SpellsSubject, SpellsObject}
@@ -16,27 +17,30 @@ use Rattle.mf_rule.proofs.Pieces.{begun, open_at, On, on_trans, on_words, mark_s
 use Rattle.mf_rule.proofs.FilePieces.{put_not, not_same, not_step, object_step, mode_step, letters_step, put_suid, suid_name, suid_marked, put_sgid, sgid_name, sgid_marked, put_uid_of_subject, uid_of_subject_name, uid_of_subject_marked, put_gid_of_subject, gid_of_subject_name, gid_of_subject_marked, put_types, type_name, type_marked, type_value, type_test}
 use Rattle.mf_rule.proofs.RoundTrips.{begins, ends}
 
+-- the words of a test, with `!` before them or without, by how its name is read, and how behind a mark
+marked_on : (part : Part) (b turned : Bool) (rule : Rule) (name : List ℕ) (more ws : Words) (after : Bool → Begun) → On (begun (open_at part b) rule) (name ∷ (more ++ ws)) (after false) ws
+    → On (begun (next.Name part) rule) (name ∷ (more ++ ws)) (after true) ws → On (begun (open_at part b) rule) (marked turned (name ∷ more) ++ ws) (after turned) ws
+marked_on part b true rule name more ws after plain mark =
+    on_trans (begun (open_at part b) rule) (begun (next.Name part) rule) (after true) (codes "!" ∷ name ∷ (more ++ ws)) (name ∷ (more ++ ws)) ws (mark_step part b rule (name ∷ (more ++ ws))) mark
+marked_on part b false rule name more ws after plain mark = plain
+
 uid_words : (part : Part) (b turned : Bool) (rule : Rule) (w : List ℕ) (ends : ℕ × ℕ) (ws : Words) → (side_of part rule).uid ≡ None → id_range_in w ≡ Some ends
     → On (begun (open_at part b) rule) (marked turned (codes "uid" ∷ w ∷ []) ++ ws) (begun (open_at part false) (put_uid part rule (Some (id_test turned ends)))) ws
-uid_words part b true rule w ends ws none is =
-    let start = begun (open_at part b) rule in
-    let after = begun (next.Test part) (put_uid part rule (Some (id_test true ends))) in
-    on_trans start (begun (next.Name part) rule) after (codes "!" ∷ codes "uid" ∷ w ∷ ws) (codes "uid" ∷ w ∷ ws) ws (mark_step part b rule (codes "uid" ∷ w ∷ ws))
-    (on_trans (begun (next.Name part) rule) (begun (next.Uid part true) rule) after (codes "uid" ∷ w ∷ ws) (w ∷ ws) ws (uid_marked part rule (w ∷ ws) none) (uid_value part true rule w ends ws is))
-uid_words part b false rule w ends ws none is =
-    on_trans (begun (open_at part b) rule) (begun (next.Uid part false) rule) (begun (next.Test part) (put_uid part rule (Some (id_test false ends)))) (codes "uid" ∷ w ∷ ws) (w ∷ ws) ws
-    (uid_name part b rule (w ∷ ws) none) (uid_value part false rule w ends ws is)
+uid_words part b turned rule w ends ws none is =
+    marked_on part b turned rule (codes "uid") (w ∷ []) ws (λ turned. begun (open_at part false) (put_uid part rule (Some (id_test turned ends))))
+    (on_trans (begun (open_at part b) rule) (begun (next.Uid part false) rule) (begun (next.Test part) (put_uid part rule (Some (id_test false ends)))) (codes "uid" ∷ w ∷ ws) (w ∷ ws) ws
+    (uid_name part b rule (w ∷ ws) none) (uid_value part false rule w ends ws is))
+    (on_trans (begun (next.Name part) rule) (begun (next.Uid part true) rule) (begun (next.Test part) (put_uid part rule (Some (id_test true ends)))) (codes "uid" ∷ w ∷ ws) (w ∷ ws) ws
+    (uid_marked part rule (w ∷ ws) none) (uid_value part true rule w ends ws is))
 
 gid_words : (part : Part) (b turned : Bool) (rule : Rule) (w : List ℕ) (ends : ℕ × ℕ) (ws : Words) → (side_of part rule).gid ≡ None → id_range_in w ≡ Some ends
     → On (begun (open_at part b) rule) (marked turned (codes "gid" ∷ w ∷ []) ++ ws) (begun (open_at part false) (put_gid part rule (Some (id_test turned ends)))) ws
-gid_words part b true rule w ends ws none is =
-    let start = begun (open_at part b) rule in
-    let after = begun (next.Test part) (put_gid part rule (Some (id_test true ends))) in
-    on_trans start (begun (next.Name part) rule) after (codes "!" ∷ codes "gid" ∷ w ∷ ws) (codes "gid" ∷ w ∷ ws) ws (mark_step part b rule (codes "gid" ∷ w ∷ ws))
-    (on_trans (begun (next.Name part) rule) (begun (next.Gid part true) rule) after (codes "gid" ∷ w ∷ ws) (w ∷ ws) ws (gid_marked part rule (w ∷ ws) none) (gid_value part true rule w ends ws is))
-gid_words part b false rule w ends ws none is =
-    on_trans (begun (open_at part b) rule) (begun (next.Gid part false) rule) (begun (next.Test part) (put_gid part rule (Some (id_test false ends)))) (codes "gid" ∷ w ∷ ws) (w ∷ ws) ws
-    (gid_name part b rule (w ∷ ws) none) (gid_value part false rule w ends ws is)
+gid_words part b turned rule w ends ws none is =
+    marked_on part b turned rule (codes "gid") (w ∷ []) ws (λ turned. begun (open_at part false) (put_gid part rule (Some (id_test turned ends))))
+    (on_trans (begun (open_at part b) rule) (begun (next.Gid part false) rule) (begun (next.Test part) (put_gid part rule (Some (id_test false ends)))) (codes "gid" ∷ w ∷ ws) (w ∷ ws) ws
+    (gid_name part b rule (w ∷ ws) none) (gid_value part false rule w ends ws is))
+    (on_trans (begun (next.Name part) rule) (begun (next.Gid part true) rule) (begun (next.Test part) (put_gid part rule (Some (id_test true ends)))) (codes "gid" ∷ w ∷ ws) (w ∷ ws) ws
+    (gid_marked part rule (w ∷ ws) none) (gid_value part true rule w ends ws is))
 
 -- a test of ids of a part
 id_words : (part : Part) (b : Bool) (rule : Rule) (test : Words) (after : Side) (ws : Words) → SpellsIdTest test (side_of part rule) after
@@ -52,42 +56,32 @@ id_words part b rule test after ws (turned, w, ends, range, inr gid) =
 
 suid_words : (b turned : Bool) (rule : Rule) (ws : Words) → rule.object.suid ≡ None
     → On (begun (open_at Object b) rule) (marked turned (codes "suid" ∷ []) ++ ws) (begun (open_at Object false) (put_suid rule (Some (not turned)))) ws
-suid_words b true rule ws none =
-    on_trans (begun (open_at Object b) rule) (begun (next.Name Object) rule) (begun (next.Test Object) (put_suid rule (Some false))) (codes "!" ∷ codes "suid" ∷ ws) (codes "suid" ∷ ws) ws
-    (mark_step Object b rule (codes "suid" ∷ ws)) (suid_marked rule ws none)
-suid_words b false rule ws none = suid_name b rule ws none
+suid_words b turned rule ws none =
+    marked_on Object b turned rule (codes "suid") [] ws (λ turned. begun (open_at Object false) (put_suid rule (Some (not turned)))) (suid_name b rule ws none) (suid_marked rule ws none)
 
 sgid_words : (b turned : Bool) (rule : Rule) (ws : Words) → rule.object.sgid ≡ None
     → On (begun (open_at Object b) rule) (marked turned (codes "sgid" ∷ []) ++ ws) (begun (open_at Object false) (put_sgid rule (Some (not turned)))) ws
-sgid_words b true rule ws none =
-    on_trans (begun (open_at Object b) rule) (begun (next.Name Object) rule) (begun (next.Test Object) (put_sgid rule (Some false))) (codes "!" ∷ codes "sgid" ∷ ws) (codes "sgid" ∷ ws) ws
-    (mark_step Object b rule (codes "sgid" ∷ ws)) (sgid_marked rule ws none)
-sgid_words b false rule ws none = sgid_name b rule ws none
+sgid_words b turned rule ws none =
+    marked_on Object b turned rule (codes "sgid") [] ws (λ turned. begun (open_at Object false) (put_sgid rule (Some (not turned)))) (sgid_name b rule ws none) (sgid_marked rule ws none)
 
 uid_of_subject_words : (b turned : Bool) (rule : Rule) (ws : Words) → rule.object.uid_of_subject ≡ None
     → On (begun (open_at Object b) rule) (marked turned (codes "uid_of_subject" ∷ []) ++ ws) (begun (open_at Object false) (put_uid_of_subject rule (Some (not turned)))) ws
-uid_of_subject_words b true rule ws none =
-    on_trans (begun (open_at Object b) rule) (begun (next.Name Object) rule) (begun (next.Test Object) (put_uid_of_subject rule (Some false))) (codes "!" ∷ codes "uid_of_subject" ∷ ws) (codes "uid_of_subject" ∷ ws) ws
-    (mark_step Object b rule (codes "uid_of_subject" ∷ ws)) (uid_of_subject_marked rule ws none)
-uid_of_subject_words b false rule ws none = uid_of_subject_name b rule ws none
+uid_of_subject_words b turned rule ws none =
+    marked_on Object b turned rule (codes "uid_of_subject") [] ws (λ turned. begun (open_at Object false) (put_uid_of_subject rule (Some (not turned)))) (uid_of_subject_name b rule ws none) (uid_of_subject_marked rule ws none)
 
 gid_of_subject_words : (b turned : Bool) (rule : Rule) (ws : Words) → rule.object.gid_of_subject ≡ None
     → On (begun (open_at Object b) rule) (marked turned (codes "gid_of_subject" ∷ []) ++ ws) (begun (open_at Object false) (put_gid_of_subject rule (Some (not turned)))) ws
-gid_of_subject_words b true rule ws none =
-    on_trans (begun (open_at Object b) rule) (begun (next.Name Object) rule) (begun (next.Test Object) (put_gid_of_subject rule (Some false))) (codes "!" ∷ codes "gid_of_subject" ∷ ws) (codes "gid_of_subject" ∷ ws) ws
-    (mark_step Object b rule (codes "gid_of_subject" ∷ ws)) (gid_of_subject_marked rule ws none)
-gid_of_subject_words b false rule ws none = gid_of_subject_name b rule ws none
+gid_of_subject_words b turned rule ws none =
+    marked_on Object b turned rule (codes "gid_of_subject") [] ws (λ turned. begun (open_at Object false) (put_gid_of_subject rule (Some (not turned)))) (gid_of_subject_name b rule ws none) (gid_of_subject_marked rule ws none)
 
 type_words : (b turned : Bool) (rule : Rule) (w : List ℕ) (types : ℕ) (ws : Words) → rule.object.types ≡ None → types_in w ≡ Some types
     → On (begun (open_at Object b) rule) (marked turned (codes "type" ∷ w ∷ []) ++ ws) (begun (open_at Object false) (put_types rule (Some (type_test turned types)))) ws
-type_words b true rule w types ws none is =
-    let start = begun (open_at Object b) rule in
-    let after = begun (next.Test Object) (put_types rule (Some (type_test true types))) in
-    on_trans start (begun (next.Name Object) rule) after (codes "!" ∷ codes "type" ∷ w ∷ ws) (codes "type" ∷ w ∷ ws) ws (mark_step Object b rule (codes "type" ∷ w ∷ ws))
-    (on_trans (begun (next.Name Object) rule) (begun (next.Types true) rule) after (codes "type" ∷ w ∷ ws) (w ∷ ws) ws (type_marked rule (w ∷ ws) none) (type_value true rule w types ws is))
-type_words b false rule w types ws none is =
-    on_trans (begun (open_at Object b) rule) (begun (next.Types false) rule) (begun (next.Test Object) (put_types rule (Some (type_test false types)))) (codes "type" ∷ w ∷ ws) (w ∷ ws) ws
-    (type_name b rule (w ∷ ws) none) (type_value false rule w types ws is)
+type_words b turned rule w types ws none is =
+    marked_on Object b turned rule (codes "type") (w ∷ []) ws (λ turned. begun (open_at Object false) (put_types rule (Some (type_test turned types))))
+    (on_trans (begun (open_at Object b) rule) (begun (next.Types false) rule) (begun (next.Test Object) (put_types rule (Some (type_test false types)))) (codes "type" ∷ w ∷ ws) (w ∷ ws) ws
+    (type_name b rule (w ∷ ws) none) (type_value false rule w types ws is))
+    (on_trans (begun (next.Name Object) rule) (begun (next.Types true) rule) (begun (next.Test Object) (put_types rule (Some (type_test true types)))) (codes "type" ∷ w ∷ ws) (w ∷ ws) ws
+    (type_marked rule (w ∷ ws) none) (type_value true rule w types ws is))
 
 abbrev put_object : Rule → ObjectSide → Rule
 put_object rule object = record rule { object = object }

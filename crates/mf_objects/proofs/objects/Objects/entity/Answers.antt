@@ -7,7 +7,7 @@ use Rattle.mf_objects.proofs.Found.{shown_place}
 use Rattle.mf_objects.proofs.objects.Objects.entity.Goals as goal
 
 pub returns-clause-shown : goal.returns-clause-shown
-returns-clause-with_values c =
+returns-clause-shown c =
     let zones = c.self.inside.zones in
     let es = c.self.inside.entities.items in
     let place : IsPlace (view c.self.inside.next zones es) c.args.id c.place-place.result =
