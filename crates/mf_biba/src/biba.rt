@@ -3,11 +3,11 @@ ghost use Rattle.std.specs.Prelude.{◌≡◌};
 ghost use Rattle.mf_policy.specs.declared.spec.Spec.TheVariants as means;
 
 use mf_cred::Cred;
-use mf_elem::{Elem, RangeLabel, Request, dominates};
+use mf_elem::{Elem, RangeLabel, Request, dominates, privileged};
 use mf_errno::{Errno, Module, Priv};
 use mf_item::Item;
 use mf_policy::{
-    Change, Changed, Lattice, LoadFlags, Policy, Spec, credential_relabel, flags_of,
+    Change, Changed, Lattice, LoadFlags, Policy, Spec, credential_relabel, errno_unless, flags_of,
     lattice_answer, object_relabel, range_asked, wants_slot,
 };
 use std::alloc::{AllocError, Global};
@@ -77,8 +77,8 @@ impl Lattice for Biba {
         range_asked(Module::Biba, request)
     }
 
-    fn guards_modules() -> bool {
-        true
+    fn guard_modules(label: &RangeLabel) -> Errno {
+        errno_unless(privileged(label), Errno::Eperm)
     }
 
     fn take(_subject: &Elem, label: &RangeLabel, asked: &RangeLabel) -> Errno {

@@ -9,8 +9,8 @@ use mf_cred::{Cred, FileView};
 use mf_errno::{Errno, Module, Priv};
 use mf_item::{Item, ObjectView};
 use mf_policy::{
-    Change, Changed, Letters, LoadFlags, Policy, Spec, change_rules, errno_unless, flags_of,
-    row_of, wants_slot,
+    Change, Changed, LoadFlags, Policy, Spec, change_rules, errno_unless, flags_of, row_of,
+    wants_slot,
 };
 use mf_rule::RuleList;
 use std::alloc::{AllocError, Global};
@@ -61,13 +61,13 @@ impl Policy for Bsdextended {
 
     fn check(&self, _slot: u8, item: &Item) -> Errno {
         match row_of(item.op()).letters {
-            Letters::Asked(letters) => {
+            Some(letters) => {
                 let cred = &item.subject().cred;
-                let file = file_of(item.object());
+                let file = attributes_of(item.object());
                 let allowed = self.rules.verdict(self.first_match, cred, &file, letters);
                 errno_unless(allowed, Errno::Eacces)
             }
-            Letters::NotAsked => Errno::Success,
+            None => Errno::Success,
         }
     }
 
@@ -86,8 +86,8 @@ impl Policy for Bsdextended {
 }
 
 /// The attributes of the object; all zero where there is none.
-fn file_of(object: Option<&ObjectView>) -> FileView
-    ensures { result ≡ spec.file_of (option_copied object.entry) }
+fn attributes_of(object: Option<&ObjectView>) -> FileView
+    ensures { result ≡ spec.attributes_of (option_copied object.entry) }
 {
     match object {
         Some(view) => view.file,

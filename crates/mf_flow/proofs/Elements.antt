@@ -21,10 +21,10 @@ use Rattle.mf_policy.specs.declared.registration.Registration.{Registration}
 use Rattle.mf_policy.specs.Answer.{range_label}
 use Rattle.mf_policy.specs.Modules.{facts_of, inherited, inherited_by, inherited_range, labels_by, number_asked, range_asked}
 use Rattle.mf_policy.specs.declared.labels.Origin.TheVariants.{Maker}
-use Rattle.mf_policy.specs.NewLabels.{new_label, new_value, value_of}
+use Rattle.mf_policy.specs.NewLabels.{new_label, new_value}
 use Rattle.mf_policy.specs.Registration.{Entry}
 use Rattle.mf_policy.specs.Relabelled.{after_by, range_after, relabelled, relabelled_value, value_after}
-use Rattle.mf_policy.specs.Relabelled.{value_of as relabelled_by}
+use Rattle.mf_policy.proofs.ByEntry.{given_by, relabelled_by}
 use Rattle.mf_list.specs.Asked.{slot_of}
 use Rattle.mf_objects.specs.declared.id.Id.{Id}
 use Rattle.mf_objects.specs.Live.{LiveEntity, kind_of, live_at, value_in}
@@ -64,7 +64,7 @@ created_element r specs given kind maker within pinned =
     let slot : ℕ = slot_of r in
     let there : slice_index_or (new_label specs kind (Maker maker)) slot Unset ≡ new_value specs kind (Maker maker) slot = four_values (new_value specs kind (Maker maker)) slot within in
     let by : new_value specs kind (Maker maker) slot ≡ inherited r.module kind (slice_index_or maker slot Unset) =
-    ap (λ (found : Option Entry). value_of found kind (Maker maker) slot) pinned.found in
+    ap (λ (found : Option Entry). given_by found kind (Maker maker) slot) pinned.found in
     ap (λ (value : LabelValue). (range_label value).effective) (there ∙ by) ∙ inherits r.module kind (slice_index_or maker slot Unset) pinned.lasting
 
 -- some element

@@ -15,10 +15,11 @@ use Rattle.mf_item.specs.declared.view.Kind.TheVariants as kinds
 use Rattle.mf_policy.specs.declared.modules.Labelling.{Labelling}
 use Rattle.mf_policy.specs.declared.modules.Labelling.TheVariants.{Nothing, Ranges, Partitions}
 use Rattle.mf_policy.specs.declared.registration.Registration.{Registration}
-use Rattle.mf_policy.specs.Claims.{claims_part, is_claimed, takes_by, takes_requests}
-use Rattle.mf_policy.specs.Modules.{facts_of, has_partition, is_named, is_process, labels_by, number_asked, range_asked}
+use Rattle.mf_policy.specs.Claims.{claims_part, is_claimed, takes_by}
+use Rattle.mf_policy.specs.Modules.{facts_of, has_partition, is_named, is_process_kind, labels_by, number_asked, range_asked}
 use Rattle.mf_policy.specs.Registration.{Entry, is_listed}
-use Rattle.mf_policy.specs.Relabelled.{after_by, number_after, value_after, value_of}
+use Rattle.mf_policy.specs.Relabelled.{after_by, number_after, value_after}
+use Rattle.mf_policy.proofs.ByEntry.{relabelled_by}
 use Rattle.mf_policy.proofs.EachModule.{has_elements}
 use Rattle.mf_lifetimes.specs.Marks.{Mark, is_first}
 use Rattle.mf_lifetimes.specs.Marks.Mark.{Made}
@@ -60,7 +61,7 @@ first_marks (Number n) new r marks is agree = set_marks (Number n) new marks (Ma
 
 -- A number: it is asked for processes alone, which have one
 
-number_marks : (r : Registration) (kind : Kind) (asked : Option ℕ) (value : LabelValue) (marks : List Mark) → (is_some asked ≡ true → is_process kind ≡ true)
+number_marks : (r : Registration) (kind : Kind) (asked : Option ℕ) (value : LabelValue) (marks : List Mark) → (is_some asked ≡ true → is_process_kind kind ≡ true)
     → AreMarksOf value marks → AreMarksOf (number_after asked value) (with_first marks value (number_after asked value) (map Made (if has_partition kind then r ∷ [] else [])))
 number_marks r kind None value marks claimed agree = unchanged_marks value marks _ agree
 number_marks r kinds.Process (Some n) value marks claimed agree = one (nat_eq n 0)
@@ -74,13 +75,13 @@ number_marks r kinds.Socket (Some n) value marks claimed agree = let process = c
 
 -- what a claimed request asks of a policy, this takes for that kind
 claimed_taken : (listed : List Entry) (kind : Kind) (request : Request) (m : Module) → is_claimed listed kind request ≡ true → is_named m request ≡ true
-    → takes_requests m kind ≡ true
+    → takes_by (facts_of m).labels kind ≡ true
 claimed_taken listed kind request m claimed named =
     let each = (and_parts (not request.other) (list_all (claims_part listed kind request) all_modules) claimed).1 in
     one (is_named m request) named (each_passes (claims_part listed kind request) each m)
   where
-    one : (named : Bool) → named ≡ true → (not named || (is_listed m listed && takes_requests m kind)) ≡ true → takes_requests m kind ≡ true
-    one true is part = (and_parts (is_listed m listed) (takes_requests m kind) part).1
+    one : (named : Bool) → named ≡ true → (not named || (is_listed m listed && takes_by (facts_of m).labels kind)) ≡ true → takes_by (facts_of m).labels kind ≡ true
+    one true is part = (and_parts (is_listed m listed) (takes_by (facts_of m).labels kind) part).1
     one false not_named part = cc
 
 -- by the labels, where those with elements are valid
@@ -99,7 +100,7 @@ marks_by Partitions range number r kind value marks taken valid agree = number_m
 pub relabelled_marks : (found : Option Entry) (listed : List Entry) (kind : Kind) (request : Request) (value : LabelValue) (marks : List Mark)
     → is_claimed listed kind request ≡ true
     → ((x : Entry) → found ≡ Some x → IsLasting x.0.module → IsValidOf x.0.module kind value × IsValidOf x.0.module kind (value_after x.0.module request value))
-    → AreMarksOf value marks → AreMarksOf (value_of found request value) (with_first marks value (value_of found request value) (map Made (by_holder kind found)))
+    → AreMarksOf value marks → AreMarksOf (relabelled_by found request value) (with_first marks value (relabelled_by found request value) (map Made (by_holder kind found)))
 relabelled_marks None listed kind request value marks claimed valid agree = unchanged_marks value marks [] agree
 relabelled_marks (Some x) listed kind request value marks claimed valid agree =
     let m : Module = x.0.module in

@@ -16,10 +16,11 @@ use Rattle.mf_policy.specs.declared.modules.Labelling.{Labelling}
 use Rattle.mf_policy.specs.declared.modules.Labelling.TheVariants.{Nothing, Ranges, Partitions}
 use Rattle.mf_policy.specs.declared.registration.Registration.{Registration}
 use Rattle.mf_policy.specs.declared.labels.Origin.TheVariants.{Boot, Maker}
-use Rattle.mf_policy.specs.NewLabels.{new_label, new_value, value_of}
-use Rattle.mf_policy.specs.Modules.{facts_of, fresh_of, boot_by, has_partition, inherited_by, inherited_partition, inherited_range, labels_by, may_ask, number_asked, range_asked}
+use Rattle.mf_policy.specs.NewLabels.{new_label, new_value}
+use Rattle.mf_policy.specs.Modules.{facts_of, fresh_of, boot_by, has_partition, inherited_by, inherited_range, labels_by, may_ask, number_asked, partition_of, range_asked}
 use Rattle.mf_policy.specs.Registration.{Entry, holds_slot}
-use Rattle.mf_policy.specs.Relabelled.{value_after, relabelled_value, relabelled, value_of as relabelled_by}
+use Rattle.mf_policy.specs.Relabelled.{value_after, relabelled_value, relabelled}
+use Rattle.mf_policy.proofs.ByEntry.{given_by, relabelled_by}
 use Rattle.mf_policy.specs.Answer.{answer}
 use Rattle.mf_policy.specs.declared.spec.Spec.{Spec}
 use Rattle.mf_list.specs.Asked.{slot_of}
@@ -61,7 +62,7 @@ set_marks r (Range label) set = (r, refl)
 set_marks r (Number n) set = (r, refl)
 
 partition_marks : (r : Registration) (kind : Kind) (value : LabelValue)
-    → AreMarksOf (if has_partition kind then inherited_partition value else Unset) (map Made (if has_partition kind then r ∷ [] else []))
+    → AreMarksOf (if has_partition kind then Number (partition_of value) else Unset) (map Made (if has_partition kind then r ∷ [] else []))
 partition_marks r kinds.Vnode value = refl
 partition_marks r kinds.Pipe value = refl
 partition_marks r kinds.Process Unset = (r, refl)
@@ -83,7 +84,7 @@ marks_by Partitions r kind value valid = partition_marks r kind value
 -- the slot of an entity that a process makes is set exactly where it is marked
 pub created_marks : (found : Option Entry) (kind : Kind) (maker : List LabelValue) (slot : ℕ)
     → ((x : Entry) → found ≡ Some x → IsLasting x.0.module → IsValidOf x.0.module kinds.Process (slice_index_or maker slot Unset))
-    → AreMarksOf (value_of found kind (Maker maker) slot) (map Made (by_holder kind found))
+    → AreMarksOf (given_by found kind (Maker maker) slot) (map Made (by_holder kind found))
 created_marks None kind maker slot valid = refl
 created_marks (Some x) kind maker slot valid = marks_by (facts_of x.0.module).labels x.0 kind (slice_index_or maker slot Unset) (valid x refl)
 
@@ -96,7 +97,7 @@ boot_by_labels Partitions r kinds.Vnode range number = refl
 boot_by_labels Partitions r kinds.Pipe range number = refl
 boot_by_labels Partitions r kinds.Socket range number = (r, refl)
 
-found_boot : (found : Option Entry) (kind : Kind) (request : Request) (slot : ℕ) → AreMarksOf (value_of found kind (Boot request) slot) (map Made (by_holder kind found))
+found_boot : (found : Option Entry) (kind : Kind) (request : Request) (slot : ℕ) → AreMarksOf (given_by found kind (Boot request) slot) (map Made (by_holder kind found))
 found_boot None kind request slot = refl
 found_boot (Some x) kind request slot =
     boot_by_labels (facts_of x.0.module).labels x.0 kind (range_asked x.0.module request) (number_asked x.0.module request)
@@ -113,7 +114,7 @@ boot_holds slot r specs given kind request within pinned let_ask =
     let may : may_ask r.module kind request ≡ true =
     (all_found (λ entry. may_ask entry.0.module kind request ≡ true) (holds_slot slot) specs (r, pinned.meaning) let_ask pinned.found).0 in
     ap (holds_valid (facts_of r.module).labels kind) (four_values (new_value specs kind (Boot request)) slot within)
-    ∙ ap (λ (found : Option Entry). holds_valid (facts_of r.module).labels kind (value_of found kind (Boot request) slot)) pinned.found
+    ∙ ap (λ (found : Option Entry). holds_valid (facts_of r.module).labels kind (given_by found kind (Boot request) slot)) pinned.found
     ∙ boot_valid r.module kind request pinned.lasting may
 
 -- What a step keeps
@@ -126,7 +127,7 @@ created_holds : (slot : ℕ) (r : Registration) (specs : List Entry) (given : �
     → IsValidOf r.module kinds.Process (slice_index_or maker slot Unset) → IsValidOf r.module kind (slice_index_or (new_label specs kind (Maker maker)) slot Unset)
 created_holds slot r specs given kind maker within pinned valid =
     ap (holds_valid (facts_of r.module).labels kind) (four_values (new_value specs kind (Maker maker)) slot within)
-    ∙ ap (λ (found : Option Entry). holds_valid (facts_of r.module).labels kind (value_of found kind (Maker maker) slot)) pinned.found
+    ∙ ap (λ (found : Option Entry). holds_valid (facts_of r.module).labels kind (given_by found kind (Maker maker) slot)) pinned.found
     ∙ inherited_valid r.module kind (slice_index_or maker slot Unset) pinned.lasting valid
 
 -- the value that is read in the slot of a live process

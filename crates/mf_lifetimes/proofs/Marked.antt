@@ -10,7 +10,8 @@ use Rattle.mf_elem.specs.declared.label.Request.{Request}
 use Rattle.mf_item.specs.declared.view.Kind.TheVariants as kinds
 use Rattle.mf_policy.specs.declared.registration.Registration.{Registration}
 use Rattle.mf_policy.specs.Registration.{Entry, holds_slot, given_after}
-use Rattle.mf_policy.specs.Relabelled.{value_after, relabelled_value, relabelled, value_of as relabelled_by}
+use Rattle.mf_policy.specs.Relabelled.{value_after, relabelled_value, relabelled}
+use Rattle.mf_policy.proofs.ByEntry.{relabelled_by}
 use Rattle.mf_policy.specs.declared.labels.Origin.TheVariants.{Boot, Maker}
 use Rattle.mf_policy.specs.Modules.{facts_of}
 use Rattle.mf_policy.specs.NewLabels.{new_value}

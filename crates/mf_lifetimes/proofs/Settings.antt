@@ -9,7 +9,8 @@ use Rattle.mf_policy.specs.declared.settings.Change.{Change}
 use Rattle.mf_policy.specs.declared.spec.Spec.{Spec}
 use Rattle.mf_policy.specs.Modules.{fresh_of}
 use Rattle.mf_policy.specs.Registration.{Entry, is_of, holds_slot}
-use Rattle.mf_policy.specs.Settings.{change_at, change_in, change_of, with_spec}
+use Rattle.mf_policy.specs.Settings.{change_in, change_of, with_spec}
+use Rattle.mf_policy.proofs.ByEntry.{change_at}
 use Rattle.mf_lifetimes.proofs.Listing.{AtMostOne, IsLasting, IsPinned}
 
 -- What is so of each registration

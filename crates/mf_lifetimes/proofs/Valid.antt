@@ -15,7 +15,8 @@ use Rattle.mf_item.specs.declared.view.Kind.{Kind}
 use Rattle.mf_item.specs.declared.view.Kind.TheVariants as kinds
 use Rattle.mf_policy.specs.declared.modules.Labelling.{Labelling}
 use Rattle.mf_policy.specs.declared.modules.Labelling.TheVariants.{Nothing, Ranges, Partitions}
-use Rattle.mf_policy.specs.Modules.{facts_of, range_asked, number_asked, labels_by, labels_kind, is_named, takes, boot_by, boot_value, inherited_by, inherited, is_valid_value, may_ask, has_no_range, is_process}
+use Rattle.mf_policy.specs.Modules.{facts_of, range_asked, number_asked, labels_by, labels_kind, is_named, takes, boot_by, boot_value, inherited_by, inherited, is_valid_value, may_ask, is_process_kind}
+use Rattle.mf_policy.proofs.ByEntry.{has_no_range}
 use Rattle.mf_policy.proofs.EachModule.{has_elements}
 use Rattle.mf_lifetimes.specs.Laws.{holds_valid, suits_kind}
 use Rattle.mf_lifetimes.proofs.Listing.{IsLasting, SuitKinds, lasting_facts}
@@ -59,7 +60,7 @@ process_booted label (Some asked) suits = one asked.range label.range (and_parts
     one (Some given) own there = refl
 
 -- labels that have elements are valid at boot, where a script may ask this of them
-booted : (labels : Labelling) (kind : Kind) (asked : Option RangeLabel) (number : Option ℕ) → SuitKinds labels → (is_process kind || has_no_range asked) ≡ true
+booted : (labels : Labelling) (kind : Kind) (asked : Option RangeLabel) (number : Option ℕ) → SuitKinds labels → (is_process_kind kind || has_no_range asked) ≡ true
     → is_valid_value (if labels_by labels kind then boot_by labels kind asked number else Unset) ≡ true
     → holds_valid labels kind (if labels_by labels kind then boot_by labels kind asked number else Unset) ≡ true
 booted (Ranges process other) kinds.Process asked number suit may valid = rw valid (process_booted process asked suit.0)
@@ -72,7 +73,7 @@ booted labels kind asked number suit may valid = absurd suit
 pub boot_valid : (m : Module) (kind : Kind) (request : Request) → IsLasting m → may_ask m kind request ≡ true → IsValidOf m kind (boot_value m kind request)
 boot_valid m kind request lasting may =
     let both = and_parts (takes m kind request) (is_valid_value (boot_value m kind request)) may in
-    let ranges = and_parts (labels_kind m kind || not (is_named m request)) (is_process kind || has_no_range (range_asked m request)) both.0 in
+    let ranges = and_parts (labels_kind m kind || not (is_named m request)) (is_process_kind kind || has_no_range (range_asked m request)) both.0 in
     booted (facts_of m).labels kind (range_asked m request) (number_asked m request) (lasting_facts m lasting).suit ranges.1 both.1
 
 -- At creation

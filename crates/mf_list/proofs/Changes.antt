@@ -7,7 +7,8 @@ use Rattle.mf_policy.specs.Registration.{Entry, is_of}
 use Rattle.mf_policy.specs.declared.spec.Spec.{Spec}
 use Rattle.mf_policy.specs.Settings.{change_of}
 use Rattle.mf_list.specs.Places.{IsEntryPlace}
-use Rattle.mf_list.specs.Registration.{change_at, change_in, with_spec}
+use Rattle.mf_list.specs.Registration.{change_in, with_spec}
+use Rattle.mf_policy.proofs.ByEntry.{change_at}
 use Rattle.std.specs.declared.alloc.AllocError.{AllocError}
 
 one_entry : (o : Option Entry) (a b : Entry) → o ≡ Some a → o ≡ Some b → a ≡ b

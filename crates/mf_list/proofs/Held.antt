@@ -11,7 +11,8 @@ use Rattle.mf_policy.specs.Settings.{change_of}
 use Rattle.std.specs.declared.alloc.AllocError.{AllocError}
 use Rattle.mf_list.specs.Held.{how_many}
 use Rattle.mf_list.specs.Once.{IsHeldOnce, times_held}
-use Rattle.mf_list.specs.Registration.{Enters, Unregisters, change_at, change_in}
+use Rattle.mf_list.specs.Registration.{Enters, Unregisters, change_in}
+use Rattle.mf_policy.proofs.ByEntry.{change_at}
 use Rattle.mf_list.proofs.Counts.{how_many-spec, how_many-newest, how_many-push, how_many-without_entry, how_many-without_module}
 
 -- a policy that is attached leaves the catalogue

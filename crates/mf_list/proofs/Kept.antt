@@ -7,7 +7,8 @@ use Rattle.mf_policy.specs.Registration.{Entry, is_of}
 use Rattle.mf_policy.specs.declared.settings.Change.{Change}
 use Rattle.mf_policy.specs.declared.settings.Changed.{Changed}
 use Rattle.mf_policy.specs.declared.spec.Spec.{Spec}
-use Rattle.mf_policy.specs.Settings.{change_at, change_in, change_of, with_spec}
+use Rattle.mf_policy.specs.Settings.{change_in, change_of, with_spec}
+use Rattle.mf_policy.proofs.ByEntry.{change_at}
 use Rattle.std.specs.declared.alloc.AllocError.{AllocError}
 use Rattle.mf_list.specs.Lists.{MayLeave}
 

@@ -5,7 +5,8 @@ use Rattle.mf_policy.specs.declared.registration.Registration.{Registration}
 use Rattle.mf_policy.specs.declared.settings.Change.{Change}
 use Rattle.mf_policy.specs.declared.spec.Spec.{Spec}
 use Rattle.mf_policy.specs.Registration.{Entry, is_of}
-use Rattle.mf_policy.specs.Settings.{change_at, change_in, change_of, with_spec}
+use Rattle.mf_policy.specs.Settings.{change_in, change_of, with_spec}
+use Rattle.mf_policy.proofs.ByEntry.{change_at}
 use Rattle.mf_list.specs.Held.{how_many}
 use Rattle.mf_list.proofs.Counts.{how_many-spec}
 

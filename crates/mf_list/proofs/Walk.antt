@@ -13,7 +13,8 @@ use Rattle.mf_policy.specs.Registration.{Entry, entries_without, is_listed, is_o
 use Rattle.mf_policy.specs.declared.settings.Change.{Change}
 use Rattle.mf_policy.specs.declared.settings.Changed.{Changed}
 use Rattle.mf_policy.specs.declared.spec.Spec.{Spec}
-use Rattle.mf_policy.specs.Settings.{change_at, change_in, change_of, with_spec}
+use Rattle.mf_policy.specs.Settings.{change_in, change_of, with_spec}
+use Rattle.mf_policy.proofs.ByEntry.{change_at}
 use Rattle.mf_list.specs.Held.{how_many}
 use Rattle.mf_list.specs.Lists.{IsPinned, MayLeave}
 use Rattle.mf_list.specs.Once.{IsListedOnce}
@@ -68,20 +69,6 @@ walked_once fixed list pinned leaving fixed_once list_once = λ m.
 
 pub listed-walked : (m : Module) (fixed list : List Entry) → is_listed m (fixed ++ list) ≡ (is_listed m fixed || is_listed m list)
 listed-walked m fixed list = list_any-append (is_of m) fixed list
-
-or_left : (a b : Bool) → (a || b) ≡ false → a ≡ false
-or_left true b none = none
-or_left false b none = refl
-
-or_right : (a b : Bool) → (a || b) ≡ false → b ≡ false
-or_right true b none = cc
-or_right false b none = none
-
--- a module that isn't in the walk is in neither list
-pub absent_from_both : (m : Module) (fixed list : List Entry) → is_listed m (fixed ++ list) ≡ false → (is_listed m fixed ≡ false) × (is_listed m list ≡ false)
-absent_from_both m fixed list absent =
-    let neither = sym (listed-walked m fixed list) ∙ absent in
-    (or_left (is_listed m fixed) (is_listed m list) neither, or_right (is_listed m fixed) (is_listed m list) neither)
 
 -- a module that is in the walk and may be unloaded is in the dynamic list
 pub listed_where_it_leaves : (m : Module) (fixed list : List Entry) → All IsPinned fixed → (facts_of m).unload_ok ≡ true → is_listed m (fixed ++ list) ≡ true

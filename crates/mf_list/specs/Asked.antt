@@ -1,6 +1,6 @@
 -- What the listed policies answer together, as sys/security/mac/mac_framework.c composes it; and whether a subject has a privilege, as priv_check(9)
 -- has it. That a denial names who decided is this model's own.
-use Rattle.std.specs.Prelude.{ℕ, Bool, true, false, cond, ◌&&◌, ◌||◌, nat_eq, List, map, Option, Some, None, option_map, option_and_then, slice_get, unwrap_or}
+use Rattle.std.specs.Prelude.{ℕ, Bool, true, false, if◌then◌else◌, ◌&&◌, ◌||◌, ◌==◌, List, map, Option, Some, None, option_map, option_and_then, slice_get, unwrap_or}
 use Rattle.std.specs.List.{list_any}
 use Rattle.mf_errno.specs.declared.errno.Errno.{Errno}
 use Rattle.mf_errno.specs.declared.errno.Errno.TheVariants.{Success, Eperm}
@@ -36,10 +36,7 @@ module_at entries place = option_map (λ entry. entry.0.module) (slice_get entri
 -- the composition of all answers, and the policy that decides it
 abbrev pub composed : List Entry → Item → Answer
 composed entries item =
-    record {
-      errno = composition (answers entries item);
-      by = option_and_then (module_at entries) (decider (answers entries item));
-    }
+    record { errno = composition (answers entries item); by = option_and_then (module_at entries) (decider (answers entries item)) }
 
 -- whether a listed policy grants that credential a privilege; where none is asked for, nobody grants it
 abbrev pub grant_of : Option Priv → Cred → Entry → Bool
@@ -48,14 +45,12 @@ grant_of (Some privilege) cred entry = grants entry.1 cred privilege
 
 -- whether the subject has the privilege that is asked for: root has each, and others have what some policy grants
 abbrev pub has_privilege : List Entry → Item → Bool
-has_privilege entries item =
-    nat_eq item.subject.cred.uid 0 || list_any (grant_of item.privilege item.subject.cred) entries
+has_privilege entries item = item.subject.cred.uid == 0 || list_any (grant_of item.privilege item.subject.cred) entries
 
 -- the answer about a privilege, by the composition of the policies' answers and by whether the subject has it; a refusal is EPERM
 -- whatever they answered, and nobody decides it
 abbrev pub privilege_answer : Errno → Bool → Answer
-privilege_answer errno has =
-    record { errno = cond (is_same Success errno && has) Success Eperm; by = None }
+privilege_answer errno has = record { errno = if is_same Success errno && has then Success else Eperm; by = None }
 
 -- whether an operation asks for a privilege
 abbrev pub asks_privilege : CheckOp → Bool
@@ -65,6 +60,4 @@ asks_privilege other = false
 -- the answer to an item: the composition of all answers, and about a privilege the rule for privileges
 abbrev pub answer_to : List Entry → Item → Answer
 answer_to entries item =
-    cond (asks_privilege item.op)
-    (privilege_answer (composition (answers entries item)) (has_privilege entries item))
-    (composed entries item)
+    if asks_privilege item.op then privilege_answer (composition (answers entries item)) (has_privilege entries item) else composed entries item

@@ -1,5 +1,5 @@
 -- Registration: which calls are refused, and what becomes of lists, catalogue and slot numbers, as in sys/security/mac/mac_framework.c.
-use Rattle.std.specs.Prelude.{◌≡◌, ℕ, ◌+◌, Bool, true, false, cond, not, ◌||◌, List, [], ◌∷◌, ◌++◌, Option, Some, None, find, is_some, Result, Ok, Err}
+use Rattle.std.specs.Prelude.{◌≡◌, ℕ, ◌+◌, Bool, true, false, if◌then◌else◌, not, ◌||◌, List, [], ◌∷◌, ◌++◌, Option, Some, None, find, is_some, Result, Ok, Err}
 use Rattle.mf_errno.specs.Same.{same_module}
 use Rattle.mf_errno.specs.declared.module.Module.{Module}
 use Rattle.mf_policy.specs.declared.loading.LoadFault.{LoadFault}
@@ -10,7 +10,7 @@ use Rattle.mf_policy.specs.declared.registration.Registration.{Registration}
 use Rattle.mf_policy.specs.Loading.{load_fault, unload_fault}
 use Rattle.mf_policy.specs.Registration.{Entry, is_listed, is_of}
 pub use Rattle.mf_policy.specs.Registration.{entries_without, given_after, registration_of, slot_for, with_newest, with_registered, without_first}
-pub use Rattle.mf_policy.specs.Settings.{change_at, change_in, with_spec}
+pub use Rattle.mf_policy.specs.Settings.{change_in, with_spec}
 use Rattle.mf_list.specs.declared.faults.RegisterFault.{RegisterFault}
 use Rattle.mf_list.specs.declared.faults.RegisterFault.TheVariants.{Unknown, NotLate, Exists, NoSlot}
 use Rattle.mf_list.specs.declared.faults.UnregisterFault.{UnregisterFault}
@@ -31,8 +31,8 @@ registered_unless (Some fault) r = Err (register_fault fault)
 -- the answer to a registration: neither the lists nor the catalogue have the module, or it can't be loaded
 abbrev pub register_verdict : Module → Bool → List Entry → List Module → ℕ → Result Registration RegisterFault
 register_verdict m booted listed catalogue given =
-    cond (not (is_listed m listed || in_catalogue m catalogue)) (Err Unknown)
-    (registered_unless (load_fault booted listed given m) (registration_of m booted given))
+    if not (is_listed m listed || in_catalogue m catalogue) then Err Unknown
+    else registered_unless (load_fault booted listed given m) (registration_of m booted given)
 
 -- the same for a name, which may be no module's
 abbrev pub register_verdict_by_name : Option Module → Bool → List Entry → List Module → ℕ → Result Registration RegisterFault
@@ -75,7 +75,7 @@ pub record Enters (r : Registration) (listed listed' : List Entry) (catalogue ca
 -- the walked lists, the catalogue and how many numbers were given, after a registration
 pub record Registers (r : Registration) (listed listed' : List Entry) (catalogue catalogue' : List Module) (given given' : ℕ) : Type 0 where
   pub moves : Enters r listed listed' catalogue catalogue'
-  pub slots : given' ≡ cond (is_some r.slot) (given + 1) given
+  pub slots : given' ≡ (if is_some r.slot then given + 1 else given)
 
 -- the walked lists and the catalogue after an unregistration
 pub record Unregisters (m : Module) (listed listed' : List Entry) (catalogue catalogue' : List Module) : Type 0 where

@@ -3,7 +3,7 @@ ghost use Rattle.std.specs.Prelude.{◌≡◌, length, map, option_and_then, tak
 ghost use Rattle.std.specs.List.{list_any};
 ghost use Rattle.mf_list.specs.Asked as spec;
 
-use crate::walked::Listed;
+use crate::listed::Listed;
 use mf_compose::{decider, fold, granted};
 use mf_errno::{Errno, Module};
 use mf_item::{CheckOp, Item};

@@ -10,8 +10,8 @@ ghost use Rattle.mf_list.specs.Places.{IsModulePlace};
 ghost use Rattle.mf_list.specs.Registration.{is_known, modules_without};
 
 use crate::fixed::Fixed;
+use crate::listed::Listed;
 use crate::policy_list::PolicyList;
-use crate::walked::Listed;
 use mf_errno::Module;
 use mf_policy::{MOST_LISTED, Policy};
 use std::alloc::AllocError;

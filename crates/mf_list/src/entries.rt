@@ -8,7 +8,7 @@ ghost use Rattle.mf_policy.specs.Registration.{Entry, is_listed, is_of};
 ghost use Rattle.mf_list.specs.Once.{IsListedOnce};
 ghost use Rattle.mf_list.specs.Places.{IsAbsent, IsEntryPlace};
 
-use crate::listed::ListedPolicy;
+use crate::listed_policy::ListedPolicy;
 use mf_errno::Module;
 use mf_policy::{Change, Changed, MOST_LISTED, Policy};
 use std::alloc::{AllocError, Global};

@@ -6,7 +6,7 @@ ghost use Rattle.mf_list.specs.Lists.{IsPinned};
 ghost use Rattle.mf_list.specs.Once.{IsListedOnce};
 
 use crate::entries::Entries;
-use crate::listed::ListedPolicy;
+use crate::listed_policy::ListedPolicy;
 use mf_errno::Module;
 use mf_policy::Policy;
 use std::alloc::{AllocError, Global};

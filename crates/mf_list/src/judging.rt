@@ -9,7 +9,7 @@ ghost use Rattle.mf_list.specs.Registration.{register_verdict, unregister_verdic
 
 use crate::catalogue::Catalogue;
 use crate::faults::{RegisterFault, UnregisterFault};
-use crate::walked::Listed;
+use crate::listed::Listed;
 use mf_elem::SLOTS;
 use mf_errno::Module;
 use mf_policy::{LoadFault, LoadFlags, Policy, Registration, registration_of};

@@ -9,13 +9,13 @@ mod faults;
 mod fixed;
 mod judging;
 mod listed;
+mod listed_policy;
 mod policy_list;
 mod registering;
-mod walked;
 
 pub use ask::Answer;
 pub use catalogue::Catalogue;
 pub use faults::{RegisterFault, UnregisterFault};
 pub use fixed::Fixed;
+pub use listed::Listed;
 pub use policy_list::PolicyList;
-pub use walked::Listed;

@@ -1,123 +1,113 @@
-//! A policy in a list.
-ghost use Rattle.std.specs.Prelude.{◌≡◌, IsTrue, ◌↔◌, IfOk, OnErr};
-ghost use Rattle.mf_policy.specs.LoadFlags.{flags_of};
-ghost use Rattle.mf_policy.specs.Modules as facts;
-ghost use Rattle.mf_policy.specs.Registration.{is_of};
-ghost use Rattle.mf_policy.specs.Settings.{change_of};
-ghost use Rattle.mf_policy.specs.IsChange.{IsChange};
-ghost use Rattle.mf_list.specs.Asked.{answer_of, grant_of};
-ghost use Rattle.mf_list.specs.Lists.{IsEntry};
+//! The listed policies in walk order.
+ghost use Rattle.std.specs.Prelude.{◌≡◌, ◌<◌, ◌≤◌, ◌++◌, ◌↔◌, IsTrue, IfSome, find, is_some, length, map, slice_index_or};
+ghost use Rattle.std.specs.Option.{option_copied};
+ghost use Rattle.mf_policy.specs.Registration.{Entry, is_listed, is_of};
 
-use mf_errno::{Errno, Module};
-use mf_item::Item;
-use mf_policy::{Change, Changed, LoadFlags, Policy, Registration, Spec};
-use std::alloc::{AllocError, Global};
+use crate::fixed::Fixed;
+use crate::listed_policy::ListedPolicy;
+use crate::policy_list::PolicyList;
+use mf_cred::ArrayVec;
+use mf_errno::Module;
+use mf_policy::{MOST_LISTED, Policy, Registration, SpecList};
 use std::marker::Model;
 
-/// A policy with its registration. Contracts see the registration and the policy's spec.
+/// The listed policies, lent. Contracts see the entries in walk order: those of the static list before those of the
+/// dynamic one.
 #[derive(Drop)]
-pub struct ListedPolicy<P: Policy> {
-    registration: Registration,
-    policy: P,
+pub struct Listed<'a, P: Policy> {
+    fixed: &'a Fixed<P>,
+    dynamic: &'a PolicyList<P>,
 }
 
-impl<P: Policy> Model for ListedPolicy<P> {
+impl<'a, P: Policy> Model for Listed<'a, P> {
+    ghost use Rattle.std.specs.Prelude.{◌++◌, List};
     ghost use Rattle.mf_policy.specs.Registration.{Entry};
-    ghost use Rattle.mf_list.specs.Lists.{IsEntry};
 
-    ghost Value = { Entry };
+    ghost Value = { List Entry };
 
-    ghost view = { λ a. (a.registration, P.spec a.policy) };
-
-    ghost invariant = { λ a. IsEntry (a.registration, P.spec a.policy) };
+    ghost view = { λ a. a.fixed.now ++ a.dynamic.now };
 }
 
-impl<P: Policy> ListedPolicy<P> {
-    /// The policy with this registration.
-    pub fn new(registration: Registration, policy: P) -> ListedPolicy<P>
-        requires { IsEntry (registration, P.spec policy) }
-        ensures { result ≡ (registration, P.spec policy) }
+impl<'a, P: Policy> Listed<'a, P> {
+    /// The policies of the static and of the dynamic list.
+    pub fn new(fixed: &'a Fixed<P>, dynamic: &'a PolicyList<P>) -> Listed<'a, P>
+        ensures entries { result ≡ fixed.now ++ dynamic.now }
     {
-        ListedPolicy {
-            registration,
-            policy,
+        Listed { fixed, dynamic }
+    }
+
+    /// The registrations in walk order.
+    pub fn listed(&self) -> ArrayVec<Registration, MOST_LISTED>
+        ensures { result ≡ map (λ entry. entry.0) self.now }
+    {
+        let mut registrations = ArrayVec::new();
+        for place in 0..self.len() {
+            registrations.push(self.policy(place).registration());
+        }
+        registrations
+    }
+
+    /// Whether the registrations with their specs, in walk order, are these.
+    pub fn same_specs(&self, specs: &SpecList) -> bool
+        ensures { IsTrue result ↔ (self.now ≡ specs.now) }
+    {
+        if self.len() != specs.len() {
+            return false;
+        }
+        for place in 0..specs.len() {
+            if !self.agrees_at(specs, place) {
+                return false;
+            }
+        }
+        true
+    }
+
+    fn agrees_at(&self, specs: &SpecList, place: usize) -> bool
+        requires listed { place < length self.now }
+        requires given { place < length specs.now }
+        ensures { (other : Entry) → IsTrue result ↔ (slice_index_or self.now place other ≡ slice_index_or specs.now place other) }
+    {
+        self.policy(place)
+            .is(specs.registration(place), specs.spec(place))
+    }
+
+    /// The number of policies.
+    pub(crate) fn len(&self) -> usize
+        ensures value { result ≡ length self.now }
+        ensures few { length self.now ≤ MOST_LISTED }
+    {
+        self.fixed.len() + self.dynamic.len()
+    }
+
+    /// The policy at a place of the walk.
+    pub(crate) fn policy(&self, place: usize) -> &ListedPolicy<P>
+        requires { place < length self.now }
+        ensures { (other : Entry) → result.now ≡ slice_index_or self.now place other }
+    {
+        let statics = self.fixed.len();
+        if place < statics {
+            self.fixed.policy(place)
+        } else {
+            self.dynamic.policy(place - statics)
         }
     }
 
-    /// How it is registered.
-    pub fn registration(&self) -> Registration
-        ensures value { result ≡ self.now.0 }
-        ensures entry { IsEntry self.now }
+    /// The module's policy, where it is listed.
+    pub(crate) fn find(&self, wanted: Module) -> Option<&ListedPolicy<P>>
+        ensures value { option_copied result ≡ find (is_of wanted) self.now }
+        ensures variant { is_some result ≡ is_listed wanted self.now }
+        ensures of { IfSome result (λ policy. policy.now.0.«module» ≡ wanted) }
     {
-        self.registration
-    }
-
-    /// Whether it is the policy of `wanted`.
-    pub fn is_of(&self, wanted: Module) -> bool
-        ensures { result ≡ is_of wanted self.now }
-    {
-        wanted.is(self.registration.module)
-    }
-
-    /// The flags of its module.
-    pub fn flags(&self) -> LoadFlags
-        ensures { result ≡ flags_of self.now.0.«module» }
-    {
-        self.policy.flags()
-    }
-
-    /// Whether its module labels entities, and so has a label slot.
-    pub fn wants_slot(&self) -> bool
-        ensures { result ≡ facts.wants_slot self.now.0.«module» }
-    {
-        self.policy.wants_slot()
-    }
-
-    /// Whether its registration and its spec are these.
-    pub fn is(&self, registration: Registration, spec: &Spec) -> bool
-        ensures { IsTrue result ↔ (self.now ≡ (registration, spec.now)) }
-    {
-        self.registration == registration && self.policy.same(spec)
-    }
-
-    /// The policy's answer to an item.
-    pub fn check(&self, item: &Item) -> Errno
-        ensures { result ≡ answer_of item.now self.now }
-    {
-        let slot = self.registration.slot.unwrap_or(0);
-        self.policy.check(slot, item)
-    }
-
-    /// Whether the policy grants the privilege that the item asks for.
-    pub fn grants(&self, item: &Item) -> bool
-        ensures { result ≡ grant_of item.now.privilege item.now.subject.cred self.now }
-    {
-        match item.privilege() {
-            Some(privilege) => self.policy.grant(&item.subject().cred, privilege),
-            None => false,
+        match self.fixed.find(wanted) {
+            Some(policy) => Some(policy),
+            None => self.dynamic.find(wanted),
         }
     }
 
-    /// Changes a setting of the policy.
-    pub fn change(&mut self, alloc: Global, change: &Change) -> Result<Changed, AllocError>
-        requires { IsChange change.now }
-        ensures registration { self.new.0 ≡ self.old.0 }
-        ensures ok { IfOk result (λ changed. (changed, self.new.1) ≡ change_of self.old.1 change.now) }
-        ensures err { OnErr result (self.new ≡ self.old) }
+    /// Whether the module is listed.
+    pub(crate) fn holds(&self, wanted: Module) -> bool
+        ensures { result ≡ is_listed wanted self.now }
     {
-        self.policy.change(alloc, change)
-    }
-
-    /// The policy, put back into its initial state.
-    pub fn into_fresh(self) -> P
-        ensures fresh { P.spec result ≡ facts.fresh_of self.0.«module» }
-        ensures of { facts.module_of (P.spec result) ≡ self.0.«module» }
-    {
-        let ListedPolicy {
-            registration: _,
-            mut policy,
-        } = self;
-        policy.reset();
-        policy
+        self.find(wanted).is_some()
     }
 }

@@ -10,7 +10,7 @@ ghost use Rattle.mf_list.specs.Once.{IsListedOnce};
 ghost use Rattle.mf_list.specs.Places.{IsAbsent, IsEntryPlace};
 
 use crate::entries::Entries;
-use crate::listed::ListedPolicy;
+use crate::listed_policy::ListedPolicy;
 use mf_errno::Module;
 use mf_policy::{Change, Changed, Policy};
 use std::alloc::{AllocError, Global};

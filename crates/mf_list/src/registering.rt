@@ -11,9 +11,9 @@ ghost use Rattle.mf_list.specs.Registration.{Enters, Registers, Unregisters, reg
 use crate::catalogue::Catalogue;
 use crate::faults::{RegisterFault, UnregisterFault};
 use crate::fixed::Fixed;
-use crate::listed::ListedPolicy;
+use crate::listed::Listed;
+use crate::listed_policy::ListedPolicy;
 use crate::policy_list::PolicyList;
-use crate::walked::Listed;
 use mf_elem::SLOTS;
 use mf_errno::Module;
 use mf_policy::{Policy, Registration};

@@ -78,8 +78,8 @@ impl Lattice for Lomac {
         range_asked(Module::Lomac, request)
     }
 
-    fn guards_modules() -> bool {
-        false
+    fn guard_modules(_label: &RangeLabel) -> Errno {
+        Errno::Success
     }
 
     fn take(subject: &Elem, _label: &RangeLabel, asked: &RangeLabel) -> Errno {

@@ -77,8 +77,8 @@ impl Lattice for Mls {
         range_asked(Module::Mls, request)
     }
 
-    fn guards_modules() -> bool {
-        false
+    fn guard_modules(_label: &RangeLabel) -> Errno {
+        Errno::Success
     }
 
     fn take(_subject: &Elem, label: &RangeLabel, asked: &RangeLabel) -> Errno {

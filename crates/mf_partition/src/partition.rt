@@ -1,6 +1,8 @@
 //! Partitions: a subject in a partition sees what is in it, and a subject in none sees everything.
-ghost use Rattle.std.specs.Prelude.{◌≡◌, ◌<◌, option_copied};
+ghost use Rattle.std.specs.Prelude.{◌≡◌, ◌<◌, ◌==◌, ◌||◌, option_and_then, option_copied, unwrap_or};
+ghost use Rattle.mf_errno.specs.declared.module.Module.TheVariants as modules;
 ghost use Rattle.mf_policy.specs.Answer as spec;
+ghost use Rattle.mf_policy.specs.Modules.{number_asked, partition_of};
 ghost use Rattle.mf_policy.specs.Operations.{row_of};
 ghost use Rattle.mf_policy.specs.declared.spec.Spec.TheVariants as means;
 
@@ -77,19 +79,19 @@ fn verdict(op: CheckOp, cred: &Cred, subject: u32, object: u32, wanted: u32) -> 
 }
 
 fn agree(subject: u32, object: u32) -> bool
-    ensures { result ≡ spec.agree subject object }
+    ensures { result ≡ (subject == 0 || subject == object) }
 {
     subject == 0 || subject == object
 }
 
 fn may_join(cred: &Cred, partition: u32) -> bool
-    ensures { result ≡ spec.may_join cred.now partition }
+    ensures { result ≡ (partition == 0 || cred.now.uid == 0) }
 {
     partition == 0 || cred.is_root()
 }
 
 fn number(value: &LabelValue) -> u32
-    ensures { result ≡ spec.partition_of value.now }
+    ensures { result ≡ partition_of value.now }
 {
     match value {
         LabelValue::Number(number) => *number,
@@ -99,7 +101,7 @@ fn number(value: &LabelValue) -> u32
 
 fn object_number(object: Option<&ObjectView>, slot: u8) -> u32
     requires { slot < SLOTS }
-    ensures { result ≡ spec.partition_of (spec.object_slot (option_copied object.entry) slot) }
+    ensures { result ≡ partition_of (spec.object_slot (option_copied object.entry) slot) }
 {
     match object {
         Some(view) => number(&view.label[slot as usize]),
@@ -108,7 +110,7 @@ fn object_number(object: Option<&ObjectView>, slot: u8) -> u32
 }
 
 fn wanted_number(request: Option<&Request>) -> u32
-    ensures { result ≡ spec.partition_asked (option_copied request.entry) }
+    ensures { result ≡ unwrap_or (option_and_then (number_asked modules.Partition) (option_copied request.entry)) 0 }
 {
     match request {
         Some(request) => number_asked(Module::Partition, request).unwrap_or(0),

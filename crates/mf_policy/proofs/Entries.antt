@@ -9,7 +9,8 @@ use Rattle.mf_policy.specs.declared.settings.Changed.{Changed}
 use Rattle.mf_policy.specs.declared.registration.Registration.{Registration}
 use Rattle.mf_policy.specs.declared.spec.Spec.{Spec}
 use Rattle.mf_policy.specs.Registration.{Entry, is_listed, is_of}
-use Rattle.mf_policy.specs.Settings.{change_at, change_in, change_of, with_spec}
+use Rattle.mf_policy.specs.Settings.{change_in, change_of, with_spec}
+use Rattle.mf_policy.proofs.ByEntry.{change_at}
 use Rattle.mf_policy.proofs.Places.{any_by_place, found, not_found}
 
 entry_later : (x : Entry) (xs : List Entry) (i : ℕ) (d : Entry) → Some (get_or xs i d) ≡ Some (get_or (x ∷ xs) (1 + i) d)

@@ -1,7 +1,7 @@
 -- What a policy answers to an item, by its spec and the table of operations: mac_biba(4), mac_mls(4), mac_lomac(4), mac_partition(4),
 -- mac_bsdextended(4) and mac_priority(4), with the errnos of docs/MANUAL.md (POLICIES).
 use Rattle.std.specs.Option.{option_map_or}
-use Rattle.std.specs.Prelude.{ℕ, Bool, true, false, cond, not, ◌&&◌, ◌||◌, nat_eq, Option, Some, None, unwrap_or, slice_index_or, option_and_then}
+use Rattle.std.specs.Prelude.{ℕ, Bool, true, false, if◌then◌else◌, not, ◌&&◌, ◌||◌, ◌==◌, Option, Some, None, unwrap_or, slice_index_or, option_and_then}
 use Rattle.mf_errno.specs.declared.errno.Errno.{Errno}
 use Rattle.mf_errno.specs.declared.errno.Errno.TheVariants.{Success, Esrch, Eacces, Eperm}
 use Rattle.mf_errno.specs.declared.module.Module.TheVariants as modules
@@ -10,7 +10,7 @@ use Rattle.mf_errno.specs.declared.privilege.Priv.TheVariants as privilege
 use Rattle.mf_elem.specs.declared.elem.Elem.{Elem}
 use Rattle.mf_elem.specs.declared.label.RangeLabel.{RangeLabel}
 use Rattle.mf_elem.specs.declared.label.LabelValue.{LabelValue}
-use Rattle.mf_elem.specs.declared.label.LabelValue.TheVariants.{Unset, Range, Number}
+use Rattle.mf_elem.specs.declared.label.LabelValue.TheVariants.{Unset, Range}
 use Rattle.mf_elem.specs.declared.label.Request.{Request}
 use Rattle.mf_elem.specs.Elem.{dominates, is_equal, same_level}
 use Rattle.mf_elem.specs.Label.{is_privileged}
@@ -26,52 +26,49 @@ use Rattle.mf_policy.specs.declared.operations.Test.{Test}
 use Rattle.mf_policy.specs.declared.operations.Test.TheVariants.{Observe, Modify, ObserveAndModify, SameLevel, RelabelObject, RelabelCredential, GuardModules}
 use Rattle.mf_policy.specs.declared.operations.PartitionTest.{PartitionTest}
 use Rattle.mf_policy.specs.declared.operations.PartitionTest.TheVariants.{Agree, Join, Ignore}
-use Rattle.mf_policy.specs.Modules.{range_asked, number_asked}
-use Rattle.mf_policy.specs.declared.operations.Letters.{Letters}
-use Rattle.mf_policy.specs.declared.operations.Letters.TheVariants.{Asked, NotAsked}
+use Rattle.mf_policy.specs.Modules.{range_asked, number_asked, partition_of}
 use Rattle.mf_policy.specs.Operations.{row_of}
 use Rattle.mf_policy.specs.Relabel.{credential_relabel, object_relabel}
 
--- A policy whose labels have elements: whether a subject of one element may observe and may modify an object of another, which part of a request
--- is the policy's, whether it guards the kernel's modules, and what it answers to relabels.
+-- A policy whose labels have elements: whether a subject of one element may observe and may modify an object of another, and which part of a
+-- request is the policy's.
 pub record LatticePolicy : Type 0 where
   pub may_observe : Elem → Elem → Bool
   pub may_modify : Elem → Elem → Bool
   pub part : Request → Option RangeLabel
-  pub guards_modules : Bool
+  -- the answer to a subject of this label that loads or unloads modules
+  pub guard_modules : RangeLabel → Errno
   -- the answer to a subject of this element and label that asks for that label of its own
   pub take : Elem → RangeLabel → RangeLabel → Errno
   -- the answer to it where it asks for that label of an object, whose element is the old one so far
   pub give : Elem → RangeLabel → Elem → RangeLabel → Errno
 
--- integrity: one reads up and writes down
+-- success where the test holds, else the error
+abbrev pub errno_unless : Bool → Errno → Errno
+errno_unless true errno = Success
+errno_unless false errno = errno
+
+-- integrity: one reads up and writes down, and the privileged alone load modules
 abbrev pub biba : LatticePolicy
 biba =
     record {
       may_observe = λ subject object. dominates object subject;
       may_modify = λ subject object. dominates subject object;
       part = range_asked modules.Biba;
-      guards_modules = true;
+      guard_modules = λ label. errno_unless (is_privileged label) Eperm;
       take = λ subject label asked. credential_relabel label asked;
       give = λ subject label old asked. object_relabel label old asked;
     }
 
--- confidentiality: one reads down and writes up
+-- confidentiality: one reads down and writes up, and everybody loads modules; relabels are as for Biba
 abbrev pub mls : LatticePolicy
 mls =
-    record {
+    record biba {
       may_observe = λ subject object. dominates subject object;
       may_modify = λ subject object. dominates object subject;
       part = range_asked modules.Mls;
-      guards_modules = false;
-      take = λ subject label asked. credential_relabel label asked;
-      give = λ subject label old asked. object_relabel label old asked;
+      guard_modules = λ label. Success;
     }
-
--- success where the test holds, else the error
-abbrev pub errno_unless : Bool → Errno → Errno
-errno_unless true errno = Success
-errno_unless false errno = errno
 
 -- whether a subject may take or give an element: one that it dominates, and `equal` only where it is equal itself
 abbrev pub may_assign : Elem → Option Elem → Bool
@@ -85,7 +82,7 @@ lomac =
       may_observe = λ subject object. true;
       may_modify = λ subject object. dominates subject object;
       part = range_asked modules.Lomac;
-      guards_modules = false;
+      guard_modules = λ label. Success;
       take = λ subject label asked. errno_unless (may_assign subject asked.effective) Eperm;
       give = λ subject label old asked. errno_unless (dominates subject old && may_assign subject asked.effective) Eperm;
     }
@@ -111,20 +108,16 @@ part_of policy request = unwrap_or (option_and_then policy.part request) nothing
 abbrev pub element_answer : Test → Bool → Bool → Bool → Errno
 element_answer (Observe errno) may_observe may_modify same_level = errno_unless may_observe errno
 element_answer Modify may_observe may_modify same_level = errno_unless may_modify Eacces
-element_answer ObserveAndModify may_observe may_modify same_level = cond may_observe (errno_unless may_modify Eacces) Esrch
+element_answer ObserveAndModify may_observe may_modify same_level = if may_observe then errno_unless may_modify Eacces else Esrch
 element_answer SameLevel may_observe may_modify same_level = errno_unless same_level Eacces
 element_answer test may_observe may_modify same_level = Success
-
--- the answer of a policy that guards the kernel's modules; another lets everybody load and unload them
-abbrev pub guard_answer : LatticePolicy → RangeLabel → Errno
-guard_answer policy label = cond policy.guards_modules (errno_unless (is_privileged label) Eperm) Success
 
 -- The answer to a subject of this label that asks for that one, by the elements of subject and object, each of which may be unset: the tests of
 -- the subject alone, the relabel of an object, and the tests of elements.
 abbrev pub labels_answer : LatticePolicy → Test → RangeLabel → RangeLabel → Option Elem → Option Elem → Errno
 labels_answer policy test label asked None object = Success
 labels_answer policy RelabelCredential label asked (Some subject) object = policy.take subject label asked
-labels_answer policy GuardModules label asked (Some subject) object = guard_answer policy label
+labels_answer policy GuardModules label asked (Some subject) object = policy.guard_modules label
 labels_answer policy test label asked (Some subject) None = Success
 labels_answer policy RelabelObject label asked (Some subject) (Some object) = policy.give subject label object asked
 labels_answer policy test label asked (Some subject) (Some object) =
@@ -137,49 +130,31 @@ lattice_answer policy slot item =
     let object = range_label (object_slot item.object slot) in
     labels_answer policy (row_of item.op).test subject (part_of policy item.request) subject.effective object.effective
 
--- the number of the partition that a slot is read as; 0, which is no partition, where it holds none
-abbrev pub partition_of : LabelValue → ℕ
-partition_of (Number partition) = partition
-partition_of other = 0
-
--- whether the partitions agree: a subject in no partition sees everything, and one in a partition what is in it
-abbrev pub agree : ℕ → ℕ → Bool
-agree subject object = nat_eq subject 0 || nat_eq subject object
-
--- the partition that a request asks for; 0 where there is no request, or no part
-abbrev pub partition_asked : Option Request → ℕ
-partition_asked request = unwrap_or (option_and_then (number_asked modules.Partition) request) 0
-
--- only root takes on a partition; anybody may ask for none
-abbrev pub may_join : Cred → ℕ → Bool
-may_join cred partition = nat_eq partition 0 || nat_eq cred.uid 0
-
--- the answer to a subject of one partition about an object of another, where the subject asks for this one
+-- The answer to a subject of one partition about an object of another, where the subject asks for this one. A subject in no partition, which is 0,
+-- sees everything, and one in a partition what is in it; only root takes on a partition, and anybody may ask for none.
 abbrev pub partition_verdict : PartitionTest → Cred → ℕ → ℕ → ℕ → Errno
-partition_verdict (Agree errno) cred subject object asked = errno_unless (agree subject object) errno
-partition_verdict Join cred subject object asked = errno_unless (may_join cred asked) Eperm
+partition_verdict (Agree errno) cred subject object asked = errno_unless (subject == 0 || subject == object) errno
+partition_verdict Join cred subject object asked = errno_unless (asked == 0 || cred.uid == 0) Eperm
 partition_verdict Ignore cred subject object asked = Success
 
--- what the partition policy, which holds this slot, answers to an item
+-- what the partition policy, which holds this slot, answers to an item; a request without a part of its asks for no partition
 abbrev pub partition_answer : ℕ → Item → Errno
 partition_answer slot item =
     let subject = partition_of (slice_index_or item.subject.label slot Unset) in
     let object = partition_of (object_slot item.object slot) in
-    partition_verdict (row_of item.op).partition item.subject.cred subject object (partition_asked item.request)
+    let asked = unwrap_or (option_and_then (number_asked modules.Partition) item.request) 0 in
+    partition_verdict (row_of item.op).partition item.subject.cred subject object asked
 
 -- the attributes of the object; all zero where there is none
-abbrev pub file_of : Option ObjectView → FileView
-file_of None = record { uid = 0; gid = 0; mode = 0; dir = false }
-file_of (Some object) = object.file
+abbrev pub attributes_of : Option ObjectView → FileView
+attributes_of None = record { uid = 0; gid = 0; mode = 0; dir = false }
+attributes_of (Some object) = object.file
 
--- the answer of rules about files to a subject that asks for these letters
-abbrev pub letters_answer : Slots → Bool → Letters → Cred → FileView → Errno
-letters_answer rules first NotAsked cred file = Success
-letters_answer rules first (Asked letters) cred file = errno_unless (verdict first rules cred file letters) Eacces
-
--- what the policy of rules about files answers to an item
+-- what rules about files answer to an item: they are asked where its operation has letters
 abbrev pub rules_answer : Slots → Bool → Item → Errno
-rules_answer rules first item = letters_answer rules first (row_of item.op).letters item.subject.cred (file_of item.object)
+rules_answer rules first item =
+    option_map_or (λ letters. errno_unless (verdict first rules item.subject.cred (attributes_of item.object) letters) Eacces)
+    (row_of item.op).letters Success
 
 -- what a policy of this spec, which holds this slot, answers to an item
 abbrev pub answer : Spec → ℕ → Item → Errno

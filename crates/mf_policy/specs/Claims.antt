@@ -8,22 +8,19 @@ use Rattle.mf_elem.specs.declared.label.Request.{Request}
 use Rattle.mf_item.specs.declared.view.Kind.{Kind}
 use Rattle.mf_policy.specs.declared.modules.Labelling.{Labelling}
 use Rattle.mf_policy.specs.declared.modules.Labelling.TheVariants.{Nothing, Ranges, Elements, Partitions}
-use Rattle.mf_policy.specs.Modules.{facts_of, is_named, is_process}
+use Rattle.mf_policy.specs.Modules.{facts_of, is_named, is_process_kind}
 use Rattle.mf_policy.specs.Registration.{Entry, is_listed}
 
+-- whether a policy that labels so takes requests to change the label of an entity of that kind
 abbrev pub takes_by : Labelling → Kind → Bool
 takes_by Nothing kind = false
 takes_by (Ranges process other) kind = true
 takes_by (Elements element) kind = true
-takes_by Partitions kind = is_process kind
-
--- whether a module's policy takes requests to change the label of an entity of that kind
-abbrev pub takes_requests : Module → Kind → Bool
-takes_requests m kind = takes_by (facts_of m).labels kind
+takes_by Partitions kind = is_process_kind kind
 
 -- the request has no part for the module's policy, or that is listed and takes it; a range for an object is taken too, and refused later
 abbrev pub claims_part : List Entry → Kind → Request → Module → Bool
-claims_part listed kind request m = not (is_named m request) || (is_listed m listed && takes_requests m kind)
+claims_part listed kind request m = not (is_named m request) || (is_listed m listed && takes_by (facts_of m).labels kind)
 
 -- whether the listed policies claim the whole request for an entity of that kind
 abbrev pub is_claimed : List Entry → Kind → Request → Bool

@@ -21,20 +21,17 @@ load_fault booted listed given m =
     else if wants_slot m && nat_le SLOTS given then Some NoSlot
     else None
 
--- why a module can't be unloaded: it isn't listed; it may not be unloaded
 abbrev pub unload_fault : List Entry → Module → Option UnloadFault
 unload_fault listed m =
     if not (is_listed m listed) then Some NotLoaded
     else if (facts_of m).unload_ok then None
     else Some Pinned
 
--- the errno with which a load is refused
 abbrev pub load_errno : LoadFault → Errno
 load_errno NotLate = Ebusy
 load_errno Exists = Eexist
 load_errno NoSlot = Enomem
 
--- the errno with which an unload is refused
 abbrev pub unload_errno : UnloadFault → Errno
 unload_errno NotLoaded = Enoent
 unload_errno Pinned = Ebusy

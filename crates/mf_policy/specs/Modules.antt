@@ -88,25 +88,21 @@ labels_by (Ranges process other) kind = true
 labels_by (Elements element) kind = true
 labels_by Partitions kind = has_partition kind
 
--- which kinds of entities a module labels
 abbrev pub labels_kind : Module → Kind → Bool
 labels_kind m kind = labels_by (facts_of m).labels kind
 
-abbrev pub is_process : Kind → Bool
-is_process kinds.Process = true
-is_process other = false
+abbrev pub is_process_kind : Kind → Bool
+is_process_kind kinds.Process = true
+is_process_kind other = false
 
--- whether a request names the module's policy
 abbrev pub is_named : Module → Request → Bool
 is_named m request = is_some (range_asked m request) || is_some (number_asked m request)
-
-abbrev pub has_no_range : Option RangeLabel → Bool
-has_no_range label = option_map_or (λ label. is_none label.range) label true
 
 -- whether the module's policy takes what a request asks of it for an entity of that kind: it labels the kind, and a range is a
 -- process's alone
 abbrev pub takes : Module → Kind → Request → Bool
-takes m kind request = (labels_kind m kind || not (is_named m request)) && (is_process kind || has_no_range (range_asked m request))
+takes m kind request =
+    (labels_kind m kind || not (is_named m request)) && (is_process_kind kind || option_map_or (λ asked. is_none asked.range) (range_asked m request) true)
 
 -- A new entity's label
 
@@ -132,16 +128,16 @@ inherited_range kinds.Process value = value
 inherited_range other (Range label) = Range (record label { range = None })
 inherited_range other value = value
 
--- the partition, where an unset one counts as 0
-abbrev pub inherited_partition : LabelValue → LabelValue
-inherited_partition (Number n) = Number n
-inherited_partition other = Number 0
+-- the number of the partition that a slot is read as; 0, which is no partition, where it holds none
+abbrev pub partition_of : LabelValue → ℕ
+partition_of (Number partition) = partition
+partition_of other = 0
 
 abbrev pub inherited_by : Labelling → Kind → LabelValue → LabelValue
 inherited_by Nothing kind value = Unset
 inherited_by (Ranges process other) kind value = inherited_range kind value
 inherited_by (Elements element) kind value = inherited_range kind value
-inherited_by Partitions kind value = inherited_partition value
+inherited_by Partitions kind value = Number (partition_of value)
 
 -- what a module gives a created entity of that kind, where this is its maker's
 abbrev pub inherited : Module → Kind → LabelValue → LabelValue

@@ -1,7 +1,7 @@
 -- The label of a new entity, at boot and at creation, as mac_biba(4) and mac_mls(4) have it; that pipes, sockets and files have the maker's
 -- effective element alone is the manner of FreeBSD's modules.
 use Rattle.std.specs.Option.{option_map_or}
-use Rattle.std.specs.Prelude.{ℕ, List, [], ◌∷◌, map, slice_index_or, Option, find}
+use Rattle.std.specs.Prelude.{ℕ, List, [], ◌∷◌, map, slice_index_or, find}
 use Rattle.mf_errno.specs.declared.module.Module.{Module}
 use Rattle.mf_elem.specs.declared.label.LabelValue.{LabelValue}
 use Rattle.mf_elem.specs.declared.label.LabelValue.TheVariants.{Unset}
@@ -16,12 +16,9 @@ abbrev pub value_by : Module → Kind → Origin → ℕ → LabelValue
 value_by m kind (Boot request) slot = boot_value m kind request
 value_by m kind (Maker label) slot = inherited m kind (slice_index_or label slot Unset)
 
-abbrev pub value_of : Option Entry → Kind → Origin → ℕ → LabelValue
-value_of entry kind origin slot = option_map_or (λ entry. value_by entry.0.module kind origin slot) entry Unset
-
 -- the value in a slot: from the listed policy that holds the slot, and unset where none does
 abbrev pub new_value : List Entry → Kind → Origin → ℕ → LabelValue
-new_value listed kind origin slot = value_of (find (holds_slot slot) listed) kind origin slot
+new_value listed kind origin slot = option_map_or (λ entry. value_by entry.0.module kind origin slot) (find (holds_slot slot) listed) Unset
 
 -- the label of a new entity of that kind, while these policies are listed
 abbrev pub new_label : List Entry → Kind → Origin → List LabelValue

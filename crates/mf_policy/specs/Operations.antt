@@ -1,10 +1,10 @@
--- The table of operations: what Biba and MLS test, what the partition policy tests, the letters that rules about files look at, and
+-- The table of operations: what Biba, MLS and LOMAC test, what the partition policy tests, the letters that rules about files look at, and
 -- which way information moves.
 --
--- The directions of flow are those of mac_biba(4) and mac_mls(4), the letters those of mac_bsdextended(4), and that processes of
+-- The directions of flow are those of mac_biba(4), mac_mls(4) and mac_lomac(4), the letters those of mac_bsdextended(4), and that processes of
 -- different partitions don't see each other is mac_partition(4)'s. Which operation is tested in which way, and with which error, is
 -- this model's own choice.
-use Rattle.std.specs.Prelude.{◌+◌}
+use Rattle.std.specs.Prelude.{ℕ, ◌+◌, Option, Some, None}
 use Rattle.mf_errno.specs.declared.errno.Errno.TheVariants.{Enoent, Esrch, Eacces}
 use Rattle.mf_item.specs.declared.operation.CheckOp.{CheckOp}
 use Rattle.mf_item.specs.declared.operation.CheckOp.TheVariants as op
@@ -13,45 +13,43 @@ use Rattle.mf_policy.specs.declared.operations.Test.{Test}
 use Rattle.mf_policy.specs.declared.operations.Test.TheVariants.{Observe, Modify, ObserveAndModify, SameLevel, RelabelObject, RelabelCredential, GuardModules, Pass}
 use Rattle.mf_policy.specs.declared.operations.PartitionTest.{PartitionTest}
 use Rattle.mf_policy.specs.declared.operations.PartitionTest.TheVariants.{Agree, Join, Ignore}
-use Rattle.mf_policy.specs.declared.operations.Letters.{Letters}
-use Rattle.mf_policy.specs.declared.operations.Letters.TheVariants.{Asked, NotAsked}
 use Rattle.mf_policy.specs.declared.operations.Movement.{Movement}
 use Rattle.mf_policy.specs.declared.operations.Movement.TheVariants.{Still, ToSubject, ToObject, BothWays}
 use Rattle.mf_policy.specs.declared.operations.Row.{Row}
 
-abbrev pub row : Test → PartitionTest → Letters → Movement → Row
+abbrev pub row : Test → PartitionTest → Option ℕ → Movement → Row
 row test partition letters movement =
     record { test = test; partition = partition; letters = letters; movement = movement }
 
--- the table: operation, test of Biba and MLS, test of the partition policy, letters, movement
+-- the table: operation, test of Biba, MLS and LOMAC, test of the partition policy, letters, movement
 abbrev pub row_of : CheckOp → Row
-row_of op.VnodeLookup = row (Observe Eacces) Ignore (Asked EXECUTE) ToSubject
-row_of op.VnodeOpenRead = row (Observe Eacces) Ignore (Asked READ) ToSubject
-row_of op.VnodeOpenWrite = row Modify Ignore (Asked WRITE) ToObject
-row_of op.VnodeRead = row (Observe Eacces) Ignore (Asked 0) ToSubject
-row_of op.VnodeWrite = row Modify Ignore (Asked 0) ToObject
-row_of op.VnodeExec = row (Observe Eacces) Ignore (Asked (READ + EXECUTE)) ToSubject
-row_of op.VnodeStat = row (Observe Eacces) Ignore (Asked STAT) ToSubject
-row_of op.VnodeReaddir = row (Observe Eacces) Ignore (Asked READ) ToSubject
-row_of op.VnodeCreate = row Modify Ignore (Asked WRITE) ToObject
-row_of op.VnodeUnlinkDir = row Modify Ignore (Asked WRITE) ToObject
-row_of op.VnodeUnlink = row Modify Ignore (Asked WRITE) ToObject
-row_of op.VnodeSetmode = row Modify Ignore (Asked ADMINISTER) ToObject
-row_of op.VnodeRelabel = row RelabelObject Ignore NotAsked Still
-row_of op.PipeRead = row (Observe Eacces) Ignore NotAsked ToSubject
-row_of op.PipeWrite = row Modify Ignore NotAsked ToObject
-row_of op.PipeStat = row (Observe Eacces) Ignore NotAsked ToSubject
-row_of op.PipeRelabel = row RelabelObject Ignore NotAsked Still
-row_of op.SocketSend = row Modify Ignore NotAsked ToObject
-row_of op.SocketDeliver = row SameLevel Ignore NotAsked ToObject
-row_of op.SocketReceive = row (Observe Eacces) Ignore NotAsked ToSubject
-row_of op.SocketVisible = row (Observe Enoent) (Agree Enoent) NotAsked Still
-row_of op.SocketRelabel = row RelabelObject Ignore NotAsked Still
-row_of op.CredRelabel = row RelabelCredential Join NotAsked Still
-row_of op.ProcVisible = row (Observe Esrch) (Agree Esrch) NotAsked Still
-row_of op.ProcSignal = row ObserveAndModify (Agree Esrch) NotAsked ToObject
-row_of op.ProcDebug = row ObserveAndModify (Agree Esrch) NotAsked BothWays
-row_of op.ProcSched = row ObserveAndModify (Agree Esrch) NotAsked ToObject
-row_of op.KldLoad = row GuardModules Ignore NotAsked Still
-row_of op.KldUnload = row GuardModules Ignore NotAsked Still
-row_of op.Priv = row Pass Ignore NotAsked Still
+row_of op.VnodeLookup = row (Observe Eacces) Ignore (Some EXECUTE) ToSubject
+row_of op.VnodeOpenRead = row (Observe Eacces) Ignore (Some READ) ToSubject
+row_of op.VnodeOpenWrite = row Modify Ignore (Some WRITE) ToObject
+row_of op.VnodeRead = row (Observe Eacces) Ignore (Some 0) ToSubject
+row_of op.VnodeWrite = row Modify Ignore (Some 0) ToObject
+row_of op.VnodeExec = row (Observe Eacces) Ignore (Some (READ + EXECUTE)) ToSubject
+row_of op.VnodeStat = row (Observe Eacces) Ignore (Some STAT) ToSubject
+row_of op.VnodeReaddir = row (Observe Eacces) Ignore (Some READ) ToSubject
+row_of op.VnodeCreate = row Modify Ignore (Some WRITE) ToObject
+row_of op.VnodeUnlinkDir = row Modify Ignore (Some WRITE) ToObject
+row_of op.VnodeUnlink = row Modify Ignore (Some WRITE) ToObject
+row_of op.VnodeSetmode = row Modify Ignore (Some ADMINISTER) ToObject
+row_of op.VnodeRelabel = row RelabelObject Ignore None Still
+row_of op.PipeRead = row (Observe Eacces) Ignore None ToSubject
+row_of op.PipeWrite = row Modify Ignore None ToObject
+row_of op.PipeStat = row (Observe Eacces) Ignore None ToSubject
+row_of op.PipeRelabel = row RelabelObject Ignore None Still
+row_of op.SocketSend = row Modify Ignore None ToObject
+row_of op.SocketDeliver = row SameLevel Ignore None ToObject
+row_of op.SocketReceive = row (Observe Eacces) Ignore None ToSubject
+row_of op.SocketVisible = row (Observe Enoent) (Agree Enoent) None Still
+row_of op.SocketRelabel = row RelabelObject Ignore None Still
+row_of op.CredRelabel = row RelabelCredential Join None Still
+row_of op.ProcVisible = row (Observe Esrch) (Agree Esrch) None Still
+row_of op.ProcSignal = row ObserveAndModify (Agree Esrch) None ToObject
+row_of op.ProcDebug = row ObserveAndModify (Agree Esrch) None BothWays
+row_of op.ProcSched = row ObserveAndModify (Agree Esrch) None ToObject
+row_of op.KldLoad = row GuardModules Ignore None Still
+row_of op.KldUnload = row GuardModules Ignore None Still
+row_of op.Priv = row Pass Ignore None Still

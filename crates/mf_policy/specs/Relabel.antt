@@ -1,7 +1,7 @@
 -- The rules for relabels, which Biba and MLS share: the tests in order, of which the first that fits answers. They are in the
--- manner of FreeBSD's two modules; their order, and the second test of a credential, are this model's own choice.
-use Rattle.std.specs.Prelude.{Bool, true, false, not, ◌&&◌, if◌then◌else◌, Option, Some, None, is_some, is_none}
-use Rattle.std.specs.Option.{option_map_or}
+-- manner of FreeBSD's two modules; their order, and that a range asked alone is to hold the present element, are this model's own choice.
+use Rattle.std.specs.Option.{option_map_or, option_or}
+use Rattle.std.specs.Prelude.{Bool, true, false, not, ◌&&◌, ◌||◌, if◌then◌else◌, Option, Some, None, is_some}
 use Rattle.mf_errno.specs.declared.errno.Errno.{Errno}
 use Rattle.mf_errno.specs.declared.errno.Errno.TheVariants.{Success, Einval, Eperm}
 use Rattle.mf_elem.specs.declared.elem.Elem.{Elem}
@@ -24,10 +24,8 @@ reaches_out (Some inner) (Some ends) = not (range_in_range inner.0 inner.1 ends.
 -- the answer to a subject that asks for this label of its own
 abbrev pub credential_relabel : RangeLabel → RangeLabel → Errno
 credential_relabel subject asked =
-    if is_some asked.range && is_outside asked.effective asked.range then Einval
-    else if is_some asked.range && is_none asked.effective && is_outside subject.effective asked.range then Einval
-    else if is_outside asked.effective subject.range then Eperm
-    else if reaches_out asked.range subject.range then Eperm
+    if is_some asked.range && is_outside (option_or asked.effective subject.effective) asked.range then Einval
+    else if reaches_out asked.range subject.range || is_outside asked.effective subject.range then Eperm
     else if has_equal asked && not (is_privileged subject) then Eperm
     else Success
 
@@ -35,7 +33,6 @@ credential_relabel subject asked =
 abbrev pub object_relabel : RangeLabel → Elem → RangeLabel → Errno
 object_relabel subject old asked =
     if is_some asked.range then Einval
-    else if is_outside (Some old) subject.range then Eperm
-    else if is_outside asked.effective subject.range then Eperm
+    else if is_outside (Some old) subject.range || is_outside asked.effective subject.range then Eperm
     else if option_map_or is_equal asked.effective false && not (is_privileged subject) then Eperm
     else Success

@@ -1,7 +1,7 @@
 -- The label of an entity after a relabel: mac_biba(4), mac_mls(4) and mac_lomac(4) put the effective element and the range that are asked in the place of their own.
 -- That partition 0 changes nothing is the manner of FreeBSD's mac_partition; what becomes of an unset value is this model's own choice.
 use Rattle.std.specs.Option.{option_map_or}
-use Rattle.std.specs.Prelude.{ℕ, cond, nat_eq, List, [], ◌∷◌, map, slice_index_or, Option, Some, None, find}
+use Rattle.std.specs.Prelude.{ℕ, if◌then◌else◌, ◌==◌, List, [], ◌∷◌, map, slice_index_or, Option, Some, None, find}
 use Rattle.mf_errno.specs.declared.module.Module.{Module}
 use Rattle.mf_elem.specs.declared.label.RangeLabel.{RangeLabel}
 use Rattle.mf_elem.specs.declared.label.LabelValue.{LabelValue}
@@ -22,7 +22,7 @@ range_after (Some asked) value = Range (replaced (range_label value) (Some asked
 -- the partition that is asked, where it isn't 0
 abbrev pub number_after : Option ℕ → LabelValue → LabelValue
 number_after None value = value
-number_after (Some n) value = cond (nat_eq n 0) value (Number n)
+number_after (Some n) value = if n == 0 then value else Number n
 
 abbrev pub after_by : Labelling → Option RangeLabel → Option ℕ → LabelValue → LabelValue
 after_by Nothing range number value = value
@@ -34,12 +34,11 @@ after_by Partitions range number value = number_after number value
 abbrev pub value_after : Module → Request → LabelValue → LabelValue
 value_after m request value = after_by (facts_of m).labels (range_asked m request) (number_asked m request) value
 
-abbrev pub value_of : Option Entry → Request → LabelValue → LabelValue
-value_of entry request value = option_map_or (λ entry. value_after entry.0.module request value) entry value
-
 -- the value in a slot: from the listed policy that holds the slot, and as before where none does
 abbrev pub relabelled_value : List Entry → Request → List LabelValue → ℕ → LabelValue
-relabelled_value listed request label slot = value_of (find (holds_slot slot) listed) request (slice_index_or label slot Unset)
+relabelled_value listed request label slot =
+    let value = slice_index_or label slot Unset in
+    option_map_or (λ entry. value_after entry.0.module request value) (find (holds_slot slot) listed) value
 
 -- the label after a relabel, while these policies are listed
 abbrev pub relabelled : List Entry → Request → List LabelValue → List LabelValue

@@ -1,7 +1,7 @@
 -- What a change of a setting does. mac_bsdextended's policy alone has settings: its rules, which ugidfw(8) changes, and first match, a sysctl of
 -- mac_bsdextended(4). That a new rule gets the lowest free number, and the errnos, are this model's own choice.
-use Rattle.std.specs.Option.{is_none}
-use Rattle.std.specs.Prelude.{ℕ, Bool, cond, if◌then◌else◌, List, [], ◌∷◌, Option, Some, None, find, option_and_then, position, slice_index_or, slice_set}
+use Rattle.std.specs.Option.{is_none, option_map_or}
+use Rattle.std.specs.Prelude.{ℕ, Bool, if◌then◌else◌, List, [], ◌∷◌, Option, Some, None, find, option_and_then, position, slice_index_or, slice_set}
 use Rattle.mf_errno.specs.declared.errno.Errno.TheVariants.{Success, Enoent, Enobufs}
 use Rattle.mf_errno.specs.declared.module.Module.{Module}
 use Rattle.mf_errno.specs.declared.module.Module.TheVariants as modules
@@ -23,9 +23,9 @@ abbrev pub no_setting : Changed
 no_setting = record { errno = Enoent; number = None }
 
 -- one rule more, where a number is free
-abbrev pub with_rule : Slots → Bool → Rule → Option ℕ → Changed × Spec
-with_rule rules first rule None = (record { errno = Enobufs; number = None }, means.Bsdextended rules first)
-with_rule rules first rule (Some n) =
+abbrev pub with_new_rule : Slots → Bool → Rule → Option ℕ → Changed × Spec
+with_new_rule rules first rule None = (record { errno = Enobufs; number = None }, means.Bsdextended rules first)
+with_new_rule rules first rule (Some n) =
     (record { errno = Success; number = Some n }, means.Bsdextended (slice_set rules n (Some rule)) first)
 
 -- without the rule of a number, where it has one
@@ -37,7 +37,7 @@ without_rule rules first n =
 -- the answer to a change, and the spec after it
 abbrev pub change_of : Spec → Change → Changed × Spec
 change_of (means.Bsdextended rules first) (FirstMatch enabled) = (done, means.Bsdextended rules enabled)
-change_of (means.Bsdextended rules first) (RuleAdd rule) = with_rule rules first rule (position is_none rules)
+change_of (means.Bsdextended rules first) (RuleAdd rule) = with_new_rule rules first rule (position is_none rules)
 change_of (means.Bsdextended rules first) (RuleSet n rule) = (done, means.Bsdextended (slice_set rules n (Some rule)) first)
 change_of (means.Bsdextended rules first) (RuleRemove n) = without_rule rules first n
 change_of spec change = (no_setting, spec)
@@ -47,23 +47,18 @@ change_of spec change = (no_setting, spec)
 -- the list where the module's policy has that spec
 abbrev pub with_spec : Module → Spec → List Entry → List Entry
 with_spec m spec [] = []
-with_spec m spec (x ∷ xs) = cond (is_of m x) ((x.0, spec) ∷ xs) (x ∷ with_spec m spec xs)
-
--- the answer to a change of the entry, and the list after it
-abbrev pub change_at : Module → Change → List Entry → Option Entry → Changed × List Entry
-change_at m change entries None = (no_setting, entries)
-change_at m change entries (Some entry) =
-    ((change_of entry.1 change).0, with_spec m (change_of entry.1 change).1 entries)
+with_spec m spec (x ∷ xs) = if is_of m x then (x.0, spec) ∷ xs else x ∷ with_spec m spec xs
 
 -- the answer to a change of the module's policy, and the list after it; a module that isn't listed has no setting
 abbrev pub change_in : Module → Change → List Entry → Changed × List Entry
-change_in m change entries = change_at m change entries (find (is_of m) entries)
+change_in m change entries =
+    option_map_or (λ entry. ((change_of entry.1 change).0, with_spec m (change_of entry.1 change).1 entries)) (find (is_of m) entries)
+    (no_setting, entries)
 
--- the rules about files of a policy
-abbrev pub rules_of : Spec → Option Slots
-rules_of (means.Bsdextended rules first) = Some rules
-rules_of other = None
+abbrev pub file_rules : Spec → Option Slots
+file_rules (means.Bsdextended rules first) = Some rules
+file_rules other = None
 
 -- the rules about files of the listed policies, where mac_bsdextended's is among them
 abbrev pub listed_rules : List Entry → Option Slots
-listed_rules entries = option_and_then (λ entry. rules_of entry.1) (find (is_of modules.Bsdextended) entries)
+listed_rules entries = option_and_then (λ entry. file_rules entry.1) (find (is_of modules.Bsdextended) entries)

@@ -2,6 +2,7 @@
 ghost use Rattle.std.specs.Prelude.{◌≡◌};
 ghost use Rattle.std.specs.List.{list_all};
 ghost use Rattle.mf_policy.specs.Claims as spec;
+ghost use Rattle.mf_policy.specs.Modules.{facts_of};
 
 use crate::modules::{Labelling, facts_of, is_named};
 use crate::spec_list::SpecList;
@@ -36,7 +37,7 @@ fn claims_part(listed: &SpecList, kind: Kind, request: &Request, module: Module)
 
 /// Whether the module's policy takes requests to change the label of an entity of that kind.
 fn takes_requests(module: Module, kind: Kind) -> bool
-    ensures { result ≡ spec.takes_requests «module» kind }
+    ensures { result ≡ spec.takes_by (facts_of «module»).labels kind }
 {
     match facts_of(module).labels {
         Labelling::Nothing => false,

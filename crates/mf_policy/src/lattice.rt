@@ -3,7 +3,7 @@ ghost use Rattle.std.specs.Prelude.{◌≡◌, ◌<◌, option_copied};
 ghost use Rattle.mf_policy.specs.Answer as spec;
 
 use crate::operations::{Test, row_of};
-use mf_elem::{Elem, LabelValue, RangeLabel, Request, SLOTS, privileged, same_level};
+use mf_elem::{Elem, LabelValue, RangeLabel, Request, SLOTS, same_level};
 use mf_errno::Errno;
 use mf_item::{Item, ObjectView};
 
@@ -25,9 +25,9 @@ pub trait Lattice {
     fn part(request: &Request) -> Option<RangeLabel>
         ensures { result ≡ lattice.part request.now };
 
-    /// Whether only a privileged subject may load and unload modules.
-    fn guards_modules() -> bool
-        ensures { result ≡ lattice.guards_modules };
+    /// The answer to a subject of this label that loads or unloads modules.
+    fn guard_modules(label: &RangeLabel) -> Errno
+        ensures { result ≡ lattice.guard_modules label.now };
 
     /// The answer to a subject of this element and label that asks for that label of its own.
     fn take(subject: &Elem, label: &RangeLabel, asked: &RangeLabel) -> Errno
@@ -72,7 +72,7 @@ fn labels_answer<P: Lattice>(
     };
     match (test, object) {
         (Test::RelabelCredential, _) => P::take(subject, label, asked),
-        (Test::GuardModules, _) => guard_answer::<P>(label),
+        (Test::GuardModules, _) => P::guard_modules(label),
         (_, None) => Errno::Success,
         (Test::RelabelObject, Some(object)) => P::give(subject, label, object, asked),
         (test, Some(object)) => {
@@ -80,16 +80,6 @@ fn labels_answer<P: Lattice>(
             let may_modify = P::may_modify(subject, object);
             element_answer(test, may_observe, may_modify, same_level(subject, object))
         }
-    }
-}
-
-fn guard_answer<P: Lattice>(label: &RangeLabel) -> Errno
-    ensures { result ≡ spec.guard_answer P.lattice label.now }
-{
-    if P::guards_modules() {
-        errno_unless(privileged(label), Errno::Eperm)
-    } else {
-        Errno::Success
     }
 }
 

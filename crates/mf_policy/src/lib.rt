@@ -26,7 +26,7 @@ pub use modules::{
     Facts, Labelling, boot_value, facts_of, inherited, is_named, labels_kind, may_ask,
     number_asked, range_asked, takes, wants_slot,
 };
-pub use operations::{Letters, Movement, PartitionTest, Row, Test, row_of};
+pub use operations::{Movement, PartitionTest, Row, Test, row_of};
 pub use policy::Policy;
 pub use registration::{MOST_LISTED, Registration};
 pub use relabel::{credential_relabel, object_relabel};

@@ -1,5 +1,7 @@
 //! What is true of each module whatever its settings: the table of modules.
-ghost use Rattle.std.specs.Prelude.{◌≡◌};
+ghost use Rattle.std.specs.Option.{option_map_or};
+ghost use Rattle.std.specs.Prelude.{◌≡◌, true, is_none};
+ghost use Rattle.mf_elem.specs.declared.label.LabelValue.TheVariants.{Number};
 ghost use Rattle.mf_policy.specs.Modules as facts;
 
 use mf_elem::{Elem, LabelValue, RangeLabel, Request, is_valid};
@@ -139,7 +141,7 @@ pub fn takes(module: Module, kind: Kind, request: &Request) -> bool
 }
 
 fn has_no_range(asked: &Option<RangeLabel>) -> bool
-    ensures { result ≡ facts.has_no_range asked.now }
+    ensures { result ≡ option_map_or (λ asked. is_none asked.range) asked.now true }
 {
     match asked {
         None => true,
@@ -206,7 +208,7 @@ fn inherited_range(kind: Kind, value: &LabelValue) -> LabelValue
 }
 
 fn inherited_partition(value: &LabelValue) -> LabelValue
-    ensures { result ≡ facts.inherited_partition value.now }
+    ensures { result ≡ Number (facts.partition_of value.now) }
 {
     match value {
         LabelValue::Number(number) => LabelValue::Number(*number),

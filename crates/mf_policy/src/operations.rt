@@ -2,7 +2,6 @@
 ghost use Rattle.std.specs.Prelude.{◌≡◌};
 ghost use Rattle.mf_policy.specs.Operations as spec;
 
-use Letters::{Asked, NotAsked};
 use Movement::{BothWays, Still, ToObject, ToSubject};
 use PartitionTest::{Agree, Ignore, Join};
 use Test::{
@@ -13,7 +12,7 @@ use mf_errno::Errno::{self, Eacces, Enoent, Esrch};
 use mf_item::CheckOp;
 use mf_rule::{ADMINISTER, EXECUTE, READ, STAT, WRITE};
 
-/// What Biba and MLS test.
+/// What Biba, MLS and LOMAC test.
 #[derive(Clone, Copy, PartialEq, Eq)]
 pub enum Test {
     /// The subject may observe the object, else this error.
@@ -45,15 +44,6 @@ pub enum PartitionTest {
     Ignore,
 }
 
-/// What rules about files are asked.
-#[derive(Clone, Copy, PartialEq, Eq)]
-pub enum Letters {
-    /// Whether they give all of these letters of ugidfw(8), of which there may be none.
-    Asked(u8),
-    /// Nothing.
-    NotAsked,
-}
-
 /// Which way information moves where the operation is allowed.
 #[derive(Clone, Copy, PartialEq, Eq)]
 pub enum Movement {
@@ -68,12 +58,13 @@ pub enum Movement {
 pub struct Row {
     pub test: Test,
     pub partition: PartitionTest,
-    pub letters: Letters,
+    /// The letters of ugidfw(8) that rules about files have to give, all of them; none may be asked for. None where they aren't asked.
+    pub letters: Option<u8>,
     pub movement: Movement,
 }
 
 impl Row {
-    fn of(test: Test, partition: PartitionTest, letters: Letters, movement: Movement) -> Row
+    fn of(test: Test, partition: PartitionTest, letters: Option<u8>, movement: Movement) -> Row
         ensures { result ≡ spec.row test partition letters movement }
     {
         Row {
@@ -85,41 +76,41 @@ impl Row {
     }
 }
 
-/// The row of an operation. The movements are those of mac_biba(4) and mac_mls(4): an operation that observes moves to
-/// the subject, one that modifies to the object.
+/// The row of an operation. The movements are those of mac_biba(4), mac_mls(4) and mac_lomac(4): an operation that observes
+/// moves to the subject, one that modifies to the object.
 pub fn row_of(op: CheckOp) -> Row
     ensures { result ≡ spec.row_of op }
 {
     match op {
-        CheckOp::VnodeLookup => Row::of(Observe(Eacces), Ignore, Asked(EXECUTE), ToSubject),
-        CheckOp::VnodeOpenRead => Row::of(Observe(Eacces), Ignore, Asked(READ), ToSubject),
-        CheckOp::VnodeOpenWrite => Row::of(Modify, Ignore, Asked(WRITE), ToObject),
-        CheckOp::VnodeRead => Row::of(Observe(Eacces), Ignore, Asked(0), ToSubject),
-        CheckOp::VnodeWrite => Row::of(Modify, Ignore, Asked(0), ToObject),
-        CheckOp::VnodeExec => Row::of(Observe(Eacces), Ignore, Asked(READ | EXECUTE), ToSubject),
-        CheckOp::VnodeStat => Row::of(Observe(Eacces), Ignore, Asked(STAT), ToSubject),
-        CheckOp::VnodeReaddir => Row::of(Observe(Eacces), Ignore, Asked(READ), ToSubject),
-        CheckOp::VnodeCreate => Row::of(Modify, Ignore, Asked(WRITE), ToObject),
-        CheckOp::VnodeUnlinkDir => Row::of(Modify, Ignore, Asked(WRITE), ToObject),
-        CheckOp::VnodeUnlink => Row::of(Modify, Ignore, Asked(WRITE), ToObject),
-        CheckOp::VnodeSetmode => Row::of(Modify, Ignore, Asked(ADMINISTER), ToObject),
-        CheckOp::VnodeRelabel => Row::of(RelabelObject, Ignore, NotAsked, Still),
-        CheckOp::PipeRead => Row::of(Observe(Eacces), Ignore, NotAsked, ToSubject),
-        CheckOp::PipeWrite => Row::of(Modify, Ignore, NotAsked, ToObject),
-        CheckOp::PipeStat => Row::of(Observe(Eacces), Ignore, NotAsked, ToSubject),
-        CheckOp::PipeRelabel => Row::of(RelabelObject, Ignore, NotAsked, Still),
-        CheckOp::SocketSend => Row::of(Modify, Ignore, NotAsked, ToObject),
-        CheckOp::SocketDeliver => Row::of(SameLevel, Ignore, NotAsked, ToObject),
-        CheckOp::SocketReceive => Row::of(Observe(Eacces), Ignore, NotAsked, ToSubject),
-        CheckOp::SocketVisible => Row::of(Observe(Enoent), Agree(Enoent), NotAsked, Still),
-        CheckOp::SocketRelabel => Row::of(RelabelObject, Ignore, NotAsked, Still),
-        CheckOp::CredRelabel => Row::of(RelabelCredential, Join, NotAsked, Still),
-        CheckOp::ProcVisible => Row::of(Observe(Esrch), Agree(Esrch), NotAsked, Still),
-        CheckOp::ProcSignal => Row::of(ObserveAndModify, Agree(Esrch), NotAsked, ToObject),
-        CheckOp::ProcDebug => Row::of(ObserveAndModify, Agree(Esrch), NotAsked, BothWays),
-        CheckOp::ProcSched => Row::of(ObserveAndModify, Agree(Esrch), NotAsked, ToObject),
-        CheckOp::KldLoad => Row::of(GuardModules, Ignore, NotAsked, Still),
-        CheckOp::KldUnload => Row::of(GuardModules, Ignore, NotAsked, Still),
-        CheckOp::Priv => Row::of(Pass, Ignore, NotAsked, Still),
+        CheckOp::VnodeLookup => Row::of(Observe(Eacces), Ignore, Some(EXECUTE), ToSubject),
+        CheckOp::VnodeOpenRead => Row::of(Observe(Eacces), Ignore, Some(READ), ToSubject),
+        CheckOp::VnodeOpenWrite => Row::of(Modify, Ignore, Some(WRITE), ToObject),
+        CheckOp::VnodeRead => Row::of(Observe(Eacces), Ignore, Some(0), ToSubject),
+        CheckOp::VnodeWrite => Row::of(Modify, Ignore, Some(0), ToObject),
+        CheckOp::VnodeExec => Row::of(Observe(Eacces), Ignore, Some(READ | EXECUTE), ToSubject),
+        CheckOp::VnodeStat => Row::of(Observe(Eacces), Ignore, Some(STAT), ToSubject),
+        CheckOp::VnodeReaddir => Row::of(Observe(Eacces), Ignore, Some(READ), ToSubject),
+        CheckOp::VnodeCreate => Row::of(Modify, Ignore, Some(WRITE), ToObject),
+        CheckOp::VnodeUnlinkDir => Row::of(Modify, Ignore, Some(WRITE), ToObject),
+        CheckOp::VnodeUnlink => Row::of(Modify, Ignore, Some(WRITE), ToObject),
+        CheckOp::VnodeSetmode => Row::of(Modify, Ignore, Some(ADMINISTER), ToObject),
+        CheckOp::VnodeRelabel => Row::of(RelabelObject, Ignore, None, Still),
+        CheckOp::PipeRead => Row::of(Observe(Eacces), Ignore, None, ToSubject),
+        CheckOp::PipeWrite => Row::of(Modify, Ignore, None, ToObject),
+        CheckOp::PipeStat => Row::of(Observe(Eacces), Ignore, None, ToSubject),
+        CheckOp::PipeRelabel => Row::of(RelabelObject, Ignore, None, Still),
+        CheckOp::SocketSend => Row::of(Modify, Ignore, None, ToObject),
+        CheckOp::SocketDeliver => Row::of(SameLevel, Ignore, None, ToObject),
+        CheckOp::SocketReceive => Row::of(Observe(Eacces), Ignore, None, ToSubject),
+        CheckOp::SocketVisible => Row::of(Observe(Enoent), Agree(Enoent), None, Still),
+        CheckOp::SocketRelabel => Row::of(RelabelObject, Ignore, None, Still),
+        CheckOp::CredRelabel => Row::of(RelabelCredential, Join, None, Still),
+        CheckOp::ProcVisible => Row::of(Observe(Esrch), Agree(Esrch), None, Still),
+        CheckOp::ProcSignal => Row::of(ObserveAndModify, Agree(Esrch), None, ToObject),
+        CheckOp::ProcDebug => Row::of(ObserveAndModify, Agree(Esrch), None, BothWays),
+        CheckOp::ProcSched => Row::of(ObserveAndModify, Agree(Esrch), None, ToObject),
+        CheckOp::KldLoad => Row::of(GuardModules, Ignore, None, Still),
+        CheckOp::KldUnload => Row::of(GuardModules, Ignore, None, Still),
+        CheckOp::Priv => Row::of(Pass, Ignore, None, Still),
     }
 }

@@ -11,16 +11,11 @@ use mf_errno::Errno;
 pub fn credential_relabel(subject: &RangeLabel, asked: &RangeLabel) -> Errno
     ensures { result ≡ spec.credential_relabel subject.now asked.now }
 {
-    if asked.range.is_some() && is_outside(&asked.effective, &asked.range) {
+    let effective = asked.effective.or(subject.effective);
+    if asked.range.is_some() && is_outside(&effective, &asked.range) {
         return Errno::Einval;
     }
-    if asked.range.is_some()
-        && asked.effective.is_none()
-        && is_outside(&subject.effective, &asked.range)
-    {
-        return Errno::Einval;
-    }
-    if is_outside(&asked.effective, &subject.range) || reaches_out(&asked.range, &subject.range) {
+    if reaches_out(&asked.range, &subject.range) || is_outside(&asked.effective, &subject.range) {
         return Errno::Eperm;
     }
     if has_equal(asked) && !privileged(subject) {

@@ -1,7 +1,7 @@
 //! The specs of policies.
 ghost use Rattle.std.specs.Prelude.{◌≡◌, ◌↔◌, IsTrue, IfOk, OnErr};
 ghost use Rattle.mf_policy.specs.Modules as facts;
-ghost use Rattle.mf_policy.specs.Settings.{change_of, rules_of};
+ghost use Rattle.mf_policy.specs.Settings.{change_of, file_rules};
 ghost use Rattle.mf_policy.specs.IsChange.{IsChange};
 ghost use Rattle.std.specs.Option.{option_copied};
 
@@ -105,7 +105,7 @@ impl Spec {
 
     /// The rules about files, where the policy has some.
     pub fn rules(&self) -> Option<&RuleList>
-        ensures { option_copied result ≡ rules_of self.now }
+        ensures { option_copied result ≡ file_rules self.now }
     {
         match self {
             Spec::Bsdextended { rules, .. } => Some(rules),

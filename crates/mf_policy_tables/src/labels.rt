@@ -17,6 +17,9 @@ const FAULTS: &[(&str, LabelFault)] = &[
     ("biba/5:1+257", LabelFault::BadValue(5)),
     ("biba/(1-2", LabelFault::BadValue(5)),
     ("biba/5,partition/2147483648", LabelFault::BadValue(17)),
+    ("lomac/5:1", LabelFault::BadValue(6)),
+    ("lomac/(1-2)", LabelFault::BadValue(6)),
+    ("mls/2,lomac/", LabelFault::BadValue(12)),
     ("mls/é", LabelFault::BadValue(4)),
     ("biba/5,,mls/2", LabelFault::EmptyElement(7)),
     ("", LabelFault::EmptyElement(0)),
@@ -45,6 +48,8 @@ const CANONICAL: &[(&str, &str)] = &[
         "mls/10:2+3+6(5:2+3-20:2+3+4+5+6)",
     ),
     ("partition/1", "partition/1"),
+    ("partition/1,lomac/hi,mls/5", "mls/5,lomac/high,partition/1"),
+    ("lomac/010", "lomac/10"),
 ];
 
 /// Texts that ask for a policy that has no labels here.
@@ -82,6 +87,10 @@ fn parts_of(alloc: Global, request: &Request) -> Result<Vec<(Module, LabelValue)
     if let Some(label) = request.mls {
         parts.push((Module::Mls, LabelValue::Range(label)))?;
     }
+    if let Some(element) = request.lomac {
+        let label = RangeLabel::effective(element);
+        parts.push((Module::Lomac, LabelValue::Range(label)))?;
+    }
     if let Some(number) = request.partition {
         parts.push((Module::Partition, LabelValue::Number(number)))?;
     }
@@ -113,6 +122,6 @@ fn elements_are_appended(rt: HostRuntime) -> Result<(), AllocError> {
     let mut out = String::from_str(rt.alloc(), "low,")?;
     print_elem(&Elem::Grade(10, comps), &mut out)?;
     assert!(rt; out.as_str() == "low,10:2+256");
-    assert!(rt; policy_name(Module::Mls) == "mls");
+    assert!(rt; policy_name(Module::Mls) == "mls" && policy_name(Module::Lomac) == "lomac");
     Ok(())
 }

@@ -4,8 +4,8 @@ use mf_elem::{Comps, Elem, LabelValue, RangeLabel, Request, SLOTS};
 use mf_errno::{Errno, Module};
 use mf_item::{CheckOp, Kind};
 use mf_policy::{
-    Change, Letters, Movement, Origin, Registration, Spec, SpecList, Test, credential_relabel,
-    flags_of, labels_kind, may_ask, new_label, object_relabel, row_of, wants_slot,
+    Change, Movement, Origin, Registration, Spec, SpecList, Test, credential_relabel, flags_of,
+    labels_kind, may_ask, new_label, object_relabel, row_of, wants_slot,
 };
 use std::alloc::{AllocError, Global};
 use std::process::Abort;
@@ -15,7 +15,7 @@ fn a_debugger_learns_and_changes(rt: HostRuntime) {
     let row = row_of(CheckOp::ProcDebug);
     assert!(rt; row.test == Test::ObserveAndModify);
     assert!(rt; row.movement == Movement::BothWays);
-    assert!(rt; row_of(CheckOp::VnodeExec).letters == Letters::Asked(18));
+    assert!(rt; row_of(CheckOp::VnodeExec).letters == Some(18));
 }
 
 #[test]
@@ -138,5 +138,34 @@ fn labels_at_boot_and_of_a_child(rt: HostRuntime) -> Result<(), AllocError> {
     let [unset, file, _, _] = new_label(&listed, Kind::Vnode, &made);
     assert!(rt; unset.same(&LabelValue::Unset));
     assert!(rt; file.same(&LabelValue::Range(RangeLabel::effective(Elem::Low))));
+    Ok(())
+}
+
+/// The labels of a process and of a file at boot, of a child, and of a file that a process makes.
+#[test]
+fn labels_of_lomac(rt: HostRuntime) -> Result<(), AllocError> {
+    let mut listed = SpecList::new(rt.alloc());
+    let lomac = Registration {
+        module: Module::Lomac,
+        slot: Some(0),
+        fixed: true,
+    };
+    listed.list(lomac, Spec::Lomac)?;
+    let mut asks_five = Request::none();
+    asks_five.lomac = Some(grade(5));
+    let nine = Origin::Maker([LabelValue::Range(element(grade(9))); SLOTS]);
+    let rows: &[(Kind, Origin, Elem)] = &[
+        (Kind::Process, Origin::Boot(Request::none()), Elem::High),
+        (Kind::Vnode, Origin::Boot(Request::none()), Elem::High),
+        (Kind::Process, Origin::Boot(asks_five), grade(5)),
+        (Kind::Vnode, Origin::Boot(asks_five), grade(5)),
+        (Kind::Process, nine, grade(9)),
+        (Kind::Pipe, nine, grade(9)),
+    ];
+    for (kind, origin, wanted) in rows {
+        let [value, _, _, unset] = new_label(&listed, *kind, origin);
+        assert!(rt; value == LabelValue::Range(element(*wanted)) && unset == LabelValue::Unset);
+        assert!(rt; labels_kind(Module::Lomac, *kind) && may_ask(Module::Lomac, *kind, &asks_five));
+    }
     Ok(())
 }

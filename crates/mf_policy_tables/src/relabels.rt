@@ -43,6 +43,18 @@ const CLAIMS: &[(&str, Kind, bool)] = &[
     ("biba/5,lomac/low", Kind::Process, false),
 ];
 
+/// Lists Biba, and LOMAC, which holds slot 1.
+fn biba_and_lomac(alloc: Global) -> Result<SpecList, AllocError> {
+    let mut listed = biba_alone(alloc)?;
+    let lomac = Registration {
+        module: Module::Lomac,
+        slot: Some(1),
+        fixed: true,
+    };
+    listed.list(lomac, Spec::Lomac)?;
+    Ok(listed)
+}
+
 /// Whether the listed policies claim what the text asks for an entity of that kind; None for what is no label text.
 fn claims(listed: &SpecList, text: &str, kind: Kind) -> Option<bool> {
     match read_request(text) {
@@ -61,6 +73,16 @@ fn claims_of_biba_and_partition(rt: HostRuntime) -> Result<(), AllocError> {
 }
 
 #[test]
+fn lomac_takes_requests_for_every_kind(rt: HostRuntime) -> Result<(), AllocError> {
+    let listed = biba_and_lomac(rt.alloc())?;
+    for kind in [Kind::Process, Kind::Vnode, Kind::Pipe, Kind::Socket] {
+        assert!(rt; claims(&listed, "lomac/5,biba/7", kind) == Some(true));
+        assert!(rt; claims(&listed, "lomac/5,mls/7", kind) == Some(false));
+    }
+    Ok(())
+}
+
+#[test]
 fn an_unlisted_partition_is_not_claimed(rt: HostRuntime) -> Result<(), AllocError> {
     let listed = biba_alone(rt.alloc())?;
     assert!(rt; claims(&listed, "partition/none", Kind::Process) == Some(false));
@@ -70,6 +92,10 @@ fn an_unlisted_partition_is_not_claimed(rt: HostRuntime) -> Result<(), AllocErro
 
 fn grade(grade: u16) -> Elem {
     Elem::Grade(grade, Comps::empty())
+}
+
+fn alone(effective: u16) -> LabelValue {
+    LabelValue::Range(RangeLabel::effective(grade(effective)))
 }
 
 fn ranged(effective: u16, low: u16, high: u16) -> LabelValue {
@@ -148,6 +174,26 @@ fn values_that_are_unset(rt: HostRuntime) -> Result<(), AllocError> {
         let after = labelled(*of_biba, *of_partition);
         assert!(rt;
             becomes(&listed, text, &labelled(unset, unset), &after),
+            "{text}"
+        );
+    }
+    Ok(())
+}
+
+#[test]
+fn lomac_has_an_element_alone(rt: HostRuntime) -> Result<(), AllocError> {
+    let listed = biba_and_lomac(rt.alloc())?;
+    let biba = ranged(10, 5, 20);
+    let rows: &[(&str, LabelValue, LabelValue, LabelValue)] = &[
+        ("lomac/7", alone(9), biba, alone(7)),
+        ("lomac/7", LabelValue::Unset, biba, alone(7)),
+        ("biba/7,partition/3", alone(9), ranged(7, 5, 20), alone(9)),
+        ("lomac/7,biba/6", alone(9), ranged(6, 5, 20), alone(7)),
+    ];
+    for (text, before, of_biba, of_lomac) in rows {
+        let after = labelled(*of_biba, *of_lomac);
+        assert!(rt;
+            becomes(&listed, text, &labelled(biba, *before), &after),
             "{text}"
         );
     }

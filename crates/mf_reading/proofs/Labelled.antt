@@ -17,11 +17,11 @@ use Rattle.mf_policy.proofs.EachModule.{has_elements}
 use Rattle.mf_policy.specs.declared.labels.Origin.{Origin}
 use Rattle.mf_policy.specs.declared.labels.Origin.TheVariants.{Boot, Maker}
 use Rattle.mf_policy.specs.Modules.{facts_of, wants_slot}
-use Rattle.mf_policy.specs.NewLabels.{new_label, new_value, value_of}
+use Rattle.mf_policy.specs.NewLabels.{new_label, new_value}
 use Rattle.mf_policy.specs.Registration.{Entry, entries_without, given_after, holds_slot, registration_of, slot_for, with_newest, with_registered}
 use Rattle.mf_policy.specs.Settings.{change_in}
 use Rattle.mf_policy.specs.Relabelled.{relabelled, relabelled_value}
-use Rattle.mf_policy.specs.Relabelled.{value_of as relabelled_by}
+use Rattle.mf_policy.proofs.ByEntry.{given_by, relabelled_by}
 use Rattle.mf_objects.proofs.Entities.{label_of, changed_at}
 use Rattle.mf_objects.specs.declared.id.Id.{Id}
 use Rattle.mf_objects.specs.declared.entity.EntityData.{EntityData}
@@ -112,7 +112,7 @@ module _ (specs : List Entry) (given : ℕ) (few : given ≤ SLOTS) (below : All
   booted_fit kind request is =
       all_from IsKnown (λ x. Fits (new_label specs kind (Boot request)) x.0) specs
       (λ x here. four_fit (new_value specs kind (Boot request)) x here
-      (λ slot at. subst (λ (found : Option Entry). FitsLabelling (facts_of x.0.module).labels (value_of found kind (Boot request) slot)) (sym (here.holder slot at))
+      (λ slot at. subst (λ (found : Option Entry). FitsLabelling (facts_of x.0.module).labels (given_by found kind (Boot request) slot)) (sym (here.holder slot at))
       (boot_fits x.0.module kind request is)))
       known
 
@@ -121,7 +121,7 @@ module _ (specs : List Entry) (given : ℕ) (few : given ≤ SLOTS) (below : All
   created_fit kind label fits =
       all_from (λ x. IsKnown x × Fits label x.0) (λ x. Fits (new_label specs kind (Maker label)) x.0) specs
       (λ x both. four_fit (new_value specs kind (Maker label)) x both.0
-      (λ slot at. subst (λ (found : Option Entry). FitsLabelling (facts_of x.0.module).labels (value_of found kind (Maker label) slot)) (sym (both.0.holder slot at))
+      (λ slot at. subst (λ (found : Option Entry). FitsLabelling (facts_of x.0.module).labels (given_by found kind (Maker label) slot)) (sym (both.0.holder slot at))
       (inherited_fits x.0.module kind (slice_index_or label slot Unset) (at_slot x label slot at both.1))))
       (all_both IsKnown (λ x. Fits label x.0) specs known fits)
 
@@ -137,7 +137,7 @@ module _ (specs : List Entry) (given : ℕ) (few : given ≤ SLOTS) (below : All
   pub new_unset : (kind : Kind) (origin : Origin) → IsUnsetFrom given (new_label specs kind origin)
   new_unset kind origin =
       four_unset given (new_value specs kind origin)
-      (λ slot more. ap (λ (found : Option Entry). value_of found kind origin slot) (no_holder given slot specs more below))
+      (λ slot more. ap (λ (found : Option Entry). given_by found kind origin slot) (no_holder given slot specs more below))
 
   pub relabelled_unset : (request : Request) (label : List LabelValue) → IsUnsetFrom given label → IsUnsetFrom given (relabelled specs request label)
   relabelled_unset request label unset =

@@ -15,7 +15,8 @@ use Rattle.mf_policy.specs.declared.spec.Spec.{Spec}
 use Rattle.mf_policy.specs.declared.spec.Spec.TheVariants as means
 use Rattle.mf_policy.specs.Modules.{wants_slot}
 use Rattle.mf_policy.specs.Registration.{Entry, is_of}
-use Rattle.mf_policy.specs.Settings.{change_at, change_in, change_of, done, listed_rules, no_setting, rules_of, with_rule}
+use Rattle.mf_policy.specs.Settings.{change_in, change_of, done, file_rules, listed_rules, no_setting, with_new_rule}
+use Rattle.mf_policy.proofs.ByEntry.{change_at}
 use Rattle.mf_rule.specs.RuleList.{Slots}
 use Rattle.mf_list.proofs.Counts.{listed_few}
 use Rattle.mf_names.specs.declared.limits.TheConstants.{CONTENT_LIMIT, SCRIPT_LIMIT}
@@ -71,14 +72,14 @@ slots_fit given (Some n) small below = omega (arith, small, below)
 
 -- Rules
 
-spec_rules : (spec : Spec) → IsBoundedSpec spec → IfSome (rules_of spec) AreRules
+spec_rules : (spec : Spec) → IsBoundedSpec spec → IfSome (file_rules spec) AreRules
 spec_rules (means.Bsdextended rules first) fits = fits
 spec_rules other fits = tt
 
 rules_fit : (specs : List Entry) → AreBoundedSpecs specs → IfSome (listed_rules specs) AreRules
 rules_fit specs bounded = one (find (is_of modules.Bsdextended) specs) refl
   where
-    one : (found : Option Entry) → find (is_of modules.Bsdextended) specs ≡ found → IfSome (option_and_then (λ (entry : Entry). rules_of entry.1) found) AreRules
+    one : (found : Option Entry) → find (is_of modules.Bsdextended) specs ≡ found → IfSome (option_and_then (λ (entry : Entry). file_rules entry.1) found) AreRules
     one None is = tt
     one (Some entry) is = spec_rules entry.1 (all_found (λ (x : Entry). IsBoundedSpec x.1) (is_of modules.Bsdextended) specs entry bounded is).0
 
@@ -91,7 +92,7 @@ change_number : (spec : Spec) (change : Change) → IsBoundedSpec spec → IfSom
 change_number (means.Bsdextended slots first) (FirstMatch enabled) fits = tt
 change_number (means.Bsdextended slots first) (RuleAdd rule) fits = one (position is_none slots) refl
   where
-    one : (place : Option ℕ) → position is_none slots ≡ place → IfSome (with_rule slots first rule place).0.number (λ n. n < 2 ^ 32)
+    one : (place : Option ℕ) → position is_none slots ≡ place → IfSome (with_new_rule slots first rule place).0.number (λ n. n < 2 ^ 32)
     one None is = tt
     one (Some n) is = omega (arith, (position-Some is_none slots n None is).0, fits.all)
 change_number (means.Bsdextended slots first) (RuleSet n rule) fits = tt

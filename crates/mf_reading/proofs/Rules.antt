@@ -13,7 +13,8 @@ use Rattle.mf_policy.specs.declared.spec.Spec.{Spec}
 use Rattle.mf_policy.specs.declared.spec.Spec.TheVariants as means
 use Rattle.mf_policy.specs.Modules.{fresh_of}
 use Rattle.mf_policy.specs.Registration.{Entry, is_of}
-use Rattle.mf_policy.specs.Settings.{change_at, change_in, change_of, done, no_setting, with_rule, with_spec, without_rule}
+use Rattle.mf_policy.specs.Settings.{change_in, change_of, done, no_setting, with_new_rule, with_spec, without_rule}
+use Rattle.mf_policy.proofs.ByEntry.{change_at}
 use Rattle.mf_rule.specs.RuleGrammar.{IsRule}
 use Rattle.mf_rule.specs.RuleList.{Slots}
 use Rattle.mf_rule.specs.declared.rule.Rule.{Rule}
@@ -46,7 +47,7 @@ slot_set rules n slot formed fits = record {
       (All-set (λ (s : Option Rule). IfSome s IsRule) rules n slot formed (All-from_recursion (λ (s : Option Rule). IfSome s IsRule) rules fits.each));
 }
 
-rule_added : (rules : Slots) (first : Bool) (rule : Rule) (place : Option ℕ) → IsRule rule → AreRules rules → IsBoundedSpec (with_rule rules first rule place).1
+rule_added : (rules : Slots) (first : Bool) (rule : Rule) (place : Option ℕ) → IsRule rule → AreRules rules → IsBoundedSpec (with_new_rule rules first rule place).1
 rule_added rules first rule None formed fits = fits
 rule_added rules first rule (Some n) formed fits = slot_set rules n (Some rule) formed fits
 

@@ -18,7 +18,7 @@ use Rattle.mf_item.specs.declared.view.Kind.{Kind}
 use Rattle.mf_item.specs.declared.view.Kind.TheVariants as kinds
 use Rattle.mf_policy.specs.declared.modules.Labelling.{Labelling}
 use Rattle.mf_policy.specs.declared.modules.Labelling.TheVariants.{Nothing, Ranges, Partitions}
-use Rattle.mf_policy.specs.Modules.{boot_by, boot_value, default_range, facts_of, has_partition, inherited, inherited_by, inherited_partition, labels_by, number_asked, range_asked}
+use Rattle.mf_policy.specs.Modules.{boot_by, boot_value, default_range, facts_of, has_partition, inherited, inherited_by, labels_by, number_asked, partition_of, range_asked}
 use Rattle.mf_policy.specs.Relabelled.{after_by, value_after}
 use Rattle.mf_policy.proofs.EachModule.{number_spelled, range_spelled}
 use Rattle.mf_reading.proofs.Bounded.{FitsLabelling, IsWhole}
@@ -132,12 +132,12 @@ created_fits (Ranges process other) kinds.Pipe (Range label) fits = alone_whole 
 created_fits (Ranges process other) kinds.Socket (Range label) fits = alone_whole label fits
 created_fits Partitions kind value fits = by_test (has_partition kind)
   where
-    by_value : (value : LabelValue) → FitsLabelling Partitions value → FitsLabelling Partitions (inherited_partition value)
+    by_value : (value : LabelValue) → FitsLabelling Partitions value → FitsLabelling Partitions (Number (partition_of value))
     by_value Unset fits = omega arith
     by_value (Range label) fits = absurd fits
     by_value (Number n) fits = fits
 
-    by_test : (b : Bool) → FitsLabelling Partitions (if b then inherited_partition value else Unset)
+    by_test : (b : Bool) → FitsLabelling Partitions (if b then Number (partition_of value) else Unset)
     by_test true = by_value value fits
     by_test false = tt
 

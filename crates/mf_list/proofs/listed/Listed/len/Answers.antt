@@ -2,7 +2,7 @@ use Rattle.std.proofs.Common.{◌≡◌, ◌≤◌, ◌+◌, ◌++◌, List, len
 use Rattle.mf_policy.specs.Registration.{Entry}
 use Rattle.mf_list.proofs.Counts.{listed_few}
 use Rattle.mf_list.proofs.Walk.{walked_once}
-use Rattle.mf_list.proofs.walked.Listed.len.Goals as goal
+use Rattle.mf_list.proofs.listed.Listed.len.Goals as goal
 
 pub overflow_add-result : goal.overflow_add-result
 overflow_add-result g c = omega (arith, c.len.ensures.value, c.len-2.ensures.value, listed_few _ c.len.ensures.once, listed_few _ c.len-2.ensures.once)

@@ -1,7 +1,7 @@
 use Rattle.std.proofs.Common.{arith, ap, ◌∙◌}
 use Rattle.mf_policy.specs.Registration.{Entry}
 use Rattle.mf_list.proofs.Steps.{pushed_more}
-use Rattle.mf_list.proofs.walked.Listed.listed.Goals as goal
+use Rattle.mf_list.proofs.listed.Listed.listed.Goals as goal
 
 pub loop-place-preserved : goal.loop-place-preserved
 loop-place-preserved g c =

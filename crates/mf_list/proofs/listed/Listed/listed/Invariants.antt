@@ -1,6 +1,6 @@
 use Rattle.std.proofs.Common.{◌≡◌, ◌≤◌, length, map, take}
 use Rattle.mf_policy.specs.Registration.{Entry}
-use Rattle.mf_list.proofs.walked.Listed.listed.Given as goal
+use Rattle.mf_list.proofs.listed.Listed.listed.Given as goal
 
 abbrev pub invariant-loop-place : goal.invariant-loop-place
 invariant-loop-place g l = record {

@@ -2,7 +2,7 @@ use Rattle.std.proofs.Common.{◌∙◌, ap}
 use Rattle.mf_policy.specs.Modules.{module_of}
 use Rattle.mf_policy.specs.Registration.{Entry}
 use Rattle.mf_list.proofs.Fresh.{fresh_module}
-use Rattle.mf_list.proofs.listed.ListedPolicy.into_fresh.Goals as goal
+use Rattle.mf_list.proofs.listed_policy.ListedPolicy.into_fresh.Goals as goal
 
 pub returns-clause-of : goal.returns-clause-of
 returns-clause-of g c =

@@ -2,11 +2,11 @@ use Rattle.std.proofs.Common.{◌≡◌, List, Option, Some, IfSome, find, is_so
 use Rattle.std.specs.Option.{option_copied}
 use Rattle.mf_policy.specs.Registration.{Entry, is_of}
 use Rattle.mf_list.proofs.Finds.{found_first, found_is, found_second, is_some-copied, is_some-find, if_some-copied}
-use Rattle.mf_list.proofs.walked.Listed.find.Goals as goal
+use Rattle.mf_list.proofs.listed.Listed.find.Goals as goal
 
 pub returns-in-Some-clause-value : goal.returns-in-Some-clause-value
 returns-in-Some-clause-value g c =
-    found_first c.args.wanted c.self.inside.fixed.now c.self.inside.moving.now c.in-Some.policy.now c.in-Some.ensures
+    found_first c.args.wanted c.self.inside.fixed.now c.self.inside.dynamic.now c.in-Some.policy.now c.in-Some.ensures
     ∙ ap (find (is_of c.args.wanted)) c.self.view_is
 
 pub returns-in-Some-clause-variant : goal.returns-in-Some-clause-variant
@@ -19,7 +19,7 @@ returns-in-Some-clause-of g c =
 
 pub returns-in-None-clause-value : goal.returns-in-None-clause-value
 returns-in-None-clause-value g c =
-    found_second c.args.wanted c.self.inside.fixed.now c.self.inside.moving.now (option_copied c.find-in-None.result) c.in-None.ensures c.find-in-None.ensures
+    found_second c.args.wanted c.self.inside.fixed.now c.self.inside.dynamic.now (option_copied c.find-in-None.result) c.in-None.ensures c.find-in-None.ensures
     ∙ ap (find (is_of c.args.wanted)) c.self.view_is
 
 pub returns-in-None-clause-variant : goal.returns-in-None-clause-variant

@@ -3,7 +3,7 @@ use Rattle.std.proofs.lemmas.List.{take_more_same}
 use Rattle.mf_errno.specs.declared.module.Module.TheVariants as modules
 use Rattle.mf_policy.specs.declared.spec.Spec.TheVariants as means
 use Rattle.mf_policy.specs.Registration.{Entry}
-use Rattle.mf_list.proofs.walked.Listed.same_specs.Goals as goal
+use Rattle.mf_list.proofs.listed.Listed.same_specs.Goals as goal
 
 some_entry : Entry
 some_entry = (record { «module» = modules.Biba; slot = None; fixed = false }, means.Biba)
