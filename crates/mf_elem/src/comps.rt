@@ -55,8 +55,10 @@ impl Comps {
 fn set_bit(words: &mut [u64], place: usize)
     requires four { length words.old ≡ 4 }
     requires within { place < LAST_COMPARTMENT }
-    ensures set { compartments_of (record { words = words.new }) ≡ set.insert (compartments_of (record { words = words.old })) (place + 1) }
-    ensures value { with_compartment (record { words = words.old }) (place + 1) ≡ record { words = words.new } }
+    ensures set { compartments_of (record { words = words.new })
+        ≡ set.insert (compartments_of (record { words = words.old })) (place + 1) }
+    ensures value { with_compartment (record { words = words.old }) (place + 1)
+        ≡ record { words = words.new } }
 {
     words[place / 64] |= 1 << (place % 64);
 }
@@ -65,7 +67,8 @@ fn set_bit(words: &mut [u64], place: usize)
 fn is_covered(theirs: &[u64], mine: &[u64]) -> bool
     requires four { length theirs.now ≡ 4 }
     requires four_too { length mine.now ≡ 4 }
-    ensures { result ≡ set.is_subset (compartments_of (record { words = theirs.now })) (compartments_of (record { words = mine.now })) }
+    ensures { result ≡ set.is_subset (compartments_of (record { words = theirs.now }))
+        (compartments_of (record { words = mine.now })) }
 {
     for k in 0..4 {
         if theirs[k] & mine[k] != theirs[k] {

@@ -1,4 +1,5 @@
--- The names of the errors, as errno(2) has them and a history prints them, and of the modules, as their manual pages have them. The name of success is this model's own.
+-- The names of the errors, as errno(2) has them and a history prints them, and of the modules, as their manual pages have them. The name of
+-- success is this model's own.
 use Rattle.std.specs.Prelude.{ℕ, List, [], ◌∷◌, ◌++◌, Option, find, codes}
 use Rattle.std.specs.Str.{bytes_eq}
 use Rattle.mf_errno.specs.declared.errno.Errno.{Errno}

@@ -21,7 +21,7 @@ use Rattle.mf_errno.proofs.Modules.{each_passes}
 use Rattle.mf_labeltext.proofs.CanonicalSpelling.{effective_text, partition_text}
 use Rattle.mf_labeltext.specs.Canonical.{comps_text, elem_text, range_text, label_text, element_text, parts_of, in_order, elements_text, canonical_label}
 use Rattle.mf_labeltext.specs.Reading.{request_in}
-use Rattle.mf_labeltext.specs.RoundTrip.{request_of, AreParts}
+use Rattle.mf_labeltext.specs.RoundTrip.{request_from, AreParts}
 use Rattle.mf_labeltext.specs.declared.fault.LabelFault.{LabelFault}
 use Rattle.mf_labeltext.proofs.Formed.{spelled_is_request}
 use Rattle.mf_labeltext.proofs.PartsSpelling.{canonical_spells}
@@ -157,11 +157,11 @@ few : (parts : List Part) → list_all (λ policy. nat_le (length (parts_of poli
 few parts all policy = leb-true _ _ (each_passes (λ policy. nat_le (length (parts_of policy parts)) 1) all policy)
 
 -- one or more parts are read back from their text, which is no dash
-spelled : (parts : List Part) (request : Request) → AreParts parts → parts ≢ [] → request_of parts ≡ request → bytes_eq (canonical_label parts) (codes "-") ≡ false
+spelled : (parts : List Part) (request : Request) → AreParts parts → parts ≢ [] → request_from parts ≡ request → bytes_eq (canonical_label parts) (codes "-") ≡ false
     → label_of (canonical_label parts) ≡ Some (parts_asked request)
 unfolding label_of and_then
 spelled parts request are some is dash =
-    let read : request_in (canonical_label parts) ≡ Ok (request_of parts) = spells_request (canonical_label parts) (request_of parts) (canonical_spells parts are some) in
+    let read : request_in (canonical_label parts) ≡ Ok (request_from parts) = spells_request (canonical_label parts) (request_from parts) (canonical_spells parts are some) in
     rw dash (rw read (ap (λ (r : Request). Some (parts_asked r)) is))
 
 none_back : label_of (canonical_label []) ≡ Some []

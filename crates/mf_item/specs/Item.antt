@@ -1,4 +1,5 @@
--- A check that the policies are asked for: one call of an entry point of mac(9), with what policies look at.
+-- A check that the policies are asked for: one call of an entry point of mac(9), with what policies look at, the labels that a relabel asks
+-- for and the privilege that is asked for among it.
 use Rattle.std.specs.Prelude.{Option}
 use Rattle.mf_errno.specs.declared.privilege.Priv.{Priv}
 use Rattle.mf_elem.specs.declared.label.Request.{Request}
@@ -6,7 +7,6 @@ use Rattle.mf_item.specs.declared.operation.CheckOp.{CheckOp}
 use Rattle.mf_item.specs.declared.view.ObjectView.{ObjectView}
 use Rattle.mf_item.specs.declared.view.SubjectView.{SubjectView}
 
--- the operation, who does it on what, the labels that a relabel asks for, and the privilege that is asked for
 pub record Item : Type 0 where
   pub op : CheckOp
   pub subject : SubjectView

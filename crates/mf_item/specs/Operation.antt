@@ -1,9 +1,8 @@
--- The names of the operations, after the policies' entry points in sys/security/mac/mac_policy.h.
+-- The names of the operations, as a history prints them, after the policies' entry points in sys/security/mac/mac_policy.h.
 use Rattle.std.specs.Prelude.{ℕ, List, codes}
 use Rattle.mf_item.specs.declared.operation.CheckOp.{CheckOp}
 use Rattle.mf_item.specs.declared.operation.CheckOp.TheVariants as op
 
--- the name that a history prints
 abbrev pub operation_text : CheckOp → List ℕ
 operation_text op.VnodeLookup = codes "vnode_lookup"
 operation_text op.VnodeOpenRead = codes "vnode_open_read"

@@ -24,7 +24,13 @@ impl<'a> Model for Item<'a> {
 
     ghost Value = { spec.Item };
 
-    ghost view = { λ i. record { op = i.op; subject = i.subject.now; object = option_copied i.object; request = option_copied i.request; privilege = i.privilege } };
+    ghost view = { λ i. record {
+      op = i.op;
+      subject = i.subject.now;
+      object = option_copied i.object;
+      request = option_copied i.request;
+      privilege = i.privilege;
+    } };
 }
 
 impl<'a> Item<'a> {
@@ -36,7 +42,13 @@ impl<'a> Item<'a> {
         request: Option<&'a Request>,
         privilege: Option<Priv>,
     ) -> Item<'a>
-        ensures { result ≡ record { op = op; subject = subject.now; object = option_copied object.entry; request = option_copied request.entry; privilege = privilege } }
+        ensures { result ≡ record {
+          op = op;
+          subject = subject.now;
+          object = option_copied object.entry;
+          request = option_copied request.entry;
+          privilege = privilege;
+        } }
     {
         Item {
             op,

@@ -20,9 +20,9 @@ use Rattle.mf_elem.specs.declared.label.LabelValue.{LabelValue}
 use Rattle.mf_elem.specs.declared.label.LabelValue.TheVariants.{Unset, Range, Number}
 use Rattle.mf_elem.specs.declared.label.Request.{Request}
 use Rattle.std.specs.Option.{option_map_or}
-use Rattle.mf_labeltext.specs.LabelGrammar.{SpellsNumber, SpellEach, SpellsGrade, SpellsElem, SpellsParts, SpellsLabel, SpellsPlain, SpellsPartition, IsName, SpellsElement}
+use Rattle.mf_labeltext.specs.LabelGrammar.{SpellsNumber, SpellEach, SpellsGrade, SpellsElem, SpellsParts, SpellsLabel, SpellsPlain, SpellsPartition, IsPolicyName, SpellsElement}
 use Rattle.mf_labeltext.specs.Canonical.{comps_text, elem_text, range_text, label_text, value_text, element_text}
-use Rattle.mf_labeltext.specs.RoundTrip.{range_of, element_of, number_of, IsValueOf}
+use Rattle.mf_labeltext.specs.RoundTrip.{range_from, element_from, number_from, IsValueOf}
 use Rattle.mf_labeltext.proofs.Cutting.{IsFree}
 use Rattle.mf_labeltext.proofs.Spelling.{each_true, elem_inner, inner_free}
 use Rattle.mf_labeltext.proofs.Requests.{name_bytes_are, is_policy_name_byte}
@@ -96,13 +96,13 @@ partition_spells n fits =
 
 -- ---- an element
 unfoldable pub with_value : Request → Module → LabelValue → Request
-with_value before Biba value = record before { biba = range_of (Some value) }
-with_value before Mls value = record before { mls = range_of (Some value) }
-with_value before Lomac value = record before { lomac = element_of (Some value) }
-with_value before Partition value = record before { partition = number_of (Some value) }
+with_value before Biba value = record before { biba = range_from (Some value) }
+with_value before Mls value = record before { mls = range_from (Some value) }
+with_value before Lomac value = record before { lomac = element_from (Some value) }
+with_value before Partition value = record before { partition = number_from (Some value) }
 with_value before policy value = before
 
-name_is : (c : ℕ) (cs : List ℕ) → list_all is_policy_name_byte (c ∷ cs) ≡ true → IsName (c ∷ cs)
+name_is : (c : ℕ) (cs : List ℕ) → list_all is_policy_name_byte (c ∷ cs) ≡ true → IsPolicyName (c ∷ cs)
 name_is c cs all = (λ e. cc, name_bytes_are (c ∷ cs) all)
 
 pub element_spells : (policy : Module) (value : LabelValue) (before : Request) → IsValueOf policy value → SpellsElement (element_text (policy, value)) before (with_value before policy value)

@@ -4,7 +4,7 @@ use Rattle.std.specs.List.{AllByRecursion, join_with_byte}
 use Rattle.std.specs.Option.{ok_or}
 use Rattle.mf_elem.specs.declared.label.Request.{Request}
 use Rattle.mf_elem.specs.Label.{no_request}
-use Rattle.mf_labeltext.specs.LabelGrammar.{IsName, Asks, SpellsElement}
+use Rattle.mf_labeltext.specs.LabelGrammar.{IsPolicyName, Asks, SpellsElement}
 use Rattle.mf_text.specs.Results.{and_then}
 use Rattle.mf_labeltext.specs.Reading.{cut, parts, with_part, is_policy_name, element_from_halves, element_in, elements_in, request_in}
 use Rattle.mf_labeltext.specs.FirstFault.{AsksSomething, HasNoName, IsUnknown, IsElementFault, place_behind, IsFirstLabelFault}
@@ -101,14 +101,14 @@ no_name_fault place before element (Some halves) lacks parted =
       | false ↦ λ other. refl
     ] refl
 
-named_fault : (place : ℕ) (before : Request) (c : ℕ) (cs value : List ℕ) → IsName (c ∷ cs) → IsUnknown (c ∷ cs) value → element_in place before ((c ∷ cs) ++ 47 ∷ value) ≡ Err (BadValue (place + length (c ∷ cs) + 1))
+named_fault : (place : ℕ) (before : Request) (c : ℕ) (cs value : List ℕ) → IsPolicyName (c ∷ cs) → IsUnknown (c ∷ cs) value → element_in place before ((c ∷ cs) ++ 47 ∷ value) ≡ Err (BadValue (place + length (c ∷ cs) + 1))
 unfolding element_in
 named_fault place before c cs value named unknown =
     ap (element_from_halves place before) (cut_free 47 (c ∷ cs) value (no_slash (c ∷ cs) named.1))
     ∙ ap (λ b. cond b (ok_or (with_part (c ∷ cs) value before) (BadValue (place + length (c ∷ cs) + 1))) (Err (NoSlash place))) (is_policy_name_for (c ∷ cs) named)
     ∙ ap (λ read. ok_or read (BadValue (place + length (c ∷ cs) + 1))) (unread (c ∷ cs) value before unknown (with_part (c ∷ cs) value before) refl)
 
-value_unread : (place : ℕ) (before : Request) (name value : List ℕ) → IsName name → IsUnknown name value → element_in place before (name ++ 47 ∷ value) ≡ Err (BadValue (place + length name + 1))
+value_unread : (place : ℕ) (before : Request) (name value : List ℕ) → IsPolicyName name → IsUnknown name value → element_in place before (name ++ 47 ∷ value) ≡ Err (BadValue (place + length name + 1))
 value_unread place before [] value named unknown = absurd (named.0 refl)
 value_unread place before (c ∷ cs) value named unknown = named_fault place before c cs value named unknown
 

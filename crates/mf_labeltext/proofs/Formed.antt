@@ -13,7 +13,7 @@ use Rattle.mf_elem.specs.declared.elem.Elem.TheVariants.{Low, High, Equal, Grade
 use Rattle.mf_elem.specs.declared.label.RangeLabel.{RangeLabel}
 use Rattle.mf_elem.specs.declared.label.Request.{Request}
 use Rattle.mf_elem.proofs.CompsLaws.{set_are_words}
-use Rattle.mf_labeltext.specs.LabelGrammar.{SpellsElem, SpellsParts, SpellsLabel, SpellsPlain, SpellsPartition, Asks, SpellElements, Spells}
+use Rattle.mf_labeltext.specs.LabelGrammar.{SpellsElem, SpellsParts, SpellsLabel, SpellsPlain, SpellsPartition, Asks, SpellElements, SpellsRequest}
 use Rattle.mf_labeltext.specs.declared.fault.LabelFault.{LabelFault}
 
 -- ---- compartments
@@ -62,9 +62,9 @@ elements_formed (element ∷ elements) before after is spell =
     elements_formed elements spell.0 after (asked_formed first.0 first.1 before spell.0 is first.4) spell.2
 
 -- ---- whole texts
-pub spelled_is_request : (text : List ℕ) (request : Request) → Spells text request → IsRequest request
+pub spelled_is_request : (text : List ℕ) (request : Request) → SpellsRequest text request → IsRequest request
 spelled_is_request text request spells = elements_formed spells.elements no_request request (record { biba = tt; mls = tt; lomac = tt; partition = tt }) spells.each
 
-pub read_is_request : (read : Result Request LabelFault) (text : List ℕ) → ((request : Request) → read ≡ Ok request → Spells text request) → IfOk read IsRequest
+pub read_is_request : (read : Result Request LabelFault) (text : List ℕ) → ((request : Request) → read ≡ Ok request → SpellsRequest text request) → IfOk read IsRequest
 read_is_request (Ok request) text spells = spelled_is_request text request (spells request refl)
 read_is_request (Err fault) text spells = tt

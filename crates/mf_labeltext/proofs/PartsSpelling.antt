@@ -9,10 +9,10 @@ use Rattle.mf_elem.specs.declared.label.RangeLabel.{RangeLabel}
 use Rattle.mf_elem.specs.declared.label.LabelValue.{LabelValue}
 use Rattle.mf_elem.specs.declared.label.LabelValue.TheVariants.{Unset, Range, Number}
 use Rattle.mf_elem.specs.declared.label.Request.{Request}
-use Rattle.mf_labeltext.specs.LabelGrammar.{SpellElements, HasNoComma, Spells}
+use Rattle.mf_labeltext.specs.LabelGrammar.{SpellElements, HasNoComma, SpellsRequest}
 use Rattle.mf_elem.specs.Label.{no_request}
 use Rattle.mf_labeltext.specs.Canonical.{label_text, element_text, parts_of, in_order, elements_text, canonical_label}
-use Rattle.mf_labeltext.specs.RoundTrip.{value_of, range_of, element_of, number_of, request_of, IsValueOf, IsPart, AreParts}
+use Rattle.mf_labeltext.specs.RoundTrip.{value_among, range_from, element_from, number_from, request_from, IsValueOf, IsPart, AreParts}
 use Rattle.mf_labeltext.proofs.Cutting.{IsFree}
 use Rattle.mf_labeltext.proofs.Spelling.{inner_free, partition_inner}
 use Rattle.mf_labeltext.proofs.CanonicalSpelling.{with_value, element_spells, free_both, label_free, partition_spells, partition_text}
@@ -83,10 +83,10 @@ abbrev first_value : Parts → Option LabelValue
 first_value [] = None
 first_value (part ∷ parts) = Some part.1
 
-first_of : (policy : Module) (parts : Parts) → first_value (parts_of policy parts) ≡ value_of policy parts
+first_of : (policy : Module) (parts : Parts) → first_value (parts_of policy parts) ≡ value_among policy parts
 first_of policy [] = refl
 first_of policy (part ∷ parts) =
-    elim (same_module policy part.0) as (λ b. first_value (cond b (part ∷ parts_of policy parts) (parts_of policy parts)) ≡ cond b (Some part.1) (value_of policy parts)) [
+    elim (same_module policy part.0) as (λ b. first_value (cond b (part ∷ parts_of policy parts) (parts_of policy parts)) ≡ cond b (Some part.1) (value_among policy parts)) [
       | true ↦ refl
       | false ↦ first_of policy parts
     ]
@@ -95,73 +95,73 @@ first_of policy (part ∷ parts) =
 abbrev asking : Option RangeLabel → Option RangeLabel → Option Elem → Option ℕ → Request
 asking biba mls lomac partition = record { biba = biba; mls = mls; lomac = lomac; partition = partition; other = false }
 
-with_biba : (policy : Module) (value : LabelValue) → same_module Biba policy ≡ true → with_value no_request policy value ≡ asking (range_of (Some value)) None None None
+with_biba : (policy : Module) (value : LabelValue) → same_module Biba policy ≡ true → with_value no_request policy value ≡ asking (range_from (Some value)) None None None
 unfolding with_value
 with_biba Biba value same = refl
 with_biba other value same = absurd cc
 
-with_mls : (biba : Option RangeLabel) (policy : Module) (value : LabelValue) → same_module Mls policy ≡ true → with_value (asking biba None None None) policy value ≡ asking biba (range_of (Some value)) None None
+with_mls : (biba : Option RangeLabel) (policy : Module) (value : LabelValue) → same_module Mls policy ≡ true → with_value (asking biba None None None) policy value ≡ asking biba (range_from (Some value)) None None
 unfolding with_value
 with_mls biba Mls value same = refl
 with_mls biba other value same = absurd cc
 
 with_lomac : (biba mls : Option RangeLabel) (policy : Module) (value : LabelValue) → same_module Lomac policy ≡ true
-    → with_value (asking biba mls None None) policy value ≡ asking biba mls (element_of (Some value)) None
+    → with_value (asking biba mls None None) policy value ≡ asking biba mls (element_from (Some value)) None
 unfolding with_value
 with_lomac biba mls Lomac value same = refl
 with_lomac biba mls other value same = absurd cc
 
 with_partition : (biba mls : Option RangeLabel) (lomac : Option Elem) (policy : Module) (value : LabelValue) → same_module Partition policy ≡ true
-    → with_value (asking biba mls lomac None) policy value ≡ asking biba mls lomac (number_of (Some value))
+    → with_value (asking biba mls lomac None) policy value ≡ asking biba mls lomac (number_from (Some value))
 unfolding with_value
 with_partition biba mls lomac Partition value same = refl
 with_partition biba mls lomac other value same = absurd cc
 
-after_biba : (parts : Parts) → AreOf Biba parts → length parts ≤ 1 → asked_after no_request parts ≡ asking (range_of (first_value parts)) None None None
+after_biba : (parts : Parts) → AreOf Biba parts → length parts ≤ 1 → asked_after no_request parts ≡ asking (range_from (first_value parts)) None None None
 unfolding asked_after
 after_biba [] are once = refl
 after_biba (part ∷ []) are once = with_biba part.0 part.1 are.0.0
 after_biba (part ∷ next ∷ parts) are once = absurd (omega arith)
 
-after_mls : (biba : Option RangeLabel) (parts : Parts) → AreOf Mls parts → length parts ≤ 1 → asked_after (asking biba None None None) parts ≡ asking biba (range_of (first_value parts)) None None
+after_mls : (biba : Option RangeLabel) (parts : Parts) → AreOf Mls parts → length parts ≤ 1 → asked_after (asking biba None None None) parts ≡ asking biba (range_from (first_value parts)) None None
 unfolding asked_after
 after_mls biba [] are once = refl
 after_mls biba (part ∷ []) are once = with_mls biba part.0 part.1 are.0.0
 after_mls biba (part ∷ next ∷ parts) are once = absurd (omega arith)
 
-after_lomac : (biba mls : Option RangeLabel) (parts : Parts) → AreOf Lomac parts → length parts ≤ 1 → asked_after (asking biba mls None None) parts ≡ asking biba mls (element_of (first_value parts)) None
+after_lomac : (biba mls : Option RangeLabel) (parts : Parts) → AreOf Lomac parts → length parts ≤ 1 → asked_after (asking biba mls None None) parts ≡ asking biba mls (element_from (first_value parts)) None
 unfolding asked_after
 after_lomac biba mls [] are once = refl
 after_lomac biba mls (part ∷ []) are once = with_lomac biba mls part.0 part.1 are.0.0
 after_lomac biba mls (part ∷ next ∷ parts) are once = absurd (omega arith)
 
 after_partition : (biba mls : Option RangeLabel) (lomac : Option Elem) (parts : Parts) → AreOf Partition parts → length parts ≤ 1
-    → asked_after (asking biba mls lomac None) parts ≡ asking biba mls lomac (number_of (first_value parts))
+    → asked_after (asking biba mls lomac None) parts ≡ asking biba mls lomac (number_from (first_value parts))
 unfolding asked_after
 after_partition biba mls lomac [] are once = refl
 after_partition biba mls lomac (part ∷ []) are once = with_partition biba mls lomac part.0 part.1 are.0.0
 after_partition biba mls lomac (part ∷ next ∷ parts) are once = absurd (omega arith)
 
 firsts_are : {biba mls lomac partition biba_value mls_value lomac_value partition_value : Option LabelValue} → biba ≡ biba_value → mls ≡ mls_value → lomac ≡ lomac_value → partition ≡ partition_value
-    → asking (range_of biba) (range_of mls) (element_of lomac) (number_of partition) ≡ asking (range_of biba_value) (range_of mls_value) (element_of lomac_value) (number_of partition_value)
+    → asking (range_from biba) (range_from mls) (element_from lomac) (number_from partition) ≡ asking (range_from biba_value) (range_from mls_value) (element_from lomac_value) (number_from partition_value)
 firsts_are biba mls lomac partition = rw (biba, mls, lomac, partition) refl
 
-asked_in_order : (parts : Parts) → AreParts parts → asked_after no_request (in_order parts) ≡ request_of parts
+asked_in_order : (parts : Parts) → AreParts parts → asked_after no_request (in_order parts) ≡ request_from parts
 unfolding in_order
 asked_in_order parts are =
     let biba = parts_of Biba parts in
     let mls = parts_of Mls parts in
     let lomac = parts_of Lomac parts in
     let partition = parts_of Partition parts in
-    let asked_biba = range_of (first_value biba) in
-    let asked_mls = range_of (first_value mls) in
+    let asked_biba = range_from (first_value biba) in
+    let asked_mls = range_from (first_value mls) in
     after_append no_request (biba ++ mls ++ lomac) partition
     ∙ ap (λ before. asked_after before partition) (after_append no_request (biba ++ mls) lomac)
     ∙ ap (λ before. asked_after (asked_after before lomac) partition) (after_append no_request biba mls)
     ∙ ap (λ before. asked_after (asked_after (asked_after before mls) lomac) partition) (after_biba biba (are_of Biba parts are.each) (are.once Biba))
     ∙ ap (λ before. asked_after (asked_after before lomac) partition) (after_mls asked_biba mls (are_of Mls parts are.each) (are.once Mls))
     ∙ ap (λ before. asked_after before partition) (after_lomac asked_biba asked_mls lomac (are_of Lomac parts are.each) (are.once Lomac))
-    ∙ after_partition asked_biba asked_mls (element_of (first_value lomac)) partition (are_of Partition parts are.each) (are.once Partition)
+    ∙ after_partition asked_biba asked_mls (element_from (first_value lomac)) partition (are_of Partition parts are.each) (are.once Partition)
     ∙ firsts_are (first_of Biba parts) (first_of Mls parts) (first_of Lomac parts) (first_of Partition parts)
 
 -- ---- all parts stand in order
@@ -214,7 +214,7 @@ some_elements : (ordered : Parts) → ordered ≢ [] → map element_text ordere
 some_elements [] some none = some refl
 some_elements (part ∷ ordered) some none = cc
 
-pub canonical_spells : (parts : Parts) → AreParts parts → parts ≢ [] → Spells (canonical_label parts) (request_of parts)
+pub canonical_spells : (parts : Parts) → AreParts parts → parts ≢ [] → SpellsRequest (canonical_label parts) (request_from parts)
 unfolding canonical_label
 canonical_spells parts are some =
     let ordered = in_order parts in

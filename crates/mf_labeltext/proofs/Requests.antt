@@ -6,7 +6,7 @@ use Rattle.std.specs.List.{list_all, AllByRecursion}
 use Rattle.std.specs.Option.{ok_or}
 use Rattle.std.specs.Str.{bytes_eq}
 use Rattle.mf_elem.specs.declared.label.Request.{Request}
-use Rattle.mf_labeltext.specs.LabelGrammar.{IsNameByte, IsName, Asks, SpellsElement, SpellElements, Spells}
+use Rattle.mf_labeltext.specs.LabelGrammar.{IsNameByte, IsPolicyName, Asks, SpellsElement, SpellElements, SpellsRequest}
 use Rattle.mf_elem.specs.Label.{no_request}
 use Rattle.mf_text.specs.Results.{and_then}
 use Rattle.std.specs.Char.{is_ascii_digit, is_ascii_lowercase}
@@ -57,11 +57,11 @@ are_name_bytes : (text : List ℕ) → AllByRecursion IsNameByte text → list_a
 are_name_bytes [] all = refl
 are_name_bytes (c ∷ cs) all = both_true (is_policy_name_byte c) (list_all is_policy_name_byte cs) (is_policy_name_byte_for c all.0) (are_name_bytes cs all.1)
 
-pub name_is : (text : List ℕ) → is_policy_name text ≡ true → IsName text
+pub name_is : (text : List ℕ) → is_policy_name text ≡ true → IsPolicyName text
 name_is [] is = absurd cc
 name_is (c ∷ cs) is = (λ e. cc, name_bytes_are (c ∷ cs) is)
 
-pub is_policy_name_for : (text : List ℕ) → IsName text → is_policy_name text ≡ true
+pub is_policy_name_for : (text : List ℕ) → IsPolicyName text → is_policy_name text ≡ true
 is_policy_name_for [] name = absurd (name.0 refl)
 is_policy_name_for (c ∷ cs) name = are_name_bytes (c ∷ cs) name.1
 
@@ -173,14 +173,14 @@ unfolding element_in
 element_spells place [] before after is = absurd cc
 element_spells place (c ∷ cs) before after is = halves_spell place (c ∷ cs) before after (cut 47 (c ∷ cs)) refl is
 
-spells_named : (place : ℕ) (c : ℕ) (cs value : List ℕ) (before after : Request) → IsName (c ∷ cs) → Asks (c ∷ cs) value before after → element_in place before ((c ∷ cs) ++ 47 ∷ value) ≡ Ok after
+spells_named : (place : ℕ) (c : ℕ) (cs value : List ℕ) (before after : Request) → IsPolicyName (c ∷ cs) → Asks (c ∷ cs) value before after → element_in place before ((c ∷ cs) ++ 47 ∷ value) ≡ Ok after
 unfolding element_in
 spells_named place c cs value before after name asks =
     ap (element_from_halves place before) (cut_free 47 (c ∷ cs) value (no_slash (c ∷ cs) name.1))
     ∙ ap (λ b. cond b (ok_or (with_part (c ∷ cs) value before) (BadValue (place + length (c ∷ cs) + 1))) (Err (NoSlash place))) (is_policy_name_for (c ∷ cs) name)
     ∙ ap (λ read. ok_or read (BadValue (place + length (c ∷ cs) + 1))) (asks_part (c ∷ cs) value before after asks)
 
-spells_halves : (place : ℕ) (name value : List ℕ) (before after : Request) → IsName name → Asks name value before after → element_in place before (name ++ 47 ∷ value) ≡ Ok after
+spells_halves : (place : ℕ) (name value : List ℕ) (before after : Request) → IsPolicyName name → Asks name value before after → element_in place before (name ++ 47 ∷ value) ≡ Ok after
 spells_halves place [] value before after name asks = absurd (name.0 refl)
 spells_halves place (c ∷ cs) value before after name asks = spells_named place c cs value before after name asks
 
@@ -214,12 +214,12 @@ spell_elements place (element ∷ elements) before after spells =
     ∙ spell_elements (place + length element + 1) elements spells.0 after spells.2
 
 -- ---- whole texts
-pub request_spells : (text : List ℕ) (request : Request) → request_in text ≡ Ok request → Spells text request
+pub request_spells : (text : List ℕ) (request : Request) → request_in text ≡ Ok request → SpellsRequest text request
 unfolding request_in
 request_spells text request is =
     record { elements = parts 44 text; some = parts_are_some 44 text; parted = sym (join_parts 44 text); whole = parts_free 44 text; each = elements_spell 0 (parts 44 text) no_request request is }
 
-pub spells_request : (text : List ℕ) (request : Request) → Spells text request → request_in text ≡ Ok request
+pub spells_request : (text : List ℕ) (request : Request) → SpellsRequest text request → request_in text ≡ Ok request
 unfolding request_in
 spells_request text request spells =
     ap (λ t. elements_in 0 no_request (parts 44 t)) spells.parted

@@ -6,6 +6,7 @@
 use Rattle.std.specs.Prelude.{◌≡◌, ◌≢◌, ℕ, ◌≤◌, ◌⊎◌, List, [], ◌∷◌, ◌++◌, Option, Some, None, codes, true}
 use Rattle.std.specs.List.{join_with_byte, AllByRecursion}
 use Rattle.std.specs.Int.{IsInRange}
+use Rattle.std.specs.Str.{byte}
 use Rattle.std.specs.Str.Parse.{IsNumeral, digits_value}
 use Rattle.std.specs.FinSet as set
 use Rattle.mf_elem.specs.OfSets.{comps_of}
@@ -19,7 +20,6 @@ use Rattle.mf_elem.specs.declared.elem.Elem.{Elem}
 use Rattle.mf_elem.specs.declared.elem.Elem.TheVariants.{Low, High, Equal, Grade}
 use Rattle.mf_elem.specs.declared.label.RangeLabel.{RangeLabel}
 use Rattle.mf_elem.specs.declared.label.Request.{Request}
-use Rattle.mf_labeltext.specs.Bytes.{close_parenthesis, colon, comma, dash, open_parenthesis, plus, slash}
 
 -- decimal digits of a number from the least to the greatest; leading zeros are accepted
 pub record SpellsNumber (least greatest : ℕ) (text : List ℕ) (n : ℕ) : Type 0 where
@@ -39,7 +39,7 @@ SpellEach (text ∷ texts) (n ∷ ns) = SpellsNumber 1 LAST_COMPARTMENT text n �
 pub record SpellsComps (text : List ℕ) (comps : Comps) : Type 0 where
   pub texts : List (List ℕ)
   pub some : texts ≢ []
-  pub parted : text ≡ join_with_byte plus texts
+  pub parted : text ≡ join_with_byte (byte "+") texts
   pub numbers : List ℕ
   pub each : SpellEach texts numbers
   pub set : comps ≡ comps_of (set.from_list numbers)
@@ -48,7 +48,7 @@ pub record SpellsComps (text : List ℕ) (comps : Comps) : Type 0 where
 abbrev pub SpellsGrade : List ℕ → ℕ → Comps → Type 0
 SpellsGrade text grade comps =
     (SpellsNumber 0 LAST_GRADE text grade × (comps ≡ comps_of set.empty))
-    ⊎ ((digits : List ℕ) × (others : List ℕ) × (text ≡ digits ++ colon ∷ others)
+    ⊎ ((digits : List ℕ) × (others : List ℕ) × (text ≡ digits ++ byte ":" ∷ others)
     × SpellsNumber 0 LAST_GRADE digits grade × SpellsComps others comps)
 
 -- an element; `lo`, `hi` and `eq` are short for the words
@@ -61,7 +61,7 @@ SpellsElem text (Grade grade comps) = SpellsGrade text grade comps
 -- "(", the low end, "-", the high end, ")"
 abbrev pub SpellsRange : List ℕ → Elem × Elem → Type 0
 SpellsRange text ends =
-    (low : List ℕ) × (high : List ℕ) × (text ≡ open_parenthesis ∷ low ++ (dash ∷ high ++ close_parenthesis ∷ [])) × SpellsElem low ends.0 × SpellsElem high ends.1
+    (low : List ℕ) × (high : List ℕ) × (text ≡ byte "(" ∷ low ++ (byte "-" ∷ high ++ byte ")" ∷ [])) × SpellsElem low ends.0 × SpellsElem high ends.1
 
 -- an effective element, a range, or both
 abbrev pub SpellsParts : List ℕ → Option Elem → Option (Elem × Elem) → Type 0
@@ -85,11 +85,11 @@ SpellsPartition text n = ((text ≡ codes "none") × (n ≡ 0)) ⊎ SpellsNumber
 
 -- a lower-case letter, a digit or an underscore
 abbrev pub IsNameByte : ℕ → Type 0
-IsNameByte byte = IsInRange 97 122 byte ⊎ IsInRange 48 57 byte ⊎ (byte ≡ 95)
+IsNameByte c = IsInRange (byte "a") (byte "z") c ⊎ IsInRange (byte "0") (byte "9") c ⊎ (c ≡ byte "_")
 
 -- one or more of these bytes
-abbrev pub IsName : List ℕ → Type 0
-IsName name = (name ≢ []) × AllByRecursion IsNameByte name
+abbrev pub IsPolicyName : List ℕ → Type 0
+IsPolicyName name = (name ≢ []) × AllByRecursion IsNameByte name
 
 -- the name of any other policy
 abbrev pub IsOtherName : List ℕ → Type 0
@@ -108,7 +108,7 @@ Asks name value before after =
 -- a name, a slash and a value; the value may have further slashes
 abbrev pub SpellsElement : List ℕ → Request → Request → Type 0
 SpellsElement element before after =
-    (name : List ℕ) × (value : List ℕ) × (element ≡ name ++ slash ∷ value) × IsName name × Asks name value before after
+    (name : List ℕ) × (value : List ℕ) × (element ≡ name ++ byte "/" ∷ value) × IsPolicyName name × Asks name value before after
 
 -- the elements ask one after another
 abbrev pub SpellElements : List (List ℕ) → Request → Request → Type 0
@@ -116,12 +116,12 @@ SpellElements [] before after = before ≡ after
 SpellElements (element ∷ elements) before after = (next : Request) × SpellsElement element before next × SpellElements elements next after
 
 abbrev pub HasNoComma : List ℕ → Type 0
-HasNoComma element = AllByRecursion (λ byte. byte ≢ comma) element
+HasNoComma element = AllByRecursion (λ c. c ≢ byte ",") element
 
 -- the text asks for this request
-pub record Spells (text : List ℕ) (request : Request) : Type 0 where
+pub record SpellsRequest (text : List ℕ) (request : Request) : Type 0 where
   pub elements : List (List ℕ)
   pub some : elements ≢ []
-  pub parted : text ≡ join_with_byte comma elements
+  pub parted : text ≡ join_with_byte (byte ",") elements
   pub whole : AllByRecursion HasNoComma elements
   pub each : SpellElements elements no_request request

@@ -4,7 +4,7 @@ use Rattle.std.specs.List.{slice_split, list_all}
 use Rattle.std.specs.Char.{is_ascii_digit, is_ascii_lowercase}
 use Rattle.std.specs.Option.{ok_or, option_zip}
 use Rattle.std.specs.Result.{result_ok}
-use Rattle.std.specs.Str.{bytes_eq}
+use Rattle.std.specs.Str.{byte, bytes_eq}
 use Rattle.mf_text.specs.Number.{number_in}
 use Rattle.mf_text.specs.Results.{and_then}
 use Rattle.mf_elem.specs.Comps.{no_comps, with_compartment}
@@ -17,10 +17,9 @@ use Rattle.mf_elem.specs.declared.elem.Elem.TheVariants.{Low, High, Equal, Grade
 use Rattle.mf_elem.specs.declared.label.RangeLabel.{RangeLabel}
 use Rattle.mf_elem.specs.declared.label.Request.{Request}
 use Rattle.mf_elem.specs.Elem.{is_plain}
-use Rattle.mf_elem.specs.Label.{no_request}
+use Rattle.mf_elem.specs.Label.{element_alone, no_request}
 use Rattle.mf_labeltext.specs.declared.fault.LabelFault.{LabelFault}
 use Rattle.mf_labeltext.specs.declared.fault.LabelFault.TheVariants.{NoSlash, BadValue, EmptyElement}
-use Rattle.mf_labeltext.specs.Bytes.{close_parenthesis, colon, comma, dash, open_parenthesis, plus, slash}
 
 infixl 10 ◌>>=◌
 abbrev pub ◌>>=◌ : {A B : Type 0} → Option A → (A → Option B) → Option B
@@ -28,12 +27,12 @@ found >>= more = option_and_then more found
 
 -- the text in front of the first such byte, and the text behind it
 unfoldable pub cut : ℕ → List ℕ → Option (List ℕ × List ℕ)
-cut byte [] = None
-cut byte (c ∷ cs) = if c == byte then Some ([], cs) else option_map (λ halves. (c ∷ halves.0, halves.1)) (cut byte cs)
+cut separator [] = None
+cut separator (c ∷ cs) = if c == separator then Some ([], cs) else option_map (λ halves. (c ∷ halves.0, halves.1)) (cut separator cs)
 
 -- the texts between such bytes
 unfoldable pub parts : ℕ → List ℕ → List (List ℕ)
-parts byte text = slice_split (λ c. c == byte) text
+parts separator text = slice_split (λ c. c == separator) text
 
 -- the number that the text writes, from the least to the greatest
 unfoldable pub number : ℕ → ℕ → List ℕ → Option ℕ
@@ -46,18 +45,15 @@ comps_from comps (text ∷ texts) = number 1 LAST_COMPARTMENT text >>= λ n. com
 
 -- compartments with a plus between each two
 unfoldable pub comps_in : List ℕ → Option Comps
-comps_in text = comps_from no_comps (parts plus text)
+comps_in text = comps_from no_comps (parts (byte "+") text)
 
 -- a grade, and the compartments behind its colon where there is one
 abbrev pub grade_from_halves : List ℕ → Option (List ℕ × List ℕ) → Option Elem
 grade_from_halves text None = number 0 LAST_GRADE text >>= λ grade. Some (Grade grade no_comps)
-grade_from_halves text (Some halves) = do
-  grade ← number 0 LAST_GRADE halves.0
-  comps ← comps_in halves.1
-  Some (Grade grade comps)
+grade_from_halves text (Some halves) = number 0 LAST_GRADE halves.0 >>= λ grade. comps_in halves.1 >>= λ comps. Some (Grade grade comps)
 
 unfoldable pub grade_in : List ℕ → Option Elem
-grade_in text = grade_from_halves text (cut colon text)
+grade_in text = grade_from_halves text (cut (byte ":") text)
 
 -- the short words are those of the manual
 unfoldable pub elem_in : List ℕ → Option Elem
@@ -70,8 +66,8 @@ elem_in text =
 -- a range behind its "(": the low end, a dash, the high end, and `)` as the last byte
 unfoldable pub range_in : List ℕ → Option (Elem × Elem)
 range_in text = do
-  ends ← cut dash text
-  high ← cut close_parenthesis ends.1
+  ends ← cut (byte "-") text
+  high ← cut (byte ")") ends.1
   if length high.1 == 0 then option_zip (elem_in ends.0) (elem_in high.0) else None
 
 -- the effective element in front of a range, where there is one
@@ -81,14 +77,12 @@ effective_in (c ∷ cs) = elem_in (c ∷ cs) >>= λ element. Some (Some element)
 
 -- the value of biba and mls
 abbrev pub label_from_halves : List ℕ → Option (List ℕ × List ℕ) → Option RangeLabel
-label_from_halves text None = elem_in text >>= λ element. Some (record { effective = Some element; range = None })
-label_from_halves text (Some halves) = do
-  effective ← effective_in halves.0
-  ends ← range_in halves.1
-  Some (record { effective = effective; range = Some ends })
+label_from_halves text None = elem_in text >>= λ element. Some (element_alone element)
+label_from_halves text (Some halves) =
+    effective_in halves.0 >>= λ effective. range_in halves.1 >>= λ ends. Some (record { effective = effective; range = Some ends })
 
 unfoldable pub label_in : List ℕ → Option RangeLabel
-label_in text = label_from_halves text (cut open_parenthesis text)
+label_in text = label_from_halves text (cut (byte "(") text)
 
 -- the value of lomac
 unfoldable pub plain_in : List ℕ → Option Elem
@@ -110,7 +104,7 @@ with_part name value request =
 -- one or more lower-case letters, digits and underscores
 abbrev pub is_policy_name : List ℕ → Bool
 is_policy_name [] = false
-is_policy_name name = list_all (λ c. is_ascii_lowercase c || (is_ascii_digit c || c == 95)) name
+is_policy_name name = list_all (λ c. is_ascii_lowercase c || (is_ascii_digit c || c == byte "_")) name
 
 -- an element of which the name and the value were parted at the first slash
 abbrev pub element_from_halves : ℕ → Request → Option (List ℕ × List ℕ) → Result Request LabelFault
@@ -121,13 +115,12 @@ element_from_halves place request (Some halves) =
 -- the request with the element at a place added
 unfoldable pub element_in : ℕ → Request → List ℕ → Result Request LabelFault
 element_in place request [] = Err (EmptyElement place)
-element_in place request element = element_from_halves place request (cut slash element)
+element_in place request element = element_from_halves place request (cut (byte "/") element)
 
 -- the request with the elements added, of which the first stands at a place
 unfoldable pub elements_in : ℕ → Request → List (List ℕ) → Result Request LabelFault
 elements_in place request [] = Ok request
 elements_in place request (element ∷ elements) = and_then (element_in place request element) (λ next. elements_in (place + length element + 1) next elements)
 
--- what the whole text asks for
 unfoldable pub request_in : List ℕ → Result Request LabelFault
-request_in text = elements_in 0 no_request (parts comma text)
+request_in text = elements_in 0 no_request (parts (byte ",") text)

@@ -12,34 +12,34 @@ use Rattle.mf_elem.specs.declared.label.RangeLabel.{RangeLabel}
 use Rattle.mf_elem.specs.declared.label.LabelValue.{LabelValue}
 use Rattle.mf_elem.specs.declared.label.LabelValue.TheVariants.{Unset, Range, Number}
 use Rattle.mf_elem.specs.declared.label.Request.{Request}
-use Rattle.mf_labeltext.specs.LabelGrammar.{Spells}
+use Rattle.mf_labeltext.specs.LabelGrammar.{SpellsRequest}
 use Rattle.mf_labeltext.specs.Canonical.{parts_of, canonical_label}
 
 -- ---- what parts ask for
-abbrev pub value_of : Module → List (Module × LabelValue) → Option LabelValue
-value_of policy [] = None
-value_of policy (part ∷ parts) = if same_module policy part.0 then Some part.1 else value_of policy parts
+abbrev pub value_among : Module → List (Module × LabelValue) → Option LabelValue
+value_among policy [] = None
+value_among policy (part ∷ parts) = if same_module policy part.0 then Some part.1 else value_among policy parts
 
-abbrev pub range_of : Option LabelValue → Option RangeLabel
-range_of (Some (Range label)) = Some label
-range_of other = None
+abbrev pub range_from : Option LabelValue → Option RangeLabel
+range_from (Some (Range label)) = Some label
+range_from other = None
 
-abbrev pub element_of : Option LabelValue → Option Elem
-element_of value = option_and_then (λ label. label.effective) (range_of value)
+abbrev pub element_from : Option LabelValue → Option Elem
+element_from value = option_and_then (λ label. label.effective) (range_from value)
 
 -- an Unset partition is 0
-abbrev pub number_of : Option LabelValue → Option ℕ
-number_of (Some Unset) = Some 0
-number_of (Some (Number n)) = Some n
-number_of other = None
+abbrev pub number_from : Option LabelValue → Option ℕ
+number_from (Some Unset) = Some 0
+number_from (Some (Number n)) = Some n
+number_from other = None
 
-abbrev pub request_of : List (Module × LabelValue) → Request
-request_of parts =
+abbrev pub request_from : List (Module × LabelValue) → Request
+request_from parts =
     record {
-      biba = range_of (value_of Biba parts);
-      mls = range_of (value_of Mls parts);
-      lomac = element_of (value_of Lomac parts);
-      partition = number_of (value_of Partition parts);
+      biba = range_from (value_among Biba parts);
+      mls = range_from (value_among Mls parts);
+      lomac = element_from (value_among Lomac parts);
+      partition = number_from (value_among Partition parts);
       other = false;
     }
 
@@ -63,4 +63,4 @@ pub record AreParts (parts : List (Module × LabelValue)) : Type 0 where
 
 -- The canonical text of one or more parts asks for just these parts.
 abbrev pub CanonicalTextSpellsItsParts : Type 0
-CanonicalTextSpellsItsParts = (parts : List (Module × LabelValue)) → AreParts parts → parts ≢ [] → Spells (canonical_label parts) (request_of parts)
+CanonicalTextSpellsItsParts = (parts : List (Module × LabelValue)) → AreParts parts → parts ≢ [] → SpellsRequest (canonical_label parts) (request_from parts)

@@ -2,8 +2,9 @@
 ghost use Rattle.std.specs.Prelude.{◌≡◌, ◌<◌, ◌∷◌, ◌++◌, map, string_bytes, IfOk, OnOk, OnErr};
 ghost use Rattle.std.specs.Fmt.{decimal};
 ghost use Rattle.std.specs.List.{join_with_byte};
+ghost use Rattle.std.specs.Str.{byte};
 ghost use Rattle.mf_text.specs.Appending.{Extends};
-ghost use Rattle.mf_labeltext.specs.Bytes.{comma, dash};
+ghost use Rattle.mf_labeltext.specs.Bytes.{comma};
 ghost use Rattle.mf_errno.specs.Names.{policy_text};
 ghost use Rattle.mf_elem.specs.Comps.{rising};
 ghost use Rattle.mf_elem.specs.declared.label.LabelValue.TheVariants.{Number};
@@ -19,7 +20,8 @@ use std::alloc::{AllocError, Global};
 /// Appends the canonical text of an element: the word `low`, `high` or `equal`, or the grade and its compartments,
 /// rising and without leading zeros. If memory runs out, `out` is unchanged.
 pub fn print_elem(element: &Elem, out: &mut String) -> Result<(), AllocError>
-    ensures ok { OnOk result (string_bytes out.new ≡ string_bytes out.old ++ elem_text element.now) }
+    ensures ok { OnOk result (string_bytes out.new
+        ≡ string_bytes out.old ++ elem_text element.now) }
     ensures err { OnErr result (string_bytes out.new ≡ string_bytes out.old) }
 {
     let length = out.len();
@@ -38,7 +40,8 @@ pub fn print_label(
     parts: &[(Module, LabelValue)],
     out: &mut String,
 ) -> Result<(), AllocError>
-    ensures ok { OnOk result (string_bytes out.new ≡ string_bytes out.old ++ canonical_label parts.now) }
+    ensures ok { OnOk result (string_bytes out.new
+        ≡ string_bytes out.old ++ canonical_label parts.now) }
     ensures err { OnErr result (string_bytes out.new ≡ string_bytes out.old) }
 {
     let length = out.len();
@@ -55,7 +58,8 @@ fn push_parts(
     parts: &[(Module, LabelValue)],
     out: &mut String,
 ) -> Result<(), AllocError>
-    ensures ok { OnOk result (string_bytes out.new ≡ string_bytes out.old ++ canonical_label parts.now) }
+    ensures ok { OnOk result (string_bytes out.new
+        ≡ string_bytes out.old ++ canonical_label parts.now) }
     ensures err { OnErr result (Extends (string_bytes out.old) (string_bytes out.new)) }
 {
     let ordered = in_order(alloc, parts)?;
@@ -97,7 +101,8 @@ fn push_parts_of(
 
 /// The elements of one or more parts, with a comma between each two.
 fn push_elements(parts: &[(Module, LabelValue)], out: &mut String) -> Result<(), AllocError>
-    ensures ok { OnOk result (string_bytes out.new ≡ string_bytes out.old ++ join_with_byte comma (map element_text parts.now)) }
+    ensures ok { OnOk result (string_bytes out.new
+        ≡ string_bytes out.old ++ join_with_byte comma (map element_text parts.now)) }
     ensures err { OnErr result (Extends (string_bytes out.old) (string_bytes out.new)) }
 {
     for (place, part) in parts.iter().enumerate() {
@@ -112,7 +117,8 @@ fn push_next_element(
     part: &(Module, LabelValue),
     out: &mut String,
 ) -> Result<(), AllocError>
-    ensures ok { OnOk result (string_bytes out.new ≡ string_bytes out.old ++ (comma_behind elements ++ element_text part.now)) }
+    ensures ok { OnOk result (string_bytes out.new
+        ≡ string_bytes out.old ++ (comma_behind elements ++ element_text part.now)) }
     ensures err { OnErr result (Extends (string_bytes out.old) (string_bytes out.new)) }
 {
     push_comma_behind(elements, out)?;
@@ -121,7 +127,8 @@ fn push_next_element(
 
 /// A comma, unless this is the first element.
 fn push_comma_behind(elements: usize, out: &mut String) -> Result<(), AllocError>
-    ensures ok { OnOk result (string_bytes out.new ≡ string_bytes out.old ++ comma_behind elements) }
+    ensures ok { OnOk result (string_bytes out.new
+        ≡ string_bytes out.old ++ comma_behind elements) }
     ensures err { OnErr result (Extends (string_bytes out.old) (string_bytes out.new)) }
 {
     if elements == 0 {
@@ -131,7 +138,8 @@ fn push_comma_behind(elements: usize, out: &mut String) -> Result<(), AllocError
 }
 
 fn push_element(part: &(Module, LabelValue), out: &mut String) -> Result<(), AllocError>
-    ensures ok { OnOk result (string_bytes out.new ≡ string_bytes out.old ++ element_text part.now) }
+    ensures ok { OnOk result (string_bytes out.new
+        ≡ string_bytes out.old ++ element_text part.now) }
     ensures err { OnErr result (Extends (string_bytes out.old) (string_bytes out.new)) }
 {
     let (policy, value) = part;
@@ -166,7 +174,8 @@ fn push_value(value: &LabelValue, out: &mut String) -> Result<(), AllocError>
 }
 
 fn push_partition(number: u32, out: &mut String) -> Result<(), AllocError>
-    ensures ok { OnOk result (string_bytes out.new ≡ string_bytes out.old ++ value_text (Number number)) }
+    ensures ok { OnOk result (string_bytes out.new
+        ≡ string_bytes out.old ++ value_text (Number number)) }
     ensures err { OnErr result (Extends (string_bytes out.old) (string_bytes out.new)) }
 {
     if number == 0 {
@@ -198,7 +207,8 @@ fn push_range(range: &Option<(Elem, Elem)>, out: &mut String) -> Result<(), Allo
 }
 
 fn push_ends(low: &Elem, high: &Elem, out: &mut String) -> Result<(), AllocError>
-    ensures ok { OnOk result (string_bytes out.new ≡ string_bytes out.old ++ (elem_text low.now ++ dash ∷ elem_text high.now)) }
+    ensures ok { OnOk result (string_bytes out.new
+        ≡ string_bytes out.old ++ (elem_text low.now ++ byte "-" ∷ elem_text high.now)) }
     ensures err { OnErr result (Extends (string_bytes out.old) (string_bytes out.new)) }
 {
     push_elem(low, out)?;
@@ -207,7 +217,8 @@ fn push_ends(low: &Elem, high: &Elem, out: &mut String) -> Result<(), AllocError
 }
 
 fn push_elem(element: &Elem, out: &mut String) -> Result<(), AllocError>
-    ensures ok { OnOk result (string_bytes out.new ≡ string_bytes out.old ++ elem_text element.now) }
+    ensures ok { OnOk result (string_bytes out.new
+        ≡ string_bytes out.old ++ elem_text element.now) }
     ensures err { OnErr result (Extends (string_bytes out.old) (string_bytes out.new)) }
 {
     match element {
@@ -223,7 +234,8 @@ fn push_elem(element: &Elem, out: &mut String) -> Result<(), AllocError>
 
 /// A colon and the compartments, rising, with a plus between each two.
 fn push_comps(comps: &Comps, out: &mut String) -> Result<(), AllocError>
-    ensures ok { OnOk result (string_bytes out.new ≡ string_bytes out.old ++ comps_text (rising comps.now)) }
+    ensures ok { OnOk result (string_bytes out.new
+        ≡ string_bytes out.old ++ comps_text (rising comps.now)) }
     ensures err { OnErr result (Extends (string_bytes out.old) (string_bytes out.new)) }
 {
     let mut separator = ':';
@@ -239,7 +251,8 @@ fn push_comps(comps: &Comps, out: &mut String) -> Result<(), AllocError>
 
 fn push_comp(separator: char, n: u16, out: &mut String) -> Result<(), AllocError>
     requires { separator < 128 }
-    ensures ok { OnOk result (string_bytes out.new ≡ string_bytes out.old ++ separator ∷ decimal n) }
+    ensures ok { OnOk result (string_bytes out.new
+        ≡ string_bytes out.old ++ separator ∷ decimal n) }
     ensures err { OnErr result (Extends (string_bytes out.old) (string_bytes out.new)) }
 {
     out.push(separator)?;

@@ -4,7 +4,7 @@ ghost use Rattle.std.specs.Char.{is_ascii_digit, is_ascii_lowercase};
 ghost use Rattle.std.specs.List.{list_all};
 ghost use Rattle.mf_elem.specs.Bounds.{IsRequest};
 ghost use Rattle.mf_elem.specs.declared.label.Request.{Request};
-ghost use Rattle.mf_labeltext.specs.LabelGrammar.{Spells};
+ghost use Rattle.mf_labeltext.specs.LabelGrammar.{SpellsRequest};
 ghost use Rattle.mf_labeltext.specs.Reading.{is_policy_name, with_part, element_in, request_in};
 ghost use Rattle.mf_labeltext.specs.FirstFault.{IsFirstLabelFault};
 ghost use Rattle.mf_labeltext.specs.declared.fault.LabelFault.{LabelFault};
@@ -17,7 +17,7 @@ use mf_elem::Request;
 /// What a label text of maclabel(7) asks for. Of several elements of one policy the last one counts, whole, though each has to be
 /// well formed. An element of any other policy sets `other`, whatever its value. The fault is that of the first faulty element.
 pub fn read_request(text: &str) -> Result<Request, LabelFault>
-    ensures spells { (request : Request) → (result ≡ Ok request) ↔ Spells text.now request }
+    ensures spells { (request : Request) → (result ≡ Ok request) ↔ SpellsRequest text.now request }
     ensures fault { (fault : LabelFault) → (result ≡ Err fault) ↔ IsFirstLabelFault text.now fault }
     ensures formed { IfOk result IsRequest }
     ensures value { result ≡ request_in text.now }
@@ -92,7 +92,8 @@ fn is_policy_name(text: &str) -> bool
 }
 
 fn are_name_bytes(text: &[u8]) -> bool
-    ensures { result ≡ list_all (λ c. is_ascii_lowercase c || (is_ascii_digit c || c == 95)) text.now }
+    ensures { result ≡ list_all
+        (λ c. is_ascii_lowercase c || (is_ascii_digit c || c == 95)) text.now }
 {
     text.iter().all(|byte| is_policy_name_byte(*byte))
 }

@@ -99,7 +99,8 @@ impl<'a> Model for Components<'a> {
 impl<'a> Components<'a> {
     /// The next component, where there is one.
     pub fn next(&mut self) -> Option<&'a str>
-        ensures { MatchOption result ((self.old ≡ []) × (self.new ≡ [])) (λ component. self.old ≡ component.now ∷ self.new) }
+        ensures { MatchOption result ((self.old ≡ []) × (self.new ≡ []))
+            (λ component. self.old ≡ component.now ∷ self.new) }
     {
         let rest = self.rest?;
         match rest.split_once('/') {
@@ -116,7 +117,8 @@ impl<'a> Components<'a> {
 
     /// Those before the last, and the last, where there is one.
     pub fn split_last(&self) -> Option<(Components<'a>, &'a str)>
-        ensures { MatchOption result (self.now ≡ []) (λ halves. self.now ≡ halves.0 ++ halves.1.now ∷ []) }
+        ensures { MatchOption result (self.now ≡ [])
+            (λ halves. self.now ≡ halves.0 ++ halves.1.now ∷ []) }
     {
         let rest = self.rest?;
         match rest.rsplit_once('/') {

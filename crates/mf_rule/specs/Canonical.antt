@@ -6,8 +6,8 @@ use Rattle.std.specs.Prelude.{ℕ, Bool, not, List, [], ◌∷◌, ◌++◌, Opt
 use Rattle.std.specs.List.{flat_map}
 use Rattle.std.specs.Option.{option_map_or}
 use Rattle.std.specs.Fmt.{decimal}
+use Rattle.std.specs.Str.{byte}
 use Rattle.std.specs.Int.RustNames.{bit_and}
-use Rattle.mf_labeltext.specs.Bytes.{colon}
 use Rattle.mf_rule.specs.Words.{mode_letters, type_letters}
 use Rattle.mf_rule.specs.declared.rule.IdTest.{IdTest}
 use Rattle.mf_rule.specs.declared.rule.TypeTest.{TypeTest}
@@ -23,7 +23,7 @@ mark_text turned = if turned then codes " !" else []
 
 -- one id, or two with a colon between them
 abbrev pub id_range_text : ℕ → ℕ → List ℕ
-id_range_text least greatest = if least == greatest then decimal least else decimal least ++ colon ∷ decimal greatest
+id_range_text least greatest = if least == greatest then decimal least else decimal least ++ byte ":" ∷ decimal greatest
 
 abbrev pub id_text : List ℕ → Option IdTest → List ℕ
 id_text name test = option_map_or (λ test. mark_text test.not ++ (name ++ id_range_text test.least test.greatest)) test []

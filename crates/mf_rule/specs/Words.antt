@@ -5,7 +5,7 @@
 use Rattle.std.specs.Prelude.{ℕ, List, [], ◌∷◌, Option, Some, None, nat_le, ◌==◌, if◌then◌else◌, ◌<◌, find, option_map, zip, codes}
 use Rattle.std.specs.Int.RustNames.{bit_or}
 use Rattle.std.specs.Option.{option_map_or, option_zip}
-use Rattle.mf_labeltext.specs.Bytes.{colon}
+use Rattle.std.specs.Str.{byte}
 use Rattle.mf_labeltext.specs.Reading.{◌>>=◌, cut, number}
 use Rattle.mf_rule.specs.declared.rule.TheConstants.{LAST_ID, ADMINISTER, READ, STAT, WRITE, EXECUTE, REGULAR, DIRECTORY, BLOCK, CHARACTER, LINK, SOCKET, FIFO, ANY_TYPE}
 
@@ -16,7 +16,7 @@ id w = number 0 LAST_ID w
 -- the least and the greatest id with a colon between them, or one id that is both
 unfoldable pub id_range_in : List ℕ → Option (ℕ × ℕ)
 id_range_in w = do
-  ends ← option_map_or (λ halves. option_zip (id halves.0) (id halves.1)) (cut colon w) (option_zip (id w) (id w))
+  ends ← option_map_or (λ halves. option_zip (id halves.0) (id halves.1)) (cut (byte ":") w) (option_zip (id w) (id w))
   if nat_le ends.0 ends.1 then Some ends else None
 
 -- each letter of a mode and its bit, where `n` is for none

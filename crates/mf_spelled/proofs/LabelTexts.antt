@@ -19,7 +19,7 @@ use Rattle.mf_errno.proofs.Modules.{each_passes}
 use Rattle.mf_labeltext.proofs.CanonicalSpelling.{effective_text, partition_text}
 use Rattle.mf_labeltext.specs.Canonical.{comps_text, elem_text, range_text, label_text, element_text, parts_of, in_order, elements_text, canonical_label}
 use Rattle.mf_labeltext.specs.Reading.{request_in}
-use Rattle.mf_labeltext.specs.RoundTrip.{request_of, AreParts}
+use Rattle.mf_labeltext.specs.RoundTrip.{request_from, AreParts}
 use Rattle.mf_labeltext.proofs.PartsSpelling.{canonical_spells}
 use Rattle.mf_labeltext.proofs.Requests.{spells_request}
 use Rattle.mf_labeltext.proofs.Rising.{IsCompartment, rising_are}
@@ -143,8 +143,8 @@ abbrev asking : Option RangeLabel → Option RangeLabel → Option ℕ → Reque
 asking biba mls partition = record { biba = biba; mls = mls; partition = partition; other = false }
 
 -- one or more parts are read back from their text
-read_by : (parts : List Part) (request : Request) → AreParts parts → parts ≢ [] → request_of parts ≡ request → request_in (canonical_label parts) ≡ Ok request
-read_by parts request are some is = spells_request (canonical_label parts) (request_of parts) (canonical_spells parts are some) ∙ ap Ok is
+read_by : (parts : List Part) (request : Request) → AreParts parts → parts ≢ [] → request_from parts ≡ request → request_in (canonical_label parts) ≡ Ok request
+read_by parts request are some is = spells_request (canonical_label parts) (request_from parts) (canonical_spells parts are some) ∙ ap Ok is
 
 none_asked : canonical_label [] ≡ codes "-"
 unfolding canonical_label in_order

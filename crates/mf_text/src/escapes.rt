@@ -67,7 +67,8 @@ pub fn unescape_bytes(alloc: Global, text: &[u8]) -> Result<Vec<u8>, TextFault>
 /// The first byte that the text stands for, and the text after it. None where its first escape is bad.
 fn split_byte(text: &[u8]) -> Option<(u8, &[u8])>
     requires { text.now ≢ [] }
-    ensures reads { MatchOption result (BeginsWithBadEscape text.now) (λ split. StandsForByteThen text.now split.0 split.1.now) }
+    ensures reads { MatchOption result (BeginsWithBadEscape text.now)
+        (λ split. StandsForByteThen text.now split.0 split.1.now) }
     ensures less { IfSome result (λ split. length split.1.now < length text.now) }
 {
     let (first, rest) = text.split_first()?;
@@ -80,7 +81,8 @@ fn split_byte(text: &[u8]) -> Option<(u8, &[u8])>
 /// The byte of the two hexadecimal digits after a backslash, and the text after them.
 #[tactic(auto, unfolding(crate::specs::Escape::bytes_from))]
 fn split_escape(text: &[u8]) -> Option<(u8, &[u8])>
-    ensures reads { MatchOption result (BeginsWithBadEscape (BACKSLASH ∷ text.now)) (λ split. StandsForByteThen (BACKSLASH ∷ text.now) split.0 split.1.now) }
+    ensures reads { MatchOption result (BeginsWithBadEscape (BACKSLASH ∷ text.now))
+        (λ split. StandsForByteThen (BACKSLASH ∷ text.now) split.0 split.1.now) }
     ensures less { IfSome result (λ split. length split.1.now + 2 ≡ length text.now) }
 {
     let (high, rest) = text.split_first()?;

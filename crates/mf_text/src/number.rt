@@ -78,7 +78,8 @@ fn value_of(digits: &str, base: u32) -> Option<u32>
     requires upper { base ≤ 10 }
     requires some { digits.now ≢ [] }
     requires digits { position (λ byte. not (is_digit byte base)) digits.now ≡ None }
-    ensures { MatchOption result (2 ^ 32 ≤ digits_value base digits.now) (λ value. value ≡ digits_value base digits.now) }
+    ensures { MatchOption result (2 ^ 32 ≤ digits_value base digits.now)
+        (λ value. value ≡ digits_value base digits.now) }
 {
     u32::from_str_radix(digits, base).ok()
 }

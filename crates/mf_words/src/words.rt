@@ -36,7 +36,8 @@ impl<'a, const MOST: usize> Words<'a, MOST> {
 
     /// The next word, where there is one.
     pub fn next(&mut self) -> Option<&'a str>
-        ensures words { MatchOption result ((self.old ≡ []) × (self.new ≡ [])) (λ word. self.old ≡ word.now ∷ self.new) }
+        ensures words { MatchOption result ((self.old ≡ []) × (self.new ≡ []))
+            (λ word. self.old ≡ word.now ∷ self.new) }
         ensures most { IfSome result (λ word. length word.now ≤ MOST) }
     {
         let (word, after) = split_word(skip_blanks(self.rest));
@@ -171,7 +172,8 @@ impl<'a, const MOST: usize> Lines<'a, MOST> {
 
     /// The next line, where there is one.
     pub fn next(&mut self) -> Option<&'a [u8]>
-        ensures lines { MatchOption result ((self.old ≡ []) × (self.new ≡ [])) (λ line. self.old ≡ line.now ∷ self.new) }
+        ensures lines { MatchOption result ((self.old ≡ []) × (self.new ≡ []))
+            (λ line. self.old ≡ line.now ∷ self.new) }
         ensures most { IfSome result (λ line. length line.now ≤ MOST) }
     {
         if self.rest.is_empty() {
