@@ -6,7 +6,7 @@ use Rattle.std.proofs.lemmas.List.Elements.{All-head, All-tail}
 use Rattle.std.proofs.lemmas.List.Folds.{find-append, list_any-append}
 use Rattle.mf_errno.specs.Same.{same_module}
 use Rattle.mf_errno.specs.declared.module.Module.{Module}
-use Rattle.mf_errno.specs.declared.module.Module.TheVariants.{Biba, Mls}
+use Rattle.mf_errno.specs.declared.module.Module.TheVariants.{Biba, Mls, Lomac}
 use Rattle.mf_errno.proofs.Modules.{same_module-is}
 use Rattle.mf_policy.specs.Modules.{facts_of}
 use Rattle.mf_policy.specs.Registration.{Entry, entries_without, is_listed, is_of, with_newest}
@@ -24,6 +24,7 @@ use Rattle.mf_list.proofs.Counts.{how_many-none}
 pub late_may_leave : (m : Module) → (facts_of m).not_late ≡ false → (facts_of m).unload_ok ≡ true
 late_may_leave Biba late = cc
 late_may_leave Mls late = cc
+late_may_leave Lomac late = cc
 late_may_leave other late = refl
 
 -- Which list has the module

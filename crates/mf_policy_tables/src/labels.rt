@@ -35,6 +35,8 @@ const CANONICAL: &[(&str, &str)] = &[
         "partition/00,mls/hi,biba/(lo-65535)",
         "biba/(low-65535),mls/high,partition/none",
     ),
+    ("partition/1,lomac/hi,mls/5", "mls/5,lomac/high,partition/1"),
+    ("lomac/010", "lomac/10"),
     ("foo/x", "-"),
     (
         "biba/10:2+3+6(5:2+3-20:2+3+4+5+6)",
@@ -48,8 +50,6 @@ const CANONICAL: &[(&str, &str)] = &[
         "mls/10:2+3+6(5:2+3-20:2+3+4+5+6)",
     ),
     ("partition/1", "partition/1"),
-    ("partition/1,lomac/hi,mls/5", "mls/5,lomac/high,partition/1"),
-    ("lomac/010", "lomac/10"),
 ];
 
 /// Texts that ask for a policy that has no labels here.
