@@ -1,8 +1,8 @@
-//! Compartments, elements of labels, and labels of Biba and MLS.
+//! Compartments, elements of labels, and labels of Biba, MLS and LOMAC.
 
 use mf_elem::{
-    Comps, Elem, LAST_COMPARTMENT, RangeLabel, dominates, has_equal, in_range, is_valid,
-    privileged, range_in_range, same_level,
+    Comps, Elem, LAST_COMPARTMENT, RangeLabel, Request, dominates, has_equal, in_range, is_plain,
+    is_valid, privileged, range_in_range, same_level,
 };
 
 #[test]
@@ -46,6 +46,31 @@ fn incomparable_elements(rt: HostRuntime) {
     let (five, nine) = (grade(5, &[1]), grade(9, &[2]));
     let none_dominates = !dominates(&five, &nine) && !dominates(&nine, &five);
     assert!(rt; none_dominates && !same_level(&five, &nine));
+}
+
+#[test]
+fn elements_without_compartments(rt: HostRuntime) {
+    let table = [
+        (Elem::Low, true),
+        (Elem::High, true),
+        (Elem::Equal, true),
+        (grade(0, &[]), true),
+        (grade(65535, &[]), true),
+        (grade(5, &[1]), false),
+        (grade(5, &[256]), false),
+    ];
+    for (element, plain) in table.iter() {
+        assert!(rt; is_plain(element) == *plain);
+    }
+}
+
+#[test]
+fn requests_that_differ_in_lomac(rt: HostRuntime) {
+    let mut five = Request::none();
+    five.lomac = Some(grade(5, &[]));
+    let mut nine = five;
+    nine.lomac = Some(grade(9, &[]));
+    assert!(rt; five.same(&five) && !five.same(&nine) && !five.same(&Request::none()));
 }
 
 #[test]

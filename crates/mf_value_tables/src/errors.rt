@@ -24,6 +24,7 @@ fn names_lead_back(rt: HostRuntime) {
     let errors = Errno::from_name(Errno::Enotdir.name()) == Some(Errno::Enotdir)
         && Errno::from_name("enotdir").is_none();
     let modules = Module::from_name(Module::Bsdextended.name()) == Some(Module::Bsdextended)
+        && Module::from_name("mac_lomac") == Some(Module::Lomac)
         && Module::from_name("biba").is_none();
     let privilege = Priv::from_name(Priv::KldUnload.name());
     assert!(rt; errors && modules && privilege == Some(Priv::KldUnload));
@@ -34,6 +35,13 @@ fn names_are_shown(rt: HostRuntime) -> Result<(), AllocError> {
     let shown = format!(in rt.alloc(); "{} {} {}", Errno::Success, Module::Mls, Priv::KldLoad)?;
     assert!(rt; shown.as_str() == "ok mac_mls KLD_LOAD");
     Ok(())
+}
+
+#[test]
+fn every_error_by_its_name(rt: HostRuntime) {
+    for errno in Errno::all() {
+        assert!(rt; Errno::from_name(errno.name()) == Some(*errno));
+    }
 }
 
 /// A newer and an older answer, and the one that is selected.
