@@ -351,6 +351,10 @@ words_same s t same =
     ∙ ap (λ w. word_of t 0 ∷ word_of t 1 ∷ w ∷ word_of s 3 ∷ []) (word_same s t 2 (omega arith) same)
     ∙ ap (λ w. word_of t 0 ∷ word_of t 1 ∷ word_of t 2 ∷ w ∷ []) (word_same s t 3 (omega arith) same)
 
+pub comps_same : (s t : FinSet nat_cmp) → ((q : ℕ) → 1 ≤ q → q ≤ 256 → set.contains s q ≡ set.contains t q) → comps_of s ≡ comps_of t
+unfolding comps_of
+comps_same s t same = ap (λ ws. record { words = ws }) (words_same s t same)
+
 -- ---- the value of a set
 words_fit : (s : FinSet nat_cmp) (k : ℕ) → get_or (words_of s) k 0 < 2 ^ 64
 words_fit s zero = bits_with (λ i. set.contains s (64 * 0 + i + 1)) 64

@@ -3,7 +3,7 @@ use Rattle.std.specs.Prelude.{◌≡◌, ◌≢◌, ℕ, ◌≤◌, List, [], �
 use Rattle.std.specs.List.{AllByRecursion}
 use Rattle.mf_errno.specs.Same.{same_module}
 use Rattle.mf_errno.specs.declared.module.Module.{Module}
-use Rattle.mf_errno.specs.declared.module.Module.TheVariants.{Biba, Mls, Lomac, Partition, Bsdextended, Priority}
+use Rattle.mf_errno.specs.declared.module.Module.TheVariants.{Biba, Mls, Lomac, Partition}
 use Rattle.mf_elem.specs.Bounds.{IsAskedLabel}
 use Rattle.mf_elem.specs.Label.{is_plain_label}
 use Rattle.mf_elem.specs.declared.elem.Elem.{Elem}
@@ -47,16 +47,11 @@ request_from parts =
 -- a label, an element or a partition that a label text can ask for; an Unset partition is 0
 abbrev pub IsValueOf : Module → LabelValue → Type 0
 IsValueOf Biba (Range label) = IsAskedLabel label
-IsValueOf Biba other = ⊥
 IsValueOf Mls (Range label) = IsAskedLabel label
-IsValueOf Mls other = ⊥
 IsValueOf Lomac (Range label) = IsAskedLabel label × (is_plain_label label ≡ true)
-IsValueOf Lomac other = ⊥
 IsValueOf Partition Unset = Unit {0}
 IsValueOf Partition (Number n) = n ≤ LAST_PARTITION
-IsValueOf Partition other = ⊥
-IsValueOf Bsdextended value = ⊥
-IsValueOf Priority value = ⊥
+IsValueOf policy value = ⊥
 
 abbrev pub IsPart : Module × LabelValue → Type 0
 IsPart part = IsValueOf part.0 part.1

@@ -5,7 +5,7 @@ use Rattle.std.specs.List.{AllByRecursion}
 use Rattle.std.specs.Char.{is_digit, digit_value}
 use Rattle.std.proofs.lemmas.Bool.{ltb-true}
 use Rattle.std.proofs.lemmas.List.Elements.{All-nil, All-cons}
-use Rattle.mf_text.specs.Escape.{bytes_of, bytes_from, with_byte}
+use Rattle.mf_text.specs.Escape.{bytes_of, bytes_from, with_first}
 
 -- what holds of each byte that stands for itself and of each that an escape stands for
 record IsKept (P : ℕ → Type 0) (most : ℕ) (bytes : List ℕ) : Type 0 where
@@ -14,7 +14,7 @@ record IsKept (P : ℕ → Type 0) (most : ℕ) (bytes : List ℕ) : Type 0 wher
 
 module _ (P : ℕ → Type 0) (escaped : (d e : ℕ) → is_digit d 16 ≡ true → is_digit e 16 ≡ true → P (digit_value d * 16 + digit_value e)) where
   in_front : (byte : ℕ) (read : Result (List ℕ) ℕ) (most more : ℕ) (bytes : List ℕ) → P byte → suc most ≤ more → ((rest : List ℕ) → read ≡ Ok rest → IsKept P most rest)
-      → with_byte byte read ≡ Ok bytes → IsKept P more bytes
+      → with_first byte read ≡ Ok bytes → IsKept P more bytes
   in_front byte (Ok rest) most more bytes holds le so e =
       let got = so rest refl in
       let is : byte ∷ rest ≡ bytes = cc in
@@ -33,7 +33,7 @@ module _ (P : ℕ → Type 0) (escaped : (d e : ℕ) → is_digit d 16 ≡ true 
     one true h = cc
     one false h = let is : c ∷ [] ≡ bytes = cc in subst (IsKept P 1) is (record { each = All-cons P c [] each.0 (All-nil _); few = omega arith })
   kept place (c ∷ d ∷ []) bytes each e = one (c == 92) e (λ rest is. kept (place + 1) (d ∷ []) rest each.1 is) where
-    one : (t : Bool) → (cond t (Err place) (with_byte c (bytes_from (place + 1) (d ∷ [])))) ≡ Ok bytes
+    one : (t : Bool) → (cond t (Err place) (with_first c (bytes_from (place + 1) (d ∷ [])))) ≡ Ok bytes
         → ((rest : List ℕ) → bytes_from (place + 1) (d ∷ []) ≡ Ok rest → IsKept P 1 rest) → IsKept P 2 bytes
     one true h so = cc
     one false h so = in_front c (bytes_from (place + 1) (d ∷ [])) 1 2 bytes each.0 (omega arith) so h
@@ -41,7 +41,7 @@ module _ (P : ℕ → Type 0) (escaped : (d e : ℕ) → is_digit d 16 ≡ true 
       one (c == 92) (is_digit d 16 && is_digit f 16) refl e (λ rest is. kept (place + 3) more rest each.1.1.1 is) (λ rest is. kept (place + 1) (d ∷ f ∷ more) rest each.1 is)
     where
       one : (t hex : Bool) → (is_digit d 16 && is_digit f 16) ≡ hex
-          → (cond t (cond hex (with_byte (digit_value d * 16 + digit_value f) (bytes_from (place + 3) more)) (Err place)) (with_byte c (bytes_from (place + 1) (d ∷ f ∷ more)))) ≡ Ok bytes
+          → (cond t (cond hex (with_first (digit_value d * 16 + digit_value f) (bytes_from (place + 3) more)) (Err place)) (with_first c (bytes_from (place + 1) (d ∷ f ∷ more)))) ≡ Ok bytes
           → ((rest : List ℕ) → bytes_from (place + 3) more ≡ Ok rest → IsKept P (length more) rest)
           → ((rest : List ℕ) → bytes_from (place + 1) (d ∷ f ∷ more) ≡ Ok rest → IsKept P (suc (suc (length more))) rest)
           → IsKept P (suc (suc (suc (length more)))) bytes

@@ -5,7 +5,7 @@ use Rattle.std.specs.List.{AllByRecursion}
 use Rattle.std.specs.Char.{is_digit, digit_value}
 use Rattle.std.specs.Str.{bytes_eq}
 use Rattle.std.proofs.lemmas.Slice.Eq.{bytes_eq-Decides}
-use Rattle.mf_text.specs.Escape.{bytes_from, with_byte}
+use Rattle.mf_text.specs.Escape.{bytes_from, with_first}
 use Rattle.mf_errno.specs.Names.{module_named, module_text}
 use Rattle.mf_errno.specs.declared.module.Module.{Module}
 use Rattle.mf_elem.specs.declared.label.Request.{Request}
@@ -46,7 +46,7 @@ behind_field : (text : List ℕ) (piece : Piece) (ws rest : Words) → IsField t
 behind_field text piece ws rest both some = behind_first piece both.between rest both.value (behind_first (Word text) ws both.between both.name some)
 
 -- a text with some byte stands for some byte
-some_first : (c : ℕ) (more : Result (List ℕ) ℕ) → with_byte c more ≡ Ok [] → ⊥
+some_first : (c : ℕ) (more : Result (List ℕ) ℕ) → with_first c more ≡ Ok [] → ⊥
 some_first c (Ok bytes) e = cc
 some_first c (Err place) e = cc
 
@@ -58,12 +58,12 @@ some_bytes place (c ∷ []) e = by_test (eqb c 92) e where
   by_test true h = cc
   by_test false h = cc
 some_bytes place (c ∷ d ∷ []) e = by_test (eqb c 92) e where
-  by_test : (slash : Bool) → (if slash then Err place else with_byte c (bytes_from (place + 1) (d ∷ []))) ≡ Ok [] → c ∷ d ∷ [] ≡ []
+  by_test : (slash : Bool) → (if slash then Err place else with_first c (bytes_from (place + 1) (d ∷ []))) ≡ Ok [] → c ∷ d ∷ [] ≡ []
   by_test true h = cc
   by_test false h = absurd (some_first c _ h)
 some_bytes place (c ∷ d ∷ e ∷ rest) h = by_test (eqb c 92) (is_digit d 16 && is_digit e 16) h where
-  by_test : (slash digits : Bool) → (if slash then (if digits then with_byte (digit_value d * 16 + digit_value e) (bytes_from (place + 3) rest) else Err place)
-      else with_byte c (bytes_from (place + 1) (d ∷ e ∷ rest))) ≡ Ok [] → c ∷ d ∷ e ∷ rest ≡ []
+  by_test : (slash digits : Bool) → (if slash then (if digits then with_first (digit_value d * 16 + digit_value e) (bytes_from (place + 3) rest) else Err place)
+      else with_first c (bytes_from (place + 1) (d ∷ e ∷ rest))) ≡ Ok [] → c ∷ d ∷ e ∷ rest ≡ []
   by_test true true h = absurd (some_first _ _ h)
   by_test true false h = cc
   by_test false digits h = absurd (some_first c _ h)

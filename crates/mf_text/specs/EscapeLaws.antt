@@ -3,7 +3,7 @@ use Rattle.std.specs.Prelude.{◌≡◌, ℕ, ◌+◌, ◌-◌, ◌<◌, List, l
 use Rattle.std.specs.List.{AllByRecursion}
 use Rattle.mf_text.specs.declared.escapes.TextFault.{TextFault}
 use Rattle.mf_text.specs.declared.escapes.TextFault.TheVariants.{BadEscape, Memory}
-use Rattle.mf_text.specs.Escape.{bytes_from, bytes_of, escaped, with_byte}
+use Rattle.mf_text.specs.Escape.{bytes_from, bytes_of, escaped, with_first}
 
 -- the text begins with a bad escape, wherever it stands
 abbrev pub BeginsWithBadEscape : List ℕ → Type 0
@@ -12,7 +12,7 @@ BeginsWithBadEscape text = (place : ℕ) → bytes_from place text ≡ Err place
 -- the text stands for this byte and then for what the rest stands for, which is the end of it
 abbrev pub StandsForByteThen : List ℕ → ℕ → List ℕ → Type 0
 StandsForByteThen text byte rest =
-    (place : ℕ) → bytes_from place text ≡ with_byte byte (bytes_from (place + (length text - length rest)) rest)
+    (place : ℕ) → bytes_from place text ≡ with_first byte (bytes_from (place + (length text - length rest)) rest)
 
 -- a fault other than that memory ran out, at the place that reading gives
 abbrev pub IsFaultOf : TextFault → Result (List ℕ) ℕ → Type 0

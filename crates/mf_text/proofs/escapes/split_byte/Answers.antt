@@ -1,5 +1,5 @@
 use Rattle.std.proofs.Common.{◌≡◌, ◌∷◌, ◌+◌, ◌-◌, length, ap, ◌∙◌, arith}
-use Rattle.mf_text.specs.Escape.{bytes_from, with_byte}
+use Rattle.mf_text.specs.Escape.{bytes_from, with_first}
 use Rattle.mf_text.proofs.Unescaping.{plain_read}
 use Rattle.mf_text.proofs.escapes.split_byte.Goals as goal
 
@@ -12,4 +12,4 @@ returns-clause-reads c = λ place.
     let one : 1 ≡ length c.args.text.now - length rest = omega (arith, ap length whole) in
     ap (bytes_from place) whole
     ∙ plain_read place first rest c.if-first-eq-BACKSLASH.false
-    ∙ ap (λ n. with_byte first (bytes_from (place + n) rest)) one
+    ∙ ap (λ n. with_first first (bytes_from (place + n) rest)) one

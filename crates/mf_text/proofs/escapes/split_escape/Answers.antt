@@ -1,6 +1,6 @@
 use Rattle.std.proofs.Common.{◌≡◌, ◌∷◌, ◌+◌, ◌-◌, ◌*◌, ◌<◌, length, ap, sym, ◌∙◌, arith}
 use Rattle.std.specs.Char.{digit_value}
-use Rattle.mf_text.specs.Escape.{bytes_from, with_byte}
+use Rattle.mf_text.specs.Escape.{bytes_from, with_first}
 use Rattle.mf_text.proofs.Unescaping.{escape_read}
 use Rattle.mf_text.proofs.escapes.split_escape.Goals as goal
 
@@ -23,6 +23,6 @@ returns-clause-reads c = λ place.
     let three : 3 ≡ length (92 ∷ c.args.text.now) - length rest = omega (arith, ap length whole) in
     ap (λ text. bytes_from place (92 ∷ text)) whole
     ∙ escape_read place high low rest is_high is_low
-    ∙ ap (λ n. with_byte (n * 16 + digit_value low) (bytes_from (place + 3) rest)) high_value
-    ∙ ap (λ n. with_byte (c.in_ok-high-2.high * 16 + n) (bytes_from (place + 3) rest)) low_value
-    ∙ ap (λ n. with_byte (c.in_ok-high-2.high * 16 + c.in_ok-low-2.low) (bytes_from (place + n) rest)) three
+    ∙ ap (λ n. with_first (n * 16 + digit_value low) (bytes_from (place + 3) rest)) high_value
+    ∙ ap (λ n. with_first (c.in_ok-high-2.high * 16 + n) (bytes_from (place + 3) rest)) low_value
+    ∙ ap (λ n. with_first (c.in_ok-high-2.high * 16 + c.in_ok-low-2.low) (bytes_from (place + n) rest)) three
