@@ -34,11 +34,11 @@ ids_map : (zones : Contents) (found : Option Entity) → option_map (λ (e : Liv
 ids_map zones None = refl
 ids_map zones (Some e) = refl
 
-inside_some : (a b : LiveEntity) → Some a ≡ Some b → a ≡ b
+pub inside_some : (a b : LiveEntity) → Some a ≡ Some b → a ≡ b
 inside_some a b e = cc
 
 -- what is found among rising ids has an id from the least on
-find_least : (test : LiveEntity → Bool) (least next : ℕ) (es : List LiveEntity) (x : LiveEntity) → IsRising least next es → find test es ≡ Some x → least ≤ x.id.0
+pub find_least : (test : LiveEntity → Bool) (least next : ℕ) (es : List LiveEntity) (x : LiveEntity) → IsRising least next es → find test es ≡ Some x → least ≤ x.id.0
 find_least test least next [] x rising is = cc
 find_least test least next (e ∷ es) x rising is = one (test e) (find_least test (e.id.0 + 1) next es x rising.1) is
   where
@@ -47,7 +47,7 @@ find_least test least next (e ∷ es) x rising is = one (test e) (find_least tes
     one false later is = omega (arith, later is, rising.0)
 
 -- its id finds it again
-own_id : (test : LiveEntity → Bool) (least next : ℕ) (es : List LiveEntity) (x : LiveEntity) → IsRising least next es → find test es ≡ Some x → find (has_id x.id) es ≡ Some x
+pub own_id : (test : LiveEntity → Bool) (least next : ℕ) (es : List LiveEntity) (x : LiveEntity) → IsRising least next es → find test es ≡ Some x → find (has_id x.id) es ≡ Some x
 own_id test least next [] x rising is = cc
 own_id test least next (e ∷ es) x rising is = one (test e) (own_id test (e.id.0 + 1) next es x rising.1) is
   where
@@ -64,25 +64,24 @@ own_id test least next (e ∷ es) x rising is = one (test e) (own_id test (e.id.
         let miss : has_id x.id e ≡ false = id_differs x.id e (λ (same : e.id.0 ≡ x.id.0). omega (arith, same, later)) in
         rw miss (rest is)
 
-pub found_id : (test : LiveEntity → Bool) (next : ℕ) (zones : Contents) (es : List Entity) (found : Option Id) → IsSound next zones es
-    → found ≡ option_map (λ (e : Entity). e.id) (find (λ (e : Entity). test (live_entity zones e)) es) → IsFirstLive test (view next zones es) found
-found_id test next zones es found sound is =
-    let ids : found ≡ id_of (find test (live_of zones es)) =
-    is ∙ sym (ids_map zones (find (λ (e : Entity). test (live_entity zones e)) es)) ∙ ap id_of (sym (find-live test zones es)) in
-    record {
-      id = ids;
-      live = subst (λ (o : Option Id). IfSome o (λ id. live_at (view next zones es) id ≡ find test (live_of zones es))) (sym ids)
-          (again (find test (live_of zones es)) refl);
-      absent = subst (λ (o : Option Id). IfNone o (find test (live_of zones es) ≡ None)) (sym ids) (nothing (find test (live_of zones es)));
-    }
+-- the first of the live entities that passes a test, and its id
+pub is_found : (test : LiveEntity → Bool) (o : Entities) → IsRising 0 o.next o.live → IsFirstLive test o (id_of (find test o.live))
+is_found test o rising = record { id = refl; live = again (find test o.live) refl; absent = nothing (find test o.live) }
   where
-    nothing : (o : Option LiveEntity) → IfNone (id_of o) (o ≡ None)
+    nothing : (found : Option LiveEntity) → IfNone (id_of found) (found ≡ None)
     nothing None = refl
     nothing (Some x) = tt
 
-    again : (o : Option LiveEntity) → find test (live_of zones es) ≡ o → IfSome (id_of o) (λ id. find (has_id id) (live_of zones es) ≡ o)
-    again None e = tt
-    again (Some x) e = own_id test 0 next (live_of zones es) x sound.population.rising e
+    again : (found : Option LiveEntity) → find test o.live ≡ found → IfSome (id_of found) (λ id. live_at o id ≡ found)
+    again None is = tt
+    again (Some x) is = own_id test 0 o.next o.live x rising is
+
+pub found_id : (test : LiveEntity → Bool) (next : ℕ) (zones : Contents) (es : List Entity) (found : Option Id) → IsSound next zones es
+    → found ≡ option_map (λ (e : Entity). e.id) (find (λ (e : Entity). test (live_entity zones e)) es) → IsFirstLive test (view next zones es) found
+found_id test next zones es found sound is =
+    subst (IsFirstLive test (view next zones es))
+    (sym (is ∙ sym (ids_map zones (find (λ (e : Entity). test (live_entity zones e)) es)) ∙ ap id_of (sym (find-live test zones es))))
+    (is_found test (view next zones es) sound.population.rising)
 
 -- what contracts see of the entity at a place
 pub shown_place : (next : ℕ) (zones : Contents) (es : List Entity) (id : Id) (i : ℕ) (e : Entity) → IsPlace (view next zones es) id i → e ≡ get_or es i e
@@ -131,7 +130,7 @@ root_found next (r ∷ es) root =
 pub root_live : (next : ℕ) (zones : Contents) (es : List Entity) → IsSound next zones es → IsLive is_directory (view next zones es) (record { 0 = 0 })
 root_live next zones es sound = root_found next (live_of zones es) sound.population.rooted
 
-passes_found : (test : LiveEntity → Bool) (es : List LiveEntity) (x : LiveEntity) → find test es ≡ Some x → test x ≡ true
+pub passes_found : (test : LiveEntity → Bool) (es : List LiveEntity) (x : LiveEntity) → find test es ≡ Some x → test x ≡ true
 passes_found test [] x is = cc
 passes_found test (e ∷ es) x is = one (test e) refl (passes_found test es x) is
   where
