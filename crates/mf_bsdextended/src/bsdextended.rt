@@ -26,7 +26,8 @@ pub struct Bsdextended {
 impl Bsdextended {
     /// The policy in its initial state: no rules, and the first match decides.
     pub fn new(alloc: Global) -> Result<Bsdextended, AllocError>
-        ensures { IfOk result (λ policy. ⟦<Bsdextended as Policy>⟧.spec policy ≡ fresh_of modules.Bsdextended) }
+        ensures { IfOk result
+            (λ policy. ⟦<Bsdextended as Policy>⟧.spec policy ≡ fresh_of modules.Bsdextended) }
     {
         Ok(Bsdextended {
             rules: RuleList::new(alloc)?,

@@ -57,7 +57,8 @@ fn has_privilege<P: Policy>(listed: &Listed<'_, P>, item: &Item) -> bool
 
 /// Whether some policy grants the privilege that the item asks for.
 fn is_granted<P: Policy>(listed: &Listed<'_, P>, item: &Item) -> bool
-    ensures { result ≡ list_any (spec.grant_of item.now.privilege item.now.subject.cred) listed.now }
+    ensures { result ≡ list_any
+        (spec.grant_of item.now.privilege item.now.subject.cred) listed.now }
 {
     let room = grants(listed, item);
     granted(&room[..listed.len()])
@@ -88,7 +89,8 @@ fn answers<P: Policy>(listed: &Listed<'_, P>, item: &Item) -> [Errno; MOST_LISTE
 
 /// Which policies grant the privilege, in walk order. The rest of the array is false.
 fn grants<P: Policy>(listed: &Listed<'_, P>, item: &Item) -> [bool; MOST_LISTED]
-    ensures { take (length listed.now) result ≡ map (spec.grant_of item.now.privilege item.now.subject.cred) listed.now }
+    ensures { take (length listed.now) result
+        ≡ map (spec.grant_of item.now.privilege item.now.subject.cred) listed.now }
 {
     let mut grants = [false; MOST_LISTED];
     for place in 0..listed.len() {

@@ -42,9 +42,11 @@ impl<P: Policy> Model for Catalogue<P> {
 impl<P: Policy> Catalogue<P> {
     /// A catalogue of these policies, with room for all modules.
     pub fn new(mut modules: Vec<P>) -> Result<Catalogue<P>, AllocError>
-        requires distinct { IsTrue (are_distinct (map (λ p. facts.module_of (P.spec p)) modules.items)) }
+        requires distinct { IsTrue
+            (are_distinct (map (λ p. facts.module_of (P.spec p)) modules.items)) }
         requires fresh { All (λ p. IsFresh (P.spec p)) modules.items }
-        ensures { IfOk result (λ catalogue. catalogue ≡ map (λ p. facts.module_of (P.spec p)) modules.items) }
+        ensures { IfOk result
+            (λ catalogue. catalogue ≡ map (λ p. facts.module_of (P.spec p)) modules.items) }
     {
         modules.reserve(MOST_LISTED)?;
         Ok(Catalogue { policies: modules })
@@ -67,7 +69,8 @@ impl<P: Policy> Catalogue<P> {
     }
 
     fn place_of(&self, wanted: Module) -> Option<usize>
-        ensures { MatchOption result (in_catalogue wanted self.now ≡ false) (λ place. IsModulePlace wanted self.now place) }
+        ensures { MatchOption result (in_catalogue wanted self.now ≡ false)
+            (λ place. IsModulePlace wanted self.now place) }
     {
         self.position_of(wanted)
     }
@@ -116,7 +119,8 @@ impl<P: Policy> Catalogue<P> {
 
 /// The first place of the module.
 fn first_of<P: Policy>(policies: &[P], wanted: Module) -> Option<usize>
-    ensures { result ≡ position (λ p. same_module wanted (facts.module_of (P.spec p))) policies.now }
+    ensures { result ≡ position
+        (λ p. same_module wanted (facts.module_of (P.spec p))) policies.now }
 {
     policies.iter().position(|policy| is_of(policy, wanted))
 }

@@ -68,7 +68,8 @@ impl<P: Policy> Entries<P> {
 
     /// Where the module's policy stands.
     pub fn place_of(&self, wanted: Module) -> Option<usize>
-        ensures { MatchOption result (IsAbsent wanted self.now) (λ place. IsEntryPlace wanted self.now place) }
+        ensures { MatchOption result (IsAbsent wanted self.now)
+            (λ place. IsEntryPlace wanted self.now place) }
     {
         self.position_of(wanted)
     }
@@ -108,7 +109,8 @@ impl<P: Policy> Entries<P> {
         change: &Change,
     ) -> Result<Changed, AllocError>
         requires { IsChange change.now }
-        ensures ok { IfOk result (λ changed. (changed, self.new) ≡ change_in «module» change.now self.old) }
+        ensures ok { IfOk result
+            (λ changed. (changed, self.new) ≡ change_in «module» change.now self.old) }
         ensures err { OnErr result (self.new ≡ self.old) }
     {
         match self.place_of(module) {

@@ -67,8 +67,11 @@ impl<'a, P: Policy> Listed<'a, P> {
 
     /// The module's facts, where it is listed or in the catalogue.
     fn facts_of(&self, catalogue: &Catalogue<P>, wanted: Module) -> Option<LoadFacts>
-        ensures variant { is_some result ≡ (is_listed wanted self.now || in_catalogue wanted catalogue.now) }
-        ensures value { IfSome result (λ found. (found.flags ≡ flags_of wanted) × (found.wants_slot ≡ facts.wants_slot wanted)) }
+        ensures variant { is_some result
+            ≡ (is_listed wanted self.now || in_catalogue wanted catalogue.now) }
+        ensures value { IfSome result
+            (λ found. (found.flags ≡ flags_of wanted)
+            × (found.wants_slot ≡ facts.wants_slot wanted)) }
     {
         match self.find(wanted) {
             Some(listed) => Some(LoadFacts {

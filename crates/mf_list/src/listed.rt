@@ -65,7 +65,8 @@ impl<'a, P: Policy> Listed<'a, P> {
     fn agrees_at(&self, specs: &SpecList, place: usize) -> bool
         requires listed { place < length self.now }
         requires given { place < length specs.now }
-        ensures { (other : Entry) → IsTrue result ↔ (slice_index_or self.now place other ≡ slice_index_or specs.now place other) }
+        ensures { (other : Entry) → IsTrue result
+            ↔ (slice_index_or self.now place other ≡ slice_index_or specs.now place other) }
     {
         self.policy(place)
             .is(specs.registration(place), specs.spec(place))

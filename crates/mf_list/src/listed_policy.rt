@@ -102,7 +102,8 @@ impl<P: Policy> ListedPolicy<P> {
     pub fn change(&mut self, alloc: Global, change: &Change) -> Result<Changed, AllocError>
         requires { IsChange change.now }
         ensures registration { self.new.0 ≡ self.old.0 }
-        ensures ok { IfOk result (λ changed. (changed, self.new.1) ≡ change_of self.old.1 change.now) }
+        ensures ok { IfOk result
+            (λ changed. (changed, self.new.1) ≡ change_of self.old.1 change.now) }
         ensures err { OnErr result (self.new ≡ self.old) }
     {
         self.policy.change(alloc, change)

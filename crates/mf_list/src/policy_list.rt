@@ -70,7 +70,8 @@ impl<P: Policy> PolicyList<P> {
         change: &Change,
     ) -> Result<Changed, AllocError>
         requires { IsChange change.now }
-        ensures ok { IfOk result (λ changed. (changed, self.new) ≡ change_in «module» change.now self.old) }
+        ensures ok { IfOk result
+            (λ changed. (changed, self.new) ≡ change_in «module» change.now self.old) }
         ensures err { OnErr result (self.new ≡ self.old) }
     {
         self.entries.change(alloc, module, change)
@@ -93,7 +94,8 @@ impl<P: Policy> PolicyList<P> {
 
     /// Where the module's policy stands.
     pub(crate) fn place_of(&self, wanted: Module) -> Option<usize>
-        ensures { MatchOption result (IsAbsent wanted self.now) (λ place. IsEntryPlace wanted self.now place) }
+        ensures { MatchOption result (IsAbsent wanted self.now)
+            (λ place. IsEntryPlace wanted self.now place) }
     {
         self.entries.place_of(wanted)
     }

@@ -30,9 +30,15 @@ impl<P: Policy> PolicyList<P> {
         name: &str,
     ) -> Result<Registration, RegisterFault>
         requires once { IsHeldOnce (fixed.old ++ self.old) catalogue.old }
-        ensures verdict { result ≡ register_verdict_by_name (module_named name.now) false (fixed.old ++ self.old) catalogue.old numbers.old }
-        ensures ok { IfOk result (λ r. Registers r (fixed.old ++ self.old) (fixed.new ++ self.new) catalogue.old catalogue.new numbers.old numbers.new) }
-        ensures err { OnErr result ((self.new ≡ self.old) × (fixed.new ≡ fixed.old) × (catalogue.new ≡ catalogue.old) × (numbers.new ≡ numbers.old)) }
+        ensures verdict { result
+            ≡ register_verdict_by_name (module_named name.now) false
+            (fixed.old ++ self.old) catalogue.old numbers.old }
+        ensures ok { IfOk result
+            (λ r. Registers r (fixed.old ++ self.old)
+            (fixed.new ++ self.new) catalogue.old catalogue.new numbers.old numbers.new) }
+        ensures err { OnErr result
+            ((self.new ≡ self.old) × (fixed.new ≡ fixed.old) × (catalogue.new ≡ catalogue.old)
+            × (numbers.new ≡ numbers.old)) }
         ensures once { IsHeldOnce (fixed.new ++ self.new) catalogue.new }
     {
         match Module::from_name(name) {
@@ -49,9 +55,14 @@ impl<P: Policy> PolicyList<P> {
         wanted: Module,
     ) -> Result<Registration, RegisterFault>
         requires once { IsHeldOnce (fixed.old ++ self.old) catalogue.old }
-        ensures verdict { result ≡ register_verdict wanted false (fixed.old ++ self.old) catalogue.old numbers.old }
-        ensures ok { IfOk result (λ r. Registers r (fixed.old ++ self.old) (fixed.new ++ self.new) catalogue.old catalogue.new numbers.old numbers.new) }
-        ensures err { OnErr result ((self.new ≡ self.old) × (fixed.new ≡ fixed.old) × (catalogue.new ≡ catalogue.old) × (numbers.new ≡ numbers.old)) }
+        ensures verdict { result
+            ≡ register_verdict wanted false (fixed.old ++ self.old) catalogue.old numbers.old }
+        ensures ok { IfOk result
+            (λ r. Registers r (fixed.old ++ self.old)
+            (fixed.new ++ self.new) catalogue.old catalogue.new numbers.old numbers.new) }
+        ensures err { OnErr result
+            ((self.new ≡ self.old) × (fixed.new ≡ fixed.old) × (catalogue.new ≡ catalogue.old)
+            × (numbers.new ≡ numbers.old)) }
         ensures once { IsHeldOnce (fixed.new ++ self.new) catalogue.new }
     {
         let listed = Listed::new(fixed, self);
@@ -75,9 +86,15 @@ impl<P: Policy> PolicyList<P> {
         name: &str,
     ) -> Result<Registration, RegisterFault>
         requires once { IsHeldOnce (fixed.now ++ self.old) catalogue.old }
-        ensures verdict { result ≡ register_verdict_by_name (module_named name.now) true (fixed.now ++ self.old) catalogue.old numbers.old }
-        ensures ok { IfOk result (λ r. Registers r (fixed.now ++ self.old) (fixed.now ++ self.new) catalogue.old catalogue.new numbers.old numbers.new) }
-        ensures err { OnErr result ((self.new ≡ self.old) × (catalogue.new ≡ catalogue.old) × (numbers.new ≡ numbers.old)) }
+        ensures verdict { result
+            ≡ register_verdict_by_name (module_named name.now) true
+            (fixed.now ++ self.old) catalogue.old numbers.old }
+        ensures ok { IfOk result
+            (λ r. Registers r (fixed.now ++ self.old)
+            (fixed.now ++ self.new) catalogue.old catalogue.new numbers.old numbers.new) }
+        ensures err { OnErr result
+            ((self.new ≡ self.old) × (catalogue.new ≡ catalogue.old)
+            × (numbers.new ≡ numbers.old)) }
         ensures once { IsHeldOnce (fixed.now ++ self.new) catalogue.new }
     {
         match Module::from_name(name) {
@@ -94,9 +111,14 @@ impl<P: Policy> PolicyList<P> {
         wanted: Module,
     ) -> Result<Registration, RegisterFault>
         requires once { IsHeldOnce (fixed.now ++ self.old) catalogue.old }
-        ensures verdict { result ≡ register_verdict wanted true (fixed.now ++ self.old) catalogue.old numbers.old }
-        ensures ok { IfOk result (λ r. Registers r (fixed.now ++ self.old) (fixed.now ++ self.new) catalogue.old catalogue.new numbers.old numbers.new) }
-        ensures err { OnErr result ((self.new ≡ self.old) × (catalogue.new ≡ catalogue.old) × (numbers.new ≡ numbers.old)) }
+        ensures verdict { result
+            ≡ register_verdict wanted true (fixed.now ++ self.old) catalogue.old numbers.old }
+        ensures ok { IfOk result
+            (λ r. Registers r (fixed.now ++ self.old)
+            (fixed.now ++ self.new) catalogue.old catalogue.new numbers.old numbers.new) }
+        ensures err { OnErr result
+            ((self.new ≡ self.old) × (catalogue.new ≡ catalogue.old)
+            × (numbers.new ≡ numbers.old)) }
         ensures once { IsHeldOnce (fixed.now ++ self.new) catalogue.new }
     {
         let listed = Listed::new(fixed, self);
@@ -119,7 +141,8 @@ impl<P: Policy> PolicyList<P> {
         requires slot { HasSlot (facts.wants_slot registration.«module») registration.slot }
         requires may_leave { MayLeave (registration, facts.fresh_of registration.«module») }
         requires once { IsHeldOnce (fixed.now ++ self.old) catalogue.old }
-        ensures moves { Enters registration (fixed.now ++ self.old) (fixed.now ++ self.new) catalogue.old catalogue.new }
+        ensures moves { Enters registration (fixed.now ++ self.old)
+            (fixed.now ++ self.new) catalogue.old catalogue.new }
         ensures once { IsHeldOnce (fixed.now ++ self.new) catalogue.new }
     {
         fixed.are_pinned();
@@ -139,8 +162,11 @@ impl<P: Policy> PolicyList<P> {
         name: &str,
     ) -> Result<Registration, UnregisterFault>
         requires once { IsHeldOnce (fixed.now ++ self.old) catalogue.old }
-        ensures verdict { result ≡ unregister_verdict_by_name (module_named name.now) (fixed.now ++ self.old) }
-        ensures ok { IfOk result (λ r. Unregisters r.«module» (fixed.now ++ self.old) (fixed.now ++ self.new) catalogue.old catalogue.new) }
+        ensures verdict { result
+            ≡ unregister_verdict_by_name (module_named name.now) (fixed.now ++ self.old) }
+        ensures ok { IfOk result
+            (λ r. Unregisters r.«module» (fixed.now ++ self.old)
+            (fixed.now ++ self.new) catalogue.old catalogue.new) }
         ensures err { OnErr result ((self.new ≡ self.old) × (catalogue.new ≡ catalogue.old)) }
         ensures once { IsHeldOnce (fixed.now ++ self.new) catalogue.new }
     {
@@ -158,7 +184,9 @@ impl<P: Policy> PolicyList<P> {
     ) -> Result<Registration, UnregisterFault>
         requires once { IsHeldOnce (fixed.now ++ self.old) catalogue.old }
         ensures verdict { result ≡ unregister_verdict wanted (fixed.now ++ self.old) }
-        ensures ok { IfOk result (λ r. Unregisters r.«module» (fixed.now ++ self.old) (fixed.now ++ self.new) catalogue.old catalogue.new) }
+        ensures ok { IfOk result
+            (λ r. Unregisters r.«module» (fixed.now ++ self.old)
+            (fixed.now ++ self.new) catalogue.old catalogue.new) }
         ensures err { OnErr result ((self.new ≡ self.old) × (catalogue.new ≡ catalogue.old)) }
         ensures once { IsHeldOnce (fixed.now ++ self.new) catalogue.new }
     {
@@ -173,7 +201,8 @@ impl<P: Policy> PolicyList<P> {
     pub fn detach(&mut self, fixed: &Fixed<P>, catalogue: &mut Catalogue<P>, module: Module)
         requires listed { is_listed «module» self.old ≡ true }
         requires once { IsHeldOnce (fixed.now ++ self.old) catalogue.old }
-        ensures moves { Unregisters «module» (fixed.now ++ self.old) (fixed.now ++ self.new) catalogue.old catalogue.new }
+        ensures moves { Unregisters «module» (fixed.now ++ self.old)
+            (fixed.now ++ self.new) catalogue.old catalogue.new }
         ensures once { IsHeldOnce (fixed.now ++ self.new) catalogue.new }
     {
         fixed.are_pinned();
@@ -207,7 +236,8 @@ impl<P: Policy> Fixed<P> {
         requires slot { HasSlot (facts.wants_slot registration.«module») registration.slot }
         requires pinned { IsPinned (registration, facts.fresh_of registration.«module») }
         requires once { IsHeldOnce (self.old ++ list.now) catalogue.old }
-        ensures moves { Enters registration (self.old ++ list.now) (self.new ++ list.now) catalogue.old catalogue.new }
+        ensures moves { Enters registration (self.old ++ list.now)
+            (self.new ++ list.now) catalogue.old catalogue.new }
         ensures once { IsHeldOnce (self.new ++ list.now) catalogue.new }
     {
         match catalogue.take(registration.module) {

@@ -110,7 +110,8 @@ fn object_number(object: Option<&ObjectView>, slot: u8) -> u32
 }
 
 fn wanted_number(request: Option<&Request>) -> u32
-    ensures { result ≡ unwrap_or (option_and_then (number_asked modules.Partition) (option_copied request.entry)) 0 }
+    ensures { result ≡ unwrap_or
+        (option_and_then (number_asked modules.Partition) (option_copied request.entry)) 0 }
 {
     match request {
         Some(request) => number_asked(Module::Partition, request).unwrap_or(0),
