@@ -1,5 +1,5 @@
 -- How many modules a script boots at most, and how many label slots these take.
-use Rattle.std.proofs.Common.{◌≡◌, ◌≢◌, ℕ, zero, suc, ◌+◌, ◌<◌, ◌≤◌, get_or, take, Bool, true, false, cond, ◌||◌, List, [], ◌∷◌, length, refl, ap, sym, ◌∙◌, arith}
+use Rattle.std.proofs.Common.{◌≡◌, ◌≢◌, ℕ, zero, suc, ◌+◌, ◌<◌, ◌≤◌, get_or, slice_get, take, Bool, true, false, cond, ◌||◌, List, [], ◌∷◌, length, Some, refl, ap, sym, ◌∙◌, arith}
 use Rattle.std.specs.Prelude.{AllPairs, fold}
 use Rattle.mf_errno.specs.declared.module.Module.{Module}
 use Rattle.mf_errno.specs.declared.module.Module.TheVariants.{Biba}
@@ -92,7 +92,7 @@ few_boots boots are = omega (arith, by_ones boots, by_ones all_modules, no_more 
 slots_wanted : List Module → ℕ
 slots_wanted modules = total (λ m. cond (wants_slot m) 1 0) modules
 
-few_slots : (boots : List Module) → AreBoots boots → slots_wanted boots ≤ 3
+few_slots : (boots : List Module) → AreBoots boots → slots_wanted boots ≤ 4
 unfolding slots_wanted total
 few_slots boots are = no_more (λ m. cond (wants_slot m) 1 0) boots are
 
@@ -113,6 +113,21 @@ wanted_by_first zero modules = omega arith
 wanted_by_first (suc n) [] = omega arith
 wanted_by_first (suc n) (m ∷ modules) = omega (arith, wanted_by_first n modules)
 
--- while modules are booted, a slot number is left
-pub few_given : (boots : List Module) (n : ℕ) → AreBoots boots → fold given_after 0 (take n boots) ≤ 3
+-- the slot of one of the modules counts besides those of the modules before it
+with_next : (n : ℕ) (modules : List Module) (m : Module) → slice_get modules n ≡ Some m → slots_wanted (take n modules) + cond (wants_slot m) 1 0 ≤ slots_wanted modules
+unfolding slots_wanted total
+with_next n [] m at = absurd cc
+with_next zero (x ∷ modules) m at =
+    let same : x ≡ m = cc in
+    let weight : cond (wants_slot x) 1 0 ≡ cond {A = ℕ} (wants_slot m) 1 0 = ap {B = ℕ} (λ m. cond (wants_slot m) 1 0) same in omega (arith, weight)
+with_next (suc n) (x ∷ modules) m at = omega (arith, with_next n modules m at)
+
+-- where a booted module wants a slot, a slot number is left
+pub slot_left : (boots : List Module) (n : ℕ) (m : Module) → AreBoots boots → slice_get boots n ≡ Some m → wants_slot m ≡ true → fold given_after 0 (take n boots) ≤ 3
+slot_left boots n m are at wants =
+    let one : cond {A = ℕ} (wants_slot m) 1 0 ≡ 1 = ap {B = ℕ} (λ b. cond b 1 0) wants in
+    omega (arith, given_for 0 (take n boots), with_next n boots m at, few_slots boots are, one)
+
+-- there are as many slot numbers as booted modules may want
+pub few_given : (boots : List Module) (n : ℕ) → AreBoots boots → fold given_after 0 (take n boots) ≤ 4
 few_given boots n are = omega (arith, given_for 0 (take n boots), wanted_by_first n boots, few_slots boots are)

@@ -18,7 +18,7 @@ no_words = subst (λ comps. AreWords comps.words) (sym none_is) (set_are_words s
 
 -- a request of an element alone
 is_asked : (kind : Kind) (e : Elem) → IsElement e → may_ask_for kind (Biba ∷ []) (asked e) ≡ true → IsAsked kind (Biba ∷ []) (asked e)
-is_asked kind e spelled allowed = record { spelled = record { biba = record { effective = spelled; range = tt; not_empty = refl }; mls = tt; partition = tt }; allowed = allowed }
+is_asked kind e spelled allowed = record { spelled = record { biba = record { effective = spelled; range = tt; not_empty = refl }; mls = tt; lomac = tt; partition = tt }; allowed = allowed }
 
 grade_allowed : (kind : Kind) (grade : ℕ) → may_ask_for kind (Biba ∷ []) (asked (plain_grade grade)) ≡ true
 grade_allowed kinds.Process grade = refl

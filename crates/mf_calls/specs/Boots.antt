@@ -11,12 +11,9 @@ use Rattle.mf_policy.specs.Modules.{is_named, may_ask}
 abbrev pub is_booted : List Module → Module → Bool
 is_booted boots m = list_any (same_module m) boots
 
--- the request doesn't name the module's policy, or it is booted
-abbrev pub may_name : List Module → Request → Module → Bool
-may_name boots request m = not (is_named m request) || is_booted boots m
-
+-- each policy that the request names is booted
 abbrev pub names_booted : List Module → Request → Bool
-names_booted boots request = list_all (may_name boots request) all_modules && not request.other
+names_booted boots request = list_all (λ m. not (is_named m request) || is_booted boots m) all_modules && not request.other
 
 -- A script that boots these modules may ask this for an entity of that kind: it names no other policy, and each takes what it asks
 -- and gives a valid label.

@@ -101,7 +101,7 @@ plain_grade grade = Grade grade no_comps
 
 -- what a label text `biba/..` with this element asks for
 abbrev pub asked : Elem → Request
-asked element = record { biba = Some (record { effective = Some element; range = None }); mls = None; partition = None; other = false }
+asked element = record { biba = Some (record { effective = Some element; range = None }); mls = None; lomac = None; partition = None; other = false }
 
 abbrev pub load_directory : ℕ → FileLine
 load_directory k = record { path = directory_path k; file = record { uid = 0; gid = 0; mode = DIRECTORY_MODE; dir = true }; label = asked Equal; text = [] }

@@ -19,15 +19,9 @@ is_name_byte b = is_ascii_alphanumeric b || char_set_contains (codes "_-") b
 abbrev pub is_name : List ℕ → Bool
 is_name w = is_some_text w && nat_le (length w) NAME_LIMIT && list_all is_name_byte w
 
--- a task's name, or a task's and a child's
-abbrev pub are_process_names : List (List ℕ) → Bool
-are_process_names (name ∷ []) = is_name name
-are_process_names (name ∷ child ∷ []) = is_name name && is_name child
-are_process_names other = false
-
 -- the full name of a process: that of a task, or a task's, a dot and a child's
 abbrev pub is_process_name : List ℕ → Bool
-is_process_name w = are_process_names (slice_split (λ b. b == dot) w)
+is_process_name w = let names = slice_split (λ b. b == dot) w in nat_le (length names) 2 && list_all is_name names
 
 abbrev pub is_component_byte : ℕ → Bool
 is_component_byte b = is_name_byte b || b == dot

@@ -1,4 +1,4 @@
--- What a script says of its tasks by their numbers, and which calls are changes, which wait until no entry is open: this model's own.
+-- What a script says of its tasks by their numbers, nothing where there is none of a number, and which calls are changes, which wait until no entry is open: this model's own.
 use Rattle.std.specs.Prelude.{ℕ, Bool, true, false, List, [], Option, unwrap_or, option_map, slice_get}
 use Rattle.std.specs.List.{position}
 use Rattle.std.specs.Str.{bytes_eq}
@@ -7,11 +7,9 @@ use Rattle.mf_calls.specs.declared.script.Call.TheVariants as call
 use Rattle.mf_calls.specs.declared.script.Line.{Line}
 use Rattle.mf_calls.specs.declared.script.Script.{Script}
 
--- the lines of a task, where there is one of that number
 abbrev pub lines_of : Script → ℕ → List Line
 lines_of s t = unwrap_or (option_map (λ task. task.lines) (slice_get s.tasks t)) []
 
--- the name of a task, where there is one of that number
 abbrev pub name_of : Script → ℕ → List ℕ
 name_of s t = unwrap_or (option_map (λ task. task.name) (slice_get s.tasks t)) []
 

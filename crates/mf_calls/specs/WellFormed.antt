@@ -48,8 +48,7 @@ pub record IsPrintable (text : List ℕ) : Type 0 where
 -- a word of a line: some printable bytes of ASCII, and no more than a script has
 pub record IsWord (w : List ℕ) : Type 0 where
   pub some : is_some_text w ≡ true
-  pub each : All (λ b. is_ascii_graphic b ≡ true) w
-  pub few : length w ≤ SCRIPT_LIMIT
+  pub printable : IsPrintable w
 
 -- up to 8 components, each of which is a word of a path; the root directory has none
 pub record IsPath (path : List (List ℕ)) : Type 0 where

@@ -1,5 +1,5 @@
 //! Which modules a script boots, and what it may ask of their policies.
-ghost use Rattle.std.specs.Prelude.{◌≡◌};
+ghost use Rattle.std.specs.Prelude.{◌≡◌, ◌||◌, not};
 ghost use Rattle.std.specs.List.{list_all};
 ghost use Rattle.mf_calls.specs.Boots as spec;
 ghost use Rattle.mf_policy.specs.Modules as facts;
@@ -17,13 +17,13 @@ pub fn is_booted(boots: &[Module], wanted: Module) -> bool
 }
 
 fn may_name(boots: &[Module], request: &Request, named: Module) -> bool
-    ensures { result ≡ spec.may_name boots.now request.now named }
+    ensures { result ≡ (not (facts.is_named named request.now) || spec.is_booted boots.now named) }
 {
     !is_named(named, request) || is_booted(boots, named)
 }
 
 fn may_name_each(boots: &[Module], request: &Request, modules: &[Module]) -> bool
-    ensures { result ≡ list_all (spec.may_name boots.now request.now) modules.now }
+    ensures { result ≡ list_all (λ m. not (facts.is_named m request.now) || spec.is_booted boots.now m) modules.now }
 {
     modules.iter().all(|named| may_name(boots, request, *named))
 }

@@ -103,6 +103,7 @@ fn asked(element: Elem) -> Request
             range: None,
         }),
         mls: None,
+        lomac: None,
         partition: None,
         other: false,
     }

@@ -1,5 +1,5 @@
 -- The files of a script are made, each in its directory.
-use Rattle.std.proofs.Common.{◌≡◌, ◌≢◌, ℕ, ◌<◌, ◌≤◌, ◌+◌, suc, nat_eq, Bool, true, false, cond, ◌&&◌, ◌||◌, List, [], ◌∷◌, ◌++◌, length, Option, Some, None, refl, ap, sym, ◌∙◌, subst, arith, ◌⊎◌, inl, inr, eq-eqb, get_or}
+use Rattle.std.proofs.Common.{◌≡◌, ◌≢◌, ℕ, ◌==◌, ◌<◌, ◌≤◌, ◌+◌, suc, nat_eq, Bool, true, false, cond, ◌&&◌, ◌||◌, List, [], ◌∷◌, ◌++◌, length, Option, Some, None, refl, ap, sym, ◌∙◌, subst, arith, ◌⊎◌, inl, inr, eq-eqb, get_or}
 use Rattle.std.specs.Prelude.{find, fold}
 use Rattle.std.specs.Str.{bytes_eq}
 use Rattle.std.specs.List.{AllByRecursion, list_any}
@@ -19,7 +19,7 @@ use Rattle.mf_objects.specs.Changes.{made, with_entity, new_vnode}
 use Rattle.mf_objects.specs.Population.{IsRising}
 use Rattle.mf_objects.proofs.Rising.{rising_push, below_next}
 use Rattle.mf_calls.specs.declared.script.FileLine.{FileLine}
-use Rattle.mf_calls.specs.Paths.{directory_of, is_root, is_directory_at, has_directory}
+use Rattle.mf_calls.specs.Paths.{directory_of, is_directory_at, has_directory}
 use Rattle.mf_plan.specs.declared.target.Target.TheVariants.{Name}
 use Rattle.mf_plan.specs.Path.{root, entry_of, last_name, lookup_along}
 use Rattle.mf_plan.specs.Views.{is_dir}
@@ -143,7 +143,7 @@ differs_on paths next f later e both =
 -- a directory among the lines, one of which is this
 directory_among : (earlier : List FileLine) (f : FileLine) (path : List (List ℕ)) → has_directory (earlier ++ f ∷ []) path ≡ true
     → (has_directory earlier path ≡ true) ⊎ ((f.file.dir ≡ true) × (f.path ≡ path))
-directory_among earlier f path there = one (is_root path) there
+directory_among earlier f path there = one (length path == 0) there
   where
     both : (dir same : Bool) → f.file.dir ≡ dir → pointwise bytes_eq f.path path ≡ same → (dir && same) ≡ true → (f.file.dir ≡ true) × (f.path ≡ path)
     both true true dir same is = (dir, same_path-is f.path path same)

@@ -150,7 +150,7 @@ asked_formed w = by_test (bytes_eq w (codes "-")) where
   by_read (Err fault) e = refused
 
   by_test : (t : Bool) → Yields IsRequest (if t then Ok no_request else or_fault BadLabel (request_in w))
-  by_test true = done (record { biba = tt; mls = tt; partition = tt })
+  by_test true = done (record { biba = tt; mls = tt; lomac = tt; partition = tt })
   by_test false = by_read (request_in w) refl
 
 pub request_formed : (kind : Kind) (boots : List Module) (w : List ℕ) → Yields (IsAsked kind boots) (request_for kind boots w)
@@ -163,7 +163,7 @@ pub bytes_formed : (w : List ℕ) → IsWord w → Yields (IsText SCRIPT_LIMIT) 
 unfolding text_of
 bytes_formed w word = by_read (bytes_of w) refl where
   by_read : (read : Result (List ℕ) ℕ) → bytes_of w ≡ read → Yields (IsText SCRIPT_LIMIT) (or_fault BadText read)
-  by_read (Ok bytes) e = done (record { few = omega (arith, escaped_short w bytes e, word.few); each = escaped_fit w bytes (word_fits w word.each) e })
+  by_read (Ok bytes) e = done (record { few = omega (arith, escaped_short w bytes e, word.printable.few); each = escaped_fit w bytes (word_fits w word.printable.each) e })
   by_read (Err place) e = refused
 
 -- Settings
@@ -182,10 +182,10 @@ IsGraphic b = is_ascii_graphic b ≡ true
 
 both_printable : (byte : ℕ) (w front back : List ℕ) → IsWord w → IsCut byte w front back → IsPrintable front × IsPrintable back
 both_printable byte w front back word is =
-    let each : All IsGraphic (front ++ byte ∷ back) = subst (λ (w : List ℕ). All IsGraphic w) is.whole word.each in
+    let each : All IsGraphic (front ++ byte ∷ back) = subst (λ (w : List ℕ). All IsGraphic w) is.whole word.printable.each in
     let long : length w ≡ length front + length (byte ∷ back) = ap (λ (w : List ℕ). length w) is.whole ∙ length-append front (byte ∷ back) in (
-      record { each = in_front IsGraphic front byte back each; few = omega (arith, long, word.few) },
-      record { each = behind IsGraphic front byte back each; few = omega (arith, long, word.few) },
+      record { each = in_front IsGraphic front byte back each; few = omega (arith, long, word.printable.few) },
+      record { each = behind IsGraphic front byte back each; few = omega (arith, long, word.printable.few) },
     )
 
 pub sides_formed : (w : List ℕ) → IsWord w → Yields (λ sides. IsPrintable sides.0 × IsPrintable sides.1) (sides_of w)

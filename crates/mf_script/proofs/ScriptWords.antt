@@ -11,7 +11,7 @@ use Rattle.mf_names.specs.declared.limits.TheConstants.{SCRIPT_LIMIT}
 use Rattle.mf_calls.specs.Names.{is_some_text}
 use Rattle.mf_calls.specs.WellFormed.{IsWord}
 use Rattle.mf_script.specs.Readers.{Read}
-use Rattle.mf_spelling.specs.Spelling.{is_plain}
+use Rattle.mf_spelling.specs.Spelling.{is_line_byte}
 use Rattle.mf_script.specs.Parts.{word_by, fixed, field}
 use Rattle.mf_script.proofs.Yields.{Yields, done, refused, chain, skip, checked}
 
@@ -21,7 +21,7 @@ AreWords ws = AllByRecursion IsWord ws
 -- Words of a line
 
 abbrev IsPlain : ℕ → Type 0
-IsPlain b = is_plain b ≡ true
+IsPlain b = is_line_byte b ≡ true
 
 second_of_two : (a b : Bool) → (a || b) ≡ true → a ≡ false → b ≡ true
 second_of_two true b e no_a = cc
@@ -38,17 +38,17 @@ some_bytes (b ∷ w) some = refl
 are_words : (most : ℕ) (ws : Words) → most ≤ SCRIPT_LIMIT → AllByRecursion (IsWordOf IsPlain most) ws → AreWords ws
 are_words most [] le are = tt
 are_words most (w ∷ ws) le are =
-    (record { some = some_bytes w are.0.some; each = all_graphic w are.0.each; few = omega (arith, are.0.few, le) }, are_words most ws le are.1)
+    (record { some = some_bytes w are.0.some; printable = record { each = all_graphic w are.0.each; few = omega (arith, are.0.few, le) } }, are_words most ws le are.1)
 
 pub both : (a b : Bool) → (a && b) ≡ true → (a ≡ true) × (b ≡ true)
 both true b e = (refl, e)
 both false b e = cc
 
-plain_bytes : (line : List ℕ) → list_all is_plain line ≡ true → AllByRecursion IsPlain line
+plain_bytes : (line : List ℕ) → list_all is_line_byte line ≡ true → AllByRecursion IsPlain line
 plain_bytes [] e = tt
-plain_bytes (b ∷ line) e = let tests = both (is_plain b) (list_all is_plain line) e in (tests.0, plain_bytes line tests.1)
+plain_bytes (b ∷ line) e = let tests = both (is_line_byte b) (list_all is_line_byte line) e in (tests.0, plain_bytes line tests.1)
 
-pub script_words : (line : List ℕ) → list_all is_plain line ≡ true → length line ≤ SCRIPT_LIMIT → AreWords (words_in line)
+pub script_words : (line : List ℕ) → list_all is_line_byte line ≡ true → length line ≤ SCRIPT_LIMIT → AreWords (words_in line)
 script_words line e few = are_words (length line) (words_in line) few (words_pieces IsPlain line (plain_bytes line e))
 
 -- a printable byte of ASCII is a byte

@@ -1,7 +1,7 @@
 -- Which bytes are a script, which script they are, and else the first faulty line with its first fault: the grammar, the limits and the order
 -- of faults of docs/MANUAL.md (THE SCRIPT). In a line NotText is looked for first, then the words from left to right, then Extra, and then what
 -- the words ask for is judged.
-use Rattle.std.specs.Prelude.{ℕ, ◌+◌, Bool, not, ◌&&◌, ◌||◌, nat_lt, nat_le, if◌then◌else◌, List, [], ◌∷◌, ◌++◌, length, Result, Ok, Err, codes}
+use Rattle.std.specs.Prelude.{ℕ, ◌+◌, ◌==◌, Bool, not, ◌&&◌, ◌||◌, nat_lt, nat_le, if◌then◌else◌, List, [], ◌∷◌, ◌++◌, length, Result, Ok, Err, codes}
 use Rattle.std.specs.Cmp.Lexicographic.{pointwise}
 use Rattle.std.specs.List.{list_all, list_any}
 use Rattle.std.specs.Str.{bytes_eq}
@@ -20,10 +20,10 @@ use Rattle.mf_calls.specs.declared.script.Call.{Call}
 use Rattle.mf_calls.specs.declared.script.Task.{Task}
 use Rattle.mf_calls.specs.declared.script.FileLine.{FileLine}
 use Rattle.mf_calls.specs.declared.script.Script.{Script}
-use Rattle.mf_calls.specs.Paths.{is_root, directory_of, has_directory}
+use Rattle.mf_calls.specs.Paths.{directory_of, has_directory}
 use Rattle.mf_calls.specs.Boots.{is_booted, may_ask_for}
 use Rattle.mf_calls.specs.Tasks.{lists_rules}
-use Rattle.mf_spelling.specs.Spelling.{is_plain}
+use Rattle.mf_spelling.specs.Spelling.{is_line_byte}
 use Rattle.mf_script.specs.declared.error.ScriptFault.TheVariants.{NotText, UnknownWord, BadLabel, BadPath, Duplicate, NoEnd, TooMany}
 use Rattle.mf_script.specs.declared.error.ScriptError.{ScriptError}
 use Rattle.mf_script.specs.declared.error.ScriptError.TheVariants as error
@@ -64,7 +64,7 @@ has_path path f = pointwise bytes_eq f.path path
 unfoldable pub file_label : List Module → List FileLine → FileWords → Read Request
 file_label boots files f = do
   u ← unless TooMany (nat_lt (length files) FILE_LIMIT && nat_le (length f.text) CONTENT_LIMIT)
-  u ← unless Duplicate (not (is_root f.path || list_any (has_path f.path) files))
+  u ← unless Duplicate (not (length f.path == 0 || list_any (has_path f.path) files))
   u ← unless BadPath (has_directory files (directory_of f.path))
   request_for kinds.Vnode boots f.label
 
@@ -178,7 +178,7 @@ words_line s p [] = Ok (s, p)
 words_line s p (w ∷ ws) = if is_comment w then Ok (s, p) else row_in s p w ws
 
 unfoldable pub line_read : Script → Place → List ℕ → Read Reading
-line_read s p line = unless NotText (list_all is_plain line) >>= λ u. words_line s p (words_in line)
+line_read s p line = unless NotText (list_all is_line_byte line) >>= λ u. words_line s p (words_in line)
 
 -- Line by line: the first faulty line counts.
 

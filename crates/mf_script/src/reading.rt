@@ -5,7 +5,7 @@ ghost use Rattle.std.specs.Str.{IsAscii};
 ghost use Rattle.mf_names.specs.declared.limits.TheConstants.{SCRIPT_LIMIT};
 ghost use Rattle.mf_calls.specs.WellFormed.{IsWellFormed};
 ghost use Rattle.mf_script.specs.Gives.{Gives};
-ghost use Rattle.mf_spelling.specs.Spelling.{is_plain};
+ghost use Rattle.mf_spelling.specs.Spelling.{is_line_byte};
 ghost use Rattle.mf_script.specs.Grammar.{line_read, ended, script_of};
 ghost use Rattle.mf_script.specs.Outcome.{IsRefusedAt, IsScriptOf};
 
@@ -87,15 +87,15 @@ fn take_line(
     words_line(alloc, script, place, &mut Words::of(line))
 }
 
-fn is_plain(byte: u8) -> bool
-    ensures { result ≡ is_plain byte }
+fn is_line_byte(byte: u8) -> bool
+    ensures { result ≡ is_line_byte byte }
 {
     byte == b' ' || byte == b'\t' || byte.is_ascii_graphic()
 }
 
 fn are_plain(line: &[u8]) -> bool
-    ensures plain { result ≡ list_all is_plain line.now }
+    ensures plain { result ≡ list_all is_line_byte line.now }
     ensures ascii { IsTrue result → IsAscii line.now }
 {
-    line.iter().all(|byte| is_plain(*byte))
+    line.iter().all(|byte| is_line_byte(*byte))
 }

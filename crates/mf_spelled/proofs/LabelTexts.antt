@@ -1,6 +1,6 @@
 -- The canonical text of what a label asks for is a word, and is read back.
 use Rattle.std.proofs.Common.{◌≡◌, ◌≢◌, ℕ, ◌≤◌, Bool, true, false, cond, eqb, List, [], ◌∷◌, ◌++◌, length, map, Option, Some, None, Ok, IfSome, refl, sym, ap, ◌∙◌, arith, append-nil, inl, inr, subst}
-use Rattle.std.specs.Prelude.{codes, nat_le}
+use Rattle.std.specs.Prelude.{codes, nat_le, option_map}
 use Rattle.std.proofs.lemmas.Bool.{leb-true}
 use Rattle.std.specs.Char.{is_ascii_graphic}
 use Rattle.std.specs.Fmt.{decimal}
@@ -9,17 +9,20 @@ use Rattle.mf_elem.specs.Comps.{rising}
 use Rattle.mf_elem.specs.Bounds.{IsElement, IsAskedLabel, IsRequest}
 use Rattle.mf_elem.specs.declared.elem.Elem.{Elem}
 use Rattle.mf_elem.specs.declared.elem.Elem.TheVariants.{Low, High, Equal, Grade}
+use Rattle.mf_elem.specs.Elem.{is_plain}
+use Rattle.mf_elem.specs.Label.{element_alone}
 use Rattle.mf_elem.specs.declared.label.LabelValue.{LabelValue}
+use Rattle.mf_elem.specs.declared.label.LabelValue.TheVariants.{Unset, Range, Number}
 use Rattle.mf_elem.specs.declared.label.RangeLabel.{RangeLabel}
 use Rattle.mf_elem.specs.declared.label.Request.{Request}
 use Rattle.mf_errno.specs.declared.module.Module.{Module}
-use Rattle.mf_errno.specs.declared.module.Module.TheVariants.{Biba, Mls}
+use Rattle.mf_errno.specs.declared.module.Module.TheVariants.{Biba, Mls, Lomac, Partition}
 use Rattle.mf_errno.specs.Names.{all_modules}
 use Rattle.mf_errno.proofs.Modules.{each_passes}
 use Rattle.mf_labeltext.proofs.CanonicalSpelling.{effective_text, partition_text}
 use Rattle.mf_labeltext.specs.Canonical.{comps_text, elem_text, range_text, label_text, element_text, parts_of, in_order, elements_text, canonical_label}
 use Rattle.mf_labeltext.specs.Reading.{request_in}
-use Rattle.mf_labeltext.specs.RoundTrip.{request_from, AreParts}
+use Rattle.mf_labeltext.specs.RoundTrip.{request_from, IsPart, AreParts}
 use Rattle.mf_labeltext.proofs.PartsSpelling.{canonical_spells}
 use Rattle.mf_labeltext.proofs.Requests.{spells_request}
 use Rattle.mf_labeltext.proofs.Rising.{IsCompartment, rising_are}
@@ -102,69 +105,102 @@ elements_word parts all =
 
 -- The parts that may be asked for
 
-abbrev pairs_by : Option RangeLabel → Option RangeLabel → Option ℕ → List Part
-pairs_by biba mls partition = range_part Biba biba ++ range_part Mls mls ++ number_part partition
+part_graphic : (m : Module) (value : LabelValue) → IsPart (m, value) → IsGraphic (element_text (m, value))
+part_graphic Biba Unset is = absurd is
+part_graphic Biba (Range label) is = label_graphic label is
+part_graphic Biba (Number n) is = absurd is
+part_graphic Mls Unset is = absurd is
+part_graphic Mls (Range label) is = label_graphic label is
+part_graphic Mls (Number n) is = absurd is
+part_graphic Lomac Unset is = absurd is
+part_graphic Lomac (Range label) is = label_graphic label is.0
+part_graphic Lomac (Number n) is = absurd is
+part_graphic Partition Unset is = refl
+part_graphic Partition (Range label) is = absurd is
+part_graphic Partition (Number n) is = partition_graphic n is
+part_graphic other value is = absurd is
 
-abbrev IsNumber : Option ℕ → Type 0
-IsNumber partition = IfSome partition (λ n. n ≤ 2147483647)
+each_graphic : (parts : List Part) → AllByRecursion IsPart parts → AllByRecursion (λ part. IsGraphic (element_text part)) parts
+each_graphic [] each = tt
+each_graphic ((m, value) ∷ parts) each = (part_graphic m value each.0, each_graphic parts each.1)
 
-each_graphic : (biba mls : Option RangeLabel) (partition : Option ℕ) → IfSome biba IsAskedLabel → IfSome mls IsAskedLabel → IsNumber partition
-    → AllByRecursion (λ part. IsGraphic (element_text part)) (pairs_by biba mls partition)
-each_graphic None None None b m p = tt
-each_graphic None None (Some n) b m p = (partition_graphic n p, tt)
-each_graphic None (Some mls) None b m p = (label_graphic mls m, tt)
-each_graphic None (Some mls) (Some n) b m p = (label_graphic mls m, (partition_graphic n p, tt))
-each_graphic (Some biba) None None b m p = (label_graphic biba b, tt)
-each_graphic (Some biba) None (Some n) b m p = (label_graphic biba b, (partition_graphic n p, tt))
-each_graphic (Some biba) (Some mls) None b m p = (label_graphic biba b, (label_graphic mls m, tt))
-each_graphic (Some biba) (Some mls) (Some n) b m p = (label_graphic biba b, (label_graphic mls m, (partition_graphic n p, tt)))
+appended : (xs ys : List Part) → AllByRecursion IsPart xs → AllByRecursion IsPart ys → AllByRecursion IsPart (xs ++ ys)
+appended [] ys each more = more
+appended (x ∷ xs) ys each more = (each.0, appended xs ys each.1 more)
 
-ordered : (biba mls : Option RangeLabel) (partition : Option ℕ) → in_order (pairs_by biba mls partition) ≡ pairs_by biba mls partition
+range_is_part : (m : Module) (range : Option RangeLabel) → IfSome range (λ label. IsPart (m, Range label)) → AllByRecursion IsPart (range_part m range)
+range_is_part m None is = tt
+range_is_part m (Some label) is = (is, tt)
+
+number_is_part : (partition : Option ℕ) → IfSome partition (λ n. n ≤ 2147483647) → AllByRecursion IsPart (number_part partition)
+number_is_part None is = tt
+number_is_part (Some n) is = (is, tt)
+
+alone_is_part : (lomac : Option Elem) → IfSome lomac (λ element. IsElement element × (is_plain element ≡ true))
+    → IfSome (option_map element_alone lomac) (λ label. IsPart (Lomac, Range label))
+alone_is_part None is = tt
+alone_is_part (Some element) is = (record { effective = is.0; range = tt; not_empty = refl }, join (is_plain element) true is.1 refl)
+
+are_parts : (r : Request) → IsRequest r → AllByRecursion IsPart (parts_asked r)
+are_parts r fits =
+    appended (range_part Biba r.biba ++ range_part Mls r.mls ++ range_part Lomac (option_map element_alone r.lomac)) (number_part r.partition)
+    (appended (range_part Biba r.biba ++ range_part Mls r.mls) (range_part Lomac (option_map element_alone r.lomac))
+        (appended (range_part Biba r.biba) (range_part Mls r.mls) (range_is_part Biba r.biba fits.biba) (range_is_part Mls r.mls fits.mls))
+        (range_is_part Lomac (option_map element_alone r.lomac) (alone_is_part r.lomac fits.lomac)))
+    (number_is_part r.partition fits.partition)
+
+abbrev asking : Option RangeLabel → Option RangeLabel → Option Elem → Option ℕ → Request
+asking biba mls lomac partition = record { biba = biba; mls = mls; lomac = lomac; partition = partition; other = false }
+
+-- the parts stand in order, each policy has one at most, and they ask for just this
+record Ask (parts : List Part) (request : Request) : Type 0 where
+  ordered : in_order parts ≡ parts
+  once : list_all (λ policy. nat_le (length (parts_of policy parts)) 1) all_modules ≡ true
+  back : request_from parts ≡ request
+
+parts_ask : (biba mls : Option RangeLabel) (lomac : Option Elem) (partition : Option ℕ) → Ask (parts_asked (asking biba mls lomac partition)) (asking biba mls lomac partition)
 unfolding in_order
-ordered None None None = refl
-ordered None None (Some n) = refl
-ordered None (Some mls) None = refl
-ordered None (Some mls) (Some n) = refl
-ordered (Some biba) None None = refl
-ordered (Some biba) None (Some n) = refl
-ordered (Some biba) (Some mls) None = refl
-ordered (Some biba) (Some mls) (Some n) = refl
+parts_ask None None None None = record { ordered = refl; once = refl; back = refl }
+parts_ask None None None (Some n) = record { ordered = refl; once = refl; back = refl }
+parts_ask None None (Some lomac) None = record { ordered = refl; once = refl; back = refl }
+parts_ask None None (Some lomac) (Some n) = record { ordered = refl; once = refl; back = refl }
+parts_ask None (Some mls) None None = record { ordered = refl; once = refl; back = refl }
+parts_ask None (Some mls) None (Some n) = record { ordered = refl; once = refl; back = refl }
+parts_ask None (Some mls) (Some lomac) None = record { ordered = refl; once = refl; back = refl }
+parts_ask None (Some mls) (Some lomac) (Some n) = record { ordered = refl; once = refl; back = refl }
+parts_ask (Some biba) None None None = record { ordered = refl; once = refl; back = refl }
+parts_ask (Some biba) None None (Some n) = record { ordered = refl; once = refl; back = refl }
+parts_ask (Some biba) None (Some lomac) None = record { ordered = refl; once = refl; back = refl }
+parts_ask (Some biba) None (Some lomac) (Some n) = record { ordered = refl; once = refl; back = refl }
+parts_ask (Some biba) (Some mls) None None = record { ordered = refl; once = refl; back = refl }
+parts_ask (Some biba) (Some mls) None (Some n) = record { ordered = refl; once = refl; back = refl }
+parts_ask (Some biba) (Some mls) (Some lomac) None = record { ordered = refl; once = refl; back = refl }
+parts_ask (Some biba) (Some mls) (Some lomac) (Some n) = record { ordered = refl; once = refl; back = refl }
 
-text_is : (biba mls : Option RangeLabel) (partition : Option ℕ) → canonical_label (pairs_by biba mls partition) ≡ elements_text (map element_text (pairs_by biba mls partition))
+text_is : (parts : List Part) → in_order parts ≡ parts → canonical_label parts ≡ elements_text (map element_text parts)
 unfolding canonical_label
-text_is biba mls partition = ap (λ parts. elements_text (map element_text parts)) (ordered biba mls partition)
+text_is parts ordered = ap (λ parts. elements_text (map element_text parts)) ordered
 
 -- They are read back
 
 few : (parts : List Part) → list_all (λ policy. nat_le (length (parts_of policy parts)) 1) all_modules ≡ true → (policy : Module) → length (parts_of policy parts) ≤ 1
 few parts all policy = leb-true _ _ (each_passes (λ policy. nat_le (length (parts_of policy parts)) 1) all policy)
 
-abbrev asking : Option RangeLabel → Option RangeLabel → Option ℕ → Request
-asking biba mls partition = record { biba = biba; mls = mls; partition = partition; other = false }
-
--- one or more parts are read back from their text
-read_by : (parts : List Part) (request : Request) → AreParts parts → parts ≢ [] → request_from parts ≡ request → request_in (canonical_label parts) ≡ Ok request
-read_by parts request are some is = spells_request (canonical_label parts) (request_from parts) (canonical_spells parts are some) ∙ ap Ok is
-
 none_asked : canonical_label [] ≡ codes "-"
 unfolding canonical_label in_order
 none_asked = refl
 
-back_by : (biba mls : Option RangeLabel) (partition : Option ℕ) → IfSome biba IsAskedLabel → IfSome mls IsAskedLabel → IsNumber partition
-    → Spells (canonical_label (pairs_by biba mls partition)) (Label (asking biba mls partition))
-back_by None None None b m p = inl (none_asked, refl)
-back_by None None (Some n) b m p = inr (read_by (pairs_by None None (Some n)) (asking None None (Some n)) (record { each = (p, tt); once = few (pairs_by None None (Some n)) refl }) (λ e. cc) refl)
-back_by None (Some mls) None b m p = inr (read_by (pairs_by None (Some mls) None) (asking None (Some mls) None) (record { each = (m, tt); once = few (pairs_by None (Some mls) None) refl }) (λ e. cc) refl)
-back_by None (Some mls) (Some n) b m p = inr (read_by (pairs_by None (Some mls) (Some n)) (asking None (Some mls) (Some n)) (record { each = (m, (p, tt)); once = few (pairs_by None (Some mls) (Some n)) refl }) (λ e. cc) refl)
-back_by (Some biba) None None b m p = inr (read_by (pairs_by (Some biba) None None) (asking (Some biba) None None) (record { each = (b, tt); once = few (pairs_by (Some biba) None None) refl }) (λ e. cc) refl)
-back_by (Some biba) None (Some n) b m p = inr (read_by (pairs_by (Some biba) None (Some n)) (asking (Some biba) None (Some n)) (record { each = (b, (p, tt)); once = few (pairs_by (Some biba) None (Some n)) refl }) (λ e. cc) refl)
-back_by (Some biba) (Some mls) None b m p = inr (read_by (pairs_by (Some biba) (Some mls) None) (asking (Some biba) (Some mls) None) (record { each = (b, (m, tt)); once = few (pairs_by (Some biba) (Some mls) None) refl }) (λ e. cc) refl)
-back_by (Some biba) (Some mls) (Some n) b m p = inr (read_by (pairs_by (Some biba) (Some mls) (Some n)) (asking (Some biba) (Some mls) (Some n)) (record { each = (b, (m, (p, tt))); once = few (pairs_by (Some biba) (Some mls) (Some n)) refl }) (λ e. cc) refl)
+back_by : (parts : List Part) (request : Request) → AllByRecursion IsPart parts → Ask parts request → Spells (canonical_label parts) (Label request)
+back_by [] request each ask = inl (none_asked, sym ask.back)
+back_by (part ∷ parts) request each ask =
+    let are : AreParts (part ∷ parts) = record { each = each; once = few (part ∷ parts) ask.once } in
+    inr (spells_request (canonical_label (part ∷ parts)) (request_from (part ∷ parts)) (canonical_spells (part ∷ parts) are (λ e. cc)) ∙ ap Ok ask.back)
 
 pub label_word : (request : Request) → IsRequest request → is_word (canonical_label (parts_asked request)) ≡ true
-label_word r fits = ap is_word (text_is r.biba r.mls r.partition) ∙ elements_word (pairs_by r.biba r.mls r.partition) (each_graphic r.biba r.mls r.partition fits.biba fits.mls fits.partition)
+label_word r fits =
+    ap is_word (text_is (parts_asked r) (parts_ask r.biba r.mls r.lomac r.partition).ordered) ∙ elements_word (parts_asked r) (each_graphic (parts_asked r) (are_parts r fits))
 
 pub label_back : (request : Request) → IsRequest request → request.other ≡ false → Spells (canonical_label (parts_asked request)) (Label request)
 label_back r fits none =
-    subst (λ (other : Bool). Spells (canonical_label (parts_asked r)) (Label (record { biba = r.biba; mls = r.mls; partition = r.partition; other = other }))) (sym none)
-    (back_by r.biba r.mls r.partition fits.biba fits.mls fits.partition)
+    subst (λ (other : Bool). Spells (canonical_label (parts_asked r)) (Label (record { biba = r.biba; mls = r.mls; lomac = r.lomac; partition = r.partition; other = other }))) (sym none)
+    (back_by (parts_asked r) (asking r.biba r.mls r.lomac r.partition) (are_parts r fits) (parts_ask r.biba r.mls r.lomac r.partition))

@@ -2,7 +2,7 @@
 use Rattle.std.proofs.Common.{◌≡◌, ℕ, true, false, cond, List, [], ◌∷◌, ◌++◌, map, refl, sym, ap, ◌∙◌, subst, append_assoc}
 use Rattle.std.specs.List.{filter, list_all, AllZip}
 use Rattle.mf_words.specs.Words.{Words, words_in, lines_in, is_comment}
-use Rattle.mf_spelling.specs.Spelling.{Word, Pieces, SpellLine, is_plain, says, sayings}
+use Rattle.mf_spelling.specs.Spelling.{Word, Pieces, SpellLine, is_line_byte, says, sayings}
 use Rattle.mf_spelling.specs.Canonical.{line_text}
 use Rattle.mf_spelled.proofs.WordTexts.{is_word, AreWords, behind, join, words_behind as own_words, plain_text, first_line}
 use Rattle.mf_spelled.proofs.PieceTexts.{AreOfWords, are_written}
@@ -38,7 +38,7 @@ row_line other so = absurd so
 
 -- The lines of a text spell rows.
 pub record AreRows (text : List ℕ) (rows : List Pieces) : Type 0 where
-  pub plain : (rest : List ℕ) → list_all (λ line. list_all is_plain line) (lines_in rest) ≡ true → list_all (λ line. list_all is_plain line) (lines_in (text ++ rest)) ≡ true
+  pub plain : (rest : List ℕ) → list_all (λ line. list_all is_line_byte line) (lines_in rest) ≡ true → list_all (λ line. list_all is_line_byte line) (lines_in (text ++ rest)) ≡ true
   pub spelled : (rest : List ℕ) (more : List Pieces) → AllZip SpellLine (sayings (lines_in rest)) more → AllZip SpellLine (sayings (lines_in (text ++ rest))) (rows ++ more)
 
 pub no_rows : AreRows [] []
@@ -46,7 +46,7 @@ no_rows = record { plain = λ rest so. so; spelled = λ rest more so. so }
 
 pub rows_append : (a b : List ℕ) (first second : List Pieces) → AreRows a first → AreRows b second → AreRows (a ++ b) (first ++ second)
 rows_append a b first second one two = record {
-  plain = λ rest so. subst (λ text. list_all (λ line. list_all is_plain line) (lines_in text) ≡ true) (sym (append_assoc a b rest)) (one.plain (b ++ rest) (two.plain rest so));
+  plain = λ rest so. subst (λ text. list_all (λ line. list_all is_line_byte line) (lines_in text) ≡ true) (sym (append_assoc a b rest)) (one.plain (b ++ rest) (two.plain rest so));
   spelled = λ rest more so.
       subst (λ text. AllZip SpellLine (sayings (lines_in text)) ((first ++ second) ++ more)) (sym (append_assoc a b rest))
       (subst (AllZip SpellLine (sayings (lines_in (a ++ (b ++ rest))))) (sym (append_assoc first second more)) (one.spelled (b ++ rest) (second ++ more) (two.spelled rest more so)));
@@ -69,8 +69,8 @@ saying text row line rest =
 
 line_rows : (text : List ℕ) (row : Pieces) → IsLineOf text row → AreRows text (row ∷ [])
 line_rows text row line = record {
-  plain = λ rest so. subst (λ lines. list_all (λ line. list_all is_plain line) lines ≡ true) (sym (line_first text row line rest))
-      (join (list_all is_plain (line.first ++ behind line.more)) (list_all (λ line. list_all is_plain line) (lines_in rest)) (plain_text line.first line.more line.word line.words) so);
+  plain = λ rest so. subst (λ lines. list_all (λ line. list_all is_line_byte line) lines ≡ true) (sym (line_first text row line rest))
+      (join (list_all is_line_byte (line.first ++ behind line.more)) (list_all (λ line. list_all is_line_byte line) (lines_in rest)) (plain_text line.first line.more line.word line.words) so);
   spelled = λ rest more so. subst (λ lines. AllZip SpellLine lines (row ∷ more)) (sym (saying text row line rest)) (line.spelled, so);
 }
 

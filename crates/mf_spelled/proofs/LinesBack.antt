@@ -1,5 +1,5 @@
 -- Lines that spell well-formed boots, files, tasks and steps are read as them.
-use Rattle.std.proofs.Common.{◌≡◌, ℕ, ◌<◌, Bool, true, false, List, [], ◌∷◌, length, Ok, refl, sym, ap, ◌∙◌, codes}
+use Rattle.std.proofs.Common.{◌≡◌, ℕ, ◌==◌, ◌<◌, Bool, true, false, List, [], ◌∷◌, length, Ok, refl, sym, ap, ◌∙◌, codes}
 use Rattle.std.specs.Prelude.{if◌then◌else◌}
 use Rattle.std.specs.List.{list_any}
 use Rattle.std.specs.Str.{bytes_eq}
@@ -20,7 +20,7 @@ use Rattle.mf_calls.specs.declared.script.Step.{Step}
 use Rattle.mf_calls.specs.declared.script.StepKind.{StepKind}
 use Rattle.mf_calls.specs.declared.script.StepKind.TheVariants as step
 use Rattle.mf_calls.specs.Boots.{is_booted, may_ask_for}
-use Rattle.mf_calls.specs.Paths.{is_root, directory_of, has_directory}
+use Rattle.mf_calls.specs.Paths.{directory_of, has_directory}
 use Rattle.mf_calls.specs.WellFormed.{IsAsked, IsFormedFile, IsFormedTask, IsName}
 use Rattle.mf_script.specs.declared.error.ScriptFault.TheVariants as fault
 use Rattle.mf_script.specs.Readers.{Read, and_then}
@@ -165,7 +165,7 @@ boot_back boots m new w ws spelled =
     rw (name.is, no_more_left name.rest name.spelled, own_name m, new) refl
 
 pub file_judged : (boots : List Module) (files : List FileLine) (f : FileLine) (w : List ℕ) → IsFormedFile boots f → Spells w (Label f.label) → length files < FILE_LIMIT
-    → is_root f.path ≡ false → list_any (has_path f.path) files ≡ false → has_directory files (directory_of f.path) ≡ true
+    → (length f.path == 0) ≡ false → list_any (has_path f.path) files ≡ false → has_directory files (directory_of f.path) ≡ true
     → judged_file boots files (record { path = f.path; file = f.file; label = w; text = f.text }) ≡ Ok f
 unfolding judged_file file_label and_then
 file_judged boots files f w formed asks room not_root new there =

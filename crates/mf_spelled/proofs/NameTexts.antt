@@ -1,7 +1,8 @@
 -- Names, paths and the words of calls are words.
-use Rattle.std.proofs.Common.{◌≡◌, ℕ, true, not, ◌&&◌, ◌==◌, List, [], ◌∷◌, ◌++◌, length, refl, sym, ap, ◌∙◌, arith}
+use Rattle.std.proofs.Common.{◌≡◌, ℕ, ◌≤◌, true, not, ◌&&◌, ◌==◌, List, [], ◌∷◌, ◌++◌, length, refl, sym, ap, ◌∙◌, arith}
 use Rattle.std.specs.Prelude.{All, codes, nat_le}
 use Rattle.std.proofs.lemmas.Bool.Decides.{nat_tests}
+use Rattle.std.proofs.lemmas.List.Splits.{length-slice_split}
 use Rattle.std.proofs.lemmas.List.Elements.{All-head, All-tail}
 use Rattle.std.specs.Char.{is_ascii_graphic}
 use Rattle.std.specs.List.{list_all, slice_split, join_with_byte}
@@ -9,7 +10,7 @@ use Rattle.std.specs.Str.{bytes_eq}
 use Rattle.mf_labeltext.specs.Bytes.{slash}
 use Rattle.mf_labeltext.specs.Reading.{parts}
 use Rattle.mf_labeltext.proofs.Cutting.{join_parts}
-use Rattle.mf_calls.specs.Names.{dot, is_some_text, is_name, is_name_byte, is_component, is_component_byte, are_process_names, is_process_name}
+use Rattle.mf_calls.specs.Names.{dot, is_some_text, is_name, is_name_byte, is_component, is_component_byte, is_process_name}
 use Rattle.mf_calls.specs.WellFormed.{IsPath, IsPrintable, IsWord}
 use Rattle.mf_spelling.specs.Spelling.{equals_sign}
 use Rattle.mf_spelled.proofs.WordTexts.{is_word, both, join, all_append, all_map}
@@ -44,18 +45,18 @@ pub path_word : (names : List (List ℕ)) → IsPath names → is_word (slash �
 path_word names formed = joined_bytes names formed.each
 
 -- the full name of a process: its task's name, and a dot and the child's behind it
-process_bytes : (names : List (List ℕ)) → are_process_names names ≡ true → is_word (join_with_byte dot names) ≡ true
-process_bytes [] e = absurd cc
-process_bytes (name ∷ []) e = name_word name e
-process_bytes (name ∷ child ∷ []) e =
-    let each = both (is_name name) (is_name child) e in
-    let behind = both (is_some_text child) (list_all is_ascii_graphic child) (name_word child each.1) in
+process_bytes : (names : List (List ℕ)) → 1 ≤ length names → (nat_le (length names) 2 && list_all is_name names) ≡ true → is_word (join_with_byte dot names) ≡ true
+process_bytes [] some e = absurd (omega (arith, some))
+process_bytes (name ∷ []) some e = name_word name (both (is_name name) true e).0
+process_bytes (name ∷ child ∷ []) some e =
+    let each = both (is_name name) (is_name child && true) e in
+    let behind = both (is_some_text child) (list_all is_ascii_graphic child) (name_word child (both (is_name child) true each.1).0) in
     word_more name (dot ∷ child) (name_word name each.0) behind.1
-process_bytes (name ∷ child ∷ other ∷ names) e = absurd cc
+process_bytes (name ∷ child ∷ other ∷ names) some e = absurd cc
 
 pub process_word : (w : List ℕ) → is_process_name w ≡ true → is_word w ≡ true
 unfolding parts
-process_word w h = ap is_word (sym (join_parts dot w)) ∙ process_bytes (slice_split (λ b. b == dot) w) h
+process_word w h = ap is_word (sym (join_parts dot w)) ∙ process_bytes (slice_split (λ b. b == dot) w) (omega (arith, length-slice_split (λ b. b == dot) w)) h
 
 all_graphic : (w : List ℕ) → All (λ b. is_ascii_graphic b ≡ true) w → list_all is_ascii_graphic w ≡ true
 all_graphic [] each = refl
@@ -63,7 +64,7 @@ all_graphic (b ∷ w) each =
     join (is_ascii_graphic b) (list_all is_ascii_graphic w) (All-head (λ b. is_ascii_graphic b ≡ true) b w each) (all_graphic w (All-tail (λ b. is_ascii_graphic b ≡ true) b w each))
 
 pub any_word : (w : List ℕ) → IsWord w → is_word w ≡ true
-any_word w word = join (is_some_text w) (list_all is_ascii_graphic w) word.some (all_graphic w word.each)
+any_word w word = join (is_some_text w) (list_all is_ascii_graphic w) word.some (all_graphic w word.printable.each)
 
 some_behind : (name value : List ℕ) → is_some_text (name ++ equals_sign ∷ value) ≡ true
 some_behind [] value = refl

@@ -40,7 +40,7 @@ reads_numeral base greatest (c ∷ cs) numeral below =
     ap (λ other. unless_other other (within 0 greatest (digits_value base (c ∷ cs)))) (no_other base (c ∷ cs) numeral.1)
     ∙ within_ok greatest (digits_value base (c ∷ cs)) below
 
-reads_value : (base greatest n : ℕ) (text : List ℕ) → IsNumeral base text → digits_value base text ≡ n → n ≤ greatest → number_in base 0 greatest text ≡ Ok n
+pub reads_value : (base greatest n : ℕ) (text : List ℕ) → IsNumeral base text → digits_value base text ≡ n → n ≤ greatest → number_in base 0 greatest text ≡ Ok n
 reads_value base greatest n text numeral value below = reads_numeral base greatest text numeral (omega (arith, value, below)) ∙ ap Ok value
 
 pub number_back : (greatest n : ℕ) → greatest < 2 ^ 64 → n ≤ greatest → number_in 10 0 greatest (decimal n) ≡ Ok n
@@ -62,7 +62,7 @@ digits_graphic : (base : ℕ) (text : List ℕ) → base ≤ 10 → AllDigits ba
 digits_graphic base [] low all = refl
 digits_graphic base (c ∷ cs) low all = join (is_ascii_graphic c) (list_all is_ascii_graphic cs) (digit_graphic base c low all.0) (digits_graphic base cs low all.1)
 
-numeral_word : (base : ℕ) (text : List ℕ) → base ≤ 10 → IsNumeral base text → is_word text ≡ true
+pub numeral_word : (base : ℕ) (text : List ℕ) → base ≤ 10 → IsNumeral base text → is_word text ≡ true
 numeral_word base [] low numeral = absurd (omega (arith, numeral.0))
 numeral_word base (c ∷ cs) low numeral = digits_graphic base (c ∷ cs) low numeral.1
 

@@ -11,7 +11,7 @@ use Rattle.mf_script.specs.declared.rows.Place.{Place}
 use Rattle.mf_script.specs.Readers.{Read, and_then}
 use Rattle.mf_script.specs.Grammar.{Reading, row_in, words_line, line_read, or_at, ended, script_from}
 use Rattle.mf_script.proofs.ScriptWords.{both}
-use Rattle.mf_spelling.specs.Spelling.{is_plain, Word, Pieces, SpellLine, says, sayings}
+use Rattle.mf_spelling.specs.Spelling.{is_line_byte, Word, Pieces, SpellLine, says, sayings}
 use Rattle.mf_spelled.proofs.WordsBack.{passes}
 use Rattle.mf_spelled.proofs.CallsBack.{front}
 
@@ -112,13 +112,13 @@ said s p (w ∷ ws) lines = by_test (is_comment w) refl where
   by_test true e = refl
   by_test false e = ap (λ (comment : Bool). and_then (if comment then Ok (s, p) else row_in s p w ws) (λ next. fold next.0 next.1 (filter says lines))) e
 
-pub read_lines : (lines : List (List ℕ)) (s : Script) (p : Place) (n : ℕ) (s' : Script) (p' : Place) → list_all (λ line. list_all is_plain line) lines ≡ true
+pub read_lines : (lines : List (List ℕ)) (s : Script) (p : Place) (n : ℕ) (s' : Script) (p' : Place) → list_all (λ line. list_all is_line_byte line) lines ≡ true
     → fold s p (sayings lines) ≡ Ok (s', p') → ((n : ℕ) → ended s' p' n ≡ Ok s') → script_from s p n lines ≡ Ok s'
 unfolding script_from fold line_read and_then
 read_lines [] s p n s' p' plain e ends = ap (λ (next : Reading). ended next.0 next.1 n) (same_state (s, p) (s', p') e) ∙ ends n
 read_lines (line ∷ lines) s p n s' p' plain e ends =
-    let tests = both (list_all is_plain line) (list_all (λ line. list_all is_plain line) lines) plain in
-    ap (λ (read : Read Reading). or_at n read (λ next. script_from next.0 next.1 (n + 1) lines)) (passes fault.NotText (list_all is_plain line) (λ u. words_line s p (words_in line)) tests.0)
+    let tests = both (list_all is_line_byte line) (list_all (λ line. list_all is_line_byte line) lines) plain in
+    ap (λ (read : Read Reading). or_at n read (λ next. script_from next.0 next.1 (n + 1) lines)) (passes fault.NotText (list_all is_line_byte line) (λ u. words_line s p (words_in line)) tests.0)
     ∙ by_read (words_line s p (words_in line)) (λ s p h. read_lines lines s p (n + 1) s' p' tests.1 h ends) (sym (said s p (words_in line) (map words_in lines)) ∙ e)
   where
     by_read : (read : Read Reading) → ((s : Script) (p : Place) → fold s p (sayings lines) ≡ Ok (s', p') → script_from s p (n + 1) lines ≡ Ok s')

@@ -15,7 +15,7 @@ use Rattle.mf_elem.specs.declared.label.Request.{Request}
 use Rattle.mf_item.specs.declared.view.Kind.{Kind}
 use Rattle.mf_item.specs.declared.view.Kind.TheVariants as kinds
 use Rattle.mf_words.specs.Words.{lines_in}
-use Rattle.mf_calls.specs.Boots.{may_name}
+use Rattle.mf_calls.specs.Boots.{names_booted}
 use Rattle.mf_calls.specs.Names.{is_name, is_some_text}
 use Rattle.mf_calls.specs.WellFormed.{IsAsked, IsFormedCall, IsFormedFile, IsFormedLine, IsFormedTask, IsWellFormed, IsName}
 use Rattle.mf_calls.specs.declared.script.Call.{Call}
@@ -27,7 +27,7 @@ use Rattle.mf_calls.specs.declared.script.StepKind.{StepKind}
 use Rattle.mf_calls.specs.declared.script.StepKind.TheVariants as steps
 use Rattle.mf_calls.specs.declared.script.Task.{Task}
 use Rattle.mf_calls.specs.declared.script.Script.{Script}
-use Rattle.mf_spelling.specs.Spelling.{Pieces, IsTextOf, sayings, is_plain, call_pieces, line_pieces, boot_pieces, file_pieces, text_pieces, task_pieces, step_pieces, task_rows, step_rows, front_rows, SpellLine, Word}
+use Rattle.mf_spelling.specs.Spelling.{Pieces, IsTextOf, sayings, is_line_byte, call_pieces, line_pieces, boot_pieces, file_pieces, text_pieces, task_pieces, step_pieces, task_rows, step_rows, front_rows, SpellLine, Word}
 use Rattle.mf_spelling.specs.Canonical.{line_text, lines_text, task_text, steps_text, script_text, IsSpellableCall, IsSpellable}
 use Rattle.mf_spelled.proofs.WordTexts.{is_word, both}
 use Rattle.mf_spelled.proofs.NameTexts.{name_word, path_word, process_word, any_word}
@@ -151,7 +151,7 @@ kind_word false = refl
 
 -- a request that a script may make names no other policy
 names_no_other : (kind : Kind) (boots : List Module) (request : Request) → IsAsked kind boots request → request.other ≡ false
-names_no_other kind boots request asked = by_test request.other (both (list_all (may_name boots request) all_modules) _ (both (list_all (may_name boots request) all_modules && not request.other) _ asked.allowed).0).1 where
+names_no_other kind boots request asked = by_test request.other (both _ (not request.other) (both (names_booted boots request) _ asked.allowed).0).1 where
   by_test : (other : Bool) → not other ≡ true → other ≡ false
   by_test true e = absurd cc
   by_test false e = refl
@@ -294,8 +294,8 @@ front_then s = refl
 whole : (text : List ℕ) (rows : List Pieces) → AreRows text rows → AllZip SpellLine (sayings (lines_in text)) rows
 whole text rows are = subst (λ (text : List ℕ). AllZip SpellLine (sayings (lines_in text)) rows) (append-nil text) (subst (AllZip SpellLine (sayings (lines_in (text ++ [])))) (append-nil rows) (are.spelled [] [] tt))
 
-whole_plain : (text : List ℕ) (rows : List Pieces) → AreRows text rows → list_all (λ line. list_all is_plain line) (lines_in text) ≡ true
-whole_plain text rows are = subst (λ (text : List ℕ). list_all (λ line. list_all is_plain line) (lines_in text) ≡ true) (append-nil text) (are.plain [] refl)
+whole_plain : (text : List ℕ) (rows : List Pieces) → AreRows text rows → list_all (λ line. list_all is_line_byte line) (lines_in text) ≡ true
+whole_plain text rows are = subst (λ (text : List ℕ). list_all (λ line. list_all is_line_byte line) (lines_in text) ≡ true) (append-nil text) (are.plain [] refl)
 
 pub canonical_spells : CanonicalTextsSpell
 canonical_spells s formed spellable = subst (λ text. IsTextOf text s) (sym (front_then s)) (by_steps s.steps refl formed.each_step) where
@@ -304,7 +304,7 @@ canonical_spells s formed spellable = subst (λ text. IsTextOf text s) (sym (fro
 
   by_steps : (steps : List Step) → s.steps ≡ steps → All (λ (step : Step). IsName step.task) steps → IsTextOf (front_text s ++ steps_text steps) s
   by_steps [] none each = record {
-    plain = subst (λ (text : List ℕ). list_all (λ line. list_all is_plain line) (lines_in text) ≡ true) (sym (append-nil (front_text s))) (whole_plain (front_text s) (front_rows s) front);
+    plain = subst (λ (text : List ℕ). list_all (λ line. list_all is_line_byte line) (lines_in text) ≡ true) (sym (append-nil (front_text s))) (whole_plain (front_text s) (front_rows s) front);
     spelled = inr (none, subst (λ (text : List ℕ). AllZip SpellLine (sayings (lines_in text)) (front_rows s)) (sym (append-nil (front_text s))) (whole (front_text s) (front_rows s) front));
   }
   by_steps (first ∷ more) is each =

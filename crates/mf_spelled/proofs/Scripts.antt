@@ -19,7 +19,7 @@ use Rattle.mf_script.specs.Readers.{Read}
 use Rattle.mf_script.specs.Grammar as grammar
 use Rattle.mf_script.specs.Grammar.{Reading, boot_in, file_in, task_in, line_in, step_in, behind_tasks, behind_files, behind_boots, in_task, in_steps, row_in, words_line, line_read, or_at, ended, blank, script_from, script_of}
 use Rattle.mf_script.proofs.Yields.{Yields, done, refused, chain, skip, checked, widened}
-use Rattle.mf_spelling.specs.Spelling.{is_plain, Pieces, SpellLine, boot_pieces, file_pieces, task_pieces, line_pieces, step_pieces, task_rows, step_rows, front_rows, says, sayings, SpellScript, IsTextOf, Word}
+use Rattle.mf_spelling.specs.Spelling.{is_line_byte, Pieces, SpellLine, boot_pieces, file_pieces, task_pieces, line_pieces, step_pieces, task_rows, step_rows, front_rows, says, sayings, SpellScript, IsTextOf, Word}
 use Rattle.mf_spelled.proofs.Lines.{nothing_left}
 use Rattle.mf_spelled.proofs.Calls.{line_spelled}
 use Rattle.mf_spelled.proofs.FileAndTaskLines.{AreSome, boot_spelled, file_spelled, file_judged, task_spelled, task_judged, step_spelled}
@@ -210,7 +210,7 @@ any_bytes (b ∷ line) = (tt, any_bytes line)
 
 -- a line that is read
 record IsLineOf (lines : List Words) (line : List ℕ) (next : Reading) : Type 0 where
-  plain : list_all is_plain line ≡ true
+  plain : list_all is_line_byte line ≡ true
   so : IsSoFar (with_line lines (words_in line)) next.0 next.1
 
 line_adds_words : (lines : List Words) (s : Script) (p : Place) (line : List ℕ) → IsSoFar lines s p → Yields (IsLineOf lines line) (line_read s p line)
@@ -220,7 +220,7 @@ line_adds_words lines s p line so = checked _ _ _ (λ plain.
 
 -- the lines spell the script behind those that were read
 record IsRest (before : List Words) (lines : List (List ℕ)) (s : Script) : Type 0 where
-  plain : list_all (λ line. list_all is_plain line) lines ≡ true
+  plain : list_all (λ line. list_all is_line_byte line) lines ≡ true
   spelled : AllZip SpellLine (before ++ sayings lines) (front_rows s ++ step_rows s.steps) ⊎ ((s.steps ≡ []) × AllZip SpellLine (before ++ sayings lines) (front_rows s))
 
 at_the_end : (before : List Words) (s found : Script) (p : Place) (n : ℕ) → IsSoFar before s p → ended s p n ≡ Ok found → IsRest before [] found
@@ -244,10 +244,10 @@ at_the_end before s found p n so e = subst (IsRest before []) (same p e) (record
   by_place place.End so e = inl (subst (λ (lines : List Words). AllZip SpellLine lines (front_rows s ++ step_rows s.steps)) (sym (append-nil before)) so.spelled)
 
 -- a line in front of the rest
-onto_rest : (before : List Words) (line : List ℕ) (lines : List (List ℕ)) (s : Script) → list_all is_plain line ≡ true → IsRest (with_line before (words_in line)) lines s → IsRest before (line ∷ lines) s
+onto_rest : (before : List Words) (line : List ℕ) (lines : List (List ℕ)) (s : Script) → list_all is_line_byte line ≡ true → IsRest (with_line before (words_in line)) lines s → IsRest before (line ∷ lines) s
 unfolding with_line
 onto_rest before line lines s plain rest = record {
-  plain = subst (λ (b : Bool). (b && list_all (λ line. list_all is_plain line) lines) ≡ true) (sym plain) rest.plain;
+  plain = subst (λ (b : Bool). (b && list_all (λ line. list_all is_line_byte line) lines) ≡ true) (sym plain) rest.plain;
   spelled = subst (λ (ws : List Words). AllZip SpellLine ws (front_rows s ++ step_rows s.steps) ⊎ ((s.steps ≡ []) × AllZip SpellLine ws (front_rows s)))
       (append_assoc before (filter says (words_in line ∷ [])) (sayings lines) ∙ ap (λ ws. before ++ ws) (one_saying (says (words_in line)))) rest.spelled;
 } where

@@ -1,5 +1,5 @@
 -- Texts that spell a well-formed script are read as it.
-use Rattle.std.proofs.Common.{◌≡◌, ◌≢◌, ℕ, ◌+◌, ◌<◌, ◌≤◌, Bool, true, false, cond, List, [], ◌∷◌, ◌++◌, map, length, Ok, refl, sym, subst, ap, ◌∙◌, inl, inr, codes, arith}
+use Rattle.std.proofs.Common.{◌≡◌, ◌≢◌, ℕ, ◌==◌, ◌+◌, ◌<◌, ◌≤◌, Bool, true, false, cond, List, [], ◌∷◌, ◌++◌, map, length, Ok, refl, sym, subst, ap, ◌∙◌, inl, inr, codes, arith}
 use Rattle.std.specs.Prelude.{All, AllPairs, if◌then◌else◌, nat_lt, ◌⊎◌}
 use Rattle.std.specs.List.{flat_map, list_any, sum_by, AllZip}
 use Rattle.std.specs.Str.{bytes_eq}
@@ -22,7 +22,7 @@ use Rattle.mf_calls.specs.declared.script.StepKind.{StepKind}
 use Rattle.mf_calls.specs.declared.script.StepKind.TheVariants as step
 use Rattle.mf_item.specs.declared.view.Kind.TheVariants as kinds
 use Rattle.mf_calls.specs.Boots.{is_booted}
-use Rattle.mf_calls.specs.Paths.{is_root, directory_of, has_directory}
+use Rattle.mf_calls.specs.Paths.{directory_of, has_directory}
 use Rattle.mf_calls.specs.Tasks.{lists_rules}
 use Rattle.mf_calls.specs.WellFormed.{AreBoots, AreInDirectories, IsFormedFile, IsFormedLine, IsFormedTask, IsWellFormed, rule_list_count, IsName}
 use Rattle.mf_calls.proofs.Directories.{same_path_decides}
@@ -91,7 +91,7 @@ directory_there earlier [] f rest are = ap (λ files. has_directory files (direc
 directory_there earlier (g ∷ done) f rest are =
     ap (λ files. has_directory files (directory_of f.path)) (sym (append_assoc earlier (g ∷ []) done)) ∙ directory_there (earlier ++ g ∷ []) done f rest are.1
 
-below_root : (path : List (List ℕ)) → 1 ≤ length path → is_root path ≡ false
+below_root : (path : List (List ℕ)) → 1 ≤ length path → (length path == 0) ≡ false
 below_root [] some = absurd (omega (arith, some))
 below_root (w ∷ ws) some = refl
 

@@ -6,7 +6,7 @@ use Rattle.std.specs.Char.{is_ascii_graphic}
 use Rattle.mf_calls.specs.Names.{is_some_text}
 pub use Rattle.mf_words.proofs.Behind.{behind, both, join, all_append, all_map}
 use Rattle.mf_words.specs.Words.{is_blank, newline, words_in, lines_in, goes_on}
-use Rattle.mf_spelling.specs.Spelling.{is_plain}
+use Rattle.mf_spelling.specs.Spelling.{is_line_byte}
 
 abbrev pub is_word : List ℕ → Bool
 is_word w = is_some_text w && list_all is_ascii_graphic w
@@ -50,25 +50,25 @@ words_behind (b ∷ w) (v ∷ ws) word words =
 
 -- Lines
 
-graphic_plain : (b : ℕ) → is_ascii_graphic b ≡ true → is_plain b ≡ true
+graphic_plain : (b : ℕ) → is_ascii_graphic b ≡ true → is_line_byte b ≡ true
 graphic_plain b h = grind (arith, nat_tests)
 
-plain_word : (w : List ℕ) → is_word w ≡ true → list_all is_plain w ≡ true
-plain_word w word = all_map is_ascii_graphic is_plain w graphic_plain (both (is_some_text w) (list_all is_ascii_graphic w) word).1
+plain_word : (w : List ℕ) → is_word w ≡ true → list_all is_line_byte w ≡ true
+plain_word w word = all_map is_ascii_graphic is_line_byte w graphic_plain (both (is_some_text w) (list_all is_ascii_graphic w) word).1
 
-plain_behind : (ws : List (List ℕ)) → AreWords ws → list_all is_plain (behind ws) ≡ true
+plain_behind : (ws : List (List ℕ)) → AreWords ws → list_all is_line_byte (behind ws) ≡ true
 plain_behind [] words = refl
-plain_behind (w ∷ ws) words = all_append is_plain w (behind ws) (plain_word w words.0) (plain_behind ws words.1)
+plain_behind (w ∷ ws) words = all_append is_line_byte w (behind ws) (plain_word w words.0) (plain_behind ws words.1)
 
-pub plain_text : (w : List ℕ) (ws : List (List ℕ)) → is_word w ≡ true → AreWords ws → list_all is_plain (w ++ behind ws) ≡ true
-plain_text w ws word words = all_append is_plain w (behind ws) (plain_word w word) (plain_behind ws words)
+pub plain_text : (w : List ℕ) (ws : List (List ℕ)) → is_word w ≡ true → AreWords ws → list_all is_line_byte (w ++ behind ws) ≡ true
+plain_text w ws word words = all_append is_line_byte w (behind ws) (plain_word w word) (plain_behind ws words)
 
-no_newline : (b : ℕ) → is_plain b ≡ true → (b == newline) ≡ false
+no_newline : (b : ℕ) → is_line_byte b ≡ true → (b == newline) ≡ false
 no_newline b h = grind (arith, nat_tests)
 
 -- a line in front of others
-pub first_line : (line rest : List ℕ) → list_all is_plain line ≡ true → lines_in (line ++ 10 ∷ rest) ≡ line ∷ lines_in rest
+pub first_line : (line rest : List ℕ) → list_all is_line_byte line ≡ true → lines_in (line ++ 10 ∷ rest) ≡ line ∷ lines_in rest
 first_line [] rest plain = refl
 first_line (b ∷ line) rest plain =
-    let each = both (is_plain b) (list_all is_plain line) plain in
+    let each = both (is_line_byte b) (list_all is_line_byte line) plain in
     rw (no_newline b each.0) (ap (onto_first b) (first_line line rest each.1))

@@ -1,9 +1,10 @@
 -- The canonical text of scripts: of each script that can be spelled one text. Which one is this model's own.
-use Rattle.std.specs.Prelude.{◌≢◌, ℕ, false, List, [], ◌∷◌, ◌++◌, Option, Some, None, All, codes}
+use Rattle.std.specs.Prelude.{◌≢◌, ℕ, false, List, [], ◌∷◌, ◌++◌, Option, Some, None, option_map, All, codes}
 use Rattle.std.specs.List.{flat_map}
 use Rattle.std.specs.Fmt.{decimal, digits}
 use Rattle.mf_errno.specs.declared.module.Module.{Module}
-use Rattle.mf_errno.specs.declared.module.Module.TheVariants.{Biba, Mls, Partition}
+use Rattle.mf_errno.specs.declared.module.Module.TheVariants.{Biba, Mls, Lomac, Partition}
+use Rattle.mf_elem.specs.Label.{element_alone}
 use Rattle.mf_elem.specs.declared.label.LabelValue.{LabelValue}
 use Rattle.mf_elem.specs.declared.label.LabelValue.TheVariants.{Range, Number}
 use Rattle.mf_elem.specs.declared.label.RangeLabel.{RangeLabel}
@@ -42,7 +43,7 @@ number_part (Some n) = (Partition, Number n) ∷ []
 
 -- the parts of a label that a request asks for
 abbrev pub parts_asked : Request → List (Module × LabelValue)
-parts_asked request = range_part Biba request.biba ++ range_part Mls request.mls ++ number_part request.partition
+parts_asked request = range_part Biba request.biba ++ range_part Mls request.mls ++ range_part Lomac (option_map element_alone request.lomac) ++ number_part request.partition
 
 -- the word of a piece; of a rule its words
 abbrev pub piece_text : Piece → List ℕ

@@ -46,8 +46,8 @@ abbrev pub path : List (List ℕ) → Piece
 path names = Word (slash ∷ join_with_byte slash names)
 
 -- a byte that may stand in a line: a blank or a printable byte of ASCII
-abbrev pub is_plain : ℕ → Bool
-is_plain b = is_blank b || is_ascii_graphic b
+abbrev pub is_line_byte : ℕ → Bool
+is_line_byte b = is_blank b || is_ascii_graphic b
 
 abbrev pub equals_sign : ℕ
 equals_sign = 61
@@ -153,7 +153,6 @@ task_rows t = task_pieces t ∷ map line_pieces t.lines ++ (Word (codes "end") �
 abbrev pub step_rows : List Step → List Pieces
 step_rows steps = (Word (codes "steps") ∷ []) ∷ map step_pieces steps ++ (Word (codes "end") ∷ []) ∷ []
 
--- boots, files and tasks
 abbrev pub front_rows : Script → List Pieces
 front_rows s = map boot_pieces s.boots ++ map file_pieces s.files ++ flat_map task_rows s.tasks
 
@@ -162,13 +161,12 @@ abbrev pub says : Words → Bool
 says [] = false
 says (w ∷ ws) = not (is_comment w)
 
--- the words of the lines that say something
 abbrev pub sayings : List (List ℕ) → List Words
 sayings lines = filter says (map words_in lines)
 
 -- the lines spell the script, of which a script without steps may lack the lines of the steps
 pub record SpellScript (lines : List (List ℕ)) (s : Script) : Type 0 where
-  pub plain : list_all (λ line. list_all is_plain line) lines ≡ true
+  pub plain : list_all (λ line. list_all is_line_byte line) lines ≡ true
   pub spelled : AllZip SpellLine (sayings lines) (front_rows s ++ step_rows s.steps) ⊎ ((s.steps ≡ []) × AllZip SpellLine (sayings lines) (front_rows s))
 
 abbrev pub IsTextOf : List ℕ → Script → Type 0

@@ -7,3 +7,4 @@ mod printing;
 mod words;
 
 pub use printing::print_script;
+pub use words::parts_asked;

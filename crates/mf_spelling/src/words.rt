@@ -1,7 +1,9 @@
 //! The words of a line, each behind a space.
-ghost use Rattle.std.specs.Prelude.{◌≡◌, ◌<◌, ◌≤◌, ◌+◌, [], ◌∷◌, ◌++◌, length, OnOk, OnErr, string_bytes};
+ghost use Rattle.std.specs.Prelude.{◌≡◌, ◌<◌, ◌≤◌, ◌+◌, [], ◌∷◌, ◌++◌, length, OnOk, OnErr, option_map, string_bytes};
 ghost use Rattle.std.specs.List.{flat_map};
 ghost use Rattle.std.specs.Fmt.{decimal};
+ghost use Rattle.mf_errno.specs.declared.module.Module.TheVariants.{Lomac};
+ghost use Rattle.mf_elem.specs.Label.{element_alone};
 ghost use Rattle.mf_text.specs.Appending.{Extends};
 ghost use Rattle.mf_text.specs.Escape.{escaped};
 ghost use Rattle.mf_labeltext.specs.Canonical.{canonical_label};
@@ -12,7 +14,7 @@ ghost use Rattle.mf_spelling.specs.Spelling.{Label, equals_sign, path};
 ghost use Rattle.mf_spelling.specs.Canonical.{groups_text, number_part, octal, parts_asked, piece_text, range_part};
 
 use mf_cred::ArrayVec;
-use mf_elem::{LabelValue, RangeLabel, Request, SLOTS};
+use mf_elem::{Elem, LabelValue, RangeLabel, Request, SLOTS};
 use mf_errno::Module;
 use mf_labeltext::print_label;
 use mf_names::Path;
@@ -148,12 +150,14 @@ pub fn push_label(alloc: Global, request: &Request, out: &mut String) -> Result<
     print_label(alloc, parts.as_slice(), out)
 }
 
-fn parts_asked(request: &Request) -> ArrayVec<Part, SLOTS>
+/// The parts of a label that are asked for, in the order of their modules.
+pub fn parts_asked(request: &Request) -> ArrayVec<Part, SLOTS>
     ensures { result ≡ parts_asked request.now }
 {
     let mut parts = ArrayVec::new();
     push_range(Module::Biba, &request.biba, &mut parts);
     push_range(Module::Mls, &request.mls, &mut parts);
+    push_element(&request.lomac, &mut parts);
     push_partition(request.partition, &mut parts);
     parts
 }
@@ -165,6 +169,17 @@ fn push_range(module: Module, asked: &Option<RangeLabel>, parts: &mut ArrayVec<P
 {
     if let Some(label) = asked {
         parts.push((module, LabelValue::Range(*label)));
+    }
+}
+
+fn push_element(asked: &Option<Elem>, parts: &mut ArrayVec<Part, SLOTS>)
+    requires { length parts.old < SLOTS }
+    ensures parts { parts.new ≡ parts.old ++ range_part Lomac (option_map element_alone asked.now) }
+    ensures few { length parts.new ≤ length parts.old + 1 }
+{
+    if let Some(element) = asked {
+        let label = RangeLabel::effective(*element);
+        parts.push((Module::Lomac, LabelValue::Range(label)));
     }
 }
 
