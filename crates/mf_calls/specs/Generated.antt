@@ -1,6 +1,6 @@
 -- The script of a generated load: tasks that each work in a directory of their own, with lines that are drawn from a sequence of
 -- numbers. It is this model's own.
-use Rattle.std.specs.Prelude.{ℕ, zero, suc, ◌+◌, ◌*◌, ◌/◌, ◌%◌, nat_eq, if◌then◌else◌, Bool, true, false, List, [], ◌∷◌, ◌++◌, Some, None, codes}
+use Rattle.std.specs.Prelude.{ℕ, zero, suc, ◌+◌, ◌*◌, ◌/◌, ◌%◌, ◌==◌, if◌then◌else◌, Bool, true, false, List, [], ◌∷◌, ◌++◌, Some, None, codes}
 use Rattle.std.specs.Fmt.{decimal}
 use Rattle.std.specs.FinSet as set
 use Rattle.mf_errno.specs.declared.module.Module.TheVariants.{Biba}
@@ -62,11 +62,11 @@ pub data LoadCall : Type 0 where
 
 abbrev pub load_call : ℕ → ℕ → LoadCall
 load_call kind j =
-    if nat_eq kind 0 then Write
-    else if nat_eq kind 1 then Read
-    else if nat_eq kind 2 then Stat
-    else if nat_eq kind 3 then Readdir
-    else if nat_eq kind 4 then Create j
+    if kind == 0 then Write
+    else if kind == 1 then Read
+    else if kind == 2 then Stat
+    else if kind == 3 then Readdir
+    else if kind == 4 then Create j
     else Unlink j
 
 -- what is drawn with a number
@@ -116,7 +116,7 @@ load_files (suc k) = load_files k ++ load_directory k ∷ load_file k ∷ []
 
 -- whether the number of the task is even
 abbrev pub is_even : ℕ → Bool
-is_even k = nat_eq (k % 2) 0
+is_even k = k % 2 == 0
 
 -- The grade of a task is below that of its file, or above it.
 abbrev pub task_grade : ℕ → ℕ

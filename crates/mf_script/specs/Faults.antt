@@ -3,32 +3,23 @@ use Rattle.std.specs.Prelude.{ℕ, List, codes}
 use Rattle.mf_script.specs.declared.error.ScriptFault.{ScriptFault}
 use Rattle.mf_script.specs.declared.error.ScriptFault.TheVariants as fault
 
+abbrev pub fault_row : ScriptFault → ℕ × List ℕ
+fault_row fault.NotText = (1, codes "NotText")
+fault_row fault.UnknownWord = (2, codes "UnknownWord")
+fault_row fault.Missing = (3, codes "Missing")
+fault_row fault.Extra = (4, codes "Extra")
+fault_row fault.BadNumber = (5, codes "BadNumber")
+fault_row fault.BadLabel = (6, codes "BadLabel")
+fault_row fault.BadRule = (7, codes "BadRule")
+fault_row fault.BadPath = (8, codes "BadPath")
+fault_row fault.Duplicate = (9, codes "Duplicate")
+fault_row fault.NoEnd = (10, codes "NoEnd")
+fault_row fault.TooMany = (11, codes "TooMany")
+fault_row fault.BootRefused = (12, codes "BootRefused")
+fault_row fault.BadText = (13, codes "BadText")
+
 abbrev pub fault_number : ScriptFault → ℕ
-fault_number fault.NotText = 1
-fault_number fault.UnknownWord = 2
-fault_number fault.Missing = 3
-fault_number fault.Extra = 4
-fault_number fault.BadNumber = 5
-fault_number fault.BadLabel = 6
-fault_number fault.BadRule = 7
-fault_number fault.BadPath = 8
-fault_number fault.Duplicate = 9
-fault_number fault.NoEnd = 10
-fault_number fault.TooMany = 11
-fault_number fault.BootRefused = 12
-fault_number fault.BadText = 13
+fault_number fault = (fault_row fault).0
 
 abbrev pub fault_name : ScriptFault → List ℕ
-fault_name fault.NotText = codes "NotText"
-fault_name fault.UnknownWord = codes "UnknownWord"
-fault_name fault.Missing = codes "Missing"
-fault_name fault.Extra = codes "Extra"
-fault_name fault.BadNumber = codes "BadNumber"
-fault_name fault.BadLabel = codes "BadLabel"
-fault_name fault.BadRule = codes "BadRule"
-fault_name fault.BadPath = codes "BadPath"
-fault_name fault.Duplicate = codes "Duplicate"
-fault_name fault.NoEnd = codes "NoEnd"
-fault_name fault.TooMany = codes "TooMany"
-fault_name fault.BootRefused = codes "BootRefused"
-fault_name fault.BadText = codes "BadText"
+fault_name fault = (fault_row fault).1

@@ -37,6 +37,14 @@ const CANONICAL: &[(&str, &str)] = &[
         "boot mac_partition\ntask t uid 0 gid 0 label partition/none\nexit\n@c read /\nend\n",
     ),
     (
+        "boot mac_lomac\nfile /a reg uid 0 gid 0 mode 0 label lomac/hi,lomac/05\ntask t uid 0 gid 0 label lomac/eq\nend",
+        "boot mac_lomac\nfile /a reg uid 0 gid 0 mode 0 label lomac/5\ntask t uid 0 gid 0 label lomac/equal\nend\n",
+    ),
+    (
+        "boot mac_partition\nboot mac_lomac\nboot mac_mls\nboot mac_biba\ntask t uid 0 gid 0 label partition/7,lomac/lo,mls/lo,biba/hi\nend",
+        "boot mac_partition\nboot mac_lomac\nboot mac_mls\nboot mac_biba\ntask t uid 0 gid 0 label biba/high,mls/low,lomac/low,partition/7\nend\n",
+    ),
+    (
         "task t uid 0 gid 0 label -\nugidfw set 007 subject uid 5:5 object mode wr\nend",
         "task t uid 0 gid 0 label -\nugidfw set 7 subject uid 5 object mode rw\nend\n",
     ),

@@ -64,6 +64,8 @@ pub const GOOD_SCRIPTS: &[&str] = &[
     "task t uid 0 gid 0,1,2,3,4,5,6,7,8,9,10,11,12,13,14,14 label -\nend",
     "boot mac_partition\nboot mac_mls\nboot mac_biba\ntask t uid 0 gid 0 label biba/5,partition/2147483647\nend",
     "boot mac_partition\ntask t uid 0 gid 0 label partition/none\nend",
+    "boot mac_lomac\nfile /a dir uid 0 gid 0 mode 0 label lomac/low\nfile /a/b reg uid 0 gid 0 mode 0 label -\ntask t uid 0 gid 0 label lomac/65535\nend\ntask u uid 0 gid 0 label -\nend",
+    "boot mac_biba\nboot mac_lomac\ntask t uid 0 gid 0 label lomac/low,biba/5(1-9),lomac/high\nend",
     "steps\nend",
     "boot mac_biba\nsteps\nenter t\nend\n# the end",
     "file /a dir uid 0 gid 0 mode 0 label -\nsteps\n\n change\tt\n end \n",

@@ -1,11 +1,15 @@
 -- What the parts of a line's printer write; inner contracts alone cite this.
-use Rattle.std.specs.Prelude.{ℕ, Bool, if◌then◌else◌, List, [], ◌∷◌, ◌++◌, Option, Some, None, codes}
+use Rattle.std.specs.Prelude.{◌≡◌, ℕ, Bool, if◌then◌else◌, List, [], ◌∷◌, ◌++◌, Option, Some, None, String, string_bytes, codes}
 use Rattle.mf_cred.specs.declared.cred.Cred.{Cred}
 use Rattle.mf_cred.specs.declared.cred.FileView.{FileView}
 use Rattle.mf_calls.specs.declared.limits.TheConstants.{UID_MAX}
 use Rattle.mf_calls.specs.declared.script.FileLine.{FileLine}
 use Rattle.mf_spelling.specs.Spelling.{Word, Decimal, Octal, Groups, Label, Pieces, text_pieces}
 use Rattle.mf_spelling.specs.Canonical.{piece_text}
+
+-- the text behind what was there before
+abbrev pub Adds : {Z : Type 0} → String Z → String Z → List ℕ → Type 0
+Adds before after text = string_bytes after ≡ string_bytes before ++ text
 
 -- the text of the first piece
 abbrev pub first_word : Pieces → List ℕ

@@ -3,7 +3,7 @@ ghost use Rattle.std.specs.Prelude.{◌≡◌, ◌++◌, OnOk, OnErr, string_byt
 ghost use Rattle.mf_text.specs.Appending.{Extends};
 ghost use Rattle.mf_spelling.specs.Spelling.{call_pieces};
 ghost use Rattle.mf_spelling.specs.Canonical.{words_behind, words_text};
-ghost use Rattle.mf_spelling.specs.Printed.{behind_first, first_word};
+ghost use Rattle.mf_spelling.specs.Printed.{Adds, behind_first, first_word};
 
 use crate::words::{
     push_mode, push_number, push_path, push_rule, push_setting, push_text, push_word,
@@ -13,7 +13,7 @@ use std::alloc::AllocError;
 
 /// The words of a call.
 pub fn push_call(call: &Call, out: &mut String) -> Result<(), AllocError>
-    ensures ok { OnOk result (string_bytes out.new ≡ string_bytes out.old ++ words_text (call_pieces call.now)) }
+    ensures ok { OnOk result (Adds out.old out.new (words_text (call_pieces call.now))) }
     ensures err { OnErr result (Extends (string_bytes out.old) (string_bytes out.new)) }
 {
     out.push_str(call_name(call))?;
@@ -67,7 +67,7 @@ fn call_name(call: &Call) -> &'static str
 
 /// The words behind the first.
 fn push_arguments(call: &Call, out: &mut String) -> Result<(), AllocError>
-    ensures ok { OnOk result (string_bytes out.new ≡ string_bytes out.old ++ words_behind (behind_first (call_pieces call.now))) }
+    ensures ok { OnOk result (Adds out.old out.new (words_behind (behind_first (call_pieces call.now)))) }
     ensures err { OnErr result (Extends (string_bytes out.old) (string_bytes out.new)) }
 {
     match call {

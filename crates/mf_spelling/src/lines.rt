@@ -6,7 +6,7 @@ ghost use Rattle.mf_text.specs.Appending.{Extends};
 ghost use Rattle.mf_words.specs.Words.{space};
 ghost use Rattle.mf_spelling.specs.Spelling.{boot_pieces, file_pieces, line_pieces, step_pieces, step_word, task_pieces, text_pieces};
 ghost use Rattle.mf_spelling.specs.Canonical.{line_text, octal, words_behind};
-ghost use Rattle.mf_spelling.specs.Printed.{attribute_pieces, caller_text, credential_pieces, inside_pieces, kind_word, owner_pieces};
+ghost use Rattle.mf_spelling.specs.Printed.{Adds, attribute_pieces, caller_text, credential_pieces, inside_pieces, kind_word, owner_pieces};
 
 use crate::calls::push_call;
 use crate::words::{
@@ -18,7 +18,7 @@ use mf_errno::Module;
 use std::alloc::{AllocError, Global};
 
 pub fn push_boot(module: Module, out: &mut String) -> Result<(), AllocError>
-    ensures ok { OnOk result (string_bytes out.new ≡ string_bytes out.old ++ line_text (boot_pieces «module»)) }
+    ensures ok { OnOk result (Adds out.old out.new (line_text (boot_pieces «module»))) }
     ensures err { OnErr result (Extends (string_bytes out.old) (string_bytes out.new)) }
 {
     out.push_str("boot")?;
@@ -27,7 +27,7 @@ pub fn push_boot(module: Module, out: &mut String) -> Result<(), AllocError>
 }
 
 pub fn push_file(alloc: Global, file: &FileLine, out: &mut String) -> Result<(), AllocError>
-    ensures ok { OnOk result (string_bytes out.new ≡ string_bytes out.old ++ line_text (file_pieces file.now)) }
+    ensures ok { OnOk result (Adds out.old out.new (line_text (file_pieces file.now))) }
     ensures err { OnErr result (Extends (string_bytes out.old) (string_bytes out.new)) }
 {
     out.push_str("file")?;
@@ -39,7 +39,7 @@ pub fn push_file(alloc: Global, file: &FileLine, out: &mut String) -> Result<(),
 
 /// The label of a file and what it holds.
 fn push_inside(alloc: Global, file: &FileLine, out: &mut String) -> Result<(), AllocError>
-    ensures ok { OnOk result (string_bytes out.new ≡ string_bytes out.old ++ words_behind (inside_pieces file.now)) }
+    ensures ok { OnOk result (Adds out.old out.new (words_behind (inside_pieces file.now))) }
     ensures err { OnErr result (Extends (string_bytes out.old) (string_bytes out.new)) }
 {
     out.push_str(" label")?;
@@ -49,7 +49,7 @@ fn push_inside(alloc: Global, file: &FileLine, out: &mut String) -> Result<(), A
 
 /// The kind of a file, its owner, its group and its mode.
 fn push_attributes(file: &FileView, out: &mut String) -> Result<(), AllocError>
-    ensures ok { OnOk result (string_bytes out.new ≡ string_bytes out.old ++ words_behind (attribute_pieces file.now)) }
+    ensures ok { OnOk result (Adds out.old out.new (words_behind (attribute_pieces file.now))) }
     ensures err { OnErr result (Extends (string_bytes out.old) (string_bytes out.new)) }
 {
     push_word(kind_name(file.dir), out)?;
@@ -58,7 +58,7 @@ fn push_attributes(file: &FileView, out: &mut String) -> Result<(), AllocError>
 }
 
 fn push_permissions(mode: u16, out: &mut String) -> Result<(), AllocError>
-    ensures ok { OnOk result (string_bytes out.new ≡ string_bytes out.old ++ (codes " mode " ++ octal mode)) }
+    ensures ok { OnOk result (Adds out.old out.new (codes " mode " ++ octal mode)) }
     ensures err { OnErr result (Extends (string_bytes out.old) (string_bytes out.new)) }
 {
     out.push_str(" mode")?;
@@ -66,7 +66,7 @@ fn push_permissions(mode: u16, out: &mut String) -> Result<(), AllocError>
 }
 
 fn push_owner(file: &FileView, out: &mut String) -> Result<(), AllocError>
-    ensures ok { OnOk result (string_bytes out.new ≡ string_bytes out.old ++ words_behind (owner_pieces file.now)) }
+    ensures ok { OnOk result (Adds out.old out.new (words_behind (owner_pieces file.now))) }
     ensures err { OnErr result (Extends (string_bytes out.old) (string_bytes out.new)) }
 {
     push_field(" uid", file.uid, out)?;
@@ -81,7 +81,7 @@ fn kind_name(dir: bool) -> &'static str
 
 /// What a number is, and the number.
 fn push_field(title: &str, number: u32, out: &mut String) -> Result<(), AllocError>
-    ensures ok { OnOk result (string_bytes out.new ≡ string_bytes out.old ++ (title.now ++ space ∷ decimal number)) }
+    ensures ok { OnOk result (Adds out.old out.new (title.now ++ space ∷ decimal number)) }
     ensures err { OnErr result (Extends (string_bytes out.old) (string_bytes out.new)) }
 {
     out.push_str(title)?;
@@ -90,7 +90,7 @@ fn push_field(title: &str, number: u32, out: &mut String) -> Result<(), AllocErr
 
 /// What a file holds, where it holds some byte.
 fn push_content(text: &[u8], out: &mut String) -> Result<(), AllocError>
-    ensures ok { OnOk result (string_bytes out.new ≡ string_bytes out.old ++ words_behind (text_pieces text.now)) }
+    ensures ok { OnOk result (Adds out.old out.new (words_behind (text_pieces text.now))) }
     ensures err { OnErr result (Extends (string_bytes out.old) (string_bytes out.new)) }
 {
     if text.is_empty() {
@@ -102,7 +102,7 @@ fn push_content(text: &[u8], out: &mut String) -> Result<(), AllocError>
 
 /// The first line of a task.
 pub fn push_task(alloc: Global, task: &Task, out: &mut String) -> Result<(), AllocError>
-    ensures ok { OnOk result (string_bytes out.new ≡ string_bytes out.old ++ line_text (task_pieces task.now)) }
+    ensures ok { OnOk result (Adds out.old out.new (line_text (task_pieces task.now))) }
     ensures err { OnErr result (Extends (string_bytes out.old) (string_bytes out.new)) }
 {
     out.push_str("task")?;
@@ -114,7 +114,7 @@ pub fn push_task(alloc: Global, task: &Task, out: &mut String) -> Result<(), All
 }
 
 fn push_credential(cred: &Cred, out: &mut String) -> Result<(), AllocError>
-    ensures ok { OnOk result (string_bytes out.new ≡ string_bytes out.old ++ words_behind (credential_pieces cred.now)) }
+    ensures ok { OnOk result (Adds out.old out.new (words_behind (credential_pieces cred.now))) }
     ensures err { OnErr result (Extends (string_bytes out.old) (string_bytes out.new)) }
 {
     push_field(" uid", cred.uid, out)?;
@@ -124,7 +124,7 @@ fn push_credential(cred: &Cred, out: &mut String) -> Result<(), AllocError>
 
 /// A line of a task.
 pub fn push_line(line: &Line, out: &mut String) -> Result<(), AllocError>
-    ensures ok { OnOk result (string_bytes out.new ≡ string_bytes out.old ++ line_text (line_pieces line.now)) }
+    ensures ok { OnOk result (Adds out.old out.new (line_text (line_pieces line.now))) }
     ensures err { OnErr result (Extends (string_bytes out.old) (string_bytes out.new)) }
 {
     push_caller(line.child_name(), out)?;
@@ -134,7 +134,7 @@ pub fn push_line(line: &Line, out: &mut String) -> Result<(), AllocError>
 
 /// The child that makes the call, where it isn't the task's own process.
 fn push_caller(child: Option<&str>, out: &mut String) -> Result<(), AllocError>
-    ensures ok { OnOk result (string_bytes out.new ≡ string_bytes out.old ++ caller_text (option_copied child.entry)) }
+    ensures ok { OnOk result (Adds out.old out.new (caller_text (option_copied child.entry))) }
     ensures err { OnErr result (Extends (string_bytes out.old) (string_bytes out.new)) }
 {
     let Some(child) = child else {
@@ -146,7 +146,7 @@ fn push_caller(child: Option<&str>, out: &mut String) -> Result<(), AllocError>
 }
 
 pub fn push_step(step: &Step, out: &mut String) -> Result<(), AllocError>
-    ensures ok { OnOk result (string_bytes out.new ≡ string_bytes out.old ++ line_text (step_pieces step.now)) }
+    ensures ok { OnOk result (Adds out.old out.new (line_text (step_pieces step.now))) }
     ensures err { OnErr result (Extends (string_bytes out.old) (string_bytes out.new)) }
 {
     out.push_str(step_name(step.kind))?;

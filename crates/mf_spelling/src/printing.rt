@@ -4,6 +4,7 @@ ghost use Rattle.std.specs.List.{flat_map};
 ghost use Rattle.mf_text.specs.Appending.{Extends};
 ghost use Rattle.mf_spelling.specs.Spelling.{boot_pieces, file_pieces, line_pieces, step_pieces};
 ghost use Rattle.mf_spelling.specs.Canonical.{lines_text, script_text, steps_text, task_text};
+ghost use Rattle.mf_spelling.specs.Printed.{Adds};
 
 use crate::lines::{push_boot, push_file, push_line, push_step, push_task};
 use mf_calls::{FileLine, Line, Script, Step, Task};
@@ -26,7 +27,7 @@ pub fn print_script(alloc: Global, script: &Script, out: &mut String) -> Result<
 }
 
 fn push_script(alloc: Global, script: &Script, out: &mut String) -> Result<(), AllocError>
-    ensures ok { OnOk result (string_bytes out.new ≡ string_bytes out.old ++ script_text script.now) }
+    ensures ok { OnOk result (Adds out.old out.new (script_text script.now)) }
     ensures err { OnErr result (Extends (string_bytes out.old) (string_bytes out.new)) }
 {
     push_boots(script.boots.as_slice(), out)?;
@@ -36,7 +37,7 @@ fn push_script(alloc: Global, script: &Script, out: &mut String) -> Result<(), A
 }
 
 fn push_boots(boots: &[Module], out: &mut String) -> Result<(), AllocError>
-    ensures ok { OnOk result (string_bytes out.new ≡ string_bytes out.old ++ lines_text boot_pieces boots.now) }
+    ensures ok { OnOk result (Adds out.old out.new (lines_text boot_pieces boots.now)) }
     ensures err { OnErr result (Extends (string_bytes out.old) (string_bytes out.new)) }
 {
     for module in boots {
@@ -46,7 +47,7 @@ fn push_boots(boots: &[Module], out: &mut String) -> Result<(), AllocError>
 }
 
 fn push_files(alloc: Global, files: &[FileLine], out: &mut String) -> Result<(), AllocError>
-    ensures ok { OnOk result (string_bytes out.new ≡ string_bytes out.old ++ lines_text file_pieces files.now) }
+    ensures ok { OnOk result (Adds out.old out.new (lines_text file_pieces files.now)) }
     ensures err { OnErr result (Extends (string_bytes out.old) (string_bytes out.new)) }
 {
     for file in files {
@@ -56,7 +57,7 @@ fn push_files(alloc: Global, files: &[FileLine], out: &mut String) -> Result<(),
 }
 
 fn push_tasks(alloc: Global, tasks: &[Task], out: &mut String) -> Result<(), AllocError>
-    ensures ok { OnOk result (string_bytes out.new ≡ string_bytes out.old ++ flat_map task_text tasks.now) }
+    ensures ok { OnOk result (Adds out.old out.new (flat_map task_text tasks.now)) }
     ensures err { OnErr result (Extends (string_bytes out.old) (string_bytes out.new)) }
 {
     for task in tasks {
@@ -67,7 +68,7 @@ fn push_tasks(alloc: Global, tasks: &[Task], out: &mut String) -> Result<(), All
 
 /// A task with its lines and their end.
 fn push_whole_task(alloc: Global, task: &Task, out: &mut String) -> Result<(), AllocError>
-    ensures ok { OnOk result (string_bytes out.new ≡ string_bytes out.old ++ task_text task.now) }
+    ensures ok { OnOk result (Adds out.old out.new (task_text task.now)) }
     ensures err { OnErr result (Extends (string_bytes out.old) (string_bytes out.new)) }
 {
     push_task(alloc, task, out)?;
@@ -76,7 +77,7 @@ fn push_whole_task(alloc: Global, task: &Task, out: &mut String) -> Result<(), A
 }
 
 fn push_lines(lines: &[Line], out: &mut String) -> Result<(), AllocError>
-    ensures ok { OnOk result (string_bytes out.new ≡ string_bytes out.old ++ lines_text line_pieces lines.now) }
+    ensures ok { OnOk result (Adds out.old out.new (lines_text line_pieces lines.now)) }
     ensures err { OnErr result (Extends (string_bytes out.old) (string_bytes out.new)) }
 {
     for line in lines {
@@ -87,7 +88,7 @@ fn push_lines(lines: &[Line], out: &mut String) -> Result<(), AllocError>
 
 /// The steps, where there are some.
 fn push_steps(steps: &[Step], out: &mut String) -> Result<(), AllocError>
-    ensures ok { OnOk result (string_bytes out.new ≡ string_bytes out.old ++ steps_text steps.now) }
+    ensures ok { OnOk result (Adds out.old out.new (steps_text steps.now)) }
     ensures err { OnErr result (Extends (string_bytes out.old) (string_bytes out.new)) }
 {
     if steps.is_empty() {
@@ -99,7 +100,7 @@ fn push_steps(steps: &[Step], out: &mut String) -> Result<(), AllocError>
 }
 
 fn push_each_step(steps: &[Step], out: &mut String) -> Result<(), AllocError>
-    ensures ok { OnOk result (string_bytes out.new ≡ string_bytes out.old ++ lines_text step_pieces steps.now) }
+    ensures ok { OnOk result (Adds out.old out.new (lines_text step_pieces steps.now)) }
     ensures err { OnErr result (Extends (string_bytes out.old) (string_bytes out.new)) }
 {
     for step in steps {

@@ -12,6 +12,7 @@ ghost use Rattle.mf_rule.specs.Canonical.{rule_text};
 ghost use Rattle.mf_words.specs.Words.{space};
 ghost use Rattle.mf_spelling.specs.Spelling.{Label, equals_sign, path};
 ghost use Rattle.mf_spelling.specs.Canonical.{groups_text, number_part, octal, parts_asked, piece_text, range_part};
+ghost use Rattle.mf_spelling.specs.Printed.{Adds};
 
 use mf_cred::ArrayVec;
 use mf_elem::{Elem, LabelValue, RangeLabel, Request, SLOTS};
@@ -26,7 +27,7 @@ use std::alloc::{AllocError, Global};
 type Part = (Module, LabelValue);
 
 pub fn push_word(word: &str, out: &mut String) -> Result<(), AllocError>
-    ensures ok { OnOk result (string_bytes out.new ≡ string_bytes out.old ++ space ∷ word.now) }
+    ensures ok { OnOk result (Adds out.old out.new (space ∷ word.now)) }
     ensures err { OnErr result (Extends (string_bytes out.old) (string_bytes out.new)) }
 {
     out.push(' ')?;
@@ -34,7 +35,7 @@ pub fn push_word(word: &str, out: &mut String) -> Result<(), AllocError>
 }
 
 pub fn push_number(number: u32, out: &mut String) -> Result<(), AllocError>
-    ensures ok { OnOk result (string_bytes out.new ≡ string_bytes out.old ++ space ∷ decimal number) }
+    ensures ok { OnOk result (Adds out.old out.new (space ∷ decimal number)) }
     ensures err { OnErr result (Extends (string_bytes out.old) (string_bytes out.new)) }
 {
     out.push(' ')?;
@@ -43,7 +44,7 @@ pub fn push_number(number: u32, out: &mut String) -> Result<(), AllocError>
 
 /// A mode in octal digits.
 pub fn push_mode(mode: u16, out: &mut String) -> Result<(), AllocError>
-    ensures ok { OnOk result (string_bytes out.new ≡ string_bytes out.old ++ space ∷ octal mode) }
+    ensures ok { OnOk result (Adds out.old out.new (space ∷ octal mode)) }
     ensures err { OnErr result (Extends (string_bytes out.old) (string_bytes out.new)) }
 {
     // No clause says what `write!` leaves of `out` where it fails.
@@ -53,7 +54,7 @@ pub fn push_mode(mode: u16, out: &mut String) -> Result<(), AllocError>
 
 /// Bytes as a text with escapes.
 pub fn push_text(bytes: &[u8], out: &mut String) -> Result<(), AllocError>
-    ensures ok { OnOk result (string_bytes out.new ≡ string_bytes out.old ++ space ∷ escaped bytes.now) }
+    ensures ok { OnOk result (Adds out.old out.new (space ∷ escaped bytes.now)) }
     ensures err { OnErr result (Extends (string_bytes out.old) (string_bytes out.new)) }
 {
     out.push(' ')?;
@@ -62,7 +63,7 @@ pub fn push_text(bytes: &[u8], out: &mut String) -> Result<(), AllocError>
 
 /// The words of a rule.
 pub fn push_rule(rule: &Rule, out: &mut String) -> Result<(), AllocError>
-    ensures ok { OnOk result (string_bytes out.new ≡ string_bytes out.old ++ space ∷ rule_text rule.now) }
+    ensures ok { OnOk result (Adds out.old out.new (space ∷ rule_text rule.now)) }
     ensures err { OnErr result (Extends (string_bytes out.old) (string_bytes out.new)) }
 {
     out.push(' ')?;
@@ -71,7 +72,7 @@ pub fn push_rule(rule: &Rule, out: &mut String) -> Result<(), AllocError>
 
 /// A setting and its value, with an equals sign between them.
 pub fn push_setting(name: &str, value: &str, out: &mut String) -> Result<(), AllocError>
-    ensures ok { OnOk result (string_bytes out.new ≡ string_bytes out.old ++ space ∷ (name.now ++ equals_sign ∷ value.now)) }
+    ensures ok { OnOk result (Adds out.old out.new (space ∷ (name.now ++ equals_sign ∷ value.now))) }
     ensures err { OnErr result (Extends (string_bytes out.old) (string_bytes out.new)) }
 {
     push_word(name, out)?;
@@ -81,7 +82,7 @@ pub fn push_setting(name: &str, value: &str, out: &mut String) -> Result<(), All
 
 /// A path: a slash for the root, and else a slash before each component.
 pub fn push_path(names: &Path, out: &mut String) -> Result<(), AllocError>
-    ensures ok { OnOk result (string_bytes out.new ≡ string_bytes out.old ++ space ∷ piece_text (path names.now)) }
+    ensures ok { OnOk result (Adds out.old out.new (space ∷ piece_text (path names.now))) }
     ensures err { OnErr result (Extends (string_bytes out.old) (string_bytes out.new)) }
 {
     if names.depth() == 0 {
@@ -92,7 +93,7 @@ pub fn push_path(names: &Path, out: &mut String) -> Result<(), AllocError>
 }
 
 fn push_components(path: &Path, out: &mut String) -> Result<(), AllocError>
-    ensures ok { OnOk result (string_bytes out.new ≡ string_bytes out.old ++ flat_map (λ name. slash ∷ name) path.now) }
+    ensures ok { OnOk result (Adds out.old out.new (flat_map (λ name. slash ∷ name) path.now)) }
     ensures err { OnErr result (Extends (string_bytes out.old) (string_bytes out.new)) }
 {
     let mut names = path.components();
@@ -103,7 +104,7 @@ fn push_components(path: &Path, out: &mut String) -> Result<(), AllocError>
 }
 
 fn push_component(name: &str, out: &mut String) -> Result<(), AllocError>
-    ensures ok { OnOk result (string_bytes out.new ≡ string_bytes out.old ++ slash ∷ name.now) }
+    ensures ok { OnOk result (Adds out.old out.new (slash ∷ name.now)) }
     ensures err { OnErr result (Extends (string_bytes out.old) (string_bytes out.new)) }
 {
     out.push('/')?;
@@ -112,7 +113,7 @@ fn push_component(name: &str, out: &mut String) -> Result<(), AllocError>
 
 /// Numbers with a comma between each two.
 pub fn push_groups(groups: &[u32], out: &mut String) -> Result<(), AllocError>
-    ensures ok { OnOk result (string_bytes out.new ≡ string_bytes out.old ++ space ∷ groups_text groups.now) }
+    ensures ok { OnOk result (Adds out.old out.new (space ∷ groups_text groups.now)) }
     ensures err { OnErr result (Extends (string_bytes out.old) (string_bytes out.new)) }
 {
     let Some((first, more)) = groups.split_first() else {
@@ -123,7 +124,7 @@ pub fn push_groups(groups: &[u32], out: &mut String) -> Result<(), AllocError>
 }
 
 fn push_more_groups(groups: &[u32], out: &mut String) -> Result<(), AllocError>
-    ensures ok { OnOk result (string_bytes out.new ≡ string_bytes out.old ++ flat_map (λ next. comma ∷ decimal next) groups.now) }
+    ensures ok { OnOk result (Adds out.old out.new (flat_map (λ next. comma ∷ decimal next) groups.now)) }
     ensures err { OnErr result (Extends (string_bytes out.old) (string_bytes out.new)) }
 {
     for group in groups {
@@ -133,7 +134,7 @@ fn push_more_groups(groups: &[u32], out: &mut String) -> Result<(), AllocError>
 }
 
 fn push_next_group(group: u32, out: &mut String) -> Result<(), AllocError>
-    ensures ok { OnOk result (string_bytes out.new ≡ string_bytes out.old ++ comma ∷ decimal group) }
+    ensures ok { OnOk result (Adds out.old out.new (comma ∷ decimal group)) }
     ensures err { OnErr result (Extends (string_bytes out.old) (string_bytes out.new)) }
 {
     out.push(',')?;
@@ -142,7 +143,7 @@ fn push_next_group(group: u32, out: &mut String) -> Result<(), AllocError>
 
 /// What is asked of a label, or `-` for nothing.
 pub fn push_label(alloc: Global, request: &Request, out: &mut String) -> Result<(), AllocError>
-    ensures ok { OnOk result (string_bytes out.new ≡ string_bytes out.old ++ space ∷ piece_text (Label request.now)) }
+    ensures ok { OnOk result (Adds out.old out.new (space ∷ piece_text (Label request.now))) }
     ensures err { OnErr result (Extends (string_bytes out.old) (string_bytes out.new)) }
 {
     let parts = parts_asked(request);

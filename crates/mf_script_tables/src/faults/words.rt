@@ -6,10 +6,11 @@ use std::alloc::AllocError;
 /// A boot line for each errno.
 const BOOTS: &[Row] = &[
     (
-        "boot mac_priority\nboot mac_bsdextended\nboot mac_partition\nboot mac_mls\nboot mac_biba",
+        "boot mac_priority\nboot mac_bsdextended\nboot mac_partition\nboot mac_lomac\nboot mac_mls\nboot mac_biba",
         NONE,
     ),
     ("boot mac_foo", "1 12 BootRefused ENOENT"),
+    ("boot lomac", "1 12 BootRefused ENOENT"),
     ("boot biba", "1 12 BootRefused ENOENT"),
     ("boot #x", "1 12 BootRefused ENOENT"),
     (
@@ -89,12 +90,46 @@ const FILES: &[Row] = &[
         NONE,
     ),
     (
+        "boot mac_biba\nfile /a reg uid 0 gid 0 mode 0 label lomac/5",
+        "2 6 BadLabel",
+    ),
+    (
         "boot mac_partition\nfile /a reg uid 0 gid 0 mode 0 label partition/none",
         "2 6 BadLabel",
     ),
     ("file /a blk uid 0 gid 0 mode 0 label -", "1 2 UnknownWord"),
     (
         "boot mac_mls\nfile /a reg uid 0 gid 0 mode 0 label mls/5(1-9)",
+        "2 6 BadLabel",
+    ),
+];
+
+/// Lines of a file and of a task with a part of mac_lomac, which is booted: an element without compartments.
+const LOMAC: &[Row] = &[
+    ("file /a reg uid 0 gid 0 mode 0 label lomac/5", NONE),
+    (
+        "file /a reg uid 0 gid 0 mode 0 label lomac/5:1",
+        "2 6 BadLabel",
+    ),
+    (
+        "file /a dir uid 0 gid 0 mode 0 label lomac/(1-2)",
+        "2 6 BadLabel",
+    ),
+    (
+        "file /a reg uid 0 gid 0 mode 0 label lomac/",
+        "2 6 BadLabel",
+    ),
+    ("task t uid 0 gid 0 label lomac/5", "3 10 NoEnd"),
+    ("task t uid 0 gid 0 label lomac/5:1", "2 6 BadLabel"),
+    ("task t uid 0 gid 0 label lomac/(1-2)", "2 6 BadLabel"),
+    ("task t uid 0 gid 0 label lomac/5(1-9)", "2 6 BadLabel"),
+    ("task t uid 0 gid 0 label lomac/", "2 6 BadLabel"),
+    ("task t uid 0 gid 0 label lomac/65536", "2 6 BadLabel"),
+    ("task t uid 0 gid 0 label biba/5", "2 6 BadLabel"),
+    // The last of two parts counts, and each has to be one.
+    ("task t uid 0 gid 0 label lomac/5,lomac/low", "3 10 NoEnd"),
+    (
+        "task t uid 0 gid 0 label lomac/5:1,lomac/low",
         "2 6 BadLabel",
     ),
 ];
@@ -109,6 +144,10 @@ const TASK_LINES: &[Row] = &[
     (
         "boot mac_mls\ntask t uid 0 gid 0 label mls/(5-10)",
         "2 6 BadLabel",
+    ),
+    (
+        "boot mac_biba\nboot mac_lomac\ntask t uid 0 gid 0 label biba/5,lomac/5\nend\ntask u uid 0 gid 0 label mls/5,lomac/5",
+        "5 6 BadLabel",
     ),
 ];
 
@@ -246,6 +285,7 @@ fn each_line_has_its_place(rt: HostRuntime) -> Result<(), AllocError> {
 fn words_of_lines(rt: HostRuntime) -> Result<(), AllocError> {
     are_faulty(&rt, rt.alloc(), "", BOOTS)?;
     are_faulty(&rt, rt.alloc(), "", FILES)?;
+    are_faulty(&rt, rt.alloc(), "boot mac_lomac\n", LOMAC)?;
     are_faulty(&rt, rt.alloc(), "", TASK_LINES)?;
     are_faulty(&rt, rt.alloc(), "boot mac_biba\ntask t ", TASKS)?;
     are_faulty(&rt, rt.alloc(), "task t uid 0 gid 0 label -\n", CALLS)?;
