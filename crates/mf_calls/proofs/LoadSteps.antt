@@ -7,7 +7,7 @@ use Rattle.mf_calls.specs.declared.script.Line.{Line}
 use Rattle.mf_calls.specs.declared.script.Task.{Task}
 use Rattle.mf_calls.specs.declared.script.Step.{Step}
 use Rattle.mf_calls.specs.declared.script.FileLine.{FileLine}
-use Rattle.mf_calls.specs.Generated.{number_after, number_at, drawn, drawn_at, call_of, load_line, load_lines, load_directory, load_file, load_files, load_task, load_tasks, generated}
+use Rattle.mf_calls.specs.Generated.{next_in_sequence, number_at, drawn, drawn_at, call_of, load_line, load_lines, load_directory, load_file, load_files, load_task, load_tasks, generated}
 
 files_suc : (k : ℕ) → load_files (suc k) ≡ load_files k ++ load_directory k ∷ load_file k ∷ []
 unfolding load_files
@@ -43,21 +43,21 @@ pub first_number : (k : ℕ) → number_at k 0 ≡ k + 1
 unfolding number_at
 first_number k = refl
 
-pub number_next : (k i : ℕ) → number_at k (suc i) ≡ number_after (number_at k i)
+pub number_next : (k i : ℕ) → number_at k (suc i) ≡ next_in_sequence (number_at k i)
 unfolding number_at
 number_next k i = refl
 
 pub lines_next : (k i : ℕ) → load_lines k (i + 1) ≡ load_lines k i ++ load_line k (drawn_at k i) ∷ []
 lines_next k i = ap (load_lines k) (add-one i) ∙ lines_suc k i
 
-pub number_plus : (k i : ℕ) → number_at k (i + 1) ≡ number_after (number_at k i)
+pub number_plus : (k i : ℕ) → number_at k (i + 1) ≡ next_in_sequence (number_at k i)
 number_plus k i = ap (number_at k) (add-one i) ∙ number_next k i
 
 -- the line that is drawn with the next number
-pub line_is : (k i number number' : ℕ) (call : Call) → number ≡ number_at k i → number' ≡ number_after number → call ≡ call_of k (drawn number')
+pub line_is : (k i number number' : ℕ) (call : Call) → number ≡ number_at k i → number' ≡ next_in_sequence number → call ≡ call_of k (drawn number')
     → record { child = None; call = call } ≡ load_line k (drawn_at k i)
 line_is k i number number' call is next drawn_is =
-    let same : number' ≡ number_at k (suc i) = next ∙ ap number_after is ∙ sym (number_next k i) in
+    let same : number' ≡ number_at k (suc i) = next ∙ ap next_in_sequence is ∙ sym (number_next k i) in
     ap (λ (x : Call). record { child = None; call = x }) (drawn_is ∙ ap (λ m. call_of k (drawn m)) same)
 
 pub generated_is : (n t : ℕ) (boots : List Module) (files : List FileLine) (tasks : List Task) (steps : List Step)
@@ -70,7 +70,7 @@ generated_is n t boots files tasks steps booted filed tasked stepped =
     ∙ ap (λ (ts : List Task). record { boots = Biba ∷ []; files = load_files t; tasks = ts; steps = steps }) tasked
     ∙ ap (λ (ss : List Step). record { boots = Biba ∷ []; files = load_files t; tasks = load_tasks n t; steps = ss }) stepped
 
-pub line_more : (k i number number' : ℕ) (call : Call) (lines lines' : List Line) → lines ≡ load_lines k i → number ≡ number_at k i → number' ≡ number_after number
+pub line_more : (k i number number' : ℕ) (call : Call) (lines lines' : List Line) → lines ≡ load_lines k i → number ≡ number_at k i → number' ≡ next_in_sequence number
     → call ≡ call_of k (drawn number') → lines' ≡ lines ++ record { child = None; call = call } ∷ [] → lines' ≡ load_lines k (i + 1)
 line_more k i number number' call lines lines' so_far is next drawn_is pushed =
     pushed ∙ ap (λ (ls : List Line). ls ++ record { child = None; call = call } ∷ []) so_far

@@ -43,13 +43,13 @@ path_under k name = directory_name k ∷ name ∷ []
 -- Lines
 
 -- the number after this one in the sequence
-abbrev pub number_after : ℕ → ℕ
-number_after x = (1103515245 * x + 12345) % 2147483648
+abbrev pub next_in_sequence : ℕ → ℕ
+next_in_sequence x = (1103515245 * x + 12345) % 2147483648
 
 -- the number of a task before its first line, and after so many
 unfoldable pub number_at : ℕ → ℕ → ℕ
 number_at k zero = k + 1
-number_at k (suc i) = number_after (number_at k i)
+number_at k (suc i) = next_in_sequence (number_at k i)
 
 -- what a line of the load does, in the directory of its task
 pub data LoadCall : Type 0 where

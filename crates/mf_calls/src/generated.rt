@@ -6,7 +6,7 @@ ghost use Rattle.mf_names.specs.Paths.{HasNoSlash};
 ghost use Rattle.mf_calls.specs.declared.limits.TheConstants.{LINE_LIMIT, TASK_LIMIT};
 ghost use Rattle.mf_calls.specs.declared.script.Call.TheVariants as calls;
 ghost use Rattle.mf_calls.specs.WellFormed.{IsWellFormed};
-ghost use Rattle.mf_calls.specs.Generated.{number_after, drawn, call_of, load_lines, load_directory, load_file, load_files, load_cred, load_task, load_tasks, asked, plain_grade, task_grade, task_name, file_name, scratch_name, directory_path, path_under, generated};
+ghost use Rattle.mf_calls.specs.Generated.{next_in_sequence, drawn, call_of, load_lines, load_directory, load_file, load_files, load_cred, load_task, load_tasks, asked, plain_grade, task_grade, task_name, file_name, scratch_name, directory_path, path_under, generated};
 
 use crate::script::{Call, FileLine, Line, Script, Task};
 use crate::{DIRECTORY_MODE, FILE_MODE};
@@ -167,7 +167,7 @@ fn load_lines(alloc: Global, task: u32, count: u32) -> Result<Listing<Line>, All
 /// The number after this one in the sequence.
 fn number_after(number: u64) -> u64
     requires { number < 2147483648 }
-    ensures value { result ≡ number_after number }
+    ensures value { result ≡ next_in_sequence number }
     ensures below { result < 2147483648 }
 {
     (1103515245 * number + 12345) % 2147483648

@@ -11,7 +11,7 @@ use Rattle.mf_calls.specs.Names.{is_process_name}
 use Rattle.mf_calls.specs.WellFormed.{IsWord, IsName, IsPath, IsFormedCall, IsFormedLine}
 use Rattle.mf_script.specs.Readers.{Read, fails, by_option}
 use Rattle.mf_words.specs.Words.{Words}
-use Rattle.mf_script.specs.Parts.{look_up, name_of, process_of, path_of, mode_of, text_of, privilege_of, rule_number_of}
+use Rattle.mf_script.specs.Parts.{entry_named, simple_name_of, process_of, path_of, mode_of, text_of, privilege_of, rule_number_of}
 use Rattle.mf_script.specs.Calls.{Arguments, bare, one, two, three, add_rule, set_rule, ugidfw_calls, ugidfw, calls, call_in, call_named, call_words}
 use Rattle.mf_script.specs.Lines.{behind_at, line_words}
 use Rattle.mf_script.proofs.ScriptWords.{AreWords, by_word}
@@ -38,7 +38,7 @@ two_formed : {A B : Type 0} (P : A → Type 0) (Q : B → Type 0) (first : List 
 two_formed P Q first second call each each_second so ws are =
     chain _ _ (by_word first each ws are) (λ x x_ok. chain _ _ (by_word second each_second x.1 x_ok.1) (λ y y_ok. done (so x.0 y.0 x_ok.0 y_ok.0)))
 
-name_read : Reads IsName name_of
+name_read : Reads IsName simple_name_of
 name_read w word = name_formed w
 
 process_read : Reads (λ w. is_process_name w ≡ true) process_of
@@ -54,10 +54,10 @@ privilege_read : Reads (λ privilege. Unit {0}) privilege_of
 unfolding privilege_of
 privilege_read w word = chosen (privilege_named w) _ _ refused (λ privilege. done tt)
 
-send_formed : AreFormed (three name_of name_of text_of call.Send)
+send_formed : AreFormed (three simple_name_of simple_name_of text_of call.Send)
 send_formed ws are =
-    chain _ _ (by_word name_of name_read ws are) (λ from from_ok.
-    chain _ _ (by_word name_of name_read from.1 from_ok.1) (λ to to_ok.
+    chain _ _ (by_word simple_name_of name_read ws are) (λ from from_ok.
+    chain _ _ (by_word simple_name_of name_read from.1 from_ok.1) (λ to to_ok.
     chain _ _ (by_word text_of bytes_formed to.1 to_ok.1) (λ text text_ok. done (from_ok.0, to_ok.0, text_ok.0))))
 
 -- a table of readers of well formed calls
@@ -77,12 +77,12 @@ infixr 5 ◌&◌
 unfolding EachFormed
 formed & rest = record { each = (formed, rest.each) }
 
-found_formed : (name : List ℕ) (table : List (List ℕ × Arguments)) → EachFormed table → AreFormed (λ ws. by_option (look_up name table) (fails UnknownWord) (λ arguments. arguments ws))
+found_formed : (name : List ℕ) (table : List (List ℕ × Arguments)) → EachFormed table → AreFormed (λ ws. by_option (entry_named name table) (fails UnknownWord) (λ arguments. arguments ws))
 unfolding EachFormed
 found_formed name [] formed ws are = refused
 found_formed name (entry ∷ table) formed ws are = by_test (bytes_eq name entry.0) (found_formed name table formed.1 ws are) where
-  by_test : (same : Bool) → Yields (λ read. IsFormedCall read.0) (by_option (look_up name table) (fails UnknownWord) (λ arguments. arguments ws))
-      → Yields (λ read. IsFormedCall read.0) (by_option (if same then Some entry.1 else look_up name table) (fails UnknownWord) (λ arguments. arguments ws))
+  by_test : (same : Bool) → Yields (λ read. IsFormedCall read.0) (by_option (entry_named name table) (fails UnknownWord) (λ arguments. arguments ws))
+      → Yields (λ read. IsFormedCall read.0) (by_option (if same then Some entry.1 else entry_named name table) (fails UnknownWord) (λ arguments. arguments ws))
   by_test true further = formed.0 ws are
   by_test false further = further
 

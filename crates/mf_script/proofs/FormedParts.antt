@@ -37,15 +37,15 @@ use Rattle.mf_calls.specs.WellFormed.{IsWord, IsPrintable, IsAsked, IsPath, IsTe
 use Rattle.mf_script.specs.declared.error.ScriptFault.TheVariants.{Missing, BadNumber, BadLabel, BadRule, BadText}
 use Rattle.mf_script.specs.Readers.{Read, fails, or_fault, by_option}
 use Rattle.mf_spelling.specs.Spelling.{equals_sign}
-use Rattle.mf_script.specs.Parts.{all_added, number_of, with_group, groups_of, name_of, process_of, mode_of, with_component, components_of, behind_root, path_of, any_word, text_of, sides_of, rule_number_of, rule_of}
-use Rattle.mf_script.specs.Grammar.{request_of, request_for}
+use Rattle.mf_script.specs.Parts.{all_added, number_of, with_group, groups_of, simple_name_of, process_of, mode_of, with_component, components_of, behind_root, path_of, any_word, text_of, sides_of, rule_number_of, rule_of}
+use Rattle.mf_script.specs.Grammar.{requested, judged_request}
 use Rattle.mf_script.proofs.EscapedBytes.{escaped_short, escaped_fit}
 use Rattle.mf_script.proofs.Numbers.{number_most}
 use Rattle.mf_script.proofs.ScriptWords.{both, word_fits}
 use Rattle.mf_script.proofs.Yields.{Yields, done, refused, chain, checked, widened}
 
-pub name_formed : (w : List ℕ) → Yields (λ name. is_name name ≡ true) (name_of w)
-unfolding name_of
+pub name_formed : (w : List ℕ) → Yields (λ name. is_name name ≡ true) (simple_name_of w)
+unfolding simple_name_of
 name_formed w = checked _ _ _ (λ e. done e)
 
 pub number_formed : (w : List ℕ) → Yields (λ n. n ≤ UID_MAX) (number_of w)
@@ -142,8 +142,8 @@ groups_formed w =
 
 -- Requests
 
-asked_formed : (w : List ℕ) → Yields IsRequest (request_of w)
-unfolding request_of
+asked_formed : (w : List ℕ) → Yields IsRequest (requested w)
+unfolding requested
 asked_formed w = by_test (bytes_eq w (codes "-")) where
   by_read : (read : Result Request LabelFault) → request_in w ≡ read → Yields IsRequest (or_fault BadLabel read)
   by_read (Ok request) e = done (spelled_is_request w request (request_spells w request e))
@@ -153,8 +153,8 @@ asked_formed w = by_test (bytes_eq w (codes "-")) where
   by_test true = done (record { biba = tt; mls = tt; lomac = tt; partition = tt })
   by_test false = by_read (request_in w) refl
 
-pub request_formed : (kind : Kind) (boots : List Module) (w : List ℕ) → Yields (IsAsked kind boots) (request_for kind boots w)
-unfolding request_for
+pub request_formed : (kind : Kind) (boots : List Module) (w : List ℕ) → Yields (IsAsked kind boots) (judged_request kind boots w)
+unfolding judged_request
 request_formed kind boots w = chain _ _ (asked_formed w) (λ request spelled. checked _ _ _ (λ e. done (record { spelled = spelled; allowed = e })))
 
 -- Texts

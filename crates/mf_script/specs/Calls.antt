@@ -5,7 +5,7 @@ use Rattle.mf_calls.specs.declared.script.Call.{Call}
 use Rattle.mf_calls.specs.declared.script.Call.TheVariants as call
 use Rattle.mf_script.specs.declared.error.ScriptFault.TheVariants.{Missing}
 use Rattle.mf_script.specs.Readers.{Read, ◌>>=◌, fails}
-use Rattle.mf_script.specs.Parts.{word_by, no_more, one_of, any_word, mode_of, rule_number_of, name_of, process_of, path_of, text_of, privilege_of, sides_of, rule_of}
+use Rattle.mf_script.specs.Parts.{word_by, no_more, one_of, any_word, mode_of, rule_number_of, simple_name_of, process_of, path_of, text_of, privilege_of, sides_of, rule_of}
 
 -- a reader of the arguments behind a call's name, which returns the words after them too
 abbrev pub Arguments : Type 0
@@ -70,7 +70,7 @@ ugidfw (name ∷ ws) = call_in ugidfw_calls name ws
 
 abbrev pub process_calls : Table
 process_calls =
-    (codes "fork", one name_of call.Fork)
+    (codes "fork", one simple_name_of call.Fork)
     ∷ (codes "exit", bare call.Exit)
     ∷ (codes "see", one process_of call.See)
     ∷ (codes "signal", one process_of call.Signal)
@@ -98,16 +98,16 @@ file_calls =
 
 abbrev pub channel_calls : Table
 channel_calls =
-    (codes "pipe", one name_of call.Pipe)
-    ∷ (codes "socket", one name_of call.Socket)
-    ∷ (codes "pread", one name_of call.Pread)
-    ∷ (codes "pwrite", two name_of text_of call.Pwrite)
-    ∷ (codes "pstat", one name_of call.Pstat)
-    ∷ (codes "setpipemac", two any_word name_of call.Setpipemac)
-    ∷ (codes "send", three name_of name_of text_of call.Send)
-    ∷ (codes "recv", one name_of call.Recv)
-    ∷ (codes "seesock", one name_of call.Seesock)
-    ∷ (codes "setsockmac", two any_word name_of call.Setsockmac)
+    (codes "pipe", one simple_name_of call.Pipe)
+    ∷ (codes "socket", one simple_name_of call.Socket)
+    ∷ (codes "pread", one simple_name_of call.Pread)
+    ∷ (codes "pwrite", two simple_name_of text_of call.Pwrite)
+    ∷ (codes "pstat", one simple_name_of call.Pstat)
+    ∷ (codes "setpipemac", two any_word simple_name_of call.Setpipemac)
+    ∷ (codes "send", three simple_name_of simple_name_of text_of call.Send)
+    ∷ (codes "recv", one simple_name_of call.Recv)
+    ∷ (codes "seesock", one simple_name_of call.Seesock)
+    ∷ (codes "setsockmac", two any_word simple_name_of call.Setsockmac)
     ∷ []
 
 abbrev pub module_calls : Table

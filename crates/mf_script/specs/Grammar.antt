@@ -47,13 +47,13 @@ unfoldable pub judged_boot : List Module → List ℕ → Read Module
 judged_boot boots name = by_option (module_named name) (boot_refused Enoent) (judged_module boots)
 
 -- what a label text asks for, where `-` asks for nothing
-unfoldable pub request_of : List ℕ → Read Request
-request_of w = if bytes_eq w (codes "-") then Ok no_request else or_fault BadLabel (request_in w)
+unfoldable pub requested : List ℕ → Read Request
+requested w = if bytes_eq w (codes "-") then Ok no_request else or_fault BadLabel (request_in w)
 
 -- what a script that boots these modules asks for an entity of that kind
-unfoldable pub request_for : Kind → List Module → List ℕ → Read Request
-request_for kind boots w = do
-  request ← request_of w
+unfoldable pub judged_request : Kind → List Module → List ℕ → Read Request
+judged_request kind boots w = do
+  request ← requested w
   u ← unless BadLabel (may_ask_for kind boots request)
   Ok request
 
@@ -66,7 +66,7 @@ file_label boots files f = do
   u ← unless TooMany (nat_lt (length files) FILE_LIMIT && nat_le (length f.text) CONTENT_LIMIT)
   u ← unless Duplicate (not (length f.path == 0 || list_any (has_path f.path) files))
   u ← unless BadPath (has_directory files (directory_of f.path))
-  request_for kinds.Vnode boots f.label
+  judged_request kinds.Vnode boots f.label
 
 -- the file after these
 unfoldable pub judged_file : List Module → List FileLine → FileWords → Read FileLine
@@ -82,7 +82,7 @@ unfoldable pub task_label : List Module → List Task → TaskWords → Read Req
 task_label boots tasks t = do
   u ← unless TooMany (nat_lt (length tasks) TASK_LIMIT)
   u ← unless Duplicate (not (list_any (has_name t.name) tasks))
-  request_for kinds.Process boots t.label
+  judged_request kinds.Process boots t.label
 
 -- the task after these, before its lines
 unfoldable pub judged_task : List Module → List Task → TaskWords → Read Task

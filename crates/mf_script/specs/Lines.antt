@@ -14,7 +14,7 @@ use Rattle.mf_script.specs.declared.error.ScriptFault.TheVariants.{UnknownWord, 
 use Rattle.mf_script.specs.declared.lines.FileWords.{FileWords}
 use Rattle.mf_script.specs.declared.lines.TaskWords.{TaskWords}
 use Rattle.mf_script.specs.Readers.{Read, ◌>>=◌, fails, by_option}
-use Rattle.mf_script.specs.Parts.{word_by, field, no_more, one_of, any_word, number_of, mode_of, name_of, path_of, groups_of, is_directory_of, text_of}
+use Rattle.mf_script.specs.Parts.{word_by, field, no_more, one_of, any_word, number_of, mode_of, simple_name_of, path_of, groups_of, is_directory_of, text_of}
 use Rattle.mf_script.specs.Calls.{call_named, call_words}
 
 -- behind the word `boot`: MODULE
@@ -59,7 +59,7 @@ cred_words ws = do
 -- behind the word `task`: NAME, the credential, "label" L
 unfoldable pub task_words : Words → Read TaskWords
 task_words ws = do
-  name ← word_by name_of ws
+  name ← word_by simple_name_of ws
   cred ← cred_words name.1
   label ← field (codes "label") any_word cred.1
   u ← no_more label.1
@@ -78,7 +78,7 @@ unfoldable pub line_words : List ℕ → Words → Read Line
 line_words w ws = by_option (behind_at w) (do
   call ← call_named w ws
   Ok (record { child = None; call = call })) (λ name. do
-    child ← name_of name
+    child ← simple_name_of name
     call ← call_words ws
     Ok (record { child = Some child; call = call }))
 
@@ -92,6 +92,6 @@ step_kind_of w = one_of step_kinds w Ok
 unfoldable pub step_words : List ℕ → Words → Read Step
 step_words w ws = do
   kind ← step_kind_of w
-  task ← word_by name_of ws
+  task ← word_by simple_name_of ws
   u ← no_more task.1
   Ok (record { kind = kind; task = task.0 })

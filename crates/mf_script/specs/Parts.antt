@@ -40,13 +40,13 @@ no_more [] = Ok tt
 no_more (w ∷ ws) = fails Extra
 
 -- what a table has under a word
-abbrev pub look_up : {A : Type 0} → List ℕ → List (List ℕ × A) → Option A
-look_up w [] = None
-look_up w (entry ∷ table) = if bytes_eq w entry.0 then Some entry.1 else look_up w table
+abbrev pub entry_named : {A : Type 0} → List ℕ → List (List ℕ × A) → Option A
+entry_named w [] = None
+entry_named w (entry ∷ table) = if bytes_eq w entry.0 then Some entry.1 else entry_named w table
 
 -- what a table has under a word, which must be one of its words
 abbrev pub one_of : {A B : Type 0} → List (List ℕ × A) → List ℕ → (A → Read B) → Read B
-one_of table w more = by_option (look_up w table) (fails UnknownWord) more
+one_of table w more = by_option (entry_named w table) (fails UnknownWord) more
 
 -- Single words
 
@@ -67,8 +67,8 @@ unfoldable pub mode_of : List ℕ → Read ℕ
 mode_of w = or_fault BadNumber (number_in 8 0 MODE_LIMIT w)
 
 -- a name of a task, a child, a pipe or a socket
-unfoldable pub name_of : List ℕ → Read (List ℕ)
-name_of w = unless BadPath (is_name w) >>= λ u. Ok w
+unfoldable pub simple_name_of : List ℕ → Read (List ℕ)
+simple_name_of w = unless BadPath (is_name w) >>= λ u. Ok w
 
 -- the full name of a process
 unfoldable pub process_of : List ℕ → Read (List ℕ)

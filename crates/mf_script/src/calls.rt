@@ -4,7 +4,7 @@
 ghost use Rattle.std.specs.Prelude.{◌≡◌, ◌++◌};
 ghost use Rattle.mf_script.specs.Gives.{Gives};
 ghost use Rattle.mf_calls.specs.declared.script.Call.TheVariants as call;
-ghost use Rattle.mf_script.specs.Parts.{any_word, name_of, path_of, mode_of, text_of, sides_of};
+ghost use Rattle.mf_script.specs.Parts.{any_word, simple_name_of, path_of, mode_of, text_of, sides_of};
 ghost use Rattle.mf_script.specs.Calls.{call_in, call_named, call_words, calls, file_calls, channel_calls, module_calls, setting_calls, add_rule, set_rule, ugidfw_calls, ugidfw, one, two, three};
 
 use crate::error::ScriptFault;
@@ -30,7 +30,7 @@ fn setfmac(alloc: Global, words: &mut Words) -> Result<Call, Refusal>
 }
 
 fn setpipemac(alloc: Global, words: &mut Words) -> Result<Call, Refusal>
-    ensures { Gives (λ c. (c, words.new)) result (two any_word name_of call.Setpipemac words.old) }
+    ensures { Gives (λ c. (c, words.new)) result (two any_word simple_name_of call.Setpipemac words.old) }
 {
     let label = parts::word(alloc, words)?;
     let name = names::name(alloc, words)?;
@@ -38,7 +38,7 @@ fn setpipemac(alloc: Global, words: &mut Words) -> Result<Call, Refusal>
 }
 
 fn setsockmac(alloc: Global, words: &mut Words) -> Result<Call, Refusal>
-    ensures { Gives (λ c. (c, words.new)) result (two any_word name_of call.Setsockmac words.old) }
+    ensures { Gives (λ c. (c, words.new)) result (two any_word simple_name_of call.Setsockmac words.old) }
 {
     let label = parts::word(alloc, words)?;
     let name = names::name(alloc, words)?;
@@ -54,7 +54,7 @@ fn chmod(alloc: Global, words: &mut Words) -> Result<Call, Refusal>
 }
 
 fn pwrite(alloc: Global, words: &mut Words) -> Result<Call, Refusal>
-    ensures { Gives (λ c. (c, words.new)) result (two name_of text_of call.Pwrite words.old) }
+    ensures { Gives (λ c. (c, words.new)) result (two simple_name_of text_of call.Pwrite words.old) }
 {
     let name = names::name(alloc, words)?;
     let text = parts::text(alloc, words)?;
@@ -62,7 +62,7 @@ fn pwrite(alloc: Global, words: &mut Words) -> Result<Call, Refusal>
 }
 
 fn send(alloc: Global, words: &mut Words) -> Result<Call, Refusal>
-    ensures { Gives (λ c. (c, words.new)) result (three name_of name_of text_of call.Send words.old) }
+    ensures { Gives (λ c. (c, words.new)) result (three simple_name_of simple_name_of text_of call.Send words.old) }
 {
     let from = names::name(alloc, words)?;
     let to = names::name(alloc, words)?;

@@ -6,7 +6,7 @@ ghost use Rattle.std.specs.List.{list_any};
 ghost use Rattle.mf_names.specs.declared.limits.TheConstants.{CONTENT_LIMIT};
 ghost use Rattle.mf_calls.specs.Paths.{is_directory_at, has_directory};
 ghost use Rattle.mf_script.specs.Gives.{Gives};
-ghost use Rattle.mf_script.specs.Grammar.{judged_module, judged_boot, request_of, request_for, has_path, file_label, judged_file, has_name, task_label, judged_task, with_list};
+ghost use Rattle.mf_script.specs.Grammar.{judged_module, judged_boot, requested, judged_request, has_path, file_label, judged_file, has_name, task_label, judged_task, with_list};
 
 use crate::error::ScriptFault;
 use crate::lines::{FileWords, TaskWords};
@@ -44,9 +44,9 @@ pub fn judged_boot(boots: &[Module], name: &str) -> Result<Module, Refusal>
     }
 }
 
-#[tactic(auto, unfolding(crate::specs::Grammar::request_of))]
+#[tactic(auto, unfolding(crate::specs::Grammar::requested))]
 fn request_of(word: &str) -> Result<Request, Refusal>
-    ensures { Gives (λ r. r) result (request_of word.now) }
+    ensures { Gives (λ r. r) result (requested word.now) }
 {
     if word == "-" {
         return Ok(Request::none());
@@ -58,9 +58,9 @@ fn request_of(word: &str) -> Result<Request, Refusal>
 }
 
 /// What a script that boots these modules asks for an entity of that kind; `-` asks for nothing.
-#[tactic(auto, unfolding(crate::specs::Grammar::request_for, crate::specs::Readers::and_then))]
+#[tactic(auto, unfolding(crate::specs::Grammar::judged_request, crate::specs::Readers::and_then))]
 fn request_for(kind: Kind, boots: &[Module], word: &str) -> Result<Request, Refusal>
-    ensures { Gives (λ r. r) result (request_for kind boots.now word.now) }
+    ensures { Gives (λ r. r) result (judged_request kind boots.now word.now) }
 {
     let request = request_of(word)?;
     if may_ask_for(kind, boots, &request) {

@@ -4,7 +4,7 @@
 ghost use Rattle.std.specs.Prelude.{◌≡◌, ◌≢◌, ◌<◌, ◌≤◌, ◌∷◌, MatchOption, List, ℕ};
 ghost use Rattle.mf_calls.specs.Names.{is_process_name};
 ghost use Rattle.mf_script.specs.Gives.{Gives};
-ghost use Rattle.mf_script.specs.Parts.{word_by, name_of, process_of, with_component, components_of, behind_root, path_of};
+ghost use Rattle.mf_script.specs.Parts.{word_by, simple_name_of, process_of, with_component, components_of, behind_root, path_of};
 
 use crate::Words;
 use crate::error::ScriptFault;
@@ -14,9 +14,9 @@ use mf_calls::{Name, PATH_LIMIT, Path, is_component, is_name};
 use std::alloc::Global;
 
 /// The name that the word spells.
-#[tactic(auto, unfolding(crate::specs::Parts::name_of, crate::specs::Readers::and_then))]
+#[tactic(auto, unfolding(crate::specs::Parts::simple_name_of, crate::specs::Readers::and_then))]
 pub fn name_of(alloc: Global, word: &str) -> Result<Name, Refusal>
-    ensures { Gives (λ n. n) result (name_of word.now) }
+    ensures { Gives (λ n. n) result (simple_name_of word.now) }
 {
     if !is_name(word) {
         return Err(faulty(ScriptFault::BadPath));
@@ -27,7 +27,7 @@ pub fn name_of(alloc: Global, word: &str) -> Result<Name, Refusal>
 
 /// A name of a task, a child, a pipe or a socket.
 pub fn name(alloc: Global, words: &mut Words) -> Result<Name, Refusal>
-    ensures { Gives (λ n. (n, words.new)) result (word_by name_of words.old) }
+    ensures { Gives (λ n. (n, words.new)) result (word_by simple_name_of words.old) }
 {
     let word = words.next().ok_or(faulty(ScriptFault::Missing))?;
     let name = name_of(alloc, word)?;

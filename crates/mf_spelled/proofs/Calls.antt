@@ -12,7 +12,7 @@ use Rattle.mf_calls.specs.declared.script.Call.{Call}
 use Rattle.mf_calls.specs.declared.script.Call.TheVariants as call
 use Rattle.mf_script.specs.declared.error.ScriptFault.TheVariants.{UnknownWord, BadRule}
 use Rattle.mf_script.specs.Readers.{Read, fails, by_option}
-use Rattle.mf_script.specs.Parts.{look_up, any_word, name_of, process_of, path_of, mode_of, text_of, privilege_of, rule_number_of, rule_of, sides_of}
+use Rattle.mf_script.specs.Parts.{entry_named, any_word, simple_name_of, process_of, path_of, mode_of, text_of, privilege_of, rule_number_of, rule_of, sides_of}
 use Rattle.mf_script.specs.Calls.{Arguments, bare, one, two, three, add_rule, set_rule, ugidfw_calls, ugidfw, calls, call_in, call_named, call_words}
 use Rattle.mf_script.specs.Lines.{behind_at, line_words}
 use Rattle.mf_script.proofs.Yields.{Yields, done, refused, chain}
@@ -50,11 +50,11 @@ two_spelled names piece other first second c each each_other is = record {
       by_pieces names ws (c x.0 y.0) (piece x.0 ∷ other y.0 ∷ []) (is x.0 y.0) (before (piece x.0) ws x.1 (other y.0 ∷ []) at (before (other y.0) x.1 y.1 [] next (at_end y.1 none))))));
 }
 
-send_spelled : IsSpelled (codes "send" ∷ []) (three name_of name_of text_of call.Send)
+send_spelled : IsSpelled (codes "send" ∷ []) (three simple_name_of simple_name_of text_of call.Send)
 send_spelled = record {
   of = λ ws.
-      chain _ _ (by_word Word name_of name_spells ws) (λ from at.
-      chain _ _ (by_word Word name_of name_spells from.1) (λ to next.
+      chain _ _ (by_word Word simple_name_of name_spells ws) (λ from at.
+      chain _ _ (by_word Word simple_name_of name_spells from.1) (λ to next.
       chain _ _ (by_word Text text_of text_spells to.1) (λ text last. done (λ none.
       by_pieces (codes "send" ∷ []) ws (call.Send from.0 to.0 text.0) (Word from.0 ∷ Word to.0 ∷ Text text.0 ∷ []) refl
       (before (Word from.0) ws from.1 (Word to.0 ∷ Text text.0 ∷ []) at (before (Word to.0) from.1 to.1 (Text text.0 ∷ []) next (before (Text text.0) to.1 text.1 [] last (at_end text.1 none))))))));
@@ -98,13 +98,13 @@ unfolding EachSpelled
 spelled & rest = record { each = (spelled, rest.each) }
 
 found_spelled : (names : Words) (name : List ℕ) (table : List (List ℕ × Arguments)) → EachSpelled names table
-    → (ws : Words) → Yields (SpellCall ((names ++ name ∷ []) ++ ws)) (by_option (look_up name table) (fails UnknownWord) (λ arguments. arguments ws))
+    → (ws : Words) → Yields (SpellCall ((names ++ name ∷ []) ++ ws)) (by_option (entry_named name table) (fails UnknownWord) (λ arguments. arguments ws))
 unfolding EachSpelled
 found_spelled names name [] each ws = refused
 found_spelled names name (entry ∷ table) each ws = by_test (bytes_eq name entry.0) (bytes_eq-Decides name entry.0).0 (found_spelled names name table each.1 ws) where
   by_test : (same : Bool) → (same ≡ true → name ≡ entry.0)
-      → Yields (SpellCall ((names ++ name ∷ []) ++ ws)) (by_option (look_up name table) (fails UnknownWord) (λ arguments. arguments ws))
-      → Yields (SpellCall ((names ++ name ∷ []) ++ ws)) (by_option (if same then Some entry.1 else look_up name table) (fails UnknownWord) (λ arguments. arguments ws))
+      → Yields (SpellCall ((names ++ name ∷ []) ++ ws)) (by_option (entry_named name table) (fails UnknownWord) (λ arguments. arguments ws))
+      → Yields (SpellCall ((names ++ name ∷ []) ++ ws)) (by_option (if same then Some entry.1 else entry_named name table) (fails UnknownWord) (λ arguments. arguments ws))
   by_test true same further = subst (λ (name : List ℕ). Yields (SpellCall ((names ++ name ∷ []) ++ ws)) (entry.1 ws)) (sym (same refl)) (each.0.of ws)
   by_test false other further = further
 
@@ -126,7 +126,7 @@ ugidfw_spelled = record { of = ugidfw_read }
 
 all_spelled : AllSpelled [] calls
 all_spelled =
-    one_spelled _ Word name_of call.Fork name_spells (λ x. refl)
+    one_spelled _ Word simple_name_of call.Fork name_spells (λ x. refl)
     & bare_spelled _ call.Exit refl
     & one_spelled _ Word process_of call.See process_spells (λ x. refl)
     & one_spelled _ Word process_of call.Signal process_spells (λ x. refl)
@@ -146,16 +146,16 @@ all_spelled =
     & one_spelled _ path path_of call.Readdir path_spells (λ x. refl)
     & two_spelled _ path Octal path_of mode_of call.Chmod path_spells mode_spells (λ x y. refl)
     & one_spelled _ path path_of call.Unlink path_spells (λ x. refl)
-    & one_spelled _ Word name_of call.Pipe name_spells (λ x. refl)
-    & one_spelled _ Word name_of call.Socket name_spells (λ x. refl)
-    & one_spelled _ Word name_of call.Pread name_spells (λ x. refl)
-    & two_spelled _ Word Text name_of text_of call.Pwrite name_spells text_spells (λ x y. refl)
-    & one_spelled _ Word name_of call.Pstat name_spells (λ x. refl)
-    & two_spelled _ Word Word any_word name_of call.Setpipemac any_spells name_spells (λ x y. refl)
+    & one_spelled _ Word simple_name_of call.Pipe name_spells (λ x. refl)
+    & one_spelled _ Word simple_name_of call.Socket name_spells (λ x. refl)
+    & one_spelled _ Word simple_name_of call.Pread name_spells (λ x. refl)
+    & two_spelled _ Word Text simple_name_of text_of call.Pwrite name_spells text_spells (λ x y. refl)
+    & one_spelled _ Word simple_name_of call.Pstat name_spells (λ x. refl)
+    & two_spelled _ Word Word any_word simple_name_of call.Setpipemac any_spells name_spells (λ x y. refl)
     & send_spelled
-    & one_spelled _ Word name_of call.Recv name_spells (λ x. refl)
-    & one_spelled _ Word name_of call.Seesock name_spells (λ x. refl)
-    & two_spelled _ Word Word any_word name_of call.Setsockmac any_spells name_spells (λ x y. refl)
+    & one_spelled _ Word simple_name_of call.Recv name_spells (λ x. refl)
+    & one_spelled _ Word simple_name_of call.Seesock name_spells (λ x. refl)
+    & two_spelled _ Word Word any_word simple_name_of call.Setsockmac any_spells name_spells (λ x y. refl)
     & bare_spelled _ call.Kldstat refl
     & one_spelled _ Word any_word call.Kldload any_spells (λ x. refl)
     & one_spelled _ Word any_word call.Kldunload any_spells (λ x. refl)

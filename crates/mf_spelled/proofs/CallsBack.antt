@@ -12,7 +12,7 @@ use Rattle.mf_calls.specs.declared.script.Call.TheVariants as call
 use Rattle.mf_calls.specs.declared.script.Line.{Line}
 use Rattle.mf_script.specs.declared.error.ScriptFault.TheVariants.{UnknownWord}
 use Rattle.mf_script.specs.Readers.{Read, and_then, by_option, fails}
-use Rattle.mf_script.specs.Parts.{look_up, word_by, no_more, any_word, name_of, process_of, path_of, mode_of, text_of, privilege_of, rule_number_of, rule_of, sides_of}
+use Rattle.mf_script.specs.Parts.{entry_named, word_by, no_more, any_word, simple_name_of, process_of, path_of, mode_of, text_of, privilege_of, rule_number_of, rule_of, sides_of}
 use Rattle.mf_script.specs.Calls.{Arguments, bare, one, two, three, add_rule, set_rule, ugidfw_calls, ugidfw, calls, call_in, call_named, call_words}
 use Rattle.mf_script.specs.Lines.{behind_at, line_words}
 use Rattle.mf_script.proofs.ScriptWords.{both}
@@ -91,7 +91,7 @@ two_back first second c piece other x y single single_other back back_other ws s
 -- A call by its name
 
 -- the word of the name in front, and then the arguments
-named_back : (name : List ℕ) (arguments : Arguments) (pieces : Pieces) (c : Call) → look_up name calls ≡ Some arguments
+named_back : (name : List ℕ) (arguments : Arguments) (pieces : Pieces) (c : Call) → entry_named name calls ≡ Some arguments
     → ((ws : Words) → SpellLine ws pieces → AreRead arguments ws c) → (ws : Words) → SpellLine ws (Word name ∷ pieces) → call_words ws ≡ Ok c
 unfolding call_words call_named call_in and_then
 named_back name arguments pieces c found back ws spelled =
@@ -100,20 +100,20 @@ named_back name arguments pieces c found back ws spelled =
     ∙ ap (λ (found : Option Arguments). and_then (by_option found (fails UnknownWord) (λ arguments. arguments f.rest)) (λ read. and_then (no_more read.1) (λ u. Ok read.0))) found
     ∙ back f.rest f.spelled
 
-named_one : {A : Type 0} (name : List ℕ) (first : List ℕ → Read A) (c : A → Call) (piece : Piece) (x : A) → look_up name calls ≡ Some (one first c) → IsSingle piece → IsRead first piece x
+named_one : {A : Type 0} (name : List ℕ) (first : List ℕ → Read A) (c : A → Call) (piece : Piece) (x : A) → entry_named name calls ≡ Some (one first c) → IsSingle piece → IsRead first piece x
     → (ws : Words) → SpellLine ws (Word name ∷ piece ∷ []) → call_words ws ≡ Ok (c x)
 named_one name first c piece x found single back = named_back name (one first c) (piece ∷ []) (c x) found (one_back first c piece x single back)
 
-named_two : {A B : Type 0} (name : List ℕ) (first : List ℕ → Read A) (second : List ℕ → Read B) (c : A → B → Call) (piece other : Piece) (x : A) (y : B) → look_up name calls ≡ Some (two first second c)
+named_two : {A B : Type 0} (name : List ℕ) (first : List ℕ → Read A) (second : List ℕ → Read B) (c : A → B → Call) (piece other : Piece) (x : A) (y : B) → entry_named name calls ≡ Some (two first second c)
     → IsSingle piece → IsSingle other → IsRead first piece x → IsRead second other y → (ws : Words) → SpellLine ws (Word name ∷ piece ∷ other ∷ []) → call_words ws ≡ Ok (c x y)
 named_two name first second c piece other x y found single single_other back back_other =
     named_back name (two first second c) (piece ∷ other ∷ []) (c x y) found (two_back first second c piece other x y single single_other back back_other)
 
-send_back : (from to text : List ℕ) → IsName from → IsName to → (ws : Words) → SpellLine ws (Word from ∷ Word to ∷ Text text ∷ []) → AreRead (three name_of name_of text_of call.Send) ws (call.Send from to text)
+send_back : (from to text : List ℕ) → IsName from → IsName to → (ws : Words) → SpellLine ws (Word from ∷ Word to ∷ Text text ∷ []) → AreRead (three simple_name_of simple_name_of text_of call.Send) ws (call.Send from to text)
 unfolding and_then
 send_back from to text is_from is_to ws spelled =
-    let first = word_read name_of (Word from) from tt (name_back from is_from) ws (Word to ∷ Text text ∷ []) spelled in
-    let second = word_read name_of (Word to) to tt (name_back to is_to) first.rest (Text text ∷ []) first.spelled in
+    let first = word_read simple_name_of (Word from) from tt (name_back from is_from) ws (Word to ∷ Text text ∷ []) spelled in
+    let second = word_read simple_name_of (Word to) to tt (name_back to is_to) first.rest (Text text ∷ []) first.spelled in
     let third = word_read text_of (Text text) text tt (text_back text) second.rest [] second.spelled in
     rw (first.is, second.is, third.is) (ends_call (call.Send from to text) third.rest third.spelled)
 
@@ -137,7 +137,7 @@ set_back n rule ws spelled =
     rw (number.is, (rule_read rule number.rest number.spelled).is) refl
 
 -- what ugidfw(8) does, by the word behind it
-ugidfw_back : (name : List ℕ) (arguments : Arguments) (pieces : Pieces) (c : Call) → look_up name ugidfw_calls ≡ Some arguments
+ugidfw_back : (name : List ℕ) (arguments : Arguments) (pieces : Pieces) (c : Call) → entry_named name ugidfw_calls ≡ Some arguments
     → ((ws : Words) → SpellLine ws pieces → AreRead arguments ws c) → (ws : Words) → SpellLine ws (Word name ∷ pieces) → AreRead ugidfw ws c
 unfolding ugidfw call_in and_then
 ugidfw_back name arguments pieces c found back ws spelled =
@@ -149,7 +149,7 @@ ugidfw_back name arguments pieces c found back ws spelled =
 -- Every call
 
 pub call_back : (c : Call) → IsFormedCall c → (ws : Words) → SpellLine ws (call_pieces c) → call_words ws ≡ Ok c
-call_back (call.Fork child) formed = named_one (codes "fork") name_of call.Fork (Word child) child refl tt (name_back child formed)
+call_back (call.Fork child) formed = named_one (codes "fork") simple_name_of call.Fork (Word child) child refl tt (name_back child formed)
 call_back call.Exit formed = named_back (codes "exit") (bare call.Exit) [] call.Exit refl (bare_back call.Exit)
 call_back (call.See process) formed = named_one (codes "see") process_of call.See (Word process) process refl tt (process_back process formed)
 call_back (call.Signal process) formed = named_one (codes "signal") process_of call.Signal (Word process) process refl tt (process_back process formed)
@@ -169,17 +169,17 @@ call_back (call.Setfmac label p) formed = named_two (codes "setfmac") any_word p
 call_back (call.Readdir p) formed = named_one (codes "readdir") path_of call.Readdir (path p) p refl tt (path_back p formed)
 call_back (call.Chmod p mode) formed = named_two (codes "chmod") path_of mode_of call.Chmod (path p) (Octal mode) p mode refl tt tt (path_back p formed.0) (mode_back mode)
 call_back (call.Unlink p) formed = named_one (codes "unlink") path_of call.Unlink (path p) p refl tt (path_back p formed)
-call_back (call.Pipe name) formed = named_one (codes "pipe") name_of call.Pipe (Word name) name refl tt (name_back name formed)
-call_back (call.Socket name) formed = named_one (codes "socket") name_of call.Socket (Word name) name refl tt (name_back name formed)
-call_back (call.Pread name) formed = named_one (codes "pread") name_of call.Pread (Word name) name refl tt (name_back name formed)
-call_back (call.Pwrite name text) formed = named_two (codes "pwrite") name_of text_of call.Pwrite (Word name) (Text text) name text refl tt tt (name_back name formed.0) (text_back text)
-call_back (call.Pstat name) formed = named_one (codes "pstat") name_of call.Pstat (Word name) name refl tt (name_back name formed)
-call_back (call.Setpipemac label name) formed = named_two (codes "setpipemac") any_word name_of call.Setpipemac (Word label) (Word name) label name refl tt tt (any_back label) (name_back name formed.1)
+call_back (call.Pipe name) formed = named_one (codes "pipe") simple_name_of call.Pipe (Word name) name refl tt (name_back name formed)
+call_back (call.Socket name) formed = named_one (codes "socket") simple_name_of call.Socket (Word name) name refl tt (name_back name formed)
+call_back (call.Pread name) formed = named_one (codes "pread") simple_name_of call.Pread (Word name) name refl tt (name_back name formed)
+call_back (call.Pwrite name text) formed = named_two (codes "pwrite") simple_name_of text_of call.Pwrite (Word name) (Text text) name text refl tt tt (name_back name formed.0) (text_back text)
+call_back (call.Pstat name) formed = named_one (codes "pstat") simple_name_of call.Pstat (Word name) name refl tt (name_back name formed)
+call_back (call.Setpipemac label name) formed = named_two (codes "setpipemac") any_word simple_name_of call.Setpipemac (Word label) (Word name) label name refl tt tt (any_back label) (name_back name formed.1)
 call_back (call.Send from to text) formed =
-    named_back (codes "send") (three name_of name_of text_of call.Send) (Word from ∷ Word to ∷ Text text ∷ []) (call.Send from to text) refl (send_back from to text formed.0 formed.1)
-call_back (call.Recv name) formed = named_one (codes "recv") name_of call.Recv (Word name) name refl tt (name_back name formed)
-call_back (call.Seesock name) formed = named_one (codes "seesock") name_of call.Seesock (Word name) name refl tt (name_back name formed)
-call_back (call.Setsockmac label name) formed = named_two (codes "setsockmac") any_word name_of call.Setsockmac (Word label) (Word name) label name refl tt tt (any_back label) (name_back name formed.1)
+    named_back (codes "send") (three simple_name_of simple_name_of text_of call.Send) (Word from ∷ Word to ∷ Text text ∷ []) (call.Send from to text) refl (send_back from to text formed.0 formed.1)
+call_back (call.Recv name) formed = named_one (codes "recv") simple_name_of call.Recv (Word name) name refl tt (name_back name formed)
+call_back (call.Seesock name) formed = named_one (codes "seesock") simple_name_of call.Seesock (Word name) name refl tt (name_back name formed)
+call_back (call.Setsockmac label name) formed = named_two (codes "setsockmac") any_word simple_name_of call.Setsockmac (Word label) (Word name) label name refl tt tt (any_back label) (name_back name formed.1)
 call_back call.Kldstat formed = named_back (codes "kldstat") (bare call.Kldstat) [] call.Kldstat refl (bare_back call.Kldstat)
 call_back (call.Kldload name) formed = named_one (codes "kldload") any_word call.Kldload (Word name) name refl tt (any_back name)
 call_back (call.Kldunload name) formed = named_one (codes "kldunload") any_word call.Kldunload (Word name) name refl tt (any_back name)

@@ -23,9 +23,9 @@ use Rattle.mf_script.specs.declared.lines.FileWords.{FileWords}
 use Rattle.mf_script.specs.declared.lines.TaskWords.{TaskWords}
 use Rattle.mf_script.specs.declared.error.ScriptFault.TheVariants.{UnknownWord}
 use Rattle.mf_script.specs.Readers.{by_option, fails}
-use Rattle.mf_script.specs.Parts.{look_up, any_word, number_of, mode_of, name_of, path_of, groups_of, is_directory_of, text_of}
+use Rattle.mf_script.specs.Parts.{entry_named, any_word, number_of, mode_of, simple_name_of, path_of, groups_of, is_directory_of, text_of}
 use Rattle.mf_script.specs.Lines.{boot_words, file_view, file_words, file_content, cred_words, task_words, step_words, step_kind_of, step_kinds}
-use Rattle.mf_script.specs.Grammar.{judged_boot, judged_module, booted_after, file_label, judged_file, task_label, judged_task, request_for}
+use Rattle.mf_script.specs.Grammar.{judged_boot, judged_module, booted_after, file_label, judged_file, task_label, judged_task, judged_request}
 use Rattle.mf_script.proofs.Yields.{Yields, done, refused, chain, checked, either, widened}
 use Rattle.mf_spelling.specs.Spelling.{Piece, Word, Decimal, Octal, Groups, Text, Label, path, Spells, SpellLine, boot_pieces, file_pieces, text_pieces, task_pieces, step_word, step_pieces, Pieces}
 use Rattle.mf_spelled.proofs.Lines.{Reads, before, at_end, IsFirst, IsField, by_word, by_field, two_before, nothing_left, if_some}
@@ -164,7 +164,7 @@ cred_spelled ws =
 pub task_spelled : (ws : Words) → Yields (SpellTask ws) (task_words ws)
 unfolding task_words IsCred
 task_spelled ws =
-    chain _ _ (by_word Word name_of name_spells ws) (λ name at_name.
+    chain _ _ (by_word Word simple_name_of name_spells ws) (λ name at_name.
     chain _ _ (cred_spelled name.1) (λ cred at_cred.
     chain _ _ (by_field (codes "label") Word any_word any_spells cred.1) (λ label at_label.
     chain _ _ (nothing_left label.1) (λ u none. done (λ request asks. (
@@ -176,23 +176,23 @@ task_spelled ws =
 -- Steps
 
 named_under : (w : List ℕ) (kind : StepKind) (table : List (List ℕ × StepKind)) → AllByRecursion (λ (entry : List ℕ × StepKind). entry.0 ≡ step_word entry.1) table
-    → look_up w table ≡ Some kind → w ≡ step_word kind
+    → entry_named w table ≡ Some kind → w ≡ step_word kind
 named_under w kind [] named e = cc
 named_under w kind (entry ∷ table) named e = by_test (bytes_eq w entry.0) (bytes_eq-Decides w entry.0).0 (named_under w kind table named.1) e where
-  by_test : (same : Bool) → (same ≡ true → w ≡ entry.0) → (look_up w table ≡ Some kind → w ≡ step_word kind)
-      → (if same then Some entry.1 else look_up w table) ≡ Some kind → w ≡ step_word kind
+  by_test : (same : Bool) → (same ≡ true → w ≡ entry.0) → (entry_named w table ≡ Some kind → w ≡ step_word kind)
+      → (if same then Some entry.1 else entry_named w table) ≡ Some kind → w ≡ step_word kind
   by_test true same further h = let here : entry.1 ≡ kind = cc in same refl ∙ named.0 ∙ ap step_word here
   by_test false same further h = further h
 
 kind_spells : Reads (λ kind. Word (step_word kind)) step_kind_of
 unfolding step_kind_of
-kind_spells w = if_some (look_up w step_kinds) _ _ refused (λ kind e. done (named_under w kind step_kinds (refl, (refl, (refl, (refl, (refl, tt))))) e))
+kind_spells w = if_some (entry_named w step_kinds) _ _ refused (λ kind e. done (named_under w kind step_kinds (refl, (refl, (refl, (refl, (refl, tt))))) e))
 
 pub step_spelled : (w : List ℕ) (ws : Words) → Yields (λ x. SpellLine (w ∷ ws) (step_pieces x)) (step_words w ws)
 unfolding step_words
 step_spelled w ws =
     chain _ _ (kind_spells w) (λ kind spells.
-    chain _ _ (by_word Word name_of name_spells ws) (λ task at_task.
+    chain _ _ (by_word Word simple_name_of name_spells ws) (λ task at_task.
     chain _ _ (nothing_left task.1) (λ u none. done (spells, before (Word task.0) ws task.1 [] at_task (at_end task.1 none)))))
 
 -- Boots, and what is judged
@@ -216,8 +216,8 @@ unfolding booted_after
 boot_spelled boots ws = chain _ _ (boot_name ws) (λ name whole. widened (boot_judged boots name)
     (λ m spelled. subst (λ (ws : Words). SpellLine (codes "boot" ∷ ws) (boot_pieces m)) (sym whole) spelled))
 
-request_judged : (kind : Kind) (boots : List Module) (w : List ℕ) → Yields (λ request. Spells w (Label request)) (request_for kind boots w)
-unfolding request_for
+request_judged : (kind : Kind) (boots : List Module) (w : List ℕ) → Yields (λ request. Spells w (Label request)) (judged_request kind boots w)
+unfolding judged_request
 request_judged kind boots w = chain _ _ (request_read w) (λ request spells. checked _ _ _ (λ e. done spells))
 
 file_labelled : (boots : List Module) (files : List FileLine) (f : FileWords) → Yields (λ label. Spells f.label (Label label)) (file_label boots files f)

@@ -24,9 +24,9 @@ use Rattle.mf_calls.specs.Paths.{directory_of, has_directory}
 use Rattle.mf_calls.specs.WellFormed.{IsAsked, IsFormedFile, IsFormedTask, IsName}
 use Rattle.mf_script.specs.declared.error.ScriptFault.TheVariants as fault
 use Rattle.mf_script.specs.Readers.{Read, and_then}
-use Rattle.mf_script.specs.Parts.{word_by, field, fixed, no_more, any_word, number_of, mode_of, name_of, path_of, groups_of, is_directory_of, text_of}
+use Rattle.mf_script.specs.Parts.{word_by, field, fixed, no_more, any_word, number_of, mode_of, simple_name_of, path_of, groups_of, is_directory_of, text_of}
 use Rattle.mf_script.specs.Lines.{boot_words, file_view, file_words, file_content, cred_words, task_words, step_words, step_kind_of}
-use Rattle.mf_script.specs.Grammar.{has_path, booted_after, judged_boot, judged_module, file_label, judged_file, request_for}
+use Rattle.mf_script.specs.Grammar.{has_path, booted_after, judged_boot, judged_module, file_label, judged_file, judged_request}
 use Rattle.mf_spelling.specs.Spelling.{Piece, Word, Decimal, Octal, Groups, Text, Label, Pieces, path, Spells, SpellLine, boot_pieces, file_pieces, text_pieces, task_pieces, step_word, step_pieces}
 use Rattle.mf_spelled.proofs.WordsBack.{IsRead, passes, any_back, name_back, number_back, mode_back, text_back, path_back, groups_back, request_back}
 use Rattle.mf_spelled.proofs.CallsBack.{IsSingle, IsFront, front, none, word_read}
@@ -126,7 +126,7 @@ pub record IsTaskRead (t : Task) (ws : Words) : Type 0 where
 pub task_back : (boots : List Module) (t : Task) → IsFormedTask boots t → (w : List ℕ) (ws : Words) → SpellLine (w ∷ ws) (task_pieces t) → IsTaskRead t ws
 unfolding task_words cred_words label_read and_then
 task_back boots t formed w ws spelled =
-    let name = word_read name_of (Word t.name) t.name tt (name_back t.name formed.name) ws _ spelled.1 in
+    let name = word_read simple_name_of (Word t.name) t.name tt (name_back t.name formed.name) ws _ spelled.1 in
     let uid = field_read (codes "uid") number_of (Decimal UID_MAX t.cred.uid) t.cred.uid tt (number_back t.cred.uid) name.rest _ name.spelled in
     let groups = field_read (codes "gid") groups_of (Groups t.cred.groups) t.cred.groups tt (groups_back t.cred.groups formed.cred.few) uid.rest _ uid.spelled in
     let label = label_read t.label groups.rest [] groups.spelled in
@@ -149,13 +149,13 @@ kind_back step.Change w e = ap step_kind_of e
 pub step_back : (x : Step) → IsName x.task → (w : List ℕ) (ws : Words) → SpellLine (w ∷ ws) (step_pieces x) → step_words w ws ≡ Ok x
 unfolding step_words and_then
 step_back x formed w ws spelled =
-    let task = word_read name_of (Word x.task) x.task tt (name_back x.task formed) ws [] spelled.1 in
+    let task = word_read simple_name_of (Word x.task) x.task tt (name_back x.task formed) ws [] spelled.1 in
     rw (kind_back x.kind w spelled.0, task.is, no_more_left task.rest task.spelled) refl
 
 -- What is judged
 
-pub request_judged : (kind : Kind) (boots : List Module) (request : Request) (w : List ℕ) → IsAsked kind boots request → Spells w (Label request) → request_for kind boots w ≡ Ok request
-unfolding request_for and_then
+pub request_judged : (kind : Kind) (boots : List Module) (request : Request) (w : List ℕ) → IsAsked kind boots request → Spells w (Label request) → judged_request kind boots w ≡ Ok request
+unfolding judged_request and_then
 request_judged kind boots request w asked asks = rw (request_back request w asks) (passes fault.BadLabel (may_ask_for kind boots request) (λ u. Ok request) asked.allowed)
 
 pub boot_back : (boots : List Module) (m : Module) → is_booted boots m ≡ false → (w : List ℕ) (ws : Words) → SpellLine (w ∷ ws) (boot_pieces m) → booted_after boots ws ≡ Ok m

@@ -19,8 +19,8 @@ use Rattle.mf_labeltext.specs.Reading.{parts, cut, request_in}
 use Rattle.mf_calls.specs.declared.limits.TheConstants.{UID_MAX, MODE_LIMIT}
 use Rattle.mf_script.specs.declared.error.ScriptFault.TheVariants as fault
 use Rattle.mf_script.specs.Readers.{or_fault}
-use Rattle.mf_script.specs.Parts.{any_word, number_of, rule_number_of, mode_of, name_of, process_of, privilege_of, text_of, sides_of, all_added, with_group, groups_of, with_component, components_of, behind_root, path_of}
-use Rattle.mf_script.specs.Grammar.{request_of}
+use Rattle.mf_script.specs.Parts.{any_word, number_of, rule_number_of, mode_of, simple_name_of, process_of, privilege_of, text_of, sides_of, all_added, with_group, groups_of, with_component, components_of, behind_root, path_of}
+use Rattle.mf_script.specs.Grammar.{requested}
 use Rattle.mf_script.proofs.Yields.{Yields, done, refused, chain, checked, widened}
 use Rattle.mf_spelling.specs.Spelling.{equals_sign, Word, Decimal, Octal, Groups, Text, Setting, Label, path, Spells}
 use Rattle.mf_spelled.proofs.Lines.{Reads, if_ok, if_some}
@@ -29,8 +29,8 @@ pub any_spells : Reads Word any_word
 unfolding any_word
 any_spells w = done refl
 
-pub name_spells : Reads Word name_of
-unfolding name_of
+pub name_spells : Reads Word simple_name_of
+unfolding simple_name_of
 name_spells w = checked _ _ _ (λ e. done refl)
 
 pub process_spells : Reads Word process_of
@@ -132,8 +132,8 @@ groups_spell w = widened (groups_added (parts comma w) []) (λ groups are. are.r
 
 -- Labels and rules
 
-pub request_read : Reads Label request_of
-unfolding request_of
+pub request_read : Reads Label requested
+unfolding requested
 request_read w = by_test (bytes_eq w (codes "-")) (bytes_eq-Decides w (codes "-")).0 where
   by_test : (dash : Bool) → (dash ≡ true → w ≡ codes "-") → Yields (λ (request : Request). Spells w (Label request)) (if dash then Ok no_request else or_fault fault.BadLabel (request_in w))
   by_test true same = done (inl (same refl, refl))

@@ -1,5 +1,5 @@
 use Rattle.std.proofs.Common.{◌+◌, ap, sym, ◌∙◌, arith}
-use Rattle.mf_calls.specs.Generated.{number_after}
+use Rattle.mf_calls.specs.Generated.{next_in_sequence}
 use Rattle.mf_calls.proofs.LoadSteps.{no_lines, first_number, number_plus, line_more}
 use Rattle.mf_calls.proofs.generated.load_lines.Goals as goal
 
@@ -17,6 +17,6 @@ loop-line-preserved c =
       so_far =
           line_more c.args.task c.loop-line._line c.loop-line.number c.number_after-number.result c.in_ok-call.call c.loop-line.lines c.push.new.self
           c.loop-line.invariant.so_far c.loop-line.invariant.number c.number_after-number.ensures.value c.in_ok-call.ensures c.in_ok-push.ensures.ok;
-      number = c.number_after-number.ensures.value ∙ ap number_after c.loop-line.invariant.number ∙ sym (number_plus c.args.task c.loop-line._line);
+      number = c.number_after-number.ensures.value ∙ ap next_in_sequence c.loop-line.invariant.number ∙ sym (number_plus c.args.task c.loop-line._line);
       below = c.number_after-number.ensures.below;
     }
