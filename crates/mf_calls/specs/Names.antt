@@ -1,12 +1,9 @@
 -- Which texts are names, components of paths and names of processes, by docs/MANUAL.md (THE SCRIPT).
 use Rattle.std.specs.Prelude.{ℕ, Bool, true, false, not, ◌&&◌, ◌||◌, ◌==◌, nat_le, List, [], ◌∷◌, length, codes}
 use Rattle.std.specs.List.{list_all, slice_split}
-use Rattle.std.specs.Str.{bytes_eq}
+use Rattle.std.specs.Str.{byte, bytes_eq}
 use Rattle.std.specs.Char.{is_ascii_alphanumeric, char_set_contains}
 use Rattle.mf_names.specs.declared.limits.TheConstants.{NAME_LIMIT}
-
-abbrev pub dot : ℕ
-dot = 46
 
 abbrev pub is_some_text : List ℕ → Bool
 is_some_text [] = false
@@ -21,10 +18,10 @@ is_name w = is_some_text w && nat_le (length w) NAME_LIMIT && list_all is_name_b
 
 -- the full name of a process: that of a task, or a task's, a dot and a child's
 abbrev pub is_process_name : List ℕ → Bool
-is_process_name w = let names = slice_split (λ b. b == dot) w in nat_le (length names) 2 && list_all is_name names
+is_process_name w = let names = slice_split (λ b. b == byte ".") w in nat_le (length names) 2 && list_all is_name names
 
 abbrev pub is_component_byte : ℕ → Bool
-is_component_byte b = is_name_byte b || b == dot
+is_component_byte b = is_name_byte b || b == byte "."
 
 -- a component of a path is 1 to 32 bytes of names and dots, and neither `.` nor `..`
 abbrev pub is_component : List ℕ → Bool

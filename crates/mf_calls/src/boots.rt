@@ -23,7 +23,8 @@ fn may_name(boots: &[Module], request: &Request, named: Module) -> bool
 }
 
 fn may_name_each(boots: &[Module], request: &Request, modules: &[Module]) -> bool
-    ensures { result ≡ list_all (λ m. not (facts.is_named m request.now) || spec.is_booted boots.now m) modules.now }
+    ensures { result ≡ list_all
+        (λ m. not (facts.is_named m request.now) || spec.is_booted boots.now m) modules.now }
 {
     modules.iter().all(|named| may_name(boots, request, *named))
 }

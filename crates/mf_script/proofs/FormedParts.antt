@@ -3,7 +3,7 @@ use Rattle.mf_labeltext.specs.Bytes.{comma, slash}
 use Rattle.std.proofs.Common.{All, ◌≡◌, ℕ, suc, ◌+◌, ◌<◌, arith, length-append, ◌==◌, ◌≤◌, Bool, true, false, if◌then◌else◌, List, [], ◌∷◌, ◌++◌, length, Option, Some, None, Result, Ok, Err, refl, subst, ap, ◌∙◌, lit≤}
 use Rattle.std.specs.Prelude.{nat_lt, codes}
 use Rattle.std.specs.List.{slice_split}
-use Rattle.std.specs.Str.{bytes_eq}
+use Rattle.std.specs.Str.{byte, bytes_eq}
 use Rattle.std.specs.Char.{is_ascii_graphic}
 use Rattle.std.proofs.lemmas.Bool.{ltb-true}
 use Rattle.std.proofs.lemmas.List.Splits.{length-slice_split}
@@ -36,7 +36,6 @@ use Rattle.mf_calls.specs.Names.{is_name, is_process_name, is_component}
 use Rattle.mf_calls.specs.WellFormed.{IsWord, IsPrintable, IsAsked, IsPath, IsText}
 use Rattle.mf_script.specs.declared.error.ScriptFault.TheVariants.{Missing, BadNumber, BadLabel, BadRule, BadText}
 use Rattle.mf_script.specs.Readers.{Read, fails, or_fault, by_option}
-use Rattle.mf_spelling.specs.Spelling.{equals_sign}
 use Rattle.mf_script.specs.Parts.{all_added, number_of, with_group, groups_of, simple_name_of, process_of, mode_of, with_component, components_of, behind_root, path_of, any_word, text_of, sides_of, rule_number_of, rule_of}
 use Rattle.mf_script.specs.Grammar.{requested, judged_request}
 use Rattle.mf_script.proofs.EscapedBytes.{escaped_short, escaped_fit}
@@ -190,11 +189,11 @@ both_printable byte w front back word is =
 
 pub sides_formed : (w : List ℕ) → IsWord w → Yields (λ sides. IsPrintable sides.0 × IsPrintable sides.1) (sides_of w)
 unfolding sides_of
-sides_formed w word = by_cut (cut equals_sign w) refl where
-  by_cut : (found : Option (List ℕ × List ℕ)) → cut equals_sign w ≡ found
+sides_formed w word = by_cut (cut (byte "=") w) refl where
+  by_cut : (found : Option (List ℕ × List ℕ)) → cut (byte "=") w ≡ found
       → Yields (λ (sides : List ℕ × List ℕ). IsPrintable sides.0 × IsPrintable sides.1) (by_option found (fails Missing) Ok)
   by_cut None e = refused
-  by_cut (Some sides) e = done (both_printable equals_sign w sides.0 sides.1 word (cut_is equals_sign w sides.0 sides.1 e))
+  by_cut (Some sides) e = done (both_printable (byte "=") w sides.0 sides.1 word (cut_is (byte "=") w sides.0 sides.1 e))
 
 -- Rules
 

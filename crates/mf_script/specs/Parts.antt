@@ -2,7 +2,7 @@
 -- from the front, and returns what it read and the words after it.
 use Rattle.mf_labeltext.specs.Bytes.{comma, slash}
 use Rattle.std.specs.Prelude.{ℕ, ◌-◌, Bool, true, false, ◌&&◌, ◌==◌, nat_lt, if◌then◌else◌, List, [], ◌∷◌, ◌++◌, length, Option, Some, None, Ok, codes}
-use Rattle.std.specs.Str.{bytes_eq}
+use Rattle.std.specs.Str.{byte, bytes_eq}
 use Rattle.mf_errno.specs.Privilege.{privilege_named}
 use Rattle.mf_errno.specs.declared.privilege.Priv.{Priv}
 use Rattle.mf_text.specs.Number.{number_in}
@@ -16,7 +16,6 @@ use Rattle.mf_rule.specs.Reading.{rule_in}
 use Rattle.mf_words.specs.Words.{Words}
 use Rattle.mf_calls.specs.declared.limits.TheConstants.{UID_MAX, MODE_LIMIT}
 use Rattle.mf_calls.specs.Names.{is_name, is_process_name, is_component}
-use Rattle.mf_spelling.specs.Spelling.{equals_sign}
 use Rattle.mf_script.specs.declared.error.ScriptFault.TheVariants.{UnknownWord, Missing, Extra, BadNumber, BadRule, BadPath, BadText}
 use Rattle.mf_script.specs.Readers.{Read, ◌>>=◌, fails, unless, or_fault, by_option}
 
@@ -88,7 +87,7 @@ text_of w = or_fault BadText (bytes_of w)
 
 -- a word of sysctl(8): what stands before its first `=`, and what stands behind it; either may be empty
 unfoldable pub sides_of : List ℕ → Read (List ℕ × List ℕ)
-sides_of w = by_option (cut equals_sign w) (fails Missing) Ok
+sides_of w = by_option (cut (byte "=") w) (fails Missing) Ok
 
 -- The rest of the line
 

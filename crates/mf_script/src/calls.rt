@@ -30,7 +30,8 @@ fn setfmac(alloc: Global, words: &mut Words) -> Result<Call, Refusal>
 }
 
 fn setpipemac(alloc: Global, words: &mut Words) -> Result<Call, Refusal>
-    ensures { Gives (λ c. (c, words.new)) result (two any_word simple_name_of call.Setpipemac words.old) }
+    ensures { Gives (λ c. (c, words.new)) result
+        (two any_word simple_name_of call.Setpipemac words.old) }
 {
     let label = parts::word(alloc, words)?;
     let name = names::name(alloc, words)?;
@@ -38,7 +39,8 @@ fn setpipemac(alloc: Global, words: &mut Words) -> Result<Call, Refusal>
 }
 
 fn setsockmac(alloc: Global, words: &mut Words) -> Result<Call, Refusal>
-    ensures { Gives (λ c. (c, words.new)) result (two any_word simple_name_of call.Setsockmac words.old) }
+    ensures { Gives (λ c. (c, words.new)) result
+        (two any_word simple_name_of call.Setsockmac words.old) }
 {
     let label = parts::word(alloc, words)?;
     let name = names::name(alloc, words)?;
@@ -54,7 +56,8 @@ fn chmod(alloc: Global, words: &mut Words) -> Result<Call, Refusal>
 }
 
 fn pwrite(alloc: Global, words: &mut Words) -> Result<Call, Refusal>
-    ensures { Gives (λ c. (c, words.new)) result (two simple_name_of text_of call.Pwrite words.old) }
+    ensures { Gives (λ c. (c, words.new)) result
+        (two simple_name_of text_of call.Pwrite words.old) }
 {
     let name = names::name(alloc, words)?;
     let text = parts::text(alloc, words)?;
@@ -62,7 +65,8 @@ fn pwrite(alloc: Global, words: &mut Words) -> Result<Call, Refusal>
 }
 
 fn send(alloc: Global, words: &mut Words) -> Result<Call, Refusal>
-    ensures { Gives (λ c. (c, words.new)) result (three simple_name_of simple_name_of text_of call.Send words.old) }
+    ensures { Gives (λ c. (c, words.new)) result
+        (three simple_name_of simple_name_of text_of call.Send words.old) }
 {
     let from = names::name(alloc, words)?;
     let to = names::name(alloc, words)?;
@@ -71,7 +75,8 @@ fn send(alloc: Global, words: &mut Words) -> Result<Call, Refusal>
 }
 
 fn sysctl(alloc: Global, words: &mut Words) -> Result<Call, Refusal>
-    ensures { Gives (λ c. (c, words.new)) result (one sides_of (λ sides. call.Sysctl sides.0 sides.1) words.old) }
+    ensures { Gives (λ c. (c, words.new)) result
+        (one sides_of (λ sides. call.Sysctl sides.0 sides.1) words.old) }
 {
     let (name, value) = parts::sides(alloc, words)?;
     Ok(Call::Sysctl(name, value))
@@ -140,7 +145,8 @@ fn call(alloc: Global, name: &str, words: &mut Words) -> Result<Call, Refusal>
 /// The same of a call that isn't about a process.
 #[tactic(auto, unfolding(crate::specs::Calls::call_in, crate::specs::Readers::and_then))]
 fn file_call(alloc: Global, name: &str, words: &mut Words) -> Result<Call, Refusal>
-    ensures { Gives (λ c. (c, words.new)) result (call_in (file_calls ++ channel_calls ++ module_calls ++ setting_calls) name.now words.old) }
+    ensures { Gives (λ c. (c, words.new)) result
+        (call_in (file_calls ++ channel_calls ++ module_calls ++ setting_calls) name.now words.old) }
 {
     match name {
         "exec" => Ok(Call::Exec(names::path(alloc, words)?)),
@@ -161,7 +167,8 @@ fn file_call(alloc: Global, name: &str, words: &mut Words) -> Result<Call, Refus
 /// The same of a call that is about no file either.
 #[tactic(auto, unfolding(crate::specs::Calls::call_in, crate::specs::Readers::and_then))]
 fn channel_call(alloc: Global, name: &str, words: &mut Words) -> Result<Call, Refusal>
-    ensures { Gives (λ c. (c, words.new)) result (call_in (channel_calls ++ module_calls ++ setting_calls) name.now words.old) }
+    ensures { Gives (λ c. (c, words.new)) result
+        (call_in (channel_calls ++ module_calls ++ setting_calls) name.now words.old) }
 {
     match name {
         "pipe" => Ok(Call::Pipe(names::name(alloc, words)?)),
@@ -181,7 +188,8 @@ fn channel_call(alloc: Global, name: &str, words: &mut Words) -> Result<Call, Re
 /// The same of a call that is about the modules.
 #[tactic(auto, unfolding(crate::specs::Calls::call_in, crate::specs::Readers::and_then))]
 fn module_call(alloc: Global, name: &str, words: &mut Words) -> Result<Call, Refusal>
-    ensures { Gives (λ c. (c, words.new)) result (call_in (module_calls ++ setting_calls) name.now words.old) }
+    ensures { Gives (λ c. (c, words.new)) result
+        (call_in (module_calls ++ setting_calls) name.now words.old) }
 {
     match name {
         "kldstat" => Ok(Call::Kldstat),

@@ -37,7 +37,8 @@ pub fn name(alloc: Global, words: &mut Words) -> Result<Name, Refusal>
 /// The text after the first character, where that is `first`.
 pub fn behind(word: &str, first: char) -> Option<&str>
     requires { first < 128 }
-    ensures { MatchOption result ((rest : List ℕ) → word.now ≢ first ∷ rest) (λ rest. word.now ≡ first ∷ rest.now) }
+    ensures { MatchOption result ((rest : List ℕ) → word.now ≢ first ∷ rest)
+        (λ rest. word.now ≡ first ∷ rest.now) }
 {
     word.strip_prefix(first)
 }

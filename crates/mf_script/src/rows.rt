@@ -88,7 +88,8 @@ fn line_row(
     first: &str,
     words: &mut Words,
 ) -> Result<Place, Refusal>
-    ensures { Gives (λ p. (script.now, p)) result (line_in script.now task lists first.now words.old) }
+    ensures { Gives (λ p. (script.now, p)) result
+        (line_in script.now task lists first.now words.old) }
 {
     let line = lines::line_words(alloc, first, words)?;
     if task.lines.len() >= LINE_LIMIT {
@@ -125,7 +126,9 @@ fn end_row(
     lists: usize,
     words: &mut Words,
 ) -> Result<Place, Refusal>
-    ensures { Gives (λ p. (script.new, p)) result (nothing_behind (record (script.old) { tasks = script.old.tasks ++ task ∷ [] }, place.Tasks lists) words.old) }
+    ensures { Gives (λ p. (script.new, p)) result
+        (nothing_behind
+        (record (script.old) { tasks = script.old.tasks ++ task ∷ [] }, place.Tasks lists) words.old) }
 {
     parts::no_more(words)?;
     script.tasks.push(task)?;
@@ -149,7 +152,8 @@ fn behind_tasks(
     first: &str,
     words: &mut Words,
 ) -> Result<Place, Refusal>
-    ensures { Gives (λ p. (script.now, p)) result (behind_tasks script.now lists first.now words.old) }
+    ensures { Gives (λ p. (script.now, p)) result
+        (behind_tasks script.now lists first.now words.old) }
 {
     match first {
         "task" => task_row(alloc, script, lists, words),
@@ -202,7 +206,8 @@ fn in_task(
     first: &str,
     words: &mut Words,
 ) -> Result<Place, Refusal>
-    ensures { Gives (λ p. (script.new, p)) result (in_task script.old task lists first.now words.old) }
+    ensures { Gives (λ p. (script.new, p)) result
+        (in_task script.old task lists first.now words.old) }
 {
     if first == "end" {
         end_row(script, task, lists, words)

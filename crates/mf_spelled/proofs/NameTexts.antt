@@ -6,13 +6,12 @@ use Rattle.std.proofs.lemmas.List.Splits.{length-slice_split}
 use Rattle.std.proofs.lemmas.List.Elements.{All-head, All-tail}
 use Rattle.std.specs.Char.{is_ascii_graphic}
 use Rattle.std.specs.List.{list_all, slice_split, join_with_byte}
-use Rattle.std.specs.Str.{bytes_eq}
+use Rattle.std.specs.Str.{byte, bytes_eq}
 use Rattle.mf_labeltext.specs.Bytes.{slash}
 use Rattle.mf_labeltext.specs.Reading.{parts}
 use Rattle.mf_labeltext.proofs.Cutting.{join_parts}
-use Rattle.mf_calls.specs.Names.{dot, is_some_text, is_name, is_name_byte, is_component, is_component_byte, is_process_name}
+use Rattle.mf_calls.specs.Names.{is_some_text, is_name, is_name_byte, is_component, is_component_byte, is_process_name}
 use Rattle.mf_calls.specs.WellFormed.{IsPath, IsPrintable, IsWord}
-use Rattle.mf_spelling.specs.Spelling.{equals_sign}
 use Rattle.mf_spelled.proofs.WordTexts.{is_word, both, join, all_append, all_map}
 use Rattle.mf_spelled.proofs.NumberTexts.{word_more}
 
@@ -45,18 +44,18 @@ pub path_word : (names : List (List ℕ)) → IsPath names → is_word (slash �
 path_word names formed = joined_bytes names formed.each
 
 -- the full name of a process: its task's name, and a dot and the child's behind it
-process_bytes : (names : List (List ℕ)) → 1 ≤ length names → (nat_le (length names) 2 && list_all is_name names) ≡ true → is_word (join_with_byte dot names) ≡ true
+process_bytes : (names : List (List ℕ)) → 1 ≤ length names → (nat_le (length names) 2 && list_all is_name names) ≡ true → is_word (join_with_byte (byte ".") names) ≡ true
 process_bytes [] some e = absurd (omega (arith, some))
 process_bytes (name ∷ []) some e = name_word name (both (is_name name) true e).0
 process_bytes (name ∷ child ∷ []) some e =
     let each = both (is_name name) (is_name child && true) e in
     let behind = both (is_some_text child) (list_all is_ascii_graphic child) (name_word child (both (is_name child) true each.1).0) in
-    word_more name (dot ∷ child) (name_word name each.0) behind.1
+    word_more name (byte "." ∷ child) (name_word name each.0) behind.1
 process_bytes (name ∷ child ∷ other ∷ names) some e = absurd cc
 
 pub process_word : (w : List ℕ) → is_process_name w ≡ true → is_word w ≡ true
 unfolding parts
-process_word w h = ap is_word (sym (join_parts dot w)) ∙ process_bytes (slice_split (λ b. b == dot) w) (omega (arith, length-slice_split (λ b. b == dot) w)) h
+process_word w h = ap is_word (sym (join_parts (byte ".") w)) ∙ process_bytes (slice_split (λ b. b == byte ".") w) (omega (arith, length-slice_split (λ b. b == byte ".") w)) h
 
 all_graphic : (w : List ℕ) → All (λ b. is_ascii_graphic b ≡ true) w → list_all is_ascii_graphic w ≡ true
 all_graphic [] each = refl
@@ -66,11 +65,11 @@ all_graphic (b ∷ w) each =
 pub any_word : (w : List ℕ) → IsWord w → is_word w ≡ true
 any_word w word = join (is_some_text w) (list_all is_ascii_graphic w) word.some (all_graphic w word.printable.each)
 
-some_behind : (name value : List ℕ) → is_some_text (name ++ equals_sign ∷ value) ≡ true
+some_behind : (name value : List ℕ) → is_some_text (name ++ byte "=" ∷ value) ≡ true
 some_behind [] value = refl
 some_behind (b ∷ name) value = refl
 
-pub setting_word : (name value : List ℕ) → IsPrintable name → IsPrintable value → is_word (name ++ equals_sign ∷ value) ≡ true
+pub setting_word : (name value : List ℕ) → IsPrintable name → IsPrintable value → is_word (name ++ byte "=" ∷ value) ≡ true
 setting_word name value named valued =
-    join (is_some_text (name ++ equals_sign ∷ value)) (list_all is_ascii_graphic (name ++ equals_sign ∷ value)) (some_behind name value)
-    (all_append is_ascii_graphic name (equals_sign ∷ value) (all_graphic name named.each) (all_graphic value valued.each))
+    join (is_some_text (name ++ byte "=" ∷ value)) (list_all is_ascii_graphic (name ++ byte "=" ∷ value)) (some_behind name value)
+    (all_append is_ascii_graphic name (byte "=" ∷ value) (all_graphic name named.each) (all_graphic value valued.each))

@@ -1,5 +1,6 @@
 -- The canonical text of pieces is words that spell them.
 use Rattle.std.proofs.Common.{◌≡◌, ◌≢◌, ℕ, ◌<◌, ◌≤◌, ◌^◌, true, false, List, [], ◌∷◌, ◌++◌, refl, sym, ap, ◌∙◌, arith, append-nil}
+use Rattle.std.specs.Str.{byte}
 use Rattle.std.specs.Prelude.{All, codes}
 use Rattle.std.proofs.lemmas.List.Elements.{All-head, All-tail}
 use Rattle.mf_elem.specs.Bounds.{IsRequest}
@@ -12,7 +13,7 @@ use Rattle.mf_rule.proofs.Formed.{canonical_text_reads}
 use Rattle.mf_words.specs.Words.{Words}
 use Rattle.mf_calls.specs.WellFormed.{IsPrintable}
 use Rattle.mf_calls.specs.declared.limits.TheConstants.{UID_MAX, MODE_LIMIT}
-use Rattle.mf_spelling.specs.Spelling.{Piece, Word, Decimal, Octal, Groups, Text, Setting, Label, Rules, Pieces, equals_sign, Spells, SpellLine}
+use Rattle.mf_spelling.specs.Spelling.{Piece, Word, Decimal, Octal, Groups, Text, Setting, Label, Rules, Pieces, Spells, SpellLine}
 use Rattle.mf_spelling.specs.Canonical.{piece_text, words_behind}
 use Rattle.mf_spelled.proofs.WordTexts.{is_word, AreWords, behind}
 use Rattle.mf_spelled.proofs.NumberTexts.{number_back, mode_back, groups_back, text_back, decimal_word, octal_word, groups_word, text_word}
@@ -28,7 +29,7 @@ IsOfWord (Decimal most n) = (most < 2 ^ 64) × (n ≤ most)
 IsOfWord (Octal n) = n ≤ MODE_LIMIT
 IsOfWord (Groups groups) = (groups ≢ []) × All (λ group. group ≤ UID_MAX) groups
 IsOfWord (Text bytes) = (bytes ≢ []) × All (λ byte. byte < 256) bytes
-IsOfWord (Setting name value) = IsPrintable name × IsPrintable value × All (λ b. b ≢ equals_sign) name
+IsOfWord (Setting name value) = IsPrintable name × IsPrintable value × All (λ b. b ≢ byte "=") name
 IsOfWord (Label request) = IsRequest request × (request.other ≡ false)
 IsOfWord (Rules r) = ⊥
 
@@ -38,9 +39,9 @@ AreOfWords [] = Unit {0}
 AreOfWords (Rules r ∷ []) = rule.IsRule r
 AreOfWords (piece ∷ pieces) = IsOfWord piece × AreOfWords pieces
 
-free : (name : List ℕ) → All (λ b. b ≢ equals_sign) name → IsFree equals_sign name
+free : (name : List ℕ) → All (λ b. b ≢ byte "=") name → IsFree (byte "=") name
 free [] each = tt
-free (b ∷ name) each = (All-head (λ b. b ≢ equals_sign) b name each, free name (All-tail (λ b. b ≢ equals_sign) b name each))
+free (b ∷ name) each = (All-head (λ b. b ≢ byte "=") b name each, free name (All-tail (λ b. b ≢ byte "=") b name each))
 
 piece_word : (piece : Piece) → IsOfWord piece → is_word (piece_text piece) ≡ true
 piece_word (Word w) so = so
@@ -58,7 +59,7 @@ piece_spelled (Decimal most n) so = number_back most n so.0 so.1
 piece_spelled (Octal n) so = mode_back n so
 piece_spelled (Groups groups) so = groups_back groups so.0 so.1
 piece_spelled (Text bytes) so = text_back bytes so.1
-piece_spelled (Setting name value) so = cut_free equals_sign name value (free name so.2)
+piece_spelled (Setting name value) so = cut_free (byte "=") name value (free name so.2)
 piece_spelled (Label request) so = label_back request so.0 so.1
 piece_spelled (Rules r) so = absurd so
 

@@ -1,5 +1,6 @@
 -- What is read of a text can be spelled.
 use Rattle.std.proofs.Common.{◌≡◌, ◌≢◌, ℕ, Bool, true, false, cond, List, [], ◌∷◌, ◌++◌, length, map, Option, Some, None, Ok, ap, ◌∙◌, subst, inl, inr, ◌⊎◌}
+use Rattle.std.specs.Str.{byte}
 use Rattle.std.specs.Prelude.{All}
 use Rattle.std.proofs.lemmas.List.Concat.{flat_map-cons}
 use Rattle.std.proofs.lemmas.List.Elements.{All-nil, All-cons}
@@ -12,7 +13,7 @@ use Rattle.mf_calls.specs.declared.script.Call.TheVariants as call
 use Rattle.mf_calls.specs.declared.script.Line.{Line}
 use Rattle.mf_calls.specs.declared.script.Task.{Task}
 use Rattle.mf_calls.specs.declared.script.Script.{Script}
-use Rattle.mf_spelling.specs.Spelling.{Word, Text, Setting, Pieces, equals_sign, SpellLine, SpellScript, call_pieces, line_pieces, boot_pieces, file_pieces, task_rows, front_rows, step_rows, says, sayings}
+use Rattle.mf_spelling.specs.Spelling.{Word, Text, Setting, Pieces, SpellLine, SpellScript, call_pieces, line_pieces, boot_pieces, file_pieces, task_rows, front_rows, step_rows, says, sayings}
 use Rattle.mf_spelling.specs.Canonical.{IsSpellableCall, IsSpellable}
 use Rattle.mf_spelled.proofs.FileAndTaskLines.{AreSome, some_bytes}
 use Rattle.mf_spelled.proofs.Scripts.{some_words, any_bytes, scripts_spelled}
@@ -65,15 +66,15 @@ text_some text is = by_words is.words is.some is.spelled where
   by_words [] some spelled = absurd spelled
   by_words (w ∷ words) some spelled = λ none. some.0 (some_bytes 0 w (spelled.0 ∙ ap Ok none))
 
-free_all : (name : List ℕ) → IsFree equals_sign name → All (λ b. b ≢ equals_sign) name
+free_all : (name : List ℕ) → IsFree (byte "=") name → All (λ b. b ≢ byte "=") name
 free_all [] free = All-nil _
-free_all (b ∷ name) free = All-cons (λ b. b ≢ equals_sign) b name free.0 (free_all name free.1)
+free_all (b ∷ name) free = All-cons (λ b. b ≢ byte "=") b name free.0 (free_all name free.1)
 
-setting_free : (name value : List ℕ) → IsSpoken (Setting name value ∷ []) → All (λ b. b ≢ equals_sign) name
+setting_free : (name value : List ℕ) → IsSpoken (Setting name value ∷ []) → All (λ b. b ≢ byte "=") name
 setting_free name value is = by_words is.words is.spelled where
-  by_words : (words : Words) → SpellLine words (Setting name value ∷ []) → All (λ b. b ≢ equals_sign) name
+  by_words : (words : Words) → SpellLine words (Setting name value ∷ []) → All (λ b. b ≢ byte "=") name
   by_words [] spelled = absurd spelled
-  by_words (w ∷ words) spelled = free_all name (cut_is equals_sign w name value spelled.0).free
+  by_words (w ∷ words) spelled = free_all name (cut_is (byte "=") w name value spelled.0).free
 
 call_spellable : (c : Call) → IsSpoken (call_pieces c) → IsSpellableCall c
 call_spellable (call.Write path text) is = text_some text (behind_word _ _ (behind_word _ _ is))

@@ -2,7 +2,7 @@
 use Rattle.std.proofs.Common.{◌≡◌, ℕ, Bool, true, false, ◌==◌, List, [], ◌∷◌, ◌++◌, map, Some, Ok, refl, sym, ap, ◌∙◌, inl, inr, codes}
 use Rattle.std.specs.Prelude.{if◌then◌else◌, find}
 use Rattle.std.specs.List.{join_with_byte, slice_split}
-use Rattle.std.specs.Str.{bytes_eq}
+use Rattle.std.specs.Str.{byte, bytes_eq}
 use Rattle.std.proofs.lemmas.List.{append_assoc, append-nil}
 use Rattle.std.proofs.lemmas.List.Splits.{join_with_byte-slice_split}
 use Rattle.std.proofs.lemmas.Slice.Eq.{bytes_eq-Decides}
@@ -22,7 +22,7 @@ use Rattle.mf_script.specs.Readers.{or_fault}
 use Rattle.mf_script.specs.Parts.{any_word, number_of, rule_number_of, mode_of, simple_name_of, process_of, privilege_of, text_of, sides_of, all_added, with_group, groups_of, with_component, components_of, behind_root, path_of}
 use Rattle.mf_script.specs.Grammar.{requested}
 use Rattle.mf_script.proofs.Yields.{Yields, done, refused, chain, checked, widened}
-use Rattle.mf_spelling.specs.Spelling.{equals_sign, Word, Decimal, Octal, Groups, Text, Setting, Label, path, Spells}
+use Rattle.mf_spelling.specs.Spelling.{Word, Decimal, Octal, Groups, Text, Setting, Label, path, Spells}
 use Rattle.mf_spelled.proofs.Lines.{Reads, if_ok, if_some}
 
 pub any_spells : Reads Word any_word
@@ -55,7 +55,7 @@ text_spells w = if_ok fault.BadText (bytes_of w) (λ bytes e. e)
 
 pub sides_spell : Reads (λ sides. Setting sides.0 sides.1) sides_of
 unfolding sides_of
-sides_spell w = if_some (cut equals_sign w) _ _ refused (λ sides e. done e)
+sides_spell w = if_some (cut (byte "=") w) _ _ refused (λ sides e. done e)
 
 -- the word of what a look-up by words finds
 found_by : {A : Type 0} (text : A → List ℕ) (xs : List A) (w : List ℕ) (x : A) → find (λ x. bytes_eq (text x) w) xs ≡ Some x → w ≡ text x

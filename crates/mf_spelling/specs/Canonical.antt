@@ -2,6 +2,7 @@
 use Rattle.std.specs.Prelude.{◌≢◌, ℕ, false, List, [], ◌∷◌, ◌++◌, Option, Some, None, option_map, All, codes}
 use Rattle.std.specs.List.{flat_map}
 use Rattle.std.specs.Fmt.{decimal, digits}
+use Rattle.std.specs.Str.{byte}
 use Rattle.mf_errno.specs.declared.module.Module.{Module}
 use Rattle.mf_errno.specs.declared.module.Module.TheVariants.{Biba, Mls, Lomac, Partition}
 use Rattle.mf_elem.specs.Label.{element_alone}
@@ -10,17 +11,15 @@ use Rattle.mf_elem.specs.declared.label.LabelValue.TheVariants.{Range, Number}
 use Rattle.mf_elem.specs.declared.label.RangeLabel.{RangeLabel}
 use Rattle.mf_elem.specs.declared.label.Request.{Request}
 use Rattle.mf_text.specs.Escape.{escaped}
-use Rattle.mf_labeltext.specs.Bytes.{comma}
 use Rattle.mf_labeltext.specs.Canonical.{canonical_label}
 use Rattle.mf_rule.specs.Canonical.{rule_text}
-use Rattle.mf_words.specs.Words.{space, newline}
 use Rattle.mf_calls.specs.declared.script.Call.{Call}
 use Rattle.mf_calls.specs.declared.script.Call.TheVariants as call
 use Rattle.mf_calls.specs.declared.script.Line.{Line}
 use Rattle.mf_calls.specs.declared.script.Step.{Step}
 use Rattle.mf_calls.specs.declared.script.Task.{Task}
 use Rattle.mf_calls.specs.declared.script.Script.{Script}
-use Rattle.mf_spelling.specs.Spelling.{Piece, Word, Decimal, Octal, Groups, Text, Setting, Label, Rules, Pieces, equals_sign, boot_pieces, file_pieces, task_pieces, line_pieces, step_pieces}
+use Rattle.mf_spelling.specs.Spelling.{Piece, Word, Decimal, Octal, Groups, Text, Setting, Label, Rules, Pieces, boot_pieces, file_pieces, task_pieces, line_pieces, step_pieces}
 
 -- The words of a piece
 
@@ -31,7 +30,7 @@ octal n = digits 8 false n
 -- numbers with a comma between each two
 abbrev pub groups_text : List ℕ → List ℕ
 groups_text [] = []
-groups_text (group ∷ groups) = decimal group ++ flat_map (λ next. comma ∷ decimal next) groups
+groups_text (group ∷ groups) = decimal group ++ flat_map (λ next. byte "," ∷ decimal next) groups
 
 abbrev pub range_part : Module → Option RangeLabel → List (Module × LabelValue)
 range_part m None = []
@@ -52,7 +51,7 @@ piece_text (Decimal most n) = decimal n
 piece_text (Octal n) = octal n
 piece_text (Groups groups) = groups_text groups
 piece_text (Text bytes) = escaped bytes
-piece_text (Setting name value) = name ++ equals_sign ∷ value
+piece_text (Setting name value) = name ++ byte "=" ∷ value
 piece_text (Label request) = canonical_label (parts_asked request)
 piece_text (Rules rule) = rule_text rule
 
@@ -61,14 +60,14 @@ piece_text (Rules rule) = rule_text rule
 -- a space before each
 abbrev pub words_behind : Pieces → List ℕ
 words_behind [] = []
-words_behind (piece ∷ pieces) = space ∷ piece_text piece ++ words_behind pieces
+words_behind (piece ∷ pieces) = byte " " ∷ piece_text piece ++ words_behind pieces
 
 abbrev pub words_text : Pieces → List ℕ
 words_text [] = []
 words_text (piece ∷ pieces) = piece_text piece ++ words_behind pieces
 
 abbrev pub line_text : Pieces → List ℕ
-line_text pieces = words_text pieces ++ newline ∷ []
+line_text pieces = words_text pieces ++ byte "\n" ∷ []
 
 -- The script line by line; without steps it has no line of them
 
@@ -93,7 +92,7 @@ abbrev pub IsSpellableCall : Call → Type 0
 IsSpellableCall (call.Write path text) = text ≢ []
 IsSpellableCall (call.Pwrite name text) = text ≢ []
 IsSpellableCall (call.Send from to text) = text ≢ []
-IsSpellableCall (call.Sysctl name value) = All (λ b. b ≢ equals_sign) name
+IsSpellableCall (call.Sysctl name value) = All (λ b. b ≢ byte "=") name
 IsSpellableCall other = Unit {0}
 
 abbrev pub IsSpellable : Script → Type 0

@@ -3,6 +3,7 @@ use Rattle.std.specs.Prelude.{◌≡◌, ℕ, ◌⊎◌, ◌-◌, ◌||◌, true
 use Rattle.std.specs.List.{AllZip, filter, flat_map, list_all, join_with_byte}
 use Rattle.std.specs.Option.{option_map_or}
 use Rattle.std.specs.Char.{is_ascii_graphic}
+use Rattle.std.specs.Str.{byte}
 use Rattle.mf_errno.specs.Names.{module_text}
 use Rattle.mf_errno.specs.Privilege.{privilege_text}
 use Rattle.mf_errno.specs.declared.module.Module.{Module}
@@ -10,7 +11,6 @@ use Rattle.mf_elem.specs.declared.label.Request.{Request}
 use Rattle.mf_elem.specs.Label.{no_request}
 use Rattle.mf_text.specs.Number.{number_in}
 use Rattle.mf_text.specs.Escape.{bytes_of}
-use Rattle.mf_labeltext.specs.Bytes.{comma, slash}
 use Rattle.mf_labeltext.specs.Reading.{parts, cut, request_in}
 use Rattle.mf_rule.specs.declared.rule.Rule.{Rule}
 use Rattle.mf_rule.specs.declared.rule_list.TheConstants.{MAX_RULES}
@@ -43,14 +43,11 @@ Pieces = List Piece
 
 -- a slash before each component, or a slash alone
 abbrev pub path : List (List ℕ) → Piece
-path names = Word (slash ∷ join_with_byte slash names)
+path names = Word (byte "/" ∷ join_with_byte (byte "/") names)
 
 -- a byte that may stand in a line: a blank or a printable byte of ASCII
 abbrev pub is_line_byte : ℕ → Bool
 is_line_byte b = is_blank b || is_ascii_graphic b
-
-abbrev pub equals_sign : ℕ
-equals_sign = 61
 
 -- Which words spell what
 
@@ -59,9 +56,9 @@ abbrev pub Spells : List ℕ → Piece → Type 0
 Spells w (Word v) = w ≡ v
 Spells w (Decimal most n) = number_in 10 0 most w ≡ Ok n
 Spells w (Octal n) = number_in 8 0 MODE_LIMIT w ≡ Ok n
-Spells w (Groups groups) = map (number_in 10 0 UID_MAX) (parts comma w) ≡ map Ok groups
+Spells w (Groups groups) = map (number_in 10 0 UID_MAX) (parts (byte ",") w) ≡ map Ok groups
 Spells w (Text bytes) = bytes_of w ≡ Ok bytes
-Spells w (Setting name value) = cut equals_sign w ≡ Some (name, value)
+Spells w (Setting name value) = cut (byte "=") w ≡ Some (name, value)
 Spells w (Label request) = ((w ≡ codes "-") × (request ≡ no_request)) ⊎ (request_in w ≡ Ok request)
 Spells w (Rules r) = ⊥
 

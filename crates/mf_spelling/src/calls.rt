@@ -67,7 +67,8 @@ fn call_name(call: &Call) -> &'static str
 
 /// The words behind the first.
 fn push_arguments(call: &Call, out: &mut String) -> Result<(), AllocError>
-    ensures ok { OnOk result (Adds out.old out.new (words_behind (behind_first (call_pieces call.now)))) }
+    ensures ok { OnOk result
+        (Adds out.old out.new (words_behind (behind_first (call_pieces call.now)))) }
     ensures err { OnErr result (Extends (string_bytes out.old) (string_bytes out.new)) }
 {
     match call {

@@ -15,7 +15,8 @@ use std::alloc::{AllocError, Global};
 /// them, numbers without leading zeros, labels and rules in their canonical texts. If memory runs out, `out` is
 /// unchanged.
 pub fn print_script(alloc: Global, script: &Script, out: &mut String) -> Result<(), AllocError>
-    ensures ok { OnOk result (string_bytes out.new ≡ string_bytes out.old ++ script_text script.now) }
+    ensures ok { OnOk result (string_bytes out.new
+        ≡ string_bytes out.old ++ script_text script.now) }
     ensures err { OnErr result (string_bytes out.new ≡ string_bytes out.old) }
 {
     let length = out.len();

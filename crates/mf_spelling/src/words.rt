@@ -1,4 +1,5 @@
 //! The words of a line, each behind a space.
+ghost use Rattle.std.specs.Str.{byte};
 ghost use Rattle.std.specs.Prelude.{◌≡◌, ◌<◌, ◌≤◌, ◌+◌, [], ◌∷◌, ◌++◌, length, OnOk, OnErr, option_map, string_bytes};
 ghost use Rattle.std.specs.List.{flat_map};
 ghost use Rattle.std.specs.Fmt.{decimal};
@@ -10,7 +11,7 @@ ghost use Rattle.mf_labeltext.specs.Canonical.{canonical_label};
 ghost use Rattle.mf_labeltext.specs.Bytes.{comma, slash};
 ghost use Rattle.mf_rule.specs.Canonical.{rule_text};
 ghost use Rattle.mf_words.specs.Words.{space};
-ghost use Rattle.mf_spelling.specs.Spelling.{Label, equals_sign, path};
+ghost use Rattle.mf_spelling.specs.Spelling.{Label, path};
 ghost use Rattle.mf_spelling.specs.Canonical.{groups_text, number_part, octal, parts_asked, piece_text, range_part};
 ghost use Rattle.mf_spelling.specs.Printed.{Adds};
 
@@ -72,7 +73,7 @@ pub fn push_rule(rule: &Rule, out: &mut String) -> Result<(), AllocError>
 
 /// A setting and its value, with an equals sign between them.
 pub fn push_setting(name: &str, value: &str, out: &mut String) -> Result<(), AllocError>
-    ensures ok { OnOk result (Adds out.old out.new (space ∷ (name.now ++ equals_sign ∷ value.now))) }
+    ensures ok { OnOk result (Adds out.old out.new (space ∷ (name.now ++ byte "=" ∷ value.now))) }
     ensures err { OnErr result (Extends (string_bytes out.old) (string_bytes out.new)) }
 {
     push_word(name, out)?;
@@ -124,7 +125,8 @@ pub fn push_groups(groups: &[u32], out: &mut String) -> Result<(), AllocError>
 }
 
 fn push_more_groups(groups: &[u32], out: &mut String) -> Result<(), AllocError>
-    ensures ok { OnOk result (Adds out.old out.new (flat_map (λ next. comma ∷ decimal next) groups.now)) }
+    ensures ok { OnOk result
+        (Adds out.old out.new (flat_map (λ next. comma ∷ decimal next) groups.now)) }
     ensures err { OnErr result (Extends (string_bytes out.old) (string_bytes out.new)) }
 {
     for group in groups {
