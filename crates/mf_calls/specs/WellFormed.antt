@@ -140,8 +140,7 @@ pub record IsFormedTask (boots : List Module) (task : Task) : Type 0 where
   pub few : length task.lines ≤ LINE_LIMIT
   pub lines : All IsFormedLine task.lines
 
--- The script is within the limits and boots what a boot line may name; paths of files differ, and so do names of tasks; each file and each task
--- is one that a line may say, each file stands in the root or in a directory of an earlier line, and a step names a task, which need not be there.
+-- within the limits; paths of files differ, and so do names of tasks, and a step names a task, which need not be there
 pub record IsWellFormed (s : Script) : Type 0 where
   pub boots : AreBoots s.boots
   pub files : length s.files ≤ FILE_LIMIT

@@ -1,5 +1,5 @@
 -- The canonical text of what a label asks for is a word, and is read back.
-use Rattle.std.proofs.Common.{◌≡◌, ◌≢◌, ℕ, ◌≤◌, Bool, true, false, cond, eqb, List, [], ◌∷◌, ◌++◌, length, map, Option, Some, None, Ok, IfSome, refl, sym, ap, ◌∙◌, arith, append-nil, inl, inr, subst}
+use Rattle.std.proofs.Common.{◌≡◌, ℕ, ◌≤◌, Bool, true, false, cond, eqb, List, [], ◌∷◌, ◌++◌, length, map, Option, Some, None, Ok, IfSome, refl, sym, ap, ◌∙◌, arith, append-nil, inl, inr, subst}
 use Rattle.std.specs.Prelude.{codes, nat_le, option_map}
 use Rattle.std.proofs.lemmas.Bool.{leb-true}
 use Rattle.std.specs.Char.{is_ascii_graphic}
@@ -21,7 +21,6 @@ use Rattle.mf_errno.specs.Names.{all_modules}
 use Rattle.mf_errno.proofs.Modules.{each_passes}
 use Rattle.mf_labeltext.proofs.CanonicalSpelling.{effective_text, partition_text}
 use Rattle.mf_labeltext.specs.Canonical.{comps_text, elem_text, range_text, label_text, element_text, parts_of, in_order, elements_text, canonical_label}
-use Rattle.mf_labeltext.specs.Reading.{request_in}
 use Rattle.mf_labeltext.specs.RoundTrip.{request_from, IsPart, AreParts}
 use Rattle.mf_labeltext.proofs.PartsSpelling.{canonical_spells}
 use Rattle.mf_labeltext.proofs.Requests.{spells_request}

@@ -1,11 +1,10 @@
 -- The canonical text of a script spells it.
-use Rattle.std.proofs.Common.{◌≡◌, ◌≢◌, ℕ, ◌<◌, ◌≤◌, Bool, true, false, ◌&&◌, List, [], ◌∷◌, ◌++◌, length, map, Option, Some, None, refl, sym, subst, arith, inl, inr, append-nil, lit<}
+use Rattle.std.proofs.Common.{◌≡◌, ◌≢◌, ℕ, ◌<◌, ◌≤◌, Bool, true, false, List, [], ◌∷◌, ◌++◌, length, map, Option, Some, None, refl, sym, subst, arith, inl, inr, append-nil, lit<}
 use Rattle.std.specs.Prelude.{All, codes, not, if◌then◌else◌}
 use Rattle.std.proofs.lemmas.List.Elements.{All-head, All-tail}
 use Rattle.std.proofs.lemmas.List.Concat.{flat_map-cons}
 use Rattle.std.specs.List.{flat_map, list_all, AllZip}
 use Rattle.std.specs.Option.{IfSome}
-use Rattle.mf_errno.specs.Names.{all_modules}
 use Rattle.mf_errno.specs.Privilege.{privilege_text}
 use Rattle.mf_errno.specs.declared.module.Module.{Module}
 use Rattle.mf_errno.specs.declared.module.Module.TheVariants as modules

@@ -45,7 +45,6 @@ Pieces = List Piece
 abbrev pub path : List (List ℕ) → Piece
 path names = Word (byte "/" ∷ join_with_byte (byte "/") names)
 
--- a byte that may stand in a line: a blank or a printable byte of ASCII
 abbrev pub is_line_byte : ℕ → Bool
 is_line_byte b = is_blank b || is_ascii_graphic b
 
@@ -153,7 +152,6 @@ step_rows steps = (Word (codes "steps") ∷ []) ∷ map step_pieces steps ++ (Wo
 abbrev pub front_rows : Script → List Pieces
 front_rows s = map boot_pieces s.boots ++ map file_pieces s.files ++ flat_map task_rows s.tasks
 
--- a line that says something: it has a word, and is no comment
 abbrev pub says : Words → Bool
 says [] = false
 says (w ∷ ws) = not (is_comment w)

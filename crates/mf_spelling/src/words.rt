@@ -1,13 +1,12 @@
 //! The words of a line, each behind a space.
 ghost use Rattle.std.specs.Str.{byte};
-ghost use Rattle.std.specs.Prelude.{◌≡◌, ◌<◌, ◌≤◌, ◌+◌, [], ◌∷◌, ◌++◌, length, OnOk, OnErr, option_map, string_bytes};
+ghost use Rattle.std.specs.Prelude.{◌≡◌, ◌<◌, ◌≤◌, ◌+◌, ◌∷◌, ◌++◌, length, OnOk, OnErr, option_map, string_bytes};
 ghost use Rattle.std.specs.List.{flat_map};
 ghost use Rattle.std.specs.Fmt.{decimal};
 ghost use Rattle.mf_errno.specs.declared.module.Module.TheVariants.{Lomac};
 ghost use Rattle.mf_elem.specs.Label.{element_alone};
 ghost use Rattle.mf_text.specs.Appending.{Extends};
 ghost use Rattle.mf_text.specs.Escape.{escaped};
-ghost use Rattle.mf_labeltext.specs.Canonical.{canonical_label};
 ghost use Rattle.mf_labeltext.specs.Bytes.{comma, slash};
 ghost use Rattle.mf_rule.specs.Canonical.{rule_text};
 ghost use Rattle.mf_words.specs.Words.{space};
