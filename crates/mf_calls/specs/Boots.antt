@@ -15,6 +15,6 @@ is_booted boots m = list_any (same_module m) boots
 abbrev pub names_booted : List Module → Request → Bool
 names_booted boots request = list_all (λ m. not (is_named m request) || is_booted boots m) all_modules && not request.other
 
--- what a script that boots these modules may ask for an entity of that kind: it names no other policy, and each makes a valid label of it
+-- what such a script may ask for an entity of that kind: it names no other policy, and each takes what it asks and gives a valid label
 abbrev pub may_ask_for : Kind → List Module → Request → Bool
 may_ask_for kind boots request = names_booted boots request && list_all (λ booted. may_ask booted kind request) boots
