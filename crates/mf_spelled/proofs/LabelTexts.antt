@@ -144,8 +144,8 @@ are_parts : (r : Request) → IsRequest r → AllByRecursion IsPart (parts_asked
 are_parts r fits =
     appended (range_part Biba r.biba ++ range_part Mls r.mls ++ range_part Lomac (option_map element_alone r.lomac)) (number_part r.partition)
     (appended (range_part Biba r.biba ++ range_part Mls r.mls) (range_part Lomac (option_map element_alone r.lomac))
-        (appended (range_part Biba r.biba) (range_part Mls r.mls) (range_is_part Biba r.biba fits.biba) (range_is_part Mls r.mls fits.mls))
-        (range_is_part Lomac (option_map element_alone r.lomac) (alone_is_part r.lomac fits.lomac)))
+    (appended (range_part Biba r.biba) (range_part Mls r.mls) (range_is_part Biba r.biba fits.biba) (range_is_part Mls r.mls fits.mls))
+    (range_is_part Lomac (option_map element_alone r.lomac) (alone_is_part r.lomac fits.lomac)))
     (number_is_part r.partition fits.partition)
 
 abbrev asking : Option RangeLabel → Option RangeLabel → Option Elem → Option ℕ → Request
