@@ -1,6 +1,7 @@
 -- Names, paths and the words of calls are words.
 use Rattle.std.proofs.Common.{◌≡◌, ℕ, ◌≤◌, true, not, ◌&&◌, ◌==◌, List, [], ◌∷◌, ◌++◌, length, refl, sym, ap, ◌∙◌, arith}
 use Rattle.std.specs.Prelude.{All, codes, nat_le}
+use Rattle.std.proofs.lemmas.Bool.{leb-true}
 use Rattle.std.proofs.lemmas.Bool.Decides.{nat_tests}
 use Rattle.std.proofs.lemmas.List.Splits.{length-slice_split}
 use Rattle.std.proofs.lemmas.List.Elements.{All-head, All-tail}
@@ -51,7 +52,10 @@ process_bytes (name ∷ child ∷ []) some e =
     let each = both (is_name name) (is_name child && true) e in
     let behind = both (is_some_text child) (list_all is_ascii_graphic child) (name_word child (both (is_name child) true each.1).0) in
     word_more name (byte "." ∷ child) (name_word name each.0) behind.1
-process_bytes (name ∷ child ∷ other ∷ names) some e = absurd cc
+process_bytes (name ∷ child ∷ other ∷ names) some e =
+    let all = name ∷ child ∷ other ∷ names in
+    let few : length all ≤ 2 = leb-true (length all) 2 (both (nat_le (length all) 2) (list_all is_name all) e).0 in
+    absurd (omega (arith, few))
 
 pub process_word : (w : List ℕ) → is_process_name w ≡ true → is_word w ≡ true
 unfolding parts
