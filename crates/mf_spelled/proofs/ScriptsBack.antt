@@ -1,5 +1,6 @@
 -- Texts that spell a well-formed script are read as it.
 use Rattle.std.proofs.Common.{◌≡◌, ◌≢◌, ℕ, ◌==◌, ◌+◌, ◌<◌, ◌≤◌, Bool, true, false, cond, List, [], ◌∷◌, ◌++◌, map, length, Ok, refl, sym, subst, ap, ◌∙◌, inl, inr, codes, arith}
+use Rattle.std.proofs.lemmas.Bool.Decides.{nat_tests}
 use Rattle.std.specs.Prelude.{All, AllPairs, if◌then◌else◌, nat_lt, ◌⊎◌}
 use Rattle.std.specs.List.{flat_map, list_any, sum_by, AllZip}
 use Rattle.std.specs.Str.{bytes_eq}
@@ -92,8 +93,7 @@ directory_there earlier (g ∷ done) f rest are =
     ap (λ files. has_directory files (directory_of f.path)) (sym (append_assoc earlier (g ∷ []) done)) ∙ directory_there (earlier ++ g ∷ []) done f rest are.1
 
 below_root : (path : List (List ℕ)) → 1 ≤ length path → (length path == 0) ≡ false
-below_root [] some = absurd (omega (arith, some))
-below_root (w ∷ ws) some = refl
+below_root path some = grind (arith, nat_tests)
 
 files_back : (boots : List Module) (files : List FileLine) → length files ≤ FILE_LIMIT → AllPairs (λ f g. f.path ≢ g.path) files → All (IsFormedFile boots) files → AreInDirectories [] files
     → Reaches (map file_pieces files) (script boots [] [] []) place.Boots (script boots files [] []) (after_files files)
