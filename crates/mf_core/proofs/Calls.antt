@@ -13,14 +13,14 @@ use Rattle.mf_plan.specs.declared.reply.Payload.{Payload}
 use Rattle.mf_plan.specs.declared.reply.Reply.{Reply}
 use Rattle.mf_plan.specs.declared.state.State.{State}
 use Rattle.mf_plan.specs.Found.{AreFound}
-use Rattle.mf_plan.specs.Plan.{plan_of}
+use Rattle.mf_plan.specs.Plan.{plan_of, call_row}
 use Rattle.mf_perform.specs.declared.verdict.Denial.{Denial}
 use Rattle.mf_perform.specs.declared.verdict.Verdict.{Verdict}
 use Rattle.mf_perform.specs.declared.relisting.Relisting.{Relisting}
 use Rattle.mf_perform.specs.Relisting.{IsFormed, Tells}
-use Rattle.mf_perform.specs.Reply.{denied_reply, reply_to, tail_reply}
+use Rattle.mf_perform.specs.Reply.{tail_reply, reply_to}
 use Rattle.mf_perform.specs.Refused.{is_ok}
-use Rattle.mf_perform.specs.OneCall.{performed, call_payload, call_reply, call_state}
+use Rattle.mf_perform.specs.OneCall.{performed, call_reply, call_state}
 use Rattle.mf_perform.specs.Verdict.{verdict_of}
 use Rattle.mf_core.specs.declared.history.History.{History}
 use Rattle.mf_core.specs.declared.progress.Turn.TheVariants as turns
@@ -45,7 +45,7 @@ refused_tail : (tail : Tail) (p q : Payload) → is_ok (tail_reply tail p) ≡ f
 refused_tail Do p q is = cc
 refused_tail (Refuse errno) p q is = refl
 
-refused_anyhow : (plan : Plan) (denied : Option Denial) (p q : Payload) → is_ok (denied_reply plan denied p) ≡ false → is_ok (denied_reply plan denied q) ≡ false
+refused_anyhow : (plan : Plan) (denied : Option Denial) (p q : Payload) → is_ok (reply_to plan denied p) ≡ false → is_ok (reply_to plan denied q) ≡ false
 refused_anyhow plan None p q is = refused_tail plan.tail p q is
 refused_anyhow plan (Some denial) p q is = refl
 
@@ -67,24 +67,24 @@ module _ (s : Script) (r : RunState) (t : ℕ) (line : Line) (next : next_line s
     plan_is = same_plan (next_plan s r t) (plan_of r.state (name_of s t) line.child line.call) plan (ap (plan_at s r t) next) planned
 
     -- the reply by the plan and the policies' verdict on it
-    pub reply_by : (verdict : Verdict) → verdict ≡ verdict_of r.state.specs plan → next_reply s r t ≡ Some (reply_to plan verdict (call_payload r.state (name_of s t) line.child line.call))
+    pub reply_by : (verdict : Verdict) → verdict ≡ verdict_of r.state.specs plan → next_reply s r t ≡ Some (reply_to plan verdict.denied (call_row r.state (name_of s t) line.child line.call).payload)
     reply_by verdict judged =
         ap (reply_at s r t) next
-        ∙ ap (λ (p : Plan). Some (reply_to p (verdict_of r.state.specs p) (call_payload r.state (name_of s t) line.child line.call))) plan_is
-        ∙ ap (λ (v : Verdict). Some (reply_to plan v (call_payload r.state (name_of s t) line.child line.call))) (sym judged)
+        ∙ ap (λ (p : Plan). Some (reply_to p (verdict_of r.state.specs p).denied (call_row r.state (name_of s t) line.child line.call).payload)) plan_is
+        ∙ ap (λ (v : Verdict). Some (reply_to plan v.denied (call_row r.state (name_of s t) line.child line.call).payload)) (sym judged)
 
     -- a call that is denied or refused is so whatever it would hand back
     pub refused_by : (verdict : Verdict) → verdict ≡ verdict_of r.state.specs plan → (reply : Reply) → next_reply s r t ≡ Some reply → is_ok reply ≡ false
-        → (p : Payload) → is_ok (reply_to plan verdict p) ≡ false
+        → (p : Payload) → is_ok (reply_to plan verdict.denied p) ≡ false
     refused_by verdict judged reply replies refused p =
-        refused_anyhow plan verdict.denied (call_payload r.state (name_of s t) line.child line.call) p
-        (ap is_ok (same_reply (next_reply s r t) (reply_to plan verdict (call_payload r.state (name_of s t) line.child line.call)) reply (reply_by verdict judged) replies) ∙ refused)
+        refused_anyhow plan verdict.denied (call_row r.state (name_of s t) line.child line.call).payload p
+        (ap is_ok (same_reply (next_reply s r t) (reply_to plan verdict.denied (call_row r.state (name_of s t) line.child line.call).payload) reply (reply_by verdict judged) replies) ∙ refused)
 
     -- the plan of a call that is done ends with no refusal
     pub plan_do : (reply : Reply) → next_reply s r t ≡ Some reply → is_ok reply ≡ true → plan.tail ≡ Do
     plan_do reply replies done =
-        done_do plan (verdict_of r.state.specs plan) (call_payload r.state (name_of s t) line.child line.call) reply
-        (same_reply (next_reply s r t) (reply_to plan (verdict_of r.state.specs plan) (call_payload r.state (name_of s t) line.child line.call)) reply (reply_by (verdict_of r.state.specs plan) refl) replies) done
+        done_do plan (verdict_of r.state.specs plan) (call_row r.state (name_of s t) line.child line.call).payload reply
+        (same_reply (next_reply s r t) (reply_to plan (verdict_of r.state.specs plan).denied (call_row r.state (name_of s t) line.child line.call).payload) reply (reply_by (verdict_of r.state.specs plan) refl) replies) done
 
 -- the call of an entry is no change
 pub entry_call : (s : Script) (h : History) (r : RunState) (t : ℕ) (line : Line) → IsConsistent s h r → turn_of s r.progress t ≡ turns.Entered

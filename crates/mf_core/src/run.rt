@@ -8,10 +8,10 @@ ghost use Rattle.mf_calls.specs.WellFormed.{IsFormedLine, IsName, IsWellFormed};
 ghost use Rattle.mf_plan.specs.declared.plan.Tail.TheVariants.{Do};
 ghost use Rattle.mf_plan.specs.Found.{AreFound};
 ghost use Rattle.mf_plan.specs.declared.reply.Payload.TheVariants as payload;
-ghost use Rattle.mf_perform.specs.Reply.{reply_to};
 ghost use Rattle.mf_perform.specs.Refused.{is_ok};
 ghost use Rattle.mf_perform.specs.OneCall.{call_reply, call_state};
 ghost use Rattle.mf_perform.specs.Verdict.{verdict_of};
+ghost use Rattle.mf_perform.specs.Reply.{reply_to};
 ghost use Rattle.mf_core.specs.declared.history.Event.TheVariants as event;
 ghost use Rattle.mf_core.specs.declared.progress.Turn.TheVariants as turn;
 ghost use Rattle.mf_core.specs.LegalHistory.{after, next_line, next_reply, opening, turn_of, MayCome};
@@ -138,7 +138,7 @@ impl<'s> Run<'s> {
         requires found { plan.now.tail ≡ Do → IsNextFound self.now.script self.now.run task found.now }
         requires verdict { verdict.now ≡ verdict_of self.now.run.state.specs plan.now }
         ensures value { IfOk result (λ reply. next_reply self.now.script self.now.run task ≡ Some reply) }
-        ensures memory { is_ok (reply_to plan.now verdict.now payload.None) ≡ false → IsOk result }
+        ensures memory { is_ok (reply_to plan.now verdict.now.denied payload.None) ≡ false → IsOk result }
     {
         if let Some(refusal) = refusal_of(plan, verdict) {
             return KeptReply::new(alloc, refusal);

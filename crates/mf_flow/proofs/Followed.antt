@@ -19,7 +19,7 @@ use Rattle.mf_calls.specs.WellFormed.{IsWellFormed}
 use Rattle.mf_plan.specs.declared.state.State.{State}
 use Rattle.mf_plan.specs.declared.reply.Reply.{Reply}
 use Rattle.mf_plan.specs.Plan.{plan_of, call_row}
-use Rattle.mf_perform.specs.OneCall.{call_payload, call_reply, call_state}
+use Rattle.mf_perform.specs.OneCall.{call_reply, call_state}
 use Rattle.mf_core.specs.declared.history.Event.{Event}
 use Rattle.mf_core.specs.declared.history.Event.TheVariants as event
 use Rattle.mf_core.specs.declared.history.History.{History}
@@ -57,7 +57,7 @@ call_rows p r s s' task line said sets rows of is after_is shape flowing are =
     let step : ChangesEntities by s s' = changes_entities by s s' shape flowing.held.kept.rooted.rising in
     let granted : AllByRecursion (IsGranted s.specs) items =
     subst (λ (x : Reply). AllByRecursion (IsGranted s.specs) (passed x (plan_of s task line.child line.call).items)) is
-    (passed_granted s.specs (plan_of s task line.child line.call) (call_payload s task line.child line.call)) in
+    (passed_granted s.specs (plan_of s task line.child line.call) (call_row s task line.child line.call).payload) in
     let copied : AllByRecursion (IsCopied s.objects) items =
     all_passed (IsCopied s.objects) said (plan_of s task line.child line.call).items (plan_copied s (call_row s task line.child line.call)) in
     let success : AllByRecursion (λ (item : Item). lattice_answer p (slot_of r) item ≡ Success) items = own_answer p r s.specs s.numbers items of flowing.held.pinned granted in

@@ -11,15 +11,17 @@ use Rattle.mf_plan.specs.declared.reply.Reply.TheVariants as reply
 use Rattle.mf_plan.specs.declared.state.State.{State}
 use Rattle.mf_plan.specs.Effect.{Effect, relabelled_by}
 use Rattle.mf_plan.specs.Effect.Effect.{Relabel}
-use Rattle.mf_plan.specs.Found.{AreFound, IsFound}
+use Rattle.mf_plan.specs.Found.{AreFound, IsAbout}
 use Rattle.mf_plan.specs.Names.{caller_name}
-use Rattle.mf_plan.specs.Plan.{row_by, row_for, call_row}
+use Rattle.mf_plan.specs.Plan.{row_for, call_row}
 use Rattle.mf_plan.specs.Rows.{about_of}
 use Rattle.mf_plan.specs.Views.{process_named}
 use Rattle.mf_plan.specs.Ways.{At, asked_in, target_in}
+use Rattle.mf_plan.proofs.Finding.{row_by}
 use Rattle.mf_perform.specs.Effect.{after, with_request}
-use Rattle.mf_perform.specs.OneCall.{after_reply, performed, performed_by, call_reply, call_state}
+use Rattle.mf_perform.specs.OneCall.{after_reply, performed, call_reply, call_state}
 use Rattle.mf_perform.proofs.Handing.{effect_there}
+use Rattle.mf_perform.proofs.StateChange.{performed_by}
 
 relabel_effect : (s : State) (me : Id) (e : Effect) (asked : Id × Request) → relabelled_by e ≡ Some asked → after s me e ≡ with_request s asked
 relabel_effect s me (Relabel id request) asked is = let same : (id, request) ≡ asked = cc in ap (with_request s) same
@@ -49,7 +51,7 @@ zipped_row s task me other what = refl
 pub zipped : (s : State) (task : List ℕ) (child : Option (List ℕ)) (c : Call) (found : Found) → AreFound s task child c found
     → option_zip found.target found.request ≡ relabelled_by (call_row s task child c).effect
 zipped s task child c found are =
-    let is : IsFound s task are.me c found = are.is in
+    let is : IsAbout s task are.me c found = are.is in
     ap (λ (target : Option Id). option_zip target found.request) is.target
     ∙ ap (option_zip (target_in (about_of s task are.me c).place is.what)) is.request
     ∙ zipped_row s task are.me c is.what

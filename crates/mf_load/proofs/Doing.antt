@@ -13,14 +13,16 @@ use Rattle.mf_plan.specs.declared.plan.Tail.TheVariants.{Do, Refuse}
 use Rattle.mf_plan.specs.declared.reply.Reply.{Reply}
 use Rattle.mf_plan.specs.declared.reply.Reply.TheVariants as reply
 use Rattle.mf_plan.specs.declared.reply.Payload.{Payload}
-use Rattle.mf_plan.specs.Plan.{plan_in, row_by, row_for}
+use Rattle.mf_plan.specs.Plan.{plan_in, row_for}
 use Rattle.mf_plan.specs.Row.{Row}
 use Rattle.mf_plan.specs.Views.{process_named}
+use Rattle.mf_plan.proofs.Finding.{row_by}
 use Rattle.mf_perform.specs.declared.verdict.Denial.{Denial}
 use Rattle.mf_perform.specs.Verdict.{denial_from}
-use Rattle.mf_perform.specs.Reply.{op_at, denied_reply, tail_reply}
+use Rattle.mf_perform.specs.Reply.{op_at, tail_reply, reply_to}
 use Rattle.mf_perform.specs.Effect.{after}
-use Rattle.mf_perform.specs.OneCall.{call_reply, call_state, performed, performed_by, after_reply}
+use Rattle.mf_perform.specs.OneCall.{call_reply, call_state, performed, after_reply}
+use Rattle.mf_perform.proofs.StateChange.{performed_by}
 use Rattle.mf_load.specs.Alone.{denied}
 use Rattle.mf_load.proofs.Known.{biba_alone}
 
@@ -35,11 +37,11 @@ module _ (s : State) (task : List ℕ) (me : Id) (call : Call) (row : Row) (spec
   abbrev walked : Option Denial
   walked = denial_from biba_alone 1 (plan_in s row).items
 
-  replied : (denied : Option Denial) → walked ≡ denied → call_reply s task None call ≡ denied_reply (plan_in s row) denied row.payload
+  replied : (denied : Option Denial) → walked ≡ denied → call_reply s task None call ≡ reply_to (plan_in s row) denied row.payload
   replied denied found =
-      ap (λ (r : Row). denied_reply (plan_in s r) (denial_from s.specs 1 (plan_in s r).items) r.payload) (ap (row_by s task call) caller ∙ is)
-      ∙ ap (λ (es : List Entry). denied_reply (plan_in s row) (denial_from es 1 (plan_in s row).items) row.payload) specs
-      ∙ ap (λ (d : Option Denial). denied_reply (plan_in s row) d row.payload) found
+      ap (λ (r : Row). reply_to (plan_in s r) (denial_from s.specs 1 (plan_in s r).items) r.payload) (ap (row_by s task call) caller ∙ is)
+      ∙ ap (λ (es : List Entry). reply_to (plan_in s row) (denial_from es 1 (plan_in s row).items) row.payload) specs
+      ∙ ap (λ (d : Option Denial). reply_to (plan_in s row) d row.payload) found
 
   pub is_ok : (p : Payload) (s' : State) → row.tail ≡ Do → walked ≡ None → row.payload ≡ p → after s me row.effect ≡ s' → Does s task call (reply.Ok p) s'
   is_ok p s' tail found shown changed =

@@ -1,14 +1,15 @@
 -- What stands of a load, by what each task has made, and how many files that is.
+use Rattle.std.specs.Prelude.{nat_le}
 use Rattle.std.proofs.Common.{◌≡◌, ◌≢◌, ℕ, zero, suc, ◌<◌, ◌≤◌, ◌+◌, ◌*◌, nat_eq, Bool, true, false, cond, ◌&&◌, List, [], ◌∷◌, Some, None, length, refl, ap, sym, ◌∙◌, subst, arith, eq-eqb}
 use Rattle.std.specs.List.{AllByRecursion}
 use Rattle.std.specs.Str.{bytes_eq}
 use Rattle.std.proofs.lemmas.Bool.Decides.{nat_tests}
+use Rattle.mf_objects.specs.declared.limits.TheConstants.{MOST_ENTITIES}
 use Rattle.mf_objects.specs.declared.entity.EntityData.{EntityData}
 use Rattle.mf_objects.specs.declared.entity.EntityData.TheVariants.{Process, Vnode, Pipe, Socket}
 use Rattle.mf_objects.specs.Live.{LiveEntity, Entities}
 use Rattle.mf_objects.specs.Titles.{entry_names}
 use Rattle.mf_calls.specs.Generated.{scratch_name}
-use Rattle.mf_plan.specs.Views.{is_full}
 use Rattle.mf_load.specs.Alone.{Own, with_held}
 use Rattle.mf_load.proofs.Names.{bytes_same, scratches_differ}
 use Rattle.mf_load.proofs.Known.{at, directory_id, the_scratch, IsFile, IsFixed, HasScratch}
@@ -83,7 +84,7 @@ stands_same t o own own' same stands =
           (total_same t (λ u. held_count (own u).held) (λ u. held_count (own' u).held) (λ u within. ap (λ (x : Own). held_count x.held) (sym (same u))));
     }
 
-pub few_live : (t : ℕ) (o : Entities) (own : ℕ → Own) → t ≤ 16 → Stands t o own → is_full o ≡ false
+pub few_live : (t : ℕ) (o : Entities) (own : ℕ → Own) → t ≤ 16 → Stands t o own → nat_le MOST_ENTITIES (length o.live) ≡ false
 few_live t o own few stands =
     let most : total t (λ u. held_count (own u).held) ≤ 4 * t = total_most t (λ u. held_count (own u).held) (λ u. held_most (own u).held) in
     let count : length o.live ≡ 3 * t + 1 + total t (λ u. held_count (own u).held) = stands.count in

@@ -1,6 +1,6 @@
 -- What the row of a call says, by what was found.
 use Rattle.std.proofs.Common.{◌≡◌, ℕ, Bool, true, false, not, List, Option, Some, None, Result, Ok, Err, refl, ap, sym, ◌∙◌, if◌then◌else◌}
-use Rattle.std.specs.Option.{option_zip}
+use Rattle.std.specs.Option.{option_zip, ok_or}
 use Rattle.std.specs.Prelude.{nat_eq}
 use Rattle.mf_errno.specs.Names.{module_named}
 use Rattle.mf_errno.specs.declared.errno.Errno.TheVariants as errno
@@ -17,20 +17,21 @@ use Rattle.mf_objects.specs.declared.id.Id.{Id}
 use Rattle.mf_calls.specs.declared.script.Call.{Call}
 use Rattle.mf_plan.specs.declared.found.Found.{Found}
 use Rattle.mf_plan.specs.declared.state.State.{State}
-use Rattle.mf_plan.specs.Found.{IsFound}
 use Rattle.mf_plan.specs.Plan.{row_for}
 use Rattle.mf_plan.specs.Row.{Row, through}
 use Rattle.mf_plan.specs.Rows.{about_of}
-use Rattle.mf_plan.specs.Ways.{At, go_on, look_up, or_fail, asked_in, target_in}
-use Rattle.mf_perform.specs.Found.{added, effect_found, payload_found, slot}
+use Rattle.mf_plan.specs.Ways.{At, asked_in, target_in, way_to}
+use Rattle.mf_plan.specs.Found.{IsAbout}
+use Rattle.mf_perform.specs.Found.{effect_found, payload_found, rule_added, slot}
+use Rattle.mf_text.specs.Results.{and_then}
 
-module _ (s : State) (task : List ℕ) (me : Id) (c : Call) (found : Found) (is : IsFound s task me c found) where
+module _ (s : State) (task : List ℕ) (me : Id) (c : Call) (found : Found) (is : IsAbout s task me c found) where
   -- the row of the call, with what was found
   abbrev pub row_there : Row
   row_there = (about_of s task me c).row is.what
 
   abbrev there_is : Result (At (about_of s task me c).place) Errno → Row
-  there_is there = through (record { checks = (look_up s me (about_of s task me c).place).checks; there = there }) (about_of s task me c).row
+  there_is there = through (record { checks = (way_to s me (about_of s task me c).place).checks; there = there }) (about_of s task me c).row
 
   pub tail_there : (row_for s task c me).tail ≡ row_there.tail
   tail_there = ap (λ (there : Result (At (about_of s task me c).place) Errno). (there_is there).tail) is.there
@@ -54,32 +55,32 @@ effect_row s task me (call.UgidfwSet n rule) what entry = cc
 effect_row s task me (call.UgidfwRemove n) what entry = cc
 effect_row s task me other what entry = refl
 
-named_so : {A : Type 0} (e : Errno) (holder : Option A) (a : A) → or_fail e holder ≡ Ok a → holder ≡ Some a
+named_so : {A : Type 0} (e : Errno) (holder : Option A) (a : A) → ok_or holder e ≡ Ok a → holder ≡ Some a
 named_so e None a is = cc
 named_so e (Some x) a is = cc
 
 set_so : (s : State) (root : Bool) (m : Option Module) (change : Option Change) (asked : Module × Change)
     → (if root then Err errno.Eperm else
-    go_on (or_fail errno.Enoent m) (λ m. if not (is_listed m s.specs) then Err errno.Enoent else go_on (or_fail errno.Einval change) (λ change. Ok (m, change)))) ≡ Ok asked
+    and_then (ok_or m errno.Enoent) (λ m. if not (is_listed m s.specs) then Err errno.Enoent else and_then (ok_or change errno.Einval) (λ change. Ok (m, change)))) ≡ Ok asked
     → option_zip m change ≡ Some asked
 set_so s true m change asked is = cc
 set_so s false None change asked is = cc
 set_so s false (Some m) change asked is = one (is_listed m s.specs) change is
   where
-    one : (b : Bool) (change : Option Change) → (if not b then Err errno.Enoent else go_on (or_fail errno.Einval change) (λ change. Ok (m, change))) ≡ Ok asked
+    one : (b : Bool) (change : Option Change) → (if not b then Err errno.Enoent else and_then (ok_or change errno.Einval) (λ change. Ok (m, change))) ≡ Ok asked
         → option_zip (Some m) change ≡ Some asked
     one true (Some change) is = cc
     one true None is = cc
     one false change is = cc
 
-payload_row : (s : State) (task : List ℕ) (me : Id) (c : Call) (what : At (about_of s task me c).place) → (look_up s me (about_of s task me c).place).there ≡ Ok what
+payload_row : (s : State) (task : List ℕ) (me : Id) (c : Call) (what : At (about_of s task me c).place) → (way_to s me (about_of s task me c).place).there ≡ Ok what
     → payload_found s c (target_in (about_of s task me c).place what) ≡ ((about_of s task me c).row what).payload
 payload_row s task me (call.Kldload name) m there = ap (slot s.numbers) (named_so errno.Enoent (module_named name) m there)
 payload_row s task me (call.UgidfwAdd rule) asked there =
-    ap (added s.specs) (set_so s (not (nat_eq (cred_at s.objects me).uid 0)) (Some modules.Bsdextended) (Some (RuleAdd rule)) asked there)
+    ap (rule_added s.specs) (set_so s (not (nat_eq (cred_at s.objects me).uid 0)) (Some modules.Bsdextended) (Some (RuleAdd rule)) asked there)
 payload_row s task me other what there = refl
 
-module _ (s : State) (task : List ℕ) (me : Id) (c : Call) (found : Found) (is : IsFound s task me c found) where
+module _ (s : State) (task : List ℕ) (me : Id) (c : Call) (found : Found) (is : IsAbout s task me c found) where
   pub effect_is : is_change c ≡ false → effect_found s task me c found.target found.request ≡ (row_for s task c me).effect
   effect_is entry =
       ap (λ (target : Option Id). effect_found s task me c target found.request) is.target

@@ -6,7 +6,7 @@ use Rattle.mf_plan.specs.declared.found.Found.{Found}
 use Rattle.mf_plan.specs.declared.state.State.{State}
 use Rattle.mf_plan.specs.Effect.{Effect}
 use Rattle.mf_plan.specs.Effect.Effect.{Make}
-use Rattle.mf_plan.specs.Found.{AreFound, IsFound}
+use Rattle.mf_plan.specs.Found.{AreFound, IsAbout}
 use Rattle.mf_plan.specs.Names.{caller_name}
 use Rattle.mf_plan.specs.Views.{process_named}
 use Rattle.mf_perform.specs.Effect.{after}
@@ -29,7 +29,7 @@ call_keeps (Err error) s s' me e ok err = subst (Keeps s) (sym err) (record { ne
 -- the process that was found makes the call
 pub record Makes (s : State) (task : List ℕ) (child : Option (List ℕ)) (c : Call) (found : Found) (me : Id) : Type 0 where
   pub named : process_named s.objects (caller_name task child) ≡ Some me
-  pub is : IsFound s task me c found
+  pub is : IsAbout s task me c found
 
 pub makes : (s : State) (task : List ℕ) (child : Option (List ℕ)) (c : Call) (found : Found) (me : Id) → AreFound s task child c found → found.caller ≡ Some me
     → Makes s task child c found me

@@ -1,7 +1,7 @@
 -- What a call that may be done asks of the list of policies: a module that may be loaded, or unloaded, or a setting.
 use Rattle.std.proofs.Common.{◌≡◌, ℕ, ◌<◌, ◌&&◌, Bool, true, false, not, List, [], Option, Some, None, option_map, Ok, Err, refl, ap, sym, ◌∙◌, if◌then◌else◌}
 use Rattle.std.proofs.lemmas.Bool.{leb-false}
-use Rattle.std.specs.Option.{option_map_or, option_zip}
+use Rattle.std.specs.Option.{option_map_or, option_zip, ok_or}
 use Rattle.std.specs.Prelude.{nat_eq, nat_le, codes, IfSome}
 use Rattle.std.specs.Str.{bytes_eq}
 use Rattle.mf_errno.specs.Names.{module_named}
@@ -26,8 +26,8 @@ use Rattle.mf_plan.specs.Effect.{Effect}
 use Rattle.mf_plan.specs.Effect.Effect.{Load, Unload, Set}
 use Rattle.mf_plan.specs.Loading.{load_refusal, unload_refusal}
 use Rattle.mf_plan.specs.Plan.{row_for}
-use Rattle.mf_plan.specs.Payloads.{rule_number}
-use Rattle.mf_plan.specs.Row.{Row, changes, gives, refuse_by, through}
+use Rattle.mf_plan.specs.declared.reply.Payload.TheVariants as payload
+use Rattle.mf_plan.specs.Row.{Row, changes, refuse_by, through, returns}
 use Rattle.mf_plan.specs.Rows.{about_of}
 use Rattle.mf_plan.specs.Settings.{switch, sysctl_module, unless_success}
 use Rattle.mf_policy.specs.Settings.{change_in}
@@ -35,8 +35,9 @@ use Rattle.mf_calls.specs.Tasks.{is_change}
 use Rattle.mf_perform.specs.declared.relisting.Relisting.{Relisting}
 use Rattle.mf_perform.specs.declared.relisting.Relisting.TheVariants.{Load as ToLoad, Unload as ToUnload, Set as ToSet}
 use Rattle.mf_perform.specs.Relisting.{effect_in, relisting_at, SetsDynamic}
-use Rattle.mf_plan.specs.Ways.{At, go_on, or_fail, setting_found, straight}
+use Rattle.mf_plan.specs.Ways.{At, setting_found, straight}
 use Rattle.mf_plan.specs.Ways.Place.{Setting}
+use Rattle.mf_text.specs.Results.{and_then}
 
 -- What an effect needs of the list
 
@@ -84,8 +85,8 @@ told_setting None = refl
 told_setting (Some asked) = refl
 
 found_module : (checks : List Check) (row : Module → Row) (effect : Module → Effect) → ((m : Module) → (row m).effect ≡ effect m) → (found : Option Module)
-    → (through (record { checks = checks; there = or_fail errno.Enoent found }) row).tail ≡ Do
-    → option_map effect found ≡ Some (through (record { checks = checks; there = or_fail errno.Enoent found }) row).effect
+    → (through (record { checks = checks; there = ok_or found errno.Enoent }) row).tail ≡ Do
+    → option_map effect found ≡ Some (through (record { checks = checks; there = ok_or found errno.Enoent }) row).effect
 found_module checks row effect same None done = cc
 found_module checks row effect same (Some m) done = ap (λ (e : Effect). Some e) (sym (same m))
 
@@ -97,19 +98,19 @@ module _ (s : State) (me : Id) (rest : Module × Change → Row) (same : (asked 
   to_set asked = Set asked.0 asked.1
 
   by_listed : (b : Bool) (m : Module) (change : Option Change)
-      → (through (straight (if not b then Err errno.Enoent else go_on (or_fail errno.Einval change) (λ change. Ok (m, change)))) set_row).tail ≡ Do
+      → (through (straight (if not b then Err errno.Enoent else and_then (ok_or change errno.Einval) (λ change. Ok (m, change)))) set_row).tail ≡ Do
       → option_map to_set (option_zip (Some m) change)
-      ≡ Some (through (straight (if not b then Err errno.Enoent else go_on (or_fail errno.Einval change) (λ change. Ok (m, change)))) set_row).effect
+      ≡ Some (through (straight (if not b then Err errno.Enoent else and_then (ok_or change errno.Einval) (λ change. Ok (m, change)))) set_row).effect
   by_listed true m (Some change) done = ap (λ (e : Effect). Some e) (sym (same (m, change)))
   by_listed true m None done = cc
   by_listed false m change done = cc
 
   by_root : (b : Bool) (m : Option Module) (change : Option Change)
       → (through (straight (if b then Err errno.Eperm else
-      go_on (or_fail errno.Enoent m) (λ m. if not (is_listed m s.specs) then Err errno.Enoent else go_on (or_fail errno.Einval change) (λ change. Ok (m, change))))) set_row).tail ≡ Do
+      and_then (ok_or m errno.Enoent) (λ m. if not (is_listed m s.specs) then Err errno.Enoent else and_then (ok_or change errno.Einval) (λ change. Ok (m, change))))) set_row).tail ≡ Do
       → option_map to_set (option_zip m change)
       ≡ Some (through (straight (if b then Err errno.Eperm else
-      go_on (or_fail errno.Enoent m) (λ m. if not (is_listed m s.specs) then Err errno.Enoent else go_on (or_fail errno.Einval change) (λ change. Ok (m, change))))) set_row).effect
+      and_then (ok_or m errno.Enoent) (λ m. if not (is_listed m s.specs) then Err errno.Enoent else and_then (ok_or change errno.Einval) (λ change. Ok (m, change))))) set_row).effect
   by_root false (Some m) change done = by_listed (is_listed m s.specs) m change done
   by_root false None change done = cc
   by_root true m change done = cc
@@ -128,7 +129,7 @@ relisting_is s task me (call.Kldunload name) change done =
 relisting_is s task me (call.Sysctl name value) change done =
     set_there s me (λ asked. changes (Set asked.0 asked.1)) (λ asked. refl) (sysctl_module name) (option_map FirstMatch (switch value)) done
 relisting_is s task me (call.UgidfwAdd rule) change done =
-    set_there s me (λ asked. gives (rule_number (change_in asked.0 asked.1 s.specs).0.number) (Set asked.0 asked.1)) (λ asked. refl) (Some modules.Bsdextended) (Some (RuleAdd rule)) done
+    set_there s me (λ asked. returns (option_map_or payload.Rule (change_in asked.0 asked.1 s.specs).0.number payload.None) (Set asked.0 asked.1)) (λ asked. refl) (Some modules.Bsdextended) (Some (RuleAdd rule)) done
 relisting_is s task me (call.UgidfwSet n rule) change done =
     set_there s me (λ asked. changes (Set asked.0 asked.1)) (λ asked. refl) (Some modules.Bsdextended) (Some (RuleSet n rule)) done
 relisting_is s task me (call.UgidfwRemove n) change done =

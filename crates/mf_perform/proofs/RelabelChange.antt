@@ -3,7 +3,7 @@
 use Rattle.std.proofs.Common.{◌≡◌, ℕ, Bool, true, false, cond, List, [], ◌∷◌, ◌++◌, Option, Some, None, Result, Ok, Err, map, refl, ap, sym, ◌∙◌, subst, if◌then◌else◌}
 use Rattle.std.specs.Prelude.{find, option_and_then, IfSome}
 use Rattle.std.specs.List.{AllByRecursion}
-use Rattle.std.specs.Option.{option_map_or}
+use Rattle.std.specs.Option.{option_map_or, ok_or}
 use Rattle.std.proofs.lemmas.List.{map-append}
 use Rattle.mf_elem.specs.declared.label.Request.{Request}
 use Rattle.mf_item.specs.declared.operation.CheckOp.{CheckOp}
@@ -28,16 +28,17 @@ use Rattle.mf_plan.specs.Planned.{Plan}
 use Rattle.mf_errno.specs.declared.errno.Errno.{Errno}
 use Rattle.mf_errno.specs.declared.errno.Errno.TheVariants as errno
 use Rattle.mf_plan.specs.declared.outline.Check.{Check}
-use Rattle.mf_plan.specs.Checks.{alone, on}
-use Rattle.mf_plan.specs.Effect.{relabelled_by, request_of}
+use Rattle.mf_plan.specs.Checks.{on, by_itself}
+use Rattle.mf_plan.specs.Effect.{relabelled_by}
 use Rattle.mf_plan.specs.Outline.{is_relabel, item_asking}
-use Rattle.mf_plan.specs.Plan.{plan_in, row_by}
+use Rattle.mf_plan.specs.Plan.{plan_in}
 use Rattle.mf_plan.specs.Relabels.{claimed_in, if_claimed}
 use Rattle.mf_plan.specs.Row.{through}
 use Rattle.mf_plan.specs.Rows.{about_of}
 use Rattle.mf_plan.specs.Views.{object_of, process_named}
-use Rattle.mf_plan.specs.Ways.{At, look_up, or_fail, then_way, with_first}
+use Rattle.mf_plan.specs.Ways.{At, then_way, way_to, carrying}
 use Rattle.mf_plan.specs.Ways.Place.{File, Named}
+use Rattle.mf_plan.proofs.Finding.{asked_of, row_by}
 use Rattle.mf_perform.specs.Effect.{with_objects, with_request}
 use Rattle.mf_perform.proofs.Allowed.{IsAllowed}
 use Rattle.mf_perform.proofs.Allowed.AsksFor.{of_itself, of_object}
@@ -92,7 +93,7 @@ pub record MayBeDone (specs : List Entry) (plan : Plan) : Type 0 where
 
 -- what a text asks was claimed, and what it is asked for was found
 asked_there : {B : Type 0} (request : Option Request) (checks : List Check) (there : Result B Errno) (what : Request × B)
-    → (then_way (or_fail errno.Einval request) (λ r. with_first r (record { checks = checks; there = there }))).there ≡ Ok what
+    → (then_way (ok_or request errno.Einval) (λ r. carrying r (record { checks = checks; there = there }))).there ≡ Ok what
     → (request ≡ Some what.0) × (there ≡ Ok what.1)
 asked_there {B} (Some r) checks (Ok b) what is =
     let same : (r, b) ≡ what = cc in
@@ -113,7 +114,7 @@ module _ (s : State) (caller : Id) (me : HasKind is_process s.objects caller) wh
 
   -- the caller's own label
   own_made : (text : List ℕ) (request : Request) (id : Id) (before : List Check) → claimed_in s.specs kinds.Process text ≡ Some request → caller ≡ id
-      → AllByRecursion (IsGranted s.specs) (seen_with (Some request) (before ++ alone caller op.CredRelabel ∷ [])) → RelabelMade s (Some (id, request))
+      → AllByRecursion (IsGranted s.specs) (seen_with (Some request) (before ++ by_itself caller op.CredRelabel ∷ [])) → RelabelMade s (Some (id, request))
   unfolding item_asking
   own_made text request id before claimed same granted =
       let kind : kind_of me.entity.what ≡ kinds.Process = process_kind me.entity.what me.passes in
@@ -121,10 +122,10 @@ module _ (s : State) (caller : Id) (me : HasKind is_process s.objects caller) wh
       (record {
         spelled = claimed_request s.specs kinds.Process text request claimed;
         claimed = ap (λ (k : Kind). is_claimed s.specs k request) kind ∙ claim_of s.specs kinds.Process text request claimed;
-        item = item_asking s.objects (Some request) (alone caller op.CredRelabel);
+        item = item_asking s.objects (Some request) (by_itself caller op.CredRelabel);
         asked = refl;
         asks = of_itself kind refl (ap label_of me.live);
-        granted = check_granted request before (alone caller op.CredRelabel) granted;
+        granted = check_granted request before (by_itself caller op.CredRelabel) granted;
       })
 
   -- the label of another entity, which has the kind of the call where it lives
@@ -166,38 +167,38 @@ named_kind test kind is_kind o name rooted id e found live =
 
 module _ (s : State) (task : List ℕ) (caller : Id) (rooted : IsRooted s.objects) (me : HasKind is_process s.objects caller) where
   named_has : (e : Errno) (test : EntityData → Bool) (kind : Kind) → ((what : EntityData) → test what ≡ true → kind_of what ≡ kind) → (name : List ℕ) (id : Id)
-      → or_fail e (id_of (live_named test s.objects name)) ≡ Ok id → (x : LiveEntity) → live_at s.objects id ≡ Some x → kind_of x.what ≡ kind
+      → ok_or (id_of (live_named test s.objects name)) e ≡ Ok id → (x : LiveEntity) → live_at s.objects id ≡ Some x → kind_of x.what ≡ kind
   named_has e test kind is_kind name id there x live = one (id_of (live_named test s.objects name)) refl there
     where
-      one : (holder : Option Id) → id_of (live_named test s.objects name) ≡ holder → or_fail e holder ≡ Ok id → kind_of x.what ≡ kind
+      one : (holder : Option Id) → id_of (live_named test s.objects name) ≡ holder → ok_or holder e ≡ Ok id → kind_of x.what ≡ kind
       one None is there = cc
       one (Some found) is there =
           let same : found ≡ id = cc in
           named_kind test kind is_kind s.objects name rooted id x (is ∙ ap Some same) live
 
-  call_made : (c : Call) (what : At (about_of s task caller c).place) → (look_up s caller (about_of s task caller c).place).there ≡ Ok what
+  call_made : (c : Call) (what : At (about_of s task caller c).place) → (way_to s caller (about_of s task caller c).place).there ≡ Ok what
       → (before : List Check)
-      → AllByRecursion (IsGranted s.specs) (map (item_asking s.objects (request_of ((about_of s task caller c).row what).effect)) (before ++ ((about_of s task caller c).row what).checks))
+      → AllByRecursion (IsGranted s.specs) (map (item_asking s.objects (asked_of ((about_of s task caller c).row what).effect)) (before ++ ((about_of s task caller c).row what).checks))
       → RelabelMade s (relabelled_by ((about_of s task caller c).row what).effect)
   call_made (call.Setpmac text) what there before granted =
       let asked = asked_there (claimed_in s.specs kinds.Process text) [] (Ok caller) what there in
       let same : caller ≡ what.1 = cc asked.1 in
       own_made s caller me text what.0 what.1 before asked.0 same granted
   call_made (call.Setfmac text path) what there before granted =
-      let asked = asked_there (claimed_in s.specs kinds.Vnode text) (look_up s caller (File path)).checks (look_up s caller (File path)).there what there in
+      let asked = asked_there (claimed_in s.specs kinds.Vnode text) (way_to s caller (File path)).checks (way_to s caller (File path)).there what there in
       object_made s caller me kinds.Vnode op.VnodeRelabel refl refl (λ same. cc) text what.0 what.1 before asked.0
       (λ e live. vnode_kind e.what (file_kind s.objects rooted path what.1 e asked.1 live)) granted
   call_made (call.Setpipemac text name) what there before granted =
-      let asked = asked_there (claimed_in s.specs kinds.Pipe text) [] (look_up s caller (Named kinds.Pipe name)).there what there in
+      let asked = asked_there (claimed_in s.specs kinds.Pipe text) [] (way_to s caller (Named kinds.Pipe name)).there what there in
       object_made s caller me kinds.Pipe op.PipeRelabel refl refl (λ same. cc) text what.0 what.1 before asked.0
       (named_has errno.Enoent is_pipe kinds.Pipe pipe_kind name what.1 asked.1) granted
   call_made (call.Setsockmac text name) what there before granted =
-      let asked = asked_there (claimed_in s.specs kinds.Socket text) [] (look_up s caller (Named kinds.Socket name)).there what there in
+      let asked = asked_there (claimed_in s.specs kinds.Socket text) [] (way_to s caller (Named kinds.Socket name)).there what there in
       object_made s caller me kinds.Socket op.SocketRelabel refl refl (λ same. cc) text what.0 what.1 before asked.0
       (named_has errno.Enoent is_socket kinds.Socket socket_kind name what.1 asked.1) granted
   call_made other what there before granted = no_change refl
 
-  row_made : (c : Call) (checks : List Check) (there : Result (At (about_of s task caller c).place) Errno) → (look_up s caller (about_of s task caller c).place).there ≡ there
+  row_made : (c : Call) (checks : List Check) (there : Result (At (about_of s task caller c).place) Errno) → (way_to s caller (about_of s task caller c).place).there ≡ there
       → MayBeDone s.specs (plan_in s (through (record { checks = checks; there = there }) (about_of s task caller c).row))
       → RelabelMade s (relabelled_by (through (record { checks = checks; there = there }) (about_of s task caller c).row).effect)
   row_made c checks (Ok what) is may = call_made c what is checks may.granted
@@ -209,4 +210,4 @@ pub relabel_made : (s : State) (task name : List ℕ) (c : Call) (caller : Optio
 relabel_made s task name c None found rooted may = cc may.proceeds
 relabel_made s task name c (Some caller) found rooted may =
     let place = (about_of s task caller c).place in
-    row_made s task caller rooted (named_process s.objects name caller found rooted.rising) c (look_up s caller place).checks (look_up s caller place).there refl may
+    row_made s task caller rooted (named_process s.objects name caller found rooted.rising) c (way_to s caller place).checks (way_to s caller place).there refl may

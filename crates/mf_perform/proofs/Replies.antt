@@ -7,10 +7,10 @@ use Rattle.mf_plan.specs.declared.reply.Payload.{Payload}
 use Rattle.mf_plan.specs.declared.reply.Payload.TheVariants as payload
 use Rattle.mf_plan.specs.declared.reply.Reply.TheVariants as reply
 use Rattle.mf_perform.specs.declared.verdict.Denial.{Denial}
-use Rattle.mf_perform.specs.Reply.{denied_reply, tail_reply}
+use Rattle.mf_perform.specs.Reply.{tail_reply, reply_to}
 
 -- a call that nothing refuses may be done
-pub may_proceed : (plan : Plan) (denied : Option Denial) → ((p : Payload) → denied_reply plan denied p ≡ reply.Ok p) → plan.tail ≡ Do
+pub may_proceed : (plan : Plan) (denied : Option Denial) → ((p : Payload) → reply_to plan denied p ≡ reply.Ok p) → plan.tail ≡ Do
 may_proceed plan None done = by_tail plan.tail (done payload.None)
   where
     by_tail : (tail : Tail) → tail_reply tail payload.None ≡ reply.Ok payload.None → tail ≡ Do

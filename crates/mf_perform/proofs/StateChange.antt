@@ -1,6 +1,7 @@
 -- How a call changes the state: not at all; one entity is made, one changed, some removed; a module is loaded, or unloaded; a setting is
 -- changed.
 use Rattle.std.proofs.Common.{◌≡◌, ℕ, Bool, true, false, cond, not, List, Option, Some, None, Result, Ok, Err, drop, refl, ap, sym, ◌∙◌}
+use Rattle.std.specs.Option.{option_map_or}
 use Rattle.mf_errno.specs.declared.errno.Errno.{Errno}
 use Rattle.mf_errno.specs.declared.module.Module.{Module}
 use Rattle.mf_elem.specs.declared.label.Request.{Request}
@@ -28,16 +29,17 @@ use Rattle.mf_plan.specs.declared.state.State.{State}
 use Rattle.mf_plan.specs.Effect.{Effect, relabelled_by}
 use Rattle.mf_plan.specs.Effect.Effect.{Unchanged, Make, Append, Deliver, Empty, Receive, SetMode, Unlink, End, Relabel, Load, Unload, Set}
 use Rattle.mf_plan.specs.Names.{caller_name}
-use Rattle.mf_plan.specs.Plan.{plan_of, row_by, row_for, call_row}
+use Rattle.mf_plan.specs.Plan.{plan_of, row_for, call_row}
 use Rattle.mf_plan.specs.Row.{through}
 use Rattle.mf_plan.specs.Rows.{about_of}
 use Rattle.mf_plan.specs.Views.{process_named}
-use Rattle.mf_plan.specs.Ways.{At, look_up}
+use Rattle.mf_plan.specs.Ways.{At, way_to}
+use Rattle.mf_plan.proofs.Finding.{row_by}
 use Rattle.mf_perform.specs.declared.verdict.Denial.{Denial}
 use Rattle.mf_perform.specs.Verdict.{verdict_of}
-use Rattle.mf_perform.specs.Reply.{tail_reply, denied_reply}
+use Rattle.mf_perform.specs.Reply.{tail_reply, reply_to}
 use Rattle.mf_perform.specs.Effect.{after, with_objects, with_created, with_request}
-use Rattle.mf_perform.specs.OneCall.{performed_by, performed, after_reply, call_payload, call_reply, call_state}
+use Rattle.mf_perform.specs.OneCall.{performed, after_reply, call_reply, call_state}
 use Rattle.mf_perform.proofs.Allowed.{IsAllowed}
 use Rattle.mf_perform.proofs.Granted.{all_granted}
 use Rattle.mf_perform.proofs.Loads.{SuitsList, suits_list}
@@ -135,6 +137,10 @@ by_effect by s me (Set m change) made suits asked relabel = set_to m change refl
 
 -- The effect of a call that may be done
 
+-- the state after the call by who makes it, if somebody does
+abbrev pub performed_by : State → List ℕ → Call → Option Id → State
+performed_by s task c caller = option_map_or (λ me. after s me (row_for s task c me).effect) caller s
+
 -- what suits each row of a call suits its effect
 pub suits_row : (s : State) (task : List ℕ) (me : Id) (c : Call) (checks : List Check) (there : Result (At (about_of s task me c).place) Errno)
     → (through (record { checks = checks; there = there }) (about_of s task me c).row).tail ≡ Do
@@ -154,7 +160,7 @@ by_caller : (by : Deed) (s : State) (task name : List ℕ) (c : Call) (caller : 
     → StateChange by s (performed_by s task c caller)
 by_caller by s task name c None own found rising done asked relabel = same refl
 by_caller by s task name c (Some me) own found rising done asked relabel =
-    let way = look_up s me (about_of s task me c).place in
+    let way = way_to s me (about_of s task me c).place in
     by_effect by s me (row_for s task c me).effect (made_by by s name me own found rising) (suits_row s task me c way.checks way.there done) asked relabel
 
 -- a call that is refused or denied changes nothing, and asks nothing of a label
@@ -169,7 +175,7 @@ module _ (s done : State) (caller : Option Id) (asked : Option (Id × Request)) 
   tail_change (Refuse errno) may = same refl
 
   reply_change : (plan : Plan) (denied : Option Denial) → (plan.tail ≡ Do → denied ≡ None → StateChange (record { caller = caller; asked = asked }) s done)
-      → StateChange (by_reply (denied_reply plan denied p)) s (after_reply (denied_reply plan denied p) s done)
+      → StateChange (by_reply (reply_to plan denied p)) s (after_reply (reply_to plan denied p) s done)
   reply_change plan None may = tail_change plan.tail (λ proceeds. may proceeds refl)
   reply_change plan (Some denial) may = same refl
 
@@ -186,7 +192,7 @@ step_by s task child c =
 pub step_change : (s : State) (task : List ℕ) (child : Option (List ℕ)) (c : Call) → IsRooted s.objects
     → StateChange (step_by s task child c) s (call_state s task child c)
 step_change s task child c rooted =
-    reply_change s (performed s task child c) caller asked (call_payload s task child c) plan (verdict_of s.specs plan).denied
+    reply_change s (performed s task child c) caller asked (call_row s task child c).payload plan (verdict_of s.specs plan).denied
     (λ proceeds none.
     by_caller by s task (caller_name task child) c caller refl refl rooted.rising proceeds refl
     (relabel_made s task (caller_name task child) c caller refl rooted (record { proceeds = proceeds; granted = all_granted s.specs plan none })))

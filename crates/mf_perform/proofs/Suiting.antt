@@ -1,7 +1,7 @@
 -- By place what is found lives and is as the place says; and by call what a call that may be done changes suits its change.
 use Rattle.std.proofs.Common.{◌≡◌, ◌≢◌, ℕ, Bool, true, false, List, Option, Some, None, IsSome, is_some, option_map, length, Result, Ok, Err, refl, ap, sym, subst, ◌∙◌, if◌then◌else◌, arith}
-use Rattle.std.specs.Prelude.{find, IfSome}
-use Rattle.std.specs.Option.{option_map_or}
+use Rattle.std.specs.Prelude.{◌==◌, find, nat_le, nat_lt, IfSome}
+use Rattle.std.specs.Option.{option_map_or, ok_or}
 use Rattle.std.proofs.lemmas.Bool.{eqb-false, leb-false, ltb-false}
 use Rattle.mf_errno.specs.declared.errno.Errno.{Errno}
 use Rattle.mf_errno.specs.declared.errno.Errno.TheVariants as errno
@@ -11,10 +11,10 @@ use Rattle.mf_item.specs.declared.operation.CheckOp.TheVariants as op
 use Rattle.mf_item.specs.declared.view.Kind.{Kind}
 use Rattle.mf_item.specs.declared.view.Kind.TheVariants as kinds
 use Rattle.mf_names.specs.declared.limits.TheConstants.{CONTENT_LIMIT}
-use Rattle.mf_objects.specs.declared.limits.TheConstants.{PIPE_LIMIT}
+use Rattle.mf_objects.specs.declared.limits.TheConstants.{MOST_ENTITIES, MOST_MESSAGES, PIPE_LIMIT}
 use Rattle.mf_objects.specs.declared.id.Id.{Id}
 use Rattle.mf_objects.specs.declared.entity.EntityData.{EntityData}
-use Rattle.mf_objects.specs.Live.{LiveEntity, Entities, id_of, is_one_named, is_entry, is_pipe, is_process, is_socket, live_at, live_named}
+use Rattle.mf_objects.specs.Live.{LiveEntity, Entities, count_at, id_of, is_one_named, is_entry, is_pipe, is_process, is_socket, live_at, live_named}
 use Rattle.mf_objects.specs.Lives.{IsLive, is_directory, is_vnode}
 use Rattle.mf_objects.specs.Population.{IsPopulation}
 use Rattle.mf_objects.proofs.Laws.{fits_file, fits_pipe, fits_message, has_message, vnode_count}
@@ -32,14 +32,15 @@ use Rattle.mf_plan.specs.Names.{caller_name}
 use Rattle.mf_plan.specs.Plan.{row_for}
 use Rattle.mf_plan.specs.Path.{last_name}
 use Rattle.mf_plan.specs.Relabels.{claimed_in}
-use Rattle.mf_plan.specs.Views.{is_dir, is_full, has_entries, overfills, is_empty_socket, is_full_socket, pipe_named, process_named, socket_named}
+use Rattle.mf_plan.specs.Views.{is_dir, overfills, process_named, entity_named}
 use Rattle.mf_perform.proofs.Rooted.{named_lives}
 use Rattle.mf_perform.proofs.Leading.{caller_lives, dir_lives, file_lives, removable_lives, some_live}
 use Rattle.mf_perform.specs.Suits.{Suits}
 use Rattle.mf_plan.specs.Ways.Place.{Asking, Caller, Entry, File, Free, Named, Sockets, Unused}
-use Rattle.mf_plan.specs.Ways.{At, Place, asking, look_up, or_fail, straight, go_on, then_way, with_first, target_in}
+use Rattle.mf_plan.specs.Ways.{At, Place, asking, straight, then_way, target_in, way_to, carrying}
 use Rattle.mf_plan.specs.Row.{Row, through}
 use Rattle.mf_plan.specs.Rows.{about_of}
+use Rattle.mf_text.specs.Results.{and_then}
 
 -- By place: what is found there lives, and is of the kind.
 
@@ -62,7 +63,7 @@ Holds o (Sockets from to) ends = IsLive is_socket o ends.1
 Holds o (Asking kind text place) asked = Holds o place asked.1
 Holds o other found = Unit {0}
 
-found_so : {A : Type 0} (P : A → Type 0) (e : Errno) (holder : Option A) (a : A) → IfSome holder P → or_fail e holder ≡ Ok a → P a
+found_so : {A : Type 0} (P : A → Type 0) (e : Errno) (holder : Option A) (a : A) → IfSome holder P → ok_or holder e ≡ Ok a → P a
 found_so P e None a holds is = cc
 found_so P e (Some x) a holds is = let same : x ≡ a = cc in subst P same holds
 
@@ -80,30 +81,30 @@ no_errno errno (Some f) none = cc
 
 module _ (s : State) (me : Id) (population : IsPopulation s.objects) (lives : IsLive is_process s.objects me) where
   sockets_so : (from to : Option Id) (ends : Id × Id) → IfSome to (λ id. IsLive is_socket s.objects id)
-      → (then_way (or_fail errno.Enoent from) (λ from. straight (go_on (or_fail errno.Enoent to) (λ to. Ok (from, to))))).there ≡ Ok ends
+      → (then_way (ok_or from errno.Enoent) (λ from. straight (and_then (ok_or to errno.Enoent) (λ to. Ok (from, to))))).there ≡ Ok ends
       → IsLive is_socket s.objects ends.1
   sockets_so (Some from) (Some to) ends holds is = let same : to ≡ ends.1 = cc in subst (λ (id : Id). IsLive is_socket s.objects id) same holds
   sockets_so (Some from) None ends holds is = cc
   sockets_so None to ends holds is = cc
 
   same_there : (from to : Option Id) (ends : Id × Id)
-      → (then_way (or_fail errno.Enoent from) (λ from. asking (on me op.SocketSend from) (straight (go_on (or_fail errno.Enoent to) (λ to. Ok (from, to)))))).there ≡ Ok ends
-      → (then_way (or_fail errno.Enoent from) (λ from. straight (go_on (or_fail errno.Enoent to) (λ to. Ok (from, to))))).there ≡ Ok ends
+      → (then_way (ok_or from errno.Enoent) (λ from. asking (on me op.SocketSend from) (straight (and_then (ok_or to errno.Enoent) (λ to. Ok (from, to)))))).there ≡ Ok ends
+      → (then_way (ok_or from errno.Enoent) (λ from. straight (and_then (ok_or to errno.Enoent) (λ to. Ok (from, to))))).there ≡ Ok ends
   same_there (Some from) to ends is = is
   same_there None to ends is = cc
 
-  asked_holds : (place : Place) → ((b : At place) → (look_up s me place).there ≡ Ok b → Holds s.objects place b) → (request : Option Request) (checks : List Check) (there : Result (At place) Errno) (found : Request × At place) → (look_up s me place).there ≡ there
-      → (then_way (or_fail errno.Einval request) (λ r. with_first r (record { checks = checks; there = there }))).there ≡ Ok found → Holds s.objects place found.1
+  asked_holds : (place : Place) → ((b : At place) → (way_to s me place).there ≡ Ok b → Holds s.objects place b) → (request : Option Request) (checks : List Check) (there : Result (At place) Errno) (found : Request × At place) → (way_to s me place).there ≡ there
+      → (then_way (ok_or request errno.Einval) (λ r. carrying r (record { checks = checks; there = there }))).there ≡ Ok found → Holds s.objects place found.1
   asked_holds place here (Some r) checks (Ok b) found at is = let same : b ≡ found.1 = cc in here found.1 (at ∙ ap Ok same)
   asked_holds place here (Some r) checks (Err e) found at is = cc
   asked_holds place here None checks there found at is = cc
 
-  place_holds : (place : Place) (found : At place) → (look_up s me place).there ≡ Ok found → Holds s.objects place found
+  place_holds : (place : Place) (found : At place) → (way_to s me place).there ≡ Ok found → Holds s.objects place found
   place_holds Caller id is = let same : me ≡ id = cc in subst (λ (x : Id). IsLive is_process s.objects x) same lives
   place_holds (Named kinds.Process name) id is = found_so (λ x. IsLive is_process s.objects x) errno.Esrch (process_named s.objects name) id (named_lives is_process s.objects name population.rising) is
   place_holds (Named kinds.Vnode name) id is = cc
-  place_holds (Named kinds.Pipe name) id is = found_so (λ x. IsLive is_pipe s.objects x) errno.Enoent (pipe_named s.objects name) id (named_lives is_pipe s.objects name population.rising) is
-  place_holds (Named kinds.Socket name) id is = found_so (λ x. IsLive is_socket s.objects x) errno.Enoent (socket_named s.objects name) id (named_lives is_socket s.objects name population.rising) is
+  place_holds (Named kinds.Pipe name) id is = found_so (λ x. IsLive is_pipe s.objects x) errno.Enoent (entity_named s.objects kinds.Pipe name) id (named_lives is_pipe s.objects name population.rising) is
+  place_holds (Named kinds.Socket name) id is = found_so (λ x. IsLive is_socket s.objects x) errno.Enoent (entity_named s.objects kinds.Socket name) id (named_lives is_socket s.objects name population.rising) is
   place_holds (Unused kinds.Process name) free is = none_held (live_named is_process s.objects name) free is
   place_holds (Unused kinds.Pipe name) free is = none_held (live_named is_pipe s.objects name) free is
   place_holds (Unused kinds.Socket name) free is = none_held (live_named is_socket s.objects name) free is
@@ -111,9 +112,9 @@ module _ (s : State) (me : Id) (population : IsPopulation s.objects) (lives : Is
   place_holds (Free path) dir is = dir_lives s.objects population path dir is
   place_holds (Entry path) entry is = removable_lives s.objects population path entry is
   place_holds (Sockets from to) ends is =
-      sockets_so (socket_named s.objects from) (socket_named s.objects to) ends (named_lives is_socket s.objects to population.rising)
-      (same_there (socket_named s.objects from) (socket_named s.objects to) ends is)
-  place_holds (Asking kind text place) found is = asked_holds place (place_holds place) (claimed_in s.specs kind text) (look_up s me place).checks (look_up s me place).there found refl is
+      sockets_so (entity_named s.objects kinds.Socket from) (entity_named s.objects kinds.Socket to) ends (named_lives is_socket s.objects to population.rising)
+      (same_there (entity_named s.objects kinds.Socket from) (entity_named s.objects kinds.Socket to) ends is)
+  place_holds (Asking kind text place) found is = asked_holds place (place_holds place) (claimed_in s.specs kind text) (way_to s me place).checks (way_to s me place).there found refl is
   place_holds other found is = tt
 
   -- so what is said of a row with what holds there is said of the call
@@ -133,23 +134,23 @@ module _ (s : State) (me : Id) (population : IsPopulation s.objects) (lives : Is
 
     -- The table: what suits, by the tests of the row and what holds at the place.
     row_suits : (c : Call) (found : At (about_of s task me c).place) → Holds s.objects (about_of s task me c).place found → (mine c found).tail ≡ Do → Suits s (mine c found).effect
-    row_suits (call.Fork child) free holds done = record { few = leb-false 1024 _ (passed (is_full s.objects) errno.Enfile Do done).0; free = holds }
-    row_suits (call.Pipe name) free holds done = record { few = leb-false 1024 _ (passed (is_full s.objects) errno.Enfile Do done).0; free = holds }
-    row_suits (call.Socket name) free holds done = record { few = leb-false 1024 _ (passed (is_full s.objects) errno.Enfile Do done).0; free = holds }
-    row_suits (call.Create path) dir holds done = record { few = leb-false 1024 _ (passed (is_full s.objects) errno.Enfile Do done).0; free = holds }
-    row_suits (call.Mkdir path) dir holds done = record { few = leb-false 1024 _ (passed (is_full s.objects) errno.Enfile Do done).0; free = holds }
+    row_suits (call.Fork child) free holds done = record { few = leb-false 1024 _ (passed (nat_le MOST_ENTITIES (length s.objects.live)) errno.Enfile Do done).0; free = holds }
+    row_suits (call.Pipe name) free holds done = record { few = leb-false 1024 _ (passed (nat_le MOST_ENTITIES (length s.objects.live)) errno.Enfile Do done).0; free = holds }
+    row_suits (call.Socket name) free holds done = record { few = leb-false 1024 _ (passed (nat_le MOST_ENTITIES (length s.objects.live)) errno.Enfile Do done).0; free = holds }
+    row_suits (call.Create path) dir holds done = record { few = leb-false 1024 _ (passed (nat_le MOST_ENTITIES (length s.objects.live)) errno.Enfile Do done).0; free = holds }
+    row_suits (call.Mkdir path) dir holds done = record { few = leb-false 1024 _ (passed (nat_le MOST_ENTITIES (length s.objects.live)) errno.Enfile Do done).0; free = holds }
     row_suits (call.Write path text) id holds done =
         let regular = passed (is_dir s.objects id) errno.Eisdir _ done in
         fits_file (length text) s.objects id holds regular.0 (ltb-false 65536 _ (passed (overfills CONTENT_LIMIT s.objects text id) errno.Efbig Do regular.1).0)
     row_suits (call.Chmod path mode) id holds done = holds
     row_suits (call.Unlink path) entry holds done =
-        let empty = (passed (has_entries s.objects entry.1) errno.Enotempty Do done).0 in
+        let empty = (passed (nat_lt 0 (count_at s.objects entry.1)) errno.Enotempty Do done).0 in
         record { vnode = holds.0; not_root = holds.1; empty = omega (arith, vnode_count s.objects entry.1 holds.0, ltb-false 0 _ empty) }
     row_suits (call.Pread name) id holds done = holds
     row_suits (call.Pwrite name text) id holds done = fits_pipe (length text) s.objects id holds (ltb-false 16384 _ (passed (overfills PIPE_LIMIT s.objects text id) errno.Eagain Do done).0)
-    row_suits (call.Send from to text) ends holds done = fits_message s.objects ends.1 holds (leb-false 16 _ (passed (is_full_socket s.objects ends.1) errno.Enobufs Do done).0)
+    row_suits (call.Send from to text) ends holds done = fits_message s.objects ends.1 holds (leb-false 16 _ (passed (nat_le MOST_MESSAGES (count_at s.objects ends.1)) errno.Enobufs Do done).0)
     row_suits (call.Recv name) id holds done =
-        has_message s.objects id holds (omega (arith, eqb-false _ 0 (passed (is_empty_socket s.objects id) errno.Eagain Do done).0))
+        has_message s.objects id holds (omega (arith, eqb-false _ 0 (passed (count_at s.objects id == 0) errno.Eagain Do done).0))
     row_suits (call.Setpmac text) asked holds done = some_live is_process s.objects asked.1 holds
     row_suits (call.Setfmac text path) asked holds done = some_live is_vnode s.objects asked.1 holds
     row_suits (call.Setpipemac text name) asked holds done = some_live is_pipe s.objects asked.1 holds
@@ -160,7 +161,7 @@ module _ (s : State) (me : Id) (population : IsPopulation s.objects) (lives : Is
 
     call_suits : (c : Call) → (row_for s task c me).tail ≡ Do → Suits s (row_for s task c me).effect
     call_suits c done =
-        by_row (look_up s me (about_of s task me c).place).checks (look_up s me (about_of s task me c).place).there (mine c)
+        by_row (way_to s me (about_of s task me c).place).checks (way_to s me (about_of s task me c).place).there (mine c)
         (λ found is there. row_suits c found (place_holds (about_of s task me c).place found is) there) done
 
 pub effect_suits : (s : State) (task : List ℕ) (me : Id) (c : Call) → IsPopulation s.objects → IsLive is_process s.objects me

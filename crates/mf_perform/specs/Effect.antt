@@ -60,11 +60,23 @@ takes_memory (Deliver id text) = true
 takes_memory (Relabel id request) = true
 takes_memory (Load m) = true
 takes_memory (Set m change) = true
-takes_memory other = false
+takes_memory Unchanged = false
+takes_memory (Empty id) = false
+takes_memory (Receive id) = false
+takes_memory (SetMode id mode) = false
+takes_memory (Unlink id) = false
+takes_memory (End id) = false
+takes_memory (Unload m) = false
 
 -- a label, and the listing of a directory or of the rules, take memory
 abbrev pub payload_takes_memory : Payload → Bool
 payload_takes_memory (payload.Label parts) = true
 payload_takes_memory (payload.Names count first) = true
 payload_takes_memory (payload.Rules rules) = true
-payload_takes_memory other = false
+payload_takes_memory payload.None = false
+payload_takes_memory (payload.Head head) = false
+payload_takes_memory (payload.Size size) = false
+payload_takes_memory (payload.Stat file size) = false
+payload_takes_memory (payload.Modules modules) = false
+payload_takes_memory (payload.Rule number) = false
+payload_takes_memory (payload.Slot slot) = false

@@ -1,21 +1,25 @@
 -- What a call gives and changes by what was found; inner contracts alone cite this.
+use Rattle.std.specs.List.{filter_map}
 use Rattle.std.specs.Option.{option_map_or, option_zip}
-use Rattle.std.specs.Prelude.{ℕ, Bool, true, false, List, [], map, Option, Some}
+use Rattle.std.specs.Prelude.{ℕ, Bool, true, false, List, [], filter, length, map, Option, Some}
 use Rattle.mf_cred.specs.declared.cred.TheConstants.{FILE_MODE, DIRECTORY_MODE}
 use Rattle.mf_errno.specs.Names.{module_named}
 use Rattle.mf_errno.specs.declared.module.Module.{Module}
 use Rattle.mf_errno.specs.declared.module.Module.TheVariants as modules
+use Rattle.mf_elem.specs.declared.label.LabelValue.{LabelValue}
 use Rattle.mf_elem.specs.declared.label.Request.{Request}
+use Rattle.mf_item.specs.declared.view.Kind.{Kind}
 use Rattle.mf_objects.specs.declared.id.Id.{Id}
 use Rattle.mf_objects.specs.Changes.{new_pipe, new_process, new_socket, new_vnode}
-use Rattle.mf_objects.specs.Live.{cred_at}
-use Rattle.mf_policy.specs.Modules.{wants_slot}
+use Rattle.mf_objects.specs.Live.{content_at, cred_at, file_at}
+use Rattle.mf_policy.specs.Modules.{labels_kind, wants_slot}
 use Rattle.mf_policy.specs.Registration.{Entry, slot_for}
 use Rattle.mf_policy.specs.Settings.{change_in, listed_rules}
 use Rattle.mf_policy.specs.declared.settings.Change.{Change}
 use Rattle.mf_policy.specs.declared.settings.Change.TheVariants.{RuleAdd}
 use Rattle.mf_calls.specs.declared.script.Call.{Call}
 use Rattle.mf_calls.specs.declared.script.Call.TheVariants as call
+use Rattle.mf_plan.specs.declared.reply.LabelPart.{LabelPart}
 use Rattle.mf_plan.specs.declared.reply.Payload.{Payload}
 use Rattle.mf_plan.specs.declared.reply.Payload.TheVariants as payload
 use Rattle.mf_plan.specs.declared.state.State.{State}
@@ -23,20 +27,20 @@ use Rattle.mf_plan.specs.Effect.{Effect}
 use Rattle.mf_plan.specs.Effect.Effect.{Unchanged, Make, Append, Deliver, Empty, Receive, SetMode, Unlink, End, Relabel}
 use Rattle.mf_plan.specs.Names.{child_name}
 use Rattle.mf_plan.specs.Path.{last_name}
-use Rattle.mf_plan.specs.Payloads.{head, label, loaded, message, names, rule_number, rules, size, stat}
+use Rattle.mf_plan.specs.Payloads.{head, label, label_part, loaded, message, names}
 use Rattle.mf_plan.specs.Rows.{new_file}
 
 -- Effects
 
 -- nothing changes where nothing was found
-abbrev pub at : (Id → Effect) → Option Id → Effect
-at change found = option_map_or change found Unchanged
+abbrev pub where_found : (Id → Effect) → Option Id → Effect
+where_found change found = option_map_or change found Unchanged
 
 abbrev pub relabelling : Option Id → Option Request → Effect
 relabelling found asked = option_map_or (λ asked. Relabel asked.0 asked.1) (option_zip found asked) Unchanged
 
 abbrev pub make_file : State → Id → List (List ℕ) → ℕ → Bool → Option Id → Effect
-make_file s me path mode is_dir found = at (λ dir. Make (last_name path) (new_vnode dir (new_file s.objects me dir mode is_dir) [])) found
+make_file s me path mode is_dir found = where_found (λ dir. Make (last_name path) (new_vnode dir (new_file s.objects me dir mode is_dir) [])) found
 
 -- what the call of an entry changes, by the target and the request that were found
 abbrev pub effect_found : State → List ℕ → Id → Call → Option Id → Option Request → Effect
@@ -45,17 +49,17 @@ effect_found s task me call.Exit found asked = End me
 effect_found s task me (call.Setpmac label) found asked = relabelling found asked
 effect_found s task me (call.Create path) found asked = make_file s me path FILE_MODE false found
 effect_found s task me (call.Mkdir path) found asked = make_file s me path DIRECTORY_MODE true found
-effect_found s task me (call.Write path text) found asked = at (λ id. Append id text) found
+effect_found s task me (call.Write path text) found asked = where_found (λ id. Append id text) found
 effect_found s task me (call.Setfmac label path) found asked = relabelling found asked
-effect_found s task me (call.Chmod path mode) found asked = at (λ id. SetMode id mode) found
-effect_found s task me (call.Unlink path) found asked = at Unlink found
+effect_found s task me (call.Chmod path mode) found asked = where_found (λ id. SetMode id mode) found
+effect_found s task me (call.Unlink path) found asked = where_found Unlink found
 effect_found s task me (call.Pipe name) found asked = Make name (new_pipe me)
 effect_found s task me (call.Socket name) found asked = Make name (new_socket me)
-effect_found s task me (call.Pread name) found asked = at Empty found
-effect_found s task me (call.Pwrite name text) found asked = at (λ id. Append id text) found
+effect_found s task me (call.Pread name) found asked = where_found Empty found
+effect_found s task me (call.Pwrite name text) found asked = where_found (λ id. Append id text) found
 effect_found s task me (call.Setpipemac label name) found asked = relabelling found asked
-effect_found s task me (call.Send from to text) found asked = at (λ id. Deliver id text) found
-effect_found s task me (call.Recv name) found asked = at Receive found
+effect_found s task me (call.Send from to text) found asked = where_found (λ id. Deliver id text) found
+effect_found s task me (call.Recv name) found asked = where_found Receive found
 effect_found s task me (call.Setsockmac label name) found asked = relabelling found asked
 effect_found s task me (call.See name) found asked = Unchanged
 effect_found s task me (call.Signal name) found asked = Unchanged
@@ -86,28 +90,32 @@ effect_found s task me (call.UgidfwRemove n) found asked = Unchanged
 abbrev pub payload_of_found : {A : Type 0} → (A → Payload) → Option A → Payload
 payload_of_found read found = option_map_or read found payload.None
 
+-- the parts of a label that are of these modules
+abbrev pub parts_of : List Entry → Kind → List LabelValue → List Module → List LabelPart
+parts_of listed kind label modules = filter_map (label_part listed label) (filter (λ m. labels_kind m kind) modules)
+
 -- the slot that a module gets where so many numbers were given
 abbrev pub slot : ℕ → Option Module → Payload
 slot given wanted = payload_of_found (λ m. payload.Slot (slot_for (wants_slot m) given)) wanted
 
 -- the number of a rule that is added
-abbrev pub added : List Entry → Option (Module × Change) → Payload
-added listed asked = payload_of_found (λ asked. rule_number (change_in asked.0 asked.1 listed).0.number) asked
+abbrev pub rule_added : List Entry → Option (Module × Change) → Payload
+rule_added listed asked = payload_of_found (λ asked. option_map_or payload.Rule (change_in asked.0 asked.1 listed).0.number payload.None) asked
 
 -- what a call hands back, by the target that was found
 abbrev pub payload_found : State → Call → Option Id → Payload
 payload_found s call.Getpmac found = payload_of_found (label s) found
 payload_found s (call.Read path) found = payload_of_found (head s.objects) found
-payload_found s (call.Stat path) found = payload_of_found (stat s.objects) found
+payload_found s (call.Stat path) found = payload_of_found (λ id. payload.Stat (file_at s.objects id) (length (content_at s.objects id))) found
 payload_found s (call.Getfmac path) found = payload_of_found (label s) found
 payload_found s (call.Readdir path) found = payload_of_found (names s.objects) found
 payload_found s (call.Pread name) found = payload_of_found (head s.objects) found
-payload_found s (call.Pstat name) found = payload_of_found (size s.objects) found
+payload_found s (call.Pstat name) found = payload_of_found (λ id. payload.Size (length (content_at s.objects id))) found
 payload_found s (call.Recv name) found = payload_of_found (message s.objects) found
 payload_found s call.Kldstat found = payload.Modules (map loaded s.specs)
 payload_found s (call.Kldload name) found = slot s.numbers (module_named name)
-payload_found s call.UgidfwList found = rules (listed_rules s.specs)
-payload_found s (call.UgidfwAdd rule) found = added s.specs (Some (modules.Bsdextended, RuleAdd rule))
+payload_found s call.UgidfwList found = option_map_or payload.Rules (listed_rules s.specs) payload.None
+payload_found s (call.UgidfwAdd rule) found = rule_added s.specs (Some (modules.Bsdextended, RuleAdd rule))
 payload_found s (call.Fork child) found = payload.None
 payload_found s call.Exit found = payload.None
 payload_found s (call.See name) found = payload.None

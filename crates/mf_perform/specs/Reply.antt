@@ -10,7 +10,6 @@ use Rattle.mf_plan.specs.declared.reply.Payload.{Payload}
 use Rattle.mf_plan.specs.declared.reply.Reply.{Reply}
 use Rattle.mf_plan.specs.declared.reply.Reply.TheVariants as reply
 use Rattle.mf_perform.specs.declared.verdict.Denial.{Denial}
-use Rattle.mf_perform.specs.declared.verdict.Verdict.{Verdict}
 
 -- the operation of the check of that number, from 1
 abbrev pub op_at : List Item → ℕ → CheckOp
@@ -20,10 +19,7 @@ abbrev pub tail_reply : Tail → Payload → Reply
 tail_reply Do p = reply.Ok p
 tail_reply (Refuse errno) p = reply.Refused errno
 
-abbrev pub denied_reply : Plan → Option Denial → Payload → Reply
-denied_reply plan None p = tail_reply plan.tail p
-denied_reply plan (Some d) p = reply.Denied d.errno (op_at plan.items d.item) d.item d.by
-
 -- a denial first, then the framework's refusal, then the payload
-abbrev pub reply_to : Plan → Verdict → Payload → Reply
-reply_to plan verdict p = denied_reply plan verdict.denied p
+abbrev pub reply_to : Plan → Option Denial → Payload → Reply
+reply_to plan None p = tail_reply plan.tail p
+reply_to plan (Some d) p = reply.Denied d.errno (op_at plan.items d.item) d.item d.by

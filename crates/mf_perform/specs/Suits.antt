@@ -26,13 +26,13 @@ IsFree o (Pipe pipe) name = find (is_one_named is_pipe name) o.live ≡ None
 IsFree o (Socket socket) name = find (is_one_named is_socket name) o.live ≡ None
 
 -- one entity more finds room, and its name is free
-pub record HasRoom (o : Entities) (name : List ℕ) (what : EntityData) : Type 0 where
+pub record FindsRoom (o : Entities) (name : List ℕ) (what : EntityData) : Type 0 where
   pub few : length o.live < MOST_ENTITIES
   pub free : IsFree o what name
 
 -- The table.
 abbrev pub Suits : State → Effect → Type 0
-Suits s (Make name what) = HasRoom s.objects name what
+Suits s (Make name what) = FindsRoom s.objects name what
 Suits s (Append id text) = IsLiveWhere (FitsBytes (length text)) (live_at s.objects id)
 Suits s (Deliver id text) = IsLiveWhere FitsMessage (live_at s.objects id)
 Suits s (Empty id) = IsLive is_pipe s.objects id

@@ -8,7 +8,7 @@ ghost use Rattle.mf_objects.specs.Live.{is_process};
 ghost use Rattle.mf_objects.specs.Lives.{IsLive};
 ghost use Rattle.mf_plan.specs.Effect.Effect.{Append, Deliver, Empty, Make, Receive};
 ghost use Rattle.mf_perform.specs.Effect.{after, takes_memory};
-ghost use Rattle.mf_perform.specs.Found.{at};
+ghost use Rattle.mf_perform.specs.Found.{where_found};
 ghost use Rattle.mf_perform.specs.Suits.{Suits};
 
 use crate::processes::label_from;
@@ -27,7 +27,8 @@ pub(crate) fn pipe(
     requires caller { IsLive is_process state.old.objects caller }
     requires room { Suits state.old (Make name.now (change.new_pipe caller)) }
     requires next { state.old.objects.next < ID_LIMIT }
-    ensures ok { OnOk result (state.new ≡ after state.old caller (Make name.now (change.new_pipe caller))) }
+    ensures ok { OnOk result (state.new
+        ≡ after state.old caller (Make name.now (change.new_pipe caller))) }
     ensures err { OnErr result (state.new ≡ state.old) }
 {
     let label = label_from(state, caller, Kind::Pipe);
@@ -45,7 +46,8 @@ pub(crate) fn socket(
     requires caller { IsLive is_process state.old.objects caller }
     requires room { Suits state.old (Make name.now (change.new_socket caller)) }
     requires next { state.old.objects.next < ID_LIMIT }
-    ensures ok { OnOk result (state.new ≡ after state.old caller (Make name.now (change.new_socket caller))) }
+    ensures ok { OnOk result (state.new
+        ≡ after state.old caller (Make name.now (change.new_socket caller))) }
     ensures err { OnErr result (state.new ≡ state.old) }
 {
     let label = label_from(state, caller, Kind::Socket);
@@ -55,8 +57,8 @@ pub(crate) fn socket(
 
 /// Takes all bytes out of the pipe.
 pub(crate) fn pread(state: &mut State, pipe: Option<Id>)
-    requires { Suits state.old (at Empty pipe) }
-    ensures { (me : Id) → state.new ≡ after state.old me (at Empty pipe) }
+    requires { Suits state.old (where_found Empty pipe) }
+    ensures { (me : Id) → state.new ≡ after state.old me (where_found Empty pipe) }
 {
     if let Some(id) = pipe {
         state.objects.clear(id);
@@ -65,10 +67,12 @@ pub(crate) fn pread(state: &mut State, pipe: Option<Id>)
 
 /// Puts the bytes at the end of what the file or pipe holds. If memory runs out, the state is unchanged.
 pub(crate) fn append(state: &mut State, target: Option<Id>, text: &[u8]) -> Result<(), AllocError>
-    requires { Suits state.old (at (λ id. Append id text.now) target) }
-    ensures ok { OnOk result ((me : Id) → state.new ≡ after state.old me (at (λ id. Append id text.now) target)) }
+    requires { Suits state.old (where_found (λ id. Append id text.now) target) }
+    ensures ok { OnOk result ((me : Id)
+        → state.new ≡ after state.old me (where_found (λ id. Append id text.now) target)) }
     ensures err { OnErr result (state.new ≡ state.old) }
-    ensures memory { takes_memory (at (λ id. Append id text.now) target) ≡ false → IsOk result }
+    ensures memory { takes_memory (where_found (λ id. Append id text.now) target) ≡ false
+        → IsOk result }
 {
     match target {
         Some(id) => state.objects.append(id, text),
@@ -84,10 +88,12 @@ pub(crate) fn deliver(
     text: &[u8],
 ) -> Result<(), AllocError>
     requires text { length text.now ≤ SCRIPT_LIMIT }
-    requires room { Suits state.old (at (λ id. Deliver id text.now) socket) }
-    ensures ok { OnOk result ((me : Id) → state.new ≡ after state.old me (at (λ id. Deliver id text.now) socket)) }
+    requires room { Suits state.old (where_found (λ id. Deliver id text.now) socket) }
+    ensures ok { OnOk result ((me : Id)
+        → state.new ≡ after state.old me (where_found (λ id. Deliver id text.now) socket)) }
     ensures err { OnErr result (state.new ≡ state.old) }
-    ensures memory { takes_memory (at (λ id. Deliver id text.now) socket) ≡ false → IsOk result }
+    ensures memory { takes_memory (where_found (λ id. Deliver id text.now) socket) ≡ false
+        → IsOk result }
 {
     match socket {
         Some(id) => state.objects.push_message(alloc, id, text),
@@ -97,8 +103,8 @@ pub(crate) fn deliver(
 
 /// Takes the oldest message out of the socket.
 pub(crate) fn recv(state: &mut State, socket: Option<Id>)
-    requires { Suits state.old (at Receive socket) }
-    ensures { (me : Id) → state.new ≡ after state.old me (at Receive socket) }
+    requires { Suits state.old (where_found Receive socket) }
+    ensures { (me : Id) → state.new ≡ after state.old me (where_found Receive socket) }
 {
     if let Some(id) = socket {
         state.objects.pop_message(id);

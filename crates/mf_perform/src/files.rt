@@ -34,9 +34,11 @@ pub(crate) fn make_file(
     requires caller { IsLive is_process state.old.objects caller }
     requires room { Suits state.old (spec.make_file state.old caller path.now mode is_dir dir) }
     requires next { state.old.objects.next < ID_LIMIT }
-    ensures ok { OnOk result (state.new ≡ after state.old caller (spec.make_file state.old caller path.now mode is_dir dir)) }
+    ensures ok { OnOk result (state.new
+        ≡ after state.old caller (spec.make_file state.old caller path.now mode is_dir dir)) }
     ensures err { OnErr result (state.new ≡ state.old) }
-    ensures memory { takes_memory (spec.make_file state.old caller path.now mode is_dir dir) ≡ false → IsOk result }
+    ensures memory { takes_memory (spec.make_file state.old caller path.now mode is_dir dir) ≡ false
+        → IsOk result }
 {
     match dir {
         Some(dir) => {
@@ -57,10 +59,12 @@ fn add_file(
     is_dir: bool,
 ) -> Result<(), AllocError>
     requires caller { IsLive is_process state.old.objects caller }
-    requires room { Suits state.old (Make name.now (change.new_vnode dir (new_file state.old.objects caller dir mode is_dir) [])) }
+    requires room { Suits state.old (Make name.now
+        (change.new_vnode dir (new_file state.old.objects caller dir mode is_dir) [])) }
     requires next { state.old.objects.next < ID_LIMIT }
     ensures ok { OnOk result (state.new
-        ≡ after state.old caller (Make name.now (change.new_vnode dir (new_file state.old.objects caller dir mode is_dir) []))) }
+        ≡ after state.old caller (Make name.now
+        (change.new_vnode dir (new_file state.old.objects caller dir mode is_dir) []))) }
     ensures err { OnErr result (state.new ≡ state.old) }
 {
     let file = FileView {
@@ -78,8 +82,9 @@ fn add_file(
 
 /// Gives the file or directory these mode bits.
 pub(crate) fn chmod(state: &mut State, file: Option<Id>, mode: u16)
-    requires { Suits state.old (spec.at (λ id. SetMode id mode) file) }
-    ensures { (me : Id) → state.new ≡ after state.old me (spec.at (λ id. SetMode id mode) file) }
+    requires { Suits state.old (spec.where_found (λ id. SetMode id mode) file) }
+    ensures { (me : Id)
+        → state.new ≡ after state.old me (spec.where_found (λ id. SetMode id mode) file) }
 {
     if let Some(id) = file {
         state.objects.set_mode(id, mode);
@@ -88,8 +93,8 @@ pub(crate) fn chmod(state: &mut State, file: Option<Id>, mode: u16)
 
 /// Removes the entry of its directory.
 pub(crate) fn unlink(state: &mut State, entry: Option<Id>)
-    requires { Suits state.old (spec.at Unlink entry) }
-    ensures { (me : Id) → state.new ≡ after state.old me (spec.at Unlink entry) }
+    requires { Suits state.old (spec.where_found Unlink entry) }
+    ensures { (me : Id) → state.new ≡ after state.old me (spec.where_found Unlink entry) }
 {
     if let Some(id) = entry {
         state.objects.remove_vnode(id);

@@ -8,7 +8,7 @@ ghost use Rattle.mf_policy.specs.Relabelled.{relabelled_value};
 ghost use Rattle.mf_plan.specs.Payloads as spec;
 ghost use Rattle.mf_objects.specs.declared.id.Id.{Id};
 ghost use Rattle.mf_perform.specs.Effect.{after, takes_memory};
-ghost use Rattle.mf_perform.specs.Found.{relabelling};
+ghost use Rattle.mf_perform.specs.Found.{parts_of, relabelling};
 ghost use Rattle.mf_perform.specs.Suits.{Suits};
 
 use mf_cred::ArrayVec;
@@ -32,6 +32,7 @@ pub(crate) fn label_parts(
     let mut parts = ArrayVec::new();
     push_part(specs, kind, label, Module::Biba, &mut parts);
     push_part(specs, kind, label, Module::Mls, &mut parts);
+    push_part(specs, kind, label, Module::Lomac, &mut parts);
     push_part(specs, kind, label, Module::Partition, &mut parts);
     parts
 }
@@ -45,7 +46,7 @@ fn push_part(
     parts: &mut ArrayVec<LabelPart, SLOTS>,
 )
     requires { length parts.old < SLOTS }
-    ensures parts { parts.new ≡ parts.old ++ spec.label_parts_of specs.now kind label.now («module» ∷ []) }
+    ensures parts { parts.new ≡ parts.old ++ parts_of specs.now kind label.now («module» ∷ []) }
     ensures few { length parts.new ≤ length parts.old + 1 }
 {
     if !labels_kind(module, kind) {
@@ -92,7 +93,8 @@ pub(crate) fn relabel(
     asked: &Option<Request>,
 ) -> Result<(), AllocError>
     requires { Suits state.old (relabelling target asked.now) }
-    ensures ok { OnOk result ((me : Id) → state.new ≡ after state.old me (relabelling target asked.now)) }
+    ensures ok { OnOk result ((me : Id)
+        → state.new ≡ after state.old me (relabelling target asked.now)) }
     ensures err { OnErr result (state.new ≡ state.old) }
     ensures memory { takes_memory (relabelling target asked.now) ≡ false → IsOk result }
 {
@@ -113,7 +115,8 @@ fn give(state: &State, id: Id, request: &Request, slot: u8, value: &mut LabelVal
     requires live { IsSome (live_at state.now.objects id) }
     requires slot { slot < SLOTS }
     requires unset { value.old ≡ Unset }
-    ensures { given value.new (value_at state.now.objects id slot) ≡ relabelled_value state.now.specs request.now (label_at state.now.objects id) slot }
+    ensures { given value.new (value_at state.now.objects id slot)
+        ≡ relabelled_value state.now.specs request.now (label_at state.now.objects id) slot }
 {
     if let Some(module) = state.specs.holder(slot) {
         if sets_value(module, request) {

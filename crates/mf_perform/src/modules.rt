@@ -4,9 +4,9 @@ ghost use Rattle.mf_elem.specs.declared.label.TheConstants.{SLOTS};
 ghost use Rattle.mf_objects.specs.declared.id.Id.{Id};
 ghost use Rattle.mf_policy.specs.Modules as facts;
 ghost use Rattle.mf_policy.specs.Registration as listing;
-ghost use Rattle.mf_perform.specs.Effect.{after};
 ghost use Rattle.mf_perform.specs.Relisting.{effect_in, IsFormed};
 ghost use Rattle.mf_perform.specs.Suits.{Suits};
+ghost use Rattle.mf_perform.specs.Effect.{after};
 
 use crate::relisting::Relisting;
 use mf_errno::Module;
@@ -25,7 +25,8 @@ pub fn load(
     wanted: Module,
 ) -> Result<(), AllocError>
     requires slots { IsTrue (facts.wants_slot wanted) → numbers.old < SLOTS }
-    ensures specs { OnOk result (specs.new ≡ listing.with_registered specs.old (listing.registration_of wanted booted numbers.old)) }
+    ensures specs { OnOk result (specs.new
+        ≡ listing.with_registered specs.old (listing.registration_of wanted booted numbers.old)) }
     ensures numbers { OnOk result (numbers.new ≡ listing.given_after numbers.old wanted) }
     ensures err { OnErr result ((specs.new ≡ specs.old) × (numbers.new ≡ numbers.old)) }
 {
@@ -69,7 +70,8 @@ pub fn listed_after(
     relisting: &Relisting,
 ) -> Result<SpecList, AllocError>
     requires formed { IsFormed relisting.now }
-    ensures { IfOk result (λ specs. (caller : Id) → specs ≡ (after state.now caller (effect_in relisting.now)).specs) }
+    ensures { IfOk result (λ specs. (caller : Id)
+        → specs ≡ (after state.now caller (effect_in relisting.now)).specs) }
 {
     let mut specs = state.specs.copy(alloc)?;
     match relisting {
@@ -89,7 +91,8 @@ pub fn listed_after(
 /// one. It takes no memory.
 pub fn put_listed(state: &mut State, specs: SpecList, relisting: &Relisting)
     requires suits { Suits state.old (effect_in relisting.now) }
-    requires specs { (caller : Id) → specs ≡ (after state.old caller (effect_in relisting.now)).specs }
+    requires specs { (caller : Id)
+        → specs ≡ (after state.old caller (effect_in relisting.now)).specs }
     ensures { (caller : Id) → state.new ≡ after state.old caller (effect_in relisting.now) }
 {
     state.specs = specs;

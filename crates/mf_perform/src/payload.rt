@@ -1,9 +1,11 @@
 //! What a call hands back.
+ghost use Rattle.std.specs.Option.{option_map_or};
 ghost use Rattle.std.specs.Prelude.{◌≡◌, ◌≤◌, ℕ, List, Option, IfOk, IsOk, IfSome, IsSome, Some, false, length, map};
 ghost use Rattle.mf_errno.specs.Names.{module_named};
-ghost use Rattle.mf_objects.specs.Live.{live_at};
+ghost use Rattle.mf_objects.specs.Live.{content_at, file_at, live_at};
 ghost use Rattle.mf_plan.specs.Found.{AreFound};
 ghost use Rattle.mf_plan.specs.Payloads as read;
+ghost use Rattle.mf_plan.specs.declared.reply.Payload.TheVariants as payloads;
 ghost use Rattle.mf_plan.specs.Plan.{call_row};
 ghost use Rattle.mf_policy.specs.declared.settings.Change.TheVariants as changes;
 ghost use Rattle.mf_errno.specs.declared.module.Module.TheVariants as modules;
@@ -30,20 +32,24 @@ pub fn payload_of(
     found: &Found,
     call: &Call,
 ) -> Result<Payload, AllocError>
-    requires found { (task : List ℕ) × (child : Option (List ℕ)) × AreFound state.now task child call.now found.now }
+    requires found { (task : List ℕ) × (child : Option (List ℕ))
+        × AreFound state.now task child call.now found.now }
     requires formed { IsFormedCall call.now }
     requires few { length state.now.specs ≤ MOST_LISTED }
-    ensures value { IfOk result (λ payload. (task : List ℕ) → (child : Option (List ℕ)) → AreFound state.now task child call.now found.now
+    ensures value { IfOk result (λ payload. (task : List ℕ) → (child : Option (List ℕ))
+        → AreFound state.now task child call.now found.now
         → payload ≡ (call_row state.now task child call.now).payload) }
-    ensures memory { (task : List ℕ) → (child : Option (List ℕ)) → AreFound state.now task child call.now found.now
-        → payload_takes_memory (call_row state.now task child call.now).payload ≡ false → IsOk result }
+    ensures memory { (task : List ℕ) → (child : Option (List ℕ))
+        → AreFound state.now task child call.now found.now
+        → payload_takes_memory (call_row state.now task child call.now).payload ≡ false
+        → IsOk result }
 {
     // Counting the entities shows the proof that the target lives.
     let _live = state.objects.live();
     read_found(alloc, state, found.target, call)
 }
 
-/// What the call hands back, by the target that was found.
+/// What the call hands back, by the target that was found. The clause says of every call what the table of `payload_found` has.
 fn read_found(
     alloc: Global,
     state: &State,
@@ -53,8 +59,10 @@ fn read_found(
     requires live { IfSome target (λ id. IsSome (live_at state.now.objects id)) }
     requires formed { IsFormedCall call.now }
     requires few { length state.now.specs ≤ MOST_LISTED }
-    ensures value { IfOk result (λ payload. payload ≡ spec.payload_found state.now call.now target) }
-    ensures memory { payload_takes_memory (spec.payload_found state.now call.now target) ≡ false → IsOk result }
+    ensures value { IfOk result (λ payload. payload
+        ≡ spec.payload_found state.now call.now target) }
+    ensures memory { payload_takes_memory (spec.payload_found state.now call.now target) ≡ false
+        → IsOk result }
 {
     let objects = &state.objects;
     match call {
@@ -68,32 +76,7 @@ fn read_found(
         Call::Kldload(name) => Ok(slot(state, name.as_str())),
         Call::UgidfwList => rules(alloc, &state.specs),
         Call::UgidfwAdd(rule) => Ok(added(&state.specs, *rule)),
-        Call::Fork(_)
-        | Call::Exit
-        | Call::See(_)
-        | Call::Signal(_)
-        | Call::Debug(_)
-        | Call::Sched(_)
-        | Call::Priv(_)
-        | Call::Setpmac(_)
-        | Call::Setfmac(..)
-        | Call::Setpipemac(..)
-        | Call::Setsockmac(..)
-        | Call::Exec(_)
-        | Call::Create(_)
-        | Call::Mkdir(_)
-        | Call::Write(_, _)
-        | Call::Chmod(_, _)
-        | Call::Unlink(_)
-        | Call::Pipe(_)
-        | Call::Socket(_)
-        | Call::Pwrite(_, _)
-        | Call::Send(_, _, _)
-        | Call::Seesock(_)
-        | Call::Kldunload(_)
-        | Call::Sysctl(..)
-        | Call::UgidfwSet(..)
-        | Call::UgidfwRemove(_) => Ok(Payload::None),
+        _ => Ok(Payload::None),
     }
 }
 
@@ -110,7 +93,8 @@ fn head(objects: &Objects, found: Option<Id>) -> Payload
 
 fn stat(objects: &Objects, found: Option<Id>) -> Payload
     requires { IfSome found (λ id. IsSome (live_at objects.now id)) }
-    ensures { result ≡ spec.payload_of_found (read.stat objects.now) found }
+    ensures { result ≡ spec.payload_of_found
+        (λ id. payloads.Stat (file_at objects.now id) (length (content_at objects.now id))) found }
 {
     match found {
         Some(id) => Payload::Stat(objects.file(id), objects.size(id)),
@@ -121,8 +105,10 @@ fn stat(objects: &Objects, found: Option<Id>) -> Payload
 #[tactic(auto, using(mf_objects::proofs::Laws::live_directory))]
 fn names(alloc: Global, objects: &Objects, found: Option<Id>) -> Result<Payload, AllocError>
     requires { IfSome found (λ id. IsSome (live_at objects.now id)) }
-    ensures value { IfOk result (λ payload. payload ≡ spec.payload_of_found (read.names objects.now) found) }
-    ensures memory { payload_takes_memory (spec.payload_of_found (read.names objects.now) found) ≡ false → IsOk result }
+    ensures value { IfOk result (λ payload. payload
+        ≡ spec.payload_of_found (read.names objects.now) found) }
+    ensures memory { payload_takes_memory (spec.payload_of_found (read.names objects.now) found)
+        ≡ false → IsOk result }
 {
     match found {
         Some(id) if objects.file(id).dir => Ok(Payload::Names {
@@ -136,8 +122,10 @@ fn names(alloc: Global, objects: &Objects, found: Option<Id>) -> Result<Payload,
 /// The label of a process or a file.
 fn label(alloc: Global, state: &State, found: Option<Id>) -> Result<Payload, AllocError>
     requires { IfSome found (λ id. IsSome (live_at state.now.objects id)) }
-    ensures value { IfOk result (λ payload. payload ≡ spec.payload_of_found (read.label state.now) found) }
-    ensures memory { payload_takes_memory (spec.payload_of_found (read.label state.now) found) ≡ false → IsOk result }
+    ensures value { IfOk result (λ payload. payload
+        ≡ spec.payload_of_found (read.label state.now) found) }
+    ensures memory { payload_takes_memory (spec.payload_of_found (read.label state.now) found)
+        ≡ false → IsOk result }
 {
     let objects = &state.objects;
     match found {
@@ -152,7 +140,8 @@ fn label(alloc: Global, state: &State, found: Option<Id>) -> Result<Payload, All
 /// How many bytes a pipe holds.
 fn size(objects: &Objects, found: Option<Id>) -> Payload
     requires { IfSome found (λ id. IsSome (live_at objects.now id)) }
-    ensures { result ≡ spec.payload_of_found (read.size objects.now) found }
+    ensures { result
+        ≡ spec.payload_of_found (λ id. payloads.Size (length (content_at objects.now id))) found }
 {
     match found {
         Some(id) => Payload::Size(objects.size(id)),
@@ -202,8 +191,10 @@ fn slot(state: &State, name: &str) -> Payload
 
 /// The rules about files.
 fn rules(alloc: Global, specs: &SpecList) -> Result<Payload, AllocError>
-    ensures value { IfOk result (λ payload. payload ≡ read.rules (listed_rules specs.now)) }
-    ensures memory { payload_takes_memory (read.rules (listed_rules specs.now)) ≡ false → IsOk result }
+    ensures value { IfOk result (λ payload. payload
+        ≡ option_map_or payloads.Rules (listed_rules specs.now) payloads.None) }
+    ensures memory { payload_takes_memory (option_map_or payloads.Rules
+        (listed_rules specs.now) payloads.None) ≡ false → IsOk result }
 {
     match specs.rules() {
         Some(rules) => Ok(Payload::Rules(rules.copy(alloc)?)),
@@ -213,7 +204,8 @@ fn rules(alloc: Global, specs: &SpecList) -> Result<Payload, AllocError>
 
 /// The number that a rule gets.
 fn added(specs: &SpecList, rule: Rule) -> Payload
-    ensures { result ≡ spec.added specs.now (Some (modules.Bsdextended, changes.RuleAdd rule)) }
+    ensures { result
+        ≡ spec.rule_added specs.now (Some (modules.Bsdextended, changes.RuleAdd rule)) }
 {
     let change = Change::RuleAdd(rule);
     match specs.answer_to(Module::Bsdextended, &change).number {

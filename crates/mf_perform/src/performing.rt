@@ -39,12 +39,14 @@ pub fn perform(
     requires proceeds { (plan_of state.old task.now line.now.child line.now.call).tail ≡ Do }
     requires found { AreFound state.old task.now line.now.child line.now.call found.now }
     requires next { state.old.objects.next < ID_LIMIT }
-    ensures ok { OnOk result (state.new ≡ performed state.old task.now line.now.child line.now.call) }
+    ensures ok { OnOk result (state.new
+        ≡ performed state.old task.now line.now.child line.now.call) }
     ensures err { OnErr result (state.new ≡ state.old) }
     ensures next { state.new.objects.next ≤ state.old.objects.next + 1 }
     ensures rises { state.old.objects.next ≤ state.new.objects.next }
     ensures kept { state.new.booted ≡ state.old.booted }
-    ensures memory { takes_memory (call_row state.old task.now line.now.child line.now.call).effect ≡ false → IsOk result }
+    ensures memory { takes_memory (call_row state.old task.now line.now.child line.now.call).effect
+        ≡ false → IsOk result }
 {
     // Counting the entities shows the proof that what was found among them lives.
     let _live = state.objects.live();
@@ -65,7 +67,8 @@ pub fn perform(
     }
 }
 
-/// Does the call of a live process of the task, by the target and the request that were found.
+/// Does the call of a live process of the task, by the target and the request that were found. The clause says of every call what the
+/// table of `effect_found` has: the other calls change nothing.
 fn perform_by(
     alloc: Global,
     state: &mut State,
@@ -79,11 +82,14 @@ fn perform_by(
     requires formed { IsFormedCall call.now }
     requires entry { is_change call.now ≡ false }
     requires caller { IsLive is_process state.old.objects caller }
-    requires suits { Suits state.old (effect_found state.old task.now caller call.now target asked.now) }
+    requires suits { Suits state.old
+        (effect_found state.old task.now caller call.now target asked.now) }
     requires next { state.old.objects.next < ID_LIMIT }
-    ensures ok { OnOk result (state.new ≡ after state.old caller (effect_found state.old task.now caller call.now target asked.now)) }
+    ensures ok { OnOk result (state.new ≡ after state.old caller
+        (effect_found state.old task.now caller call.now target asked.now)) }
     ensures err { OnErr result (state.new ≡ state.old) }
-    ensures memory { takes_memory (effect_found state.old task.now caller call.now target asked.now) ≡ false → IsOk result }
+    ensures memory { takes_memory (effect_found state.old task.now caller call.now target asked.now)
+        ≡ false → IsOk result }
 {
     match call {
         Call::Fork(child) => fork(alloc, state, task, caller, child.as_str())?,
@@ -102,27 +108,7 @@ fn perform_by(
         Call::Pwrite(_, text) => append(state, target, text.as_slice())?,
         Call::Send(_, _, text) => deliver(alloc, state, target, text.as_slice())?,
         Call::Recv(_) => recv(state, target),
-        Call::See(_)
-        | Call::Signal(_)
-        | Call::Debug(_)
-        | Call::Sched(_)
-        | Call::Priv(_)
-        | Call::Getpmac
-        | Call::Exec(_)
-        | Call::Read(_)
-        | Call::Stat(_)
-        | Call::Getfmac(_)
-        | Call::Readdir(_)
-        | Call::Pstat(_)
-        | Call::Seesock(_)
-        | Call::Kldstat
-        | Call::UgidfwList => {}
-        Call::Kldload(_)
-        | Call::Kldunload(_)
-        | Call::Sysctl(..)
-        | Call::UgidfwAdd(_)
-        | Call::UgidfwSet(..)
-        | Call::UgidfwRemove(_) => unreachable!(),
+        _ => {}
     }
     Ok(())
 }

@@ -9,8 +9,8 @@ ghost use Rattle.mf_calls.specs.WellFormed.{IsName};
 ghost use Rattle.mf_policy.specs.NewLabels.{new_label};
 ghost use Rattle.mf_policy.specs.declared.labels.Origin.TheVariants.{Maker};
 ghost use Rattle.mf_plan.specs.Effect.Effect.{End, Make};
-ghost use Rattle.mf_perform.specs.Effect.{after};
 ghost use Rattle.mf_perform.specs.Suits.{Suits};
+ghost use Rattle.mf_perform.specs.Effect.{after};
 
 use mf_elem::{LabelValue, SLOTS};
 use mf_item::Kind;
@@ -39,10 +39,12 @@ pub(crate) fn fork(
     requires task { IsName task.now }
     requires child { IsName child.now }
     requires caller { IsLive is_process state.old.objects caller }
-    requires room { Suits state.old (Make (names.child_name task.now child.now) (new_process (cred_at state.old.objects caller))) }
+    requires room { Suits state.old (Make
+        (names.child_name task.now child.now) (new_process (cred_at state.old.objects caller))) }
     requires next { state.old.objects.next < ID_LIMIT }
     ensures ok { OnOk result (state.new
-        ≡ after state.old caller (Make (names.child_name task.now child.now) (new_process (cred_at state.old.objects caller)))) }
+        ≡ after state.old caller (Make (names.child_name task.now child.now)
+        (new_process (cred_at state.old.objects caller)))) }
     ensures err { OnErr result (state.new ≡ state.old) }
 {
     let name = child_name(task, child);

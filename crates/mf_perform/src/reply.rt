@@ -11,7 +11,8 @@ use mf_plan::{Plan, Reply, Tail};
 /// The reply to a call that isn't done, by its plan and the policies' verdict: the denial, or else the framework's own
 /// refusal. None where the call is to be done.
 pub fn refusal_of(plan: &Plan, verdict: &Verdict) -> Option<Reply>
-    ensures reply { (payload : Payload) → spec.reply_to plan.now verdict.now payload ≡ refused_or result payload }
+    ensures reply { (payload : Payload)
+        → spec.reply_to plan.now verdict.now.denied payload ≡ refused_or result payload }
     ensures refused { IfSome result (λ reply. is_ok reply ≡ false) }
 {
     match verdict.denied {
@@ -24,7 +25,7 @@ pub fn refusal_of(plan: &Plan, verdict: &Verdict) -> Option<Reply>
 }
 
 fn denied(plan: &Plan, denial: Denial) -> Reply
-    ensures reply { (payload : Payload) → result ≡ spec.denied_reply plan.now (Some denial) payload }
+    ensures reply { (payload : Payload) → result ≡ spec.reply_to plan.now (Some denial) payload }
     ensures refused { is_ok result ≡ false }
 {
     Reply::Denied {

@@ -7,17 +7,17 @@ use Rattle.mf_calls.specs.declared.script.Call.{Call}
 use Rattle.mf_calls.specs.declared.script.Call.TheVariants as call
 use Rattle.mf_plan.specs.declared.reply.Payload.TheVariants as payload
 use Rattle.mf_plan.specs.declared.state.State.{State}
-use Rattle.mf_plan.specs.Ended.{Ended, end_by, end_of}
+use Rattle.mf_plan.specs.Ended.{Ended, end_by, end_in}
 use Rattle.mf_plan.specs.Found.{is_setting, setting_at}
 use Rattle.mf_plan.specs.Row.{through}
 use Rattle.mf_plan.specs.Rows.{about_of, set}
-use Rattle.mf_plan.specs.Ways.{look_up}
 use Rattle.mf_plan.specs.Ways.Place.{Setting}
+use Rattle.mf_plan.specs.Ways.{way_to}
 
 module _ (s : State) (task : List ℕ) (me : Id) where
   -- the end of such a call goes by its place, whatever it hands back
   abbrev end_at : Option Module × Option Change → Ended
-  end_at setting = end_of (through (look_up s me (Setting setting.0 setting.1)) (set s payload.None))
+  end_at setting = end_in (through (way_to s me (Setting setting.0 setting.1)) (set s payload.None))
 
   by_place : (c : Call) → is_setting (about_of s task me c).place ≡ true → end_at (setting_at (about_of s task me c).place) ≡ end_by s task me c
   by_place (call.Sysctl name value) is = refl

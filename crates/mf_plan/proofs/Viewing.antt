@@ -11,7 +11,7 @@ use Rattle.mf_plan.specs.declared.outline.Check.{Check}
 use Rattle.mf_plan.specs.declared.views.CheckView.{CheckView}
 use Rattle.mf_plan.specs.Outline.{item_asking, subject_in}
 use Rattle.mf_plan.specs.Items.{HaveSubjects, item_with, items_with, nobody}
-use Rattle.mf_plan.specs.Viewing.{EndsWith, GrowsTo, IsAsked}
+use Rattle.mf_plan.specs.Viewing.{EndsWith, GrowsTo, IsViewOf}
 
 -- so many checks are filled in
 pub record IsFilled (objects : Entities) (asked : Option Request) (checks : List Check) (done : ℕ) (subjects : List SubjectView) (seen : List CheckView) (last : Option Check) : Type 0 where
@@ -38,7 +38,7 @@ longer : (subjects rest : List SubjectView) (seen : List CheckView) → HaveSubj
 longer subjects rest seen have = λ k d below. omega (arith, have k d below, length-append subjects rest)
 
 -- the view of a check, as policies see it
-asked_item : (objects : Entities) (asked : Option Request) (check : Check) (subjects : List SubjectView) (view : CheckView) → IsAsked objects asked check view
+asked_item : (objects : Entities) (asked : Option Request) (check : Check) (subjects : List SubjectView) (view : CheckView) → IsViewOf objects asked check view
     → get_or subjects view.subject nobody ≡ subject_in objects check → item_with subjects view ≡ item_asking objects asked check
 unfolding item_asking
 asked_item objects asked check subjects view is subject =
@@ -47,7 +47,7 @@ asked_item objects asked check subjects view is subject =
 pub one_more : (objects : Entities) (asked : Option Request) (checks : List Check) (done : ℕ) (subjects subjects' : List SubjectView) (seen : List CheckView) (last : Option Check)
     (d : Check) (view : CheckView) (place : ℕ)
     → IsFilled objects asked checks done subjects seen last → done < length checks → GrowsTo subjects subjects'
-    → view.subject ≡ place → place < length subjects' → get_or subjects' place nobody ≡ subject_in objects (get_or checks done d) → IsAsked objects asked (get_or checks done d) view
+    → view.subject ≡ place → place < length subjects' → get_or subjects' place nobody ≡ subject_in objects (get_or checks done d) → IsViewOf objects asked (get_or checks done d) view
     → EndsWith objects subjects' (Some (get_or checks done d)) → length subjects' ≤ length subjects + 1
     → IsFilled objects asked checks (done + 1) subjects' (set seen done view) (Some (get_or checks done d))
 one_more objects asked checks done subjects subjects' seen last d view place filled within grows at below shows is ends few =

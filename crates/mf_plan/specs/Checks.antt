@@ -14,8 +14,8 @@ on me op id = record { op = op; caller = me; subject = me; object = Some id; pri
 abbrev pub for_privilege : Id → Priv → Check
 for_privilege me p = record { op = op.Priv; caller = me; subject = me; object = None; privilege = Some p }
 
-abbrev pub alone : Id → CheckOp → Check
-alone me op = record { op = op; caller = me; subject = me; object = None; privilege = None }
+abbrev pub by_itself : Id → CheckOp → Check
+by_itself me op = record { op = op; caller = me; subject = me; object = None; privilege = None }
 
 -- the check of what a socket of the caller does to another
 abbrev pub by_socket : Id → Id → CheckOp → Id → Check

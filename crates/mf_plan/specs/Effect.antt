@@ -1,5 +1,5 @@
 -- What a call changes, as a value. What becomes of the state by it says mf_perform specs/Effect.
-use Rattle.std.specs.Prelude.{ℕ, List, Option, Some, None, option_map}
+use Rattle.std.specs.Prelude.{ℕ, List, Option, Some, None}
 use Rattle.mf_errno.specs.declared.module.Module.{Module}
 use Rattle.mf_elem.specs.declared.label.Request.{Request}
 use Rattle.mf_objects.specs.declared.id.Id.{Id}
@@ -25,7 +25,3 @@ pub data Effect : Type 0 where
 abbrev pub relabelled_by : Effect → Option (Id × Request)
 relabelled_by (Relabel id request) = Some (id, request)
 relabelled_by other = None
-
--- what is asked of a label
-abbrev pub request_of : Effect → Option Request
-request_of effect = option_map (λ asked. asked.1) (relabelled_by effect)

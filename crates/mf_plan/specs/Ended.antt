@@ -20,15 +20,15 @@ tail_of (Ok place) = Do
 tail_of (Err e) = Refuse e
 
 -- with these checks, and this end
-abbrev pub ended : {A : Type 0} → List Check → Result A Errno → Ended
-ended checks end = record { checks = checks; tail = tail_of end }
+abbrev pub ended_by : {A : Type 0} → List Check → Result A Errno → Ended
+ended_by checks end = record { checks = checks; tail = tail_of end }
 
-abbrev pub end_of : Row → Ended
-end_of row = record { checks = row.checks; tail = row.tail }
+abbrev pub end_in : Row → Ended
+end_in row = record { checks = row.checks; tail = row.tail }
 
 -- the checks and the end of a call of this process of the task, as its row has them
 abbrev pub end_by : State → List ℕ → Id → Call → Ended
-end_by s task me c = end_of (about_of s task me c).whole
+end_by s task me c = end_in (about_of s task me c).whole
 
 -- of a call that goes by no name of its task: of any but `fork`
 abbrev pub end_for : State → Id → Call → Ended

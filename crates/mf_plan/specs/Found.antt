@@ -3,6 +3,7 @@ use Rattle.std.specs.Option.{option_zip}
 use Rattle.std.specs.Prelude.{◌≡◌, ℕ, Bool, true, false, List, Option, Some, None, Ok}
 use Rattle.mf_errno.specs.declared.module.Module.{Module}
 use Rattle.mf_elem.specs.declared.label.Request.{Request}
+use Rattle.mf_item.specs.declared.view.Kind.TheVariants as kinds
 use Rattle.mf_objects.specs.declared.id.Id.{Id}
 use Rattle.mf_policy.specs.declared.settings.Change.{Change}
 use Rattle.mf_calls.specs.declared.script.Call.{Call}
@@ -13,14 +14,14 @@ use Rattle.mf_plan.specs.Path.{file_at_path}
 use Rattle.mf_plan.specs.Places.{entry_at_path, free_dir_at}
 use Rattle.mf_plan.specs.Relabels.{claimed_in}
 use Rattle.mf_plan.specs.Rows.{about_of}
-use Rattle.mf_plan.specs.Views.{process_named, socket_named}
-use Rattle.mf_plan.specs.Ways.{At, Place, look_up, named, asked_in, target_in}
+use Rattle.mf_plan.specs.Views.{entity_named, process_named}
+use Rattle.mf_plan.specs.Ways.{At, Place, way_to, asked_in, target_in}
 use Rattle.mf_plan.specs.Ways.Place.{Asking, Caller, Entry, File, Free, Named, Setting, Sockets}
 
 -- what a call of this process is about
-pub record IsFound (s : State) (task : List ℕ) (me : Id) (c : Call) (found : Found) : Type 0 where
+pub record IsAbout (s : State) (task : List ℕ) (me : Id) (c : Call) (found : Found) : Type 0 where
   pub what : At (about_of s task me c).place
-  pub there : (look_up s me (about_of s task me c).place).there ≡ Ok what
+  pub there : (way_to s me (about_of s task me c).place).there ≡ Ok what
   pub target : found.target ≡ target_in (about_of s task me c).place what
   pub request : found.request ≡ asked_in (about_of s task me c).place what
 
@@ -29,18 +30,18 @@ pub record AreFound (s : State) (task : List ℕ) (child : Option (List ℕ)) (c
   pub me : Id
   pub caller : found.caller ≡ Some me
   pub named : process_named s.objects (caller_name task child) ≡ Some me
-  pub is : IsFound s task me c found
+  pub is : IsAbout s task me c found
 
 -- The same before it is known whether anything is there; inner contracts alone cite this
 
 -- the entity that is found in a place
 abbrev pub target_at : State → Id → Place → Option Id
 target_at s me Caller = Some me
-target_at s me (Named kind name) = named s.objects kind name
+target_at s me (Named kind name) = entity_named s.objects kind name
 target_at s me (File path) = file_at_path s.objects path
 target_at s me (Free path) = free_dir_at s.objects path
 target_at s me (Entry path) = entry_at_path s.objects path
-target_at s me (Sockets from to) = socket_named s.objects to
+target_at s me (Sockets from to) = entity_named s.objects kinds.Socket to
 target_at s me (Asking kind text place) = target_at s me place
 target_at s me other = None
 

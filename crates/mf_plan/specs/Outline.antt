@@ -25,9 +25,9 @@ is_relabel op.CredRelabel = true
 is_relabel other = false
 
 -- the request that goes with a check: that of the outline, where its operation changes a label
-abbrev pub request_for : Option Request → CheckOp → Option Request
-request_for None op = None
-request_for (Some request) op = if is_relabel op then Some request else None
+abbrev pub request_with : Option Request → CheckOp → Option Request
+request_with None op = None
+request_with (Some request) op = if is_relabel op then Some request else None
 
 -- the check as policies see it, in an outline with this request, and in one with none
 
@@ -37,7 +37,7 @@ item_asking objects asked check =
       op = check.op;
       subject = subject_in objects check;
       object = option_map (object_of objects) check.object;
-      request = request_for asked check.op;
+      request = request_with asked check.op;
       privilege = check.privilege;
     }
 

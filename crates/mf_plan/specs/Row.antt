@@ -1,12 +1,12 @@
 -- A row: what is said of a call, once it is found what it is about.
 use Rattle.std.specs.Option.{option_map_or}
-use Rattle.std.specs.Prelude.{Bool, if◌then◌else◌, List, [], ◌∷◌, ◌++◌, Option, Result, Ok, Err}
+use Rattle.std.specs.Prelude.{Bool, nat_le, if◌then◌else◌, List, [], ◌∷◌, ◌++◌, length, Option, Result, Ok, Err}
 use Rattle.mf_errno.specs.declared.errno.Errno.{Errno}
 use Rattle.mf_errno.specs.declared.errno.Errno.TheVariants as errno
 use Rattle.mf_elem.specs.declared.label.Request.{Request}
 use Rattle.mf_objects.specs.declared.id.Id.{Id}
+use Rattle.mf_objects.specs.declared.limits.TheConstants.{MOST_ENTITIES}
 use Rattle.mf_plan.specs.declared.outline.Check.{Check}
-use Rattle.mf_plan.specs.Views.{is_full}
 use Rattle.mf_plan.specs.declared.plan.Tail.{Tail}
 use Rattle.mf_plan.specs.declared.plan.Tail.TheVariants.{Do, Refuse}
 use Rattle.mf_plan.specs.declared.reply.Payload.{Payload}
@@ -25,20 +25,20 @@ pub record Row : Type 0 where
 
 -- How a row ends
 
-abbrev pub gives : Payload → Effect → Row
-gives payload effect = record { checks = []; tail = Do; payload = payload; effect = effect }
+abbrev pub returns : Payload → Effect → Row
+returns payload effect = record { checks = []; tail = Do; payload = payload; effect = effect }
 
 abbrev pub shows : Payload → Row
-shows payload = gives payload Unchanged
+shows payload = returns payload Unchanged
 
 abbrev pub changes : Effect → Row
-changes effect = gives payload.None effect
+changes effect = returns payload.None effect
 
-abbrev pub done : Row
-done = gives payload.None Unchanged
+abbrev pub does_nothing : Row
+does_nothing = changes Unchanged
 
 abbrev pub refuse : Errno → Row
-refuse e = record { checks = []; tail = Refuse e; payload = payload.None; effect = Unchanged }
+refuse e = record does_nothing { tail = Refuse e }
 
 -- Before that: a check, or a test of the framework
 
@@ -54,7 +54,7 @@ refuse_by fault rest =
 
 -- one entity more finds room
 abbrev pub if_room : State → Row → Row
-if_room s rest = refuse_if (is_full s.objects) errno.Enfile rest
+if_room s rest = refuse_if (nat_le MOST_ENTITIES (length s.objects.live)) errno.Enfile rest
 
 -- the check of a relabel, and the relabel
 abbrev pub relabel_by : (Id → Check) → Request × Id → Row

@@ -3,18 +3,19 @@
 -- those that docs/DIFFERENCES.md names.
 --
 -- A row is read from the left: `ask` is a check, `refuse_if` and `refuse_by` a test of the framework that ends the call with an errno, and
--- `gives`, `shows`, `changes` and `done` the end of a call that may be done.
-use Rattle.std.specs.Prelude.{ℕ, Bool, true, false, not, List, [], map, option_map, Some}
+-- `returns`, `shows`, `changes` and `does_nothing` the end of a call that may be done.
+use Rattle.std.specs.Option.{option_map_or}
+use Rattle.std.specs.Prelude.{ℕ, ◌==◌, Bool, true, false, nat_le, nat_lt, not, List, [], length, map, option_map, Some}
 use Rattle.mf_errno.specs.declared.errno.Errno.TheVariants as errno
 use Rattle.mf_errno.specs.declared.module.Module.{Module}
 use Rattle.mf_item.specs.declared.operation.CheckOp.TheVariants as op
 use Rattle.mf_cred.specs.declared.cred.FileView.{FileView}
 use Rattle.mf_cred.specs.declared.cred.TheConstants.{FILE_MODE, DIRECTORY_MODE}
 use Rattle.mf_names.specs.declared.limits.TheConstants.{CONTENT_LIMIT}
-use Rattle.mf_objects.specs.declared.limits.TheConstants.{PIPE_LIMIT}
+use Rattle.mf_objects.specs.declared.limits.TheConstants.{MOST_MESSAGES, PIPE_LIMIT}
 use Rattle.mf_objects.specs.declared.id.Id.{Id}
 use Rattle.mf_objects.specs.Changes.{new_process, new_vnode, new_pipe, new_socket}
-use Rattle.mf_objects.specs.Live.{Entities, cred_at, file_at}
+use Rattle.mf_objects.specs.Live.{Entities, content_at, count_at, cred_at, file_at}
 use Rattle.mf_policy.specs.Loading.{load_errno, load_fault, unload_errno, unload_fault}
 use Rattle.mf_policy.specs.Modules.{wants_slot}
 use Rattle.mf_policy.specs.Registration.{slot_for}
@@ -28,16 +29,16 @@ use Rattle.mf_calls.specs.declared.script.Call.TheVariants as call
 use Rattle.mf_plan.specs.declared.reply.Payload.{Payload}
 use Rattle.mf_plan.specs.declared.reply.Payload.TheVariants as payload
 use Rattle.mf_plan.specs.declared.state.State.{State}
-use Rattle.mf_plan.specs.Checks.{on, for_privilege, alone, by_socket}
+use Rattle.mf_plan.specs.Checks.{on, for_privilege, by_itself, by_socket}
 use Rattle.mf_plan.specs.Names.{child_name}
 use Rattle.mf_plan.specs.Path.{last_name}
 use Rattle.mf_plan.specs.Settings.{switch, sysctl_module, unless_success}
-use Rattle.mf_plan.specs.Views.{is_dir, has_entries, overfills, is_empty_pipe, is_full_socket, is_empty_socket}
-use Rattle.mf_plan.specs.Payloads.{head, stat, names, size, message, label, loaded, rules, rule_number}
+use Rattle.mf_plan.specs.Views.{is_dir, overfills}
+use Rattle.mf_plan.specs.Payloads.{head, names, message, label, loaded}
 use Rattle.mf_plan.specs.Effect.Effect.{Make, Append, Deliver, Empty, Receive, SetMode, Unlink, End, Load, Unload, Set}
 use Rattle.mf_plan.specs.Ways.Place.{Asking, Caller, Entry, File, Free, Listed, Loading, Named, Nothing, Setting, Sockets, Unloading, Unused}
-use Rattle.mf_plan.specs.Ways.{At, Place, look_up}
-use Rattle.mf_plan.specs.Row.{Row, ask, done, shows, changes, gives, refuse_if, refuse_by, if_room, relabel_by, through}
+use Rattle.mf_plan.specs.Ways.{At, Place, way_to}
+use Rattle.mf_plan.specs.Row.{Row, ask, returns, shows, changes, does_nothing, refuse_if, refuse_by, if_room, relabel_by, through}
 
 -- A new file is owned by the effective uid of its maker, and is of the group of its directory.
 abbrev pub new_file : Entities → Id → Id → ℕ → Bool → FileView
@@ -50,7 +51,7 @@ makes_file s me path mode is_dir dir =
 
 -- a change that the policy may refuse
 abbrev pub set : State → Payload → Module × Change → Row
-set s shown asked = refuse_by (unless_success (change_in asked.0 asked.1 s.specs).0.errno) (gives shown (Set asked.0 asked.1))
+set s shown asked = refuse_by (unless_success (change_in asked.0 asked.1 s.specs).0.errno) (returns shown (Set asked.0 asked.1))
 
 -- what a call is about, its row, once that is found, and the whole of it, with the way to what it is about
 pub record About : Type 0 where
@@ -59,21 +60,21 @@ pub record About : Type 0 where
   pub whole : Row
 
 abbrev pub about : State → Id → (place : Place) → (At place → Row) → About
-about s me place row = record { place = place; row = row; whole = through (look_up s me place) row }
+about s me place row = record { place = place; row = row; whole = through (way_to s me place) row }
 
 -- The table: what a call of this process of the task is about, and its row, once that is found.
 abbrev pub about_of : State → List ℕ → Id → Call → About
 about_of s task me (call.Fork child) = about s me (Unused kinds.Process (child_name task child)) (λ free.
     if_room s (changes (Make (child_name task child) (new_process (cred_at s.objects me)))))
 about_of s task me call.Exit = about s me Nothing (λ none. changes (End me))
-about_of s task me (call.See name) = about s me (Named kinds.Process name) (λ id. ask (on me op.ProcVisible id) done)
-about_of s task me (call.Signal name) = about s me (Named kinds.Process name) (λ id. ask (on me op.ProcSignal id) done)
-about_of s task me (call.Debug name) = about s me (Named kinds.Process name) (λ id. ask (on me op.ProcDebug id) done)
-about_of s task me (call.Sched name) = about s me (Named kinds.Process name) (λ id. ask (on me op.ProcSched id) done)
-about_of s task me (call.Priv p) = about s me Nothing (λ none. ask (for_privilege me p) done)
+about_of s task me (call.See name) = about s me (Named kinds.Process name) (λ id. ask (on me op.ProcVisible id) does_nothing)
+about_of s task me (call.Signal name) = about s me (Named kinds.Process name) (λ id. ask (on me op.ProcSignal id) does_nothing)
+about_of s task me (call.Debug name) = about s me (Named kinds.Process name) (λ id. ask (on me op.ProcDebug id) does_nothing)
+about_of s task me (call.Sched name) = about s me (Named kinds.Process name) (λ id. ask (on me op.ProcSched id) does_nothing)
+about_of s task me (call.Priv p) = about s me Nothing (λ none. ask (for_privilege me p) does_nothing)
 about_of s task me call.Getpmac = about s me Caller (λ id. shows (label s id))
-about_of s task me (call.Setpmac text) = about s me (Asking kinds.Process text Caller) (relabel_by (λ id. alone me op.CredRelabel))
-about_of s task me (call.Exec path) = about s me (File path) (λ id. refuse_if (is_dir s.objects id) errno.Eacces (ask (on me op.VnodeExec id) done))
+about_of s task me (call.Setpmac text) = about s me (Asking kinds.Process text Caller) (relabel_by (λ id. by_itself me op.CredRelabel))
+about_of s task me (call.Exec path) = about s me (File path) (λ id. refuse_if (is_dir s.objects id) errno.Eacces (ask (on me op.VnodeExec id) does_nothing))
 about_of s task me (call.Create path) = about s me (Free path) (λ dir. makes_file s me path FILE_MODE false dir)
 about_of s task me (call.Mkdir path) = about s me (Free path) (λ dir. makes_file s me path DIRECTORY_MODE true dir)
 about_of s task me (call.Read path) = about s me (File path) (λ id.
@@ -81,7 +82,8 @@ about_of s task me (call.Read path) = about s me (File path) (λ id.
 about_of s task me (call.Write path text) = about s me (File path) (λ id.
     refuse_if (is_dir s.objects id) errno.Eisdir (ask (on me op.VnodeOpenWrite id) (ask (on me op.VnodeWrite id)
     (refuse_if (overfills CONTENT_LIMIT s.objects text id) errno.Efbig (changes (Append id text))))))
-about_of s task me (call.Stat path) = about s me (File path) (λ id. ask (on me op.VnodeStat id) (shows (stat s.objects id)))
+about_of s task me (call.Stat path) = about s me (File path) (λ id.
+    ask (on me op.VnodeStat id) (shows (payload.Stat (file_at s.objects id) (length (content_at s.objects id)))))
 about_of s task me (call.Getfmac path) = about s me (File path) (λ id. ask (on me op.VnodeStat id) (shows (label s id)))
 about_of s task me (call.Setfmac text path) = about s me (Asking kinds.Vnode text (File path)) (relabel_by (on me op.VnodeRelabel))
 about_of s task me (call.Readdir path) = about s me (File path) (λ id.
@@ -89,31 +91,31 @@ about_of s task me (call.Readdir path) = about s me (File path) (λ id.
 about_of s task me (call.Chmod path mode) = about s me (File path) (λ id. ask (on me op.VnodeSetmode id) (changes (SetMode id mode)))
 about_of s task me (call.Unlink path) = about s me (Entry path) (λ entry.
     ask (on me op.VnodeUnlinkDir entry.0) (ask (on me op.VnodeUnlink entry.1)
-    (refuse_if (has_entries s.objects entry.1) errno.Enotempty (changes (Unlink entry.1)))))
+    (refuse_if (nat_lt 0 (count_at s.objects entry.1)) errno.Enotempty (changes (Unlink entry.1)))))
 about_of s task me (call.Pipe name) = about s me (Unused kinds.Pipe name) (λ free. if_room s (changes (Make name (new_pipe me))))
 about_of s task me (call.Socket name) = about s me (Unused kinds.Socket name) (λ free. if_room s (changes (Make name (new_socket me))))
 about_of s task me (call.Pread name) = about s me (Named kinds.Pipe name) (λ id.
-    ask (on me op.PipeRead id) (refuse_if (is_empty_pipe s.objects id) errno.Eagain (gives (head s.objects id) (Empty id))))
+    ask (on me op.PipeRead id) (refuse_if (length (content_at s.objects id) == 0) errno.Eagain (returns (head s.objects id) (Empty id))))
 about_of s task me (call.Pwrite name text) = about s me (Named kinds.Pipe name) (λ id.
     ask (on me op.PipeWrite id) (refuse_if (overfills PIPE_LIMIT s.objects text id) errno.Eagain (changes (Append id text))))
-about_of s task me (call.Pstat name) = about s me (Named kinds.Pipe name) (λ id. ask (on me op.PipeStat id) (shows (size s.objects id)))
+about_of s task me (call.Pstat name) = about s me (Named kinds.Pipe name) (λ id.
+    ask (on me op.PipeStat id) (shows (payload.Size (length (content_at s.objects id)))))
 about_of s task me (call.Setpipemac text name) = about s me (Asking kinds.Pipe text (Named kinds.Pipe name)) (relabel_by (on me op.PipeRelabel))
 about_of s task me (call.Send from to text) = about s me (Sockets from to) (λ ends.
     ask (by_socket me ends.0 op.SocketDeliver ends.1)
-    (refuse_if (is_full_socket s.objects ends.1) errno.Enobufs (changes (Deliver ends.1 text))))
+    (refuse_if (nat_le MOST_MESSAGES (count_at s.objects ends.1)) errno.Enobufs (changes (Deliver ends.1 text))))
 about_of s task me (call.Recv name) = about s me (Named kinds.Socket name) (λ id.
-    ask (on me op.SocketReceive id) (refuse_if (is_empty_socket s.objects id) errno.Eagain (gives (message s.objects id) (Receive id))))
-about_of s task me (call.Seesock name) = about s me (Named kinds.Socket name) (λ id. ask (on me op.SocketVisible id) done)
+    ask (on me op.SocketReceive id) (refuse_if (count_at s.objects id == 0) errno.Eagain (returns (message s.objects id) (Receive id))))
+about_of s task me (call.Seesock name) = about s me (Named kinds.Socket name) (λ id. ask (on me op.SocketVisible id) does_nothing)
 about_of s task me (call.Setsockmac text name) = about s me (Asking kinds.Socket text (Named kinds.Socket name)) (relabel_by (on me op.SocketRelabel))
 about_of s task me call.Kldstat = about s me Nothing (λ none. shows (payload.Modules (map loaded s.specs)))
 about_of s task me (call.Kldload name) = about s me (Loading name) (λ m.
-    ask (alone me op.KldLoad) (refuse_by (option_map load_errno (load_fault s.booted s.specs s.numbers m))
-    (gives (payload.Slot (slot_for (wants_slot m) s.numbers)) (Load m))))
-about_of s task me (call.Kldunload name) = about s me (Unloading name) (λ m.
-    refuse_by (option_map unload_errno (unload_fault s.specs m)) (changes (Unload m)))
+    ask (by_itself me op.KldLoad) (refuse_by (option_map load_errno (load_fault s.booted s.specs s.numbers m))
+    (returns (payload.Slot (slot_for (wants_slot m) s.numbers)) (Load m))))
+about_of s task me (call.Kldunload name) = about s me (Unloading name) (λ m. refuse_by (option_map unload_errno (unload_fault s.specs m)) (changes (Unload m)))
 about_of s task me (call.Sysctl name value) = about s me (Setting (sysctl_module name) (option_map FirstMatch (switch value))) (set s payload.None)
-about_of s task me call.UgidfwList = about s me (Listed modules.Bsdextended) (λ listed. shows (rules (listed_rules s.specs)))
+about_of s task me call.UgidfwList = about s me (Listed modules.Bsdextended) (λ listed. shows (option_map_or payload.Rules (listed_rules s.specs) payload.None))
 about_of s task me (call.UgidfwAdd rule) = about s me (Setting (Some modules.Bsdextended) (Some (RuleAdd rule))) (λ asked.
-    set s (rule_number (change_in asked.0 asked.1 s.specs).0.number) asked)
+    set s (option_map_or payload.Rule (change_in asked.0 asked.1 s.specs).0.number payload.None) asked)
 about_of s task me (call.UgidfwSet n rule) = about s me (Setting (Some modules.Bsdextended) (Some (RuleSet n rule))) (set s payload.None)
 about_of s task me (call.UgidfwRemove n) = about s me (Setting (Some modules.Bsdextended) (Some (RuleRemove n))) (set s payload.None)

@@ -5,15 +5,15 @@ use Rattle.mf_item.specs.declared.view.SubjectView.{SubjectView}
 use Rattle.mf_objects.specs.Live.{Entities}
 use Rattle.mf_plan.specs.declared.outline.Check.{Check}
 use Rattle.mf_plan.specs.declared.views.CheckView.{CheckView}
-use Rattle.mf_plan.specs.Outline.{request_for, subject_in}
+use Rattle.mf_plan.specs.Outline.{request_with, subject_in}
 use Rattle.mf_plan.specs.Items.{nobody}
 use Rattle.mf_plan.specs.Views.{object_of}
 
 -- the view is that of the check, but for its subject
-pub record IsAsked (objects : Entities) (asked : Option Request) (check : Check) (seen : CheckView) : Type 0 where
+pub record IsViewOf (objects : Entities) (asked : Option Request) (check : Check) (seen : CheckView) : Type 0 where
   pub op : seen.op ≡ check.op
   pub object : seen.object ≡ option_map (object_of objects) check.object
-  pub request : seen.request ≡ request_for asked check.op
+  pub request : seen.request ≡ request_with asked check.op
   pub privilege : seen.privilege ≡ check.privilege
 
 -- the check has the subject of the one before

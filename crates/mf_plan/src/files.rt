@@ -4,14 +4,14 @@ ghost use Rattle.mf_item.specs.declared.operation.CheckOp.TheVariants as op;
 ghost use Rattle.mf_objects.specs.Lives.{IsLive, is_directory, is_vnode};
 ghost use Rattle.mf_calls.specs.declared.script.Call.TheVariants as call;
 ghost use Rattle.mf_plan.specs.Checks.{on};
-ghost use Rattle.mf_plan.specs.Ended.{ended, end_of, end_for};
+ghost use Rattle.mf_plan.specs.Ended.{end_for, ended_by, end_in};
 ghost use Rattle.mf_plan.specs.Found.{target_at};
 ghost use Rattle.mf_plan.specs.Outline as outline;
 ghost use Rattle.mf_plan.specs.Path.{lookup_along};
 ghost use Rattle.mf_plan.specs.Places.{IsTarget};
 ghost use Rattle.mf_plan.specs.Row as row;
-ghost use Rattle.mf_plan.specs.Ways.{look_up};
 ghost use Rattle.mf_plan.specs.Ways.Place.{Entry, File, Free};
+ghost use Rattle.mf_plan.specs.Ways.{way_to};
 
 use crate::lookup::lookup_along;
 use crate::outline::{Checks, ask};
@@ -29,7 +29,8 @@ use mf_objects::{Id, Objects};
 fn walk(objects: &Objects, caller: Id, path: &Path, checks: &mut Checks) -> Target
     requires empty { checks.old ≡ [] }
     requires asking { outline.IsAsking objects.now caller checks.old }
-    ensures checks { checks.new ≡ map (on caller op.VnodeLookup) (lookup_along objects.now path.now).lookups }
+    ensures checks { checks.new
+        ≡ map (on caller op.VnodeLookup) (lookup_along objects.now path.now).lookups }
     ensures few { length checks.new ≤ PATH_LIMIT }
     ensures target { result ≡ (lookup_along objects.now path.now).target }
     ensures live { IsTarget objects.now result }
@@ -58,8 +59,8 @@ fn ask_lookups(objects: &Objects, caller: Id, dirs: &[Id], checks: &mut Checks)
 fn file(state: &State, caller: Id, path: &Path, checks: &mut Checks) -> Result<Id, Errno>
     requires empty { checks.old ≡ [] }
     requires asking { outline.IsAsking state.now.objects caller checks.old }
-    ensures way { checks.new ≡ (look_up state.now caller (File path.now)).checks }
-    ensures there { result ≡ (look_up state.now caller (File path.now)).there }
+    ensures way { checks.new ≡ (way_to state.now caller (File path.now)).checks }
+    ensures there { result ≡ (way_to state.now caller (File path.now)).there }
     ensures live { IfOk result (λ id. IsLive is_vnode state.now.objects id) }
     ensures few { length checks.new ≤ PATH_LIMIT }
     ensures asking { outline.IsAsking state.now.objects caller checks.new }
@@ -71,8 +72,8 @@ fn file(state: &State, caller: Id, path: &Path, checks: &mut Checks) -> Result<I
 fn free(state: &State, caller: Id, path: &Path, checks: &mut Checks) -> Result<Id, Errno>
     requires empty { checks.old ≡ [] }
     requires asking { outline.IsAsking state.now.objects caller checks.old }
-    ensures way { checks.new ≡ (look_up state.now caller (Free path.now)).checks }
-    ensures there { result ≡ (look_up state.now caller (Free path.now)).there }
+    ensures way { checks.new ≡ (way_to state.now caller (Free path.now)).checks }
+    ensures there { result ≡ (way_to state.now caller (Free path.now)).there }
     ensures live { IfOk result (λ dir. IsLive is_directory state.now.objects dir) }
     ensures few { length checks.new ≤ PATH_LIMIT }
     ensures asking { outline.IsAsking state.now.objects caller checks.new }
@@ -84,9 +85,10 @@ fn free(state: &State, caller: Id, path: &Path, checks: &mut Checks) -> Result<I
 fn entry(state: &State, caller: Id, path: &Path, checks: &mut Checks) -> Result<(Id, Id), Errno>
     requires empty { checks.old ≡ [] }
     requires asking { outline.IsAsking state.now.objects caller checks.old }
-    ensures way { checks.new ≡ (look_up state.now caller (Entry path.now)).checks }
-    ensures there { result ≡ (look_up state.now caller (Entry path.now)).there }
-    ensures live { IfOk result (λ found. IsLive is_directory state.now.objects found.0 × IsLive is_vnode state.now.objects found.1) }
+    ensures way { checks.new ≡ (way_to state.now caller (Entry path.now)).checks }
+    ensures there { result ≡ (way_to state.now caller (Entry path.now)).there }
+    ensures live { IfOk result (λ found. IsLive is_directory state.now.objects found.0
+        × IsLive is_vnode state.now.objects found.1) }
     ensures few { length checks.new ≤ PATH_LIMIT }
     ensures asking { outline.IsAsking state.now.objects caller checks.new }
 {
@@ -105,7 +107,8 @@ pub(crate) fn on_file(
 ) -> Result<Option<Id>, Errno>
     requires empty { checks.old ≡ [] }
     requires asking { outline.IsAsking state.now.objects caller checks.old }
-    ensures row { ended checks.new result ≡ end_of (row.through (look_up state.now caller (File path.now)) (λ id. row.ask (on caller op id) row.done)) }
+    ensures row { ended_by checks.new result ≡ end_in (row.through (way_to state.now caller
+        (File path.now)) (λ id. row.ask (on caller op id) row.does_nothing)) }
     ensures target { IfOk result (λ target. target ≡ target_at state.now caller (File path.now)) }
     ensures asking { outline.IsAsking state.now.objects caller checks.new }
 {
@@ -122,7 +125,7 @@ pub(crate) fn exec(
 ) -> Result<Option<Id>, Errno>
     requires empty { checks.old ≡ [] }
     requires asking { outline.IsAsking state.now.objects caller checks.old }
-    ensures row { ended checks.new result ≡ end_for state.now caller (call.Exec path.now) }
+    ensures row { ended_by checks.new result ≡ end_for state.now caller (call.Exec path.now) }
     ensures target { IfOk result (λ target. target ≡ target_at state.now caller (File path.now)) }
     ensures asking { outline.IsAsking state.now.objects caller checks.new }
 {
@@ -143,7 +146,7 @@ pub(crate) fn create(
 ) -> Result<Option<Id>, Errno>
     requires empty { checks.old ≡ [] }
     requires asking { outline.IsAsking state.now.objects caller checks.old }
-    ensures row { ended checks.new result ≡ end_for state.now caller (call.Create path.now) }
+    ensures row { ended_by checks.new result ≡ end_for state.now caller (call.Create path.now) }
     ensures target { IfOk result (λ target. target ≡ target_at state.now caller (Free path.now)) }
     ensures asking { outline.IsAsking state.now.objects caller checks.new }
 {
@@ -163,7 +166,7 @@ pub(crate) fn read(
 ) -> Result<Option<Id>, Errno>
     requires empty { checks.old ≡ [] }
     requires asking { outline.IsAsking state.now.objects caller checks.old }
-    ensures row { ended checks.new result ≡ end_for state.now caller (call.Read path.now) }
+    ensures row { ended_by checks.new result ≡ end_for state.now caller (call.Read path.now) }
     ensures target { IfOk result (λ target. target ≡ target_at state.now caller (File path.now)) }
     ensures asking { outline.IsAsking state.now.objects caller checks.new }
 {
@@ -186,7 +189,8 @@ pub(crate) fn write(
     requires empty { checks.old ≡ [] }
     requires text { length text.now ≤ SCRIPT_LIMIT }
     requires asking { outline.IsAsking state.now.objects caller checks.old }
-    ensures row { ended checks.new result ≡ end_for state.now caller (call.Write path.now text.now) }
+    ensures row { ended_by checks.new result
+        ≡ end_for state.now caller (call.Write path.now text.now) }
     ensures target { IfOk result (λ target. target ≡ target_at state.now caller (File path.now)) }
     ensures asking { outline.IsAsking state.now.objects caller checks.new }
 {
@@ -210,7 +214,7 @@ pub(crate) fn readdir(
 ) -> Result<Option<Id>, Errno>
     requires empty { checks.old ≡ [] }
     requires asking { outline.IsAsking state.now.objects caller checks.old }
-    ensures row { ended checks.new result ≡ end_for state.now caller (call.Readdir path.now) }
+    ensures row { ended_by checks.new result ≡ end_for state.now caller (call.Readdir path.now) }
     ensures target { IfOk result (λ target. target ≡ target_at state.now caller (File path.now)) }
     ensures asking { outline.IsAsking state.now.objects caller checks.new }
 {
@@ -230,7 +234,7 @@ pub(crate) fn unlink(
 ) -> Result<Option<Id>, Errno>
     requires empty { checks.old ≡ [] }
     requires asking { outline.IsAsking state.now.objects caller checks.old }
-    ensures row { ended checks.new result ≡ end_for state.now caller (call.Unlink path.now) }
+    ensures row { ended_by checks.new result ≡ end_for state.now caller (call.Unlink path.now) }
     ensures target { IfOk result (λ target. target ≡ target_at state.now caller (Entry path.now)) }
     ensures asking { outline.IsAsking state.now.objects caller checks.new }
 {

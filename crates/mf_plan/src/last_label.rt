@@ -1,8 +1,11 @@
 //! The label text that was read last.
-ghost use Rattle.std.specs.Prelude.{◌≡◌, ◌↔◌, ◌≤◌, [], length, IfSome, IsSome, IsTrue};
+ghost use Rattle.std.specs.Prelude.{◌≡◌, ◌↔◌, ◌≤◌, ℕ, List, [], length, IfSome, IsSome, IsTrue};
 ghost use Rattle.std.specs.Result.{result_ok};
 ghost use Rattle.mf_labeltext.specs.Reading.{request_in};
+ghost use Rattle.mf_objects.specs.declared.id.Id.{Id};
+ghost use Rattle.mf_plan.specs.declared.state.State.{State};
 ghost use Rattle.mf_plan.specs.LastLabel as spec;
+ghost use Rattle.mf_plan.specs.Rows.{about_of};
 
 use mf_calls::Call;
 use mf_cred::ArrayVec;
@@ -46,7 +49,8 @@ impl LastLabel {
 
     /// Keeps the label text of the call, where it has one. One that is too long isn't kept.
     pub fn keep(&mut self, call: &Call)
-        ensures { self.new ≡ spec.kept_after self.old call.now }
+        ensures { (state : State) → (task : List ℕ) → (me : Id)
+            → self.new ≡ spec.kept_at self.old (about_of state task me call.now).place }
     {
         match call {
             Call::Setpmac(label)

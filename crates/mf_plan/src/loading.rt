@@ -1,7 +1,7 @@
 //! The checks and tests of the calls that load and unload modules.
 ghost use Rattle.std.specs.Prelude.{◌≡◌, [], IfOk, None};
 ghost use Rattle.mf_calls.specs.declared.script.Call.TheVariants as call;
-ghost use Rattle.mf_plan.specs.Ended.{ended, end_of, end_for};
+ghost use Rattle.mf_plan.specs.Ended.{end_for, ended_by, end_in};
 ghost use Rattle.mf_plan.specs.Loading as spec;
 ghost use Rattle.mf_plan.specs.Outline as outline;
 ghost use Rattle.mf_plan.specs.Row as row;
@@ -15,7 +15,8 @@ use mf_policy::{load_fault, unload_fault};
 
 /// How a load of the module ends.
 fn end_of_load(state: &State, wanted: Module) -> Result<Option<Id>, Errno>
-    ensures row { ended [] result ≡ end_of (row.refuse_by (spec.load_refusal state.now wanted) row.done) }
+    ensures row { ended_by [] result
+        ≡ end_in (row.refuse_by (spec.load_refusal state.now wanted) row.does_nothing) }
     ensures target { IfOk result (λ target. target ≡ None) }
 {
     match load_fault(state.booted, &state.specs, state.numbers.given(), wanted) {
@@ -26,7 +27,8 @@ fn end_of_load(state: &State, wanted: Module) -> Result<Option<Id>, Errno>
 
 /// How an unload of the module ends.
 fn end_of_unload(state: &State, wanted: Module) -> Result<Option<Id>, Errno>
-    ensures row { ended [] result ≡ end_of (row.refuse_by (spec.unload_refusal state.now wanted) row.done) }
+    ensures row { ended_by [] result
+        ≡ end_in (row.refuse_by (spec.unload_refusal state.now wanted) row.does_nothing) }
     ensures target { IfOk result (λ target. target ≡ None) }
 {
     match unload_fault(&state.specs, wanted) {
@@ -43,7 +45,7 @@ pub(crate) fn kldload(
 ) -> Result<Option<Id>, Errno>
     requires empty { checks.old ≡ [] }
     requires asking { outline.IsAsking state.now.objects caller checks.old }
-    ensures row { ended checks.new result ≡ end_for state.now caller (call.Kldload name.now) }
+    ensures row { ended_by checks.new result ≡ end_for state.now caller (call.Kldload name.now) }
     ensures target { IfOk result (λ target. target ≡ None) }
     ensures asking { outline.IsAsking state.now.objects caller checks.new }
 {
@@ -61,7 +63,7 @@ pub(crate) fn kldunload(
 ) -> Result<Option<Id>, Errno>
     requires empty { checks.old ≡ [] }
     requires asking { outline.IsAsking state.now.objects caller checks.old }
-    ensures row { ended checks.new result ≡ end_for state.now caller (call.Kldunload name.now) }
+    ensures row { ended_by checks.new result ≡ end_for state.now caller (call.Kldunload name.now) }
     ensures target { IfOk result (λ target. target ≡ None) }
     ensures asking { outline.IsAsking state.now.objects caller checks.new }
 {

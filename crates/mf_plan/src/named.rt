@@ -1,4 +1,5 @@
 //! Calls on processes, pipes and sockets, which go by name.
+ghost use Rattle.std.specs.Option.{ok_or};
 ghost use Rattle.std.specs.Prelude.{◌≡◌, ◌≤◌, [], length, if◌then◌else◌, is_some, Err, IfOk, IfSome, IsSome, None, Ok};
 ghost use Rattle.mf_errno.specs.declared.errno.Errno.TheVariants as errno;
 ghost use Rattle.mf_item.specs.declared.view.Kind.TheVariants as kinds;
@@ -6,11 +7,12 @@ ghost use Rattle.mf_objects.specs.Live.{live_at};
 ghost use Rattle.mf_calls.specs.WellFormed.{IsName};
 ghost use Rattle.mf_calls.specs.declared.script.Call.TheVariants as call;
 ghost use Rattle.mf_plan.specs.Checks.{on};
-ghost use Rattle.mf_plan.specs.Ended.{ended, end_of, end_by, end_for};
+ghost use Rattle.mf_plan.specs.Ended.{end_by, end_for, ended_by, end_in};
 ghost use Rattle.mf_plan.specs.Found.{target_at};
 ghost use Rattle.mf_plan.specs.Outline as outline;
 ghost use Rattle.mf_plan.specs.Row as row;
-ghost use Rattle.mf_plan.specs.Ways as way;
+ghost use Rattle.mf_plan.specs.Views.{entity_named};
+ghost use Rattle.mf_plan.specs.Ways.{missing, straight, way_to};
 ghost use Rattle.mf_plan.specs.Ways.Place.{Named, Sockets};
 
 use crate::names::child_name;
@@ -25,8 +27,9 @@ use mf_objects::{Id, MOST_MESSAGES, Objects};
 /// The tests of a call that makes an entity: EEXIST where `holder` has its name already, ENFILE where no further entity
 /// can be made.
 pub(crate) fn make(state: &State, holder: Option<Id>) -> Result<Option<Id>, Errno>
-    ensures row { ended [] result
-        ≡ end_of (row.through (way.straight (if is_some holder then Err errno.Eexist else Ok (tt {0}))) (λ free. row.if_room state.now row.done)) }
+    ensures row { ended_by [] result
+        ≡ end_in (row.through (straight (if is_some holder then Err errno.Eexist else Ok (tt {0})))
+        (λ free. row.if_room state.now row.does_nothing)) }
     ensures target { IfOk result (λ target. target ≡ None) }
 {
     if holder.is_some() {
@@ -42,7 +45,7 @@ pub(crate) fn make(state: &State, holder: Option<Id>) -> Result<Option<Id>, Errn
 pub(crate) fn fork(state: &State, task: &str, _caller: Id, child: &str) -> Result<Option<Id>, Errno>
     requires task { IsName task.now }
     requires child { IsName child.now }
-    ensures row { ended [] result ≡ end_by state.now task.now _caller (call.Fork child.now) }
+    ensures row { ended_by [] result ≡ end_by state.now task.now _caller (call.Fork child.now) }
     ensures target { IfOk result (λ target. target ≡ None) }
 {
     let name = child_name(task, child);
@@ -51,7 +54,7 @@ pub(crate) fn fork(state: &State, task: &str, _caller: Id, child: &str) -> Resul
 
 /// The live process, pipe or socket of a name.
 fn named(objects: &Objects, kind: Kind, name: &str) -> Option<Id>
-    ensures value { result ≡ way.named objects.now kind name.now }
+    ensures value { result ≡ entity_named objects.now kind name.now }
     ensures live { IfSome result (λ id. IsSome (live_at objects.now id)) }
 {
     match kind {
@@ -64,7 +67,7 @@ fn named(objects: &Objects, kind: Kind, name: &str) -> Option<Id>
 
 /// The errno where none has the name.
 fn missing(kind: Kind) -> Errno
-    ensures { result ≡ way.missing kind }
+    ensures { result ≡ missing kind }
 {
     match kind {
         Kind::Process => Errno::Esrch,
@@ -74,7 +77,7 @@ fn missing(kind: Kind) -> Errno
 
 /// Which process, pipe or socket a name names.
 fn holder(state: &State, kind: Kind, name: &Name) -> Result<Id, Errno>
-    ensures there { result ≡ way.or_fail (way.missing kind) (way.named state.now.objects kind name.now) }
+    ensures there { result ≡ ok_or (entity_named state.now.objects kind name.now) (missing kind) }
     ensures live { IfOk result (λ id. IsSome (live_at state.now.objects id)) }
 {
     named(&state.objects, kind, name.as_str()).ok_or(missing(kind))
@@ -91,9 +94,11 @@ pub(crate) fn on_named(
 ) -> Result<Option<Id>, Errno>
     requires empty { checks.old ≡ [] }
     requires asking { outline.IsAsking state.now.objects caller checks.old }
-    ensures row { ended checks.new result
-        ≡ end_of (row.through (way.look_up state.now caller (Named kind name.now)) (λ id. row.ask (on caller op id) row.done)) }
-    ensures target { IfOk result (λ target. target ≡ target_at state.now caller (Named kind name.now)) }
+    ensures row { ended_by checks.new result
+        ≡ end_in (row.through (way_to state.now caller (Named kind name.now))
+        (λ id. row.ask (on caller op id) row.does_nothing)) }
+    ensures target { IfOk result (λ target. target
+        ≡ target_at state.now caller (Named kind name.now)) }
     ensures asking { outline.IsAsking state.now.objects caller checks.new }
 {
     let id = holder(state, kind, name)?;
@@ -109,8 +114,9 @@ pub(crate) fn pread(
 ) -> Result<Option<Id>, Errno>
     requires empty { checks.old ≡ [] }
     requires asking { outline.IsAsking state.now.objects caller checks.old }
-    ensures row { ended checks.new result ≡ end_for state.now caller (call.Pread name.now) }
-    ensures target { IfOk result (λ target. target ≡ target_at state.now caller (Named kinds.Pipe name.now)) }
+    ensures row { ended_by checks.new result ≡ end_for state.now caller (call.Pread name.now) }
+    ensures target { IfOk result (λ target. target
+        ≡ target_at state.now caller (Named kinds.Pipe name.now)) }
     ensures asking { outline.IsAsking state.now.objects caller checks.new }
 {
     let id = holder(state, Kind::Pipe, name)?;
@@ -131,8 +137,10 @@ pub(crate) fn pwrite(
     requires empty { checks.old ≡ [] }
     requires text { length text.now ≤ SCRIPT_LIMIT }
     requires asking { outline.IsAsking state.now.objects caller checks.old }
-    ensures row { ended checks.new result ≡ end_for state.now caller (call.Pwrite name.now text.now) }
-    ensures target { IfOk result (λ target. target ≡ target_at state.now caller (Named kinds.Pipe name.now)) }
+    ensures row { ended_by checks.new result
+        ≡ end_for state.now caller (call.Pwrite name.now text.now) }
+    ensures target { IfOk result (λ target. target
+        ≡ target_at state.now caller (Named kinds.Pipe name.now)) }
     ensures asking { outline.IsAsking state.now.objects caller checks.new }
 {
     let id = holder(state, Kind::Pipe, name)?;
@@ -154,8 +162,10 @@ pub(crate) fn send(
 ) -> Result<Option<Id>, Errno>
     requires empty { checks.old ≡ [] }
     requires asking { outline.IsAsking state.now.objects caller checks.old }
-    ensures row { ended checks.new result ≡ end_for state.now caller (call.Send from.now to.now []) }
-    ensures target { IfOk result (λ target. target ≡ target_at state.now caller (Sockets from.now to.now)) }
+    ensures row { ended_by checks.new result
+        ≡ end_for state.now caller (call.Send from.now to.now []) }
+    ensures target { IfOk result (λ target. target
+        ≡ target_at state.now caller (Sockets from.now to.now)) }
     ensures asking { outline.IsAsking state.now.objects caller checks.new }
 {
     let objects = &state.objects;
@@ -177,8 +187,9 @@ pub(crate) fn recv(
 ) -> Result<Option<Id>, Errno>
     requires empty { checks.old ≡ [] }
     requires asking { outline.IsAsking state.now.objects caller checks.old }
-    ensures row { ended checks.new result ≡ end_for state.now caller (call.Recv name.now) }
-    ensures target { IfOk result (λ target. target ≡ target_at state.now caller (Named kinds.Socket name.now)) }
+    ensures row { ended_by checks.new result ≡ end_for state.now caller (call.Recv name.now) }
+    ensures target { IfOk result (λ target. target
+        ≡ target_at state.now caller (Named kinds.Socket name.now)) }
     ensures asking { outline.IsAsking state.now.objects caller checks.new }
 {
     let id = holder(state, Kind::Socket, name)?;

@@ -52,7 +52,8 @@ pub fn child_name(task: &str, child: &str) -> ChildName
 pub fn caller_of(objects: &Objects, task: &str, child: Option<&str>) -> Option<Id>
     requires task { IsName task.now }
     requires child { IfSome (option_copied child) IsName }
-    ensures value { result ≡ process_named objects.now (spec.caller_name task.now (option_copied child.entry)) }
+    ensures value { result
+        ≡ process_named objects.now (spec.caller_name task.now (option_copied child.entry)) }
     ensures live { IfSome result (λ id. IsLive is_process objects.now id) }
 {
     match child {

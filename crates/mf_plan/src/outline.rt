@@ -82,7 +82,8 @@ pub(crate) fn ask_delivery(_objects: &Objects, caller: Id, from: Id, to: Id, che
     requires to { IsSome (live_at _objects.now to) }
     requires few { length checks.old < MOST_CHECKS }
     requires asking { spec.IsAsking _objects.now caller checks.old }
-    ensures checks { checks.new ≡ checks.old ++ check.by_socket caller from op.SocketDeliver to ∷ [] }
+    ensures checks { checks.new
+        ≡ checks.old ++ check.by_socket caller from op.SocketDeliver to ∷ [] }
     ensures asking { spec.IsAsking _objects.now caller checks.new }
 {
     checks.push(Check {
@@ -114,7 +115,7 @@ pub(crate) fn ask_privilege(_objects: &Objects, caller: Id, privilege: Priv, che
 pub(crate) fn ask_alone(_objects: &Objects, caller: Id, op: CheckOp, checks: &mut Checks)
     requires few { length checks.old < MOST_CHECKS }
     requires asking { spec.IsAsking _objects.now caller checks.old }
-    ensures checks { checks.new ≡ checks.old ++ check.alone caller op ∷ [] }
+    ensures checks { checks.new ≡ checks.old ++ check.by_itself caller op ∷ [] }
     ensures asking { spec.IsAsking _objects.now caller checks.new }
 {
     checks.push(Check {

@@ -5,7 +5,7 @@ ghost use Rattle.mf_calls.specs.WellFormed.{IsFormedCall, IsName};
 ghost use Rattle.mf_plan.specs.declared.plan.Tail.TheVariants.{Do};
 ghost use Rattle.mf_item.specs.declared.operation.CheckOp.TheVariants as op;
 ghost use Rattle.mf_plan.specs.Checks as check;
-ghost use Rattle.mf_plan.specs.Ended.{ended, end_by};
+ghost use Rattle.mf_plan.specs.Ended.{end_by, ended_by};
 ghost use Rattle.mf_plan.specs.Found.{AreFound, asked_at, target_at};
 ghost use Rattle.mf_plan.specs.Outline as outlines;
 ghost use Rattle.mf_plan.specs.Plan as spec;
@@ -52,9 +52,12 @@ impl Plan {
         requires task { IsName task.now }
         requires child { IfSome (option_copied child) IsName }
         requires formed { IsFormedCall call.now }
-        ensures plan { self.new ≡ spec.plan_of state.now task.now (option_copied child.entry) call.now }
-        ensures found { self.new.tail ≡ Do → AreFound state.now task.now (option_copied child.entry) call.now result }
-        ensures caller { result.caller ≡ process_named state.now.objects (caller_name task.now (option_copied child.entry)) }
+        ensures plan { self.new
+            ≡ spec.plan_of state.now task.now (option_copied child.entry) call.now }
+        ensures found { self.new.tail ≡ Do
+            → AreFound state.now task.now (option_copied child.entry) call.now result }
+        ensures caller { result.caller
+            ≡ process_named state.now.objects (caller_name task.now (option_copied child.entry)) }
     {
         self.label.keep(call);
         let outline = outline_of(state, task, child, call, &self.label);
@@ -73,9 +76,12 @@ impl Plan {
         requires task { IsName task.now }
         requires child { IfSome (option_copied child) IsName }
         requires formed { IsFormedCall call.now }
-        ensures is { IsSome result ↔ (self.now ≡ spec.plan_of state.now task.now (option_copied child.entry) call.now) }
-        ensures found { self.now.tail ≡ Do → IfSome result (λ found. AreFound state.now task.now (option_copied child.entry) call.now found) }
-        ensures caller { IfSome result (λ found. found.caller ≡ process_named state.now.objects (caller_name task.now (option_copied child.entry))) }
+        ensures is { IsSome result
+            ↔ (self.now ≡ spec.plan_of state.now task.now (option_copied child.entry) call.now) }
+        ensures found { self.now.tail ≡ Do → IfSome result
+            (λ found. AreFound state.now task.now (option_copied child.entry) call.now found) }
+        ensures caller { IfSome result (λ found. found.caller
+            ≡ process_named state.now.objects (caller_name task.now (option_copied child.entry))) }
     {
         let outline = outline_of(state, task, child, call, &self.label);
         if self.is_outlined(&state.objects, &outline) {
@@ -101,8 +107,10 @@ pub fn outline_of(
     ensures plan { outlines.outlined state.now.objects result
         ≡ spec.plan_of state.now task.now (option_copied child.entry) call.now }
     ensures live { outlines.AreLive state.now.objects result.checks }
-    ensures caller { result.found.caller ≡ process_named state.now.objects (caller_name task.now (option_copied child.entry)) }
-    ensures found { result.tail ≡ Do → AreFound state.now task.now (option_copied child.entry) call.now result.found }
+    ensures caller { result.found.caller
+        ≡ process_named state.now.objects (caller_name task.now (option_copied child.entry)) }
+    ensures found { result.tail ≡ Do
+        → AreFound state.now task.now (option_copied child.entry) call.now result.found }
 {
     // It is filled in where it lies: a move would copy all the room for checks.
     let mut outline = Outline {
@@ -151,7 +159,7 @@ fn has_privilege(
 fn on_caller(objects: &Objects, caller: Id, checks: &mut Checks) -> Result<Option<Id>, Errno>
     requires empty { checks.old ≡ [] }
     requires asking { outlines.IsAsking objects.now caller checks.old }
-    ensures checks { checks.new ≡ check.alone caller op.CredRelabel ∷ [] }
+    ensures checks { checks.new ≡ check.by_itself caller op.CredRelabel ∷ [] }
     ensures target { result ≡ Ok (Some caller) }
     ensures asking { outlines.IsAsking objects.now caller checks.new }
 {
@@ -175,9 +183,11 @@ fn ask_for(
     requires empty { checks.old ≡ [] }
     requires unasked { asked.old ≡ None }
     requires asking { outlines.IsAsking state.now.objects caller checks.old }
-    ensures row { ended checks.new result ≡ end_by state.now task.now caller call.now }
-    ensures target { IfOk result (λ target. target ≡ target_at state.now caller (about_of state.now task.now caller call.now).place) }
-    ensures request { IfOk result (λ target. asked.new ≡ asked_at state.now (about_of state.now task.now caller call.now).place) }
+    ensures row { ended_by checks.new result ≡ end_by state.now task.now caller call.now }
+    ensures target { IfOk result (λ target. target
+        ≡ target_at state.now caller (about_of state.now task.now caller call.now).place) }
+    ensures request { IfOk result (λ target. asked.new
+        ≡ asked_at state.now (about_of state.now task.now caller call.now).place) }
     ensures asking { outlines.IsAsking state.now.objects caller checks.new }
 {
     let (objects, specs) = (&state.objects, &state.specs);

@@ -8,13 +8,13 @@ ghost use Rattle.mf_calls.specs.declared.script.Call.TheVariants as call;
 ghost use Rattle.mf_errno.specs.declared.module.Module.TheVariants as modules;
 ghost use Rattle.mf_plan.specs.declared.reply.Payload.TheVariants as payload;
 ghost use Rattle.mf_plan.specs.declared.state.State.{State};
-ghost use Rattle.mf_plan.specs.Ended.{ended, end_by, end_of, end_for};
+ghost use Rattle.mf_plan.specs.Ended.{end_by, end_for, ended_by, end_in};
 ghost use Rattle.mf_plan.specs.Found.{asked_change, is_setting, setting_at};
 ghost use Rattle.mf_plan.specs.Row as row;
 ghost use Rattle.mf_plan.specs.Rows.{about_of, set};
 ghost use Rattle.mf_plan.specs.Settings as spec;
-ghost use Rattle.mf_plan.specs.Ways.{look_up};
 ghost use Rattle.mf_plan.specs.Ways.Place.{Setting};
+ghost use Rattle.mf_plan.specs.Ways.{way_to};
 
 use crate::state::State;
 use mf_calls::Call;
@@ -26,7 +26,8 @@ use mf_policy::Change;
 /// setting has no such value, and for a call that changes none. Whether the module is listed, and the change is refused, is the plan's
 /// matter.
 pub fn asked_change(call: &Call) -> Option<(Module, Change)>
-    ensures value { (state : State) → (task : List ℕ) → (me : Id) → result ≡ asked_change (about_of state task me call.now).place }
+    ensures value { (state : State) → (task : List ℕ) → (me : Id)
+        → result ≡ asked_change (about_of state task me call.now).place }
     ensures change { IsFormedCall call.now → IfSome result (λ asked. IsChange asked.1) }
 {
     let (module, change) = setting_of(call);
@@ -57,9 +58,11 @@ fn switch(value: &str) -> Option<bool>
     }
 }
 
-/// The module whose setting the call changes, and the change that it is to have, where they are known.
+/// The module whose setting the call changes, and the change that it is to have, where they are known. The clause says so of every
+/// call by its place, so a call that is new and changes a setting is refused here until it has its line.
 fn setting_of(call: &Call) -> (Option<Module>, Option<Change>)
-    ensures value { (state : State) → (task : List ℕ) → (me : Id) → result ≡ setting_at (about_of state task me call.now).place }
+    ensures value { (state : State) → (task : List ℕ) → (me : Id)
+        → result ≡ setting_at (about_of state task me call.now).place }
     ensures change { IsFormedCall call.now → IfSome result.1 IsChange }
 {
     match call {
@@ -70,40 +73,7 @@ fn setting_of(call: &Call) -> (Option<Module>, Option<Change>)
         Call::UgidfwAdd(rule) => of_rules(Change::RuleAdd(*rule)),
         Call::UgidfwSet(number, rule) => of_rules(Change::RuleSet(*number, *rule)),
         Call::UgidfwRemove(number) => of_rules(Change::RuleRemove(*number)),
-        Call::Fork(_)
-        | Call::Exit
-        | Call::See(_)
-        | Call::Signal(_)
-        | Call::Debug(_)
-        | Call::Sched(_)
-        | Call::Priv(_)
-        | Call::Getpmac
-        | Call::Setpmac(_)
-        | Call::Exec(_)
-        | Call::Create(_)
-        | Call::Mkdir(_)
-        | Call::Read(_)
-        | Call::Write(..)
-        | Call::Stat(_)
-        | Call::Getfmac(_)
-        | Call::Setfmac(..)
-        | Call::Readdir(_)
-        | Call::Chmod(..)
-        | Call::Unlink(_)
-        | Call::Pipe(_)
-        | Call::Socket(_)
-        | Call::Pread(_)
-        | Call::Pwrite(..)
-        | Call::Pstat(_)
-        | Call::Setpipemac(..)
-        | Call::Send(..)
-        | Call::Recv(_)
-        | Call::Seesock(_)
-        | Call::Setsockmac(..)
-        | Call::Kldstat
-        | Call::Kldload(_)
-        | Call::Kldunload(_)
-        | Call::UgidfwList => (None, None),
+        _ => (None, None),
     }
 }
 
@@ -123,7 +93,7 @@ pub(crate) fn change_setting(
 ) -> Result<Option<Id>, Errno>
     requires lives { IsSome (live_at state.now.objects caller) }
     requires setting { is_setting (about_of state.now _task.now caller call.now).place ≡ true }
-    ensures row { ended [] result ≡ end_by state.now _task.now caller call.now }
+    ensures row { ended_by [] result ≡ end_by state.now _task.now caller call.now }
     ensures target { IfOk result (λ target. target ≡ None) }
 {
     let (module, change) = setting_of(call);
@@ -138,8 +108,9 @@ fn judge(
     change: Option<Change>,
 ) -> Result<Option<Id>, Errno>
     requires lives { IsSome (live_at state.now.objects caller) }
-    ensures row { ended [] result
-        ≡ end_of (row.through (look_up state.now caller (Setting «module» change)) (set state.now payload.None)) }
+    ensures row { ended_by [] result
+        ≡ end_in (row.through
+        (way_to state.now caller (Setting «module» change)) (set state.now payload.None)) }
     ensures target { IfOk result (λ target. target ≡ None) }
 {
     if !state.objects.cred(caller).is_root() {
@@ -158,7 +129,7 @@ fn judge(
 
 /// The test of the call that lists the rules about files.
 pub(crate) fn list_rules(state: &State, _caller: Id) -> Result<Option<Id>, Errno>
-    ensures row { ended [] result ≡ end_for state.now _caller call.UgidfwList }
+    ensures row { ended_by [] result ≡ end_for state.now _caller call.UgidfwList }
     ensures target { IfOk result (λ target. target ≡ None) }
 {
     if state.specs.is_listed(Module::Bsdextended) {

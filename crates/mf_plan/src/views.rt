@@ -1,5 +1,5 @@
 //! Checks and live entities as policies see them, and what the framework tests of entities.
-ghost use Rattle.std.specs.Prelude.{◌≡◌, ◌↔◌, ◌≤◌, ◌<◌, ◌+◌, length, map, option_map, take, IfSome, IsSome, IsTrue, Some, None, slice_index_or};
+ghost use Rattle.std.specs.Prelude.{◌≡◌, ◌↔◌, ◌≤◌, ◌<◌, ◌+◌, length, nat_le, map, option_map, take, IfSome, IsSome, IsTrue, Some, None, slice_index_or};
 ghost use Rattle.mf_objects.specs.Live.{live_at};
 ghost use Rattle.mf_plan.specs.Outline as outline;
 ghost use Rattle.mf_plan.specs.Items.{HaveSubjects, item_with, items_with, nobody};
@@ -42,7 +42,8 @@ impl CheckView {
 
     /// The check as policies see it, with its subject.
     pub(crate) fn item<'a>(&'a self, subject: &'a SubjectView) -> Item<'a>
-        ensures { result ≡ record { op = self.now.op; subject = subject.now; object = self.now.object; request = self.now.request; privilege = self.now.privilege } }
+        ensures { result
+            ≡ record { op = self.now.op; subject = subject.now; object = self.now.object; request = self.now.request; privilege = self.now.privilege } }
     {
         Item::new(
             self.op,
@@ -132,15 +133,15 @@ fn is_relabel(op: CheckOp) -> bool
 }
 
 /// The request that goes with a check of that operation.
-fn request_for(asked: &Option<Request>, op: CheckOp) -> Option<Request>
-    ensures { result ≡ outline.request_for asked.now op }
+fn request_with(asked: &Option<Request>, op: CheckOp) -> Option<Request>
+    ensures { result ≡ outline.request_with asked.now op }
 {
     if is_relabel(op) { *asked } else { None }
 }
 
 /// Whether that request is the one that goes with a check of that operation. Nothing is copied.
 fn is_request(asked: &Option<Request>, op: CheckOp, request: &Option<Request>) -> bool
-    ensures { IsTrue result ↔ (request.now ≡ outline.request_for asked.now op) }
+    ensures { IsTrue result ↔ (request.now ≡ outline.request_with asked.now op) }
 {
     match (asked, request) {
         (None, None) => true,
@@ -153,7 +154,7 @@ fn is_request(asked: &Option<Request>, op: CheckOp, request: &Option<Request>) -
 /// Whether the view is that of the check, but for its subject.
 fn is_asked(objects: &Objects, asked: &Option<Request>, check: Check, seen: &CheckView) -> bool
     requires { outline.IsLiveCheck objects.now check }
-    ensures { IsTrue result ↔ viewing.IsAsked objects.now asked.now check seen.now }
+    ensures { IsTrue result ↔ viewing.IsViewOf objects.now asked.now check seen.now }
 {
     seen.op == check.op
         && is_object(objects, check.object, &seen.object)
@@ -190,7 +191,8 @@ fn keep_first(objects: &Objects, checks: &[Check], subjects: &mut Subjects) -> O
 fn is_alone(objects: &Objects, check: Check, subjects: &[SubjectView]) -> bool
     requires { outline.IsLiveCheck objects.now check }
     ensures one { IsTrue result → length subjects.now ≡ 1 }
-    ensures subject { IsTrue result → slice_index_or subjects.now 0 nobody ≡ outline.subject_in objects.now check }
+    ensures subject { IsTrue result
+        → slice_index_or subjects.now 0 nobody ≡ outline.subject_in objects.now check }
 {
     subjects.len() == 1 && is_subject(objects, check, &subjects[0])
 }
@@ -205,7 +207,8 @@ fn place_of_subject(
     requires live { outline.IsLiveCheck objects.now check }
     requires few { length subjects.old < MOST_SUBJECTS }
     requires last { viewing.EndsWith objects.now subjects.old last }
-    ensures place { slice_index_or subjects.new result nobody ≡ outline.subject_in objects.now check }
+    ensures place { slice_index_or subjects.new result nobody
+        ≡ outline.subject_in objects.now check }
     ensures within { result < length subjects.new }
     ensures last { viewing.EndsWith objects.now subjects.new (Some check) }
     ensures grows { viewing.GrowsTo subjects.old subjects.new }
@@ -226,7 +229,7 @@ fn look_again(
     seen: &mut CheckView,
 )
     requires { outline.IsLiveCheck objects.now check }
-    ensures asked { viewing.IsAsked objects.now asked.now check seen.new }
+    ensures asked { viewing.IsViewOf objects.now asked.now check seen.new }
     ensures subject { seen.new.subject ≡ subject }
 {
     seen.op = check.op;
@@ -236,7 +239,7 @@ fn look_again(
         seen.object = object_in(objects, check.object);
     }
     if !is_request(asked, check.op, &seen.request) {
-        seen.request = request_for(asked, check.op);
+        seen.request = request_with(asked, check.op);
     }
 }
 
@@ -253,7 +256,8 @@ pub(crate) fn fill_views(
     requires few { length checks.now ≤ MOST_CHECKS }
     requires room { length checks.now ≤ length seen.old }
     requires live { outline.AreLive objects.now checks.now }
-    ensures items { items_with subjects.new (take (length checks.now) seen.new) ≡ map (outline.item_asking objects.now asked.now) checks.now }
+    ensures items { items_with subjects.new (take (length checks.now) seen.new)
+        ≡ map (outline.item_asking objects.now asked.now) checks.now }
     ensures places { HaveSubjects subjects.new (take (length checks.now) seen.new) }
 {
     let mut last = keep_first(objects, checks, subjects);
@@ -277,7 +281,8 @@ fn is_subject_at(
     requires live { outline.IsLiveCheck objects.now check }
     requires place { place < length subjects.now }
     requires last { viewing.IsFoundAt objects.now subjects.now last before }
-    ensures { IsTrue result ↔ (slice_index_or subjects.now place nobody ≡ outline.subject_in objects.now check) }
+    ensures { IsTrue result
+        ↔ (slice_index_or subjects.now place nobody ≡ outline.subject_in objects.now check) }
 {
     place == before && goes_on(last, check) || is_subject(objects, check, &subjects[place])
 }
@@ -296,8 +301,10 @@ fn is_view(
     requires live { outline.IsLiveCheck objects.now check }
     requires place { seen.now.subject < length subjects.now }
     requires last { viewing.IsFoundAt objects.now subjects.now last before }
-    ensures is { IsTrue result ↔ (item_with subjects.now seen.now ≡ outline.item_asking objects.now asked.now check) }
-    ensures found { IsTrue result → viewing.IsFoundAt objects.now subjects.now (Some check) seen.now.subject }
+    ensures is { IsTrue result
+        ↔ (item_with subjects.now seen.now ≡ outline.item_asking objects.now asked.now check) }
+    ensures found { IsTrue result
+        → viewing.IsFoundAt objects.now subjects.now (Some check) seen.now.subject }
 {
     is_asked(objects, asked, check, seen)
         && is_subject_at(objects, last, before, check, subjects, seen.subject)
@@ -314,7 +321,8 @@ pub(crate) fn are_views(
 ) -> bool
     requires live { outline.AreLive objects.now checks.now }
     requires places { HaveSubjects subjects.now seen.now }
-    ensures { IsTrue result ↔ (items_with subjects.now seen.now ≡ map (outline.item_asking objects.now asked.now) checks.now) }
+    ensures { IsTrue result ↔ (items_with subjects.now seen.now
+        ≡ map (outline.item_asking objects.now asked.now) checks.now) }
 {
     if seen.len() != checks.len() {
         return false;
@@ -333,7 +341,7 @@ pub(crate) fn are_views(
 
 /// Whether no entity can be made.
 pub(crate) fn is_full(objects: &Objects) -> bool
-    ensures { result ≡ view.is_full objects.now }
+    ensures { result ≡ nat_le MOST_ENTITIES (length objects.now.live) }
 {
     objects.live() >= MOST_ENTITIES
 }

@@ -1,8 +1,9 @@
 -- What a call changes, where it is done, stays within the bounds: by the effect, and by the call what the effect needs.
 use Rattle.std.proofs.Common.{◌≡◌, ℕ, ◌+◌, ◌<◌, ◌≤◌, ◌^◌, Bool, true, false, List, [], ◌∷◌, length, drop, Option, Some, None, Result, Ok, Err, refl, ap, subst, arith}
-use Rattle.std.specs.Prelude.{All, IfSome, if◌then◌else◌, nat_eq, not, option_map}
+use Rattle.std.specs.Prelude.{All, IfSome, if◌then◌else◌, nat_eq, nat_le, not, option_map}
 use Rattle.std.specs.List.{AllByRecursion}
 use Rattle.std.proofs.lemmas.Bool.{leb-false, ltb-false}
+use Rattle.std.specs.Option.{ok_or}
 use Rattle.mf_errno.specs.declared.errno.Errno.{Errno}
 use Rattle.mf_errno.specs.declared.errno.Errno.TheVariants as errno
 use Rattle.mf_errno.specs.declared.module.Module.{Module}
@@ -37,21 +38,23 @@ use Rattle.mf_plan.specs.Names.{child_name}
 use Rattle.mf_plan.specs.Path.{entry_at, free_at, last_name, lookup_along, lookup_from, root}
 use Rattle.mf_plan.specs.Effect.{Effect}
 use Rattle.mf_plan.specs.Effect.Effect.{Unchanged, Make, Append, Deliver, Empty, Receive, SetMode, Unlink, End, Relabel, Load, Unload, Set}
-use Rattle.mf_plan.specs.Plan.{row_by, row_for}
+use Rattle.mf_plan.specs.Plan.{row_for}
 use Rattle.mf_plan.specs.Row.{Row, through}
 use Rattle.mf_plan.specs.Rows.{about_of, new_file}
 use Rattle.mf_plan.specs.Settings.{switch, sysctl_module}
-use Rattle.mf_plan.specs.Ways.{At, go_on, look_up, or_fail}
-use Rattle.mf_plan.specs.Views.{is_dir, is_full, overfills, process_named}
+use Rattle.mf_plan.specs.Ways.{At, way_to}
+use Rattle.mf_plan.specs.Views.{is_dir, overfills, process_named}
 use Rattle.mf_plan.proofs.LookingUp.{last_entry}
+use Rattle.mf_plan.proofs.Finding.{row_by}
 use Rattle.mf_perform.specs.Effect.{after, with_data, with_objects}
-use Rattle.mf_perform.specs.OneCall.{performed_by}
+use Rattle.mf_perform.proofs.StateChange.{performed_by}
 use Rattle.mf_lifetimes.proofs.Listing.{all_newest, all_without}
 use Rattle.mf_reading.proofs.Bounded.{AreBounded, HoldsBounded, IsBoundedData, IsBoundedSpec, IsNamed}
 use Rattle.mf_reading.proofs.Contents.{file_fits, no_text, uid_fits}
 use Rattle.mf_reading.proofs.Holding.{HasRoom, Keeps, KeepsFirst, added_bounded, appending, changed_bounded, clearing, entry_goes, moding, process_goes, receiving, relabelling, removed_bounded, sending}
 use Rattle.mf_reading.proofs.Lists.{by_place}
 use Rattle.mf_reading.proofs.Rules.{IsFormedChange, fresh_bounded, specs_changed}
+use Rattle.mf_text.specs.Results.{and_then}
 
 -- Names at the end of a path
 
@@ -161,19 +164,19 @@ module _ (s : State) (holds : HoldsBounded s) where
       omega (arith, small, ap length held, ltb-false most (length (content_at s.objects id) + length text) room)
 
   -- one entity more finds room
-  few_live : (tail : Tail) → (if is_full s.objects then Refuse errno.Enfile else tail) ≡ Do → length s.objects.live < MOST_ENTITIES
-  few_live tail done = leb-false 1024 (length s.objects.live) (passed (is_full s.objects) errno.Enfile tail done).0
+  few_live : (tail : Tail) → (if nat_le MOST_ENTITIES (length s.objects.live) then Refuse errno.Enfile else tail) ≡ Do → length s.objects.live < MOST_ENTITIES
+  few_live tail done = leb-false 1024 (length s.objects.live) (passed (nat_le MOST_ENTITIES (length s.objects.live)) errno.Enfile tail done).0
 
   -- the change that a setting is to have
   change_formed : (root : Bool) (m : Option Module) (change : Option Change) (asked : Module × Change)
       → (if root then Err errno.Eperm else
-      go_on (or_fail errno.Enoent m) (λ m. if not (is_listed m s.specs) then Err errno.Enoent else go_on (or_fail errno.Einval change) (λ change. Ok (m, change)))) ≡ Ok asked
+      and_then (ok_or m errno.Enoent) (λ m. if not (is_listed m s.specs) then Err errno.Enoent else and_then (ok_or change errno.Einval) (λ change. Ok (m, change)))) ≡ Ok asked
       → IfSome change IsFormedChange → IsFormedChange asked.1
   change_formed true m change asked is formed = cc
   change_formed false None change asked is formed = cc
   change_formed false (Some m) change asked is formed = one (is_listed m s.specs) change is formed
     where
-      one : (b : Bool) (change : Option Change) → (if not b then Err errno.Enoent else go_on (or_fail errno.Einval change) (λ change. Ok (m, change))) ≡ Ok asked
+      one : (b : Bool) (change : Option Change) → (if not b then Err errno.Enoent else and_then (ok_or change errno.Einval) (λ change. Ok (m, change))) ≡ Ok asked
           → IfSome change IsFormedChange → IsFormedChange asked.1
       one true (Some change) is formed = let same : change ≡ asked.1 = cc in subst IsFormedChange same formed
       one true None is formed = cc
@@ -188,7 +191,7 @@ module _ (s : State) (holds : HoldsBounded s) where
     not_root = not (nat_eq (cred_at s.objects me).uid 0)
 
     -- By call: what is found, and the tests that were passed, fit the effect.
-    row_fits : (c : Call) (what : At (about_of s task me c).place) → (look_up s me (about_of s task me c).place).there ≡ Ok what → ((about_of s task me c).row what).tail ≡ Do
+    row_fits : (c : Call) (what : At (about_of s task me c).place) → (way_to s me (about_of s task me c).place).there ≡ Ok what → ((about_of s task me c).row what).tail ≡ Do
         → IsFormedCall c → Fits s.objects ((about_of s task me c).row what).effect
     row_fits (call.Fork child) free there done formed = (few_live Do done, process_data s.objects me holds.objects, λ dir entry. cc)
     row_fits (call.Pipe pipe) free there done formed = (few_live Do done, pipe_data me, λ dir entry. cc)
@@ -224,12 +227,12 @@ module _ (s : State) (holds : HoldsBounded s) where
     row_fits other what there done formed = tt
 
     call_holds : (c : Call) → IsFormedCall c → (row_for s task c me).tail ≡ Do → HoldsBounded (after s me (row_for s task c me).effect)
-    call_holds c formed done = one (look_up s me (about_of s task me c).place).there refl done
+    call_holds c formed done = one (way_to s me (about_of s task me c).place).there refl done
       where
         whole : Result (At (about_of s task me c).place) Errno → Row
-        whole there = through (record { checks = (look_up s me (about_of s task me c).place).checks; there = there }) (about_of s task me c).row
+        whole there = through (record { checks = (way_to s me (about_of s task me c).place).checks; there = there }) (about_of s task me c).row
 
-        one : (there : Result (At (about_of s task me c).place) Errno) → (look_up s me (about_of s task me c).place).there ≡ there → (whole there).tail ≡ Do
+        one : (there : Result (At (about_of s task me c).place) Errno) → (way_to s me (about_of s task me c).place).there ≡ there → (whole there).tail ≡ Do
             → HoldsBounded (after s me (whole there).effect)
         one (Ok what) is done = effect_holds me ((about_of s task me c).row what).effect (row_fits c what is done formed)
         one (Err e) is done = holds

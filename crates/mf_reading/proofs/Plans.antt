@@ -1,20 +1,21 @@
 -- A plan has few checks, so that the number of a denied one fits its field.
 use Rattle.std.proofs.Common.{◌≡◌, ℕ, ◌+◌, ◌<◌, ◌≤◌, Bool, true, false, List, [], ◌∷◌, length, map, Option, Some, None, Result, Ok, Err, ap, arith, length-append}
-use Rattle.std.specs.Option.{option_map_or}
-use Rattle.std.specs.Prelude.{if◌then◌else◌, not}
+use Rattle.std.specs.Option.{option_map_or, ok_or}
+use Rattle.std.specs.Prelude.{◌==◌, if◌then◌else◌, nat_le, nat_lt, not}
 use Rattle.std.proofs.lemmas.List.{length-map}
 use Rattle.mf_errno.specs.declared.errno.Errno.{Errno}
 use Rattle.mf_errno.specs.declared.errno.Errno.TheVariants as errno
 use Rattle.mf_errno.specs.declared.module.Module.{Module}
 use Rattle.mf_item.specs.Item.{Item}
 use Rattle.mf_item.specs.declared.operation.CheckOp.TheVariants as op
+use Rattle.mf_item.specs.declared.view.Kind.TheVariants as kinds
 use Rattle.mf_policy.specs.Registration as listing
 use Rattle.mf_policy.specs.Settings.{change_in}
 use Rattle.mf_policy.specs.declared.settings.Change.{Change}
 use Rattle.mf_names.specs.declared.limits.TheConstants.{CONTENT_LIMIT}
-use Rattle.mf_objects.specs.declared.limits.TheConstants.{PIPE_LIMIT}
+use Rattle.mf_objects.specs.declared.limits.TheConstants.{MOST_ENTITIES, MOST_MESSAGES, PIPE_LIMIT}
 use Rattle.mf_objects.specs.declared.id.Id.{Id}
-use Rattle.mf_objects.specs.Live.{Entities}
+use Rattle.mf_objects.specs.Live.{Entities, content_at, count_at}
 use Rattle.mf_calls.specs.declared.script.Call.{Call}
 use Rattle.mf_calls.specs.declared.script.Call.TheVariants as call
 use Rattle.mf_calls.specs.WellFormed.{IsFormedCall, IsPath}
@@ -24,19 +25,20 @@ use Rattle.mf_plan.specs.Names.{caller_name}
 use Rattle.mf_plan.specs.Path.{entry_of, going_on, lookup_along, lookup_from, nowhere, root}
 use Rattle.mf_plan.specs.declared.outline.Check.{Check}
 use Rattle.mf_plan.specs.Checks.{on}
-use Rattle.mf_plan.specs.Effect.{request_of}
 use Rattle.mf_plan.specs.Outline.{item_asking}
-use Rattle.mf_plan.specs.Plan.{plan_of, row_by, row_for, call_row}
+use Rattle.mf_plan.specs.Plan.{plan_of, row_for, call_row}
 use Rattle.mf_plan.specs.Relabels.{claimed_in}
 use Rattle.mf_plan.specs.Row.{Row, if_there}
 use Rattle.mf_plan.specs.Rows.{about_of}
 use Rattle.mf_plan.specs.Settings.{unless_success}
-use Rattle.mf_plan.specs.Ways.{At, Place, Way, asking, go_on, look_up, or_fail, straight, then_way, with_first}
+use Rattle.mf_plan.specs.Ways.{At, Place, Way, asking, straight, then_way, way_to, carrying}
 use Rattle.mf_plan.specs.Ways.Place.{Asking, Entry, File, Free, Sockets}
-use Rattle.mf_plan.specs.Views.{has_entries, is_dir, is_empty_pipe, is_empty_socket, is_full, is_full_socket, overfills, process_named, socket_named}
+use Rattle.mf_plan.specs.Views.{is_dir, overfills, process_named, entity_named}
+use Rattle.mf_plan.proofs.Finding.{asked_of, row_by}
 use Rattle.mf_perform.specs.declared.verdict.Denial.{Denial}
 use Rattle.mf_perform.specs.Verdict.{denial_at, denial_from}
 use Rattle.mf_list.specs.Asked.{answer_to}
+use Rattle.mf_text.specs.Results.{and_then}
 
 -- Parts of a row
 
@@ -88,15 +90,15 @@ IsFormedPlace other = Unit {0}
 
 -- By place: at most ten checks on the way, and by call: at most two behind.
 module _ (s : State) (me : Id) where
-  few_on_way : (place : Place) → IsFormedPlace place → length (look_up s me place).checks ≤ 10
+  few_on_way : (place : Place) → IsFormedPlace place → length (way_to s me place).checks ≤ 10
   few_on_way (File path) formed = few_along s.objects me path formed
   few_on_way (Free path) formed = few_along s.objects me path formed
   few_on_way (Entry path) formed = few_along s.objects me path formed
   few_on_way (Sockets from to) formed =
-      few_then 10 (or_fail errno.Enoent (socket_named s.objects from))
-      (λ from. asking (on me op.SocketSend from) (straight (go_on (or_fail errno.Enoent (socket_named s.objects to)) (λ to. Ok (from, to))))) (λ from. omega arith)
+      few_then 10 (ok_or (entity_named s.objects kinds.Socket from) errno.Enoent)
+      (λ from. asking (on me op.SocketSend from) (straight (and_then (ok_or (entity_named s.objects kinds.Socket to) errno.Enoent) (λ to. Ok (from, to))))) (λ from. omega arith)
   few_on_way (Asking kind text place) formed =
-      few_then 10 (or_fail errno.Einval (claimed_in s.specs kind text)) (λ request. with_first request (look_up s me place)) (λ request. few_on_way place formed)
+      few_then 10 (ok_or (claimed_in s.specs kind text) errno.Einval) (λ request. carrying request (way_to s me place)) (λ request. few_on_way place formed)
   few_on_way other formed = omega arith
 
   module _ (task : List ℕ) where
@@ -121,23 +123,23 @@ module _ (s : State) (me : Id) where
     few_set asked = few_by 2 (unless_success (change_in asked.0 asked.1 s.specs).0.errno) [] (omega arith)
 
     few_row : (c : Call) (what : At (about_of s task me c).place) → length ((about_of s task me c).row what).checks ≤ 2
-    few_row (call.Fork child) free = few_if 2 (is_full s.objects) [] (omega arith)
-    few_row (call.Pipe name) free = few_if 2 (is_full s.objects) [] (omega arith)
-    few_row (call.Socket name) free = few_if 2 (is_full s.objects) [] (omega arith)
+    few_row (call.Fork child) free = few_if 2 (nat_le MOST_ENTITIES (length s.objects.live)) [] (omega arith)
+    few_row (call.Pipe name) free = few_if 2 (nat_le MOST_ENTITIES (length s.objects.live)) [] (omega arith)
+    few_row (call.Socket name) free = few_if 2 (nat_le MOST_ENTITIES (length s.objects.live)) [] (omega arith)
     few_row (call.Exec path) id = few_if 2 (is_dir s.objects id) (on me op.VnodeExec id ∷ []) (omega arith)
-    few_row (call.Create path) dir = omega (arith, few_if 0 (is_full s.objects) [] (omega arith))
-    few_row (call.Mkdir path) dir = omega (arith, few_if 0 (is_full s.objects) [] (omega arith))
+    few_row (call.Create path) dir = omega (arith, few_if 0 (nat_le MOST_ENTITIES (length s.objects.live)) [] (omega arith))
+    few_row (call.Mkdir path) dir = omega (arith, few_if 0 (nat_le MOST_ENTITIES (length s.objects.live)) [] (omega arith))
     few_row (call.Read path) id = few_if 2 (is_dir s.objects id) (on me op.VnodeOpenRead id ∷ on me op.VnodeRead id ∷ []) (omega arith)
     few_row (call.Write path text) id =
         let over : Bool = overfills CONTENT_LIMIT s.objects text id in
         let rest : List Check = if over then [] else [] in
         few_if 2 (is_dir s.objects id) (on me op.VnodeOpenWrite id ∷ on me op.VnodeWrite id ∷ rest) (omega (arith, few_if 0 over [] (omega arith)))
     few_row (call.Readdir path) id = few_if 2 (not (is_dir s.objects id)) (on me op.VnodeReaddir id ∷ []) (omega arith)
-    few_row (call.Unlink path) entry = omega (arith, few_if 0 (has_entries s.objects entry.1) [] (omega arith))
-    few_row (call.Pread name) id = omega (arith, few_if 0 (is_empty_pipe s.objects id) [] (omega arith))
+    few_row (call.Unlink path) entry = omega (arith, few_if 0 (nat_lt 0 (count_at s.objects entry.1)) [] (omega arith))
+    few_row (call.Pread name) id = omega (arith, few_if 0 (length (content_at s.objects id) == 0) [] (omega arith))
     few_row (call.Pwrite name text) id = omega (arith, few_if 0 (overfills PIPE_LIMIT s.objects text id) [] (omega arith))
-    few_row (call.Send from to text) ends = omega (arith, few_if 0 (is_full_socket s.objects ends.1) [] (omega arith))
-    few_row (call.Recv name) id = omega (arith, few_if 0 (is_empty_socket s.objects id) [] (omega arith))
+    few_row (call.Send from to text) ends = omega (arith, few_if 0 (nat_le MOST_MESSAGES (count_at s.objects ends.1)) [] (omega arith))
+    few_row (call.Recv name) id = omega (arith, few_if 0 (count_at s.objects id == 0) [] (omega arith))
     few_row (call.Kldload name) m = omega (arith, few_by 0 (load_refusal s m) [] (omega arith))
     few_row (call.Kldunload name) m = few_by 2 (unload_refusal s m) [] (omega arith)
     few_row (call.Sysctl name value) asked = few_set asked
@@ -149,7 +151,7 @@ module _ (s : State) (me : Id) where
     few_for : (c : Call) → IsFormedCall c → length (row_for s task c me).checks ≤ 12
     few_for c formed =
         let about = about_of s task me c in
-        let way = look_up s me about.place in
+        let way = way_to s me about.place in
         let behind : List Check = if_there (λ found. (about.row found).checks) (λ e. []) way.there in
         omega (arith, length-append way.checks behind, few_on_way about.place (formed_place c formed), few_there 2 way.there about.row (few_row c))
 
@@ -161,7 +163,7 @@ few_called s task c (Some me) formed = few_for s me task c formed
 pub few_checks : (s : State) (task : List ℕ) (child : Option (List ℕ)) (c : Call) → IsFormedCall c → length (plan_of s task child c).items ≤ 12
 few_checks s task child c formed =
     let row = call_row s task child c in
-    omega (arith, length-map row.checks (item_asking s.objects (request_of row.effect)), few_called s task c (process_named s.objects (caller_name task child)) formed)
+    omega (arith, length-map row.checks (item_asking s.objects (asked_of row.effect)), few_called s task c (process_named s.objects (caller_name task child)) formed)
 
 -- Denials
 

@@ -1,6 +1,6 @@
 -- The reply to a call fits its fields, where the state is within the bounds.
 use Rattle.std.proofs.Common.{◌≡◌, ℕ, ◌<◌, ◌≤◌, ◌^◌, Bool, true, false, List, [], length, map, Option, Some, None, Result, Ok, Err, refl, ap, sym, subst, arith}
-use Rattle.std.specs.Option.{is_none}
+use Rattle.std.specs.Option.{is_none, option_map_or}
 use Rattle.std.specs.Prelude.{if◌then◌else◌, find, position, option_and_then, slice_index_or, slice_set, IfSome}
 use Rattle.std.specs.Result.{result_ok}
 use Rattle.std.proofs.lemmas.List.{length-map}
@@ -36,16 +36,17 @@ use Rattle.mf_plan.specs.declared.reply.Payload.TheVariants as payload
 use Rattle.mf_plan.specs.declared.state.State.{State}
 use Rattle.mf_plan.specs.Names.{caller_name}
 use Rattle.mf_plan.specs.Path.{file_at_path}
-use Rattle.mf_plan.specs.Payloads.{head, label, loaded, message, names, rule_number, rules, size, stat}
-use Rattle.mf_plan.specs.Plan.{plan_of, row_by, row_for}
+use Rattle.mf_plan.specs.Payloads.{head, label, loaded, message, names}
+use Rattle.mf_plan.specs.Plan.{plan_of, row_for, call_row}
 use Rattle.mf_plan.specs.Planned.{Plan}
-use Rattle.mf_plan.specs.Row.{if_there}
 use Rattle.mf_plan.specs.Rows.{about_of}
 use Rattle.mf_plan.specs.Views.{is_dir, process_named}
-use Rattle.mf_plan.specs.Ways.{At, look_up}
+use Rattle.mf_plan.specs.Ways.{At, way_to}
+use Rattle.mf_plan.specs.Row.{if_there}
+use Rattle.mf_plan.proofs.Finding.{row_by}
 use Rattle.mf_perform.specs.declared.verdict.Denial.{Denial}
-use Rattle.mf_perform.specs.Reply.{denied_reply, tail_reply}
-use Rattle.mf_perform.specs.OneCall.{call_payload, call_reply}
+use Rattle.mf_perform.specs.Reply.{tail_reply, reply_to}
+use Rattle.mf_perform.specs.OneCall.{call_reply}
 use Rattle.mf_perform.specs.Verdict.{denial_from, verdict_of}
 use Rattle.mf_hist.proofs.Legal.{slot_fits}
 use Rattle.mf_hist.specs.Lines.{AreRules, IsPayload, IsReply, IsSlot}
@@ -83,7 +84,7 @@ rules_fit specs bounded = one (find (is_of modules.Bsdextended) specs) refl
     one None is = tt
     one (Some entry) is = spec_rules entry.1 (all_found (λ (x : Entry). IsBoundedSpec x.1) (is_of modules.Bsdextended) specs entry bounded is).0
 
-listed_fit : (listed : Option Slots) → IfSome listed AreRules → IsPayload (rules listed)
+listed_fit : (listed : Option Slots) → IfSome listed AreRules → IsPayload (option_map_or payload.Rules listed payload.None)
 listed_fit None fits = tt
 listed_fit (Some slots) fits = fits
 
@@ -108,7 +109,7 @@ number_fits m change specs bounded = one (find (is_of m) specs) refl
     one None is = tt
     one (Some entry) is = change_number entry.1 change (all_found (λ (x : Entry). IsBoundedSpec x.1) (is_of m) specs entry bounded is).0
 
-numbered_fit : (number : Option ℕ) → IfSome number (λ n. n < 2 ^ 32) → IsPayload (rule_number number)
+numbered_fit : (number : Option ℕ) → IfSome number (λ n. n < 2 ^ 32) → IsPayload (option_map_or payload.Rule number payload.None)
 numbered_fit None fits = tt
 numbered_fit (Some n) fits = fits
 
@@ -145,7 +146,7 @@ module _ (s : State) (bounded : IsBoundedState s) where
 
   module _ (task name : List ℕ) (me : Id) (named : process_named s.objects name ≡ Some me) where
     -- by what is found
-    payload_row : (c : Call) (what : At (about_of s task me c).place) → (look_up s me (about_of s task me c).place).there ≡ Ok what
+    payload_row : (c : Call) (what : At (about_of s task me c).place) → (way_to s me (about_of s task me c).place).there ≡ Ok what
         → IsPayload ((about_of s task me c).row what).payload
     payload_row call.Getpmac id there = let same : me ≡ id = cc in subst (λ (x : Id). IsPayload (label s x)) same (caller_label name me named)
     payload_row (call.Read path) id there = head_at id
@@ -164,9 +165,9 @@ module _ (s : State) (bounded : IsBoundedState s) where
     payload_row other what there = tt
 
     payload_for : (c : Call) → IsPayload (row_for s task c me).payload
-    payload_for c = one (look_up s me (about_of s task me c).place).there refl
+    payload_for c = one (way_to s me (about_of s task me c).place).there refl
       where
-        one : (there : Result (At (about_of s task me c).place) Errno) → (look_up s me (about_of s task me c).place).there ≡ there
+        one : (there : Result (At (about_of s task me c).place) Errno) → (way_to s me (about_of s task me c).place).there ≡ there
             → IsPayload (if_there (λ found. ((about_of s task me c).row found).payload) (λ e. payload.None) there)
         one (Ok what) is = payload_row c what is
         one (Err e) is = tt
@@ -182,11 +183,11 @@ module _ (s : State) (bounded : IsBoundedState s) where
   tail_fits (Refuse errno) p fits = tt
 
   denied_fits : (plan : Plan) (denied : Option Denial) (p : Payload) → length plan.items ≤ 12 → denial_from s.specs 1 plan.items ≡ denied → IsPayload p
-      → IsReply (denied_reply plan denied p)
+      → IsReply (reply_to plan denied p)
   denied_fits plan None p few is fits = tail_fits plan.tail p fits
   denied_fits plan (Some d) p few is fits = omega (arith, few, denied_within s.specs 1 plan.items d is)
 
   pub reply_fits : (task : List ℕ) (child : Option (List ℕ)) (c : Call) → IsFormedCall c → IsReply (call_reply s task child c)
   reply_fits task child c formed =
-      denied_fits (plan_of s task child c) (verdict_of s.specs (plan_of s task child c)).denied (call_payload s task child c)
+      denied_fits (plan_of s task child c) (verdict_of s.specs (plan_of s task child c)).denied (call_row s task child c).payload
       (few_checks s task child c formed) refl (payload_fits task (caller_name task child) c (process_named s.objects (caller_name task child)) refl)

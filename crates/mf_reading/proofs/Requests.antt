@@ -20,14 +20,14 @@ use Rattle.mf_plan.specs.declared.state.State.{State}
 use Rattle.mf_plan.specs.Names.{caller_name}
 use Rattle.mf_plan.specs.Effect.{relabelled_by}
 use Rattle.mf_plan.specs.Effect.Effect.{Relabel, Unchanged}
-use Rattle.mf_plan.specs.Plan.{row_by, row_for, call_row}
+use Rattle.mf_plan.specs.Plan.{row_for, call_row}
 use Rattle.mf_plan.specs.Relabels.{claimed_in, if_claimed}
-use Rattle.mf_plan.specs.Row.{if_there}
 use Rattle.mf_plan.specs.Rows.{about_of}
 use Rattle.mf_plan.specs.Views.{process_named}
-use Rattle.mf_plan.specs.Ways.{At, Place, look_up}
+use Rattle.mf_plan.specs.Ways.{At, Place, way_to}
 use Rattle.mf_plan.specs.Ways.Place.{Asking, Caller, File, Named}
-use Rattle.mf_plan.proofs.Finding.{request_there}
+use Rattle.mf_plan.proofs.Finding.{request_there, row_by}
+use Rattle.mf_plan.specs.Row.{if_there}
 use Rattle.mf_perform.specs.OneCall.{after_reply, call_reply}
 use Rattle.mf_perform.proofs.StateChange.{step_by}
 use Rattle.mf_reading.proofs.Labelled.{AsksRequests}
@@ -61,11 +61,11 @@ same_second a b is = let same : a ≡ b = cc in ap (λ (x : Id × Request). x.1)
 
 module _ (s : State) (task : List ℕ) (me : Id) where
   asked_request : (kind : Kind) (text : List ℕ) (place : Place) (asked : Request × At place) (id to : Id) (request : Request)
-      → (look_up s me (Asking kind text place)).there ≡ Ok asked → relabelled_by (Relabel to asked.0) ≡ Some (id, request) → IsRequest request
+      → (way_to s me (Asking kind text place)).there ≡ Ok asked → relabelled_by (Relabel to asked.0) ≡ Some (id, request) → IsRequest request
   asked_request kind text place asked id to request there is =
       subst IsRequest (same_second (to, asked.0) (id, request) is) (claimed_request s.specs kind text asked.0 (request_there s me (Asking kind text place) asked there))
 
-  row_request : (c : Call) (what : At (about_of s task me c).place) → (look_up s me (about_of s task me c).place).there ≡ Ok what → (id : Id) (request : Request)
+  row_request : (c : Call) (what : At (about_of s task me c).place) → (way_to s me (about_of s task me c).place).there ≡ Ok what → (id : Id) (request : Request)
       → relabelled_by ((about_of s task me c).row what).effect ≡ Some (id, request) → IsRequest request
   row_request (call.Setpmac text) asked there id request is = asked_request kinds.Process text Caller asked id asked.1 request there is
   row_request (call.Setfmac text path) asked there id request is = asked_request kinds.Vnode text (File path) asked id asked.1 request there is
@@ -74,9 +74,9 @@ module _ (s : State) (task : List ℕ) (me : Id) where
   row_request other what there id request is = cc
 
   call_request : (c : Call) (id : Id) (request : Request) → relabelled_by (row_for s task c me).effect ≡ Some (id, request) → IsRequest request
-  call_request c id request is = one (look_up s me (about_of s task me c).place).there refl is
+  call_request c id request is = one (way_to s me (about_of s task me c).place).there refl is
     where
-      one : (there : Result (At (about_of s task me c).place) Errno) → (look_up s me (about_of s task me c).place).there ≡ there
+      one : (there : Result (At (about_of s task me c).place) Errno) → (way_to s me (about_of s task me c).place).there ≡ there
           → relabelled_by (if_there (λ found. ((about_of s task me c).row found).effect) (λ e. Unchanged) there) ≡ Some (id, request) → IsRequest request
       one (Ok what) at asked = row_request c what at id request asked
       one (Err e) at asked = cc

@@ -14,10 +14,10 @@ use Rattle.mf_plan.specs.declared.reply.Reply.{Reply}
 use Rattle.mf_plan.specs.declared.reply.Reply.TheVariants as reply
 use Rattle.mf_plan.specs.declared.state.State.{State}
 use Rattle.mf_plan.specs.Names.{caller_name}
-use Rattle.mf_plan.specs.Plan.{plan_of}
+use Rattle.mf_plan.specs.Plan.{plan_of, call_row}
 use Rattle.mf_plan.specs.Views.{process_named}
 use Rattle.mf_plan.specs.declared.plan.Tail.TheVariants.{Do}
-use Rattle.mf_perform.specs.OneCall.{after_reply, performed, call_payload, call_reply, call_state}
+use Rattle.mf_perform.specs.OneCall.{after_reply, performed, call_reply, call_state}
 use Rattle.mf_perform.specs.Verdict.{verdict_of}
 use Rattle.mf_perform.proofs.StateChange.{step_change}
 use Rattle.mf_core.specs.declared.history.Event.{Event}
@@ -46,7 +46,7 @@ module _ (s : State) (task : List ℕ) (child : Option (List ℕ)) (c : Call) (f
     where
       one : (r : Reply) → call_reply s task child c ≡ r → HoldsBounded (after_reply r s (performed s task child c))
       one (reply.Ok p) is =
-          let may : (plan_of s task child c).tail ≡ Do = ok_do (plan_of s task child c) (verdict_of s.specs (plan_of s task child c)) (call_payload s task child c) p is in
+          let may : (plan_of s task child c).tail ≡ Do = ok_do (plan_of s task child c) (verdict_of s.specs (plan_of s task child c)) (call_row s task child c).payload p is in
           performed_holds s holds task (caller_name task child) c (process_named s.objects (caller_name task child)) refl formed may
       one (reply.Denied errno op item by) is = holds
       one (reply.Refused errno) is = holds

@@ -3,9 +3,9 @@ ghost use Rattle.std.specs.Prelude.{◌≡◌, ◌<◌, ◌++◌, true, false, I
 ghost use Rattle.mf_calls.specs.declared.limits.TheConstants.{TASK_LIMIT};
 ghost use Rattle.mf_plan.specs.declared.reply.Payload.TheVariants as payload;
 ghost use Rattle.mf_plan.specs.declared.reply.Reply.{Reply};
-ghost use Rattle.mf_perform.specs.Reply.{reply_to};
 ghost use Rattle.mf_perform.specs.Refused.{is_ok};
 ghost use Rattle.mf_perform.specs.Verdict.{verdict_of};
+ghost use Rattle.mf_perform.specs.Reply.{reply_to};
 ghost use Rattle.mf_core.specs.declared.history.Event.TheVariants as event;
 ghost use Rattle.mf_core.specs.declared.progress.Turn.TheVariants as turn;
 ghost use Rattle.mf_core.specs.LegalHistory.{next_reply};
@@ -124,7 +124,7 @@ impl<'s, J: Job, B: Ledger> Desk<'s, J, B> {
             × (ticket.new ≡ ticket_after commit ticket.old))) }
         ensures none { IfOk result (λ found. IfNone found (¬ AgreesWithTicket self.old ticket.old × (self.new ≡ self.old) × (ticket.new ≡ ticket.old))) }
         ensures err { OnErr result (AgreesWithTicket self.old ticket.old × (self.new ≡ self.old) × (ticket.new ≡ ticket.old)) }
-        ensures memory { is_ok (reply_to plan.now verdict.now payload.None) ≡ false → IsOk result }
+        ensures memory { is_ok (reply_to plan.now verdict.now.denied payload.None) ≡ false → IsOk result }
         ensures core { IsCoreOf J.script self.old }
     {
         let _history = self.core.history();

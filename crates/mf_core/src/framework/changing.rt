@@ -3,9 +3,9 @@ ghost use Rattle.std.specs.Prelude.{◌≡◌, ◌+◌, ◌<◌, ◌↔◌, leng
 ghost use Rattle.mf_plan.specs.declared.plan.Tail.TheVariants.{Do};
 ghost use Rattle.mf_plan.specs.declared.reply.Payload.TheVariants as payload;
 ghost use Rattle.mf_plan.specs.declared.reply.Reply.{Reply};
-ghost use Rattle.mf_perform.specs.Reply.{reply_to};
 ghost use Rattle.mf_perform.specs.Refused.{is_ok};
 ghost use Rattle.mf_perform.specs.Verdict.{verdict_of};
+ghost use Rattle.mf_perform.specs.Reply.{reply_to};
 ghost use Rattle.mf_core.specs.LegalHistory.{next_reply};
 ghost use Rattle.mf_core.specs.NextFound.{IsNextFound};
 ghost use Rattle.mf_core.specs.declared.progress.Turn.TheVariants as turn;
@@ -42,7 +42,7 @@ impl<'s> Core<'s> {
         ensures entries { open_of self.new ≡ open_of self.old }
         ensures lines { done_of self.new ≡ done_of self.old }
         ensures err { OnErr result (self.new ≡ self.old) }
-        ensures memory { is_ok (reply_to plan.now verdict.now payload.None) ≡ false → IsOk result }
+        ensures memory { is_ok (reply_to plan.now verdict.now.denied payload.None) ≡ false → IsOk result }
     {
         let Some(found) = self.found_now(task, list, plan) else {
             return Ok(Commit::Stale);

@@ -1,7 +1,7 @@
 use Rattle.std.proofs.Common.{◌≡◌, Option, Result, Ok, Err, IfOk, ap, sym, ◌∙◌}
 use Rattle.mf_objects.specs.declared.id.Id.{Id}
 use Rattle.mf_plan.specs.declared.reply.Payload.{Payload}
-use Rattle.mf_plan.specs.Plan.{row_by}
+use Rattle.mf_plan.proofs.Finding.{row_by}
 use Rattle.mf_perform.specs.Effect.{payload_takes_memory}
 use Rattle.mf_perform.proofs.Handing.{payload_is}
 use Rattle.mf_perform.proofs.Suiting.{found_lives}

@@ -3,15 +3,15 @@ use Rattle.mf_objects.specs.declared.id.Id.{Id}
 use Rattle.mf_plan.specs.declared.state.State.{State}
 use Rattle.mf_plan.specs.Effect.{Effect}
 use Rattle.mf_plan.specs.Names.{caller_name}
-use Rattle.mf_plan.specs.Plan.{row_by}
+use Rattle.mf_plan.proofs.Finding.{row_by}
 use Rattle.mf_perform.specs.Effect.{after, takes_memory}
-use Rattle.mf_perform.specs.OneCall.{performed_by}
 use Rattle.mf_perform.specs.Suits.{Suits}
 use Rattle.mf_perform.proofs.Handing.{effect_is}
 use Rattle.mf_perform.proofs.Keeping.{call_keeps, makes}
 use Rattle.mf_perform.proofs.Leading.{caller_lives}
 use Rattle.mf_perform.proofs.Suiting.{effect_suits}
 use Rattle.mf_perform.proofs.performing.perform.Goals as goal
+use Rattle.mf_perform.proofs.StateChange.{performed_by}
 
 done_so : {T E : Type 0} (r : Result T E) (s s' s'' : State) → OnOk r (s' ≡ s) → s ≡ s'' → OnOk r (s' ≡ s'')
 done_so (Ok value) s s' s'' done is = done ∙ is

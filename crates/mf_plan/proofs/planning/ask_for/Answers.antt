@@ -1,11 +1,12 @@
 use Rattle.std.proofs.Common.{◌∙◌}
+use Rattle.std.specs.Option.{ok_or}
 use Rattle.mf_errno.specs.declared.errno.Errno.TheVariants as errno
 use Rattle.mf_item.specs.declared.operation.CheckOp.TheVariants as op
 use Rattle.mf_item.specs.declared.view.Kind.TheVariants as kinds
 use Rattle.mf_plan.specs.Checks.{on}
 use Rattle.mf_plan.specs.Path.{found_at, lookup_along}
-use Rattle.mf_plan.specs.Views.{pipe_named, socket_named}
-use Rattle.mf_plan.specs.Ways.{along, or_fail, straight}
+use Rattle.mf_plan.specs.Views.{entity_named}
+use Rattle.mf_plan.specs.Ways.{along, straight}
 use Rattle.mf_plan.proofs.Relabelling.{claimed}
 use Rattle.mf_plan.proofs.planning.ask_for.Goals as goal
 
@@ -18,13 +19,13 @@ returns-in_ok-claim-in-Setfmac-clause-row c =
 pub returns-in_ok-claim-in-Setpipemac-clause-row : goal.returns-in_ok-claim-in-Setpipemac-clause-row
 returns-in_ok-claim-in-Setpipemac-clause-row c =
     rw c.in-Setpipemac.is (c.on_named-in-Setpipemac.ensures.row
-    ∙ claimed c.args.state.now.specs kinds.Pipe _ _ c.claim-in-Setpipemac.new.asked (straight (or_fail errno.Enoent (pipe_named c.args.state.now.objects c.in-Setpipemac.name))) (on c.args.caller op.PipeRelabel) c.as_str-in-Setpipemac.ensures
+    ∙ claimed c.args.state.now.specs kinds.Pipe _ _ c.claim-in-Setpipemac.new.asked (straight (ok_or (entity_named c.args.state.now.objects kinds.Pipe c.in-Setpipemac.name) errno.Enoent)) (on c.args.caller op.PipeRelabel) c.as_str-in-Setpipemac.ensures
     c.claim-in-Setpipemac.ensures.asked c.in_ok-claim-in-Setpipemac.ensures.ok)
 
 pub returns-in_ok-claim-in-Setsockmac-clause-row : goal.returns-in_ok-claim-in-Setsockmac-clause-row
 returns-in_ok-claim-in-Setsockmac-clause-row c =
     rw c.in-Setsockmac.is (c.on_named-in-Setsockmac.ensures.row
-    ∙ claimed c.args.state.now.specs kinds.Socket _ _ c.claim-in-Setsockmac.new.asked (straight (or_fail errno.Enoent (socket_named c.args.state.now.objects c.in-Setsockmac.name))) (on c.args.caller op.SocketRelabel) c.as_str-in-Setsockmac.ensures
+    ∙ claimed c.args.state.now.specs kinds.Socket _ _ c.claim-in-Setsockmac.new.asked (straight (ok_or (entity_named c.args.state.now.objects kinds.Socket c.in-Setsockmac.name) errno.Enoent)) (on c.args.caller op.SocketRelabel) c.as_str-in-Setsockmac.ensures
     c.claim-in-Setsockmac.ensures.asked c.in_ok-claim-in-Setsockmac.ensures.ok)
 
 pub returns-in-Send-clause-row : goal.returns-in-Send-clause-row

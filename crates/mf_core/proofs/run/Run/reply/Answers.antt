@@ -5,8 +5,8 @@ use Rattle.mf_plan.specs.declared.reply.Payload.{Payload}
 use Rattle.mf_plan.specs.declared.reply.Reply.{Reply}
 use Rattle.mf_plan.specs.declared.reply.Reply.TheVariants as reply
 use Rattle.mf_plan.specs.Found.{AreFound}
+use Rattle.mf_plan.specs.Plan.{call_row}
 use Rattle.mf_perform.specs.Refused.{refused_or}
-use Rattle.mf_perform.specs.OneCall.{call_payload}
 use Rattle.mf_perform.proofs.Replies.{may_proceed}
 use Rattle.mf_core.specs.RunView.{RunView}
 use Rattle.mf_core.proofs.Calls.{found_is, reply_by}
@@ -35,9 +35,9 @@ returns-clause-value c =
     let done = may_proceed c.args.plan.now c.args.verdict.now.denied (λ p. c.refusal_of.ensures.reply p ∙ ap (λ (o : Option Reply). refused_or o p) c.in_default.is) in
     let found = found_is c.args.self.now.script c.args.self.now.run c.args.task line c.line-line.ensures.value c.args.found.now (c.requires.found done) in
     let here = subst (λ (v : RunView). AreFound v.run.state name line.child line.call c.args.found.now) (sym c.self.view_is) found in
-    let p : Payload = call_payload s name line.child line.call in
+    let p : Payload = (call_row s name line.child line.call).payload in
     kept c.new-2.result _ (reply.Ok c.in_ok-payload.payload) c.new-2.ensures.value
     (reply_by c.args.self.now.script c.args.self.now.run c.args.task line c.line-line.ensures.value c.args.plan.now c.requires.plan c.args.verdict.now c.requires.verdict
     ∙ ap (λ (r : Reply). Some r) (c.refusal_of.ensures.reply p ∙ ap (λ (o : Option Reply). refused_or o p) c.in_default.is)
     ∙ ap (λ (q : Payload). Some (reply.Ok q))
-    (sym (c.in_ok-payload.ensures.value name line.child here ∙ ap (λ (v : RunView). call_payload v.run.state name line.child line.call) c.self.view_is)))
+    (sym (c.in_ok-payload.ensures.value name line.child here ∙ ap (λ (v : RunView). (call_row v.run.state name line.child line.call).payload) c.self.view_is)))
