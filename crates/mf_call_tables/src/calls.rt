@@ -20,20 +20,21 @@ use mf_list::{Catalogue, Fixed, Listed, PolicyList};
 use mf_objects::Objects;
 use mf_perform::{payload_of, perform, refusal_of, verdict_of};
 use mf_plan::{Found, Plan, Reply, State, Tail};
-use mf_policy::{Origin, Registration, Spec, SpecList, new_label};
+use mf_policy::{Origin, Policy, Registration, Spec, SpecList, new_label};
 use mf_slots::SlotNumbers;
 use std::alloc::{AllocError, Global};
 use std::process::Abort;
 
 /// The state, and the lists of the policies that are asked.
 #[derive(Drop)]
-struct Machine {
-    state: State,
-    fixed: Fixed<Biba>,
-    list: PolicyList<Biba>,
+pub struct Machine<P: Policy> {
+    pub state: State,
+    pub fixed: Fixed<P>,
+    pub list: PolicyList<P>,
 }
 
-fn labelled(element: Elem, range: Option<(Elem, Elem)>) -> [LabelValue; 4] {
+/// A label whose first slot has this element and range.
+pub fn labelled(element: Elem, range: Option<(Elem, Elem)>) -> [LabelValue; 4] {
     let unset = LabelValue::Unset;
     let value = LabelValue::Range(RangeLabel {
         effective: Some(element),
@@ -42,17 +43,16 @@ fn labelled(element: Elem, range: Option<(Elem, Elem)>) -> [LabelValue; 4] {
     [value, unset, unset, unset]
 }
 
-fn add_process(
+pub fn add_process(
     rt: &impl Abort,
     alloc: Global,
     objects: &mut Objects,
     name: &str,
-    element: Elem,
+    label: &[LabelValue; 4],
 ) -> Result<(), AllocError> {
     assert!(rt; objects.live() < 1024 && objects.next_id() < u32::MAX);
     if objects.process(name).is_none() {
-        let label = labelled(element, Some((Elem::Low, Elem::High)));
-        let _id = objects.add_process(alloc, name, &Cred::default(), &label)?;
+        let _id = objects.add_process(alloc, name, &Cred::default(), label)?;
     }
     Ok(())
 }
@@ -68,28 +68,34 @@ fn lists_of_biba(alloc: Global) -> Result<(Fixed<Biba>, PolicyList<Biba>), Alloc
     Ok((fixed, list))
 }
 
-/// The specs where Biba is listed.
-fn with_biba(alloc: Global) -> Result<SpecList, AllocError> {
+/// The specs where this module alone is listed, and has the first slot.
+pub fn with_module(alloc: Global, module: Module, spec: Spec) -> Result<SpecList, AllocError> {
     let mut specs = SpecList::new(alloc);
     let registration = Registration {
-        module: Module::Biba,
+        module,
         slot: Some(0),
         fixed: true,
     };
-    specs.list(registration, Spec::Biba)?;
+    specs.list(registration, spec)?;
     Ok(specs)
+}
+
+/// The specs where Biba is listed.
+fn with_biba(alloc: Global) -> Result<SpecList, AllocError> {
+    with_module(alloc, Module::Biba, Spec::Biba)
 }
 
 /// The processes t and u, with these elements.
 fn population(rt: &impl Abort, alloc: Global, t: Elem, u: Elem) -> Result<Objects, AllocError> {
     let mut objects = Objects::new(alloc, &labelled(Elem::High, None))?;
-    add_process(rt, alloc, &mut objects, "t", t)?;
-    add_process(rt, alloc, &mut objects, "u", u)?;
+    let range = Some((Elem::Low, Elem::High));
+    add_process(rt, alloc, &mut objects, "t", &labelled(t, range))?;
+    add_process(rt, alloc, &mut objects, "u", &labelled(u, range))?;
     Ok(objects)
 }
 
 /// The machine where t and u have these elements.
-fn booted(rt: &impl Abort, alloc: Global, t: Elem, u: Elem) -> Result<Machine, AllocError> {
+fn booted(rt: &impl Abort, alloc: Global, t: Elem, u: Elem) -> Result<Machine<Biba>, AllocError> {
     let mut numbers = SlotNumbers::new();
     let _number = numbers.take();
     let state = State {
@@ -124,10 +130,10 @@ fn completed(
 }
 
 /// Does the call of the line, which is no change, where the policies are those of the state.
-fn reply_of(
+fn reply_of<P: Policy>(
     rt: &impl Abort,
     alloc: Global,
-    machine: &mut Machine,
+    machine: &mut Machine<P>,
     task: &str,
     line: &Line,
 ) -> Result<Reply, AllocError>
@@ -163,10 +169,10 @@ fn reply_text(alloc: Global, reply: &Reply) -> Result<String, AllocError> {
 }
 
 /// The reply to a call that is written as a script's line.
-fn said(
+fn said<P: Policy>(
     rt: &impl Abort,
     alloc: Global,
-    machine: &mut Machine,
+    machine: &mut Machine<P>,
     text: &str,
 ) -> Result<String, AllocError> {
     let script = script_of(rt, alloc, text)?;
@@ -176,10 +182,10 @@ fn said(
 }
 
 /// Does the calls, each with its reply.
-fn run(
+pub fn run<P: Policy>(
     rt: &impl Abort,
     alloc: Global,
-    machine: &mut Machine,
+    machine: &mut Machine<P>,
     rows: &[(&str, &str)],
 ) -> Result<(), AllocError> {
     for (line, wanted) in rows {
@@ -243,7 +249,11 @@ fn full_write(alloc: Global) -> Result<String, AllocError> {
 }
 
 /// A full pipe takes no more until it is read.
-fn fill_pipe(rt: &impl Abort, alloc: Global, machine: &mut Machine) -> Result<(), AllocError> {
+fn fill_pipe(
+    rt: &impl Abort,
+    alloc: Global,
+    machine: &mut Machine<Biba>,
+) -> Result<(), AllocError> {
     let full = full_write(alloc)?;
     let rows: &[(&str, &str)] = &[
         ("pipe p", "ok"),
@@ -256,7 +266,11 @@ fn fill_pipe(rt: &impl Abort, alloc: Global, machine: &mut Machine) -> Result<()
 }
 
 /// A full socket takes no more until a message is received.
-fn fill_socket(rt: &impl Abort, alloc: Global, machine: &mut Machine) -> Result<(), AllocError> {
+fn fill_socket(
+    rt: &impl Abort,
+    alloc: Global,
+    machine: &mut Machine<Biba>,
+) -> Result<(), AllocError> {
     run(rt, alloc, machine, &[("socket s", "ok")])?;
     for _ in 0..16 {
         run(rt, alloc, machine, &[("send s s x", "ok")])?;

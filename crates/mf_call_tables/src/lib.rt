@@ -1,8 +1,10 @@
-//! Calls, as tables, with their plans and their replies, over the reader and mac_biba: tests, and nothing else.
+//! Calls, as tables, with their plans and their replies, over the reader, mac_biba and mac_lomac: tests, and nothing else.
 #![tactic(auto)]
 
 #[cfg(test)]
 mod calls;
+#[cfg(test)]
+mod lomac;
 #[cfg(test)]
 mod plans;
 #[cfg(test)]

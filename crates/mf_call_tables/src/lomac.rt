@@ -1,0 +1,70 @@
+//! Calls of t where mac_lomac is listed. There is nothing but the root and the process t, which are high.
+
+use crate::calls::{Machine, add_process, labelled, run, with_module};
+use mf_elem::{Comps, Elem};
+use mf_errno::Module;
+use mf_list::{Catalogue, Fixed, PolicyList};
+use mf_lomac::Lomac;
+use mf_objects::Objects;
+use mf_plan::State;
+use mf_policy::Spec;
+use mf_slots::SlotNumbers;
+use std::alloc::{AllocError, Global};
+use std::process::Abort;
+
+/// The static list with LOMAC, and a dynamic one with nothing.
+#[tactic(auto, using(mf_list::proofs::Counts::once_if_distinct))]
+fn lists_of_lomac(alloc: Global) -> Result<(Fixed<Lomac>, PolicyList<Lomac>), AllocError> {
+    let mut fixed = Fixed::new(alloc)?;
+    let mut list = PolicyList::new(alloc)?;
+    let mut catalogue = Catalogue::new(vec![in alloc; Lomac::new()]?)?;
+    let mut numbers = SlotNumbers::new();
+    let _booted = list.boot(&mut fixed, &mut catalogue, &mut numbers, "mac_lomac");
+    Ok((fixed, list))
+}
+
+/// The root and the process t.
+fn population(rt: &impl Abort, alloc: Global) -> Result<Objects, AllocError> {
+    let high = labelled(Elem::High, None);
+    let mut objects = Objects::new(alloc, &high)?;
+    add_process(rt, alloc, &mut objects, "t", &high)?;
+    Ok(objects)
+}
+
+fn booted(rt: &impl Abort, alloc: Global) -> Result<Machine<Lomac>, AllocError> {
+    let mut numbers = SlotNumbers::new();
+    let _number = numbers.take();
+    let state = State {
+        objects: population(rt, alloc)?,
+        specs: with_module(alloc, Module::Lomac, Spec::Lomac)?,
+        numbers,
+        booted: true,
+    };
+    let (fixed, list) = lists_of_lomac(alloc)?;
+    Ok(Machine { state, fixed, list })
+}
+
+/// Who lowers himself writes nothing high any more, and doesn't rise again.
+const LOWERED: &[(&str, &str)] = &[
+    ("create /hi", "ok"),
+    ("write /hi x", "ok"),
+    ("setpmac lomac/5", "ok"),
+    ("write /hi x", "EACCES vnode_open_write 2"),
+    ("read /hi", "ok"),
+    ("setpmac lomac/high", "EPERM cred_relabel 1"),
+    ("setpmac biba/5", "EINVAL"),
+    ("setpmac lomac/4", "ok"),
+    ("getpmac", "ok"),
+];
+
+#[test]
+fn who_lowers_himself(rt: HostRuntime) -> Result<(), AllocError> {
+    let mut machine = booted(&rt, rt.alloc())?;
+    run(&rt, rt.alloc(), &mut machine, LOWERED)?;
+    let four = labelled(Elem::Grade(4, Comps::empty()), None);
+    match machine.state.objects.process("t") {
+        Some(t) => assert!(rt; machine.state.objects.label(t) == four),
+        None => panic!(rt; "t lives"),
+    }
+    Ok(())
+}
