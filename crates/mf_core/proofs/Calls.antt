@@ -1,6 +1,6 @@
 -- What the call of a task's next line makes of a run: the reply, the state, and the list of policies after it.
 use Rattle.std.proofs.Common.{◌≡◌, ℕ, false, true, Option, Some, None, refl, sym, ◌∙◌, ap, subst}
-use Rattle.mf_core.proofs.LookedUp.{reply_at, state_at}
+use Rattle.mf_core.proofs.LookedUp.{plan_at, reply_at, state_at}
 use Rattle.std.specs.Prelude.{IfSome}
 use Rattle.mf_calls.specs.declared.script.Line.{Line}
 use Rattle.mf_calls.specs.declared.script.Script.{Script}
@@ -26,7 +26,7 @@ use Rattle.mf_core.specs.declared.history.History.{History}
 use Rattle.mf_core.specs.declared.progress.Turn.TheVariants as turns
 use Rattle.mf_core.specs.LegalHistory.{RunState, next_line, next_reply, next_state, turn_of}
 use Rattle.mf_core.specs.NextFound.{FoundAt, IsNextFound}
-use Rattle.mf_core.specs.Next.{next_plan, plan_at}
+use Rattle.mf_core.specs.Next.{next_plan}
 use Rattle.mf_core.specs.Consistency.{IsConsistent}
 use Rattle.mf_core.specs.Relisted.{IsMade}
 use Rattle.mf_core.proofs.Consistency.{change_line, entered_line}

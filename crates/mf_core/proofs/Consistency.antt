@@ -20,8 +20,9 @@ use Rattle.mf_core.specs.declared.history.Event.TheVariants as events
 use Rattle.mf_core.specs.declared.history.History.{History}
 use Rattle.mf_core.specs.Log.{Log}
 use Rattle.mf_core.specs.Opening.{boots_of}
-use Rattle.mf_core.specs.Progress.{progress_at, first_progress, left, left_at}
-use Rattle.mf_core.specs.LegalHistory.{RunState, MayCome, AllMayCome, after, run_state_of, opening, turn_at_line, turn_in, turn_of, next_line}
+use Rattle.mf_core.specs.Advances.{left}
+use Rattle.mf_core.specs.Progress.{progress_at, first_progress, left_at}
+use Rattle.mf_core.specs.LegalHistory.{RunState, MayCome, AllMayCome, run_after, run_state_of, opening_run, turn_at_line, turn_in, turn_of, next_line}
 use Rattle.mf_core.specs.WithEvent.{with_event}
 use Rattle.mf_core.specs.Consistency.{IsAtEntry, IsConsistent, HasLine, events_left, events_by}
 use Rattle.mf_core.proofs.Laws.{AllMayCome-append, progress_at-first, line_at_entry, line_at_change}
@@ -118,7 +119,7 @@ task_of (events.Changed t n reply) = t
 record Goes (s : Script) (r : RunState) (e : Event) : Type 0 where
   within : task_of e < length s.tasks
   progress : Progress
-  next : (after s r e).progress ≡ set r.progress (task_of e) progress
+  next : (run_after s r e).progress ≡ set r.progress (task_of e) progress
   on : GoesOn s (task_of e) (progress_at r.progress (task_of e)) progress
 
 module _ (s : Script) (h : History) (r : RunState) (consistent : IsConsistent s h r) where
@@ -228,7 +229,7 @@ module _ (s : Script) (h : History) (r : RunState) (consistent : IsConsistent s 
   task_within e may = (goes e may).within
 
   -- after an event that may come, the history with it and the state after it are consistent
-  pub consistent_next : (e : Event) → MayCome s r e → IsConsistent s (with_event h e) (after s r e)
+  pub consistent_next : (e : Event) → MayCome s r e → IsConsistent s (with_event h e) (run_after s r e)
   consistent_next e may =
       let goes_on = goes e may in
       let t = task_of e in
@@ -243,8 +244,8 @@ module _ (s : Script) (h : History) (r : RunState) (consistent : IsConsistent s 
       let longer = length-append h.events.list (e ∷ []) in
       record {
         formed = consistent.formed;
-        legal = record { boots = consistent.legal.boots; events = AllMayCome-append s (opening s) h.events.list e consistent.legal.events (subst M (sym consistent.here) may) };
-        here = fold-append (after s) (opening s) h.events.list (e ∷ []) ∙ ap (λ m. after s m e) consistent.here;
+        legal = record { boots = consistent.legal.boots; events = AllMayCome-append s (opening_run s) h.events.list e consistent.legal.events (subst M (sym consistent.here) may) };
+        here = fold-append (run_after s) (opening_run s) h.events.list (e ∷ []) ∙ ap (λ m. run_after s m e) consistent.here;
         places = ap length goes_on.next ∙ (length-set r.progress t y ∙ consistent.places);
         lines = subst (Each P) (sym goes_on.next) (each-set P r.progress t y (length s.tasks) places consistent.lines goes_on.on.has);
         entries = subst (Each Q) (sym goes_on.next) (each-set Q r.progress t y (length s.tasks) places consistent.entries goes_on.on.at);
@@ -262,11 +263,11 @@ events_first [] = refl
 events_first (x ∷ ts) = omega (arith, events_first ts, sum_by-cons line_count x ts)
 
 pub consistent_first : (s : Script) (h : History) (n : ℕ) → IsWellFormed s → h.boots ≡ boots_of s → h.events ≡ record { list = []; room = 3 * n }
-    → n ≡ sum_by line_count s.tasks → IsConsistent s h (opening s)
+    → n ≡ sum_by line_count s.tasks → IsConsistent s h (opening_run s)
 consistent_first s h n formed boots events count =
     let list : h.events.list ≡ [] = ap (λ (l : Log). l.list) events in
     let room : h.events.room ≡ 3 * n = ap (λ (l : Log). l.room) events in
-    let A : List Event → Type 0 = λ es. AllMayCome s (opening s) es in
+    let A : List Event → Type 0 = λ es. AllMayCome s (opening_run s) es in
     let H : Progress → ℕ → Type 0 = λ x t. HasLine x.phase x.lines (length (lines_of s t)) in
     let E : Progress → ℕ → Type 0 = λ x t. IsAtEntry x.phase (slice_get (lines_of s t) x.lines) in
     record {

@@ -11,7 +11,7 @@ use Rattle.mf_core.specs.declared.history.History.{History}
 use Rattle.mf_core.specs.Log.{Log}
 use Rattle.mf_core.specs.Progress.{progress_at, first_progress}
 use Rattle.mf_core.specs.Advances.{Advances}
-use Rattle.mf_core.specs.LegalHistory.{RunState, MayCome, after, next_line, opening, turn_of}
+use Rattle.mf_core.specs.LegalHistory.{RunState, MayCome, run_after, next_line, opening_run, turn_of}
 use Rattle.mf_core.specs.WithEvent.{with_event}
 use Rattle.mf_plan.specs.declared.found.Found.{Found}
 use Rattle.mf_core.specs.NextFound.{IsNextFound}
@@ -71,7 +71,7 @@ module _ (k : CoreView) (v : RunView) (h : History) (is : record { script = v.sc
 
   -- After one more event
 
-  module _ (v' : RunView) (log : Log) (e : Event) (next : v' ≡ record v { run = after v.script v.run e }) (more : log ≡ record h.events { list = h.events.list ++ e ∷ [] }) where
+  module _ (v' : RunView) (log : Log) (e : Event) (next : v' ≡ record v { run = run_after v.script v.run e }) (more : log ≡ record h.events { list = h.events.list ++ e ∷ [] }) where
     pub consistent_on : MayCome v.script v.run e → IsConsistent v'.script (record h { events = log }) v'.run
     consistent_on may = rw (next, more) (consistent_next v.script h v.run consistent e may)
 
@@ -84,17 +84,17 @@ module _ (k : CoreView) (v : RunView) (h : History) (is : record { script = v.sc
 -- One more event in the history of a core
 
 module _ (k k' : CoreView) (e : Event) (grown : k' ≡ record k { history = with_event k.history e }) where
-  pub state_on : run_state k' ≡ after k.script (run_state k) e
-  state_on = ap run_state grown ∙ fold-append (after k.script) (opening k.script) k.history.events.list (e ∷ [])
+  pub state_on : run_state k' ≡ run_after k.script (run_state k) e
+  state_on = ap run_state grown ∙ fold-append (run_after k.script) (opening_run k.script) k.history.events.list (e ∷ [])
 
-  pub specs_on : (specs : List _) → (after k.script (run_state k) e).state.specs ≡ specs → specs_of k' ≡ specs
+  pub specs_on : (specs : List _) → (run_after k.script (run_state k) e).state.specs ≡ specs → specs_of k' ≡ specs
   specs_on specs same = ap (λ (r : RunState). r.state.specs) state_on ∙ same
 
-  pub progress_on : (xs : List Progress) → (after k.script (run_state k) e).progress ≡ xs → progress_of k' ≡ xs
+  pub progress_on : (xs : List Progress) → (run_after k.script (run_state k) e).progress ≡ xs → progress_of k' ≡ xs
   progress_on xs same = ap (λ (r : RunState). r.progress) state_on ∙ same
 
   pub moves_on : (t : ℕ) (y : Progress) → IsConsistent k.script k.history (run_state k) → t < length k.script.tasks
-      → (after k.script (run_state k) e).progress ≡ set (progress_of k) t y → Advances (progress_of k) (progress_of k') t y
+      → (run_after k.script (run_state k) e).progress ≡ set (progress_of k) t y → Advances (progress_of k) (progress_of k') t y
   moves_on t y consistent lt next =
       let all = progress_on (set (progress_of k) t y) next in
       let place : t < length (progress_of k) = omega (arith, consistent.places) in

@@ -9,11 +9,11 @@ use Rattle.mf_calls.specs.Tasks.{is_change}
 use Rattle.mf_core.specs.declared.progress.Turn.TheVariants as turn
 use Rattle.mf_core.specs.declared.history.Event.{Event}
 use Rattle.mf_core.specs.Progress.{progress_at, first_progress}
-use Rattle.mf_core.specs.LegalHistory.{RunState, MayCome, AllMayCome, after, turn_at_line}
+use Rattle.mf_core.specs.LegalHistory.{RunState, MayCome, AllMayCome, run_after, turn_at_line}
 
-pub AllMayCome-append : (s : Script) (r : RunState) (es : List Event) (e : Event) → AllMayCome s r es → MayCome s (fold (after s) r es) e → AllMayCome s r (es ++ e ∷ [])
+pub AllMayCome-append : (s : Script) (r : RunState) (es : List Event) (e : Event) → AllMayCome s r es → MayCome s (fold (run_after s) r es) e → AllMayCome s r (es ++ e ∷ [])
 AllMayCome-append s r [] e all may = (may, tt)
-AllMayCome-append s r (x ∷ es) e all may = (all.0, AllMayCome-append s (after s r x) es e all.1 may)
+AllMayCome-append s r (x ∷ es) e all may = (all.0, AllMayCome-append s (run_after s r x) es e all.1 may)
 
 -- at the opening each task is before its first line
 pub progress_at-first : (ts : List Task) (t : ℕ) → progress_at (map (λ (x : Task). first_progress) ts) t ≡ first_progress

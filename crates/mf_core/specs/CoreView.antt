@@ -14,6 +14,7 @@ use Rattle.mf_core.specs.declared.progress.Commit.{Commit}
 use Rattle.mf_core.specs.declared.progress.Commit.TheVariants as commit
 use Rattle.mf_core.specs.declared.progress.ChangeOutcome.{ChangeOutcome}
 use Rattle.mf_core.specs.declared.progress.ChangeOutcome.TheVariants as outcome
+use Rattle.mf_core.specs.declared.history.Event.{Event}
 use Rattle.mf_core.specs.declared.history.Event.TheVariants as event
 use Rattle.mf_core.specs.declared.history.History.{History}
 use Rattle.mf_core.specs.Progress.{progress_at, open_entries}
@@ -26,6 +27,10 @@ use Rattle.mf_core.specs.WithEvent.{with_event}
 pub record CoreView : Type 0 where
   pub script : Script
   pub history : History
+
+-- the core after one event more
+abbrev pub with_next : CoreView → Event → CoreView
+with_next core e = record core { history = with_event core.history e }
 
 -- the state that its history determines
 abbrev pub run_state : CoreView → RunState
@@ -62,7 +67,7 @@ turn_at core t = turn_of core.script (run_state core).progress t
 -- the task's call is done: its reply is the last event
 abbrev pub IsDone : CoreView → ℕ → CoreView → Type 0
 IsDone old t new = (reply : Reply) × (next_reply old.script (run_state old) t ≡ Some reply)
-    × (new ≡ record old { history = with_event old.history (event.Done t (next_number (run_state old) t) reply) })
+    × (new ≡ with_next old (event.Done t (next_number (run_state old) t) reply))
 
 -- the plan is that of the task's call, and these are the listed policies with their specs
 abbrev pub IsCurrent : CoreView → ℕ → List Entry → Plan → Type 0
@@ -76,7 +81,7 @@ Commits old t listed plan commit.Stale new = ¬ IsCurrent old t listed plan × (
 -- the task's change is made: its reply is the last event
 abbrev pub IsChanged : CoreView → ℕ → CoreView → Type 0
 IsChanged old t new = (reply : Reply) × (next_reply old.script (run_state old) t ≡ Some reply)
-    × (new ≡ record old { history = with_event old.history (event.Changed t (next_number (run_state old) t) reply) })
+    × (new ≡ with_next old (event.Changed t (next_number (run_state old) t) reply))
 
 -- No entry is open and the change is made; or so many are, and nothing changes.
 abbrev pub Changes : CoreView → ℕ → ChangeOutcome → CoreView → Type 0

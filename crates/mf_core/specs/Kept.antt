@@ -6,8 +6,8 @@ use Rattle.mf_core.specs.declared.kept_reply.Kept.{Kept}
 use Rattle.mf_core.specs.declared.kept_reply.Kept.TheVariants.{Done, Denied, Refused, Other}
 
 -- the reply that is kept so
-abbrev pub reply_by : Kept → Reply
-reply_by Done = reply.Ok payload.None
-reply_by (Denied errno op item by) = reply.Denied errno op item by
-reply_by (Refused errno) = reply.Refused errno
-reply_by (Other kept) = kept.value
+abbrev pub reply_kept : Kept → Reply
+reply_kept Done = reply.Ok payload.None
+reply_kept (Denied errno op item by) = reply.Denied errno op item by
+reply_kept (Refused errno) = reply.Refused errno
+reply_kept (Other kept) = kept.value

@@ -23,8 +23,8 @@ pub record RunState : Type 0 where
   pub state : State
   pub progress : List Progress
 
-abbrev pub opening : Script → RunState
-opening s = record { state = opening_state s; progress = map (λ t. first_progress) s.tasks }
+abbrev pub opening_run : Script → RunState
+opening_run s = record { state = opening_state s; progress = map (λ t. first_progress) s.tasks }
 
 -- Turns
 
@@ -59,35 +59,32 @@ next_state s r t = option_map_or (λ line. call_state r.state (name_of s t) line
 abbrev pub next_number : RunState → ℕ → ℕ
 next_number r t = (progress_at r.progress t).lines + 1
 
--- the event may come in this state of the run
 abbrev pub MayCome : Script → RunState → Event → Type 0
 MayCome s r (event.Enter t) = turn_of s r.progress t ≡ turn.Entry
 MayCome s r (event.Done t line reply) = (turn_of s r.progress t ≡ turn.Entered) × (line ≡ next_number r t) × (next_reply s r t ≡ Some reply)
 MayCome s r (event.Leave t) = (turn_of s r.progress t ≡ turn.Done) ⊎ (turn_of s r.progress t ≡ turn.Entered)
 MayCome s r (event.Changed t line reply) = (open_entries r.progress ≡ 0) × (turn_of s r.progress t ≡ turn.Change) × (line ≡ next_number r t) × (next_reply s r t ≡ Some reply)
 
--- the state of the run after the event
-abbrev pub after : Script → RunState → Event → RunState
-after s r (event.Enter t) = record r { progress = with_phase r.progress t phase.Entered }
-after s r (event.Done t line reply) = record { state = next_state s r t; progress = with_phase r.progress t phase.Done }
-after s r (event.Leave t) = record r { progress = with_left r.progress t }
-after s r (event.Changed t line reply) = record { state = next_state s r t; progress = with_line r.progress t }
+abbrev pub run_after : Script → RunState → Event → RunState
+run_after s r (event.Enter t) = record r { progress = with_phase r.progress t phase.Entered }
+run_after s r (event.Done t line reply) = record { state = next_state s r t; progress = with_phase r.progress t phase.Done }
+run_after s r (event.Leave t) = record r { progress = with_left r.progress t }
+run_after s r (event.Changed t line reply) = record { state = next_state s r t; progress = with_line r.progress t }
 
--- each event may come after those before it
 abbrev pub AllMayCome : Script → RunState → List Event → Type 0
 AllMayCome s r [] = Unit {0}
-AllMayCome s r (e ∷ es) = MayCome s r e × AllMayCome s (after s r e) es
+AllMayCome s r (e ∷ es) = MayCome s r e × AllMayCome s (run_after s r e) es
 
 -- the state of the run that its events determine
 abbrev pub run_state_of : Script → List Event → RunState
-run_state_of s es = fold (after s) (opening s) es
+run_state_of s es = fold (run_after s) (opening_run s) es
 
 -- Histories
 
 -- The boot registrations are the script's, and each event may come after those before it.
 pub record IsLegal (s : Script) (h : History) : Type 0 where
   pub boots : h.boots ≡ boots_of s
-  pub events : AllMayCome s (opening s) h.events.list
+  pub events : AllMayCome s (opening_run s) h.events.list
 
 -- every task is idle and has no next line
 abbrev pub IsComplete : Script → History → Type 0

@@ -10,6 +10,7 @@ use Rattle.mf_policy.specs.NewLabels.{new_label}
 use Rattle.mf_policy.specs.Registration.{Entry, given_after, registration_of, with_registered}
 use Rattle.mf_objects.specs.Live.{Entities}
 use Rattle.mf_objects.specs.Changes as objects
+use Rattle.mf_objects.specs.Changes.{with_root}
 use Rattle.mf_calls.specs.declared.script.Task.{Task}
 use Rattle.mf_calls.specs.declared.script.FileLine.{FileLine}
 use Rattle.mf_calls.specs.declared.script.Script.{Script}
@@ -26,7 +27,6 @@ abbrev pub registrations_from : ℕ → List Module → List Registration
 registrations_from given [] = []
 registrations_from given (m ∷ ms) = registration_of m false given ∷ registrations_from (given_after given m) ms
 
--- the registrations at boot, in the script's order
 abbrev pub boots_of : Script → List Registration
 boots_of s = registrations_from 0 s.boots
 
@@ -35,10 +35,6 @@ abbrev pub booted_specs : Script → List Entry
 booted_specs s = fold with_registered [] (boots_of s)
 
 -- Entities
-
--- the root directory alone, with the label of a file for which nothing is asked: biba/high, mls/low
-abbrev pub root_alone : List Entry → Entities
-root_alone listed = objects.with_root (new_label listed kinds.Vnode (Boot no_request))
 
 -- A file is made in the directory that its path names. In a well-formed script that is there, and the name is free.
 abbrev pub with_file_at : List Entry → Entities → FileLine → Target → Entities
@@ -54,9 +50,9 @@ abbrev pub with_task : List Entry → Entities → Task → Entities
 with_task listed o t =
     option_map_or (λ id. o) (process_named o t.name) (objects.with_entity o t.name (new_label listed kinds.Process (Boot t.label)) (objects.new_process t.cred))
 
--- the root, then the files one after another, then the processes of the tasks
+-- the root directory, with the label of a file for which nothing is asked, then the files one after another, then the processes of the tasks
 abbrev pub opening_objects : List Entry → Script → Entities
-opening_objects listed s = fold (with_task listed) (fold (with_file listed) (root_alone listed) s.files) s.tasks
+opening_objects listed s = fold (with_task listed) (fold (with_file listed) (with_root (new_label listed kinds.Vnode (Boot no_request))) s.files) s.tasks
 
 -- the state at the end of boot
 abbrev pub opening_state : Script → State

@@ -19,11 +19,14 @@ static_among listed = filter (λ entry. entry.0.fixed) listed
 abbrev pub static_of : Script → List Entry
 static_of s = static_among (booted_specs s)
 
--- The static list and the dynamic list are those whose policies these are. Each module stands once, in the static list, in the dynamic list
--- or in the catalogue.
+-- each module stands once, in the lists or in the catalogue
+abbrev pub AreHeld : List Entry → List Module → Type 0
+AreHeld listed catalogue = (m : Module) → times_held m listed catalogue ≡ 1
+
+-- The static list and the dynamic list are those whose policies these are, and with the catalogue they hold each module.
 pub record AreOf (specs : List Entry) (fixed list : List Entry) (catalogue : List Module) : Type 0 where
   pub listed : fixed ++ list ≡ specs
-  pub held : (m : Module) → times_held m (fixed ++ list) catalogue ≡ 1
+  pub held : AreHeld (fixed ++ list) catalogue
 
 -- while a change waits, the dynamic list and the catalogue stay as they are
 abbrev pub StaysWhileWaiting : ChangeOutcome → List Entry → List Entry → List Module → List Module → Type 0

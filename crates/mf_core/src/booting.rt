@@ -64,7 +64,8 @@ fn register_boots<P: Policy>(
     requires boots { AreBoots modules.now }
     requires policies { AreOf [] fixed.old list.old catalogue.old }
     ensures boots { IfOk result (λ boots. boots ≡ spec.registrations_from 0 modules.now) }
-    ensures policies { IfOk result (λ boots. AreOf (fold with_registered [] boots) fixed.new list.new catalogue.new) }
+    ensures policies { IfOk result
+        (λ boots. AreOf (fold with_registered [] boots) fixed.new list.new catalogue.new) }
 {
     let mut boots = Listing::new(alloc);
     let mut numbers = SlotNumbers::new();
@@ -86,7 +87,8 @@ fn register_boot<P: Policy>(
     requires once { IsHeldOnce (fixed.old ++ list.old) catalogue.old }
     requires can { CanBoot booted (fixed.old ++ list.old) catalogue.old numbers.old }
     ensures registration { result ≡ registration_of booted false numbers.old }
-    ensures moves { Registers result (fixed.old ++ list.old) (fixed.new ++ list.new) catalogue.old catalogue.new numbers.old numbers.new }
+    ensures moves { Registers result (fixed.old ++ list.old)
+        (fixed.new ++ list.new) catalogue.old catalogue.new numbers.old numbers.new }
 {
     match list.boot(fixed, catalogue, numbers, booted.name()) {
         Ok(registration) => registration,

@@ -12,14 +12,13 @@ ghost use Rattle.mf_core.specs.declared.history.Event.TheVariants as event;
 ghost use Rattle.mf_core.specs.declared.progress.Turn.TheVariants as turn;
 ghost use Rattle.mf_core.specs.declared.progress.Phase.TheVariants as phase;
 ghost use Rattle.mf_core.specs.LegalHistory.{IsComplete, IsLegal};
-ghost use Rattle.mf_core.specs.WithEvent.{with_event};
 ghost use Rattle.mf_core.specs.Next.{next_plan};
 ghost use Rattle.mf_core.specs.Opening.{booted_specs, boots_of};
 ghost use Rattle.mf_core.specs.Policies.{AreOf, static_of};
 ghost use Rattle.mf_core.specs.AllModules.{AreAllModules};
-ghost use Rattle.mf_core.specs.Progress.{progress_at, first_progress, open_entries, left};
-ghost use Rattle.mf_core.specs.Advances.{Advances};
-ghost use Rattle.mf_core.specs.CoreView.{run_state, specs_of, progress_of, turn_at, open_of, lines_at, done_of, all_lines, lines_left};
+ghost use Rattle.mf_core.specs.Progress.{progress_at, first_progress, open_entries};
+ghost use Rattle.mf_core.specs.Advances.{Advances, left};
+ghost use Rattle.mf_core.specs.CoreView.{with_next, run_state, specs_of, progress_of, turn_at, open_of, lines_at, done_of, all_lines, lines_left};
 
 mod changing;
 
@@ -68,7 +67,8 @@ impl<'s> Core<'s> {
         ensures script { IfOk result (λ r. r.0.script ≡ script.now) }
         ensures boots { IfOk result (λ r. r.0.history.boots ≡ boots_of script.now) }
         ensures history { IfOk result (λ r. r.0.history.events.list ≡ []) }
-        ensures progress { IfOk result (λ r. (t : ℕ) → progress_at (progress_of r.0) t ≡ first_progress) }
+        ensures progress { IfOk result (λ r. (t : ℕ)
+            → progress_at (progress_of r.0) t ≡ first_progress) }
         ensures policies { IfOk result (λ r. AreOf (specs_of r.0) r.1 r.2 r.3) }
         ensures fixed { IfOk result (λ r. r.1 ≡ static_of script.now) }
         ensures entries { IfOk result (λ r. open_of r.0 ≡ 0) }
@@ -90,7 +90,8 @@ impl<'s> Core<'s> {
         ensures script { IfOk result (λ core. core.script ≡ script.now) }
         ensures boots { IfOk result (λ core. core.history.boots ≡ boots_of script.now) }
         ensures history { IfOk result (λ core. core.history.events.list ≡ []) }
-        ensures progress { IfOk result (λ core. (t : ℕ) → progress_at (progress_of core) t ≡ first_progress) }
+        ensures progress { IfOk result (λ core. (t : ℕ)
+            → progress_at (progress_of core) t ≡ first_progress) }
         ensures specs { IfOk result (λ core. specs_of core ≡ booted_specs script.now) }
         ensures entries { IfOk result (λ core. open_of core ≡ 0) }
         ensures lines { IfOk result (λ core. done_of core ≡ 0) }
@@ -115,8 +116,9 @@ impl<'s> Core<'s> {
     pub fn enter(&mut self, task: u32)
         requires task { task < length self.old.script.tasks }
         requires turn { turn_at self.old task ≡ turn.Entry }
-        ensures event { self.new ≡ record self.old { history = with_event self.old.history (event.Enter task) } }
-        ensures progress { Advances (progress_of self.old) (progress_of self.new) task (record (progress_at (progress_of self.old) task) { phase = phase.Entered }) }
+        ensures event { self.new ≡ with_next self.old (event.Enter task) }
+        ensures progress { Advances (progress_of self.old) (progress_of self.new) task
+            (record (progress_at (progress_of self.old) task) { phase = phase.Entered }) }
         ensures specs { specs_of self.new ≡ specs_of self.old }
         ensures entries { open_of self.new ≡ open_of self.old + 1 }
         ensures lines { done_of self.new ≡ done_of self.old }
@@ -128,9 +130,11 @@ impl<'s> Core<'s> {
     /// Ends the task's entry. Where its call isn't done, the task stops.
     pub fn leave(&mut self, task: u32)
         requires task { task < length self.old.script.tasks }
-        requires turn { (turn_at self.old task ≡ turn.Done) ⊎ (turn_at self.old task ≡ turn.Entered) }
-        ensures event { self.new ≡ record self.old { history = with_event self.old.history (event.Leave task) } }
-        ensures progress { Advances (progress_of self.old) (progress_of self.new) task (left (progress_at (progress_of self.old) task)) }
+        requires turn { (turn_at self.old task ≡ turn.Done)
+            ⊎ (turn_at self.old task ≡ turn.Entered) }
+        ensures event { self.new ≡ with_next self.old (event.Leave task) }
+        ensures progress { Advances (progress_of self.old) (progress_of self.new) task
+            (left (progress_at (progress_of self.old) task)) }
         ensures specs { specs_of self.new ≡ specs_of self.old }
         ensures entries { open_of self.new + 1 ≡ open_of self.old }
         ensures lines { done_of self.new ≡ done_of self.old + lines_left (turn_at self.old task) }
@@ -192,7 +196,8 @@ impl<'s> Core<'s> {
         ensures value { result.now ≡ self.now.history }
         ensures formed { IsWellFormed self.now.script }
         ensures legal { IsLegal self.now.script self.now.history }
-        ensures complete { open_of self.now ≡ 0 → done_of self.now ≡ all_lines self.now.script → IsComplete self.now.script self.now.history }
+        ensures complete { open_of self.now ≡ 0 → done_of self.now ≡ all_lines self.now.script
+            → IsComplete self.now.script self.now.history }
     {
         &self.history
     }

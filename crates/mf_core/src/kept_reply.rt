@@ -32,11 +32,11 @@ pub enum Kept {
 
 impl Model for KeptReply {
     ghost use Rattle.mf_plan.specs.declared.reply.Reply.{Reply};
-    ghost use Rattle.mf_core.specs.Kept.{reply_by};
+    ghost use Rattle.mf_core.specs.Kept.{reply_kept};
 
     ghost Value = { Reply };
 
-    ghost view = { λ k. reply_by k.kept };
+    ghost view = { λ k. reply_kept k.kept };
 }
 
 impl KeptReply {

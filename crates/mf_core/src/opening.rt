@@ -42,7 +42,8 @@ fn add_files(
 ) -> Result<(), AllocError>
     requires script { IsWellFormed script.now }
     requires few { HasAtMost objects.old 1 }
-    ensures value { OnOk result (objects.new ≡ fold (spec.with_file listed.now) objects.old script.now.files) }
+    ensures value { OnOk result (objects.new
+        ≡ fold (spec.with_file listed.now) objects.old script.now.files) }
     ensures few { OnOk result (HasAtMost objects.new (1 + FILE_LIMIT)) }
 {
     for file in script.files.as_slice() {
@@ -85,7 +86,8 @@ fn add_tasks(
 ) -> Result<(), AllocError>
     requires script { IsWellFormed script.now }
     requires few { HasAtMost objects.old (1 + FILE_LIMIT) }
-    ensures value { OnOk result (objects.new ≡ fold (spec.with_task listed.now) objects.old script.now.tasks) }
+    ensures value { OnOk result (objects.new
+        ≡ fold (spec.with_task listed.now) objects.old script.now.tasks) }
     ensures few { OnOk result (HasAtMost objects.new MOST_AT_OPENING) }
 {
     for task in script.tasks.as_slice() {

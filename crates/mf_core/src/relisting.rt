@@ -28,7 +28,9 @@ pub fn relist<P: Policy>(
     requires suits { Suits state.now (effect_in relisting.now) }
     requires booted { state.now.booted ≡ true }
     requires policies { AreOf state.now.specs fixed.now list.old catalogue.old }
-    ensures ok { OnOk result ((caller : Id) → AreOf (after state.now caller (effect_in relisting.now)).specs fixed.now list.new catalogue.new) }
+    ensures ok { OnOk result ((caller : Id)
+        → AreOf (after state.now caller (effect_in relisting.now)).specs
+        fixed.now list.new catalogue.new) }
     ensures err { OnErr result ((list.new ≡ list.old) × (catalogue.new ≡ catalogue.old)) }
 {
     fixed.are_pinned();

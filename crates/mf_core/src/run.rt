@@ -14,7 +14,8 @@ ghost use Rattle.mf_perform.specs.Verdict.{verdict_of};
 ghost use Rattle.mf_perform.specs.Reply.{reply_to};
 ghost use Rattle.mf_core.specs.declared.history.Event.TheVariants as event;
 ghost use Rattle.mf_core.specs.declared.progress.Turn.TheVariants as turn;
-ghost use Rattle.mf_core.specs.LegalHistory.{after, next_line, next_reply, opening, turn_of, MayCome};
+ghost use Rattle.mf_core.specs.LegalHistory.{next_line, next_reply, opening_run, turn_of, MayCome};
+ghost use Rattle.mf_core.specs.RunView.{run_on};
 ghost use Rattle.mf_core.specs.NextFound.{IsNextFound};
 ghost use Rattle.mf_core.specs.Next.{next_plan};
 ghost use Rattle.mf_policy.specs.Registration.{given_after};
@@ -49,14 +50,16 @@ impl<'s> Model for Run<'s> {
 
     ghost view = { λ r. record { script = r.script.now; run = record { state = r.state; progress = r.progress } } };
 
-    ghost invariant = { λ r. IsReached r.script.now (record { state = r.state; progress = r.progress }) };
+    ghost invariant = { λ r. IsReached r.script.now
+        (record { state = r.state; progress = r.progress }) };
 }
 
 impl<'s> Run<'s> {
     /// The run before the first event of the script.
     pub fn new(alloc: Global, script: &'s Script) -> Result<Run<'s>, AllocError>
         requires { IsWellFormed script.now }
-        ensures { IfOk result (λ run. run ≡ record { script = script.now; run = opening script.now }) }
+        ensures { IfOk result (λ run. run
+            ≡ record { script = script.now; run = opening_run script.now }) }
     {
         let (specs, numbers) = booted(alloc, script)?;
         let objects = opening_objects(alloc, script, &specs)?;
@@ -116,7 +119,8 @@ impl<'s> Run<'s> {
         requires task { task < length self.now.script.tasks }
         requires line { IsSome (next_line self.now.script self.now.run.progress task) }
         ensures is { IsSome result ↔ (next_plan self.now.script self.now.run task ≡ Some plan.now) }
-        ensures found { plan.now.tail ≡ Do → IfSome result (λ found. IsNextFound self.now.script self.now.run task found) }
+        ensures found { plan.now.tail ≡ Do
+            → IfSome result (λ found. IsNextFound self.now.script self.now.run task found) }
     {
         let line = self.line(task);
         let name = self.script.name_of(task);
@@ -135,9 +139,11 @@ impl<'s> Run<'s> {
     ) -> Result<KeptReply, AllocError>
         requires task { task < length self.now.script.tasks }
         requires plan { next_plan self.now.script self.now.run task ≡ Some plan.now }
-        requires found { plan.now.tail ≡ Do → IsNextFound self.now.script self.now.run task found.now }
+        requires found { plan.now.tail ≡ Do
+            → IsNextFound self.now.script self.now.run task found.now }
         requires verdict { verdict.now ≡ verdict_of self.now.run.state.specs plan.now }
-        ensures value { IfOk result (λ reply. next_reply self.now.script self.now.run task ≡ Some reply) }
+        ensures value { IfOk result (λ reply. next_reply self.now.script self.now.run task
+            ≡ Some reply) }
         ensures memory { is_ok (reply_to plan.now verdict.now.denied payload.None) ≡ false → IsOk result }
     {
         if let Some(refusal) = refusal_of(plan, verdict) {
@@ -151,15 +157,16 @@ impl<'s> Run<'s> {
     /// The task begins an entry.
     pub fn enter(&mut self, task: u32)
         requires { turn_of self.old.script self.old.run.progress task ≡ turn.Entry }
-        ensures { self.new ≡ record self.old { run = after self.old.script self.old.run (event.Enter task) } }
+        ensures { self.new ≡ run_on self.old (event.Enter task) }
     {
         self.progress.set_phase(task as usize, Phase::Entered);
     }
 
     /// The task ends its entry.
     pub fn leave(&mut self, task: u32)
-        requires { (turn_of self.old.script self.old.run.progress task ≡ turn.Done) ⊎ (turn_of self.old.script self.old.run.progress task ≡ turn.Entered) }
-        ensures { self.new ≡ record self.old { run = after self.old.script self.old.run (event.Leave task) } }
+        requires { (turn_of self.old.script self.old.run.progress task ≡ turn.Done)
+            ⊎ (turn_of self.old.script self.old.run.progress task ≡ turn.Entered) }
+        ensures { self.new ≡ run_on self.old (event.Leave task) }
     {
         self.progress.leave(task as usize);
     }
@@ -174,8 +181,9 @@ impl<'s> Run<'s> {
         reply: &KeptReply,
     ) -> Result<(), AllocError>
         requires may { MayCome self.old.script self.old.run (event.Done task number reply.now) }
-        requires found { is_ok reply.now ≡ true → IsNextFound self.old.script self.old.run task found.now }
-        ensures ok { OnOk result (self.new ≡ record self.old { run = after self.old.script self.old.run (event.Done task number reply.now) }) }
+        requires found { is_ok reply.now ≡ true
+            → IsNextFound self.old.script self.old.run task found.now }
+        ensures ok { OnOk result (self.new ≡ run_on self.old (event.Done task number reply.now)) }
         ensures err { OnErr result (self.new ≡ self.old) }
         ensures memory { is_ok reply.now ≡ false → IsOk result }
     {
@@ -240,9 +248,11 @@ fn redo(
     requires line { IsFormedLine line.now }
     requires entry { is_change line.now.call ≡ false }
     requires reply { reply.now ≡ call_reply state.old task.now line.now.child line.now.call }
-    requires found { is_ok reply.now ≡ true → AreFound state.old task.now line.now.child line.now.call found.now }
+    requires found { is_ok reply.now ≡ true
+        → AreFound state.old task.now line.now.child line.now.call found.now }
     requires next { state.old.objects.next < ID_LIMIT }
-    ensures state { OnOk result (state.new ≡ call_state state.old task.now line.now.child line.now.call) }
+    ensures state { OnOk result (state.new
+        ≡ call_state state.old task.now line.now.child line.now.call) }
     ensures err { OnErr result (state.new ≡ state.old) }
     ensures ids { state.new.objects.next ≤ state.old.objects.next + 1 }
     ensures booted { state.new.booted ≡ state.old.booted }

@@ -21,7 +21,7 @@ use Rattle.mf_perform.specs.OneCall.{call_reply}
 use Rattle.mf_core.specs.declared.history.Event.{Event}
 use Rattle.mf_core.specs.declared.history.Event.TheVariants as event
 use Rattle.mf_core.specs.Progress.{progress_at}
-use Rattle.mf_core.specs.LegalHistory.{RunState, next_line, MayCome, after}
+use Rattle.mf_core.specs.LegalHistory.{RunState, next_line, MayCome, run_after}
 use Rattle.mf_core.specs.NextFound.{FoundAt, IsNextFound}
 use Rattle.mf_core.proofs.SameLists.{done_tail}
 use Rattle.mf_perform.specs.Passed.{passed}
@@ -75,7 +75,7 @@ same_flow o asked checks f = ap (λ (rows : Rows). record f { sets = rows }) (sa
 
 pub done_flow : (s : Script) (run : RunState) (e : Event) (t number : ℕ) (said : Reply) (state state' : State) (task : List ℕ) (line : Line) (f moved : Flow)
     (request : Option Request) (checks : List Check) (next : ℕ) (caller : Option Id) (asked : Option (Id × Request)) → e ≡ event.Done t number said
-    → state ≡ run.state → state' ≡ (after s run e).state → task ≡ name_of s t → next_line s run.progress t ≡ Some line
+    → state ≡ run.state → state' ≡ (run_after s run e).state → task ≡ name_of s t → next_line s run.progress t ≡ Some line
     → map (item_asking state.objects request) checks ≡ passed said (plan_of state task line.child line.call).items
     → moved ≡ flow_moved state.objects (map (item_of state.objects) checks) f → next ≡ state.objects.next
     → caller ≡ caller_of state task line → asked ≡ asked_of state task line said
@@ -84,10 +84,10 @@ done_flow s run e t number said state state' task line f moved request checks ne
     let items : List Item = map (item_asking state.objects request) checks in
     ap (flow_settled next state'.objects caller asked) (moved_is ∙ sym (same_flow state.objects request checks f)
     ∙ ap (λ (x : State). flow_moved x.objects items f) here)
-    ∙ line_flow run.state (after s run (event.Done t number said)).state (name_of s t) (next_line s run.progress t) line said f items next state'.objects caller asked line_is
+    ∙ line_flow run.state (run_after s run (event.Done t number said)).state (name_of s t) (next_line s run.progress t) line said f items next state'.objects caller asked line_is
     (items_are ∙ ap (λ (x : State). passed said (plan_of x task line.child line.call).items) here ∙ ap (λ (x : List ℕ). passed said (plan_of run.state x line.child line.call).items) task_is)
     (next_is ∙ ap (λ (x : State). x.objects.next) here)
-    (ap (λ (x : State). x.objects) after_is ∙ ap (λ (x : Event). (after s run x).state.objects) is)
+    (ap (λ (x : State). x.objects) after_is ∙ ap (λ (x : Event). (run_after s run x).state.objects) is)
     (caller_is ∙ ap (λ (x : State). caller_of x task line) here ∙ ap (λ (x : List ℕ). caller_of run.state x line) task_is)
     (asked_is ∙ ap (λ (x : State). asked_of x task line said) here ∙ ap (λ (x : List ℕ). asked_of run.state x line said) task_is)
     ∙ sym (ap (λ (x : Event). flow_after_event s run x f) is)

@@ -25,7 +25,7 @@ use Rattle.mf_core.specs.declared.history.Event.TheVariants as event
 use Rattle.mf_core.specs.declared.history.History.{History}
 use Rattle.mf_core.specs.Opening.{opening_state}
 use Rattle.mf_core.specs.Progress.{progress_at}
-use Rattle.mf_core.specs.LegalHistory.{RunState, opening, next_line, MayCome, after, AllMayCome, run_state_of, IsLegal}
+use Rattle.mf_core.specs.LegalHistory.{RunState, opening_run, next_line, MayCome, run_after, AllMayCome, run_state_of, IsLegal}
 use Rattle.mf_core.specs.RunView.{RunView}
 use Rattle.mf_perform.proofs.StateChange.{Deed, StateChange}
 use Rattle.mf_perform.proofs.EntityChange.{ChangesEntities, changes_entities}
@@ -81,7 +81,7 @@ done_rows p r s run t (Some line) said sets rows of is shape flowing are =
 
 event_rows : (p : LatticePolicy) (r : Registration) (s : Script) (run : RunState) (e : Event) (sets : Sets) (rows : Rows) → IsOf p r → MayCome s run e
     → IsFlowing p r run.state sets → AreRows run.state.objects sets rows
-    → AreRows (after s run e).state.objects (sets_after_event s r run e sets) (rows_after_event s (slot_of r) r.module run e rows)
+    → AreRows (run_after s run e).state.objects (sets_after_event s r run e sets) (rows_after_event s (slot_of r) r.module run e rows)
 event_rows p r s run (event.Enter t) sets rows of may flowing are = are
 event_rows p r s run (event.Done t line said) sets rows of may flowing are =
     done_rows p r s run t (next_line s run.progress t) said sets rows of may.2 (event_change s run (event.Done t line said) flowing.held.kept.rooted) flowing are
@@ -102,7 +102,7 @@ kept_rows o sets rows rows' kept are =
 pub record IsReplayed (s : Script) (es : List Event) (n : ℕ) (replay : RunView) : Type 0 where
   pub script : replay.script ≡ s
   pub may : AllMayCome s replay.run (drop n es)
-  pub run : fold (after s) replay.run (drop n es) ≡ fold (after s) (opening s) es
+  pub run : fold (run_after s) replay.run (drop n es) ≡ fold (run_after s) (opening_run s) es
 
 -- the sources so far, and how the rest leads to those of the history
 pub record Followed (p : LatticePolicy) (s : Script) (r : Registration) (es : List Event) (n : ℕ) (replay : RunView) (rows : Rows) : Type 0 where
@@ -124,7 +124,7 @@ IsFlow s es n replay f = IsFollowed s f.registration es n replay f.sets
 -- At the opening
 
 opening_for : (p : LatticePolicy) (s : Script) (h : History) (r : Registration) (rows : Rows) → IsWellFormed s → IsBootedFor p s r
-    → AreRows (opening_state s).objects (opening_sets s r) rows → IsFollowed s r h.events.list 0 (record { script = s; run = opening s }) rows
+    → AreRows (opening_state s).objects (opening_sets s r) rows → IsFollowed s r h.events.list 0 (record { script = s; run = opening_run s }) rows
 opening_for p s h r rows formed booted are =
     record {
       policy = p;
@@ -133,12 +133,12 @@ opening_for p s h r rows formed booted are =
     }
 
 opening_followed : (p : LatticePolicy) (s : Script) (h : History) (r : Registration) (es : List Event) (replay : RunView) (rows : Rows) → IsBootedFor p s r → es ≡ h.events.list → IsWellFormed s
-    → replay ≡ record { script = s; run = opening s } → AreRows (opening_state s).objects (opening_sets s r) rows → IsFollowed s r es 0 replay rows
+    → replay ≡ record { script = s; run = opening_run s } → AreRows (opening_state s).objects (opening_sets s r) rows → IsFollowed s r es 0 replay rows
 opening_followed p s h r es replay rows booted all formed is are =
     subst (λ (x : List Event). IsFollowed s r x 0 replay rows) (sym all)
     (subst (λ (x : RunView). IsFollowed s r h.events.list 0 x rows) (sym is) (opening_for p s h r rows formed booted are))
 
-pub opening_replayed : (s : Script) (h : History) (es : List Event) (replay : RunView) → es ≡ h.events.list → IsLegal s h → replay ≡ record { script = s; run = opening s }
+pub opening_replayed : (s : Script) (h : History) (es : List Event) (replay : RunView) → es ≡ h.events.list → IsLegal s h → replay ≡ record { script = s; run = opening_run s }
     → IsReplayed s es 0 replay
 opening_replayed s h es replay all legal is =
     subst (λ (x : List Event). IsReplayed s x 0 replay) (sym all)
@@ -155,7 +155,7 @@ own_sources_rows s r o rows here own =
     }
 
 pub opening_flows : (s : Script) (h : History) (booted : List Registration) (es : List Event) (replay : RunView) (state : State) (flows : List Flow)
-    → IsWellFormed s → IsLegal s h → booted ≡ sourced h.boots → es ≡ h.events.list → replay ≡ record { script = s; run = opening s } → state ≡ replay.run.state
+    → IsWellFormed s → IsLegal s h → booted ≡ sourced h.boots → es ≡ h.events.list → replay ≡ record { script = s; run = opening_run s } → state ≡ replay.run.state
     → map (λ (f : Flow). f.registration) flows ≡ booted → AllByRecursion (IsOpening state.objects) flows → AllByRecursion (IsFlow s es 0 replay) flows
 opening_flows s h booted es replay state flows formed legal are all is here registered opened =
     let at : state.objects ≡ (opening_state s).objects = ap (λ (x : State). x.objects) (here ∙ ap (λ (x : RunView). x.run.state) is) in
@@ -180,18 +180,18 @@ rest_is : (es : List Event) (n : ℕ) (e d : Event) → n < length es → e ≡ 
 rest_is es n e d within is = drop-cons es n d within ∙ ap (λ (x : Event). x ∷ drop (suc n) es) (sym is)
 
 pub replayed_more : (s : Script) (es : List Event) (n : ℕ) (replay replay' : RunView) (e d : Event) → n < length es → IsReplayed s es n replay → e ≡ get_or es n d
-    → replay' ≡ record { script = s; run = after s replay.run e } → IsReplayed s es (n + 1) replay'
+    → replay' ≡ record { script = s; run = run_after s replay.run e } → IsReplayed s es (n + 1) replay'
 replayed_more s es n replay replay' e d within so_far is next =
     let rest : drop n es ≡ e ∷ drop (suc n) es = rest_is es n e d within is in
     let may : AllMayCome s replay.run (e ∷ drop (suc n) es) = subst (AllMayCome s replay.run) rest so_far.may in
     let place : suc n ≡ n + 1 = omega arith in
     subst (λ (k : ℕ). IsReplayed s es k replay') place
     (subst (λ (x : RunView). IsReplayed s es (suc n) x) (sym next)
-    (record { script = refl; may = may.1; run = sym (ap (fold (after s) replay.run) rest) ∙ so_far.run }))
+    (record { script = refl; may = may.1; run = sym (ap (fold (run_after s) replay.run) rest) ∙ so_far.run }))
 
 followed_more : (s : Script) (r : Registration) (es : List Event) (n : ℕ) (replay replay' : RunView) (rows rows' rows'' : Rows) (e d : Event) → n < length es
-    → IsReplayed s es n replay → IsFollowed s r es n replay rows → e ≡ get_or es n d → replay' ≡ record { script = s; run = after s replay.run e }
-    → rows' ≡ rows_after_event s (slot_of r) r.module replay.run e rows → AreKept (after s replay.run e).state.objects rows' rows'' → IsFollowed s r es (n + 1) replay' rows''
+    → IsReplayed s es n replay → IsFollowed s r es n replay rows → e ≡ get_or es n d → replay' ≡ record { script = s; run = run_after s replay.run e }
+    → rows' ≡ rows_after_event s (slot_of r) r.module replay.run e rows → AreKept (run_after s replay.run e).state.objects rows' rows'' → IsFollowed s r es (n + 1) replay' rows''
 followed_more s r es n replay replay' rows rows' rows'' e d within replayed followed is next rows_are kept =
     let so_far = followed.followed in
     let p : LatticePolicy = followed.policy in
@@ -199,8 +199,8 @@ followed_more s r es n replay replay' rows rows' rows'' e d within replayed foll
     let may : AllMayCome s replay.run (e ∷ drop (suc n) es) = subst (AllMayCome s replay.run) rest replayed.may in
     let place : suc n ≡ n + 1 = omega arith in
     let sets : Sets = sets_after_event s r replay.run e so_far.sets in
-    let after_event : AreRows (after s replay.run e).state.objects sets rows' =
-    subst (AreRows (after s replay.run e).state.objects sets) (sym rows_are) (event_rows p r s replay.run e so_far.sets rows followed.of may.0 so_far.flowing so_far.kept) in
+    let after_event : AreRows (run_after s replay.run e).state.objects sets rows' =
+    subst (AreRows (run_after s replay.run e).state.objects sets) (sym rows_are) (event_rows p r s replay.run e so_far.sets rows followed.of may.0 so_far.flowing so_far.kept) in
     subst (λ (k : ℕ). IsFollowed s r es k replay' rows'') place
     (subst (λ (x : RunView). IsFollowed s r es (suc n) x rows'') (sym next)
     (record {
@@ -210,20 +210,20 @@ followed_more s r es n replay replay' rows rows' rows'' e d within replayed foll
         sets = sets;
         flows = sym (ap (sets_after s r replay.run so_far.sets) rest) ∙ so_far.flows;
         flowing = event_flowing p r s replay.run e so_far.sets followed.of may.0 so_far.flowing;
-        kept = kept_rows (after s replay.run e).state.objects sets rows' rows'' kept after_event;
+        kept = kept_rows (run_after s replay.run e).state.objects sets rows' rows'' kept after_event;
       };
     }))
 
 -- what the sources by a policy become, once those of what is gone may be emptied
 abbrev pub Becomes : Script → RunState → Event → Flow → Flow → Type 0
-Becomes s run e f new = IsKept (after s run e).state.objects (flow_after_event s run e f) new
+Becomes s run e f new = IsKept (run_after s run e).state.objects (flow_after_event s run e f) new
 
 -- an event that moves nothing
 pub unmoved : (s : Script) (run : RunState) (e e' : Event) (flows : List Flow) → e ≡ e' → ((f : Flow) → flow_after_event s run e' f ≡ f) → EachBecomes (Becomes s run e) flows flows
 unmoved s run e e' flows is same =
     subst (λ (x : Event). EachBecomes (Becomes s run x) flows flows) (sym is)
     (becomes_itself (Becomes s run e') flows (λ f.
-    subst (λ (x : Flow). IsKept (after s run e').state.objects x f) (sym (same f)) (record { registration = refl; sets = kept_itself (after s run e').state.objects f.sets })))
+    subst (λ (x : Flow). IsKept (run_after s run e').state.objects x f) (sym (same f)) (record { registration = refl; sets = kept_itself (run_after s run e').state.objects f.sets })))
 
 -- what is so anyway is so of a value, where there is one
 pub where_ok : {T E P : Type 0} (r : Result T E) → P → OnOk r P
@@ -231,13 +231,13 @@ where_ok (Ok value) so = so
 where_ok (Err error) so = tt
 
 flow_more : (s : Script) (es : List Event) (n : ℕ) (replay replay' : RunView) (e d : Event) (f new : Flow) → n < length es → IsReplayed s es n replay → e ≡ get_or es n d
-    → replay' ≡ record { script = s; run = after s replay.run e } → Becomes s replay.run e f new → IsFlow s es n replay f → IsFlow s es (n + 1) replay' new
+    → replay' ≡ record { script = s; run = run_after s replay.run e } → Becomes s replay.run e f new → IsFlow s es n replay f → IsFlow s es (n + 1) replay' new
 flow_more s es n replay replay' e d f new within replayed is next becomes so_far =
     subst (λ (r : Registration). IsFollowed s r es (n + 1) replay' new.sets) (sym becomes.registration)
     (followed_more s f.registration es n replay replay' f.sets (flow_after_event s replay.run e f).sets new.sets e d within replayed so_far is next refl becomes.sets)
 
 pub flows_more : (s : Script) (es : List Event) (n : ℕ) (replay replay' : RunView) (e d : Event) (flows flows' : List Flow) → n < length es → IsReplayed s es n replay
-    → e ≡ get_or es n d → replay' ≡ record { script = s; run = after s replay.run e } → EachBecomes (Becomes s replay.run e) flows flows'
+    → e ≡ get_or es n d → replay' ≡ record { script = s; run = run_after s replay.run e } → EachBecomes (Becomes s replay.run e) flows flows'
     → AllByRecursion (IsFlow s es n replay) flows → AllByRecursion (IsFlow s es (n + 1) replay') flows'
 flows_more s es n replay replay' e d flows flows' within replayed is next become all =
     all_becoming (Becomes s replay.run e) (IsFlow s es n replay) (IsFlow s es (n + 1) replay') flows flows'
@@ -262,7 +262,7 @@ pub all_replayed : (s : Script) (h : History) (es : List Event) (n : ℕ) (repla
     → replay.run ≡ run_state_of s h.events.list
 all_replayed s h es n replay all is replayed =
     let none : drop n es ≡ [] = ap (λ (k : ℕ). drop k es) is ∙ nothing_left es in
-    sym (ap (fold (after s) replay.run) none) ∙ replayed.run ∙ ap (run_state_of s) all
+    sym (ap (fold (run_after s) replay.run) none) ∙ replayed.run ∙ ap (run_state_of s) all
 
 pub all_flows : (s : Script) (h : History) (es : List Event) (n : ℕ) (replay : RunView) (flows : List Flow) → es ≡ h.events.list → n ≡ length es
     → IsReplayed s es n replay → AllByRecursion (IsFlow s es n replay) flows → AllByRecursion (IsFlowOf s h) flows

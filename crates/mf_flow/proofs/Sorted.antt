@@ -25,7 +25,7 @@ use Rattle.mf_plan.specs.Plan.{plan_of}
 use Rattle.mf_core.specs.declared.history.Event.{Event}
 use Rattle.mf_core.specs.declared.history.Event.TheVariants as event
 use Rattle.mf_core.specs.Opening.{opening_state}
-use Rattle.mf_core.specs.LegalHistory.{RunState, opening, next_line, after}
+use Rattle.mf_core.specs.LegalHistory.{RunState, opening_run, next_line, run_after}
 use Rattle.mf_flow.specs.Order.{place_of, elem_cmp, union}
 use Rattle.mf_perform.specs.Passed.{passed}
 use Rattle.mf_flow.specs.Sources.{Sets, element_by, element_at, held_by, alone, is_id, received, moved, moved_by, relabels, set_after, caller_of, sets_after_line, sets_after_event, opening_sets, sets_after, sources_of}
@@ -139,13 +139,13 @@ line_ordered r s s' task (Some line) said sets all id =
 event_ordered : (s : Script) (r : Registration) (run : RunState) (e : Event) (sets : Sets) → AllOrdered sets → AllOrdered (sets_after_event s r run e sets)
 event_ordered s r run (event.Enter t) sets all = all
 event_ordered s r run (event.Done t line said) sets all =
-    line_ordered r run.state (after s run (event.Done t line said)).state (name_of s t) (next_line s run.progress t) said sets all
+    line_ordered r run.state (run_after s run (event.Done t line said)).state (name_of s t) (next_line s run.progress t) said sets all
 event_ordered s r run (event.Leave t) sets all = all
 event_ordered s r run (event.Changed t line said) sets all = all
 
 run_ordered : (s : Script) (r : Registration) (run : RunState) (sets : Sets) (es : List Event) → AllOrdered sets → AllOrdered (sets_after s r run sets es)
 run_ordered s r run sets [] all = all
-run_ordered s r run sets (e ∷ es) all = run_ordered s r (after s run e) (sets_after_event s r run e sets) es (event_ordered s r run e sets all)
+run_ordered s r run sets (e ∷ es) all = run_ordered s r (run_after s run e) (sets_after_event s r run e sets) es (event_ordered s r run e sets all)
 
 is_sorted : (set : List Elem) → Ordered set → IsStrictlySortedBy elem_cmp set
 unfolding IsStrictlySortedBy
@@ -155,4 +155,4 @@ is_sorted (x ∷ set) sorted = (sorted.0, is_sorted set sorted.1)
 pub sources_sorted : SourcesAreSorted
 sources_sorted s r es id =
     is_sorted (sources_of s r es id)
-    (run_ordered s r (opening s) (opening_sets s r) es (λ id. alone_ordered (element_at r (opening_state s).objects id)) id)
+    (run_ordered s r (opening_run s) (opening_sets s r) es (λ id. alone_ordered (element_at r (opening_state s).objects id)) id)

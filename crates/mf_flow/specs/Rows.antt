@@ -30,7 +30,7 @@ use Rattle.mf_perform.specs.OneCall.{after_reply}
 use Rattle.mf_core.specs.declared.history.Event.{Event}
 use Rattle.mf_core.specs.declared.history.Event.TheVariants as event
 use Rattle.mf_core.specs.declared.history.History.{History}
-use Rattle.mf_core.specs.LegalHistory.{RunState, next_line, after, run_state_of}
+use Rattle.mf_core.specs.LegalHistory.{RunState, next_line, run_after, run_state_of}
 use Rattle.mf_flow.specs.Order.{union}
 use Rattle.mf_perform.specs.Passed.{passed}
 use Rattle.mf_flow.specs.Sources.{Sets, alone, held_by, has_element, caller_of, sources_of}
@@ -120,7 +120,7 @@ rows_after_line slot m s s' task (Some line) reply rows =
 
 abbrev pub rows_after_event : Script → ℕ → Module → RunState → Event → Rows → Rows
 rows_after_event s slot m run (event.Done t line reply) rows =
-    rows_after_line slot m run.state (after s run (event.Done t line reply)).state (name_of s t) (next_line s run.progress t) reply rows
+    rows_after_line slot m run.state (run_after s run (event.Done t line reply)).state (name_of s t) (next_line s run.progress t) reply rows
 rows_after_event s slot m run other rows = rows
 
 -- Each policy

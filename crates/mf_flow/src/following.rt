@@ -6,7 +6,7 @@ ghost use Rattle.mf_plan.specs.Outline.{item_of};
 ghost use Rattle.mf_list.specs.Asked.{slot_of};
 ghost use Rattle.mf_objects.specs.Lives.{is_from};
 ghost use Rattle.mf_calls.specs.WellFormed.{IsWellFormed};
-ghost use Rattle.mf_core.specs.LegalHistory.{after, MayCome};
+ghost use Rattle.mf_core.specs.LegalHistory.{run_after, MayCome};
 ghost use Rattle.mf_flow.specs.Order.{union};
 ghost use Rattle.mf_flow.specs.Rows as spec;
 ghost use Rattle.mf_flow.specs.Sources.{alone, held_by};
@@ -52,8 +52,8 @@ pub fn follow(
     requires script { run.old.script ≡ script.now }
     requires formed { IsWellFormed script.now }
     requires may { MayCome script.now run.old.run event.now }
-    ensures run { OnOk result (run.new ≡ record { script = script.now; run = after script.now run.old.run event.now }) }
-    ensures flows { OnOk result (spec.EachBecomes (λ f new. spec.IsKept (after script.now run.old.run event.now).state.objects
+    ensures run { OnOk result (run.new ≡ record { script = script.now; run = run_after script.now run.old.run event.now }) }
+    ensures flows { OnOk result (spec.EachBecomes (λ f new. spec.IsKept (run_after script.now run.old.run event.now).state.objects
         (spec.flow_after_event script.now run.old.run event.now f) new) flows.old.items flows.new.items) }
 {
     match event {

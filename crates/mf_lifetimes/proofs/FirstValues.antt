@@ -13,7 +13,7 @@ use Rattle.mf_elem.specs.declared.label.Request.{Request}
 use Rattle.mf_item.specs.declared.view.Kind.{Kind}
 use Rattle.mf_item.specs.declared.view.Kind.TheVariants as kinds
 use Rattle.mf_policy.specs.declared.modules.Labelling.{Labelling}
-use Rattle.mf_policy.specs.declared.modules.Labelling.TheVariants.{Nothing, Ranges, Partitions}
+use Rattle.mf_policy.specs.declared.modules.Labelling.TheVariants.{Nothing, Ranges, Elements, Partitions}
 use Rattle.mf_policy.specs.declared.registration.Registration.{Registration}
 use Rattle.mf_policy.specs.Claims.{claims_part, is_claimed, takes_by}
 use Rattle.mf_policy.specs.Modules.{facts_of, has_partition, is_named, is_process_kind, labels_by, number_asked, range_asked}
@@ -21,12 +21,16 @@ use Rattle.mf_policy.specs.Registration.{Entry, is_listed}
 use Rattle.mf_policy.specs.Relabelled.{after_by, number_after, value_after}
 use Rattle.mf_policy.proofs.ByEntry.{relabelled_by}
 use Rattle.mf_policy.proofs.EachModule.{has_elements}
-use Rattle.mf_lifetimes.specs.Marks.{Mark, is_first}
+use Rattle.mf_lifetimes.specs.Marks.{Mark}
 use Rattle.mf_lifetimes.specs.Marks.Mark.{Made}
 use Rattle.mf_lifetimes.specs.Laws.{AreMarksOf, holds_valid}
 use Rattle.mf_lifetimes.proofs.Listing.{IsLasting, by_holder}
 use Rattle.mf_lifetimes.proofs.Valid.{IsValidOf, valid_set}
 use Rattle.mf_objects.specs.Live.{is_set}
+
+-- the first value of a slot that was unset
+abbrev pub is_first : LabelValue → LabelValue → Bool
+is_first old new = not (is_set old) && is_set new
 
 -- the marks of a slot that had these, after its value has become another, where these are made with its first one
 abbrev pub with_first : List Mark → LabelValue → LabelValue → List Mark → List Mark
@@ -94,6 +98,9 @@ marks_by Nothing range number r kind value marks taken valid agree = unchanged_m
 marks_by (Ranges process other) range number r kind value marks taken valid agree =
     let both = valid refl in
     set_marks value _ marks _ (valid_set (Ranges process other) kind value both.0) (valid_set (Ranges process other) kind _ both.1) agree
+marks_by (Elements element) range number r kind value marks taken valid agree =
+    let both = valid refl in
+    set_marks value _ marks _ (valid_set (Elements element) kind value both.0) (valid_set (Elements element) kind _ both.1) agree
 marks_by Partitions range number r kind value marks taken valid agree = number_marks r kind number value marks taken agree
 
 -- the slot of an entity that a claimed request relabels has its mark exactly where it is set then

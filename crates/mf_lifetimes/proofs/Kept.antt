@@ -13,7 +13,7 @@ use Rattle.mf_elem.specs.declared.label.TheConstants.{SLOTS}
 use Rattle.mf_item.specs.declared.view.Kind.{Kind}
 use Rattle.mf_item.specs.declared.view.Kind.TheVariants as kinds
 use Rattle.mf_policy.specs.declared.modules.Labelling.{Labelling}
-use Rattle.mf_policy.specs.declared.modules.Labelling.TheVariants.{Nothing, Ranges, Partitions}
+use Rattle.mf_policy.specs.declared.modules.Labelling.TheVariants.{Nothing, Ranges, Elements, Partitions}
 use Rattle.mf_policy.specs.declared.registration.Registration.{Registration}
 use Rattle.mf_policy.specs.declared.labels.Origin.TheVariants.{Boot, Maker}
 use Rattle.mf_policy.specs.NewLabels.{new_label, new_value}
@@ -79,6 +79,9 @@ marks_by Nothing r kind value valid = refl
 marks_by (Ranges process other) r kind value valid =
     set_marks r (inherited_range kind value)
     (valid_set (Ranges process other) kind (inherited_range kind value) (created_valid (Ranges process other) kind value refl (valid refl)))
+marks_by (Elements element) r kind value valid =
+    set_marks r (inherited_range kind value)
+    (valid_set (Elements element) kind (inherited_range kind value) (created_valid (Elements element) kind value refl (valid refl)))
 marks_by Partitions r kind value valid = partition_marks r kind value
 
 -- the slot of an entity that a process makes is set exactly where it is marked
@@ -92,6 +95,7 @@ boot_by_labels : (labels : Labelling) (r : Registration) (kind : Kind) (range : 
     → AreMarksOf (if labels_by labels kind then boot_by labels kind range number else Unset) (map Made (if labels_by labels kind then r ∷ [] else []))
 boot_by_labels Nothing r kind range number = refl
 boot_by_labels (Ranges process other) r kind range number = (r, refl)
+boot_by_labels (Elements element) r kind range number = (r, refl)
 boot_by_labels Partitions r kinds.Process range number = (r, refl)
 boot_by_labels Partitions r kinds.Vnode range number = refl
 boot_by_labels Partitions r kinds.Pipe range number = refl
@@ -112,10 +116,10 @@ pub boot_holds : (slot : ℕ) (r : Registration) (specs : List Entry) (given : �
     → IsPinned slot r specs given → AllLetAsk kind request specs → IsValidOf r.module kind (slice_index_or (new_label specs kind (Boot request)) slot Unset)
 boot_holds slot r specs given kind request within pinned let_ask =
     let may : may_ask r.module kind request ≡ true =
-    (all_found (λ entry. may_ask entry.0.module kind request ≡ true) (holds_slot slot) specs (r, pinned.meaning) let_ask pinned.found).0 in
+    (all_found (λ entry. may_ask entry.0.module kind request ≡ true) (holds_slot slot) specs (r, pinned.meaning) let_ask.1 pinned.found).0 in
     ap (holds_valid (facts_of r.module).labels kind) (four_values (new_value specs kind (Boot request)) slot within)
     ∙ ap (λ (found : Option Entry). holds_valid (facts_of r.module).labels kind (given_by found kind (Boot request) slot)) pinned.found
-    ∙ boot_valid r.module kind request pinned.lasting may
+    ∙ boot_valid r.module kind request pinned.lasting let_ask.0 may
 
 -- What a step keeps
 
@@ -160,10 +164,10 @@ relabel_valid slot r s e request pinned all valid allowed = by_check allowed.ask
     by_check : AsksFor s (kind_of e.what) e.label request allowed.item → IsValidOf r.module (kind_of e.what) (value_after r.module request (value_in slot e))
     by_check (of_itself process test own) =
         subst (λ (kind : Kind). IsValidOf r.module kind (value_after r.module request (value_in slot e))) (sym process)
-        (process_relabelled r.module pinned.lasting slot allowed.item request allowed.asked answered e.label test own
+        (process_relabelled r.module pinned.lasting slot allowed.item request allowed.spelled allowed.asked answered e.label test own
         (subst (λ (kind : Kind). IsValidOf r.module kind (value_in slot e)) process valid))
     by_check (of_object other test from maker live process own object there labelled) =
-        object_relabelled r.module pinned.lasting slot allowed.item request allowed.asked answered (kind_of e.what) maker.label e.label object other test own there labelled
+        object_relabelled r.module pinned.lasting slot allowed.item request allowed.spelled allowed.asked answered (kind_of e.what) maker.label e.label object other test own there labelled
         (process_valid slot r.module s.objects from maker all live process) valid
 
 -- the value in a slot that a policy holds, after a relabel

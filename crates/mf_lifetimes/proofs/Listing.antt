@@ -7,10 +7,11 @@ use Rattle.std.proofs.lemmas.Bool.{and_parts}
 use Rattle.std.proofs.lemmas.Bool.Decides.{nat_tests}
 use Rattle.mf_errno.specs.Same.{same_module}
 use Rattle.mf_errno.specs.declared.module.Module.{Module}
+use Rattle.mf_elem.specs.Elem.{is_plain}
 use Rattle.mf_item.specs.declared.view.Kind.{Kind}
 use Rattle.mf_item.specs.declared.view.Kind.TheVariants as kinds
 use Rattle.mf_policy.specs.declared.modules.Labelling.{Labelling}
-use Rattle.mf_policy.specs.declared.modules.Labelling.TheVariants.{Ranges}
+use Rattle.mf_policy.specs.declared.modules.Labelling.TheVariants.{Ranges, Elements}
 use Rattle.mf_policy.specs.declared.registration.Registration.{Registration}
 use Rattle.mf_policy.specs.declared.spec.Spec.{Spec}
 use Rattle.mf_policy.specs.declared.loading.LoadFault.{LoadFault}
@@ -111,19 +112,21 @@ lasting_or_not m = one (has_elements (facts_of m).labels)
     one true = inl refl
     one false = inr (λ lasting. cc)
 
--- Whether the other facts of a module go with its labels: where these have elements, and those at boot suit the entity's kind, it is loaded
--- at boot alone and never unloaded; any other may be unloaded.
+-- Whether the other facts of a module go with its labels: where these have elements, and those at boot suit the entity's kind or have no
+-- compartments, it is loaded at boot alone and never unloaded; any other may be unloaded.
 agree : Labelling → Bool → Bool → Bool
 agree (Ranges process other) not_late unload_ok = suits_kind kinds.Process process && suits_kind kinds.Vnode other && not_late && not unload_ok
+agree (Elements element) not_late unload_ok = is_plain element && not_late && not unload_ok
 agree other not_late unload_ok = unload_ok
 
 facts_agree : (m : Module) → agree (facts_of m).labels (facts_of m).not_late (facts_of m).unload_ok ≡ true
 unfolding agree
 facts_agree = each_passes (λ m. agree (facts_of m).labels (facts_of m).not_late (facts_of m).unload_ok) refl
 
--- labels with an element, that suit the entity's kind at boot
+-- labels with an element, that suit the entity's kind at boot, or have no compartments then
 abbrev pub SuitKinds : Labelling → Type 0
 SuitKinds (Ranges process other) = (suits_kind kinds.Process process ≡ true) × (suits_kind kinds.Vnode other ≡ true)
+SuitKinds (Elements element) = is_plain element ≡ true
 SuitKinds other = ⊥
 
 -- what the facts of a module with such labels say
@@ -131,6 +134,10 @@ pub record AreLasting (labels : Labelling) (not_late unload_ok : Bool) : Type 0 
   pub early : not_late ≡ true
   pub pinned : unload_ok ≡ false
   pub suit : SuitKinds labels
+
+denied : (b : Bool) → not b ≡ true → b ≡ false
+denied true is = cc
+denied false is = refl
 
 are_lasting : (labels : Labelling) (not_late unload_ok : Bool) → agree labels not_late unload_ok ≡ true → has_elements labels ≡ true
     → AreLasting labels not_late unload_ok
@@ -140,13 +147,13 @@ are_lasting (Ranges process other) not_late unload_ok all elements =
     let second = and_parts (suits_kind kinds.Process process && suits_kind kinds.Vnode other) not_late first.0 in
     record {
       early = second.1;
-      pinned = one unload_ok first.1;
+      pinned = denied unload_ok first.1;
       suit = and_parts (suits_kind kinds.Process process) (suits_kind kinds.Vnode other) second.0;
     }
-  where
-    one : (b : Bool) → not b ≡ true → b ≡ false
-    one true is = cc
-    one false is = refl
+are_lasting (Elements element) not_late unload_ok all elements =
+    let first = and_parts (is_plain element && not_late) (not unload_ok) all in
+    let second = and_parts (is_plain element) not_late first.0 in
+    record { early = second.1; pinned = denied unload_ok first.1; suit = second.0 }
 are_lasting other not_late unload_ok all elements = cc
 
 pub lasting_facts : (m : Module) → IsLasting m → AreLasting (facts_of m).labels (facts_of m).not_late (facts_of m).unload_ok
@@ -157,6 +164,7 @@ lasting_wants m lasting = by_labels (facts_of m).labels lasting
   where
     by_labels : (labels : Labelling) → has_elements labels ≡ true → is_labelling labels ≡ true
     by_labels (Ranges process other) elements = refl
+    by_labels (Elements element) elements = refl
     by_labels other elements = cc
 
 pub lasting_labels : (m : Module) (kind : Kind) → IsLasting m → labels_kind m kind ≡ true
@@ -164,6 +172,7 @@ lasting_labels m kind lasting = by_labels (facts_of m).labels lasting
   where
     by_labels : (labels : Labelling) → has_elements labels ≡ true → labels_by labels kind ≡ true
     by_labels (Ranges process other) elements = refl
+    by_labels (Elements element) elements = refl
     by_labels other elements = cc
 
 -- a registration before the end of boot that is fixed is of such a module
@@ -174,6 +183,7 @@ fixed_lasting m fixed = by_labels (facts_of m).labels (facts_of m).not_late (fac
     by_labels : (labels : Labelling) (not_late unload_ok : Bool) → agree labels not_late unload_ok ≡ true → (not false && not unload_ok) ≡ true
         → has_elements labels ≡ true
     by_labels (Ranges process other) not_late unload_ok all fixed = refl
+    by_labels (Elements element) not_late unload_ok all fixed = refl
     by_labels other not_late true all fixed = cc
     by_labels other not_late false all fixed = cc
 

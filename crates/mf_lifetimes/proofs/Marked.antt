@@ -26,9 +26,9 @@ use Rattle.mf_plan.specs.declared.state.State.{State}
 use Rattle.mf_core.specs.declared.history.Event.{Event}
 use Rattle.mf_core.specs.declared.history.Event.TheVariants as event
 use Rattle.mf_core.specs.Opening.{opening_state, booted_specs}
-use Rattle.mf_core.specs.LegalHistory.{RunState, opening, next_line, after}
+use Rattle.mf_core.specs.LegalHistory.{RunState, opening_run, next_line, run_after}
 use Rattle.std.specs.List.{filter_map}
-use Rattle.mf_lifetimes.specs.Marks.{Mark, made_marks, end_of, is_registered, added, marks_across, marks_at_opening, marks_after, marks_of}
+use Rattle.mf_lifetimes.specs.Marks.{Mark, made_marks, end_mark, is_registered, added_marks, marks_across, marks_after, marks_of}
 use Rattle.mf_lifetimes.specs.Marks.Mark.{Made, Ended, Left}
 use Rattle.mf_lifetimes.specs.Laws.{state_of, SlotsAreMadeOnce, AreMarksOf, SetSlotsAreMarked, GoneSlotsHaveEnded, holds_valid, LabelsAll, BootedPoliciesLast}
 use Rattle.mf_lifetimes.specs.Once.{AreOnce}
@@ -65,7 +65,7 @@ pub record HaveEnded (marks : List Mark) : Type 0 where
 
 -- the ends of a slot that has these marks
 abbrev ends : List Entry → List Mark → List Mark
-ends specs marks = filter_map (end_of specs) marks
+ends specs marks = filter_map (end_mark specs) marks
 
 made_ended : (specs : List Entry) (r : Registration) → HaveEnded (Made r ∷ ends specs (Made r ∷ []))
 made_ended specs r = one (is_registered r specs)
@@ -122,7 +122,7 @@ relabel_marked slot s id old new request marks within kept live allowed what lab
 
 change_marked : {by : Deed} (slot : ℕ) (id : Id) (s : State) (next : ℕ) (found found' : Option LiveEntity) (marks : List Mark) → slot < SLOTS → IsKept slot s
     → live_at s.objects id ≡ found → s.objects.next ≤ next → EntityChange by s id found found' → Agree slot id s.objects.next found marks
-    → Agree slot id next found' (marks ++ added s.specs slot marks found found')
+    → Agree slot id next found' (marks ++ added_marks s.specs slot marks found found')
 change_marked slot id s next _ _ marks within kept is more absent agree =
     rw (append-nil marks) (agree.0, λ later. agree.1 (omega arith), agree.2)
 change_marked slot id s next _ _ marks within kept is more (stays old new kind label) agree =
@@ -170,18 +170,18 @@ line_change : (s : Script) (r : RunState) (t : ℕ) (next : Option Line) → IsR
 line_change s r t None rooted = same refl
 line_change s r t (Some line) rooted = step_change r.state (name_of s t) line.child line.call rooted
 
-pub event_change : (s : Script) (r : RunState) (e : Event) → IsRooted r.state.objects → StateChange (by_event s r e) r.state (after s r e).state
+pub event_change : (s : Script) (r : RunState) (e : Event) → IsRooted r.state.objects → StateChange (by_event s r e) r.state (run_after s r e).state
 event_change s r (event.Enter t) rooted = same refl
 event_change s r (event.Done t line reply) rooted = line_change s r t (next_line s r.progress t) rooted
 event_change s r (event.Leave t) rooted = same refl
 event_change s r (event.Changed t line reply) rooted = line_change s r t (next_line s r.progress t) rooted
 
 run_marked : (slot : ℕ) (id : Id) (s : Script) (r : RunState) (marks : List Mark) (es : List Event) → slot < SLOTS → IsMarked slot id r.state marks
-    → IsMarked slot id (fold (after s) r es).state (marks_after s id slot r marks es)
+    → IsMarked slot id (fold (run_after s) r es).state (marks_after s id slot r marks es)
 run_marked slot id s r marks [] within marked = marked
 run_marked slot id s r marks (e ∷ es) within marked =
-    run_marked slot id s (after s r e) (marks_across id slot marks r.state (after s r e).state) es within
-    (step_marked slot id r.state (after s r e).state marks within (event_change s r e marked.kept.rooted) marked)
+    run_marked slot id s (run_after s r e) (marks_across id slot marks r.state (run_after s r e).state) es within
+    (step_marked slot id r.state (run_after s r e).state marks within (event_change s r e marked.kept.rooted) marked)
 
 -- The opening state
 
@@ -196,7 +196,11 @@ opening_holding : (slot : ℕ) (s : Script) → slot < SLOTS → IsWellFormed s 
 opening_holding slot s within formed (inl pinned) = inl (pinned.0, pinned.1, opening_valid slot s pinned.0 within formed pinned.1)
 opening_holding slot s within formed (inr none) = inr none
 
-opening_marked : (slot : ℕ) (id : Id) (s : Script) → slot < SLOTS → IsWellFormed s → IsMarked slot id (opening_state s) (marks_at_opening (opening_state s) id slot)
+-- the marks of what the opening state makes
+abbrev marks_at_opening : Script → Id → ℕ → List Mark
+marks_at_opening s id slot = added_marks (booted_specs s) slot [] None (live_at (opening_state s).objects id)
+
+opening_marked : (slot : ℕ) (id : Id) (s : Script) → slot < SLOTS → IsWellFormed s → IsMarked slot id (opening_state s) (marks_at_opening s id slot)
 opening_marked slot id s within formed =
     record {
       kept = record {
@@ -212,7 +216,7 @@ opening_marked slot id s within formed =
     booted = opening_booted s formed
 
     one : (found : Option LiveEntity) → live_at (opening_state s).objects id ≡ found
-        → Agree slot id (opening_state s).objects.next found (added (booted_specs s) slot [] None found)
+        → Agree slot id (opening_state s).objects.next found (added_marks (booted_specs s) slot [] None found)
     one None is = (never, λ _. refl, λ r same. cc)
     one (Some e) is =
         let here = booted.each id e is in
@@ -225,9 +229,9 @@ opening_marked slot id s within formed =
 
 -- The laws
 
-marked : (s : Script) (es : List Event) (id : Id) (slot : ℕ) → slot < SLOTS → IsWellFormed s → IsMarked slot id (fold (after s) (opening s) es).state (marks_of s es id slot)
+marked : (s : Script) (es : List Event) (id : Id) (slot : ℕ) → slot < SLOTS → IsWellFormed s → IsMarked slot id (fold (run_after s) (opening_run s) es).state (marks_of s es id slot)
 marked s es id slot within formed =
-    run_marked slot id s (opening s) (marks_at_opening (opening_state s) id slot) es within (opening_marked slot id s within formed)
+    run_marked slot id s (opening_run s) (marks_at_opening s id slot) es within (opening_marked slot id s within formed)
 
 value_once : (value : LabelValue) (marks : List Mark) → AreMarksOf value marks → AreOnce marks
 value_once Unset marks is = rw is never
@@ -278,10 +282,10 @@ step_held {by = by} slot r s s' within shape held =
     }
 
 run_held : (slot : ℕ) (r : Registration) (s : Script) (run : RunState) (es : List Event) → slot < SLOTS → IsHeld slot r run.state
-    → IsHeld slot r (fold (after s) run es).state
+    → IsHeld slot r (fold (run_after s) run es).state
 run_held slot r s run [] within held = held
 run_held slot r s run (e ∷ es) within held =
-    run_held slot r s (after s run e) es within (step_held slot r run.state (after s run e).state within (event_change s run e held.kept.rooted) held)
+    run_held slot r s (run_after s run e) es within (step_held slot r run.state (run_after s run e).state within (event_change s run e held.kept.rooted) held)
 
 labels_all : (slot : ℕ) (r : Registration) (s : State) → IsHeld slot r s → LabelsAll r slot s
 labels_all slot r s held =
@@ -295,4 +299,4 @@ labels_all slot r s held =
 pub last_and_label : BootedPoliciesLast
 last_and_label s h r slot formed legal there fixed at within =
     let pinned = boots_pinned s slot r (subst (λ (rs : List Registration). Contains rs r) legal.boots there) fixed at in
-    labels_all slot r (state_of s h) (run_held slot r s (opening s) h.events.list within (opening_held slot r s within formed pinned))
+    labels_all slot r (state_of s h) (run_held slot r s (opening_run s) h.events.list within (opening_held slot r s within formed pinned))

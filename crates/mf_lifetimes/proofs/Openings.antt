@@ -2,7 +2,7 @@
 use Rattle.std.proofs.Common.{◌≡◌, ℕ, Bool, true, false, cond, List, [], ◌∷◌, ◌++◌, Option, Some, None, get_or, refl, sym, ◌∙◌, subst, arith}
 use Rattle.std.specs.Prelude.{find, fold, IfSome}
 use Rattle.std.specs.List.{AllByRecursion}
-use Rattle.mf_core.proofs.LookedUp.{with_task_at}
+use Rattle.mf_core.proofs.LookedUp.{root_alone, with_task_at}
 use Rattle.mf_elem.specs.declared.label.Request.{Request}
 use Rattle.mf_elem.specs.Label.{no_request}
 use Rattle.mf_item.specs.declared.view.Kind.TheVariants as kinds
@@ -23,7 +23,7 @@ use Rattle.mf_plan.specs.declared.target.Target.{Target}
 use Rattle.mf_plan.specs.declared.target.Target.TheVariants.{Root, Name, Nowhere}
 use Rattle.mf_plan.specs.Path.{last_name, lookup_along, root}
 use Rattle.mf_plan.specs.Views.{process_named}
-use Rattle.mf_core.specs.Opening.{root_alone, with_file_at, with_file, with_task, booted_specs, opening_objects}
+use Rattle.mf_core.specs.Opening.{with_file_at, with_file, with_task, booted_specs, opening_objects}
 use Rattle.mf_objects.proofs.Finding.{find_push_miss, find_push_hit, find_beyond}
 use Rattle.mf_perform.proofs.Rooted.{IsRooted}
 use Rattle.mf_lifetimes.proofs.Asked.{AllLetAsk, booted_let, let_nothing}

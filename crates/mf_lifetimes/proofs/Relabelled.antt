@@ -1,7 +1,7 @@
--- What a relabel makes of the labels of Biba and MLS that they allow: it leaves a label as the kind of entity has it.
+-- What a relabel makes of the labels of Biba, MLS and LOMAC that they allow: it leaves a label as the kind of entity has it.
 use Rattle.std.proofs.Common.{◌≡◌, ℕ, Bool, true, false, not, cond, ◌&&◌, List, Option, Some, None, refl, ap, sym, ◌∙◌, subst, slice_index_or}
 use Rattle.std.specs.Option.{option_or}
-use Rattle.std.specs.Prelude.{is_some, is_none, unwrap_or}
+use Rattle.std.specs.Prelude.{is_some, is_none, unwrap_or, IfSome}
 use Rattle.std.proofs.lemmas.Bool.{and_parts}
 use Rattle.mf_errno.specs.declared.errno.Errno.{Errno}
 use Rattle.mf_errno.specs.declared.errno.Errno.TheVariants.{Success, Einval, Eperm}
@@ -12,14 +12,15 @@ use Rattle.mf_elem.specs.declared.label.LabelValue.{LabelValue}
 use Rattle.mf_elem.specs.declared.label.LabelValue.TheVariants.{Unset, Range, Number}
 use Rattle.mf_elem.specs.declared.label.Request.{Request}
 use Rattle.mf_elem.specs.Elem.{in_range}
-use Rattle.mf_elem.specs.Label.{is_valid, replaced}
+use Rattle.mf_elem.specs.Bounds.{IsRequest}
+use Rattle.mf_elem.specs.Label.{is_plain_label, is_valid, replaced}
 use Rattle.mf_elem.proofs.Valid.{is_valid_for}
 use Rattle.mf_item.specs.declared.view.Kind.{Kind}
 use Rattle.mf_item.specs.declared.view.Kind.TheVariants as kinds
 use Rattle.mf_item.specs.declared.view.ObjectView.{ObjectView}
 use Rattle.mf_item.specs.Item.{Item}
 use Rattle.mf_policy.specs.declared.modules.Labelling.{Labelling}
-use Rattle.mf_policy.specs.declared.modules.Labelling.TheVariants.{Ranges}
+use Rattle.mf_policy.specs.declared.modules.Labelling.TheVariants.{Ranges, Elements}
 use Rattle.mf_policy.specs.declared.operations.Test.TheVariants.{RelabelObject, RelabelCredential}
 use Rattle.mf_policy.specs.Answer.{LatticePolicy, nothing, range_label, object_slot, labels_answer, lattice_answer, answer}
 use Rattle.mf_policy.specs.Laws.{IsOfSubject, SubjectsStayValid, IsOfObject, ObjectsGetNoRange}
@@ -27,10 +28,10 @@ use Rattle.mf_policy.specs.Modules.{facts_of, fresh_of, number_asked, range_aske
 use Rattle.mf_policy.specs.Operations.{row_of}
 use Rattle.mf_policy.specs.Relabel.{credential_relabel, object_relabel}
 use Rattle.mf_policy.specs.Relabelled.{after_by, range_after, value_after}
-use Rattle.mf_policy.proofs.EachModule.{AnswersAs, answers_as, has_elements}
+use Rattle.mf_policy.proofs.EachModule.{AnswersAs, answers_as, has_elements, has_ranges}
 use Rattle.mf_lifetimes.specs.Laws.{holds_valid}
 use Rattle.mf_lifetimes.proofs.Listing.{IsLasting}
-use Rattle.mf_lifetimes.proofs.Valid.{IsValidOf}
+use Rattle.mf_lifetimes.proofs.Valid.{IsValidOf, plain_asked, plain_replaced}
 
 -- The rules for relabels
 
@@ -83,9 +84,24 @@ objects_stay : ObjectsGetNoRange
 objects_stay subject label asked old is none success =
     object_by subject old label.effective asked.effective label.range asked.range is none success
 
+-- what is asked without compartments and without a range leaves such a label
+plain_after : (element : Elem) (kind : Kind) (part : Option RangeLabel) (value : LabelValue) → IfSome part (λ label. is_plain_label label ≡ true)
+    → holds_valid (Elements element) kind value ≡ true → holds_valid (Elements element) kind (range_after part value) ≡ true
+plain_after element kind None value plain valid = valid
+plain_after element kind (Some asked) Unset plain valid = cc
+plain_after element kind (Some asked) (Number n) plain valid = cc
+plain_after element kind (Some asked) (Range label) plain valid = plain_replaced label (Some asked) valid plain
+
 -- A policy whose labels have ranges
 
-module _ (process other : RangeLabel) (policy : LatticePolicy) where
+-- it answers to relabels by the rules for these
+abbrev TakesByRule : LatticePolicy → Type 0
+TakesByRule policy = (subject : Elem) (label asked : RangeLabel) → policy.take subject label asked ≡ credential_relabel label asked
+
+abbrev GivesByRule : LatticePolicy → Type 0
+GivesByRule policy = (subject : Elem) (label : RangeLabel) (old : Elem) (asked : RangeLabel) → policy.give subject label old asked ≡ object_relabel label old asked
+
+module _ (process other : RangeLabel) (policy : LatticePolicy) (take : TakesByRule policy) (give : GivesByRule policy) where
   -- its own relabel, which the policy allows, leaves a process's label
   process_after : (part : Option RangeLabel) (value : LabelValue) (object : Option Elem) → holds_valid (Ranges process other) kinds.Process value ≡ true
       → labels_answer policy RelabelCredential (range_label value) (unwrap_or part nothing) (range_label value).effective object ≡ Success
@@ -101,7 +117,7 @@ module _ (process other : RangeLabel) (policy : LatticePolicy) where
       one : (effective : Option Elem) (range : Option (Elem × Elem)) → is_valid_for effective range ≡ true
           → labels_answer policy RelabelCredential label asked effective object ≡ Success → credential_relabel label asked ≡ Success
       one None range valid success = cc
-      one (Some element) range valid success = success
+      one (Some element) range valid success = sym (take element label asked) ∙ success
 
   -- an object's relabel by a process, which the policy allows, leaves an object's label
   object_after : (part : Option RangeLabel) (subject value : LabelValue) → holds_valid (Ranges process other) kinds.Process subject ≡ true
@@ -125,7 +141,8 @@ module _ (process other : RangeLabel) (policy : LatticePolicy) where
       one None range old old_range is there own valid success = cc
       one effective range None old_range is there own valid success = cc
       one effective range (Some old) (Some ends) is there own valid success = cc
-      one (Some element) range (Some old) None is there own valid success = after (objects_stay subject label asked old is there success)
+      one (Some element) range (Some old) None is there own valid success =
+          after (objects_stay subject label asked old is there (sym (give element subject old asked) ∙ success))
 
   -- what a policy answers to an item that asks so much
 
@@ -156,7 +173,7 @@ other_kind process other kinds.Socket (Range label) no_process = refl
 
 -- A policy that stays
 
-module _ (m : Module) (lasting : IsLasting m) (slot : ℕ) (item : Item) (request : Request) (asked : item.request ≡ Some request)
+module _ (m : Module) (lasting : IsLasting m) (slot : ℕ) (item : Item) (request : Request) (spelled : IsRequest request) (asked : item.request ≡ Some request)
     (success : answer (fresh_of m) slot item ≡ Success) where
   own : AnswersAs m
   own = answers_as m lasting
@@ -164,30 +181,43 @@ module _ (m : Module) (lasting : IsLasting m) (slot : ℕ) (item : Item) (reques
   allowed : lattice_answer own.policy slot item ≡ Success
   allowed = sym (own.answers slot item) ∙ success
 
+  -- what is so of the policy and of what is asked, by the labels of its module
+  record FitsLabels (labels : Labelling) : Type 0 where
+    take : has_ranges labels ≡ true → TakesByRule own.policy
+    give : has_ranges labels ≡ true → GivesByRule own.policy
+    plain : (element : Elem) → labels ≡ Elements element → IfSome (range_asked m request) (λ label. is_plain_label label ≡ true)
+
+  fits : FitsLabels (facts_of m).labels
+  fits = record { take = own.take; give = own.give; plain = λ element same. plain_asked m request element spelled same }
+
   -- a process's slot holds a valid label after it was let ask for that
   pub process_relabelled : (label : List LabelValue) → (row_of item.op).test ≡ RelabelCredential → item.subject.label ≡ label
       → IsValidOf m kinds.Process (slice_index_or label slot Unset) → IsValidOf m kinds.Process (value_after m request (slice_index_or label slot Unset))
-  process_relabelled label test is valid = by_labels (facts_of m).labels lasting valid
+  process_relabelled label test is valid = by_labels (facts_of m).labels lasting fits valid
     where
-      by_labels : (labels : Labelling) → has_elements labels ≡ true → holds_valid labels kinds.Process (slice_index_or label slot Unset) ≡ true
+      by_labels : (labels : Labelling) → has_elements labels ≡ true → FitsLabels labels → holds_valid labels kinds.Process (slice_index_or label slot Unset) ≡ true
           → holds_valid labels kinds.Process (after_by labels (range_asked m request) (number_asked m request) (slice_index_or label slot Unset)) ≡ true
-      by_labels (Ranges process other) elements valid =
+      by_labels (Ranges process other) elements fit valid =
           subst (λ (part : Option RangeLabel). holds_valid (Ranges process other) kinds.Process (range_after part (slice_index_or label slot Unset)) ≡ true) (own.part request)
-          (item_process process other own.policy slot item request asked label test is allowed valid)
-      by_labels other elements valid = cc
+          (item_process process other own.policy (fit.take refl) (fit.give refl) slot item request asked label test is allowed valid)
+      by_labels (Elements element) elements fit valid =
+          plain_after element kinds.Process (range_asked m request) (slice_index_or label slot Unset) (fit.plain element refl) valid
+      by_labels other elements fit valid = cc
 
   -- and that of another entity after a process was let ask for that
   pub object_relabelled : (kind : Kind) (maker label : List LabelValue) (object : ObjectView) → (kind ≡ kinds.Process → ⊥) → (row_of item.op).test ≡ RelabelObject
       → item.subject.label ≡ maker → item.object ≡ Some object → object.label ≡ label → IsValidOf m kinds.Process (slice_index_or maker slot Unset)
       → IsValidOf m kind (slice_index_or label slot Unset) → IsValidOf m kind (value_after m request (slice_index_or label slot Unset))
-  object_relabelled kind maker label object no_process test is there labelled subject valid = by_labels (facts_of m).labels lasting subject valid
+  object_relabelled kind maker label object no_process test is there labelled subject valid = by_labels (facts_of m).labels lasting fits subject valid
     where
-      by_labels : (labels : Labelling) → has_elements labels ≡ true → holds_valid labels kinds.Process (slice_index_or maker slot Unset) ≡ true
+      by_labels : (labels : Labelling) → has_elements labels ≡ true → FitsLabels labels → holds_valid labels kinds.Process (slice_index_or maker slot Unset) ≡ true
           → holds_valid labels kind (slice_index_or label slot Unset) ≡ true
           → holds_valid labels kind (after_by labels (range_asked m request) (number_asked m request) (slice_index_or label slot Unset)) ≡ true
-      by_labels (Ranges process other) elements subject valid =
+      by_labels (Ranges process other) elements fit subject valid =
           subst (λ (part : Option RangeLabel). holds_valid (Ranges process other) kind (range_after part (slice_index_or label slot Unset)) ≡ true) (own.part request)
           (other_kind process other kind _ no_process
-          ∙ item_object process other own.policy slot item request asked maker label object test is there labelled allowed subject
+          ∙ item_object process other own.policy (fit.take refl) (fit.give refl) slot item request asked maker label object test is there labelled allowed subject
           (sym (other_kind process other kind _ no_process) ∙ valid))
-      by_labels other elements subject valid = cc
+      by_labels (Elements element) elements fit subject valid =
+          plain_after element kind (range_asked m request) (slice_index_or label slot Unset) (fit.plain element refl) valid
+      by_labels other elements fit subject valid = cc

@@ -1,11 +1,12 @@
 -- The opening state of a well-formed script has each file and the process of each task.
-use Rattle.std.proofs.Common.{◌≡◌, ◌≢◌, ℕ, ◌+◌, suc, Bool, true, false, ◌&&◌, List, [], ◌∷◌, ◌++◌, length, None, refl, ap, ◌∙◌, arith}
+use Rattle.std.proofs.Common.{◌≡◌, ◌≢◌, ℕ, ◌==◌, ◌+◌, suc, Bool, true, false, ◌&&◌, ◌||◌, List, [], ◌∷◌, ◌++◌, length, None, refl, ap, ◌∙◌, arith}
 use Rattle.std.specs.Prelude.{find, fold, All, AllPairs}
 use Rattle.std.specs.Str.{bytes_eq}
-use Rattle.std.specs.List.{AllByRecursion}
+use Rattle.std.specs.List.{AllByRecursion, list_any}
+use Rattle.std.proofs.lemmas.Bool.Decides.{nat_tests}
 use Rattle.std.proofs.lemmas.Slice.Eq.{bytes_eq-Decides}
 use Rattle.std.proofs.lemmas.List.{length-append}
-use Rattle.mf_core.proofs.LookedUp.{with_task_at}
+use Rattle.mf_core.proofs.LookedUp.{root_alone, with_task_at}
 use Rattle.mf_errno.specs.declared.module.Module.{Module}
 use Rattle.mf_item.specs.declared.view.Kind.TheVariants as kinds
 use Rattle.mf_policy.specs.declared.labels.Origin.TheVariants.{Boot}
@@ -15,10 +16,11 @@ use Rattle.mf_objects.specs.Live.{LiveEntity, Entities, id_of, is_process, is_on
 use Rattle.mf_objects.specs.Changes.{made, new_process, with_entity}
 use Rattle.mf_calls.specs.declared.script.Task.{Task}
 use Rattle.mf_calls.specs.declared.script.FileLine.{FileLine}
+use Rattle.mf_calls.specs.Paths.{has_directory, is_directory_at}
 use Rattle.mf_calls.specs.WellFormed.{IsFormedFile, AreInDirectories}
 use Rattle.mf_plan.specs.Path.{root}
 use Rattle.mf_plan.specs.Views.{process_named}
-use Rattle.mf_core.specs.Opening.{root_alone, with_file, with_task, booted_specs}
+use Rattle.mf_core.specs.Opening.{with_file, with_task, booted_specs}
 use Rattle.mf_lifetimes.specs.Laws.{OpeningIsWhole}
 use Rattle.mf_objects.proofs.Finding.{find_push_miss}
 use Rattle.mf_lifetimes.proofs.Files.{by_place, all_from, all_both, AreMade, AreFormed, AreFiles, HasDirectories, files_made}
@@ -36,9 +38,17 @@ files_formed boots earlier (f ∷ later) differ each there = (
       (λ k d within. each (suc k) d (omega arith)) there.1,
 )
 
+-- before any file there is no directory but the root
+no_directory : (name : List ℕ) (names : List (List ℕ)) → has_directory [] (name ∷ names) ≡ true → ⊥
+no_directory name names there = one (length (name ∷ names) == 0) refl there
+  where
+    one : (b : Bool) → (length (name ∷ names) == 0) ≡ b → (b || list_any (is_directory_at (name ∷ names)) []) ≡ true → ⊥
+    one true is here = let none : length (name ∷ names) ≡ 0 = grind (arith, nat_tests) in omega (arith, none)
+    one false is none = let never : false ≡ true = none in cc
+
 root_directories : (listed : List Entry) → HasDirectories (root_alone listed) []
 root_directories listed [] there = (root, refl)
-root_directories listed (name ∷ names) there = cc
+root_directories listed (name ∷ names) there = absurd (no_directory name names there)
 
 root_made : (listed : List Entry) (boots : List Module) (files : List FileLine) → All (IsFormedFile boots) files → AreMade (root_alone listed) [] files (λ _. [])
 root_made listed boots files each =

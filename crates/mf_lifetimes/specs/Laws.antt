@@ -5,11 +5,11 @@ use Rattle.mf_elem.specs.declared.label.TheConstants.{SLOTS}
 use Rattle.mf_elem.specs.declared.label.RangeLabel.{RangeLabel}
 use Rattle.mf_elem.specs.declared.label.LabelValue.{LabelValue}
 use Rattle.mf_elem.specs.declared.label.LabelValue.TheVariants.{Unset, Range, Number}
-use Rattle.mf_elem.specs.Label.{is_valid}
+use Rattle.mf_elem.specs.Label.{is_valid, is_plain_label}
 use Rattle.mf_item.specs.declared.view.Kind.{Kind}
 use Rattle.mf_item.specs.declared.view.Kind.TheVariants as kinds
 use Rattle.mf_policy.specs.declared.modules.Labelling.{Labelling}
-use Rattle.mf_policy.specs.declared.modules.Labelling.TheVariants.{Ranges, Partitions}
+use Rattle.mf_policy.specs.declared.modules.Labelling.TheVariants.{Ranges, Elements, Partitions}
 use Rattle.mf_policy.specs.Modules.{facts_of}
 use Rattle.mf_policy.specs.declared.registration.Registration.{Registration}
 use Rattle.mf_objects.specs.declared.id.Id.{Id}
@@ -53,15 +53,16 @@ abbrev pub suits_kind : Kind → RangeLabel → Bool
 suits_kind kinds.Process label = is_valid label && is_some label.range
 suits_kind other label = is_some label.effective && is_none label.range
 
--- whether a slot that is labelled so holds a valid label for that kind: by elements, one that suits the kind; by partitions, which
--- no module that stays has, a number
+-- whether a slot that is labelled so holds a valid label for that kind: by ranges, one that suits the kind; by elements, one without compartments
+-- and without a range; by partitions, which no module that stays has, a number
 abbrev pub holds_valid : Labelling → Kind → LabelValue → Bool
 holds_valid (Ranges process other) kind (Range label) = suits_kind kind label
+holds_valid (Elements element) kind (Range label) = is_plain_label label
 holds_valid Partitions kind (Number n) = true
 holds_valid labels kind value = false
 
 -- The registration alone is listed with this slot, and labels entities of every kind; and the slot of each live entity holds a valid label:
--- where the module labels by elements, always with an effective element, and that of a process with a range too.
+-- where the module labels by ranges or by elements, always with an effective element, and by ranges that of a process with a range too.
 pub record LabelsAll (r : Registration) (slot : ℕ) (state : State) : Type 0 where
   pub listed : (kind : Kind) → labellers state.specs kind slot ≡ r ∷ []
   pub valid : (id : Id) (e : LiveEntity) → live_at state.objects id ≡ Some e → holds_valid (facts_of r.module).labels (kind_of e.what) (value_in slot e) ≡ true

@@ -1,8 +1,7 @@
 -- Marks of label slots: when a slot of an entity is made, and how it ends (initialised and destroyed, in the words of mac(9)).
 use Rattle.std.specs.Option.{option_eq}
-use Rattle.std.specs.Prelude.{ℕ, Bool, true, false, not, ◌&&◌, nat_eq, if◌then◌else◌, List, [], ◌∷◌, ◌++◌, map, filter, Option, Some, None}
+use Rattle.std.specs.Prelude.{ℕ, Bool, not, ◌&&◌, nat_eq, if◌then◌else◌, List, [], ◌∷◌, ◌++◌, map, filter, Option, Some, None}
 use Rattle.std.specs.List.{filter_map, list_any}
-use Rattle.mf_elem.specs.declared.label.LabelValue.{LabelValue}
 use Rattle.mf_item.specs.declared.view.Kind.{Kind}
 use Rattle.mf_policy.specs.declared.registration.Registration.{Registration}
 use Rattle.mf_errno.specs.Same.{same_module}
@@ -13,8 +12,8 @@ use Rattle.mf_objects.specs.Live.{LiveEntity, kind_of, live_at, value_in, is_set
 use Rattle.mf_calls.specs.declared.script.Script.{Script}
 use Rattle.mf_plan.specs.declared.state.State.{State}
 use Rattle.mf_core.specs.declared.history.Event.{Event}
-use Rattle.mf_core.specs.Opening.{opening_state}
-use Rattle.mf_core.specs.LegalHistory.{RunState, opening, after}
+use Rattle.mf_core.specs.Opening.{booted_specs, opening_state}
+use Rattle.mf_core.specs.LegalHistory.{RunState, opening_run, run_after}
 
 -- a mark of a label slot of an entity
 pub data Mark : Type 0 where
@@ -42,36 +41,28 @@ abbrev pub made_marks : List Entry → ℕ → LiveEntity → List Mark
 made_marks specs slot e = map Made (labellers specs (kind_of e.what) slot)
 
 -- the end of a slot that was made: Ended where its registration is still listed, and else Left; none for other marks
-abbrev pub end_of : List Entry → Mark → Option Mark
-end_of specs (Made r) = Some (if is_registered r specs then Ended r else Left r)
-end_of specs other = None
-
--- the first value of a slot that was unset
-abbrev pub is_first : LabelValue → LabelValue → Bool
-is_first old new = not (is_set old) && is_set new
+abbrev pub end_mark : List Entry → Mark → Option Mark
+end_mark specs (Made r) = Some (if is_registered r specs then Ended r else Left r)
+end_mark specs other = None
 
 -- What is added to the marks of a slot of an entity, by the entity before and after, while these policies are listed: its slot is made
 -- as it comes, or as the unset slot gets its first value, and it ends as the entity goes.
-abbrev pub added : List Entry → ℕ → List Mark → Option LiveEntity → Option LiveEntity → List Mark
-added specs slot marks None None = []
-added specs slot marks None (Some e) = made_marks specs slot e
-added specs slot marks (Some e) None = filter_map (end_of specs) marks
-added specs slot marks (Some old) (Some new) = if is_first (value_in slot old) (value_in slot new) then made_marks specs slot new else []
+abbrev pub added_marks : List Entry → ℕ → List Mark → Option LiveEntity → Option LiveEntity → List Mark
+added_marks specs slot marks None None = []
+added_marks specs slot marks None (Some e) = made_marks specs slot e
+added_marks specs slot marks (Some e) None = filter_map (end_mark specs) marks
+added_marks specs slot marks (Some old) (Some new) = if not (is_set (value_in slot old)) && is_set (value_in slot new) then made_marks specs slot new else []
 
 -- Marks over a history
 
 -- the marks after a step from one state to the other, where they were these
 abbrev pub marks_across : Id → ℕ → List Mark → State → State → List Mark
-marks_across id slot marks old new = marks ++ added old.specs slot marks (live_at old.objects id) (live_at new.objects id)
-
--- the entities of the opening state come at its beginning
-abbrev pub marks_at_opening : State → Id → ℕ → List Mark
-marks_at_opening state id slot = added state.specs slot [] None (live_at state.objects id)
+marks_across id slot marks old new = marks ++ added_marks old.specs slot marks (live_at old.objects id) (live_at new.objects id)
 
 abbrev pub marks_after : Script → Id → ℕ → RunState → List Mark → List Event → List Mark
 marks_after s id slot r marks [] = marks
-marks_after s id slot r marks (e ∷ es) = marks_after s id slot (after s r e) (marks_across id slot marks r.state (after s r e).state) es
+marks_after s id slot r marks (e ∷ es) = marks_after s id slot (run_after s r e) (marks_across id slot marks r.state (run_after s r e).state) es
 
--- the marks that a slot of the entity of this id has after these events of a run of the script
+-- the marks that a slot of the entity of this id has after these events of a run of the script; the entities of the opening state come before them
 abbrev pub marks_of : Script → List Event → Id → ℕ → List Mark
-marks_of s es id slot = marks_after s id slot (opening s) (marks_at_opening (opening_state s) id slot) es
+marks_of s es id slot = marks_after s id slot (opening_run s) (added_marks (booted_specs s) slot [] None (live_at (opening_state s).objects id)) es

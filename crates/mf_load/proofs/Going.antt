@@ -22,7 +22,7 @@ use Rattle.mf_plan.specs.declared.reply.Reply.{Reply}
 use Rattle.mf_plan.specs.declared.reply.Reply.TheVariants as reply
 use Rattle.mf_perform.specs.Effect.{with_objects}
 use Rattle.mf_perform.specs.OneCall.{call_reply, call_state}
-use Rattle.mf_load.specs.Alone.{Own, with_held, made, removed, is_other_name, denied, reply_by, own_step}
+use Rattle.mf_load.specs.Alone.{Own, with_held, with_scratch, without_scratch, is_other_name, denied, own_reply, own_step}
 use Rattle.mf_objects.proofs.Finding.{find_push_hit, find_beyond}
 use Rattle.mf_load.proofs.Finding.{find_filter_gone, none_passes, all_push, all_from, one_fewer, only_one, names_push, names_push_other, names_filter, names_stay}
 use Rattle.mf_load.proofs.Names.{bytes_same, scratches_differ}
@@ -35,13 +35,13 @@ use Rattle.mf_load.proofs.Calls.{reads_even, reads_odd, stats_even, stats_odd, l
 
 -- what a line of a task does
 pub record Goes (t k : ℕ) (s : State) (own own' : ℕ → Own) (what : LoadCall) : Type 0 where
-  pub reply : call_reply s (task_name k) None (call_of k what) ≡ reply_by k (own k) what
+  pub reply : call_reply s (task_name k) None (call_of k what) ≡ own_reply k (own k) what
   pub specs : (call_state s (task_name k) None (call_of k what)).specs ≡ biba_alone
   pub stands : Stands t (call_state s (task_name k) None (call_of k what)).objects own'
 
 module _ (t k : ℕ) (s : State) (own own' : ℕ → Own) (few : t ≤ 16) (within : k < t) (specs : s.specs ≡ biba_alone) (stands : Stands t s.objects own)
     (room : length (own k).content + 1 ≤ 65536) (others : (u : ℕ) → u ≢ k → own' u ≡ own u) where
-  goes : (what : LoadCall) (r : Reply) (s' : State) → Does s (task_name k) (call_of k what) r s' → r ≡ reply_by k (own k) what → s'.specs ≡ biba_alone
+  goes : (what : LoadCall) (r : Reply) (s' : State) → Does s (task_name k) (call_of k what) r s' → r ≡ own_reply k (own k) what → s'.specs ≡ biba_alone
       → Stands t s'.objects own' → Goes t k s own own' what
   goes what r s' does is listed after =
       record {
@@ -58,7 +58,7 @@ module _ (t k : ℕ) (s : State) (own own' : ℕ → Own) (few : t ≤ 16) (with
       each u true is = let here : u ≡ k = grind (arith, nat_tests) in subst (λ v. own' v ≡ own v) (sym here) same
       each u false differs = others u (grind (arith, nat_tests))
 
-  same_by : (what : LoadCall) (r : Reply) → Does s (task_name k) (call_of k what) r s → r ≡ reply_by k (own k) what → own' k ≡ own k → Goes t k s own own' what
+  same_by : (what : LoadCall) (r : Reply) → Does s (task_name k) (call_of k what) r s → r ≡ own_reply k (own k) what → own' k ≡ own k → Goes t k s own own' what
   same_by what r does is same = goes what r s does is specs (stays same)
 
   reads : own' k ≡ own_step k (own k) load.Read → Goes t k s own own' load.Read
@@ -145,7 +145,7 @@ module _ (t k : ℕ) (s : State) (own own' : ℕ → Own) (few : t ≤ 16) (with
       one false differs = ap (λ (x : Own). x.content) (others u (grind (arith, nat_tests)))
 
   module _ (j : ℕ) (few_j : j < 4) (absent : find (is_one_named (is_entry (at (directory_id k))) (scratch_name j)) s.objects.live ≡ None) (held_none : (own k).held j ≡ false)
-      (step : own' k ≡ made (own k) j) where
+      (step : own' k ≡ with_scratch (own k) j) where
     new_low : IsLow (2 * t + 1) (the_scratch s.objects.next k j).what
     new_low dir same = let is : at (directory_id k) ≡ dir = cc in omega (arith, ap (λ (i : Id). i.0) is)
 
@@ -238,17 +238,17 @@ module _ (t k : ℕ) (s : State) (own own' : ℕ → Own) (few : t ≤ 16) (with
       one true held has =
           same_by (load.Create j) (reply.Refused errno.Eexist) (creates_none t k s (λ u. (own u).content) within stands.fixed specs j has)
           (ap (λ (b : Bool). cond b (reply.Refused errno.Eexist) (reply.Ok payload.None)) (sym held))
-          (step ∙ ap (λ (b : Bool). cond b (own k) (made (own k) j)) held)
+          (step ∙ ap (λ (b : Bool). cond b (own k) (with_scratch (own k) j)) held)
       one false held has =
           goes (load.Create j) (reply.Ok payload.None) (with_objects s (pushed s.objects (the_scratch s.objects.next k j)))
           (creates t k s (λ u. (own u).content) within stands.fixed specs j has (few_live t s.objects own few stands))
           (ap (λ (b : Bool). cond b (reply.Refused errno.Eexist) (reply.Ok payload.None)) (sym held)) specs
-          (made_stands j few_j has held (step ∙ ap (λ (b : Bool). cond b (own k) (made (own k) j)) held))
+          (made_stands j few_j has held (step ∙ ap (λ (b : Bool). cond b (own k) (with_scratch (own k) j)) held))
 
   -- a file goes
 
   module _ (j : ℕ) (few_j : j < 4) (has : IsScratch t k j s.objects) (held_one : (own k).held j ≡ true)
-      (step : own' k ≡ removed (own k) j) where
+      (step : own' k ≡ without_scratch (own k) j) where
     gone : find (is_one_named (is_entry (at (directory_id k))) (scratch_name j)) (without (has_id (at has.id)) s.objects).live ≡ None
     gone =
         find_filter_gone (is_one_named (is_entry (at (directory_id k))) (scratch_name j)) (λ e. not (has_id (at has.id) e)) s.objects.live
@@ -370,12 +370,12 @@ module _ (t k : ℕ) (s : State) (own own' : ℕ → Own) (few : t ≤ 16) (with
       one false held has =
           same_by (load.Unlink j) (reply.Refused errno.Enoent) (unlinks_none t k s (λ u. (own u).content) within stands.fixed specs j has)
           (ap (λ (b : Bool). cond b (reply.Ok payload.None) (reply.Refused errno.Enoent)) (sym held))
-          (step ∙ ap (λ (b : Bool). cond b (removed (own k) j) (own k)) held)
+          (step ∙ ap (λ (b : Bool). cond b (without_scratch (own k) j) (own k)) held)
       one true held has =
           goes (load.Unlink j) (reply.Ok payload.None) (with_objects s (without (has_id (at has.id)) s.objects))
           (unlinks t k s (λ u. (own u).content) within stands.fixed specs j has)
           (ap (λ (b : Bool). cond b (reply.Ok payload.None) (reply.Refused errno.Enoent)) (sym held)) specs
-          (left_stands j few_j has held (step ∙ ap (λ (b : Bool). cond b (removed (own k) j) (own k)) held))
+          (left_stands j few_j has held (step ∙ ap (λ (b : Bool). cond b (without_scratch (own k) j) (own k)) held))
 
   -- every line of the task
   pub line_goes : (what : LoadCall) → IsDrawn what → own' k ≡ own_step k (own k) what → Goes t k s own own' what

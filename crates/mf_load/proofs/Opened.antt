@@ -6,7 +6,7 @@ use Rattle.std.specs.Str.{bytes_eq}
 use Rattle.std.proofs.lemmas.Bool.Decides.{nat_tests}
 use Rattle.std.proofs.lemmas.List.{length-map}
 use Rattle.std.proofs.lemmas.List.Sums.{fold-append}
-use Rattle.mf_core.proofs.LookedUp.{with_task_at}
+use Rattle.mf_core.proofs.LookedUp.{root_alone, with_task_at}
 use Rattle.mf_errno.specs.declared.errno.Errno.{Errno}
 use Rattle.mf_objects.specs.declared.id.Id.{Id}
 use Rattle.mf_objects.specs.Live.{LiveEntity, Entities, id_of, live_at, has_id, is_one_named, is_entry, is_process}
@@ -16,9 +16,9 @@ use Rattle.mf_calls.specs.Generated.{task_name, directory_name, file_name, scrat
 use Rattle.mf_plan.specs.declared.target.Target.TheVariants.{Name}
 use Rattle.mf_plan.specs.declared.lookup.Lookup.{Lookup}
 use Rattle.mf_plan.specs.Path.{lookup_from}
-use Rattle.mf_core.specs.Opening.{root_alone, with_file_at, with_file, with_task, opening_state}
+use Rattle.mf_core.specs.Opening.{with_file_at, with_file, with_task, opening_state}
 use Rattle.mf_core.specs.Progress.{first_progress}
-use Rattle.mf_core.specs.LegalHistory.{opening}
+use Rattle.mf_core.specs.LegalHistory.{opening_run}
 use Rattle.mf_core.proofs.Laws.{progress_at-first}
 use Rattle.mf_load.specs.Alone.{Own, own_after}
 use Rattle.mf_objects.proofs.Finding.{find_push_miss, find_push_hit, find_beyond}
@@ -354,7 +354,7 @@ opening_stands n t few =
     (all_tasked n t t (fold (with_file biba_alone) (root_alone biba_alone) (load_files t)) few (omega arith)
     (none_tasked t (fold (with_file biba_alone) (root_alone biba_alone) (load_files t)) (all_filed t t few (omega arith)))))
 
-none_answered : (n t u : ℕ) → answered_at (opening (generated n t)).progress u ≡ 0
+none_answered : (n t u : ℕ) → answered_at (opening_run (generated n t)).progress u ≡ 0
 none_answered n t u = ap answered (progress_at-first (generated n t).tasks u)
 
 first_after : (u i : ℕ) → i ≡ 0 → own_after u i ≡ first_own u
@@ -362,7 +362,7 @@ unfolding own_after
 first_after u zero is = refl
 first_after u (suc i) is = absurd (omega arith)
 
-pub opening_good : (n t : ℕ) → n ≤ 4096 → t ≤ 16 → IsGood n t (opening (generated n t))
+pub opening_good : (n t : ℕ) → n ≤ 4096 → t ≤ 16 → IsGood n t (opening_run (generated n t))
 opening_good n t short few =
     record {
       few = few;
@@ -370,15 +370,15 @@ opening_good n t short few =
       specs = opening_specs n t;
       places = length-map (generated n t).tasks (λ (x : Task). first_progress) ∙ task_count n t;
       within = λ u. omega (arith, none_answered n t u);
-      stands = stands_same t (opening_state (generated n t)).objects first_own (λ u. own_after u (answered_at (opening (generated n t)).progress u))
-          (λ u. first_after u (answered_at (opening (generated n t)).progress u) (none_answered n t u)) (opening_stands n t few);
+      stands = stands_same t (opening_state (generated n t)).objects first_own (λ u. own_after u (answered_at (opening_run (generated n t)).progress u))
+          (λ u. first_after u (answered_at (opening_run (generated n t)).progress u) (none_answered n t u)) (opening_stands n t few);
     }
 
 none_tallied : (e : Errno) (t : ℕ) → total t (λ u. tally_of e u 0) ≡ 0
 none_tallied e zero = refl
 none_tallied e (suc t) = omega (arith, none_tallied e t)
 
-pub opening_tally : (n t : ℕ) (e : Errno) → tally e t (opening (generated n t)).progress ≡ 0
+pub opening_tally : (n t : ℕ) (e : Errno) → tally e t (opening_run (generated n t)).progress ≡ 0
 opening_tally n t e =
-    total_same t (λ u. tally_of e u (answered_at (opening (generated n t)).progress u)) (λ u. tally_of e u 0) (λ u within. ap (tally_of e u) (none_answered n t u))
+    total_same t (λ u. tally_of e u (answered_at (opening_run (generated n t)).progress u)) (λ u. tally_of e u 0) (λ u within. ap (tally_of e u) (none_answered n t u))
     ∙ none_tallied e t

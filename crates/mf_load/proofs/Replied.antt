@@ -8,8 +8,8 @@ use Rattle.mf_errno.specs.Same.{is_same}
 use Rattle.mf_core.specs.declared.history.Event.{Event}
 use Rattle.mf_core.specs.declared.history.Event.TheVariants as event
 use Rattle.mf_load.specs.Counts.{errno_of, replies_with, reply_count}
-use Rattle.mf_load.specs.Replied.{errnos_in, counted_text}
-use Rattle.mf_load.specs.Summary.{count_text, errno_text}
+use Rattle.mf_load.specs.Replied.{errnos_in, counted_text, replied_text}
+use Rattle.mf_load.specs.Summary.{count_text}
 
 count_cons : {X : Type 0} (p : X → Bool) (x : X) (xs : List X) → count_by p (x ∷ xs) ≡ cond (p x) 1 0 + count_by p xs
 count_cons p x xs = sum_by-cons (λ y. cond (p y) 1 0) x xs
@@ -27,8 +27,8 @@ counted e (event.Changed t line reply ∷ es) =
     ∙ ap (λ n. cond (is_same e (errno_of reply)) 1 0 + n) (counted e es)
     ∙ sym (count_cons (replies_with e) (event.Changed t line reply) es)
 
-pub counted_texts : (es : List Event) (errnos : List Errno) → flat_map (counted_text (errnos_in es)) errnos ≡ flat_map (errno_text es) errnos
+pub counted_texts : (es : List Event) (errnos : List Errno) → flat_map (counted_text (errnos_in es)) errnos ≡ flat_map (replied_text es) errnos
 counted_texts es [] = refl
 counted_texts es (e ∷ errnos) =
     ap (λ n. count_text e n ++ flat_map (counted_text (errnos_in es)) errnos) (counted e es)
-    ∙ ap (λ rest. errno_text es e ++ rest) (counted_texts es errnos)
+    ∙ ap (λ rest. replied_text es e ++ rest) (counted_texts es errnos)

@@ -4,8 +4,8 @@ ghost use Rattle.std.specs.List.{flat_map};
 ghost use Rattle.mf_errno.specs.Same.{is_same};
 ghost use Rattle.mf_errno.specs.Names.{all_errors};
 ghost use Rattle.mf_load.specs.Counts.{errno_of};
-ghost use Rattle.mf_load.specs.Replied.{counted_text, errno_in, errnos_in};
-ghost use Rattle.mf_load.specs.Summary.{errno_text, summary_text};
+ghost use Rattle.mf_load.specs.Replied.{counted_text, errno_in, errnos_in, replied_text};
+ghost use Rattle.mf_load.specs.Summary.{summary_text};
 
 use mf_core::Event;
 use mf_errno::Errno;
@@ -31,35 +31,11 @@ pub fn summary_text(
 /// Appends the line of each errno that is replied in these events. The errnos are taken out of the events once, and then
 /// counted by themselves, since events are large.
 fn push_replies(alloc: Global, events: &[Event], out: &mut String) -> Result<(), AllocError>
-    ensures { OnOk result (string_bytes out.new ≡ string_bytes out.old ++ flat_map (errno_text events.now) all_errors) }
+    ensures { OnOk result (string_bytes out.new
+        ≡ string_bytes out.old ++ flat_map (replied_text events.now) all_errors) }
 {
     let replied = replied(alloc, events)?;
-    push_counts(errnos(), &replied, out)
-}
-
-/// All errors by rising number, success among them.
-fn errnos() -> &'static [Errno]
-    ensures { result.now ≡ all_errors }
-{
-    &[
-        Errno::Success,
-        Errno::Eperm,
-        Errno::Enoent,
-        Errno::Esrch,
-        Errno::Edeadlk,
-        Errno::Enomem,
-        Errno::Eacces,
-        Errno::Ebusy,
-        Errno::Eexist,
-        Errno::Enotdir,
-        Errno::Eisdir,
-        Errno::Einval,
-        Errno::Enfile,
-        Errno::Efbig,
-        Errno::Eagain,
-        Errno::Enobufs,
-        Errno::Enotempty,
-    ]
+    push_counts(Errno::all(), &replied, out)
 }
 
 /// The errnos of the replies among these events, in order.
@@ -88,7 +64,8 @@ fn push_errno(event: &Event, errnos: &mut Vec<Errno>) -> Result<(), AllocError>
 
 /// Appends the line of each errno that was replied.
 fn push_counts(errnos: &[Errno], replied: &[Errno], out: &mut String) -> Result<(), AllocError>
-    ensures { OnOk result (string_bytes out.new ≡ string_bytes out.old ++ flat_map (counted_text replied.now) errnos.now) }
+    ensures { OnOk result (string_bytes out.new
+        ≡ string_bytes out.old ++ flat_map (counted_text replied.now) errnos.now) }
 {
     for errno in errnos {
         push_count(*errno, replied, out)?;
@@ -98,7 +75,8 @@ fn push_counts(errnos: &[Errno], replied: &[Errno], out: &mut String) -> Result<
 
 /// Appends the line of an errno that was replied; nothing where it wasn't.
 fn push_count(errno: Errno, replied: &[Errno], out: &mut String) -> Result<(), AllocError>
-    ensures { OnOk result (string_bytes out.new ≡ string_bytes out.old ++ counted_text replied.now errno) }
+    ensures { OnOk result (string_bytes out.new
+        ≡ string_bytes out.old ++ counted_text replied.now errno) }
 {
     let count = count_of(errno, replied);
     if count == 0 {

@@ -3,7 +3,7 @@ use Rattle.std.proofs.Common.{◌≡◌, ℕ, zero, suc, ◌+◌, ◌<◌, ◌�
 use Rattle.std.specs.Prelude.{fold}
 use Rattle.std.specs.List.{AllByRecursion}
 use Rattle.std.proofs.lemmas.List.{get_or_default, length-append, take_all}
-use Rattle.mf_core.proofs.LookedUp.{with_task_at}
+use Rattle.mf_core.proofs.LookedUp.{root_alone, with_task_at}
 use Rattle.mf_errno.specs.declared.module.Module.{Module}
 use Rattle.mf_errno.specs.declared.module.Module.TheVariants as modules
 use Rattle.mf_elem.specs.Bounds.{IsRequest}
@@ -32,7 +32,7 @@ use Rattle.mf_plan.specs.declared.target.Target.{Target}
 use Rattle.mf_plan.specs.declared.target.Target.TheVariants.{Root, Name, Nowhere}
 use Rattle.mf_plan.specs.Path.{last_name, lookup_along}
 use Rattle.mf_plan.specs.Views.{process_named}
-use Rattle.mf_core.specs.Opening.{booted_specs, opening_objects, opening_state, registrations_from, root_alone, with_file, with_file_at, with_task}
+use Rattle.mf_core.specs.Opening.{booted_specs, opening_objects, opening_state, registrations_from, with_file, with_file_at, with_task}
 use Rattle.mf_core.proofs.Reached.{AreLoaded, loaded_more, loaded_none}
 use Rattle.mf_lifetimes.proofs.Boots.{boots_below, boots_single}
 use Rattle.mf_lifetimes.proofs.Listing.{AllBelow, AtMostOne, all_newest, newest}

@@ -23,7 +23,7 @@ use Rattle.mf_perform.proofs.StateChange.{step_change}
 use Rattle.mf_core.specs.declared.history.Event.{Event}
 use Rattle.mf_core.specs.declared.history.Event.TheVariants as event
 use Rattle.mf_core.specs.Progress.{progress_at}
-use Rattle.mf_core.specs.LegalHistory.{AllMayCome, MayCome, RunState, after, next_line, next_reply, next_state, opening}
+use Rattle.mf_core.specs.LegalHistory.{AllMayCome, MayCome, RunState, run_after, next_line, next_reply, next_state, opening_run}
 use Rattle.mf_core.proofs.SameLists.{ok_do, step_once}
 use Rattle.mf_hist.specs.Legal.{HasReply}
 use Rattle.mf_hist.specs.Lines.{IsReply}
@@ -99,7 +99,7 @@ module _ (s : Script) (formed : IsWellFormed s) where
           let same : call_reply r.state (name_of s t) line.child line.call ≡ x = cc in
           subst IsReply same (reply_fits r.state bounded (name_of s t) line.child line.call (line_formed r t line at).call)
 
-  event_bounded : (r : RunState) (e : Event) → IsBoundedState r.state → IsBoundedState (after s r e).state
+  event_bounded : (r : RunState) (e : Event) → IsBoundedState r.state → IsBoundedState (run_after s r e).state
   event_bounded r (event.Enter t) bounded = bounded
   event_bounded r (event.Done t line x) bounded = line_bounded r t bounded
   event_bounded r (event.Leave t) bounded = bounded
@@ -113,12 +113,12 @@ module _ (s : Script) (formed : IsWellFormed s) where
 
   events_fit : (r : RunState) (es : List Event) → IsBoundedState r.state → AllMayCome s r es → AllByRecursion HasReply es
   events_fit r [] bounded may = tt
-  events_fit r (e ∷ es) bounded may = (event_fits r e bounded may.0, events_fit (after s r e) es (event_bounded r e bounded) may.1)
+  events_fit r (e ∷ es) bounded may = (event_fits r e bounded may.0, events_fit (run_after s r e) es (event_bounded r e bounded) may.1)
 
 -- The laws
 
 pub replies_fit : RepliesFit
-replies_fit s h formed legal = events_fit s formed (opening s) h.events.list (opening_bounded s formed) legal.events
+replies_fit s h formed legal = events_fit s formed (opening_run s) h.events.list (opening_bounded s formed) legal.events
 
 pub histories_read : LegalHistoriesAreRead
 histories_read s h formed legal = legal_readable s h formed legal (replies_fit s h formed legal)

@@ -16,9 +16,9 @@ use Rattle.mf_core.specs.declared.progress.Commit.TheVariants as commit
 use Rattle.mf_core.specs.declared.progress.Turn.TheVariants as turn
 use Rattle.mf_core.specs.declared.history.Event.{Event}
 use Rattle.mf_core.specs.declared.history.Event.TheVariants as event
-use Rattle.mf_core.specs.Progress.{first_progress, progress_at, left, left_at, open_in, open_entries}
-use Rattle.mf_core.specs.Advances.{Advances}
-use Rattle.mf_core.specs.LegalHistory.{RunState, after, next_line, opening}
+use Rattle.mf_core.specs.Progress.{first_progress, progress_at, left_at, open_in, open_entries}
+use Rattle.mf_core.specs.Advances.{Advances, left}
+use Rattle.mf_core.specs.LegalHistory.{RunState, run_after, next_line, opening_run}
 use Rattle.mf_core.specs.CoreView.{CoreView, open_of, progress_of, turn_at, AdvancesBy, AdvancesOn}
 use Rattle.mf_core.proofs.Consistency.{change_phase, done_phase, entered_phase, entry_phase}
 use Rattle.mf_share.specs.Passes.{ticket_turn}
@@ -105,18 +105,18 @@ module _ (old new : List Progress) (t : ℕ) (p : Progress) (advances : Advances
 
 -- The core has a place for each task
 
-length_after : (s : Script) (r : RunState) (e : Event) → length (after s r e).progress ≡ length r.progress
+length_after : (s : Script) (r : RunState) (e : Event) → length (run_after s r e).progress ≡ length r.progress
 length_after s r (event.Enter t) = length-set r.progress t _
 length_after s r (event.Done t line reply) = length-set r.progress t _
 length_after s r (event.Leave t) = length-set r.progress t _
 length_after s r (event.Changed t line reply) = length-set r.progress t _
 
-places_after : (s : Script) (r : RunState) (es : List Event) → length (fold (after s) r es).progress ≡ length r.progress
+places_after : (s : Script) (r : RunState) (es : List Event) → length (fold (run_after s) r es).progress ≡ length r.progress
 places_after s r [] = refl
-places_after s r (e ∷ es) = places_after s (after s r e) es ∙ length_after s r e
+places_after s r (e ∷ es) = places_after s (run_after s r e) es ∙ length_after s r e
 
 places : (run : CoreView) → length (progress_of run) ≡ length run.script.tasks
-places run = places_after run.script (opening run.script) run.history.events.list ∙ length-map run.script.tasks (λ t. first_progress)
+places run = places_after run.script (opening_run run.script) run.history.events.list ∙ length-map run.script.tasks (λ t. first_progress)
 
 pub none_open : (s : Script) (run : CoreView) → run.script ≡ s → open_weight s run ≡ 0 → open_of run ≡ 0
 none_open s run script none =

@@ -10,9 +10,8 @@ ghost use Rattle.mf_core.specs.declared.history.Event.TheVariants as event;
 ghost use Rattle.mf_core.specs.declared.progress.Turn.TheVariants as turn;
 ghost use Rattle.mf_core.specs.LegalHistory.{next_reply};
 ghost use Rattle.mf_core.specs.Next.{next_plan};
-ghost use Rattle.mf_core.specs.WithEvent.{with_event};
 ghost use Rattle.mf_core.specs.Policies.{StaysWhileWaiting, static_of};
-ghost use Rattle.mf_core.specs.CoreView.{specs_of, run_state, open_of, Changes, Commits};
+ghost use Rattle.mf_core.specs.CoreView.{with_next, specs_of, run_state, open_of, Changes, Commits};
 ghost use Rattle.mf_share.specs.Passes.{AgreesWithPass, AgreesWithTicket, IsCoreOf, pass_changed, pass_left, pass_turn, ticket_after, ticket_for};
 ghost use Rattle.mf_share.specs.Weights.{entry_weight};
 
@@ -46,7 +45,8 @@ impl<'s, J: Job, B: Ledger> Model for Desk<'s, J, B> {
 
     ghost view = { λ d. d.core };
 
-    ghost invariant = { λ d. (d.core.script ≡ J.script) × (d.done.total ≡ done_of d.core) × (d.busy.total ≡ open_weight J.script d.core) };
+    ghost invariant = { λ d. (d.core.script ≡ J.script) × (d.done.total ≡ done_of d.core)
+        × (d.busy.total ≡ open_weight J.script d.core) };
 }
 
 impl<'s, J: Job, B: Ledger> Desk<'s, J, B> {
@@ -63,9 +63,10 @@ impl<'s, J: Job, B: Ledger> Desk<'s, J, B> {
         requires out { pass.old.out ≡ false }
         requires turn { pass_turn J.script pass.old ≡ turn.Entry }
         ensures some { IfSome result (λ ticket. AgreesWithPass self.old pass.old
-            × (self.new ≡ record self.old { history = with_event self.old.history (event.Enter pass.old.task) })
+            × (self.new ≡ with_next self.old (event.Enter pass.old.task))
             × (ticket ≡ ticket_for pass.old) × (pass.new ≡ record pass.old { out = true })) }
-        ensures none { IfNone result (¬ AgreesWithPass self.old pass.old × (self.new ≡ self.old) × (pass.new ≡ pass.old)) }
+        ensures none { IfNone result (¬ AgreesWithPass self.old pass.old × (self.new ≡ self.old)
+            × (pass.new ≡ pass.old)) }
         ensures core { IsCoreOf J.script self.old }
     {
         let _history = self.core.history();
@@ -91,8 +92,10 @@ impl<'s, J: Job, B: Ledger> Desk<'s, J, B> {
     /// then nothing changes.
     pub fn plan(&self, ticket: &Ticket<J, B>, plan: &mut Plan) -> bool
         requires { ticket.now.committed ≡ false }
-        ensures made { IsTrue result → AgreesWithTicket self.now ticket.now × (next_plan self.now.script (run_state self.now) ticket.now.task ≡ Some plan.new) }
-        ensures none { result ≡ false → ¬ AgreesWithTicket self.now ticket.now × (plan.new ≡ plan.old) }
+        ensures made { IsTrue result → AgreesWithTicket self.now ticket.now
+            × (next_plan self.now.script (run_state self.now) ticket.now.task ≡ Some plan.new) }
+        ensures none { result ≡ false → ¬ AgreesWithTicket self.now ticket.now
+            × (plan.new ≡ plan.old) }
         ensures core { IsCoreOf J.script self.now }
     {
         let _history = self.core.history();
@@ -119,11 +122,14 @@ impl<'s, J: Job, B: Ledger> Desk<'s, J, B> {
         requires undone { ticket.old.committed ≡ false }
         requires verdict { verdict.now ≡ verdict_of list.now plan.now }
         ensures entries { 0 < open_of self.old }
-        ensures some { IfOk result (λ found. IfSome found (λ commit. AgreesWithTicket self.old ticket.old
+        ensures some { IfOk result (λ found. IfSome found
+            (λ commit. AgreesWithTicket self.old ticket.old
             × Commits self.old ticket.old.task list.now plan.now commit self.new
             × (ticket.new ≡ ticket_after commit ticket.old))) }
-        ensures none { IfOk result (λ found. IfNone found (¬ AgreesWithTicket self.old ticket.old × (self.new ≡ self.old) × (ticket.new ≡ ticket.old))) }
-        ensures err { OnErr result (AgreesWithTicket self.old ticket.old × (self.new ≡ self.old) × (ticket.new ≡ ticket.old)) }
+        ensures none { IfOk result (λ found. IfNone found (¬ AgreesWithTicket self.old ticket.old
+            × (self.new ≡ self.old) × (ticket.new ≡ ticket.old))) }
+        ensures err { OnErr result (AgreesWithTicket self.old ticket.old × (self.new ≡ self.old)
+            × (ticket.new ≡ ticket.old)) }
         ensures memory { is_ok (reply_to plan.now verdict.now.denied payload.None) ≡ false → IsOk result }
         ensures core { IsCoreOf J.script self.old }
     {
@@ -149,9 +155,10 @@ impl<'s, J: Job, B: Ledger> Desk<'s, J, B> {
         requires lines { ticket.lines ≡ pass.old.lines }
         requires out { pass.old.out ≡ true }
         ensures ok { IfOk result (λ _. AgreesWithTicket self.old ticket
-            × (self.new ≡ record self.old { history = with_event self.old.history (event.Leave ticket.task) })
+            × (self.new ≡ with_next self.old (event.Leave ticket.task))
             × (pass.new ≡ pass_left ticket.committed pass.old)) }
-        ensures err { IfErr result (λ back. ¬ AgreesWithTicket self.old ticket × (back ≡ ticket) × (self.new ≡ self.old) × (pass.new ≡ pass.old)) }
+        ensures err { IfErr result (λ back. ¬ AgreesWithTicket self.old ticket × (back ≡ ticket)
+            × (self.new ≡ self.old) × (pass.new ≡ pass.old)) }
         ensures core { IsCoreOf J.script self.old }
     {
         let _history = self.core.history();
@@ -198,18 +205,24 @@ impl<'s, J: Job, B: Ledger> Desk<'s, J, B> {
         requires fixed { fixed.now ≡ static_of J.script }
         requires out { pass.old.out ≡ false }
         requires turn { pass_turn J.script pass.old ≡ turn.Change }
-        ensures some { IfOk result (λ found. IfSome found (λ outcome. AgreesWithPass self.old pass.old
+        ensures some { IfOk result (λ found. IfSome found
+            (λ outcome. AgreesWithPass self.old pass.old
             × (fixed.now ++ policies.old.list ≡ specs_of self.old)
             × Changes self.old pass.old.task outcome self.new
             × (fixed.now ++ policies.new.list ≡ specs_of self.new)
             × StaysWhileWaiting outcome policies.old.list policies.new.list policies.old.catalogue policies.new.catalogue
             × (pass.new ≡ pass_changed outcome pass.old))) }
-        ensures none { IfOk result (λ found. IfNone found (¬ (AgreesWithPass self.old pass.old × (fixed.now ++ policies.old.list ≡ specs_of self.old))
+        ensures none { IfOk result (λ found. IfNone found
+            (¬ (AgreesWithPass self.old pass.old
+            × (fixed.now ++ policies.old.list ≡ specs_of self.old))
             × (self.new ≡ self.old) × (policies.new ≡ policies.old) × (pass.new ≡ pass.old))) }
         ensures err { OnErr result (AgreesWithPass self.old pass.old
             × (fixed.now ++ policies.old.list ≡ specs_of self.old)
-            × (self.new ≡ self.old) × (policies.new ≡ policies.old) × (pass.new ≡ record pass.old { stopped = true })) }
-        ensures memory { (reply : Reply) → next_reply self.old.script (run_state self.old) pass.old.task ≡ Some reply → is_ok reply ≡ false → IsOk result }
+            × (self.new ≡ self.old) × (policies.new ≡ policies.old)
+            × (pass.new ≡ record pass.old { stopped = true })) }
+        ensures memory { (reply : Reply)
+            → next_reply self.old.script (run_state self.old) pass.old.task ≡ Some reply
+            → is_ok reply ≡ false → IsOk result }
         ensures core { IsCoreOf J.script self.old }
     {
         let _history = self.core.history();

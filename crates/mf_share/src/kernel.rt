@@ -1,5 +1,5 @@
 //! The kernel: the desk and the policies that may change, each behind a lock of its own, and the static policies.
-ghost use Rattle.std.specs.Prelude.{◌≡◌, ◌+◌, [], true, false, All, length, map, IfOk, OnErr, OnOk, Some};
+ghost use Rattle.std.specs.Prelude.{◌≡◌, ◌+◌, true, false, All, length, map, IfOk, OnErr, OnOk, Some};
 ghost use Rattle.mf_policy.specs.Modules.{module_of};
 ghost use Rattle.mf_list.specs.Fresh.{IsFresh};
 ghost use Rattle.mf_calls.specs.WellFormed.{IsWellFormed};
@@ -91,7 +91,8 @@ impl<'s, P: Policy, J: Job, B: Ledger> Kernel<'s, P, J, B> {
         requires fresh { All (λ p. IsFresh (P.spec p)) modules.items }
         requires job { script.now ≡ J.script }
         requires lines_name { lines.name ≡ J.name }
-        requires lines_parts { (lines.parts ≡ J.parts) × (lines.parts ≡ length script.now.tasks + 1) }
+        requires lines_parts { (lines.parts ≡ J.parts)
+            × (lines.parts ≡ length script.now.tasks + 1) }
         requires busy_name { busy.name ≡ B.name }
         requires busy_parts { (busy.parts ≡ B.parts) × (busy.parts ≡ length script.now.tasks + 1) }
         ensures passes { IfOk result (λ r. AreOneEach J.script r.1.items) }
@@ -163,7 +164,8 @@ impl<'s, P: Policy, J: Job, B: Ledger> Kernel<'s, P, J, B> {
     /// Makes `plan` that of the ticket's call, from the state that the core is in during the call.
     pub fn plan<R: Wait>(&self, rt: &R, ticket: &Ticket<J, B>, plan: &mut Plan)
         requires { ticket.now.committed ≡ false }
-        ensures found { (core : CoreView) × IsCoreOf J.script core × AgreesWithTicket core ticket.now
+        ensures found { (core : CoreView) × IsCoreOf J.script core
+            × AgreesWithTicket core ticket.now
             × (next_plan core.script (run_state core) ticket.now.task ≡ Some plan.new) }
     {
         for _ in rt.forever() {
@@ -196,7 +198,8 @@ impl<'s, P: Policy, J: Job, B: Ledger> Kernel<'s, P, J, B> {
         requires verdict { verdict.now ≡ step.verdict_of list.now plan.now }
         ensures ok { IfOk result (λ commit. ticket.new ≡ ticket_after commit ticket.old) }
         ensures err { OnErr result (ticket.new ≡ ticket.old) }
-        ensures found { IfOk result (λ commit. (old : CoreView) × (new : CoreView) × IsCoreOf J.script old × AgreesWithTicket old ticket.old
+        ensures found { IfOk result (λ commit. (old : CoreView) × (new : CoreView)
+            × IsCoreOf J.script old × AgreesWithTicket old ticket.old
             × Commits old ticket.old.task list.now plan.now commit new) }
     {
         for _ in rt.forever() {
@@ -247,7 +250,8 @@ impl<'s, P: Policy, J: Job, B: Ledger> Kernel<'s, P, J, B> {
         requires turn { pass_turn J.script pass.old ≡ turn.Change }
         ensures ok { OnOk result (pass.new ≡ record pass.old { lines = pass.old.lines + 1 }) }
         ensures err { OnErr result (pass.new ≡ record pass.old { stopped = true }) }
-        ensures found { OnOk result ((old : CoreView) × (new : CoreView) × IsCoreOf J.script old × AgreesWithPass old pass.old
+        ensures found { OnOk result ((old : CoreView) × (new : CoreView) × IsCoreOf J.script old
+            × AgreesWithPass old pass.old
             × Changes old pass.old.task outcome.Done new) }
     {
         let mut desk = self.desk.lock(rt);
@@ -328,8 +332,10 @@ fn first_passes<J: Job, B: Ledger>(
 /// Takes the shares of these passes back. None of them has a ticket out.
 fn take_back<J: Job, B: Ledger>(passes: Vec<Pass<J, B>>, done: &mut Share<J>, busy: &mut Share<B>)
     requires { AreBack passes.items (length passes.items) }
-    ensures done { (done.new.parts ≡ done.old.parts + length passes.items) × (done.new.amount ≡ done.old.amount + lines_sum passes.items) }
-    ensures busy { (busy.new.parts ≡ busy.old.parts + length passes.items) × (busy.new.amount ≡ busy.old.amount) }
+    ensures done { (done.new.parts ≡ done.old.parts + length passes.items)
+        × (done.new.amount ≡ done.old.amount + lines_sum passes.items) }
+    ensures busy { (busy.new.parts ≡ busy.old.parts + length passes.items)
+        × (busy.new.amount ≡ busy.old.amount) }
 {
     for pass in passes {
         let Pass {

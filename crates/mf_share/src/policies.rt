@@ -16,14 +16,15 @@ pub struct Policies<P: Policy, J: Job> {
 }
 
 impl<P: Policy, J: Job> Model for Policies<P, J> {
-    ghost use Rattle.mf_share.specs.Policies.{AreBeside, PoliciesView};
-    ghost use Rattle.mf_core.specs.Policies.{static_of};
+    ghost use Rattle.std.specs.Prelude.{◌++◌};
+    ghost use Rattle.mf_share.specs.Policies.{PoliciesView};
+    ghost use Rattle.mf_core.specs.Policies.{AreHeld, static_of};
 
     ghost Value = { PoliciesView };
 
     ghost view = { λ a. record { list = a.list; catalogue = a.catalogue } };
 
-    ghost invariant = { λ a. AreBeside (static_of J.script) a.list a.catalogue };
+    ghost invariant = { λ a. AreHeld (static_of J.script ++ a.list) a.catalogue };
 }
 
 impl<P: Policy, J: Job> Policies<P, J> {

@@ -1,5 +1,5 @@
 -- The lines of a step run without those of stale plans and of changes that wait are those of its history.
-use Rattle.std.proofs.Common.{◌≡◌, ℕ, List, [], ◌∷◌, ◌++◌, append-nil, append_assoc, sym, refl, ap, ◌∙◌, subst, inl, inr}
+use Rattle.std.proofs.Common.{◌≡◌, ℕ, List, [], ◌∷◌, ◌++◌, append-nil, append_assoc, sym, refl, ap, ◌∙◌, inl, inr}
 use Rattle.std.specs.List.{flat_map}
 use Rattle.mf_calls.specs.declared.script.Script.{Script}
 use Rattle.mf_calls.specs.declared.script.Step.{Step}
@@ -11,7 +11,7 @@ use Rattle.mf_core.specs.LegalHistory.{next_number}
 use Rattle.mf_core.specs.Progress.{open_entries}
 use Rattle.mf_hist.specs.HistoryText.{boot_text, event_text}
 use Rattle.mf_steps.specs.StepRun.{StepRun, state_in, step_opening, without_plan}
-use Rattle.mf_steps.specs.Steps.{Appends, Does, AreTaken, Commits, ChangesOrWaits, stale_text, waits_text}
+use Rattle.mf_steps.specs.Steps.{Appends, Does, AreTaken, CommitsOrStale, ChangesOrWaits}
 use Rattle.mf_steps.specs.Laws.{Leaves, StepTextsTellHistories}
 use Rattle.mf_steps.specs.Laws.Leaves.{nothing, event as event_left, stale as stale_left, waits as waits_left}
 
@@ -47,7 +47,7 @@ does_adds s old new step.Enter t text does = adds_event s old new (event.Enter t
 does_adds s old new step.Plan t text does =
     adds_nothing s old new text (ap (λ (r : StepRun). r.events) does.2) (λ later rest leaves. rw does.3 leaves)
 does_adds s old new step.Done t text does = by_commit does.2 where
-  by_commit : Commits s old t does.0.plan text new → Adds s old text new
+  by_commit : CommitsOrStale s old t does.0.plan text new → Adds s old text new
   by_commit (inl done) =
       let here = adds_event s (without_plan old t) new (event.Done t (next_number (state_in s old) t) done.1.0) text done.1.2 in
       record { es = here.es; events = here.events; left = here.left }

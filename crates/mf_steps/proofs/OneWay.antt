@@ -1,5 +1,5 @@
 -- Step runs end one way: what a step does is determined by the step.
-use Rattle.std.proofs.Common.{◌≡◌, ◌≢◌, ◌⊎◌, ℕ, ◌+◌, ◌<◌, suc, List, [], ◌∷◌, ◌++◌, length, Option, Some, refl, sym, ap, ◌∙◌, subst, inl, inr, arith}
+use Rattle.std.proofs.Common.{◌≡◌, ℕ, ◌+◌, suc, List, [], ◌∷◌, ◌++◌, length, Some, refl, sym, ap, ◌∙◌, subst, inl, inr, arith}
 use Rattle.std.specs.List.{flat_map}
 use Rattle.mf_calls.specs.declared.script.Script.{Script}
 use Rattle.mf_calls.specs.declared.script.Step.{Step}
@@ -15,8 +15,7 @@ use Rattle.mf_core.specs.LegalHistory.{next_number}
 use Rattle.mf_hist.specs.HistoryText.{boot_text}
 use Rattle.mf_steps.specs.declared.kept.KeptPlan.{KeptPlan}
 use Rattle.mf_steps.specs.StepRun.{StepRun, state_in, step_opening, with_plan, without_plan}
-use Rattle.mf_steps.specs.Steps.{Appends, DoesCall, MakesChange, KeepsPlan, Commits, ChangesOrWaits, Does, IsTaken, AreTaken, IsRefused}
-use Rattle.mf_steps.specs.StepText.{IsStepRun, IsFirstRefused}
+use Rattle.mf_steps.specs.Steps.{Appends, DoesCall, MakesChange, KeepsPlan, CommitsOrStale, ChangesOrWaits, Does, IsTaken, AreTaken, IsRefused}
 use Rattle.mf_steps.specs.Laws.{StepRunsEndOneWay}
 
 -- one text and one run
@@ -60,7 +59,7 @@ module _ (s : Script) (old : StepRun) (t : ℕ) (text other : List ℕ) (new ano
   waits_once (inr a) (inl b) = absurd (omega (arith, a.0, b.0))
   waits_once (inr a) (inr b) = (a.2 ∙ sym b.2, a.1 ∙ sym b.1)
 
-commits_once : (s : Script) (old : StepRun) (t : ℕ) (text other : List ℕ) (new another : StepRun) (plan : Plan) → Commits s old t plan text new → Commits s old t plan other another
+commits_once : (s : Script) (old : StepRun) (t : ℕ) (text other : List ℕ) (new another : StepRun) (plan : Plan) → CommitsOrStale s old t plan text new → CommitsOrStale s old t plan other another
     → AreOne text new other another
 commits_once s old t text other new another plan (inl a) (inl b) = call_once s (without_plan old t) t text other new another a.1 b.1
 commits_once s old t text other new another plan (inl a) (inr b) = absurd (b.0 a.0)
@@ -73,7 +72,7 @@ does_once s old step.Enter t text other new another a b = appends_once s old t t
 does_once s old step.Plan t text other new another a b = plan_once s old t text other new another a b
 does_once s old step.Done t text other new another a b =
     let same : a.0 ≡ b.0 = some_is a.0 b.0 (sym a.1 ∙ b.1) in
-    commits_once s old t text other new another b.0.plan (subst (λ (k : KeptPlan). Commits s old t k.plan text new) same a.2) b.2
+    commits_once s old t text other new another b.0.plan (subst (λ (k : KeptPlan). CommitsOrStale s old t k.plan text new) same a.2) b.2
 does_once s old step.Leave t text other new another a b = appends_once s old t text other new another (event.Leave t) a b
 does_once s old step.Change t text other new another a b = waits_once s old t text other new another a b
 

@@ -1,5 +1,5 @@
 -- What a stepper keeps true: the plans that are kept stay good, step by step.
-use Rattle.std.proofs.Common.{◌≡◌, ◌≢◌, ℕ, ◌+◌, ◌<◌, ◌≤◌, Bool, true, false, zero, suc, cond, List, [], ◌∷◌, ◌++◌, length, map, Option, Some, None, refl, sym, ap, ◌∙◌, subst, arith, length-set, eqb}
+use Rattle.std.proofs.Common.{◌≡◌, ◌≢◌, ℕ, ◌+◌, ◌<◌, ◌≤◌, Bool, true, false, zero, suc, cond, List, [], ◌∷◌, length, map, Option, Some, None, refl, sym, ap, ◌∙◌, subst, arith, length-set, eqb}
 use Rattle.std.proofs.lemmas.Bool.Decides.{Decides-eqb}
 use Rattle.std.proofs.lemmas.List.{get_or-set_other, get_or-set_same}
 use Rattle.std.specs.Prelude.{slice_set, IsTrue}
@@ -28,7 +28,7 @@ use Rattle.mf_calls.specs.declared.script.Task.{Task}
 use Rattle.mf_steps.specs.declared.kept.KeptPlan.{KeptPlan}
 use Rattle.mf_calls.specs.declared.limits.TheConstants.{TASK_LIMIT}
 use Rattle.mf_steps.specs.StepRun.{kept_at}
-use Rattle.mf_steps.specs.Stepper.{IsGood, AreGood, IsSound}
+use Rattle.mf_steps.specs.Stepper.{IsGood, AreGood, IsSoundStepper}
 
 -- a task of another phase has no good plan
 turn_entered : (core : CoreView) (t : ℕ) → (progress_at (progress_of core) t).phase ≡ phase.Entered → turn_at core t ≡ turn.Entered
@@ -131,8 +131,8 @@ not_true e = cc
 -- Soundness, step by step
 
 module _ (s : Script) (fixed list : List Entry) (cat : List Module) where
-  pub sound_on : (old new : CoreView) (t : ℕ) (p : Progress) (kept : List (Option KeptPlan)) → IsSound s old fixed list cat kept → new.script ≡ old.script → Advances (progress_of old) (progress_of new) t p
-      → specs_of new ≡ specs_of old → turn_at old t ≢ turn.Entered → IsSound s new fixed list cat kept
+  pub sound_on : (old new : CoreView) (t : ℕ) (p : Progress) (kept : List (Option KeptPlan)) → IsSoundStepper s old fixed list cat kept → new.script ≡ old.script → Advances (progress_of old) (progress_of new) t p
+      → specs_of new ≡ specs_of old → turn_at old t ≢ turn.Entered → IsSoundStepper s new fixed list cat kept
   sound_on old new t p kept i script moves specs other = record {
     same = i.same ∙ sym script;
     few = subst (λ (s : Script). length s.tasks ≤ TASK_LIMIT) (sym script) i.few;
@@ -141,7 +141,7 @@ module _ (s : Script) (fixed list : List Entry) (cat : List Module) where
     good = good_on old new t p kept i.good moves specs (λ u k is. other_task old kept t u k i.good is other);
   }
 
-  pub sound_kept : (core : CoreView) (t : ℕ) (kept : List (Option KeptPlan)) (new : KeptPlan) → IsSound s core fixed list cat kept → t < length kept → IsGood core t new → IsSound s core fixed list cat (slice_set kept t (Some new))
+  pub sound_kept : (core : CoreView) (t : ℕ) (kept : List (Option KeptPlan)) (new : KeptPlan) → IsSoundStepper s core fixed list cat kept → t < length kept → IsGood core t new → IsSoundStepper s core fixed list cat (slice_set kept t (Some new))
   sound_kept core t kept new i lt fresh = record {
     same = i.same;
     few = i.few;
@@ -150,7 +150,7 @@ module _ (s : Script) (fixed list : List Entry) (cat : List Module) where
     good = good_kept core t kept new i.good lt fresh;
   }
 
-  pub sound_dropped : (core : CoreView) (t : ℕ) (kept : List (Option KeptPlan)) → IsSound s core fixed list cat kept → t < length kept → IsSound s core fixed list cat (slice_set kept t None)
+  pub sound_dropped : (core : CoreView) (t : ℕ) (kept : List (Option KeptPlan)) → IsSoundStepper s core fixed list cat kept → t < length kept → IsSoundStepper s core fixed list cat (slice_set kept t None)
   sound_dropped core t kept i lt = record {
     same = i.same;
     few = i.few;
@@ -159,8 +159,8 @@ module _ (s : Script) (fixed list : List Entry) (cat : List Module) where
     good = good_dropped core t kept i.good lt;
   }
 
-  pub sound_committed : (old new : CoreView) (t : ℕ) (commit : Commit) (kept : List (Option KeptPlan)) → IsSound s old fixed list cat kept → t < length kept → new.script ≡ old.script
-      → AdvancesOn commit (progress_of old) t (progress_of new) → specs_of new ≡ specs_of old → IsSound s new fixed list cat (slice_set kept t None)
+  pub sound_committed : (old new : CoreView) (t : ℕ) (commit : Commit) (kept : List (Option KeptPlan)) → IsSoundStepper s old fixed list cat kept → t < length kept → new.script ≡ old.script
+      → AdvancesOn commit (progress_of old) t (progress_of new) → specs_of new ≡ specs_of old → IsSoundStepper s new fixed list cat (slice_set kept t None)
   sound_committed old new t commit kept i lt script moves specs =
       let drop = sound_dropped old t kept i lt in
       record {
@@ -187,8 +187,8 @@ good_changed : (old new : CoreView) (t : ℕ) (outcome : ChangeOutcome) (kept : 
 good_changed old new t outcomes.Done kept good c = λ u k is. absurd (none_entered (progress_of old) u c.0 (good u k is).entered)
 good_changed old new t (outcomes.Waits n) kept good c = subst (λ core. AreGood core kept) (sym c.2) good
 
-pub sound_changed : (s : Script) (old new : CoreView) (fixed list list' : List Entry) (cat cat' : List Module) (t : ℕ) (outcome : ChangeOutcome) (kept : List (Option KeptPlan)) → IsSound s old fixed list cat kept
-    → Changes old t outcome new → AreOf (specs_of new) fixed list' cat' → IsSound s new fixed list' cat' kept
+pub sound_changed : (s : Script) (old new : CoreView) (fixed list list' : List Entry) (cat cat' : List Module) (t : ℕ) (outcome : ChangeOutcome) (kept : List (Option KeptPlan)) → IsSoundStepper s old fixed list cat kept
+    → Changes old t outcome new → AreOf (specs_of new) fixed list' cat' → IsSoundStepper s new fixed list' cat' kept
 sound_changed s old new fixed list list' cat cat' t outcome kept i c policies =
     let script = changed_script old new t outcome c in
     record {

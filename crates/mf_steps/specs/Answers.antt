@@ -9,8 +9,8 @@ use Rattle.mf_steps.specs.Stepper.{StepperView, step_run}
 use Rattle.mf_steps.specs.Steps.{Does, IsTaken, IsRefused}
 
 -- the step is done, and its text appended
-abbrev pub Gives : StepperView → StepKind → ℕ → StepperView → List ℕ → List ℕ → Type 0
-Gives old kind t new before after = (text : List ℕ) × Does old.core.script (step_run old) kind t text (step_run new) × (after ≡ before ++ text)
+abbrev pub DoesStep : StepperView → StepKind → ℕ → StepperView → List ℕ → List ℕ → Type 0
+DoesStep old kind t new before after = (text : List ℕ) × Does old.core.script (step_run old) kind t text (step_run new) × (after ≡ before ++ text)
 
 -- the step is taken and its text appended, or it is refused and nothing changes
 abbrev pub StepsOrNot : Bool → StepperView → Step → StepperView → List ℕ → List ℕ → Type 0

@@ -1,5 +1,5 @@
 -- A run whose steps come in the order that the script gives: this model's own.
-use Rattle.std.specs.Prelude.{ℕ, List, [], ◌∷◌, ◌++◌, map, Option, Some, None, slice_index_or, slice_set}
+use Rattle.std.specs.Prelude.{ℕ, List, [], map, Option, Some, None, slice_index_or, slice_set}
 use Rattle.mf_calls.specs.declared.script.Script.{Script}
 use Rattle.mf_core.specs.declared.history.Event.{Event}
 use Rattle.mf_core.specs.LegalHistory.{RunState, run_state_of}
@@ -14,22 +14,15 @@ pub record StepRun : Type 0 where
 abbrev pub step_opening : Script → StepRun
 step_opening s = record { events = []; kept = map (λ task. None) s.tasks }
 
--- the state that the events determine
 abbrev pub state_in : Script → StepRun → RunState
 state_in s r = run_state_of s r.events
 
--- the plan that is kept for the task of that number
 abbrev pub kept_at : List (Option KeptPlan) → ℕ → Option KeptPlan
 kept_at kept t = slice_index_or kept t None
-
--- one more event has come
-abbrev pub appended : StepRun → Event → StepRun
-appended r e = record r { events = r.events ++ e ∷ [] }
 
 -- the plan is kept for the task, in place of the one that it may have
 abbrev pub with_plan : StepRun → ℕ → KeptPlan → StepRun
 with_plan r t plan = record r { kept = slice_set r.kept t (Some plan) }
 
--- no plan is kept for the task
 abbrev pub without_plan : StepRun → ℕ → StepRun
 without_plan r t = record r { kept = slice_set r.kept t None }

@@ -29,7 +29,7 @@ abbrev pub AreGood : CoreView → List (Option KeptPlan) → Type 0
 AreGood core kept = (t : ℕ) (k : KeptPlan) → kept_at kept t ≡ Some k → IsGood core t k
 
 -- The script is the core's and within its limits, the policies are those of the core, there is a place for each task, and what is kept is good.
-pub record IsSound (script : Script) (core : CoreView) (fixed list : List Entry) (catalogue : List Module) (kept : List (Option KeptPlan)) : Type 0 where
+pub record IsSoundStepper (script : Script) (core : CoreView) (fixed list : List Entry) (catalogue : List Module) (kept : List (Option KeptPlan)) : Type 0 where
   pub same : script ≡ core.script
   pub few : length core.script.tasks ≤ TASK_LIMIT
   pub policies : AreOf (specs_of core) fixed list catalogue

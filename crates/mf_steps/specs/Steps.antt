@@ -1,5 +1,5 @@
 -- Which steps are in turn, and what each of them does and prints, by docs/MANUAL.md (STEPS).
-use Rattle.std.specs.Prelude.{◌≡◌, ◌≢◌, ◌⊎◌, ℕ, ◌<◌, List, [], ◌∷◌, ◌++◌, Option, Some, IsSome, codes}
+use Rattle.std.specs.Prelude.{◌≡◌, ◌≢◌, ◌⊎◌, ℕ, ◌<◌, List, [], ◌∷◌, ◌++◌, Some, IsSome, codes}
 use Rattle.std.specs.Fmt.{decimal}
 use Rattle.mf_calls.specs.declared.script.Script.{Script}
 use Rattle.mf_calls.specs.declared.script.Step.{Step}
@@ -17,7 +17,7 @@ use Rattle.mf_core.specs.Next.{next_plan}
 use Rattle.mf_core.specs.Progress.{open_entries}
 use Rattle.mf_hist.specs.HistoryText.{event_text}
 use Rattle.mf_steps.specs.declared.kept.KeptPlan.{KeptPlan}
-use Rattle.mf_steps.specs.StepRun.{StepRun, state_in, kept_at, appended, with_plan, without_plan}
+use Rattle.mf_steps.specs.StepRun.{StepRun, state_in, kept_at, with_plan, without_plan}
 
 -- Which steps of a task are in turn: its entry and its change where they come next, a plan while its entry is open and the call isn't done,
 -- the call besides only where a plan is kept, and the end of the entry where the call is done.
@@ -40,7 +40,7 @@ waits_text s t n = codes "waits " ++ name_of s t ++ codes " " ++ decimal n ++ co
 
 -- the event comes, and its line is printed
 abbrev pub Appends : Script → StepRun → Event → List ℕ → StepRun → Type 0
-Appends s old e text new = (new ≡ appended old e) × (text ≡ event_text s e)
+Appends s old e text new = (new ≡ record old { events = old.events ++ e ∷ [] }) × (text ≡ event_text s e)
 
 -- the call of the task's line is done
 abbrev pub DoesCall : Script → StepRun → ℕ → List ℕ → StepRun → Type 0
@@ -59,8 +59,8 @@ KeepsPlan s old t text new =
     × (new ≡ with_plan old t (record { plan = plan; verdict = verdict_of (state_in s old).state.specs plan })) × (text ≡ [])
 
 -- The plan is still that of the task's call, and the call is done; or it isn't, and nothing is. It is kept no longer.
-abbrev pub Commits : Script → StepRun → ℕ → Plan → List ℕ → StepRun → Type 0
-Commits s old t plan text new =
+abbrev pub CommitsOrStale : Script → StepRun → ℕ → Plan → List ℕ → StepRun → Type 0
+CommitsOrStale s old t plan text new =
     ((next_plan s (state_in s old) t ≡ Some plan) × DoesCall s (without_plan old t) t text new)
     ⊎ ((next_plan s (state_in s old) t ≢ Some plan) × (new ≡ without_plan old t) × (text ≡ stale_text s t))
 
@@ -73,7 +73,7 @@ ChangesOrWaits s old t text new =
 abbrev pub Does : Script → StepRun → StepKind → ℕ → List ℕ → StepRun → Type 0
 Does s old step.Enter t text new = Appends s old (event.Enter t) text new
 Does s old step.Plan t text new = KeepsPlan s old t text new
-Does s old step.Done t text new = (kept : KeptPlan) × (kept_at old.kept t ≡ Some kept) × Commits s old t kept.plan text new
+Does s old step.Done t text new = (kept : KeptPlan) × (kept_at old.kept t ≡ Some kept) × CommitsOrStale s old t kept.plan text new
 Does s old step.Leave t text new = Appends s old (event.Leave t) text new
 Does s old step.Change t text new = ChangesOrWaits s old t text new
 

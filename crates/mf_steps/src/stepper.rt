@@ -5,7 +5,7 @@ ghost use Rattle.mf_list.specs.Fresh.{IsFresh};
 ghost use Rattle.mf_calls.specs.declared.script.StepKind.TheVariants as step;
 ghost use Rattle.mf_calls.specs.WellFormed.{IsWellFormed};
 ghost use Rattle.mf_core.specs.AllModules.{AreAllModules};
-ghost use Rattle.mf_steps.specs.Answers.{Gives, PrintsLast, StepsOrNot};
+ghost use Rattle.mf_steps.specs.Answers.{DoesStep, PrintsLast, StepsOrNot};
 ghost use Rattle.mf_steps.specs.StepRun.{step_opening};
 ghost use Rattle.mf_steps.specs.Steps.{Does, IsInTurn};
 
@@ -31,13 +31,13 @@ pub struct Stepper<'s, P: Policy> {
 }
 
 impl<'s, P: Policy> Model for Stepper<'s, P> {
-    ghost use Rattle.mf_steps.specs.Stepper.{StepperView, IsSound};
+    ghost use Rattle.mf_steps.specs.Stepper.{StepperView, IsSoundStepper};
 
     ghost Value = { StepperView };
 
     ghost view = { λ f. record { core = f.core; kept = f.kept } };
 
-    ghost invariant = { λ f. IsSound f.script.now f.core f.fixed f.list f.catalogue f.kept };
+    ghost invariant = { λ f. IsSoundStepper f.script.now f.core f.fixed f.list f.catalogue f.kept };
 }
 
 impl<'s, P: Policy> Stepper<'s, P> {
@@ -89,7 +89,8 @@ impl<'s, P: Policy> Stepper<'s, P> {
     /// it was taken.
     pub fn step(&mut self, alloc: Global, step: &Step, out: &mut String) -> Result<bool, AllocError>
         ensures script { self.new.core.script ≡ self.old.core.script }
-        ensures step { IfOk result (λ taken. StepsOrNot taken self.old step.now self.new (string_bytes out.old) (string_bytes out.new)) }
+        ensures step { IfOk result (λ taken. StepsOrNot taken self.old step.now self.new
+            (string_bytes out.old) (string_bytes out.new)) }
     {
         let Some(task) = self.script.task_named(step.task.as_str()) else {
             return Ok(false);
@@ -128,7 +129,8 @@ impl<'s, P: Policy> Stepper<'s, P> {
         requires task { task < length self.old.core.script.tasks }
         requires turn { IsInTurn self.old.core.script (step_run self.old) kind task }
         ensures script { self.new.core.script ≡ self.old.core.script }
-        ensures does { OnOk result (Gives self.old kind task self.new (string_bytes out.old) (string_bytes out.new)) }
+        ensures does { OnOk result (DoesStep self.old kind task self.new (string_bytes out.old)
+            (string_bytes out.new)) }
     {
         match kind {
             StepKind::Enter => self.enter(task, out),
@@ -146,7 +148,8 @@ impl<'s, P: Policy> Stepper<'s, P> {
         requires task { task < length self.old.core.script.tasks }
         requires turn { IsInTurn self.old.core.script (step_run self.old) step.Enter task }
         ensures script { self.new.core.script ≡ self.old.core.script }
-        ensures does { OnOk result (Gives self.old step.Enter task self.new (string_bytes out.old) (string_bytes out.new)) }
+        ensures does { OnOk result (DoesStep self.old step.Enter task self.new
+            (string_bytes out.old) (string_bytes out.new)) }
     {
         self.core.enter(task);
         print_event(self.script, &Event::Enter(task), out)
@@ -156,7 +159,8 @@ impl<'s, P: Policy> Stepper<'s, P> {
         requires task { task < length self.old.core.script.tasks }
         requires turn { IsInTurn self.old.core.script (step_run self.old) step.Plan task }
         ensures script { self.new.core.script ≡ self.old.core.script }
-        ensures does { Does self.old.core.script (step_run self.old) step.Plan task [] (step_run self.new) }
+        ensures does { Does self.old.core.script (step_run self.old) step.Plan task []
+            (step_run self.new) }
     {
         let mut plan = Plan::new();
         self.core.plan(task, &mut plan);
@@ -169,7 +173,8 @@ impl<'s, P: Policy> Stepper<'s, P> {
         requires task { task < length self.old.core.script.tasks }
         requires turn { IsInTurn self.old.core.script (step_run self.old) step.Done task }
         ensures script { self.new.core.script ≡ self.old.core.script }
-        ensures does { OnOk result (Gives self.old step.Done task self.new (string_bytes out.old) (string_bytes out.new)) }
+        ensures does { OnOk result (DoesStep self.old step.Done task self.new (string_bytes out.old)
+            (string_bytes out.new)) }
     {
         let Some(kept) = self.kept.take(task as usize) else {
             unreachable!()
@@ -192,7 +197,8 @@ impl<'s, P: Policy> Stepper<'s, P> {
         requires task { task < length self.old.core.script.tasks }
         requires turn { IsInTurn self.old.core.script (step_run self.old) step.Leave task }
         ensures script { self.new.core.script ≡ self.old.core.script }
-        ensures does { OnOk result (Gives self.old step.Leave task self.new (string_bytes out.old) (string_bytes out.new)) }
+        ensures does { OnOk result (DoesStep self.old step.Leave task self.new
+            (string_bytes out.old) (string_bytes out.new)) }
     {
         self.core.leave(task);
         print_event(self.script, &Event::Leave(task), out)
@@ -202,7 +208,8 @@ impl<'s, P: Policy> Stepper<'s, P> {
         requires task { task < length self.old.core.script.tasks }
         requires turn { IsInTurn self.old.core.script (step_run self.old) step.Change task }
         ensures script { self.new.core.script ≡ self.old.core.script }
-        ensures does { OnOk result (Gives self.old step.Change task self.new (string_bytes out.old) (string_bytes out.new)) }
+        ensures does { OnOk result (DoesStep self.old step.Change task self.new
+            (string_bytes out.old) (string_bytes out.new)) }
     {
         match self.core.change(
             alloc,
@@ -225,7 +232,8 @@ impl<'s, P: Policy> Stepper<'s, P> {
 
 /// Appends the line of the last event.
 fn print_last(script: &Script, events: &[Event], out: &mut String) -> Result<(), AllocError>
-    ensures { OnOk result (PrintsLast script.now events.now (string_bytes out.old) (string_bytes out.new)) }
+    ensures { OnOk result (PrintsLast script.now events.now (string_bytes out.old)
+        (string_bytes out.new)) }
 {
     match events.last() {
         None => Ok(()),

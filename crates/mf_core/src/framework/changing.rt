@@ -36,8 +36,10 @@ impl<'s> Core<'s> {
         requires task { task < length self.old.script.tasks }
         requires turn { turn_at self.old task ≡ turn.Entered }
         requires verdict { verdict.now ≡ verdict_of list.now plan.now }
-        ensures commit { IfOk result (λ commit. Commits self.old task list.now plan.now commit self.new) }
-        ensures progress { IfOk result (λ commit. AdvancesOn commit (progress_of self.old) task (progress_of self.new)) }
+        ensures commit { IfOk result
+            (λ commit. Commits self.old task list.now plan.now commit self.new) }
+        ensures progress { IfOk result
+            (λ commit. AdvancesOn commit (progress_of self.old) task (progress_of self.new)) }
         ensures specs { specs_of self.new ≡ specs_of self.old }
         ensures entries { open_of self.new ≡ open_of self.old }
         ensures lines { done_of self.new ≡ done_of self.old }
@@ -60,7 +62,8 @@ impl<'s> Core<'s> {
         requires task { task < length self.now.script.tasks }
         requires turn { turn_at self.now task ≡ turn.Entered }
         ensures is { IsSome result ↔ IsCurrent self.now task list.now plan.now }
-        ensures found { plan.now.tail ≡ Do → IfSome result (λ found. IsNextFound self.now.script (run_state self.now) task found) }
+        ensures found { plan.now.tail ≡ Do
+            → IfSome result (λ found. IsNextFound self.now.script (run_state self.now) task found) }
     {
         if !list.same_specs(&self.run.state().specs) {
             return None;
@@ -83,13 +86,19 @@ impl<'s> Core<'s> {
         requires turn { turn_at self.old task ≡ turn.Change }
         requires policies { AreOf (specs_of self.old) fixed.now list.old catalogue.old }
         ensures outcome { IfOk result (λ outcome. Changes self.old task outcome self.new) }
-        ensures progress { IfOk result (λ outcome. AdvancesBy outcome (progress_of self.old) task (progress_of self.new)) }
+        ensures progress { IfOk result
+            (λ outcome. AdvancesBy outcome (progress_of self.old) task (progress_of self.new)) }
         ensures policies { AreOf (specs_of self.new) fixed.now list.new catalogue.new }
         ensures entries { open_of self.new ≡ open_of self.old }
-        ensures lines { IfOk result (λ outcome. done_of self.new ≡ done_of self.old + lines_changed outcome) }
-        ensures waits { IfOk result (λ outcome. StaysWhileWaiting outcome list.old list.new catalogue.old catalogue.new) }
-        ensures err { OnErr result ((self.new ≡ self.old) × (list.new ≡ list.old) × (catalogue.new ≡ catalogue.old)) }
-        ensures memory { (reply : Reply) → next_reply self.old.script (run_state self.old) task ≡ Some reply → is_ok reply ≡ false → IsOk result }
+        ensures lines { IfOk result (λ outcome. done_of self.new
+            ≡ done_of self.old + lines_changed outcome) }
+        ensures waits { IfOk result
+            (λ outcome. StaysWhileWaiting outcome list.old list.new catalogue.old catalogue.new) }
+        ensures err { OnErr result ((self.new ≡ self.old) × (list.new ≡ list.old)
+            × (catalogue.new ≡ catalogue.old)) }
+        ensures memory { (reply : Reply)
+            → next_reply self.old.script (run_state self.old) task ≡ Some reply
+            → is_ok reply ≡ false → IsOk result }
     {
         let waiting = self.open_entries();
         if waiting > 0 {

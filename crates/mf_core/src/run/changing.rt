@@ -1,6 +1,6 @@
 //! A change of the policies in three acts: the listed specs after it are made beside those of the state, the dynamic list
 //! and the catalogue follow, and the specs are put into the state. The first two may run out of memory, and then nothing has changed.
-ghost use Rattle.std.specs.Prelude.{◌≡◌, ◌<◌, length, true, false, IfOk, IsOk, IfSome, IsSome, MatchOption, OnOk, OnErr, Some};
+ghost use Rattle.std.specs.Prelude.{◌≡◌, ◌<◌, length, false, IfOk, IsOk, IfSome, IsSome, MatchOption, OnOk, OnErr, Some};
 ghost use Rattle.mf_objects.specs.declared.id.Id.{Id};
 ghost use Rattle.mf_plan.specs.declared.reply.Reply.{Reply};
 ghost use Rattle.mf_perform.specs.Effect as effect;
@@ -9,7 +9,8 @@ ghost use Rattle.mf_perform.specs.Relisting.{effect_in};
 ghost use Rattle.mf_perform.specs.Suits.{Suits};
 ghost use Rattle.mf_core.specs.declared.history.Event.TheVariants as event;
 ghost use Rattle.mf_core.specs.declared.progress.Turn.TheVariants as turn;
-ghost use Rattle.mf_core.specs.LegalHistory.{after, next_line, next_reply, next_state, turn_of, MayCome};
+ghost use Rattle.mf_core.specs.LegalHistory.{next_line, next_reply, next_state, turn_of, MayCome};
+ghost use Rattle.mf_core.specs.RunView.{run_on};
 ghost use Rattle.mf_core.specs.Policies.{AreOf};
 ghost use Rattle.mf_core.specs.Relisted.{AreListedAfter, IsMade};
 
@@ -39,7 +40,8 @@ impl<'s> Run<'s> {
         reply: &KeptReply,
     ) -> Result<(), AllocError>
         requires { MayCome self.old.script self.old.run (event.Changed task number reply.now) }
-        ensures ok { OnOk result (self.new ≡ record self.old { run = after self.old.script self.old.run (event.Changed task number reply.now) }) }
+        ensures ok { OnOk result (self.new
+            ≡ run_on self.old (event.Changed task number reply.now)) }
         ensures err { OnErr result (self.new ≡ self.old) }
     {
         let listed = self.listed_after(alloc, task, reply)?;
@@ -58,8 +60,10 @@ impl<'s> Run<'s> {
         requires task { task < length self.now.script.tasks }
         requires line { IsSome (next_line self.now.script self.now.run.progress task) }
         requires listed { list.now ≡ self.now.run.state.specs }
-        ensures value { IfOk result (λ reply. next_reply self.now.script self.now.run task ≡ Some reply) }
-        ensures memory { (reply : Reply) → next_reply self.now.script self.now.run task ≡ Some reply → is_ok reply ≡ false → IsOk result }
+        ensures value { IfOk result (λ reply. next_reply self.now.script self.now.run task
+            ≡ Some reply) }
+        ensures memory { (reply : Reply) → next_reply self.now.script self.now.run task ≡ Some reply
+            → is_ok reply ≡ false → IsOk result }
     {
         let mut plan = Plan::new();
         let found = self.plan(task, &mut plan);
@@ -81,8 +85,11 @@ impl<'s> Run<'s> {
         requires turn { turn_of self.now.script self.now.run.progress task ≡ turn.Change }
         requires reply { next_reply self.now.script self.now.run task ≡ Some reply.now }
         requires policies { AreOf self.now.run.state.specs fixed.now list.old catalogue.old }
-        ensures value { IfOk result (AreListedAfter self.now.run.state (next_state self.now.script self.now.run task) reply.now) }
-        ensures policies { OnOk result (AreOf (next_state self.now.script self.now.run task).specs fixed.now list.new catalogue.new) }
+        ensures value { IfOk result (AreListedAfter self.now.run.state
+            (next_state self.now.script self.now.run task) reply.now) }
+        ensures policies { OnOk result
+            (AreOf (next_state self.now.script self.now.run task).specs
+            fixed.now list.new catalogue.new) }
         ensures err { OnErr result ((list.new ≡ list.old) × (catalogue.new ≡ catalogue.old)) }
         ensures memory { is_ok reply.now ≡ false → IsOk result }
     {
@@ -109,7 +116,8 @@ impl<'s> Run<'s> {
     ) -> Result<Option<Relisted>, AllocError>
         requires turn { turn_of self.now.script self.now.run.progress task ≡ turn.Change }
         requires reply { next_reply self.now.script self.now.run task ≡ Some reply.now }
-        ensures value { IfOk result (AreListedAfter self.now.run.state (next_state self.now.script self.now.run task) reply.now) }
+        ensures value { IfOk result (AreListedAfter self.now.run.state
+            (next_state self.now.script self.now.run task) reply.now) }
         ensures memory { is_ok reply.now ≡ false → IsOk result }
     {
         let Some(relisting) = self.relisting(task, reply) else {
@@ -123,7 +131,8 @@ impl<'s> Run<'s> {
     fn relisting(&self, task: u32, reply: &KeptReply) -> Option<Relisting>
         requires turn { turn_of self.now.script self.now.run.progress task ≡ turn.Change }
         requires reply { next_reply self.now.script self.now.run task ≡ Some reply.now }
-        ensures { IsMade self.now.run.state (next_state self.now.script self.now.run task) reply.now result }
+        ensures { IsMade self.now.run.state
+            (next_state self.now.script self.now.run task) reply.now result }
     {
         if !reply.is_ok() {
             return None;
@@ -140,9 +149,11 @@ impl<'s> Run<'s> {
         _reply: &KeptReply,
         listed: Option<Relisted>,
     )
-        requires may { MayCome self.old.script self.old.run (event.Changed task _number _reply.now) }
-        requires listed { AreListedAfter self.old.run.state (next_state self.old.script self.old.run task) _reply.now listed }
-        ensures { self.new ≡ record self.old { run = after self.old.script self.old.run (event.Changed task _number _reply.now) } }
+        requires may { MayCome self.old.script self.old.run
+            (event.Changed task _number _reply.now) }
+        requires listed { AreListedAfter self.old.run.state
+            (next_state self.old.script self.old.run task) _reply.now listed }
+        ensures { self.new ≡ run_on self.old (event.Changed task _number _reply.now) }
     {
         put_after(&mut self.state, listed);
         self.progress.advance(task as usize);
@@ -152,8 +163,10 @@ impl<'s> Run<'s> {
 /// Puts the listed specs after a change into the state, where it is done.
 fn put_after(state: &mut State, listed: Option<Relisted>)
     requires suits { IfSome listed (λ listed. Suits state.old (effect_in listed.relisting)) }
-    requires specs { IfSome listed (λ listed. (caller : Id) → listed.specs ≡ (effect.after state.old caller (effect_in listed.relisting)).specs) }
-    ensures { MatchOption listed (state.new ≡ state.old) (λ listed. (caller : Id) → state.new ≡ effect.after state.old caller (effect_in listed.relisting)) }
+    requires specs { IfSome listed (λ listed. (caller : Id)
+        → listed.specs ≡ (effect.after state.old caller (effect_in listed.relisting)).specs) }
+    ensures { MatchOption listed (state.new ≡ state.old) (λ listed. (caller : Id)
+        → state.new ≡ effect.after state.old caller (effect_in listed.relisting)) }
 {
     if let Some(listed) = listed {
         put_listed(state, listed.specs, &listed.relisting);

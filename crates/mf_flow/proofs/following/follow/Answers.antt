@@ -14,7 +14,7 @@ use Rattle.mf_plan.specs.Plan.{plan_of}
 use Rattle.mf_plan.specs.Views.{process_named}
 use Rattle.mf_perform.specs.OneCall.{after_reply}
 use Rattle.mf_core.specs.declared.history.Event.{Event}
-use Rattle.mf_core.specs.LegalHistory.{after}
+use Rattle.mf_core.specs.LegalHistory.{run_after}
 use Rattle.mf_core.specs.NextFound.{IsNextFound}
 use Rattle.mf_core.specs.RunView.{RunView}
 use Rattle.mf_perform.specs.Passed.{passed}
@@ -45,9 +45,9 @@ returns-in_ok-commit-in-Done-clause-flows c =
     let said_is = c.get-said.ensures ∙ c.lend-lent.ensures in
     let outline_tail : (plan_of state task line.child line.call).tail ≡ Do → outline.tail ≡ Do =
     λ tail. ap (λ (p : Plan). p.tail) c.outline_of-outline.ensures.plan ∙ ap (λ (child : Option (List ℕ)). (plan_of state task child line.call).tail) c.child_name.ensures ∙ tail in
-    let after_is : state' ≡ (after s run e).state =
-    c.state.ensures ∙ ap (λ (x : RunView). x.run.state) c.in_ok-commit-in-Done.ensures.ok ∙ ap (λ (x : Event). (after c.args.run.now.script run x).state) (sym c.in-Done.is)
-    ∙ ap (λ (x : Script). (after x run e).state) c.requires.script in
+    let after_is : state' ≡ (run_after s run e).state =
+    c.state.ensures ∙ ap (λ (x : RunView). x.run.state) c.in_ok-commit-in-Done.ensures.ok ∙ ap (λ (x : Event). (run_after c.args.run.now.script run x).state) (sym c.in-Done.is)
+    ∙ ap (λ (x : Script). (run_after x run e).state) c.requires.script in
     let items_are : map (item_asking state.objects request) checks ≡ passed c.in-Done.reply (plan_of state task line.child line.call).items =
     ap (map (item_asking state.objects request)) (c.passed-checks.ensures ∙ ap (λ xs. passed c.get-said.result.now xs) c.as_slice.ensures.value
     ∙ ap (λ (said : Reply). passed said outline.checks) said_is)
@@ -63,7 +63,7 @@ returns-in_ok-commit-in-Done-clause-flows c =
     on_ok_weaker c.settle_each.result (λ settled.
     becomes_along (λ (f new : Flow). new ≡ flow_moved state.objects (map (item_of state.objects) checks) f)
     (λ (f new : Flow). IsKept state'.objects (flow_settled next state'.objects caller asked f) new)
-    (λ (f new : Flow). IsKept (after s run e).state.objects (flow_after_event s run e f) new)
+    (λ (f new : Flow). IsKept (run_after s run e).state.objects (flow_after_event s run e f) new)
     c.args.flows.now.items c.move_in_each.new.flows.items c.settle_each.new.flows.items
     (λ f moved new is kept.
     subst (λ (o : Entities). IsKept o (flow_after_event s run e f) new) (ap (λ (x : State). x.objects) after_is)

@@ -1,5 +1,4 @@
 use Rattle.std.proofs.Common.{◌≡◌, ◌+◌, ◌++◌, take, drop, sym, ap, ◌∙◌, subst}
-use Rattle.mf_calls.specs.declared.script.Script.{Script}
 use Rattle.std.specs.List.{flat_map}
 use Rattle.mf_core.specs.CoreView.{CoreView}
 use Rattle.mf_core.specs.Opening.{boots_of}

@@ -2,7 +2,7 @@ use Rattle.std.proofs.Common.{◌≡◌, ◌<◌, [], length, sym, ap, ◌∙◌
 use Rattle.mf_perform.specs.Verdict.{verdict_of}
 use Rattle.mf_core.specs.declared.progress.Turn.TheVariants as turn
 use Rattle.mf_core.specs.CoreView.{turn_at}
-use Rattle.mf_steps.specs.Stepper.{StepperView, step_run, IsSound}
+use Rattle.mf_steps.specs.Stepper.{StepperView, step_run, IsSoundStepper}
 use Rattle.mf_steps.specs.Steps.{KeepsPlan}
 use Rattle.mf_steps.proofs.Planned.{planned}
 use Rattle.mf_steps.proofs.Sound.{sound_kept, phase_entered}
@@ -13,7 +13,7 @@ invariant_of-self g c =
     let lt : c.args.task < length c.self.inside.core.script.tasks = subst (λ (r : StepperView). c.args.task < length r.core.script.tasks) (sym c.self.view_is) c.requires.task in
     let here : c.args.task < length c.self.inside.kept = omega (arith, lt, c.self.invariant.places) in
     let turn_is : turn_at c.self.inside.core c.args.task ≡ turn.Entered = subst (λ (r : StepperView). turn_at r.core c.args.task ≡ turn.Entered) (sym c.self.view_is) c.requires.turn in
-    subst (λ kept. IsSound c.self.inside.script.now c.self.inside.core c.self.inside.fixed c.self.inside.list c.self.inside.catalogue kept) (sym c.keep.ensures)
+    subst (λ kept. IsSoundStepper c.self.inside.script.now c.self.inside.core c.self.inside.fixed c.self.inside.list c.self.inside.catalogue kept) (sym c.keep.ensures)
     (sound_kept c.self.inside.script.now c.self.inside.fixed c.self.inside.list c.self.inside.catalogue c.self.inside.core c.args.task c.self.inside.kept
     (record { plan = c.plan.new.plan; verdict = c.walk-verdict.result }) c.self.invariant here
     (record {
