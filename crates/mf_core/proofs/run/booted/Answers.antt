@@ -14,7 +14,7 @@ load-requires c =
     record {
       slots = λ wants.
           let left = slot_left modules c.loop-wanted.wanted-index _ (subst P (sym c.as_slice-wanted-items.ensures) c.requires.boots)
-              (slice_get-get_or modules c.loop-wanted.wanted-index _ (omega arith)) wants in
+          (slice_get-get_or modules c.loop-wanted.wanted-index _ (omega arith)) wants in
           omega (arith, c.loop-wanted.invariant.numbers_are, left);
     }
 
