@@ -19,7 +19,7 @@ use Rattle.mf_policy.specs.declared.operations.Movement.TheVariants.{Still, ToSu
 use Rattle.mf_policy.specs.declared.operations.Test.TheVariants.{Observe, Modify, ObserveAndModify, SameLevel}
 use Rattle.mf_policy.specs.Answer.{LatticePolicy, errno_unless, labels_answer}
 use Rattle.mf_flow.specs.Order.{elem_cmp, union}
-use Rattle.mf_flow.specs.Sources.{held_by, alone}
+use Rattle.mf_flow.specs.Sources.{held_by, own_source}
 use Rattle.mf_flow.proofs.Orders.{IsFlowPolicy}
 
 -- Sets
@@ -58,7 +58,7 @@ Fit p None set = set ≡ []
 Fit p (Some own) set = FitBy p own (is_equal own) set
 
 -- an element alone is fit
-pub alone_fit : (p : LatticePolicy) → IsFlowPolicy p → (element : Option Elem) → Fit p element (alone element)
+pub alone_fit : (p : LatticePolicy) → IsFlowPolicy p → (element : Option Elem) → Fit p element (own_source element)
 alone_fit p flows None = refl
 alone_fit p flows (Some own) = one (is_equal own) refl
   where

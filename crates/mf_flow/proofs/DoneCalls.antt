@@ -26,8 +26,7 @@ use Rattle.mf_core.specs.NextFound.{FoundAt, IsNextFound}
 use Rattle.mf_core.proofs.SameLists.{done_tail}
 use Rattle.mf_perform.specs.Passed.{passed}
 use Rattle.mf_flow.specs.declared.following.Flow.{Flow}
-use Rattle.mf_flow.specs.Rows.{Rows, rows_moved, rows_after_line, flow_moved, flow_settled, flow_after_event, asked_of, rows_by}
-use Rattle.mf_flow.specs.Sources.{caller_of}
+use Rattle.mf_flow.specs.Rows.{Rows, rows_moved, rows_after_line, flow_moved, flow_settled, flow_after_event, asked_of, rows_by, caller_of}
 use Rattle.std.specs.Option.{option_zip}
 use Rattle.mf_core.proofs.LookedUp.{reply_at}
 use Rattle.mf_elem.specs.declared.label.Request.{Request}

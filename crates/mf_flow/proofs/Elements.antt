@@ -1,5 +1,5 @@
 -- The effective elements of entities: each has one, a new one has its maker's, and a relabel that asks for none leaves it.
-use Rattle.std.proofs.Common.{◌≡◌, ℕ, ◌<◌, true, false, if◌then◌else◌, List, Option, Some, None, slice_index_or, refl, ap, ◌∙◌}
+use Rattle.std.proofs.Common.{◌≡◌, ℕ, ◌<◌, true, false, ◌&&◌, if◌then◌else◌, List, Option, Some, None, slice_index_or, refl, ap, ◌∙◌}
 use Rattle.std.specs.Option.{option_map_or, option_or}
 use Rattle.std.specs.Prelude.{is_some, is_none}
 use Rattle.std.proofs.lemmas.Bool.{and_parts}
@@ -10,12 +10,13 @@ use Rattle.mf_elem.specs.declared.label.LabelValue.{LabelValue}
 use Rattle.mf_elem.specs.declared.label.LabelValue.TheVariants.{Unset, Range, Number}
 use Rattle.mf_elem.specs.declared.label.RangeLabel.{RangeLabel}
 use Rattle.mf_elem.specs.declared.label.Request.{Request}
+use Rattle.mf_elem.specs.Elem.{is_plain}
 use Rattle.mf_elem.specs.Label.{is_valid}
 use Rattle.mf_elem.proofs.Valid.{is_valid_for}
 use Rattle.mf_item.specs.declared.view.Kind.{Kind}
 use Rattle.mf_item.specs.declared.view.Kind.TheVariants as kinds
 use Rattle.mf_policy.specs.declared.modules.Labelling.{Labelling}
-use Rattle.mf_policy.specs.declared.modules.Labelling.TheVariants.{Ranges}
+use Rattle.mf_policy.specs.declared.modules.Labelling.TheVariants.{Ranges, Elements}
 use Rattle.mf_policy.proofs.EachModule.{has_elements}
 use Rattle.mf_policy.specs.declared.registration.Registration.{Registration}
 use Rattle.mf_policy.specs.Answer.{range_label}
@@ -55,6 +56,7 @@ inherits m kind value lasting = by_labels (facts_of m).labels lasting
     by_labels : (labels : Labelling) → has_elements labels ≡ true
         → (range_label (if labels_by labels kind then inherited_by labels kind value else Unset)).effective ≡ (range_label value).effective
     by_labels (Ranges process other) elements = range_inherits kind value
+    by_labels (Elements element) elements = range_inherits kind value
     by_labels other elements = cc
 
 -- a new entity has its maker's element
@@ -85,11 +87,18 @@ suits_some kinds.Vnode label suits = there_some label.effective (and_parts (is_s
 suits_some kinds.Pipe label suits = there_some label.effective (and_parts (is_some label.effective) (is_none label.range) suits).0
 suits_some kinds.Socket label suits = there_some label.effective (and_parts (is_some label.effective) (is_none label.range) suits).0
 
+plain_some : (effective : Option Elem) (range : Option (Elem × Elem)) → option_map_or is_plain effective false && is_none range ≡ true → HasElement effective
+plain_some None range plain = cc
+plain_some (Some element) range plain = (element, refl)
+
 valid_some : (labels : Labelling) (kind : Kind) (value : LabelValue) → has_elements labels ≡ true → holds_valid labels kind value ≡ true
     → HasElement (range_label value).effective
 valid_some (Ranges process other) kind Unset elements valid = cc
 valid_some (Ranges process other) kind (Range label) elements valid = suits_some kind label valid
 valid_some (Ranges process other) kind (Number n) elements valid = cc
+valid_some (Elements element) kind Unset elements valid = cc
+valid_some (Elements element) kind (Range label) elements valid = plain_some label.effective label.range valid
+valid_some (Elements element) kind (Number n) elements valid = cc
 valid_some labels kind value elements valid = cc
 
 -- each live entity has an element
@@ -115,6 +124,7 @@ keeps_element m request value lasting none = by_labels (facts_of m).labels lasti
     by_labels : (labels : Labelling) → has_elements labels ≡ true
         → (range_label (after_by labels (range_asked m request) (number_asked m request) value)).effective ≡ (range_label value).effective
     by_labels (Ranges process other) elements = range_keeps (range_asked m request) value none
+    by_labels (Elements element) elements = range_keeps (range_asked m request) value none
     by_labels other elements = cc
 
 -- a relabel that asks for no element leaves it

@@ -33,8 +33,8 @@ use Rattle.mf_lifetimes.proofs.Marked.{by_line, event_change}
 use Rattle.mf_perform.specs.Passed.{passed}
 use Rattle.mf_flow.specs.declared.following.Flow.{Flow}
 use Rattle.mf_flow.specs.Rows.{AreKept, AreOwnRows, AreRows, EachBecomes, HasSlot, IsFlowOf, IsKept, IsOpening, Rows, rows_moved, rows_created, rows_after_line, rows_after_event, flow_after_event}
-use Rattle.mf_flow.specs.Sources.{Sets, alone, element_by, sets_after_line, sets_after_event, opening_sets, sets_after, sources_of}
-use Rattle.mf_flow.proofs.Across.{moved_by_all}
+use Rattle.mf_flow.specs.Sources.{Sets, own_source, element_by, sets_after_line, sets_after_event, sets_after, sources_of}
+use Rattle.mf_flow.proofs.Across.{moved_by_all, opening_sets}
 use Rattle.mf_perform.proofs.Granted.{IsGranted}
 use Rattle.mf_flow.proofs.Granted.{passed_granted, all_passed}
 use Rattle.mf_flow.proofs.Copies.{IsCopied, plan_copied}
@@ -151,7 +151,7 @@ own_sources_rows s r o rows here own =
     let at : AreOwnRows (slot_of r) (opening_state s).objects rows = subst (λ (x : Entities). AreOwnRows (slot_of r) x rows) here own in
     record {
       count = at.count;
-      each = λ id e live. at.each id e live ∙ ap (λ (found : Option LiveEntity). alone (element_by r (values_of found))) (sym live);
+      each = λ id e live. at.each id e live ∙ ap (λ (found : Option LiveEntity). own_source (element_by r (values_of found))) (sym live);
     }
 
 pub opening_flows : (s : Script) (h : History) (booted : List Registration) (es : List Event) (replay : RunView) (state : State) (flows : List Flow)

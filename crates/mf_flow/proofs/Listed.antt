@@ -24,9 +24,9 @@ use Rattle.mf_objects.proofs.Finding.{find_given}
 use Rattle.mf_flow.specs.declared.following.Flow.{Flow}
 use Rattle.mf_flow.specs.declared.table.Row.{Row}
 use Rattle.mf_flow.specs.Order.{union}
-use Rattle.mf_flow.specs.Rows.{AreOwnRows, AreRows, IsFlowOf, Rows, row, element_of, new_row}
-use Rattle.mf_flow.specs.Sources.{Sets, alone, held_by, sources_of}
-use Rattle.mf_flow.specs.Table.{sources_row, rows_for, rows_in, sourced, table_of}
+use Rattle.mf_flow.specs.Rows.{AreOwnRows, AreRows, IsFlowOf, Rows, set_at, element_of, new_row}
+use Rattle.mf_flow.specs.Sources.{Sets, own_source, held_by, sources_of}
+use Rattle.mf_flow.specs.Table.{rows_for, rows_in, sourced, table_of}
 use Rattle.mf_flow.proofs.RowsKept.{first_from, former_row, last_row}
 
 -- Own elements
@@ -34,7 +34,7 @@ use Rattle.mf_flow.proofs.RowsKept.{first_from, former_row, last_row}
 -- the first so many rows
 pub record AreFirst (slot : ℕ) (o : Entities) (rows : Rows) (n : ℕ) : Type 0 where
   pub count : length rows ≡ n
-  pub each : (k : ℕ) → k < n → row rows k ≡ new_row slot (find (is_from k) o.live) []
+  pub each : (k : ℕ) → k < n → set_at rows k ≡ new_row slot (find (is_from k) o.live) []
 
 pub first_none : (slot : ℕ) (o : Entities) → AreFirst slot o [] 0
 first_none slot o = record { count = refl; each = λ k none. absurd (omega arith) }
@@ -48,15 +48,15 @@ first_more slot o rows rows' n set nothing first none is more =
     last_or_not : (k n : ℕ) → k < n + 1 → (k ≡ n) ⊎ (k < n)
     last_or_not k n within = grind arith
 
-    one : (k : ℕ) → k < n + 1 → (k ≡ n) ⊎ (k < n) → row (rows ++ set ∷ []) k ≡ new_row slot (find (is_from k) o.live) []
+    one : (k : ℕ) → k < n + 1 → (k ≡ n) ⊎ (k < n) → set_at (rows ++ set ∷ []) k ≡ new_row slot (find (is_from k) o.live) []
     one k within (inl last) =
         let place : k ≡ length rows = last ∙ sym first.count in
-        ap (row (rows ++ set ∷ [])) place ∙ last_row rows set ∙ is
+        ap (set_at (rows ++ set ∷ [])) place ∙ last_row rows set ∙ is
         ∙ ap (new_row slot (find (is_from n) o.live)) none
         ∙ ap (λ (m : ℕ). new_row slot (find (is_from m) o.live) []) (sym last)
     one k within (inr before) = former_row rows set k (omega (arith, first.count)) ∙ first.each k before
 
-own_alone : (element : Option Elem) → held_by element (union (alone element) []) ≡ alone element
+own_alone : (element : Option Elem) → held_by element (union (own_source element) []) ≡ own_source element
 own_alone None = refl
 own_alone (Some own) = one (is_equal own) refl
   where
@@ -134,9 +134,13 @@ map_push : {A B : Type 0} (f : A → B) (xs : List A) (x : A) → map f (xs ++ x
 map_push f [] x = refl
 map_push f (y ∷ xs) x = ap (λ (ys : List _). f y ∷ ys) (map_push f xs x)
 
+-- the row of a live entity
+abbrev sources_row : Module → Entities → Sets → LiveEntity → Row
+sources_row m objects sets e = record { «module» = m; id = e.id; title = title_at objects e.id; elements = sets e.id }
+
 -- so many rows are listed, and the next entity is the first from a number on
 pub record AreListed (m : Module) (o : Entities) (rows : Rows) (before table : List Row) (from n : ℕ) : Type 0 where
-  pub listed : table ≡ before ++ map (sources_row m o (λ (id : Id). row rows id.0)) (take n o.live)
+  pub listed : table ≡ before ++ map (sources_row m o (λ (id : Id). set_at rows id.0)) (take n o.live)
   pub next : find (is_from from) o.live ≡ slice_get o.live n
 
 pub listed_none : (m : Module) (o : Entities) (rows : Rows) (table : List Row) → AreListed m o rows table table 0 0
@@ -168,12 +172,12 @@ found_next m o rows before table from n id so_far found = one (slice_get o.live 
 
 pub listed_more : (m : Module) (o : Entities) (rows : Rows) (before table table' : List Row) (from from' n : ℕ) (id : Id) (new : Row) → IsRising 0 o.next o.live
     → AreListed m o rows before table from n → n < length o.live → Some id ≡ id_of (find (is_from from) o.live)
-    → new ≡ record { «module» = m; id = id; title = title_at o id; elements = row rows id.0 } → table' ≡ table ++ new ∷ [] → from' ≡ id.0 + 1
+    → new ≡ record { «module» = m; id = id; title = title_at o id; elements = set_at rows id.0 } → table' ≡ table ++ new ∷ [] → from' ≡ id.0 + 1
     → AreListed m o rows before table' from' (n + 1)
 listed_more m o rows before table table' from from' n id new rising so_far within found is more next =
     let at : IsNext o n id = found_next m o rows before table from n id so_far found in
-    let f : LiveEntity → Row = sources_row m o (λ (x : Id). row rows x.0) in
-    let own : new ≡ f at.e = is ∙ ap (λ (x : Id). record { «module» = m; id = x; title = title_at o x; elements = row rows x.0 }) (sym at.is) in
+    let f : LiveEntity → Row = sources_row m o (λ (x : Id). set_at rows x.0) in
+    let own : new ≡ f at.e = is ∙ ap (λ (x : Id). record { «module» = m; id = x; title = title_at o x; elements = set_at rows x.0 }) (sym at.is) in
     let behind : find (is_from (at.e.id.0 + 1)) o.live ≡ slice_get o.live (n + 1) =
     ap (λ (x : LiveEntity). find (is_from (x.id.0 + 1)) o.live) (sym (got o.live n at.e at.e at.here)) ∙ next_found o.live n 0 o.next at.e within rising in
     record {
@@ -200,9 +204,9 @@ whole [] = refl
 whole (x ∷ xs) = ap (λ (ys : List _). x ∷ ys) (whole xs)
 
 pub all_listed : (m : Module) (o : Entities) (rows : Rows) (before table : List Row) (from n : ℕ) → AreListed m o rows before table from n → n ≡ length o.live
-    → table ≡ before ++ rows_in m o (λ (id : Id). row rows id.0)
+    → table ≡ before ++ rows_in m o (λ (id : Id). set_at rows id.0)
 all_listed m o rows before table from n so_far all =
-    so_far.listed ∙ ap (λ (es : List LiveEntity). before ++ map (sources_row m o (λ (id : Id). row rows id.0)) es) (ap (λ (k : ℕ). take k o.live) all ∙ whole o.live)
+    so_far.listed ∙ ap (λ (es : List LiveEntity). before ++ map (sources_row m o (λ (id : Id). set_at rows id.0)) es) (ap (λ (k : ℕ). take k o.live) all ∙ whole o.live)
 
 -- the id that is found is live, so it was given
 pub found_given : (o : Entities) (id : Id) (found : Option LiveEntity) → IsRising 0 o.next o.live → live_at o id ≡ found → Some id ≡ id_of found → id.0 < o.next
@@ -221,14 +225,14 @@ is_found o from found id some is = sym some ∙ is
 -- The sources
 
 same_rows : (m : Module) (o : Entities) (sets : Sets) (rows : Rows) (least next : ℕ) (es : List LiveEntity) → IsRising least next es
-    → ((e : LiveEntity) → find (has_id e.id) es ≡ Some e → row rows e.id.0 ≡ sets e.id)
-    → map (sources_row m o (λ (id : Id). row rows id.0)) es ≡ map (sources_row m o sets) es
+    → ((e : LiveEntity) → find (has_id e.id) es ≡ Some e → set_at rows e.id.0 ≡ sets e.id)
+    → map (sources_row m o (λ (id : Id). set_at rows id.0)) es ≡ map (sources_row m o sets) es
 same_rows m o sets rows least next [] rising each = refl
 same_rows m o sets rows least next (x ∷ es) rising each =
-    let here : row rows x.id.0 ≡ sets x.id = each x (itself x es) in
-    let rest : map (sources_row m o (λ (id : Id). row rows id.0)) es ≡ map (sources_row m o sets) es =
+    let here : set_at rows x.id.0 ≡ sets x.id = each x (itself x es) in
+    let rest : map (sources_row m o (λ (id : Id). set_at rows id.0)) es ≡ map (sources_row m o sets) es =
     same_rows m o sets rows (x.id.0 + 1) next es rising.1 (λ e found. each e (later e found)) in
-    ap (λ (set : List Elem). record { «module» = m; id = x.id; title = title_at o x.id; elements = set } ∷ map (sources_row m o (λ (id : Id). row rows id.0)) es) here
+    ap (λ (set : List Elem). record { «module» = m; id = x.id; title = title_at o x.id; elements = set } ∷ map (sources_row m o (λ (id : Id). set_at rows id.0)) es) here
     ∙ ap (λ (ys : List Row). sources_row m o sets x ∷ ys) rest
   where
     itself : (x : LiveEntity) (es : List LiveEntity) → find (has_id x.id) (x ∷ es) ≡ Some x

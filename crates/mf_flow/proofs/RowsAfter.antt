@@ -18,9 +18,9 @@ use Rattle.mf_perform.proofs.EntityChange.EntityChange.{absent, stays, gets_labe
 use Rattle.mf_perform.proofs.StateChange.{Deed, StateChange}
 use Rattle.mf_perform.proofs.StateChange.StateChange.{same as still, created, changed, relabels, removed, loaded, unloaded, set_to}
 use Rattle.mf_flow.specs.Order.{union}
-use Rattle.mf_flow.specs.Rows.{AreRows, Rows, row, element_of, element_at as row_element, new_row, maker_row, rows_created, rows_given}
-use Rattle.mf_flow.specs.Sources.{Sets, element_by, held_by, alone, is_id, has_element, set_after}
-use Rattle.mf_flow.proofs.Across.{gives_element, set_of, sets_across}
+use Rattle.mf_flow.specs.Rows.{AreRows, Rows, set_at, element_of, element_numbered, new_row, maker_row, rows_created, rows_given}
+use Rattle.mf_flow.specs.Sources.{Sets, element_by, held_by, own_source, has_element, set_after}
+use Rattle.mf_flow.proofs.Across.{gives_element, set_of, sets_across, is_id}
 use Rattle.mf_flow.proofs.Flowing.{same_id}
 use Rattle.mf_flow.proofs.RowsKept.{first_from, former_row, last_row}
 
@@ -48,7 +48,7 @@ module _ (r : Registration) (by : Deed) (s s' : State) (rising : IsRising 0 s.ob
     abbrev new : List Elem
     new = new_row (slot_of r) (find (is_from s.objects.next) s'.objects.live) (maker_row rows by.caller)
 
-    old_row : (id : Id) (old : LiveEntity) → live_at s.objects id ≡ Some old → (b : Bool) → row (cond b (rows ++ new ∷ []) rows) id.0 ≡ sets id
+    old_row : (id : Id) (old : LiveEntity) → live_at s.objects id ≡ Some old → (b : Bool) → set_at (cond b (rows ++ new ∷ []) rows) id.0 ≡ sets id
     old_row id old was true =
         former_row rows new id.0 (omega (arith, are.count, find_given id old 0 s.objects.next s.objects.live was rising)) ∙ are.each id old was
     old_row id old was false = are.each id old was
@@ -56,7 +56,7 @@ module _ (r : Registration) (by : Deed) (s s' : State) (rising : IsRising 0 s.ob
     -- the row of an entity that is live after the step, before it is relabelled
     kept_row : (id : Id) (found found' : Option LiveEntity) (e : LiveEntity) → live_at s.objects id ≡ found → live_at s'.objects id ≡ found' → EntityChange by s id found found' → found' ≡ Some e
         → (b : Bool) → nat_lt s.objects.next s'.objects.next ≡ b
-        → row (cond b (rows ++ new ∷ []) rows) id.0 ≡ set_after r found found' false (sets id) (set_of by.caller sets)
+        → set_at (cond b (rows ++ new ∷ []) rows) id.0 ≡ set_after r found found' false (sets id) (set_of by.caller sets)
     kept_row id _ _ e was is absent now b more = cc
     kept_row id _ _ e was is (stays old next kind label) now b more = old_row id old was b
     kept_row id _ _ e was is (gets_label old next request asked allowed what label) now b more = old_row id old was b
@@ -71,9 +71,9 @@ module _ (r : Registration) (by : Deed) (s s' : State) (rising : IsRising 0 s.ob
         let first : find (is_from id.0) s'.objects.live ≡ Some next = first_from id next 0 s'.objects.next s'.objects.live step.rising is in
         let found : find (is_from s.objects.next) s'.objects.live ≡ Some next = subst (λ (n : ℕ). find (is_from n) s'.objects.live ≡ Some next) number first in
         let place : id.0 ≡ length rows = number ∙ sym are.count in
-        ap (row (rows ++ new ∷ [])) place ∙ last_row rows new
+        ap (set_at (rows ++ new ∷ [])) place ∙ last_row rows new
         ∙ ap (λ (x : Option LiveEntity). new_row (slot_of r) x (maker_row rows by.caller)) found
-        ∙ ap (λ (xs : List Elem). held_by (element_by r next.label) (union (alone (element_by r next.label)) xs)) (maker_is from maker made live)
+        ∙ ap (λ (xs : List Elem). held_by (element_by r next.label) (union (own_source (element_by r next.label)) xs)) (maker_is from maker made live)
     kept_row id _ _ e was is (goes old given) now b more = cc
 
     created_count : (b : Bool) → nat_lt s.objects.next s'.objects.next ≡ b → length (cond b (rows ++ new ∷ []) rows) ≡ s'.objects.next
@@ -94,7 +94,7 @@ module _ (r : Registration) (by : Deed) (s s' : State) (rising : IsRising 0 s.ob
 
   -- what is relabelled has its new element alone, where no entity comes
   new_alone : (id : Id) (found found' : Option LiveEntity) (e : LiveEntity) → live_at s'.objects id ≡ found' → EntityChange by s id found found' → found' ≡ Some e
-      → s'.objects.next ≡ s.objects.next → alone (element_of (slot_of r) (values_of found')) ≡ set_after r found found' true (sets id) (set_of by.caller sets)
+      → s'.objects.next ≡ s.objects.next → own_source (element_of (slot_of r) (values_of found')) ≡ set_after r found found' true (sets id) (set_of by.caller sets)
   new_alone id _ _ e is absent now none = cc
   new_alone id _ _ e is (stays old next kind label) now none = refl
   new_alone id _ _ e is (gets_label old next request asked allowed what label) now none = refl
@@ -105,20 +105,20 @@ module _ (r : Registration) (by : Deed) (s s' : State) (rising : IsRising 0 s.ob
 
   -- the rows after a relabel that gives an element
   relabelled_rows : (to : Id) (rows : Rows) → s'.objects.next ≡ s.objects.next → AreRows s'.objects (across (λ id. false)) rows
-      → AreRows s'.objects (across (λ id. is_id id to && true)) (set rows to.0 (alone (row_element (slot_of r) s'.objects to.0)))
+      → AreRows s'.objects (across (λ id. is_id id to && true)) (set rows to.0 (own_source (element_numbered (slot_of r) s'.objects to.0)))
   relabelled_rows to rows none are =
       record { count = length-set rows to.0 own ∙ are.count; each = λ id e live. one id e live (is_id id to) refl }
     where
       own : List Elem
-      own = alone (row_element (slot_of r) s'.objects to.0)
+      own = own_source (element_numbered (slot_of r) s'.objects to.0)
 
       one : (id : Id) (e : LiveEntity) → live_at s'.objects id ≡ Some e → (b : Bool) → is_id id to ≡ b
-          → row (set rows to.0 own) id.0 ≡ set_after r (live_at s.objects id) (live_at s'.objects id) (b && true) (sets id) (set_of by.caller sets)
+          → set_at (set rows to.0 own) id.0 ≡ set_after r (live_at s.objects id) (live_at s'.objects id) (b && true) (sets id) (set_of by.caller sets)
       one id e live true same =
           let here : id ≡ to = same_id id to same in
           let within : id.0 < length rows = omega (arith, are.count, find_given id e 0 s'.objects.next s'.objects.live live step.rising) in
-          ap (λ (x : Id). row (set rows x.0 (alone (row_element (slot_of r) s'.objects x.0))) id.0) (sym here)
-          ∙ get_or-set_same rows id.0 (alone (row_element (slot_of r) s'.objects id.0)) [] within
+          ap (λ (x : Id). set_at (set rows x.0 (own_source (element_numbered (slot_of r) s'.objects x.0))) id.0) (sym here)
+          ∙ get_or-set_same rows id.0 (own_source (element_numbered (slot_of r) s'.objects id.0)) [] within
           ∙ new_alone id (live_at s.objects id) (live_at s'.objects id) e refl (step.each id) live none
       one id e live false other =
           let differ : id.0 ≢ to.0 = λ same. differs id.0 to.0 other same in
@@ -146,6 +146,6 @@ module _ (r : Registration) (by : Deed) (s s' : State) (rising : IsRising 0 s.ob
   given_rows None rows none are = are
   given_rows (Some asked) rows none are = one (has_element r.module asked.1)
     where
-      one : (b : Bool) → AreRows s'.objects (across (λ id. is_id id asked.0 && b)) (cond b (set rows asked.0.0 (alone (row_element (slot_of r) s'.objects asked.0.0))) rows)
+      one : (b : Bool) → AreRows s'.objects (across (λ id. is_id id asked.0 && b)) (cond b (set rows asked.0.0 (own_source (element_numbered (slot_of r) s'.objects asked.0.0))) rows)
       one true = relabelled_rows asked.0 rows (none asked refl) are
       one false = same_rows asked.0 rows are

@@ -25,9 +25,9 @@ use Rattle.mf_objects.specs.Population.{IsRising}
 use Rattle.mf_objects.proofs.Rising.{id_is}
 use Rattle.mf_objects.proofs.Finding.{find_before, find_given}
 use Rattle.mf_flow.specs.Order.{union}
-use Rattle.mf_flow.specs.Rows.{AreKept, AreRows, Rows, row, element_of, element_at as row_element, may_come, joined, received as row_received, rows_between, rows_with, rows_moved}
-use Rattle.mf_flow.specs.Sources.{Sets, element_by, element_at, held_by, is_id, received, moved, moved_by}
-use Rattle.mf_flow.proofs.Across.{moved_with, moved_by_all}
+use Rattle.mf_flow.specs.Rows.{AreKept, AreRows, Rows, set_at, element_of, element_numbered, may_come, set_joined, set_received, rows_between, rows_with, rows_moved}
+use Rattle.mf_flow.specs.Sources.{Sets, element_by, held_by, received, moved, moved_by, ways}
+use Rattle.mf_flow.proofs.Across.{moved_with, moved_by_all, element_at, is_id}
 use Rattle.mf_flow.proofs.Orders.{IsFlowPolicy}
 use Rattle.mf_flow.proofs.Bounds.{Fit, FitBy, AllowedBy, allows}
 use Rattle.mf_flow.proofs.Placing.{union_nothing}
@@ -51,13 +51,13 @@ module _ (p : LatticePolicy) (flows : IsFlowPolicy p) (r : Registration) (o : En
 
   own_row : (sets : Sets) (rows : Rows) (to from : Id) (e : LiveEntity) (given_row given : List Elem) → AllFit p r o sets → AreRows o sets rows → live_at o to ≡ Some e
       → Fit p (element_at r o from) given → ((giver : LiveEntity) → live_at o from ≡ Some giver → given_row ≡ given)
-      → row (row_received (slot_of r) o rows to.0 from.0 given_row) to.0 ≡ held_by (element_at r o to) (union (sets to) given)
+      → set_at (set_received (slot_of r) o rows to.0 from.0 given_row) to.0 ≡ held_by (element_at r o to) (union (sets to) given)
   own_row sets rows to from e given_row given fit are live theirs told =
       let has : HasElement (element_by r e.label) = labelled to e live in
       let is : element_at r o to ≡ Some has.0 = ap (λ (found : Option LiveEntity). element_by r (values_of found)) live ∙ has.1 in
-      get_or-set_same rows to.0 (joined (slot_of r) o to.0 from.0 (row rows to.0) given_row) [] within
-      ∙ subst (λ (element : Option Elem). cond (may_come element (element_at r o from)) (union (row rows to.0) given_row) (row rows to.0) ≡ held_by element (union (sets to) given)) (sym is)
-      (joined_is has.0 (is_equal has.0) refl (row rows to.0) (sets to) given_row given (subst (λ (element : Option Elem). Fit p element (sets to)) is (fit to)) (are.each to e live)
+      get_or-set_same rows to.0 (set_joined (slot_of r) o to.0 from.0 (set_at rows to.0) given_row) [] within
+      ∙ subst (λ (element : Option Elem). cond (may_come element (element_at r o from)) (union (set_at rows to.0) given_row) (set_at rows to.0) ≡ held_by element (union (sets to) given)) (sym is)
+      (joined_is has.0 (is_equal has.0) refl (set_at rows to.0) (sets to) given_row given (subst (λ (element : Option Elem). Fit p element (sets to)) is (fit to)) (are.each to e live)
       (element_at r o from) theirs (given_by (live_at o from) refl))
     where
       within : to.0 < length rows
@@ -69,38 +69,38 @@ module _ (p : LatticePolicy) (flows : IsFlowPolicy p) (r : Registration) (o : En
 
   received_rows : (sets : Sets) (rows : Rows) (to from : Id) (given_row given : List Elem) → AllFit p r o sets → AreRows o sets rows
       → Fit p (element_at r o from) given → ((giver : LiveEntity) → live_at o from ≡ Some giver → given_row ≡ given)
-      → AreRows o (received r o to given sets) (row_received (slot_of r) o rows to.0 from.0 given_row)
+      → AreRows o (received r o to given sets) (set_received (slot_of r) o rows to.0 from.0 given_row)
   received_rows sets rows to from given_row given fit are theirs told =
       record {
-        count = length-set rows to.0 (joined (slot_of r) o to.0 from.0 (row rows to.0) given_row) ∙ are.count;
+        count = length-set rows to.0 (set_joined (slot_of r) o to.0 from.0 (set_at rows to.0) given_row) ∙ are.count;
         each = λ id e live. one id e live (is_id id to) refl;
       }
     where
       one : (id : Id) (e : LiveEntity) → live_at o id ≡ Some e → (b : Bool) → is_id id to ≡ b
-          → row (row_received (slot_of r) o rows to.0 from.0 given_row) id.0 ≡ cond b (held_by (element_at r o to) (union (sets to) given)) (sets id)
+          → set_at (set_received (slot_of r) o rows to.0 from.0 given_row) id.0 ≡ cond b (held_by (element_at r o to) (union (sets to) given)) (sets id)
       one id e live true same =
           let here : id ≡ to = same_id id to same in
           let at : live_at o to ≡ Some e = ap (live_at o) (sym here) ∙ live in
-          ap (λ (x : Id). row (row_received (slot_of r) o rows to.0 from.0 given_row) x.0) here
+          ap (λ (x : Id). set_at (set_received (slot_of r) o rows to.0 from.0 given_row) x.0) here
           ∙ own_row sets rows to from e given_row given fit are at theirs told
       one id e live false other =
           let differ : id.0 ≢ to.0 = λ same. differs id.0 to.0 other same in
-          get_or-set_other rows to.0 id.0 (joined (slot_of r) o to.0 from.0 (row rows to.0) given_row) [] differ ∙ are.each id e live
+          get_or-set_other rows to.0 id.0 (set_joined (slot_of r) o to.0 from.0 (set_at rows to.0) given_row) [] differ ∙ are.each id e live
         where
           differs : (a b : ℕ) → nat_eq a b ≡ false → a ≡ b → ⊥
           differs a b test equal = grind (arith, nat_tests)
 
   between_rows : (sets : Sets) (rows : Rows) (subject object : Id) (movement : Movement) → AllFit p r o sets → AllowedBy p movement (element_at r o subject) (element_at r o object)
-      → AreRows o sets rows → AreRows o (moved r o subject object sets movement) (rows_between (slot_of r) o rows movement subject.0 object.0)
+      → AreRows o sets rows → AreRows o (moved r o sets (ways subject object movement)) (rows_between (slot_of r) o rows movement subject.0 object.0)
   between_rows sets rows subject object Still fit allowed are = are
   between_rows sets rows subject object ToSubject fit allowed are =
-      received_rows sets rows subject object (row rows object.0) (sets object) fit are (fit object) (are.each object)
+      received_rows sets rows subject object (set_at rows object.0) (sets object) fit are (fit object) (are.each object)
   between_rows sets rows subject object ToObject fit allowed are =
-      received_rows sets rows object subject (row rows subject.0) (sets subject) fit are (fit subject) (are.each subject)
+      received_rows sets rows object subject (set_at rows subject.0) (sets subject) fit are (fit subject) (are.each subject)
   between_rows sets rows subject object BothWays fit allowed are =
-      received_rows (received r o subject (sets object) sets) (row_received (slot_of r) o rows subject.0 object.0 (row rows object.0)) object subject (row rows subject.0) (sets subject)
+      received_rows (received r o subject (sets object) sets) (set_received (slot_of r) o rows subject.0 object.0 (set_at rows object.0)) object subject (set_at rows subject.0) (sets subject)
       (received_all p flows r o subject object (sets object) sets allowed.0 (fit object) fit)
-      (received_rows sets rows subject object (row rows object.0) (sets object) fit are (fit object) (are.each object))
+      (received_rows sets rows subject object (set_at rows object.0) (sets object) fit are (fit object) (are.each object))
       (fit subject) (are.each subject)
 
   with_rows : (sets : Sets) (rows : Rows) (movement : Movement) (subject : SubjectView) (object : Option ObjectView) → IsSubject o subject → IsObject o object
@@ -182,7 +182,7 @@ gone_at o n found rising is other = one (live_at o (record { 0 = n })) refl
         absurd (other e.id (is ∙ ap id_of first) (its_number (record { 0 = n }) e o.live live))
 
 pub absent_at : (slot : ℕ) (o : Entities) (n : ℕ) (found : Option Id) → IsRising 0 o.next o.live → found ≡ id_of (find (is_from n) o.live)
-    → ((id : Id) → found ≡ Some id → id.0 ≡ n → ⊥) → None ≡ row_element slot o n
+    → ((id : Id) → found ≡ Some id → id.0 ≡ n → ⊥) → None ≡ element_numbered slot o n
 absent_at slot o n found rising is other = sym (ap (λ (at : Option LiveEntity). element_of slot (values_of at)) (gone_at o n found rising is other))
 
 pub other_found : (n : ℕ) (id : Id) (number : ℕ) (found : Option Id) → found ≡ Some id → number ≡ id.0 → (number ≡ n → ⊥) → (x : Id) → found ≡ Some x → x.0 ≡ n → ⊥
@@ -223,11 +223,11 @@ kept_more o rows rows' rows'' n kept gone is =
         cc
 
 -- a row behind all, and those before it
-pub last_row : (rows : Rows) (new : List Elem) → row (rows ++ new ∷ []) (length rows) ≡ new
+pub last_row : (rows : Rows) (new : List Elem) → set_at (rows ++ new ∷ []) (length rows) ≡ new
 last_row [] new = refl
 last_row (x ∷ rows) new = last_row rows new
 
-pub former_row : (rows : Rows) (new : List Elem) (n : ℕ) → n < length rows → row (rows ++ new ∷ []) n ≡ row rows n
+pub former_row : (rows : Rows) (new : List Elem) (n : ℕ) → n < length rows → set_at (rows ++ new ∷ []) n ≡ set_at rows n
 former_row [] new n within = absurd (omega arith)
 former_row (x ∷ rows) new zero within = refl
 former_row (x ∷ rows) new (suc n) within = former_row rows new n (omega arith)

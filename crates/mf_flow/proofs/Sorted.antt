@@ -28,10 +28,11 @@ use Rattle.mf_core.specs.Opening.{opening_state}
 use Rattle.mf_core.specs.LegalHistory.{RunState, opening_run, next_line, run_after}
 use Rattle.mf_flow.specs.Order.{place_of, elem_cmp, union}
 use Rattle.mf_perform.specs.Passed.{passed}
-use Rattle.mf_flow.specs.Sources.{Sets, element_by, element_at, held_by, alone, is_id, received, moved, moved_by, relabels, set_after, caller_of, sets_after_line, sets_after_event, opening_sets, sets_after, sources_of}
-use Rattle.mf_flow.proofs.Across.{moved_with, moved_by_all, set_of}
+use Rattle.mf_flow.specs.Sources.{Sets, element_by, held_by, own_source, received, moved, moved_by, relabels, set_after, sets_after_line, sets_after_event, sets_after, sources_of, ways}
+use Rattle.mf_flow.proofs.Across.{moved_with, moved_by_all, set_of, element_at, is_id, opening_sets}
 use Rattle.mf_flow.specs.Dominated.{SourcesAreSorted}
 use Rattle.mf_flow.proofs.Bounds.{all_union}
+use Rattle.mf_flow.specs.Rows.{caller_of}
 
 -- each element comes before those behind it
 abbrev Ordered : List Elem → Type 0
@@ -77,7 +78,7 @@ held_ordered (Some own) set sorted = one (is_equal own)
     one true = tt
     one false = sorted
 
-alone_ordered : (element : Option Elem) → Ordered (alone element)
+alone_ordered : (element : Option Elem) → Ordered (own_source element)
 alone_ordered None = tt
 alone_ordered (Some own) = one (is_equal own)
   where
@@ -95,7 +96,7 @@ received_ordered r o to given sets theirs all id = one (is_id id to)
     one true = held_ordered (element_at r o to) (union (sets to) given) (union_ordered (sets to) given (all to) theirs)
     one false = all id
 
-moved_ordered : (r : Registration) (o : Entities) (subject object : Id) (sets : Sets) (movement : Movement) → AllOrdered sets → AllOrdered (moved r o subject object sets movement)
+moved_ordered : (r : Registration) (o : Entities) (subject object : Id) (sets : Sets) (movement : Movement) → AllOrdered sets → AllOrdered (moved r o sets (ways subject object movement))
 moved_ordered r o subject object sets Still all = all
 moved_ordered r o subject object sets ToSubject all = received_ordered r o subject (sets object) sets (all object) all
 moved_ordered r o subject object sets ToObject all = received_ordered r o object (sets subject) sets (all subject) all
@@ -117,8 +118,8 @@ after_ordered : (r : Registration) (found found' : Option LiveEntity) (relabelle
 after_ordered r None None relabelled set maker sorted makers = tt
 after_ordered r (Some old) None relabelled set maker sorted makers = tt
 after_ordered r None (Some new) relabelled set maker sorted makers =
-    held_ordered (element_by r new.label) (union (alone (element_by r new.label)) maker)
-    (union_ordered (alone (element_by r new.label)) maker (alone_ordered (element_by r new.label)) makers)
+    held_ordered (element_by r new.label) (union (own_source (element_by r new.label)) maker)
+    (union_ordered (own_source (element_by r new.label)) maker (alone_ordered (element_by r new.label)) makers)
 after_ordered r (Some old) (Some new) true set maker sorted makers = alone_ordered (element_by r new.label)
 after_ordered r (Some old) (Some new) false set maker sorted makers = sorted
 

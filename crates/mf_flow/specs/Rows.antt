@@ -23,9 +23,11 @@ use Rattle.mf_calls.specs.Tasks.{name_of}
 use Rattle.mf_plan.specs.declared.outline.Check.{Check}
 use Rattle.mf_plan.specs.declared.reply.Reply.{Reply}
 use Rattle.mf_plan.specs.declared.state.State.{State}
+use Rattle.mf_plan.specs.Names.{caller_name}
 use Rattle.mf_plan.specs.Outline.{item_of}
 use Rattle.mf_plan.specs.Plan.{plan_of, call_row}
 use Rattle.mf_plan.specs.Effect.{relabelled_by}
+use Rattle.mf_plan.specs.Views.{process_named}
 use Rattle.mf_perform.specs.OneCall.{after_reply}
 use Rattle.mf_core.specs.declared.history.Event.{Event}
 use Rattle.mf_core.specs.declared.history.Event.TheVariants as event
@@ -33,7 +35,7 @@ use Rattle.mf_core.specs.declared.history.History.{History}
 use Rattle.mf_core.specs.LegalHistory.{RunState, next_line, run_after, run_state_of}
 use Rattle.mf_flow.specs.Order.{union}
 use Rattle.mf_perform.specs.Passed.{passed}
-use Rattle.mf_flow.specs.Sources.{Sets, alone, held_by, has_element, caller_of, sources_of}
+use Rattle.mf_flow.specs.Sources.{Sets, own_source, held_by, has_element, sources_of}
 use Rattle.mf_flow.specs.declared.following.Flow.{Flow}
 
 abbrev pub Rows : Type 0
@@ -43,12 +45,12 @@ Rows = List (List Elem)
 abbrev pub element_of : ℕ → List LabelValue → Option Elem
 element_of slot label = (range_label (slice_index_or label slot Unset)).effective
 
-abbrev pub row : Rows → ℕ → List Elem
-row rows number = slice_index_or rows number []
+abbrev pub set_at : Rows → ℕ → List Elem
+set_at rows number = slice_index_or rows number []
 
 -- the effective element that the live entity of a number has in a slot
-abbrev pub element_at : ℕ → Entities → ℕ → Option Elem
-element_at slot objects number = element_of slot (label_at objects (record { 0 = number }))
+abbrev pub element_numbered : ℕ → Entities → ℕ → Option Elem
+element_numbered slot objects number = element_of slot (label_at objects (record { 0 = number }))
 
 -- whether something can come to a party of the one element from a party of the other
 abbrev pub may_come : Option Elem → Option Elem → Bool
@@ -57,22 +59,22 @@ may_come (Some to) None = false
 may_come (Some to) (Some from) = not (is_equal to)
 
 -- what a party then has, to which these elements come from another
-abbrev pub joined : ℕ → Entities → ℕ → ℕ → List Elem → List Elem → List Elem
-joined slot objects to from set given =
-    if may_come (element_at slot objects to) (element_at slot objects from) then union set given else set
+abbrev pub set_joined : ℕ → Entities → ℕ → ℕ → List Elem → List Elem → List Elem
+set_joined slot objects to from set given =
+    if may_come (element_numbered slot objects to) (element_numbered slot objects from) then union set given else set
 
 -- these elements come to the one party from the other
-abbrev pub received : ℕ → Entities → Rows → ℕ → ℕ → List Elem → Rows
-received slot objects rows to from given = slice_set rows to (joined slot objects to from (row rows to) given)
+abbrev pub set_received : ℕ → Entities → Rows → ℕ → ℕ → List Elem → Rows
+set_received slot objects rows to from given = slice_set rows to (set_joined slot objects to from (set_at rows to) given)
 
 abbrev pub exchanged : ℕ → Entities → Rows → ℕ → ℕ → Rows
 exchanged slot objects rows subject object =
-    received slot objects (received slot objects rows subject object (row rows object)) object subject (row rows subject)
+    set_received slot objects (set_received slot objects rows subject object (set_at rows object)) object subject (set_at rows subject)
 
 abbrev pub rows_between : ℕ → Entities → Rows → Movement → ℕ → ℕ → Rows
 rows_between slot objects rows Still subject object = rows
-rows_between slot objects rows ToSubject subject object = received slot objects rows subject object (row rows object)
-rows_between slot objects rows ToObject subject object = received slot objects rows object subject (row rows subject)
+rows_between slot objects rows ToSubject subject object = set_received slot objects rows subject object (set_at rows object)
+rows_between slot objects rows ToObject subject object = set_received slot objects rows object subject (set_at rows subject)
 rows_between slot objects rows BothWays subject object = exchanged slot objects rows subject object
 
 abbrev pub rows_with : ℕ → Entities → Rows → Movement → ℕ → Option ObjectView → Rows
@@ -90,11 +92,11 @@ rows_by slot objects rows check = rows_moved slot objects rows (item_of objects 
 -- the row of an entity that comes, made by a process with these sources
 abbrev pub new_row : ℕ → Option LiveEntity → List Elem → List Elem
 new_row slot None maker = []
-new_row slot (Some e) maker = held_by (element_of slot e.label) (union (alone (element_of slot e.label)) maker)
+new_row slot (Some e) maker = held_by (element_of slot e.label) (union (own_source (element_of slot e.label)) maker)
 
 abbrev pub maker_row : Rows → Option Id → List Elem
 maker_row rows None = []
-maker_row rows (Some id) = row rows id.0
+maker_row rows (Some id) = set_at rows id.0
 
 -- the rows after a call, with one more where an entity came
 abbrev pub rows_created : ℕ → ℕ → Entities → Option Id → Rows → Rows
@@ -105,11 +107,15 @@ rows_created slot next objects caller rows =
 abbrev pub rows_given : ℕ → Module → Entities → Option (Id × Request) → Rows → Rows
 rows_given slot m objects None rows = rows
 rows_given slot m objects (Some asked) rows =
-    if has_element m asked.1 then slice_set rows asked.0.0 (alone (element_at slot objects asked.0.0)) else rows
+    if has_element m asked.1 then slice_set rows asked.0.0 (own_source (element_numbered slot objects asked.0.0)) else rows
 
 -- what a call with that reply asks of whose label; one that isn't done asks nothing
 abbrev pub asked_of : State → List ℕ → Line → Reply → Option (Id × Request)
 asked_of s task line reply = after_reply reply None (relabelled_by (call_row s task line.child line.call).effect)
+
+-- the process that makes the call of a line of the task
+abbrev pub caller_of : State → List ℕ → Line → Option Id
+caller_of s task line = process_named s.objects (caller_name task line.child)
 
 abbrev pub rows_after_line : ℕ → Module → State → State → List ℕ → Option Line → Reply → Rows → Rows
 rows_after_line slot m s s' task None reply rows = rows
@@ -147,7 +153,7 @@ flow_after_event s run e f = record f { sets = rows_after_event s (slot_of f.reg
 -- the rows of live entities are the same
 pub record AreKept (o : Entities) (old new : Rows) : Type 0 where
   pub count : length new ≡ length old
-  pub each : (id : Id) (e : LiveEntity) → live_at o id ≡ Some e → row new id.0 ≡ row old id.0
+  pub each : (id : Id) (e : LiveEntity) → live_at o id ≡ Some e → set_at new id.0 ≡ set_at old id.0
 
 -- so are those of each policy
 pub record IsKept (o : Entities) (f f' : Flow) : Type 0 where
@@ -163,12 +169,12 @@ EachBecomes R fs fs' = ⊥
 -- there is a row for each id that was given, and those of live entities have their sources
 pub record AreRows (o : Entities) (sets : Sets) (rows : Rows) : Type 0 where
   pub count : length rows ≡ o.next
-  pub each : (id : Id) (e : LiveEntity) → live_at o id ≡ Some e → row rows id.0 ≡ sets id
+  pub each : (id : Id) (e : LiveEntity) → live_at o id ≡ Some e → set_at rows id.0 ≡ sets id
 
 -- there is a row for each id that was given, and those of live entities have their own elements
 pub record AreOwnRows (slot : ℕ) (o : Entities) (rows : Rows) : Type 0 where
   pub count : length rows ≡ o.next
-  pub each : (id : Id) (e : LiveEntity) → live_at o id ≡ Some e → row rows id.0 ≡ alone (element_of slot e.label)
+  pub each : (id : Id) (e : LiveEntity) → live_at o id ≡ Some e → set_at rows id.0 ≡ own_source (element_of slot e.label)
 
 -- the sources by a policy that was booted, at the opening and at the end of a history
 

@@ -9,7 +9,7 @@ ghost use Rattle.mf_calls.specs.WellFormed.{IsWellFormed};
 ghost use Rattle.mf_core.specs.LegalHistory.{run_after, MayCome};
 ghost use Rattle.mf_flow.specs.Order.{union};
 ghost use Rattle.mf_flow.specs.Rows as spec;
-ghost use Rattle.mf_flow.specs.Sources.{alone, held_by};
+ghost use Rattle.mf_flow.specs.Sources.{own_source, held_by};
 
 use crate::elem_set::ElemSet;
 use crate::moving::{move_all, passed};
@@ -52,9 +52,12 @@ pub fn follow(
     requires script { run.old.script ≡ script.now }
     requires formed { IsWellFormed script.now }
     requires may { MayCome script.now run.old.run event.now }
-    ensures run { OnOk result (run.new ≡ record { script = script.now; run = run_after script.now run.old.run event.now }) }
-    ensures flows { OnOk result (spec.EachBecomes (λ f new. spec.IsKept (run_after script.now run.old.run event.now).state.objects
-        (spec.flow_after_event script.now run.old.run event.now f) new) flows.old.items flows.new.items) }
+    ensures run { OnOk result (run.new
+        ≡ record { script = script.now; run = run_after script.now run.old.run event.now }) }
+    ensures flows { OnOk result (spec.EachBecomes
+        (λ f new. spec.IsKept (run_after script.now run.old.run event.now).state.objects
+        (spec.flow_after_event script.now run.old.run event.now f) new)
+        flows.old.items flows.new.items) }
 {
     match event {
         Event::Done(task, number, reply) => {
@@ -93,7 +96,8 @@ fn move_in_each(
     flows: &mut Vec<Flow>,
 ) -> Result<(), AllocError>
     requires { AllByRecursion spec.HasSlot flows.old.items }
-    ensures { OnOk result (spec.EachBecomes (λ f new. new ≡ spec.flow_moved objects.now (map (item_of objects.now) checks.now) f) flows.old.items flows.new.items) }
+    ensures { OnOk result (spec.EachBecomes (λ f new. new ≡ spec.flow_moved objects.now
+        (map (item_of objects.now) checks.now) f) flows.old.items flows.new.items) }
 {
     for place in 0..flows.len() {
         move_in(alloc, objects, checks, &mut flows[place])?;
@@ -108,7 +112,8 @@ fn move_in(
     flow: &mut Flow,
 ) -> Result<(), AllocError>
     requires { spec.HasSlot flow.old }
-    ensures { OnOk result (flow.new ≡ spec.flow_moved objects.now (map (item_of objects.now) checks.now) flow.old) }
+    ensures { OnOk result (flow.new ≡ spec.flow_moved objects.now
+        (map (item_of objects.now) checks.now) flow.old) }
 {
     move_all(alloc, flow.slot(), objects, &mut flow.sets, checks)
 }
@@ -124,7 +129,9 @@ fn settle_each(
     flows: &mut Vec<Flow>,
 ) -> Result<(), AllocError>
     requires { AllByRecursion spec.HasSlot flows.old.items }
-    ensures { OnOk result (spec.EachBecomes (λ f new. spec.IsKept objects.now (spec.flow_settled next objects.now caller asked.now f) new) flows.old.items flows.new.items) }
+    ensures { OnOk result (spec.EachBecomes (λ f new. spec.IsKept objects.now
+        (spec.flow_settled next objects.now caller asked.now f) new)
+        flows.old.items flows.new.items) }
 {
     for place in 0..flows.len() {
         settle(alloc, next, objects, caller, asked, &mut flows[place])?;
@@ -141,7 +148,8 @@ fn settle(
     flow: &mut Flow,
 ) -> Result<(), AllocError>
     requires { spec.HasSlot flow.old }
-    ensures { OnOk result (spec.IsKept objects.now (spec.flow_settled next objects.now caller asked.now flow.old) flow.new) }
+    ensures { OnOk result (spec.IsKept objects.now
+        (spec.flow_settled next objects.now caller asked.now flow.old) flow.new) }
 {
     let slot = flow.slot();
     create(alloc, slot, next, objects, caller, &mut flow.sets)?;
@@ -187,7 +195,8 @@ pub fn new_sources(
     maker: &[Elem],
 ) -> Result<ElemSet, AllocError>
     requires { slot < SLOTS }
-    ensures { IfOk result (λ set. set ≡ spec.new_row slot (find (is_from next) objects.now.live) maker.now) }
+    ensures { IfOk result (λ set. set ≡ spec.new_row slot
+        (find (is_from next) objects.now.live) maker.now) }
 {
     match objects.least_from(next) {
         None => Ok(ElemSet::new(alloc)),
@@ -201,7 +210,7 @@ pub fn first_sources(
     element: Option<Elem>,
     maker: &[Elem],
 ) -> Result<ElemSet, AllocError>
-    ensures { IfOk result (λ set. set ≡ held_by element (union (alone element) maker.now)) }
+    ensures { IfOk result (λ set. set ≡ held_by element (union (own_source element) maker.now)) }
 {
     match element {
         None | Some(Elem::Equal) => Ok(ElemSet::new(alloc)),

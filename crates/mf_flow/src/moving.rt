@@ -18,7 +18,7 @@ use std::alloc::{AllocError, Global};
 /// The effective element that the live entity of that number has in the slot; none where no such entity lives.
 pub fn element_at(objects: &Objects, slot: u8, number: u32) -> Option<Elem>
     requires { slot < SLOTS }
-    ensures { result ≡ rows.element_at slot objects.now number }
+    ensures { result ≡ rows.element_numbered slot objects.now number }
 {
     let _live = objects.live();
     match objects.least_from(number) {
@@ -30,7 +30,8 @@ pub fn element_at(objects: &Objects, slot: u8, number: u32) -> Option<Elem>
 /// Whether something can come to the one party from the other. One labelled equal has no sources.
 fn may_come(objects: &Objects, slot: u8, to: u32, from: u32) -> bool
     requires { slot < SLOTS }
-    ensures { result ≡ rows.may_come (rows.element_at slot objects.now to) (rows.element_at slot objects.now from) }
+    ensures { result ≡ rows.may_come (rows.element_numbered slot objects.now to)
+        (rows.element_numbered slot objects.now from) }
 {
     match element_at(objects, slot, to) {
         None | Some(Elem::Equal) => false,
@@ -49,7 +50,8 @@ fn joined(
     given: &[Elem],
 ) -> Result<Option<ElemSet>, AllocError>
     requires { slot < SLOTS }
-    ensures { IfOk result (λ new. unwrap_or new set.now ≡ rows.joined slot objects.now to from set.now given.now) }
+    ensures { IfOk result (λ new. unwrap_or new set.now
+        ≡ rows.set_joined slot objects.now to from set.now given.now) }
 {
     if has_all(set, given) || !may_come(objects, slot, to, from) {
         return Ok(None);
@@ -68,7 +70,8 @@ fn receive(
     from: u32,
 ) -> Result<(), AllocError>
     requires { slot < SLOTS }
-    ensures { OnOk result (sets.new ≡ rows.received slot objects.now sets.old to from (rows.row sets.old from)) }
+    ensures { OnOk result (sets.new ≡ rows.set_received slot objects.now sets.old to from
+        (rows.set_at sets.old from)) }
 {
     let new = joined(alloc, slot, objects, to, from, sets.at(to), sets.at(from))?;
     sets.put(to, new);
@@ -113,7 +116,8 @@ fn move_between(
     object: u32,
 ) -> Result<(), AllocError>
     requires { slot < SLOTS }
-    ensures { OnOk result (sets.new ≡ rows.rows_between slot objects.now sets.old (row_of op).movement subject object) }
+    ensures { OnOk result (sets.new ≡ rows.rows_between slot objects.now sets.old
+        (row_of op).movement subject object) }
 {
     match row_of(op).movement {
         Movement::Still => Ok(()),
@@ -175,7 +179,8 @@ pub fn move_all(
     checks: &[Check],
 ) -> Result<(), AllocError>
     requires { slot < SLOTS }
-    ensures { OnOk result (sets.new ≡ fold (rows.rows_moved slot objects.now) sets.old (map (item_of objects.now) checks.now)) }
+    ensures { OnOk result (sets.new ≡ fold (rows.rows_moved slot objects.now) sets.old
+        (map (item_of objects.now) checks.now)) }
 {
     for check in checks {
         move_by(alloc, slot, objects, sets, check)?;

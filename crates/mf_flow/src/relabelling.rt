@@ -4,7 +4,7 @@ ghost use Rattle.std.specs.Option.{option_zip};
 ghost use Rattle.mf_elem.specs.declared.label.TheConstants.{SLOTS};
 ghost use Rattle.mf_perform.specs.OneCall.{after_reply};
 ghost use Rattle.mf_flow.specs.Rows.{rows_given};
-ghost use Rattle.mf_flow.specs.Sources.{alone, has_element as has_element_for};
+ghost use Rattle.mf_flow.specs.Sources.{own_source, has_element as has_element_for};
 
 use crate::elem_set::ElemSet;
 use crate::moving::element_at;
@@ -18,7 +18,8 @@ use std::alloc::{AllocError, Global};
 
 /// What a call with that reply asks of whose label. One that isn't done asks nothing.
 pub fn asked_of(reply: &Reply, outline: &Outline) -> Option<(Id, Request)>
-    ensures { result ≡ after_reply reply.now None (option_zip outline.now.found.target outline.now.found.request) }
+    ensures { result ≡ after_reply reply.now None
+        (option_zip outline.now.found.target outline.now.found.request) }
 {
     match reply {
         Reply::Ok(_) => outline.found.target.zip(outline.found.request),
@@ -61,7 +62,7 @@ fn has_element(module: Module, request: &Request) -> bool
 
 /// A party's element, as its only source. One labelled equal has none.
 fn own_source(alloc: Global, element: Option<Elem>) -> Result<ElemSet, AllocError>
-    ensures { IfOk result (λ set. set ≡ alone element) }
+    ensures { IfOk result (λ set. set ≡ own_source element) }
 {
     match element {
         None | Some(Elem::Equal) => Ok(ElemSet::new(alloc)),

@@ -1,7 +1,7 @@
 //! The sources of all entities.
 ghost use Rattle.std.specs.Prelude.{◌≡◌, ◌<◌, false, None, [], ◌∷◌, ◌++◌, slice_set, unwrap_or, IfOk, OnOk};
 ghost use Rattle.mf_objects.specs.Live.{live_at};
-ghost use Rattle.mf_flow.specs.Rows.{AreKept, row};
+ghost use Rattle.mf_flow.specs.Rows.{AreKept, set_at};
 
 use crate::elem_set::ElemSet;
 use mf_elem::Elem;
@@ -47,7 +47,7 @@ impl SetList {
 
     /// The set of the entity of that number, which is empty where there is none.
     pub fn at(&self, number: u32) -> &[Elem]
-        ensures { result.now ≡ row self.now number }
+        ensures { result.now ≡ set_at self.now number }
     {
         match self.sets.get(number as usize) {
             None => &[],
@@ -57,7 +57,7 @@ impl SetList {
 
     /// A copy of the set of the entity of that number, which is empty where there is none.
     pub fn copy_of(&self, alloc: Global, number: u32) -> Result<ElemSet, AllocError>
-        ensures { IfOk result (λ set. set ≡ row self.now number) }
+        ensures { IfOk result (λ set. set ≡ set_at self.now number) }
     {
         match self.sets.get(number as usize) {
             None => Ok(ElemSet::new(alloc)),
@@ -67,7 +67,7 @@ impl SetList {
 
     /// Puts a new set in the place of that of the entity of that number, where there is one.
     pub fn put(&mut self, number: u32, new: Option<ElemSet>)
-        ensures { self.new ≡ slice_set self.old number (unwrap_or new (row self.old number)) }
+        ensures { self.new ≡ slice_set self.old number (unwrap_or new (set_at self.old number)) }
     {
         let place = number as usize;
         if let Some(set) = new {

@@ -1,8 +1,9 @@
 //! The table of the sources of a history.
-ghost use Rattle.std.specs.Prelude.{◌≡◌, ◌<◌, ◌++◌, [], map, IfOk, IsSome, OnOk};
+ghost use Rattle.std.specs.Prelude.{◌≡◌, ◌<◌, ◌++◌, [], find, map, IfOk, IsSome, OnOk};
 ghost use Rattle.std.specs.List.{AllByRecursion, cons_option, flat_map};
 ghost use Rattle.std.specs.Option.{option_copied};
 ghost use Rattle.mf_elem.specs.declared.label.TheConstants.{SLOTS};
+ghost use Rattle.mf_errno.specs.Same.{same_module};
 ghost use Rattle.mf_list.specs.Asked.{slot_of};
 ghost use Rattle.mf_objects.specs.Live.{live_at};
 ghost use Rattle.mf_objects.specs.Titles.{title_at};
@@ -11,7 +12,7 @@ ghost use Rattle.mf_calls.specs.WellFormed.{IsWellFormed};
 ghost use Rattle.mf_core.specs.declared.history.History.{History as HistoryValue};
 ghost use Rattle.mf_core.specs.LegalHistory.{run_state_of, IsLegal};
 ghost use Rattle.mf_flow.specs.Laws.{AreInOrder};
-ghost use Rattle.mf_flow.specs.Rows.{AreOwnRows, AreRows, IsFlowOf, IsOpening, row};
+ghost use Rattle.mf_flow.specs.Rows.{AreOwnRows, AreRows, IsFlowOf, IsOpening, set_at};
 ghost use Rattle.mf_flow.specs.Sources.{Sets};
 ghost use Rattle.mf_flow.specs.Table as spec;
 
@@ -72,7 +73,8 @@ fn push_booted(
     module: Module,
     booted: &mut Vec<Registration>,
 ) -> Result<(), AllocError>
-    ensures { OnOk result (booted.new.items ≡ booted.old.items ++ cons_option (spec.booted_as boots.now «module») []) }
+    ensures { OnOk result (booted.new.items ≡ booted.old.items ++ cons_option
+        (find (λ r. same_module «module» r.module) boots.now) []) }
 {
     if let Some(registration) = booted_as(boots, module) {
         booted.push(*registration)?;
@@ -82,7 +84,7 @@ fn push_booted(
 
 /// The registration of the module at boot.
 fn booted_as(boots: &BootList, module: Module) -> Option<&Registration>
-    ensures { option_copied result ≡ spec.booted_as boots.now «module» }
+    ensures { option_copied result ≡ find (λ r. same_module «module» r.module) boots.now }
 {
     boots
         .as_slice()
@@ -101,7 +103,8 @@ fn followed<'s>(
     requires legal { IsLegal script.now history.now }
     requires booted { booted.now ≡ spec.sourced history.now.boots }
     ensures run { IfOk result (λ r. r.0.run ≡ run_state_of script.now history.now.events.list) }
-    ensures registrations { IfOk result (λ r. map (λ flow. flow.registration) r.1.items ≡ booted.now) }
+    ensures registrations { IfOk result (λ r. map (λ flow. flow.registration) r.1.items
+        ≡ booted.now) }
     ensures flows { IfOk result (λ r. AllByRecursion (IsFlowOf script.now history.now) r.1.items) }
 {
     let mut run = Run::new(alloc, script)?;
@@ -120,7 +123,8 @@ fn opening_flows(
     objects: &Objects,
 ) -> Result<Vec<Flow>, AllocError>
     requires { AllByRecursion (λ r. slot_of r < SLOTS) booted.now }
-    ensures registrations { IfOk result (λ flows. map (λ flow. flow.registration) flows.items ≡ booted.now) }
+    ensures registrations { IfOk result (λ flows. map (λ flow. flow.registration) flows.items
+        ≡ booted.now) }
     ensures opening { IfOk result (λ flows. AllByRecursion (IsOpening objects.now) flows.items) }
 {
     let mut flows = Vec::new(alloc);
@@ -136,8 +140,10 @@ fn opening_flows(
 
 /// The rows of each policy in turn.
 fn list_flows(alloc: Global, objects: &Objects, flows: &[Flow]) -> Result<Table, AllocError>
-    ensures { (s : ScriptValue) (h : HistoryValue) → objects.now ≡ (run_state_of s h.events.list).state.objects → AllByRecursion (IsFlowOf s h) flows.now
-        → IfOk result (λ table. table ≡ flat_map (λ flow. spec.rows_for s h flow.registration) flows.now) }
+    ensures { (s : ScriptValue) (h : HistoryValue) → objects.now
+        ≡ (run_state_of s h.events.list).state.objects → AllByRecursion (IsFlowOf s h) flows.now
+        → IfOk result
+        (λ table. table ≡ flat_map (λ flow. spec.rows_for s h flow.registration) flows.now) }
 {
     let mut table = Listing::new(alloc);
     for flow in flows {
@@ -169,7 +175,8 @@ fn list_rows(
     sets: &SetList,
     table: &mut Table,
 ) -> Result<(), AllocError>
-    ensures { (flows : Sets) → AreRows objects.now flows sets.now → OnOk result (table.new ≡ table.old ++ spec.rows_in «module» objects.now flows) }
+    ensures { (flows : Sets) → AreRows objects.now flows sets.now → OnOk result
+        (table.new ≡ table.old ++ spec.rows_in «module» objects.now flows) }
 {
     let end = objects.next_id();
     let mut from = 0;
@@ -190,7 +197,13 @@ fn sources_row(
     id: Id,
 ) -> Result<Row, AllocError>
     requires { IsSome (live_at objects.now id) }
-    ensures { IfOk result (λ r. r ≡ record { «module» = «module»; id = id; title = title_at objects.now id; elements = row sets.now id.0 }) }
+    ensures { IfOk result
+        (λ r. r ≡ record {
+          «module» = «module»;
+          id = id;
+          title = title_at objects.now id;
+          elements = set_at sets.now id.0;
+        }) }
 {
     let mut text = String::new(alloc);
     objects.title(id, &mut text)?;

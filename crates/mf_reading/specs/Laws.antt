@@ -1,12 +1,12 @@
 -- What the text of a legal history of a well-formed script tells, alone and with that of its sources: this model's own.
 use Rattle.std.specs.Prelude.{◌≡◌, List, ◌++◌}
-use Rattle.std.specs.List.{AllByRecursion}
+use Rattle.std.specs.List.{AllByRecursion, flat_map}
 use Rattle.mf_calls.specs.declared.script.Script.{Script}
 use Rattle.mf_calls.specs.WellFormed.{IsWellFormed}
 use Rattle.mf_core.specs.declared.history.History.{History}
 use Rattle.mf_core.specs.LegalHistory.{IsLegal}
 use Rattle.mf_core.specs.declared.history.Event.{Event}
-use Rattle.mf_flow.specs.SourcesText.{sources_text, table_text}
+use Rattle.mf_flow.specs.SourcesText.{row_text, sources_text}
 use Rattle.mf_flow.specs.declared.table.Row.{Row}
 use Rattle.mf_hist.specs.HistoryText.{history_text}
 use Rattle.mf_hist.specs.Legal.{HasReply}
@@ -22,7 +22,7 @@ LegalHistoriesAreRead = (s : Script) (h : History) → IsWellFormed s → IsLega
 
 -- The text of a table of sources begins with no line of a history.
 abbrev pub SourcesAreNoLine : Type 0
-SourcesAreNoLine = (s : Script) (events : List Event) (rows : List Row) → IsNoLine s events (table_text rows)
+SourcesAreNoLine = (s : Script) (events : List Event) (rows : List Row) → IsNoLine s events (flat_map row_text rows)
 
 -- Where two legal histories of one well-formed script have the same whole text, their own and that of their sources, they are equal.
 abbrev pub WholeTextTellsHistory : Type 0
