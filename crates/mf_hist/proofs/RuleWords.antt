@@ -5,22 +5,16 @@ use Rattle.std.specs.List.{AllByRecursion, list_all}
 use Rattle.std.specs.Str.{bytes_eq}
 use Rattle.mf_rule.specs.declared.rule.Rule.{Rule}
 use Rattle.mf_rule.specs.RuleGrammar.{IsRule}
-use Rattle.mf_rule.proofs.RuleWords.{IsPlainWord, is_word_byte, words_are_plain, words_are_some}
+use Rattle.mf_rule.proofs.RuleWords.{IsPlainWord, is_word_byte, words_are_plain}
 pub use Rattle.mf_rule.proofs.RuleWords.{words_of, words_behind_text}
-use Rattle.mf_calls.specs.Names.{is_some_text}
-use Rattle.mf_hist.proofs.Words.{is_graphic, AreWords, both, join}
+use Rattle.mf_hist.proofs.Words.{is_graphic, AreWords, both}
+use Rattle.mf_spelled.proofs.RuleTexts.{words_of_rule as rule_words}
 use Rattle.mf_hist.proofs.Semicolons.{is_semicolon}
 
 -- words that are none of them a semicolon
 pub record AreRuleWords (ws : List (List ℕ)) : Type 0 where
   pub words : AreWords ws
   pub none : AllByRecursion (λ w. is_semicolon w ≡ false) ws
-
-graphic_words : (w : List ℕ) → list_all is_word_byte w ≡ true → list_all is_graphic w ≡ true
-graphic_words [] all = refl
-graphic_words (b ∷ w) all =
-    let each = both (is_word_byte b) (list_all is_word_byte w) all in
-    join (is_graphic b) (list_all is_graphic w) (both (is_graphic b) (not (nat_eq b 59)) each.0).0 (graphic_words w each.1)
 
 no_semicolon : (w : List ℕ) → list_all is_word_byte w ≡ true → is_semicolon w ≡ false
 no_semicolon [] all = refl
@@ -32,11 +26,9 @@ no_semicolon (b ∷ w) all =
       by_test true e = absurd cc
       by_test false e = refl
 
-rule_words : (ws : List (List ℕ)) → AllByRecursion IsPlainWord ws → AllByRecursion (λ w. is_some_text w ≡ true) ws → AreRuleWords ws
-rule_words [] plain some = record { words = tt; none = tt }
-rule_words (w ∷ ws) plain some =
-    let more = rule_words ws plain.1 some.1 in
-    record { words = (join (is_some_text w) (list_all is_graphic w) some.0 (graphic_words w plain.0), more.words); none = (no_semicolon w plain.0, more.none) }
+no_semicolons : (ws : List (List ℕ)) → AllByRecursion IsPlainWord ws → AllByRecursion (λ w. is_semicolon w ≡ false) ws
+no_semicolons [] plain = tt
+no_semicolons (w ∷ ws) plain = (no_semicolon w plain.0, no_semicolons ws plain.1)
 
 pub words_of_rule : (rule : Rule) → IsRule rule → AreRuleWords (words_of rule)
-words_of_rule rule fits = rule_words (words_of rule) (words_are_plain rule fits) (words_are_some rule fits)
+words_of_rule rule fits = record { words = rule_words rule fits; none = no_semicolons (words_of rule) (words_are_plain rule fits) }

@@ -24,7 +24,7 @@ use Rattle.mf_rule.specs.RuleList.{Slots}
 use Rattle.mf_rule.proofs.Formed.{canonical_text_reads, read_is_rule}
 use Rattle.mf_hist.specs.Lines.{AreRules}
 use Rattle.mf_hist.specs.ReplyText.{numbered_from, numbered_text}
-use Rattle.mf_hist.specs.Reading.{greatest_u32, and_then, only_if, word_by, number_of, all_added, no_rules, by_semicolons, with_rule, rules_of}
+use Rattle.mf_hist.specs.Reading.{greatest_u32, only_if, next_by, number_in_word, parts_added, no_rules, by_semicolons, with_numbered_rule, rules_behind}
 use Rattle.mf_hist.proofs.Added.{each_added}
 use Rattle.mf_hist.proofs.Words.{is_word, AreWords, behind}
 use Rattle.mf_hist.proofs.Numbers.{number_back, decimal_word}
@@ -112,42 +112,42 @@ groups r [] first all = ap (slice_split is_semicolon) (append-nil (group r)) ∙
 groups r (s ∷ rs) first all =
     slice_split_at is_semicolon (group r) (codes ";") (group s ++ flat_map numbered_words rs) (no_semicolon r first) refl ∙ ap (λ more. group r ∷ more) (groups s rs all.0 all.1)
 
-added_in_turn : (rs : List (ℕ × Rule)) → AllByRecursion IsNumbered rs → rules_of (flat_map numbered_words rs) ≡ all_added with_rule no_rules (map group rs)
-unfolding rules_of all_added
+added_in_turn : (rs : List (ℕ × Rule)) → AllByRecursion IsNumbered rs → rules_behind (flat_map numbered_words rs) ≡ parts_added with_numbered_rule no_rules (map group rs)
+unfolding rules_behind parts_added
 added_in_turn [] all = refl
-added_in_turn (r ∷ rs) all = ap (all_added with_rule no_rules) (groups r rs all.0 all.1)
+added_in_turn (r ∷ rs) all = ap (parts_added with_numbered_rule no_rules) (groups r rs all.0 all.1)
 
-one_back : (slots : Slots) (n : ℕ) (rule : Rule) → n < MAX_RULES → IsRule rule → with_rule slots (group (n, rule)) ≡ Some (set slots n (Some rule))
-unfolding with_rule and_then
+one_back : (slots : Slots) (n : ℕ) (rule : Rule) → n < MAX_RULES → IsRule rule → with_numbered_rule slots (group (n, rule)) ≡ Some (set slots n (Some rule))
+unfolding with_numbered_rule
 one_back slots n rule fits is = rw (number_back greatest_u32 n (lit< tt) (omega (arith, fits))) (rw (lt-ltb n MAX_RULES fits) (rw (canonical_text_reads rule is) refl))
 
 -- the first slots are done; the others are still free
 abbrev Fills : Slots → Slots → Type 0
-Fills front slots = all_added with_rule (front ++ replicate (length slots) None) (map group (numbered_from (length front) slots)) ≡ Some (front ++ slots)
+Fills front slots = parts_added with_numbered_rule (front ++ replicate (length slots) None) (map group (numbered_from (length front) slots)) ≡ Some (front ++ slots)
 
 one_done : (front slots : Slots) (slot : Option Rule) → Fills (front ++ slot ∷ []) slots
-    → all_added with_rule (front ++ slot ∷ replicate (length slots) None) (map group (numbered_from (length front + 1) slots)) ≡ Some (front ++ slot ∷ slots)
+    → parts_added with_numbered_rule (front ++ slot ∷ replicate (length slots) None) (map group (numbered_from (length front + 1) slots)) ≡ Some (front ++ slot ∷ slots)
 one_done front slots slot rest =
-    ap (λ begin. all_added with_rule begin (map group (numbered_from (length front + 1) slots))) (sym (append_assoc front (slot ∷ []) (replicate (length slots) None)))
-    ∙ ap (λ n. all_added with_rule ((front ++ slot ∷ []) ++ replicate (length slots) None) (map group (numbered_from n slots))) (sym (length-append front (slot ∷ [])))
+    ap (λ begin. parts_added with_numbered_rule begin (map group (numbered_from (length front + 1) slots))) (sym (append_assoc front (slot ∷ []) (replicate (length slots) None)))
+    ∙ ap (λ n. parts_added with_numbered_rule ((front ++ slot ∷ []) ++ replicate (length slots) None) (map group (numbered_from n slots))) (sym (length-append front (slot ∷ [])))
     ∙ rest ∙ ap (λ all. Some all) (append_assoc front (slot ∷ []) slots)
 
 fills : (front slots : Slots) → length front + length slots ≤ MAX_RULES → AllByRecursion (λ slot. IfSome slot IsRule) slots → Fills front slots
-unfolding all_added
+unfolding parts_added
 fills front [] fits all = refl
 fills front (None ∷ slots) fits all = one_done front slots None (fills (front ++ None ∷ []) slots (omega (arith, fits, length-append front (None ∷ []))) all.1)
 fills front (Some rule ∷ slots) fits all =
     let free = front ++ None ∷ replicate (length slots) None in
-    let put : with_rule free (group (length front, rule)) ≡ Some (front ++ Some rule ∷ replicate (length slots) None) =
+    let put : with_numbered_rule free (group (length front, rule)) ≡ Some (front ++ Some rule ∷ replicate (length slots) None) =
     one_back free (length front) rule (omega (arith, fits)) all.0 ∙ ap (λ slots. Some slots) (set-append_seam front None (replicate (length slots) None) (Some rule)) in
-    then_is (with_rule free (group (length front, rule))) (front ++ Some rule ∷ replicate (length slots) None) (λ more. all_added with_rule more (map group (numbered_from (length front + 1) slots))) put
+    then_is (with_numbered_rule free (group (length front, rule))) (front ++ Some rule ∷ replicate (length slots) None) (λ more. parts_added with_numbered_rule more (map group (numbered_from (length front + 1) slots))) put
     ∙ one_done front slots (Some rule) (fills (front ++ Some rule ∷ []) slots (omega (arith, fits, length-append front (Some rule ∷ []))) all.1)
 
-pub rules_back : (slots : Slots) → AreRules slots → rules_of (flat_map numbered_words (numbered_from 0 slots)) ≡ Some slots
+pub rules_back : (slots : Slots) → AreRules slots → rules_behind (flat_map numbered_words (numbered_from 0 slots)) ≡ Some slots
 unfolding no_rules
 rules_back slots are =
     added_in_turn (numbered_from 0 slots) (rules_are_numbered slots are)
-    ∙ ap (λ n. all_added with_rule (replicate n None) (map group (numbered_from 0 slots))) (sym are.all)
+    ∙ ap (λ n. parts_added with_numbered_rule (replicate n None) (map group (numbered_from 0 slots))) (sym are.all)
     ∙ fills [] slots (omega (arith, are.all)) are.each
 
 -- ---- what is read is a list of rules
@@ -164,10 +164,10 @@ ok_is : {A E : Type 0} (read : Result A E) (x : A) → result_ok read ≡ Some x
 ok_is (Ok y) x is = cc
 ok_is (Err e) x is = absurd cc
 
-add_fits : (before after : Slots) (ws : Words) → AreRules before → with_rule before ws ≡ Some after → AreRules after
-unfolding with_rule
+add_fits : (before after : Slots) (ws : Words) → AreRules before → with_numbered_rule before ws ≡ Some after → AreRules after
+unfolding with_numbered_rule
 add_fits before after ws are is =
-    let n = bind_some (word_by (number_of greatest_u32) ws) _ after is in
+    let n = bind_some (next_by (number_in_word greatest_u32) ws) _ after is in
     let test = bind_some (only_if (nat_lt n.0.0 MAX_RULES)) _ after n.2 in
     let rule = bind_some (result_ok (rule_in n.0.1)) _ after test.2 in
     let formed : IsRule rule.0 = read_is_rule n.0.1 rule.0 (ok_is (rule_in n.0.1) rule.0 rule.1) in
@@ -178,7 +178,7 @@ no_rules_fit : AreRules no_rules
 unfolding no_rules
 no_rules_fit = record { all = length-replicate {A = Option Rule} MAX_RULES None; each = each_replicate (λ slot. IfSome slot IsRule) MAX_RULES None tt }
 
-pub rules_fit : (ws : Words) (slots : Slots) → rules_of ws ≡ Some slots → AreRules slots
-unfolding rules_of
+pub rules_fit : (ws : Words) (slots : Slots) → rules_behind ws ≡ Some slots → AreRules slots
+unfolding rules_behind
 rules_fit [] slots is = subst AreRules (some_is no_rules slots is) no_rules_fit
-rules_fit (w ∷ ws) slots is = each_added AreRules with_rule (λ acc more w. add_fits acc more w) (by_semicolons ws) no_rules slots no_rules_fit is
+rules_fit (w ∷ ws) slots is = each_added AreRules with_numbered_rule (λ acc more w. add_fits acc more w) (by_semicolons ws) no_rules slots no_rules_fit is

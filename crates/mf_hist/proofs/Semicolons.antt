@@ -8,7 +8,8 @@ use Rattle.mf_rule.specs.RuleList.{Slots}
 use Rattle.mf_rule.specs.declared.rule_list.TheConstants.{MAX_RULES}
 use Rattle.mf_hist.specs.declared.unread.Unread.{Unread}
 use Rattle.mf_hist.specs.declared.unread.Unread.TheVariants.{NoLine, Memory}
-use Rattle.mf_hist.specs.Reading.{Fails, and_then, all_added, by_semicolons, with_rule, no_rules, rules_of, IsFront, Becomes}
+use Rattle.mf_labeltext.specs.Reading.{◌>>=◌}
+use Rattle.mf_hist.specs.Reading.{IsUnread, parts_added, by_semicolons, with_numbered_rule, no_rules, rules_behind, IsFront, Becomes}
 
 abbrev pub is_semicolon : List ℕ → Bool
 is_semicolon w = bytes_eq w (codes ";")
@@ -26,29 +27,29 @@ front_all ws front rest none end same = ap by_semicolons (same ∙ ap (λ rest. 
 abbrev pub texts : List (Bor (List ℕ)) → Words
 texts words = map (λ word. word.now) words
 
-pub adds : (more : Bool) (before after : Slots) (ws : Words) (front held : List (Bor (List ℕ))) (rest : Words) → IsFront more (texts front) ws rest → with_rule before (texts held) ≡ Some after → held ≡ front
-    → Becomes more after rest (all_added with_rule before (by_semicolons ws))
-unfolding all_added and_then
+pub adds : (more : Bool) (before after : Slots) (ws : Words) (front held : List (Bor (List ℕ))) (rest : Words) → IsFront more (texts front) ws rest → with_numbered_rule before (texts held) ≡ Some after → held ≡ front
+    → Becomes more after rest (parts_added with_numbered_rule before (by_semicolons ws))
+unfolding parts_added
 adds true before after ws front held rest parted added same =
-    let one : with_rule before (texts front) ≡ Some after = ap (λ xs. with_rule before (texts xs)) (sym same) ∙ added in
-    sym (ap (all_added with_rule before) parted.0 ∙ ap (λ found. and_then found (λ more. all_added with_rule more (by_semicolons rest))) one)
+    let one : with_numbered_rule before (texts front) ≡ Some after = ap (λ xs. with_numbered_rule before (texts xs)) (sym same) ∙ added in
+    sym (ap (parts_added with_numbered_rule before) parted.0 ∙ ap (λ found. found >>= (λ more. parts_added with_numbered_rule more (by_semicolons rest))) one)
 adds false before after ws front held rest parted added same =
-    let one : with_rule before (texts front) ≡ Some after = ap (λ xs. with_rule before (texts xs)) (sym same) ∙ added in
-    ap (all_added with_rule before) parted ∙ ap (λ found. and_then found (λ more. all_added with_rule more [])) one
+    let one : with_numbered_rule before (texts front) ≡ Some after = ap (λ xs. with_numbered_rule before (texts xs)) (sym same) ∙ added in
+    ap (parts_added with_numbered_rule before) parted ∙ ap (λ found. found >>= (λ more. parts_added with_numbered_rule more [])) one
 
 -- the first of the parts, and the others
 front_parts : (more : Bool) (ws front rest : Words) → IsFront more front ws rest → (others : List Words) × (by_semicolons ws ≡ front ∷ others)
 front_parts true ws front rest parted = (by_semicolons rest, parted.0)
 front_parts false ws front rest parted = ([], parted)
 
-pub adds_none : (unread : Unread) (more : Bool) (before : Slots) (ws : Words) (front held : List (Bor (List ℕ))) (rest : Words) → IsFront more (texts front) ws rest → Fails unread (with_rule before (texts held)) → held ≡ front
-    → Fails unread (all_added with_rule before (by_semicolons ws))
-unfolding all_added and_then
+pub adds_none : (unread : Unread) (more : Bool) (before : Slots) (ws : Words) (front held : List (Bor (List ℕ))) (rest : Words) → IsFront more (texts front) ws rest → IsUnread unread (with_numbered_rule before (texts held)) → held ≡ front
+    → IsUnread unread (parts_added with_numbered_rule before (by_semicolons ws))
+unfolding parts_added
 adds_none Memory more before ws front held rest parted fails same = tt
 adds_none NoLine more before ws front held rest parted fails same =
     let parts = front_parts more ws (texts front) rest parted in
-    let none : with_rule before (texts front) ≡ None = ap (λ xs. with_rule before (texts xs)) (sym same) ∙ fails in
-    ap (all_added with_rule before) parts.1 ∙ ap (λ found. and_then found (λ more. all_added with_rule more parts.0)) none
+    let none : with_numbered_rule before (texts front) ≡ None = ap (λ xs. with_numbered_rule before (texts xs)) (sym same) ∙ fails in
+    ap (parts_added with_numbered_rule before) parts.1 ∙ ap (λ found. found >>= (λ more. parts_added with_numbered_rule more parts.0)) none
 
 pub less_words : (more : Bool) (front ws rest : Words) → IsFront more front ws rest → more ≡ true → length rest < length ws
 less_words true front ws rest parted is = parted.1
@@ -56,11 +57,11 @@ less_words false front ws rest parted is = absurd cc
 
 -- behind the first semicolon
 pub begins : (word : Option (Bor (List ℕ))) (more : Bool) (rules : Slots) (ws rest : Words) → MatchOption word ((ws ≡ []) × (rest ≡ [])) (λ word. ws ≡ word.now ∷ rest) → more ≡ is_some word → rules ≡ replicate MAX_RULES None
-    → Becomes more rules rest (rules_of ws)
-unfolding rules_of no_rules
+    → Becomes more rules rest (rules_behind ws)
+unfolding rules_behind no_rules
 begins None true rules ws rest found is empty = absurd cc
-begins None false rules ws rest found is empty = ap rules_of found.0 ∙ ap (λ slots. Some slots) (sym empty)
-begins (Some word) true rules ws rest found is empty = ap (λ slots. all_added with_rule slots (by_semicolons rest)) empty ∙ sym (ap rules_of found)
+begins None false rules ws rest found is empty = ap rules_behind found.0 ∙ ap (λ slots. Some slots) (sym empty)
+begins (Some word) true rules ws rest found is empty = ap (λ slots. parts_added with_numbered_rule slots (by_semicolons rest)) empty ∙ sym (ap rules_behind found)
 begins (Some word) false rules ws rest found is empty = absurd cc
 
 pub fewer : (before after : Bool) (ws rest : Words) → before ≡ true → (after ≡ true → length rest < length ws) → cond after (length rest + 1) 0 < cond before (length ws + 1) 0

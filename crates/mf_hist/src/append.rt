@@ -7,7 +7,8 @@ use std::alloc::AllocError;
 
 /// Appends the texts one after another. If memory runs out, `out` is unchanged.
 pub fn append(texts: &[&str], out: &mut String) -> Result<(), AllocError>
-    ensures ok { OnOk result (string_bytes out.new ≡ string_bytes out.old ++ flat_map (λ text. text.now) texts.now) }
+    ensures ok { OnOk result (string_bytes out.new ≡ string_bytes out.old ++ flat_map
+        (λ text. text.now) texts.now) }
     ensures err { OnErr result (string_bytes out.new ≡ string_bytes out.old) }
 {
     let length = out.len();
@@ -19,7 +20,8 @@ pub fn append(texts: &[&str], out: &mut String) -> Result<(), AllocError>
 }
 
 fn push_all(texts: &[&str], out: &mut String) -> Result<(), AllocError>
-    ensures ok { OnOk result (string_bytes out.new ≡ string_bytes out.old ++ flat_map (λ text. text.now) texts.now) }
+    ensures ok { OnOk result (string_bytes out.new ≡ string_bytes out.old ++ flat_map
+        (λ text. text.now) texts.now) }
     ensures err { OnErr result (Extends (string_bytes out.old) (string_bytes out.new)) }
 {
     for text in texts {

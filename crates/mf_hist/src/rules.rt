@@ -1,8 +1,8 @@
 //! Readers of lists of rules.
-#![tactic(auto, unfolding(crate::specs::Reading::and_then))]
+#![tactic(auto)]
 
 ghost use Rattle.std.specs.Prelude.{◌≡◌, ◌<◌, IfOk, MatchResult, true, length, map};
-ghost use Rattle.mf_hist.specs.Reading.{Gives, Fails, IsFront, Becomes, all_added, by_semicolons, with_rule, rules_of};
+ghost use Rattle.mf_hist.specs.Reading.{IsRead, IsUnread, IsFront, Becomes, parts_added, by_semicolons, with_numbered_rule, rules_behind};
 
 use crate::unread::Unread;
 use crate::{Words, fields};
@@ -11,7 +11,7 @@ use std::alloc::{AllocError, Global};
 
 /// The rules behind semicolons, each under its number.
 pub fn rules(alloc: Global, words: &mut Words) -> Result<RuleList, Unread>
-    ensures { Gives (λ rules. rules) result (rules_of words.old) }
+    ensures { IsRead (λ rules. rules) result (rules_behind words.old) }
 {
     let mut rules = RuleList::new(alloc)?;
     let mut more = words.next().is_some();
@@ -26,7 +26,10 @@ pub fn rules(alloc: Global, words: &mut Words) -> Result<RuleList, Unread>
 
 /// Adds the rule in front of the next semicolon, and answers whether there is one.
 fn add_next(alloc: Global, rules: &mut RuleList, words: &mut Words) -> Result<bool, Unread>
-    ensures value { MatchResult result (λ more. Becomes more rules.new words.new (all_added with_rule rules.old (by_semicolons words.old))) (λ unread. Fails unread (all_added with_rule rules.old (by_semicolons words.old))) }
+    ensures value { MatchResult result (λ more. Becomes more rules.new words.new
+        (parts_added with_numbered_rule rules.old (by_semicolons words.old)))
+        (λ unread. IsUnread unread (parts_added with_numbered_rule rules.old
+        (by_semicolons words.old))) }
     ensures less { IfOk result (λ more. more ≡ true → length words.new < length words.old) }
 {
     let (front, more) = up_to_semicolon(alloc, words)?;
@@ -41,7 +44,8 @@ fn up_to_semicolon<'a>(
     alloc: Global,
     words: &mut Words<'a>,
 ) -> Result<(Vec<&'a str>, bool), AllocError>
-    ensures { IfOk result (λ found. IsFront found.1 (map (λ word. word.now) found.0.items) words.old words.new) }
+    ensures { IfOk result (λ found. IsFront found.1
+        (map (λ word. word.now) found.0.items) words.old words.new) }
 {
     let mut front = Vec::new(alloc);
     while let Some(word) = words.next() {
@@ -54,12 +58,13 @@ fn up_to_semicolon<'a>(
 }
 
 /// Adds the rule behind its number.
-#[tactic(auto, unfolding(crate::specs::Reading::with_rule, crate::specs::Reading::and_then))]
+#[tactic(auto, unfolding(crate::specs::Reading::with_numbered_rule))]
 fn add_rule(rules: &mut RuleList, words: &[&str]) -> Result<(), Unread>
-    ensures { Gives (λ u. rules.new) result (with_rule rules.old (map (λ word. word.now) words.now)) }
+    ensures { IsRead (λ u. rules.new) result (with_numbered_rule rules.old
+        (map (λ word. word.now) words.now)) }
 {
     let (number, words) = words.split_first().ok_or(Unread::NoLine)?;
-    let number = fields::number_of(number, u32::MAX)?;
+    let number = fields::number_in_word(number, u32::MAX)?;
     if number >= MAX_RULES {
         return Err(Unread::NoLine);
     }

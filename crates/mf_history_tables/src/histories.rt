@@ -122,6 +122,10 @@ fn shown(rt: &impl Abort, alloc: Global) -> Result<(), AllocError> {
             value: LabelValue::Range(RangeLabel::ranged(Elem::Low, Elem::Low, Elem::High)),
         },
         LabelPart {
+            module: Module::Lomac,
+            value: LabelValue::Range(RangeLabel::effective(Elem::High)),
+        },
+        LabelPart {
             module: Module::Partition,
             value: LabelValue::Number(0),
         },
@@ -129,7 +133,7 @@ fn shown(rt: &impl Abort, alloc: Global) -> Result<(), AllocError> {
     let rows = [
         (
             Reply::Ok(Payload::label(alloc, &parts)?),
-            "ok label mls/low(low-high),partition/none",
+            "ok label mls/low(low-high),lomac/high,partition/none",
         ),
         (Reply::Ok(Payload::label(alloc, &[])?), "ok label -"),
     ];
@@ -226,6 +230,7 @@ fn lines_of_a_history(rt: HostRuntime) -> Result<(), AllocError> {
 const LINES: &[&str] = &[
     "boot mac_biba 0",
     "boot mac_biba -",
+    "boot mac_lomac 1",
     "boot mac_priority 200",
     "enter t",
     "leave t",
@@ -246,6 +251,8 @@ const LINES: &[&str] = &[
     "done t 1 ok label biba/10:2+3+6(5:2+3-20:2+3+4+5+6),mls/low,partition/none",
     "done t 1 ok label biba/65535,mls/equal,partition/2147483647",
     "done t 1 ok label mls/(low-high)",
+    "done t 1 ok label lomac/high",
+    "done t 1 ok label biba/high,mls/low,lomac/5,partition/none",
     "done t 1 ok modules -",
     "done t 1 ok modules mac_biba:0,mac_partition:1",
     "done t 1 ok modules mac_bsdextended:-",
@@ -296,6 +303,10 @@ const NO_LINES: &[&str] = &[
     "done t 1 ok label biba/5:3+2",
     "done t 1 ok label biba/",
     "done t 1 ok label mls/5,biba/5",
+    "done t 1 ok label lomac/5:1",
+    "done t 1 ok label lomac/(low-high)",
+    "done t 1 ok label partition/1,lomac/5",
+    "done t 1 ok label lomac/5,lomac/5",
     "done t 1 ok label mls/5 ",
     "done t 1 ok label partition/0",
     "done t 1 ok label partition/2147483648",

@@ -1,7 +1,7 @@
 use Rattle.std.proofs.Common.{string_bytes, ap, ◌∙◌}
 use Rattle.mf_hist.proofs.Numbered.{rule_pushed, none_pushed}
-use Rattle.mf_hist.proofs.reply.push_rules.Goals as goal
-use Rattle.mf_hist.proofs.reply.push_rules.Goals.{in-Some+in_ok-push_rule, in_default}
+use Rattle.mf_hist.proofs.reply.push_each_rule.Goals as goal
+use Rattle.mf_hist.proofs.reply.push_each_rule.Goals.{in-Some+in_ok-push_rule, in_default}
 
 pub loop-number-preserved : goal.loop-number-preserved
 loop-number-preserved c =
