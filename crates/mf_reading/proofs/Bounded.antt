@@ -4,13 +4,14 @@ use Rattle.std.specs.Prelude.{IfSome, is_some}
 use Rattle.std.specs.List.{AllByRecursion}
 use Rattle.mf_errno.specs.declared.module.Module.{Module}
 use Rattle.mf_elem.specs.Bounds.{IsElement}
+use Rattle.mf_elem.specs.Label.{is_plain_label}
 use Rattle.mf_elem.specs.declared.label.LabelValue.{LabelValue}
 use Rattle.mf_elem.specs.declared.label.LabelValue.TheVariants.{Unset, Range, Number}
 use Rattle.mf_elem.specs.declared.label.RangeLabel.{RangeLabel}
 use Rattle.mf_elem.specs.declared.label.TheConstants.{LAST_PARTITION, SLOTS}
 use Rattle.mf_item.specs.declared.view.Kind.TheVariants as kinds
 use Rattle.mf_policy.specs.declared.modules.Labelling.{Labelling}
-use Rattle.mf_policy.specs.declared.modules.Labelling.TheVariants.{Nothing, Ranges, Partitions}
+use Rattle.mf_policy.specs.declared.modules.Labelling.TheVariants.{Nothing, Ranges, Elements, Partitions}
 use Rattle.mf_policy.specs.declared.registration.Registration.{Registration}
 use Rattle.mf_policy.specs.declared.spec.Spec.{Spec}
 use Rattle.mf_policy.specs.declared.spec.Spec.TheVariants as means
@@ -98,6 +99,9 @@ FitsLabelling Nothing value = Unit {0}
 FitsLabelling (Ranges process other) Unset = ⊥
 FitsLabelling (Ranges process other) (Range label) = IsWhole label
 FitsLabelling (Ranges process other) (Number n) = ⊥
+FitsLabelling (Elements element) Unset = ⊥
+FitsLabelling (Elements element) (Range label) = IsWhole label × (is_plain_label label ≡ true)
+FitsLabelling (Elements element) (Number n) = ⊥
 FitsLabelling Partitions Unset = Unit {0}
 FitsLabelling Partitions (Range label) = ⊥
 FitsLabelling Partitions (Number n) = n ≤ LAST_PARTITION

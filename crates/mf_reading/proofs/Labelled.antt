@@ -12,7 +12,7 @@ use Rattle.mf_elem.specs.declared.label.Request.{Request}
 use Rattle.mf_elem.specs.declared.label.TheConstants.{SLOTS}
 use Rattle.mf_item.specs.declared.view.Kind.{Kind}
 use Rattle.mf_policy.specs.declared.modules.Labelling.{Labelling}
-use Rattle.mf_policy.specs.declared.modules.Labelling.TheVariants.{Ranges}
+use Rattle.mf_policy.specs.declared.modules.Labelling.TheVariants.{Ranges, Elements}
 use Rattle.mf_policy.proofs.EachModule.{has_elements}
 use Rattle.mf_policy.specs.declared.labels.Origin.{Origin}
 use Rattle.mf_policy.specs.declared.labels.Origin.TheVariants.{Boot, Maker}
@@ -148,6 +148,7 @@ module _ (specs : List Entry) (given : ℕ) (few : given ≤ SLOTS) (below : All
 
 late_unset : (labels : Labelling) → (has_elements labels ≡ true → ⊥) → FitsLabelling labels Unset
 late_unset (Ranges process other) late = absurd (late refl)
+late_unset (Elements element) late = absurd (late refl)
 late_unset other late = tt
 
 new_fits : (m : Module) (booted : Bool) (given : ℕ) (label : List LabelValue) → (IsLasting m → ⊥) → IsUnsetFrom given label → Fits label (newest m booted given).0
@@ -232,38 +233,34 @@ loaded_labelled s m late labelled = record {
       (λ e unset. fewer_unset s.numbers m e.label unset) labelled.unset;
 }
 
--- what is asked of a label is a request that a label text can spell
-abbrev pub AsksRequests : Deed → Type 0
-AsksRequests by = (id : Id) (request : Request) → by.asked ≡ Some (id, request) → IsRequest request
-
-pub keeps_labelled : {by : Deed} (s s' : State) → StateChange by s s' → AsksRequests by → AreListed s → AreLabelled s → AreLabelled s'
-keeps_labelled s s' (same is) asks listed labelled = subst AreLabelled (sym is) labelled
-keeps_labelled s s' (created from maker name what own live process is) asks listed labelled =
+pub keeps_labelled : {by : Deed} (s s' : State) → StateChange by s s' → AreListed s → AreLabelled s → AreLabelled s'
+keeps_labelled s s' (same is) listed labelled = subst AreLabelled (sym is) labelled
+keeps_labelled s s' (created from maker name what own live process is) listed labelled =
     subst AreLabelled (sym is) (created_labelled s from maker name what live listed labelled)
-keeps_labelled s s' (changed change id kind is) asks listed labelled =
+keeps_labelled s s' (changed change id kind is) listed labelled =
     subst AreLabelled (sym is)
     (record {
       fit = labels_changed (AllFit s.specs) change id s.objects.live labelled.fit;
       unset = labels_changed (IsUnsetFrom s.numbers) change id s.objects.live labelled.unset;
     })
-keeps_labelled s s' (relabels id e request asked live allowed is) asks listed labelled =
-    subst AreLabelled (sym is) (request_labelled s id e request (asks id request asked) live listed labelled)
-keeps_labelled s s' (removed gone is) asks listed labelled =
+keeps_labelled s s' (relabels id e request asked live allowed is) listed labelled =
+    subst AreLabelled (sym is) (request_labelled s id e request allowed.spelled live listed labelled)
+keeps_labelled s s' (removed gone is) listed labelled =
     subst AreLabelled (sym is)
     (record {
       fit = all_kept (λ (e : LiveEntity). AllFit s.specs e.label) (λ e. not (gone e)) s.objects.live labelled.fit;
       unset = all_kept (λ (e : LiveEntity). IsUnsetFrom s.numbers e.label) (λ e. not (gone e)) s.objects.live labelled.unset;
     })
-keeps_labelled s s' (loaded m none is) asks listed labelled =
+keeps_labelled s s' (loaded m none is) listed labelled =
     subst AreLabelled (sym is) (loaded_labelled s m (no_late s m listed.booted none) labelled)
-keeps_labelled s s' (unloaded m ok is) asks listed labelled =
+keeps_labelled s s' (unloaded m ok is) listed labelled =
     subst AreLabelled (sym is)
     (record {
       fit = all_from (λ (e : LiveEntity). AllFit s.specs e.label) (λ (e : LiveEntity). AllFit (entries_without m s.specs) e.label) s.objects.live
           (λ e fits. all_without (λ x. Fits e.label x.0) m s.specs fits) labelled.fit;
       unset = labelled.unset;
     })
-keeps_labelled s s' (set_to m change is) asks listed labelled =
+keeps_labelled s s' (set_to m change is) listed labelled =
     subst AreLabelled (sym is)
     (record {
       fit = all_from (λ (e : LiveEntity). AllFit s.specs e.label) (λ (e : LiveEntity). AllFit (change_in m change s.specs).1 e.label) s.objects.live

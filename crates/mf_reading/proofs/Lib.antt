@@ -9,7 +9,6 @@ mod Holding
 mod Rules
 mod Effects
 mod Values
-mod Requests
 mod Listed
 mod Labelled
 mod Openings

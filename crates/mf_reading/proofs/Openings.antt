@@ -87,7 +87,7 @@ booted_once s formed =
 
 few_numbers : (s : Script) → IsWellFormed s → fold given_after 0 s.boots ≤ SLOTS
 few_numbers s formed =
-    let few : fold given_after 0 (take (length s.boots) s.boots) ≤ 3 = few_given s.boots (length s.boots) formed.boots in
+    let few : fold given_after 0 (take (length s.boots) s.boots) ≤ 4 = few_given s.boots (length s.boots) formed.boots in
     omega (arith, few, ap (fold given_after 0) (whole s.boots))
 
 opening_listed : (s : Script) → IsWellFormed s → AreListed (opening_state s)
@@ -141,7 +141,7 @@ module _ (listed : List Entry) (given : ℕ) (few : given ≤ SLOTS) (below : Al
       each = (record { held = root_data; named = λ dir entry. cc }, tt);
     };
     count = omega arith;
-    fit = (booted_fit listed given few below single kinds.Vnode no_request (record { biba = tt; mls = tt; partition = tt }), tt);
+    fit = (booted_fit listed given few below single kinds.Vnode no_request (record { biba = tt; mls = tt; lomac = tt; partition = tt }), tt);
     unset = (new_unset listed given few below single kinds.Vnode (Boot no_request), tt);
   }
 

@@ -36,7 +36,6 @@ use Rattle.mf_reading.proofs.Labelled.{keeps_labelled}
 use Rattle.mf_reading.proofs.Listed.{keeps_listed}
 use Rattle.mf_reading.proofs.Openings.{opening_bounded}
 use Rattle.mf_reading.proofs.Replies.{reply_fits}
-use Rattle.mf_reading.proofs.Requests.{step_requests}
 
 -- One call
 
@@ -58,7 +57,7 @@ module _ (s : State) (task : List ℕ) (child : Option (List ℕ)) (c : Call) (f
         holds = step_holds bounded.holds;
         listed = keeps_listed s (call_state s task child c) shape bounded.listed;
         once = step_once s task bounded.once child c;
-        labelled = keeps_labelled s (call_state s task child c) shape (step_requests s task child c) bounded.listed bounded.labelled;
+        labelled = keeps_labelled s (call_state s task child c) shape bounded.listed bounded.labelled;
       }
 
 -- Lines

@@ -1,9 +1,10 @@
 -- What a policy puts into its slot fits its labelling: at boot, of a new entity's maker, and by a relabel.
 use Rattle.std.specs.Option.{option_map_or, option_or}
 use Rattle.std.proofs.Common.{◌≡◌, ℕ, ◌≤◌, Bool, true, false, cond, ◌&&◌, if◌then◌else◌, nat_eq, Option, Some, None, refl, arith}
-use Rattle.std.proofs.lemmas.Bool.{and_parts}
-use Rattle.std.specs.Prelude.{IfSome, is_some, unwrap_or}
+use Rattle.std.proofs.lemmas.Bool.{and_from, and_parts}
+use Rattle.std.specs.Prelude.{IfSome, is_none, is_some, option_map, unwrap_or}
 use Rattle.mf_errno.specs.declared.module.Module.{Module}
+use Rattle.mf_errno.specs.declared.module.Module.TheVariants.{Lomac}
 use Rattle.mf_errno.proofs.Modules.{each_passes}
 use Rattle.mf_elem.specs.Bounds.{IsAskedLabel, IsElement, IsRequest}
 use Rattle.mf_elem.specs.declared.elem.Elem.{Elem}
@@ -13,11 +14,12 @@ use Rattle.mf_elem.specs.declared.label.LabelValue.TheVariants.{Unset, Range, Nu
 use Rattle.mf_elem.specs.declared.label.RangeLabel.{RangeLabel}
 use Rattle.mf_elem.specs.declared.label.Request.{Request}
 use Rattle.mf_elem.specs.declared.label.TheConstants.{LAST_PARTITION}
-use Rattle.mf_elem.specs.Label.{replaced}
+use Rattle.mf_elem.specs.Elem.{is_plain}
+use Rattle.mf_elem.specs.Label.{element_alone, is_plain_label, replaced}
 use Rattle.mf_item.specs.declared.view.Kind.{Kind}
 use Rattle.mf_item.specs.declared.view.Kind.TheVariants as kinds
 use Rattle.mf_policy.specs.declared.modules.Labelling.{Labelling}
-use Rattle.mf_policy.specs.declared.modules.Labelling.TheVariants.{Nothing, Ranges, Partitions}
+use Rattle.mf_policy.specs.declared.modules.Labelling.TheVariants.{Nothing, Ranges, Elements, Partitions}
 use Rattle.mf_policy.specs.Modules.{boot_by, boot_value, default_range, facts_of, has_partition, inherited, inherited_by, labels_by, number_asked, partition_of, range_asked}
 use Rattle.mf_policy.specs.Relabelled.{after_by, value_after}
 use Rattle.mf_policy.proofs.EachModule.{number_spelled, range_spelled}
@@ -42,6 +44,36 @@ replaced_whole label (Some asked) whole fits = record {
   there = some_or asked.effective label.effective whole.there;
 }
 
+-- Labels of elements
+
+-- what is asked of such a policy is an element without compartments, and no range
+abbrev PlainAsked : Labelling → Option RangeLabel → Type 0
+PlainAsked (Elements element) asked = IfSome asked (λ label. is_plain_label label ≡ true)
+PlainAsked other asked = Unit {0}
+
+plain_spelled : (m : Module) (request : Request) → IsRequest request → PlainAsked (facts_of m).labels (range_asked m request)
+plain_spelled Lomac request is = one request.lomac is.lomac
+  where
+    one : (asked : Option Elem) → IfSome asked (λ element. IsElement element × (is_plain element ≡ true))
+        → IfSome (option_map element_alone asked) (λ label. is_plain_label label ≡ true)
+    one None plain = tt
+    one (Some element) plain = and_from (is_plain element) true plain.1 refl
+plain_spelled other request is = tt
+
+-- with what is asked in the place of its parts
+replaced_plain : (label : RangeLabel) (asked : Option RangeLabel) → is_plain_label label ≡ true → IfSome asked (λ label. is_plain_label label ≡ true)
+    → is_plain_label (replaced label asked) ≡ true
+replaced_plain label None own plain = own
+replaced_plain label (Some asked) own plain = by_parts asked.effective asked.range plain
+  where
+    by_parts : (effective : Option Elem) (range : Option (Elem × Elem)) → option_map_or is_plain effective false && is_none range ≡ true
+        → option_map_or is_plain (option_or effective label.effective) false && is_none (option_or range label.range) ≡ true
+    by_parts None range plain = cc
+    by_parts (Some element) (Some ends) plain = let never : false ≡ true = (and_parts (is_plain element) false plain).1 in cc
+    by_parts (Some element) None plain =
+        and_from (is_plain element) (is_none label.range) (and_parts (is_plain element) true plain).0
+        (and_parts (option_map_or is_plain label.effective false) (is_none label.range) own).1
+
 -- At boot
 
 -- whether the element has a name, and so no grade
@@ -60,6 +92,11 @@ element_named (Grade grade comps) named = cc
 element_named Low named = tt
 element_named High named = tt
 element_named Equal named = tt
+
+named_plain : (element : Elem) → is_named_element element ≡ true → is_plain element ≡ true
+unfolding is_named_element
+named_plain (Grade grade comps) named = cc
+named_plain other named = refl
 
 label_named : (label : RangeLabel) → is_named_label label ≡ true → IsWhole label
 unfolding is_named_label
@@ -82,17 +119,18 @@ label_named label named =
 -- the labels at boot have no grades
 are_named : Labelling → Bool
 are_named (Ranges process other) = is_named_label process && is_named_label other
+are_named (Elements element) = is_named_element element
 are_named other = true
 
 all_named : (m : Module) → are_named (facts_of m).labels ≡ true
 unfolding are_named is_named_label is_named_element
 all_named = each_passes (λ m. are_named (facts_of m).labels) refl
 
-booted_fits : (labels : Labelling) (kind : Kind) (range : Option RangeLabel) (number : Option ℕ) → are_named labels ≡ true → IfSome range IsAskedLabel
+booted_fits : (labels : Labelling) (kind : Kind) (range : Option RangeLabel) (number : Option ℕ) → are_named labels ≡ true → IfSome range IsAskedLabel → PlainAsked labels range
     → IfSome number (λ n. n ≤ LAST_PARTITION) → FitsLabelling labels (if labels_by labels kind then boot_by labels kind range number else Unset)
 unfolding are_named
-booted_fits Nothing kind range number named fits few = tt
-booted_fits (Ranges process other) kind range number named fits few =
+booted_fits Nothing kind range number named fits plain few = tt
+booted_fits (Ranges process other) kind range number named fits plain few =
     let both = and_parts (is_named_label process) (is_named_label other) named in
     replaced_whole (default_range kind process other) range (by_kind kind (label_named process both.0) (label_named other both.1)) fits
   where
@@ -101,7 +139,11 @@ booted_fits (Ranges process other) kind range number named fits few =
     by_kind kinds.Vnode one rest = rest
     by_kind kinds.Pipe one rest = rest
     by_kind kinds.Socket one rest = rest
-booted_fits Partitions kind range number named fits few = by_test (has_partition kind)
+booted_fits (Elements element) kind range number named fits plain few = (
+  replaced_whole (element_alone element) range (record { effective = element_named element named; range = tt; there = refl }) fits,
+  replaced_plain (element_alone element) range (and_from (is_plain element) true (named_plain element named) refl) plain,
+)
+booted_fits Partitions kind range number named fits plain few = by_test (has_partition kind)
   where
     by_number : (number : Option ℕ) → IfSome number (λ n. n ≤ LAST_PARTITION) → unwrap_or number 0 ≤ LAST_PARTITION
     by_number None few = omega arith
@@ -113,13 +155,17 @@ booted_fits Partitions kind range number named fits few = by_test (has_partition
 
 pub boot_fits : (m : Module) (kind : Kind) (request : Request) → IsRequest request → FitsLabelling (facts_of m).labels (boot_value m kind request)
 boot_fits m kind request is =
-    booted_fits (facts_of m).labels kind (range_asked m request) (number_asked m request) (all_named m) (range_spelled m request is) (number_spelled m request is)
+    booted_fits (facts_of m).labels kind (range_asked m request) (number_asked m request) (all_named m) (range_spelled m request is) (plain_spelled m request is) (number_spelled m request is)
 
 -- At creation
 
 -- without the range
 alone_whole : (label : RangeLabel) → IsWhole label → IsWhole (record label { range = None })
 alone_whole label whole = record { effective = whole.effective; range = tt; there = whole.there }
+
+alone_plain : (label : RangeLabel) → is_plain_label label ≡ true → is_plain_label (record label { range = None }) ≡ true
+alone_plain label plain =
+    and_from (option_map_or is_plain label.effective false) true (and_parts (option_map_or is_plain label.effective false) (is_none label.range) plain).0 refl
 
 created_fits : (labels : Labelling) (kind : Kind) (value : LabelValue) → FitsLabelling labels value
     → FitsLabelling labels (if labels_by labels kind then inherited_by labels kind value else Unset)
@@ -130,6 +176,12 @@ created_fits (Ranges process other) kinds.Process (Range label) fits = fits
 created_fits (Ranges process other) kinds.Vnode (Range label) fits = alone_whole label fits
 created_fits (Ranges process other) kinds.Pipe (Range label) fits = alone_whole label fits
 created_fits (Ranges process other) kinds.Socket (Range label) fits = alone_whole label fits
+created_fits (Elements element) kind Unset fits = absurd fits
+created_fits (Elements element) kind (Number n) fits = absurd fits
+created_fits (Elements element) kinds.Process (Range label) fits = fits
+created_fits (Elements element) kinds.Vnode (Range label) fits = (alone_whole label fits.0, alone_plain label fits.1)
+created_fits (Elements element) kinds.Pipe (Range label) fits = (alone_whole label fits.0, alone_plain label fits.1)
+created_fits (Elements element) kinds.Socket (Range label) fits = (alone_whole label fits.0, alone_plain label fits.1)
 created_fits Partitions kind value fits = by_test (has_partition kind)
   where
     by_value : (value : LabelValue) → FitsLabelling Partitions value → FitsLabelling Partitions (Number (partition_of value))
@@ -146,15 +198,20 @@ inherited_fits m kind value fits = created_fits (facts_of m).labels kind value f
 
 -- By a relabel
 
-after_fits : (labels : Labelling) (range : Option RangeLabel) (number : Option ℕ) (value : LabelValue) → IfSome range IsAskedLabel
+after_fits : (labels : Labelling) (range : Option RangeLabel) (number : Option ℕ) (value : LabelValue) → IfSome range IsAskedLabel → PlainAsked labels range
     → IfSome number (λ n. n ≤ LAST_PARTITION) → FitsLabelling labels value → FitsLabelling labels (after_by labels range number value)
-after_fits Nothing range number value is few fits = fits
-after_fits (Ranges process other) None number value is few fits = fits
-after_fits (Ranges process other) (Some asked) number Unset is few fits = absurd fits
-after_fits (Ranges process other) (Some asked) number (Range label) is few fits = replaced_whole label (Some asked) fits is
-after_fits (Ranges process other) (Some asked) number (Number n) is few fits = absurd fits
-after_fits Partitions range None value is few fits = fits
-after_fits Partitions range (Some n) value is few fits = one (nat_eq n 0)
+after_fits Nothing range number value is plain few fits = fits
+after_fits (Ranges process other) None number value is plain few fits = fits
+after_fits (Ranges process other) (Some asked) number Unset is plain few fits = absurd fits
+after_fits (Ranges process other) (Some asked) number (Range label) is plain few fits = replaced_whole label (Some asked) fits is
+after_fits (Ranges process other) (Some asked) number (Number n) is plain few fits = absurd fits
+after_fits (Elements element) None number value is plain few fits = fits
+after_fits (Elements element) (Some asked) number Unset is plain few fits = absurd fits
+after_fits (Elements element) (Some asked) number (Range label) is plain few fits =
+    (replaced_whole label (Some asked) fits.0 is, replaced_plain label (Some asked) fits.1 plain)
+after_fits (Elements element) (Some asked) number (Number n) is plain few fits = absurd fits
+after_fits Partitions range None value is plain few fits = fits
+after_fits Partitions range (Some n) value is plain few fits = one (nat_eq n 0)
   where
     one : (b : Bool) → FitsLabelling Partitions (cond b value (Number n))
     one true = fits
@@ -163,4 +220,4 @@ after_fits Partitions range (Some n) value is few fits = one (nat_eq n 0)
 pub relabelled_fits : (m : Module) (request : Request) (value : LabelValue) → IsRequest request → FitsLabelling (facts_of m).labels value
     → FitsLabelling (facts_of m).labels (value_after m request value)
 relabelled_fits m request value is fits =
-    after_fits (facts_of m).labels (range_asked m request) (number_asked m request) value (range_spelled m request is) (number_spelled m request is) fits
+    after_fits (facts_of m).labels (range_asked m request) (number_asked m request) value (range_spelled m request is) (plain_spelled m request is) (number_spelled m request is) fits
