@@ -81,11 +81,11 @@ impl Lattice for Biba {
         errno_unless(privileged(label), Errno::Eperm)
     }
 
-    fn take(_subject: &Elem, label: &RangeLabel, asked: &RangeLabel) -> Errno {
+    fn relabel_credential(_subject: &Elem, label: &RangeLabel, asked: &RangeLabel) -> Errno {
         credential_relabel(label, asked)
     }
 
-    fn give(_subject: &Elem, label: &RangeLabel, old: &Elem, asked: &RangeLabel) -> Errno {
+    fn relabel_object(_subject: &Elem, label: &RangeLabel, old: &Elem, asked: &RangeLabel) -> Errno {
         object_relabel(label, old, asked)
     }
 }

@@ -1,4 +1,5 @@
--- What a script says of its tasks by their numbers, nothing where there is none of a number, and which calls are changes, which wait until no entry is open: this model's own.
+-- What a script says of its tasks by their numbers, nothing where there is none of a number, and which calls are changes, which wait until no
+-- entry is open: this model's own.
 use Rattle.std.specs.Prelude.{ℕ, Bool, true, false, List, [], Option, unwrap_or, option_map, slice_get}
 use Rattle.std.specs.List.{position}
 use Rattle.std.specs.Str.{bytes_eq}

@@ -12,7 +12,7 @@ use Rattle.mf_objects.specs.Live.{Entities, label_at, live_at}
 use Rattle.mf_calls.specs.declared.script.Script.{Script}
 use Rattle.mf_plan.specs.declared.state.State.{State}
 use Rattle.mf_core.specs.Opening.{opening_state}
-use Rattle.mf_flow.specs.Sources.{Sets, element_by, has_element, moved, moved_by, own_source, set_after, ways}
+use Rattle.mf_flow.specs.Sources.{Sets, element_by, has_element, moved, moved_by, own_source, set_after, moves_between}
 
 abbrev pub is_id : Id → Id → Bool
 is_id id other = id.0 == other.0
@@ -27,7 +27,7 @@ opening_sets s r = λ id. own_source (element_at r (opening_state s).objects id)
 
 -- what moves between a subject and an object, where there is one
 abbrev pub moved_with : Registration → Entities → Id → Option ObjectView → Sets → Movement → Sets
-moved_with r objects subject object sets movement = option_map_or (λ object. moved r objects sets (ways subject (record { 0 = object.id }) movement)) object sets
+moved_with r objects subject object sets movement = option_map_or (λ object. moved r objects sets (moves_between subject (record { 0 = object.id }) movement)) object sets
 
 -- the sources after some checks that passed
 abbrev pub moved_by_all : Registration → Entities → Sets → List Item → Sets

@@ -26,7 +26,7 @@ use Rattle.mf_objects.proofs.Rising.{id_is}
 use Rattle.mf_objects.proofs.Finding.{find_before, find_given}
 use Rattle.mf_flow.specs.Order.{union}
 use Rattle.mf_flow.specs.Rows.{AreKept, AreRows, Rows, set_at, element_of, element_numbered, may_come, set_joined, set_received, rows_between, rows_with, rows_moved}
-use Rattle.mf_flow.specs.Sources.{Sets, element_by, held_by, received, moved, moved_by, ways}
+use Rattle.mf_flow.specs.Sources.{Sets, element_by, held_by, received, moved, moved_by, moves_between}
 use Rattle.mf_flow.proofs.Across.{moved_with, moved_by_all, element_at, is_id}
 use Rattle.mf_flow.proofs.Orders.{IsFlowPolicy}
 use Rattle.mf_flow.proofs.Bounds.{Fit, FitBy, AllowedBy, allows}
@@ -91,7 +91,7 @@ module _ (p : LatticePolicy) (flows : IsFlowPolicy p) (r : Registration) (o : En
           differs a b test equal = grind (arith, nat_tests)
 
   between_rows : (sets : Sets) (rows : Rows) (subject object : Id) (movement : Movement) → AllFit p r o sets → AllowedBy p movement (element_at r o subject) (element_at r o object)
-      → AreRows o sets rows → AreRows o (moved r o sets (ways subject object movement)) (rows_between (slot_of r) o rows movement subject.0 object.0)
+      → AreRows o sets rows → AreRows o (moved r o sets (moves_between subject object movement)) (rows_between (slot_of r) o rows movement subject.0 object.0)
   between_rows sets rows subject object Still fit allowed are = are
   between_rows sets rows subject object ToSubject fit allowed are =
       received_rows sets rows subject object (set_at rows object.0) (sets object) fit are (fit object) (are.each object)

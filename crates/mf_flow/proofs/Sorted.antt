@@ -28,7 +28,7 @@ use Rattle.mf_core.specs.Opening.{opening_state}
 use Rattle.mf_core.specs.LegalHistory.{RunState, opening_run, next_line, run_after}
 use Rattle.mf_flow.specs.Order.{place_of, elem_cmp, union}
 use Rattle.mf_perform.specs.Passed.{passed}
-use Rattle.mf_flow.specs.Sources.{Sets, element_by, held_by, own_source, received, moved, moved_by, relabels, set_after, sets_after_line, sets_after_event, sets_after, sources_of, ways}
+use Rattle.mf_flow.specs.Sources.{Sets, element_by, held_by, own_source, received, moved, moved_by, relabels, set_after, sets_after_line, sets_after_event, sets_after, sources_of, moves_between}
 use Rattle.mf_flow.proofs.Across.{moved_with, moved_by_all, set_of, element_at, is_id, opening_sets}
 use Rattle.mf_flow.specs.Dominated.{SourcesAreSorted}
 use Rattle.mf_flow.proofs.Bounds.{all_union}
@@ -96,7 +96,7 @@ received_ordered r o to given sets theirs all id = one (is_id id to)
     one true = held_ordered (element_at r o to) (union (sets to) given) (union_ordered (sets to) given (all to) theirs)
     one false = all id
 
-moved_ordered : (r : Registration) (o : Entities) (subject object : Id) (sets : Sets) (movement : Movement) → AllOrdered sets → AllOrdered (moved r o sets (ways subject object movement))
+moved_ordered : (r : Registration) (o : Entities) (subject object : Id) (sets : Sets) (movement : Movement) → AllOrdered sets → AllOrdered (moved r o sets (moves_between subject object movement))
 moved_ordered r o subject object sets Still all = all
 moved_ordered r o subject object sets ToSubject all = received_ordered r o subject (sets object) sets (all object) all
 moved_ordered r o subject object sets ToObject all = received_ordered r o object (sets subject) sets (all subject) all

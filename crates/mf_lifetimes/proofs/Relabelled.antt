@@ -96,10 +96,10 @@ plain_after element kind (Some asked) (Range label) plain valid = plain_replaced
 
 -- it answers to relabels by the rules for these
 abbrev TakesByRule : LatticePolicy → Type 0
-TakesByRule policy = (subject : Elem) (label asked : RangeLabel) → policy.take subject label asked ≡ credential_relabel label asked
+TakesByRule policy = (subject : Elem) (label asked : RangeLabel) → policy.relabel_credential subject label asked ≡ credential_relabel label asked
 
 abbrev GivesByRule : LatticePolicy → Type 0
-GivesByRule policy = (subject : Elem) (label : RangeLabel) (old : Elem) (asked : RangeLabel) → policy.give subject label old asked ≡ object_relabel label old asked
+GivesByRule policy = (subject : Elem) (label : RangeLabel) (old : Elem) (asked : RangeLabel) → policy.relabel_object subject label old asked ≡ object_relabel label old asked
 
 module _ (process other : RangeLabel) (policy : LatticePolicy) (take : TakesByRule policy) (give : GivesByRule policy) where
   -- its own relabel, which the policy allows, leaves a process's label

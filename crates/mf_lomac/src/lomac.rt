@@ -82,11 +82,11 @@ impl Lattice for Lomac {
         Errno::Success
     }
 
-    fn take(subject: &Elem, _label: &RangeLabel, asked: &RangeLabel) -> Errno {
+    fn relabel_credential(subject: &Elem, _label: &RangeLabel, asked: &RangeLabel) -> Errno {
         errno_unless(may_assign(subject, &asked.effective), Errno::Eperm)
     }
 
-    fn give(subject: &Elem, _label: &RangeLabel, old: &Elem, asked: &RangeLabel) -> Errno {
+    fn relabel_object(subject: &Elem, _label: &RangeLabel, old: &Elem, asked: &RangeLabel) -> Errno {
         let may_give = dominates(subject, old) && may_assign(subject, &asked.effective);
         errno_unless(may_give, Errno::Eperm)
     }

@@ -37,8 +37,8 @@ pub record AnswersAs (m : Module) : Type 0 where
   pub policy : LatticePolicy
   pub part : (request : Request) → policy.part request ≡ range_asked m request
   pub answers : (slot : ℕ) (item : Item) → answer (fresh_of m) slot item ≡ lattice_answer policy slot item
-  pub take : has_ranges (facts_of m).labels ≡ true → (subject : Elem) (label asked : RangeLabel) → policy.take subject label asked ≡ credential_relabel label asked
-  pub give : has_ranges (facts_of m).labels ≡ true → (subject : Elem) (label : RangeLabel) (old : Elem) (asked : RangeLabel) → policy.give subject label old asked ≡ object_relabel label old asked
+  pub take : has_ranges (facts_of m).labels ≡ true → (subject : Elem) (label asked : RangeLabel) → policy.relabel_credential subject label asked ≡ credential_relabel label asked
+  pub give : has_ranges (facts_of m).labels ≡ true → (subject : Elem) (label : RangeLabel) (old : Elem) (asked : RangeLabel) → policy.relabel_object subject label old asked ≡ object_relabel label old asked
 
 pub answers_as : (m : Module) → has_elements (facts_of m).labels ≡ true → AnswersAs m
 answers_as Biba elements =

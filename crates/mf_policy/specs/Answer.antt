@@ -39,9 +39,9 @@ pub record LatticePolicy : Type 0 where
   -- the answer to a subject of this label that loads or unloads modules
   pub guard_modules : RangeLabel → Errno
   -- the answer to a subject of this element and label that asks for that label of its own
-  pub take : Elem → RangeLabel → RangeLabel → Errno
+  pub relabel_credential : Elem → RangeLabel → RangeLabel → Errno
   -- the answer to it where it asks for that label of an object, whose element is the old one so far
-  pub give : Elem → RangeLabel → Elem → RangeLabel → Errno
+  pub relabel_object : Elem → RangeLabel → Elem → RangeLabel → Errno
 
 -- success where the test holds, else the error
 abbrev pub errno_unless : Bool → Errno → Errno
@@ -56,8 +56,8 @@ biba =
       may_modify = λ subject object. dominates subject object;
       part = range_asked modules.Biba;
       guard_modules = λ label. errno_unless (is_privileged label) Eperm;
-      take = λ subject label asked. credential_relabel label asked;
-      give = λ subject label old asked. object_relabel label old asked;
+      relabel_credential = λ subject label asked. credential_relabel label asked;
+      relabel_object = λ subject label old asked. object_relabel label old asked;
     }
 
 -- confidentiality: one reads down and writes up, and everybody loads modules; relabels are as for Biba
@@ -83,8 +83,8 @@ lomac =
       may_modify = λ subject object. dominates subject object;
       part = range_asked modules.Lomac;
       guard_modules = λ label. Success;
-      take = λ subject label asked. errno_unless (may_assign subject asked.effective) Eperm;
-      give = λ subject label old asked. errno_unless (dominates subject old && may_assign subject asked.effective) Eperm;
+      relabel_credential = λ subject label asked. errno_unless (may_assign subject asked.effective) Eperm;
+      relabel_object = λ subject label old asked. errno_unless (dominates subject old && may_assign subject asked.effective) Eperm;
     }
 
 -- a label with nothing in it
@@ -116,10 +116,10 @@ element_answer test may_observe may_modify same_level = Success
 -- the subject alone, the relabel of an object, and the tests of elements.
 abbrev pub labels_answer : LatticePolicy → Test → RangeLabel → RangeLabel → Option Elem → Option Elem → Errno
 labels_answer policy test label asked None object = Success
-labels_answer policy RelabelCredential label asked (Some subject) object = policy.take subject label asked
+labels_answer policy RelabelCredential label asked (Some subject) object = policy.relabel_credential subject label asked
 labels_answer policy GuardModules label asked (Some subject) object = policy.guard_modules label
 labels_answer policy test label asked (Some subject) None = Success
-labels_answer policy RelabelObject label asked (Some subject) (Some object) = policy.give subject label object asked
+labels_answer policy RelabelObject label asked (Some subject) (Some object) = policy.relabel_object subject label object asked
 labels_answer policy test label asked (Some subject) (Some object) =
     element_answer test (policy.may_observe subject object) (policy.may_modify subject object) (same_level subject object)
 

@@ -1,4 +1,4 @@
--- The label of a new entity, at boot and at creation, as mac_biba(4) and mac_mls(4) have it; that pipes, sockets and files have the maker's
+-- The label of a new entity, at boot and at creation, as mac_biba(4), mac_mls(4) and mac_lomac(4) have it; that pipes, sockets and files have the maker's
 -- effective element alone is the manner of FreeBSD's modules.
 use Rattle.std.specs.Option.{option_map_or}
 use Rattle.std.specs.Prelude.{ℕ, List, [], ◌∷◌, map, slice_index_or, find}

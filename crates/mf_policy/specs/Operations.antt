@@ -21,7 +21,8 @@ abbrev pub row : Test → PartitionTest → Option ℕ → Movement → Row
 row test partition letters movement =
     record { test = test; partition = partition; letters = letters; movement = movement }
 
--- the table: operation, test of Biba, MLS and LOMAC, test of the partition policy, letters, movement
+-- The table: operation, test of Biba, MLS and LOMAC, test of the partition policy, letters (None where rules about files aren't asked, 0 where
+-- they are asked for no letter), movement.
 abbrev pub row_of : CheckOp → Row
 row_of op.VnodeLookup = row (Observe Eacces) Ignore (Some EXECUTE) ToSubject
 row_of op.VnodeOpenRead = row (Observe Eacces) Ignore (Some READ) ToSubject

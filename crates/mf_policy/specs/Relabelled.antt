@@ -1,4 +1,5 @@
--- The label of an entity after a relabel: mac_biba(4), mac_mls(4) and mac_lomac(4) put the effective element and the range that are asked in the place of their own.
+-- The label of an entity after a relabel: mac_biba(4), mac_mls(4) and mac_lomac(4) put the effective element and the range that are asked in the
+-- place of their own.
 -- That partition 0 changes nothing is the manner of FreeBSD's mac_partition; what becomes of an unset value is this model's own choice.
 use Rattle.std.specs.Option.{option_map_or}
 use Rattle.std.specs.Prelude.{ℕ, if◌then◌else◌, ◌==◌, List, [], ◌∷◌, map, slice_index_or, Option, Some, None, find}

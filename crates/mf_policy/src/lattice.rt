@@ -30,12 +30,12 @@ pub trait Lattice {
         ensures { result ≡ lattice.guard_modules label.now };
 
     /// The answer to a subject of this element and label that asks for that label of its own.
-    fn take(subject: &Elem, label: &RangeLabel, asked: &RangeLabel) -> Errno
-        ensures { result ≡ lattice.take subject.now label.now asked.now };
+    fn relabel_credential(subject: &Elem, label: &RangeLabel, asked: &RangeLabel) -> Errno
+        ensures { result ≡ lattice.relabel_credential subject.now label.now asked.now };
 
     /// The answer to it where it asks for that label of an object, whose element is the old one so far.
-    fn give(subject: &Elem, label: &RangeLabel, old: &Elem, asked: &RangeLabel) -> Errno
-        ensures { result ≡ lattice.give subject.now label.now old.now asked.now };
+    fn relabel_object(subject: &Elem, label: &RangeLabel, old: &Elem, asked: &RangeLabel) -> Errno
+        ensures { result ≡ lattice.relabel_object subject.now label.now old.now asked.now };
 }
 
 /// What such a policy, which holds this slot, answers to an item.
@@ -71,10 +71,10 @@ fn labels_answer<P: Lattice>(
         return Errno::Success;
     };
     match (test, object) {
-        (Test::RelabelCredential, _) => P::take(subject, label, asked),
+        (Test::RelabelCredential, _) => P::relabel_credential(subject, label, asked),
         (Test::GuardModules, _) => P::guard_modules(label),
         (_, None) => Errno::Success,
-        (Test::RelabelObject, Some(object)) => P::give(subject, label, object, asked),
+        (Test::RelabelObject, Some(object)) => P::relabel_object(subject, label, object, asked),
         (test, Some(object)) => {
             let may_observe = P::may_observe(subject, object);
             let may_modify = P::may_modify(subject, object);

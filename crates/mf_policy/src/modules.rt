@@ -24,7 +24,7 @@ pub struct Facts {
 pub enum Labelling {
     /// It labels nothing, and has no label slot.
     Nothing,
-    /// It labels every entity by elements. At boot a process has the first label, another entity the second.
+    /// It labels every entity by elements with ranges. At boot a process has the first label, another entity the second.
     Ranges(RangeLabel, RangeLabel),
     /// It labels every entity by an element without compartments, at boot by this one.
     Elements(Elem),

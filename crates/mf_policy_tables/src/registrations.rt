@@ -162,7 +162,7 @@ fn registration_is_refused(rt: HostRuntime) -> Result<(), AllocError> {
     wants_refusal(
         &rt,
         &mut policies,
-        "mac_lomac",
+        "mac_ifoff",
         true,
         RegisterFault::Unknown,
     );

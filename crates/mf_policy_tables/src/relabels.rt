@@ -41,6 +41,7 @@ const CLAIMS: &[(&str, Kind, bool)] = &[
     ("biba/5", Kind::Pipe, true),
     ("biba/5,mls/low", Kind::Process, false),
     ("biba/5,lomac/low", Kind::Process, false),
+    ("biba/5,foo/low", Kind::Process, false),
 ];
 
 /// Lists Biba, and LOMAC, which holds slot 1.

@@ -7,7 +7,8 @@ use Rattle.std.specs.List.{AllByRecursion}
 use Rattle.std.specs.Int.RustNames.{bit_or}
 use Rattle.std.proofs.lemmas.Nat.{or_lt, le_or_l, le_or_r}
 use Rattle.std.proofs.lemmas.Bool.{leb-true}
-use Rattle.mf_labeltext.specs.Reading.{◌>>=◌, cut}
+use Rattle.mf_labeltext.specs.Reading.{◌>>=◌, cut, parts}
+use Rattle.mf_rule.specs.Canonical.{rule_text}
 use Rattle.mf_labeltext.proofs.Numbers.{number_spells, bind_some, some_is}
 use Rattle.mf_labeltext.proofs.Spelling.{zipped}
 use Rattle.mf_rule.specs.declared.rule.Side.{Side}
@@ -19,7 +20,7 @@ use Rattle.mf_rule.specs.Words.{mode_letters, type_letters}
 use Rattle.mf_rule.specs.RuleGrammar.{SpellsIdTest, SpellsFileTest, SpellsObjectTest, SpellTests, SpellsRule, IsRule}
 use Rattle.mf_rule.specs.Parts.{Words, no_tests, no_object_tests}
 use Rattle.mf_rule.specs.Reading.{OrFault, rule_in}
-use Rattle.mf_rule.specs.RoundTrip.{AreRanges, IsInBounds, CanonicalTextStandsForItsRule, WhatIsReadIsARule}
+use Rattle.mf_rule.specs.RoundTrip.{AreRanges, IsInBounds, WhatIsReadIsARule}
 use Rattle.mf_rule.proofs.Ranges.{ordered, ends_of}
 use Rattle.mf_rule.proofs.ReadAsSpelled.{read_is_spelled}
 use Rattle.mf_rule.proofs.RoundTrips.{text_reads}
@@ -153,7 +154,7 @@ in_bounds rule (words, spells) =
     (record { ids = record { uid = tt; gid = tt }; types = tt }) object.each in
     record { subject = ids; object = files.ids; types = files.types; mode = mode_fits spells.letters rule.mode spells.is_mode }
 
-pub canonical_text_reads : CanonicalTextStandsForItsRule
+pub canonical_text_reads : (rule : Rule) → IsRule rule → rule_in (parts 32 (rule_text rule)) ≡ Ok rule
 canonical_text_reads rule ok = text_reads rule (in_bounds rule ok)
 
 pub read_is_rule : (words : Words) (rule : Rule) → rule_in words ≡ Ok rule → IsRule rule
@@ -162,6 +163,6 @@ read_is_rule words rule is = (words, read_is_spelled words rule is)
 pub read_is_in_bounds : WhatIsReadIsARule
 read_is_in_bounds words rule is = let formed = read_is_rule words rule is in (formed, in_bounds rule formed)
 
-pub if_read : (words : Words) (read : OrFault Rule) → read ≡ rule_in words → IfOk read IsRule
-if_read words (Ok rule) is = read_is_rule words rule (sym is)
+pub if_read : (words : Words) (read : OrFault Rule) → read ≡ rule_in words → IfOk read (λ rule. IsRule rule × IsInBounds rule)
+if_read words (Ok rule) is = read_is_in_bounds words rule (sym is)
 if_read words (Err fault) is = tt

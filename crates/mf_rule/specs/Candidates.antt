@@ -26,6 +26,7 @@ may_match cred dir slot = option_map_or (λ rule. subject_may rule.subject cred 
 unfoldable pub candidates : Slots → Cred → Bool → List ℕ
 candidates slots cred dir = filter (λ n. may_match cred dir (slice_index_or slots n None)) (range_with_len 0 MAX_RULES)
 
--- what a rule decides, where it is one that matches, and gives the letters: with first match whatever it gives, and without only that it doesn't
+-- what a slot decides, by whether its rule matches and whether it gives the letters: with first match either way, and without only where it
+-- doesn't give them
 abbrev pub decided : Bool → Bool → Bool → Option Bool
 decided first is_match gives = if is_match && (first || not gives) then Some gives else None

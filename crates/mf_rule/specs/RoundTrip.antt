@@ -1,6 +1,7 @@
 -- Rules and their texts: the words of the canonical text of a rule stand for just this rule, and what is read is a rule, within these bounds.
 use Rattle.std.specs.Prelude.{◌≡◌, ◌≤◌, ◌<◌, ℕ, IfSome, Ok}
 use Rattle.std.specs.Int.{IsInRange}
+use Rattle.std.specs.Str.{byte}
 use Rattle.mf_labeltext.specs.Reading.{parts}
 use Rattle.mf_rule.specs.declared.rule.TheConstants.{LAST_ID, ANY_TYPE}
 use Rattle.mf_rule.specs.declared.rule.IdTest.{IdTest}
@@ -27,9 +28,9 @@ pub record IsInBounds (rule : Rule) : Type 0 where
   pub types : IfSome rule.object.types (λ test. IsInRange 1 ANY_TYPE test.types)
   pub mode : rule.mode < 32
 
--- The words of the canonical text, which blanks part, stand for the rule.
+-- The words of the canonical text of a rule in bounds, which blanks part, stand for the rule.
 abbrev pub CanonicalTextStandsForItsRule : Type 0
-CanonicalTextStandsForItsRule = (rule : Rule) → IsRule rule → rule_in (parts 32 (rule_text rule)) ≡ Ok rule
+CanonicalTextStandsForItsRule = (rule : Rule) → IsInBounds rule → rule_in (parts (byte " ") (rule_text rule)) ≡ Ok rule
 
 -- What is read is a rule that words can stand for, and in bounds.
 abbrev pub WhatIsReadIsARule : Type 0

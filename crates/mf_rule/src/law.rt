@@ -1,7 +1,7 @@
 //! The canonical text of a rule is read back as the rule, and what is read is a rule.
 ghost use Rattle.mf_rule.specs.RoundTrip.{CanonicalTextStandsForItsRule, WhatIsReadIsARule};
 
-/// The words of the canonical text of a rule stand for just this rule.
+/// The words of the canonical text of a rule in bounds stand for just this rule.
 pub fn canonical_text_stands_for_its_rule()
     ensures { CanonicalTextStandsForItsRule }
 {}

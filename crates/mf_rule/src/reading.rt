@@ -2,6 +2,7 @@
 ghost use Rattle.std.specs.Prelude.{◌≡◌, ◌↔◌, if◌then◌else◌, Err, Ok, IfOk, ◌<◌, ◌^◌, ◌+◌, length, map};
 ghost use Rattle.mf_rule.specs.Reading as spec;
 ghost use Rattle.mf_rule.specs.RuleGrammar.{SpellsRule, IsRule};
+ghost use Rattle.mf_rule.specs.RoundTrip.{IsInBounds};
 ghost use Rattle.mf_rule.specs.declared.rule.Rule.{Rule};
 ghost use Rattle.mf_rule.specs.declared.begun.Next.TheVariants as next;
 ghost use Rattle.mf_rule.specs.declared.fault.RuleFault.TheVariants.{UnknownWord};
@@ -22,7 +23,7 @@ pub fn read_rule(words: &[&str]) -> Result<Rule, RuleFault>
     ensures value { result ≡ spec.rule_in (map (λ word. word.now) words.now) }
     ensures spells { (rule : Rule) → (result ≡ Ok rule)
         ↔ SpellsRule (map (λ word. word.now) words.now) rule }
-    ensures formed { IfOk result IsRule }
+    ensures formed { IfOk result (λ rule. IsRule rule × IsInBounds rule) }
 {
     read_words(words)
 }

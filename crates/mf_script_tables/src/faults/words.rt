@@ -172,6 +172,7 @@ const TASKS: &[Row] = &[
     ("uid 0 gid 0 label partition/none", "2 6 BadLabel"),
     ("uid 0 gid 0 label partition/7", "2 6 BadLabel"),
     ("uid 0 gid 0 label lomac/5", "2 6 BadLabel"),
+    ("uid 0 gid 0 label foo/5", "2 6 BadLabel"),
     ("uid 0 gid 0 label biba/(5-high)", "3 10 NoEnd"),
 ];
 
