@@ -17,10 +17,17 @@ def cells(section: str) -> dict:
     return {(row[0], folder): set(re.findall(r"[\w/]+", cell)) for row in rows[2:] for folder, cell in zip(rows[0][1:], row[1:])}
 
 
+def missing(section: str) -> list:
+    """The files of definitions and proofs that the table names, and that aren't there."""
+    named = [(crate, folder, word) for (crate, folder), words in cells(re.sub("`[^`]*`", "", section)).items() for word in words]
+    return [f"{crate} {folder}/{word}" for crate, folder, word in named if word[0].isupper() and not (ROOT / "crates" / crate / folder / f"{word}.antt").is_file()]
+
+
 def faults(title: str, sample: str) -> list:
     text = (ROOT / "docs" / "ARCHITECTURE.md").read_text()
-    listed = cells(text.split(f"\n**{title}.**", 1)[1].split("\n**", 1)[0])
-    found = []
+    section = text.split(f"\n**{title}.**", 1)[1].split("\n**", 1)[0]
+    listed = cells(section)
+    found = [f"{title}: {file} is in the table, and isn't there" for file in missing(section)]
     for file in sorted((ROOT / "crates").glob("*/*/**/*.*t*")):
         crate, folder, *rest = file.relative_to(ROOT / "crates").parts
         if folder not in ("src", "specs", "proofs") or re.match(OWN, crate) or file.stem in ("lib", "Lib"):
