@@ -13,6 +13,7 @@ ghost use Rattle.mf_top.specs.Steps.{WroteSteps};
 use mf_biba::Biba;
 use mf_bsdextended::Bsdextended;
 use mf_io::{OpenGate, Sink, Source, StdSink, StdSource};
+use mf_lomac::Lomac;
 use mf_mls::Mls;
 use mf_partition::Partition;
 use mf_policy::Policy;
@@ -54,23 +55,31 @@ fn run<S: Source, K: Sink, R: Threads + Wait + Sync>(
     source: &mut S,
     sink: &mut K,
 ) -> Result<u8, AllocError>
-    ensures headline { IfOk result (λ status. command_of (map string_bytes words.now) ≡ Some command.Run → status ≡ 0
-        → WroteHistory (seen S.left S.faults source.old source.new) (seen K.taken K.faults sink.old sink.new)) }
-    ensures steps { IfOk result (λ status. command_of (map string_bytes words.now) ≡ Some command.Step → status ≡ 0
-        → WroteSteps (seen S.left S.faults source.old source.new) (seen K.taken K.faults sink.old sink.new)) }
-    ensures load { IfOk result (λ status. (lines tasks : ℕ) → command_of (map string_bytes words.now) ≡ Some (command.Gen lines tasks) → status ≡ 0
-        → WroteSummary lines tasks (seen S.left S.faults source.old source.new) (seen K.taken K.faults sink.old sink.new)) }
+    ensures headline { IfOk result (λ status.
+        command_of (map string_bytes words.now) ≡ Some command.Run → status ≡ 0
+        → WroteHistory (seen S.left S.faults source.old source.new)
+        (seen K.taken K.faults sink.old sink.new)) }
+    ensures steps { IfOk result (λ status.
+        command_of (map string_bytes words.now) ≡ Some command.Step → status ≡ 0
+        → WroteSteps (seen S.left S.faults source.old source.new)
+        (seen K.taken K.faults sink.old sink.new)) }
+    ensures load { IfOk result (λ status. (lines tasks : ℕ)
+        → command_of (map string_bytes words.now) ≡ Some (command.Gen lines tasks) → status ≡ 0
+        → WroteSummary lines tasks (seen S.left S.faults source.old source.new)
+        (seen K.taken K.faults sink.old sink.new)) }
     ensures cause { IfOk result (λ status. (outcome : Result (List ℕ) Refusal)
-        × IsOutcome (map string_bytes words.now) (seen S.left S.faults source.old source.new) outcome
+        × IsOutcome (map string_bytes words.now)
+        (seen S.left S.faults source.old source.new) outcome
         × IsWritten (seen K.taken K.faults sink.old sink.new) outcome status) }
-    ensures complete { IfOk result (λ status. IsFaultless (map string_bytes words.now) (seen S.left S.faults source.old source.new)
-        (seen K.taken K.faults sink.old sink.new)
+    ensures complete { IfOk result (λ status. IsFaultless (map string_bytes words.now)
+        (seen S.left S.faults source.old source.new) (seen K.taken K.faults sink.old sink.new)
         → (status ≡ 0) ⊎ (status ≡ 9)) }
     ensures untouched { OnErr result ((source.new ≡ source.old) × (sink.new ≡ sink.old)) }
 {
     let mut modules: Vec<Box<dyn Policy + Send + Sync>> = Vec::new(alloc);
     modules.push(Box::new(alloc, Biba::new())?)?;
     modules.push(Box::new(alloc, Mls::new())?)?;
+    modules.push(Box::new(alloc, Lomac::new())?)?;
     modules.push(Box::new(alloc, Partition::new())?)?;
     modules.push(Box::new(alloc, Bsdextended::new(alloc)?)?)?;
     modules.push(Box::new(alloc, Priority::new())?)?;

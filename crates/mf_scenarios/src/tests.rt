@@ -15,10 +15,12 @@ mod stepping;
 mod streams;
 mod tasks;
 mod transcript;
+mod watermark;
 
 use mf_biba::Biba;
 use mf_bsdextended::Bsdextended;
 use mf_io::{Gate, MemSink, MemSource, Sink, Source};
+use mf_lomac::Lomac;
 use mf_mls::Mls;
 use mf_partition::Partition;
 use mf_policy::Policy;
@@ -68,6 +70,7 @@ fn run_words<S: Source, K: Sink, G: Gate, R: Threads + Wait + Sync>(
     let mut modules: Vec<Box<dyn Policy + Send + Sync>> = Vec::new(alloc);
     modules.push(Box::new(alloc, Biba::new())?)?;
     modules.push(Box::new(alloc, Mls::new())?)?;
+    modules.push(Box::new(alloc, Lomac::new())?)?;
     modules.push(Box::new(alloc, Partition::new())?)?;
     modules.push(Box::new(alloc, Bsdextended::new(alloc)?)?)?;
     modules.push(Box::new(alloc, Priority::new())?)?;

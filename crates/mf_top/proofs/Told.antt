@@ -1,12 +1,12 @@
--- The refusal that is told has its cause.
-use Rattle.std.proofs.Common.{inl, inr, Option, Some, None, Err, sym, subst}
+-- The outcome that is told has its cause.
+use Rattle.std.proofs.Common.{ℕ, List, inl, inr, Option, Some, None, Result, Ok, Err, sym, subst}
 use Rattle.mf_io.specs.Outside.{Seen}
 use Rattle.mf_top.specs.declared.refusal.Refusal.{Refusal}
 use Rattle.mf_top.specs.declared.refusal.Refusal.TheVariants as refusal
 use Rattle.mf_top.specs.declared.command.Command.{Command}
 use Rattle.mf_top.specs.declared.command.Command.TheVariants as command
-use Rattle.mf_top.specs.Answers.{IsOutcomeOf, IsStepOutcome, TellsOfScript}
-use Rattle.mf_top.specs.Refusals.{IsTold}
+use Rattle.mf_top.specs.Answers.{IsOutcomeOf, TellsOfScript}
+use Rattle.mf_top.specs.Refusals.{IsTold, IsToldOutcome}
 
 memory_too : (asked : Option Command) (source : Seen) (r : Refusal) → TellsOfScript r → IsOutcomeOf asked source (Err r) → IsOutcomeOf asked source (Err refusal.Memory)
 memory_too None source (refusal.Script line fault errno) is cause = absurd cc
@@ -22,10 +22,12 @@ memory_too asked source refusal.ReadFault is cause = absurd is
 memory_too asked source refusal.TooLong is cause = absurd is
 memory_too asked source refusal.Memory is cause = absurd is
 
-pub told_cause : (asked : Option Command) (source : Seen) (r told : Refusal) → IsTold r told → IsOutcomeOf asked source (Err r) → IsOutcomeOf asked source (Err told)
-told_cause asked source r told (inl same) cause = subst (λ r. IsOutcomeOf asked source (Err r)) (sym same) cause
-told_cause asked source r told (inr lost) cause = subst (λ r. IsOutcomeOf asked source (Err r)) (sym lost.1) (memory_too asked source r lost.0 cause)
+told_refusal : (asked : Option Command) (source : Seen) (r told : Refusal) → IsTold r told → IsOutcomeOf asked source (Err r) → IsOutcomeOf asked source (Err told)
+told_refusal asked source r told (inl same) cause = subst (λ r. IsOutcomeOf asked source (Err r)) (sym same) cause
+told_refusal asked source r told (inr lost) cause = subst (λ r. IsOutcomeOf asked source (Err r)) (sym lost.1) (memory_too asked source r lost.0 cause)
 
--- the same for the word `step`
-pub told_steps : (source : Seen) (r told : Refusal) → IsTold r told → IsStepOutcome source (Err r) → IsStepOutcome source (Err told)
-told_steps source r told is cause = told_cause (Some command.Step) source r told is cause
+pub told_cause : (asked : Option Command) (source : Seen) (outcome told : Result (List ℕ) Refusal) → IsToldOutcome outcome told → IsOutcomeOf asked source outcome
+    → IsOutcomeOf asked source told
+told_cause asked source (Ok text) told is cause = subst (IsOutcomeOf asked source) (sym is) cause
+told_cause asked source (Err r) (Ok text) is cause = absurd is
+told_cause asked source (Err r) (Err told) is cause = told_refusal asked source r told is cause

@@ -1,5 +1,5 @@
 -- Which refusal an error becomes, and which is told: this model's own.
-use Rattle.std.specs.Prelude.{◌≡◌, ◌⊎◌}
+use Rattle.std.specs.Prelude.{◌≡◌, ◌⊎◌, ℕ, List, Result, Ok, Err}
 use Rattle.mf_script.specs.declared.error.ScriptError.{ScriptError}
 use Rattle.mf_script.specs.declared.error.ScriptError.TheVariants as script_error
 use Rattle.mf_top.specs.declared.read.ReadError.{ReadError}
@@ -20,3 +20,9 @@ script_refusal script_error.Memory = refusal.Memory
 -- the refusal itself is told; or memory ran out as the line was built that tells of the script
 abbrev pub IsTold : Refusal → Refusal → Type 0
 IsTold r told = (told ≡ r) ⊎ (TellsOfScript r × (told ≡ refusal.Memory))
+
+-- an outcome with a refusal that is told in the place of its own
+abbrev pub IsToldOutcome : Result (List ℕ) Refusal → Result (List ℕ) Refusal → Type 0
+IsToldOutcome (Ok text) told = told ≡ Ok text
+IsToldOutcome (Err r) (Ok text) = ⊥
+IsToldOutcome (Err r) (Err told) = IsTold r told

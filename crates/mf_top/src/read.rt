@@ -48,11 +48,14 @@ impl From<Failed> for ReadError {
 
 /// All that the source holds, to its end. It asks for at most one byte more than a script may have.
 pub fn read_all<S: Source>(alloc: Global, source: &mut S) -> Result<Vec<u8>, ReadError>
-    ensures whole { IfOk result (λ bytes. IsWhole (S.left source.old) (S.left source.new) bytes.items) }
+    ensures whole { IfOk result (λ bytes.
+        IsWhole (S.left source.old) (S.left source.new) bytes.items) }
     ensures most { IfOk result (λ bytes. length bytes.items ≤ SCRIPT_LIMIT) }
     ensures quiet { ¬ IsErrOf result ReadError.Failed → S.faults source.new ≡ S.faults source.old }
-    ensures failed { IsErrOf result ReadError.Failed → HasRisen (S.faults source.old) (S.faults source.new) }
-    ensures too_long { IsErrOf result ReadError.TooLong → IsTooLong (S.left source.old) (S.left source.new) }
+    ensures failed { IsErrOf result ReadError.Failed
+        → HasRisen (S.faults source.old) (S.faults source.new) }
+    ensures too_long { IsErrOf result ReadError.TooLong
+        → IsTooLong (S.left source.old) (S.left source.new) }
 {
     let mut bytes = Vec::new(alloc);
     while bytes.len() <= SCRIPT_LIMIT {
@@ -82,11 +85,13 @@ fn read_some<S: Source>(
     room: usize,
 ) -> Result<usize, ReadError>
     requires { 0 < room }
-    ensures bytes { IfOk result (λ n. GaveOn (S.left source.old) (S.left source.new) bytes.old.items bytes.new.items n) }
+    ensures bytes { IfOk result (λ n.
+        GaveOn (S.left source.old) (S.left source.new) bytes.old.items bytes.new.items n) }
     ensures fits { IfOk result (λ n. n ≤ room) }
     ensures count { IfOk result (λ n. length bytes.new.items ≡ length bytes.old.items + n) }
     ensures quiet { ¬ IsErrOf result ReadError.Failed → S.faults source.new ≡ S.faults source.old }
-    ensures failed { IsErrOf result ReadError.Failed → HasRisen (S.faults source.old) (S.faults source.new) }
+    ensures failed { IsErrOf result ReadError.Failed
+        → HasRisen (S.faults source.old) (S.faults source.new) }
     ensures long { IsErrOf result ReadError.TooLong → ⊥ }
 {
     let mut buffer = [0u8; PIECE_BYTES];

@@ -2,7 +2,8 @@
 ghost use Rattle.std.specs.Prelude.{◌≡◌, ◌++◌, IfOk, OnOk, OnErr, string_bytes};
 ghost use Rattle.std.specs.Cow.{cow_str_bytes};
 ghost use Rattle.mf_top.specs.Answers.{errno_text, fault_text, refusal_status, refusal_text, TellsOfScript};
-ghost use Rattle.mf_top.specs.Refusals.{IsTold};
+ghost use Rattle.mf_top.specs.Outcomes.{bytes_of_outcome};
+ghost use Rattle.mf_top.specs.Refusals.{IsTold, IsToldOutcome};
 ghost use Rattle.mf_top.specs.declared.refusal.Refusal.TheVariants as refusal;
 
 use crate::read::ReadError;
@@ -148,6 +149,16 @@ impl ToldRefusal {
         ensures { result.now ≡ refusal_text self.now }
     {
         self.text.as_str()
+    }
+}
+
+/// The outcome, with the line of its refusal.
+pub fn told(alloc: Global, outcome: Result<String, Refusal>) -> Result<String, ToldRefusal>
+    ensures { IsToldOutcome (bytes_of_outcome outcome) (bytes_of_outcome result) }
+{
+    match outcome {
+        Ok(text) => Ok(text),
+        Err(refusal) => Err(ToldRefusal::new(alloc, refusal)),
     }
 }
 

@@ -127,50 +127,131 @@ fn run_tasks<
     ensures lines { IfOk result (λ core. done_of core ≡ all_lines core.script) }
 {
     let (kernel, mut passes) = Kernel::<P, J, B>::open(alloc, script, modules, lines, busy)?;
-    run_side_by_side(rt, alloc, gate, &kernel, &mut passes);
+    let run = Run {
+        rt,
+        alloc,
+        gate,
+        kernel: &kernel,
+    };
+    run.run_side_by_side(&mut passes);
     // A task stops early only where memory ran out.
     let all_done = have_all(script, &passes);
     let core = kernel.close(passes);
     if all_done { Ok(core) } else { Err(AllocError) }
 }
 
-/// Runs the task of each pass to its end, each in a thread of its own, and waits for all.
-fn run_side_by_side<
+/// What the thread of a task works with.
+#[derive(Drop)]
+struct Run<'k, 's, P: Policy, J: Job, B: Ledger, G: Gate, R: Threads + Wait + Sync> {
+    rt: &'k R,
+    alloc: Global,
+    gate: &'k G,
+    kernel: &'k Kernel<'s, P, J, B>,
+}
+
+impl<
+    'k,
+    's,
     P: Policy,
     J: Job + Send + Sync,
     B: Ledger + Send + Sync,
     G: Gate,
     R: Threads + Wait + Sync,
->(rt: &R, alloc: Global, gate: &G, kernel: &Kernel<P, J, B>, passes: &mut Vec<Pass<J, B>>)
-    requires { AreOneEach J.script passes.old.items }
-    ensures { AreOneEach J.script passes.new.items }
-{
-    let threads = passes.len().max(1);
-    thread::for_each_mut(
-        rt,
-        passes.as_mut_slice(),
-        threads,
-        &|_, pass: &mut Pass<J, B>|
-            requires { pass.now.out ≡ false }
-            ensures { IsBack pass.entry.now pass.exit.now }
-        { run_task(rt, alloc, gate, kernel, pass) },
-    );
-}
+> Run<'k, 's, P, J, B, G, R> {
+    /// Runs the task of each pass to its end, each in a thread of its own, and waits for all.
+    fn run_side_by_side(&self, passes: &mut Vec<Pass<J, B>>)
+        requires { AreOneEach J.script passes.old.items }
+        ensures { AreOneEach J.script passes.new.items }
+    {
+        let threads = passes.len().max(1);
+        thread::for_each_mut(
+            self.rt,
+            passes.as_mut_slice(),
+            threads,
+            &|_, pass: &mut Pass<J, B>|
+                requires { pass.now.out ≡ false }
+                ensures { IsBack pass.entry.now pass.exit.now }
+            { self.run_task(pass) },
+        );
+    }
 
-/// Runs the task of the pass until it has no more lines, or stops because memory ran out.
-fn run_task<P: Policy, J: Job, B: Ledger, G: Gate, R: Threads + Wait + Sync>(
-    rt: &R,
-    alloc: Global,
-    gate: &G,
-    kernel: &Kernel<P, J, B>,
-    pass: &mut Pass<J, B>,
-)
-    requires { pass.old.out ≡ false }
-    ensures { IsBack pass.old pass.new }
-{
-    let mut plan = Plan::new();
-    while is_line(kernel.turn(pass)) {
-        run_line(rt, alloc, gate, kernel, pass, &mut plan);
+    /// Runs the task of the pass until it has no more lines, or stops because memory ran out.
+    fn run_task(&self, pass: &mut Pass<J, B>)
+        requires { pass.old.out ≡ false }
+        ensures { IsBack pass.old pass.new }
+    {
+        let mut plan = Plan::new();
+        while is_line(self.kernel.turn(pass)) {
+            self.run_line(pass, &mut plan);
+        }
+    }
+
+    /// Does the next line of the pass's task.
+    fn run_line(&self, pass: &mut Pass<J, B>, plan: &mut Plan)
+        requires out { pass.old.out ≡ false }
+        requires turn { IsLine (pass_turn J.script pass.old) }
+        ensures { WentOn pass.old pass.new }
+    {
+        match self.kernel.turn(pass) {
+            Turn::Entry => self.run_entry(pass, plan),
+            Turn::Change => self.run_change(pass),
+            Turn::Entered | Turn::Done | Turn::Finished | Turn::Stopped => unreachable!(),
+        }
+    }
+
+    /// Does a line that is an entry.
+    fn run_entry(&self, pass: &mut Pass<J, B>, plan: &mut Plan)
+        requires out { pass.old.out ≡ false }
+        requires turn { pass_turn J.script pass.old ≡ turn.Entry }
+        ensures { WentOn pass.old pass.new }
+    {
+        let at = place_of(pass);
+        let mut ticket = self.kernel.enter(self.rt, pass);
+        let done = self.run_call(&mut ticket, plan, at);
+        self.kernel.leave(self.rt, ticket, pass);
+        if done.is_ok() {
+            self.gate.after(self.rt, at.task, at.line);
+        }
+    }
+
+    /// Does the ticket's call: plans it, asks the policies and commits, again and again while the commit is stale.
+    fn run_call(
+        &self,
+        ticket: &mut Ticket<J, B>,
+        plan: &mut Plan,
+        at: Place,
+    ) -> Result<(), AllocError>
+        requires { ticket.old.committed ≡ false }
+        ensures { IsSameTicket ticket.old ticket.new }
+    {
+        for _ in self.rt.forever() {
+            let policies = self.kernel.policies(self.rt);
+            let listed = Listed::new(self.kernel.fixed(), policies.list());
+            self.kernel.plan(self.rt, ticket, plan);
+            let verdict = Kernel::walk(&listed, ticket, plan);
+            self.gate.between(self.rt, at.task, at.line);
+            match self
+                .kernel
+                .commit(self.rt, self.alloc, ticket, &listed, plan, &verdict)
+            {
+                Ok(Commit::Done) => return Ok(()),
+                Ok(Commit::Stale) => {}
+                Err(error) => return Err(error),
+            }
+        }
+        unreachable!()
+    }
+
+    /// Does a line that is a change.
+    fn run_change(&self, pass: &mut Pass<J, B>)
+        requires out { pass.old.out ≡ false }
+        requires turn { pass_turn J.script pass.old ≡ turn.Change }
+        ensures { WentOn pass.old pass.new }
+    {
+        let at = place_of(pass);
+        if self.kernel.change(self.rt, self.alloc, pass).is_ok() {
+            self.gate.after(self.rt, at.task, at.line);
+        }
     }
 }
 
@@ -179,26 +260,6 @@ fn is_line(next: Turn) -> bool
     ensures { IsTrue result ↔ IsLine next }
 {
     matches!(next, Turn::Entry | Turn::Change)
-}
-
-/// Does the next line of the pass's task.
-fn run_line<P: Policy, J: Job, B: Ledger, G: Gate, R: Threads + Wait + Sync>(
-    rt: &R,
-    alloc: Global,
-    gate: &G,
-    kernel: &Kernel<P, J, B>,
-    pass: &mut Pass<J, B>,
-    plan: &mut Plan,
-)
-    requires out { pass.old.out ≡ false }
-    requires turn { IsLine (pass_turn J.script pass.old) }
-    ensures { WentOn pass.old pass.new }
-{
-    match kernel.turn(pass) {
-        Turn::Entry => run_entry(rt, alloc, gate, kernel, pass, plan),
-        Turn::Change => run_change(rt, alloc, gate, kernel, pass),
-        Turn::Entered | Turn::Done | Turn::Finished | Turn::Stopped => unreachable!(),
-    }
 }
 
 /// A line, from 1, of a task, from 0.
@@ -213,74 +274,6 @@ fn place_of<J: Job, B: Ledger>(pass: &Pass<J, B>) -> Place {
     Place {
         task: pass.task(),
         line: pass.lines().saturating_add(1),
-    }
-}
-
-/// Does a line that is an entry.
-fn run_entry<P: Policy, J: Job, B: Ledger, G: Gate, R: Threads + Wait + Sync>(
-    rt: &R,
-    alloc: Global,
-    gate: &G,
-    kernel: &Kernel<P, J, B>,
-    pass: &mut Pass<J, B>,
-    plan: &mut Plan,
-)
-    requires out { pass.old.out ≡ false }
-    requires turn { pass_turn J.script pass.old ≡ turn.Entry }
-    ensures { WentOn pass.old pass.new }
-{
-    let at = place_of(pass);
-    let mut ticket = kernel.enter(rt, pass);
-    let done = run_call(rt, alloc, gate, kernel, &mut ticket, plan, at);
-    kernel.leave(rt, ticket, pass);
-    if done.is_ok() {
-        gate.after(rt, at.task, at.line);
-    }
-}
-
-/// Does the ticket's call: plans it, asks the policies and commits, again and again while the commit is stale.
-fn run_call<P: Policy, J: Job, B: Ledger, G: Gate, R: Threads + Wait + Sync>(
-    rt: &R,
-    alloc: Global,
-    gate: &G,
-    kernel: &Kernel<P, J, B>,
-    ticket: &mut Ticket<J, B>,
-    plan: &mut Plan,
-    at: Place,
-) -> Result<(), AllocError>
-    requires { ticket.old.committed ≡ false }
-    ensures { IsSameTicket ticket.old ticket.new }
-{
-    for _ in rt.forever() {
-        let policies = kernel.policies(rt);
-        let listed = Listed::new(kernel.fixed(), policies.list());
-        kernel.plan(rt, ticket, plan);
-        let verdict = Kernel::walk(&listed, ticket, plan);
-        gate.between(rt, at.task, at.line);
-        match kernel.commit(rt, alloc, ticket, &listed, plan, &verdict) {
-            Ok(Commit::Done) => return Ok(()),
-            Ok(Commit::Stale) => {}
-            Err(error) => return Err(error),
-        }
-    }
-    unreachable!()
-}
-
-/// Does a line that is a change.
-fn run_change<P: Policy, J: Job, B: Ledger, G: Gate, R: Threads + Wait + Sync>(
-    rt: &R,
-    alloc: Global,
-    gate: &G,
-    kernel: &Kernel<P, J, B>,
-    pass: &mut Pass<J, B>,
-)
-    requires out { pass.old.out ≡ false }
-    requires turn { pass_turn J.script pass.old ≡ turn.Change }
-    ensures { WentOn pass.old pass.new }
-{
-    let at = place_of(pass);
-    if kernel.change(rt, alloc, pass).is_ok() {
-        gate.after(rt, at.task, at.line);
     }
 }
 

@@ -12,7 +12,7 @@ ghost use Rattle.mf_top.specs.Outcomes.{bytes_of_outcome};
 ghost use Rattle.mf_top.specs.Scripts.{AreStepped};
 ghost use Rattle.mf_top.specs.Steps.{WroteSteps};
 
-use crate::refusal::{Refusal, ToldRefusal};
+use crate::refusal::{Refusal, told};
 use crate::text::add_sources;
 use crate::{read, write};
 use mf_calls::Script;
@@ -37,7 +37,8 @@ pub fn run_steps<S: Source, K: Sink, P: Policy>(
     // With 0 the source held a script to its end, each of its steps was taken, and the sink took their text and that of the
     // sources at their end, and nothing else. Of their history is said what `macsim` says of a run's, but that it is complete.
     ensures steps { result ≡ 0
-        → WroteSteps (seen S.left S.faults source.old source.new) (seen K.taken K.faults sink.old sink.new) }
+        → WroteSteps (seen S.left S.faults source.old source.new)
+        (seen K.taken K.faults sink.old sink.new) }
 
     // Each status has its cause, and what was taken is its text, or with 5 a beginning of another's.
     ensures cause { (outcome : Result (List ℕ) Refusal)
@@ -45,28 +46,12 @@ pub fn run_steps<S: Source, K: Sink, P: Policy>(
         × IsWritten (seen K.taken K.faults sink.old sink.new) outcome result }
 
     // A script whose steps are all in turn, over a source and a sink that don't fail, gives 0, or 9 if memory runs out.
-    ensures complete { AreStepsFaultless (seen S.left S.faults source.old source.new) (seen K.taken K.faults sink.old sink.new)
+    ensures complete { AreStepsFaultless (seen S.left S.faults source.old source.new)
+        (seen K.taken K.faults sink.old sink.new)
         → (result ≡ 0) ⊎ (result ≡ 9) }
 {
-    let outcome = told(alloc, source, modules);
+    let outcome = told(alloc, step_source(alloc, source, modules));
     write::write_outcome(sink, &outcome)
-}
-
-/// What is to be written: the text of the steps, or why there is none, with its line.
-#[tactic(auto, using(crate::proofs::Told::told_steps))]
-fn told<S: Source, P: Policy>(
-    alloc: Global,
-    source: &mut S,
-    modules: Vec<P>,
-) -> Result<String, ToldRefusal>
-    requires modules { AreAllModules (map (λ p. module_of (P.spec p)) modules.items) }
-    requires fresh { All (λ p. IsFresh (P.spec p)) modules.items }
-    ensures { IsStepOutcome (seen S.left S.faults source.old source.new) (bytes_of_outcome result) }
-{
-    match step_source(alloc, source, modules) {
-        Ok(text) => Ok(text),
-        Err(refusal) => Err(ToldRefusal::new(alloc, refusal)),
-    }
 }
 
 /// The text of the steps of what the source holds, and of the sources at their end.

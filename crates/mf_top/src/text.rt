@@ -16,7 +16,8 @@ use std::alloc::{AllocError, Global};
 pub fn whole_text(alloc: Global, script: &Script, history: &History) -> Result<String, AllocError>
     requires formed { IsWellFormed script.now }
     requires legal { IsLegal script.now history.now }
-    ensures text { IfOk result (λ text. string_bytes text ≡ history_text script.now history.now ++ sources_text script.now history.now) }
+    ensures text { IfOk result (λ text. string_bytes text
+        ≡ history_text script.now history.now ++ sources_text script.now history.now) }
     ensures order { OnOk result (AreInOrder script.now history.now) }
 {
     let mut text = String::new(alloc);
@@ -34,7 +35,8 @@ pub fn add_sources(
 ) -> Result<(), AllocError>
     requires formed { IsWellFormed script.now }
     requires legal { IsLegal script.now history.now }
-    ensures text { OnOk result (string_bytes text.new ≡ string_bytes text.old ++ sources_text script.now history.now) }
+    ensures text { OnOk result (string_bytes text.new
+        ≡ string_bytes text.old ++ sources_text script.now history.now) }
     ensures order { OnOk result (AreInOrder script.now history.now) }
 {
     let table = sources(alloc, script, history)?;

@@ -13,7 +13,7 @@ ghost use Rattle.mf_top.specs.Steps.{WroteSteps};
 ghost use Rattle.mf_top.specs.Outcomes.{bytes_of_outcome};
 
 use crate::command::Command;
-use crate::refusal::{Refusal, ToldRefusal};
+use crate::refusal::{Refusal, told};
 use crate::steps::step_source;
 use crate::{read, run, write};
 use mf_io::{Gate, Sink, Source};
@@ -45,51 +45,35 @@ pub fn macsim<S: Source, K: Sink, G: Gate, P: Policy, R: Threads + Wait + Sync>(
     // end a live entity's slot is unset exactly where it has no mark, and what flowed into a party is in the order of its
     // policy. Where source or sink doesn't tell its bytes, there are bytes of which this holds.
     ensures headline { command_of (map string_bytes words.now) ≡ Some command.Run → result ≡ 0
-        → WroteHistory (seen S.left S.faults source.old source.new) (seen K.taken K.faults sink.old sink.new) }
+        → WroteHistory (seen S.left S.faults source.old source.new)
+        (seen K.taken K.faults sink.old sink.new) }
 
     // With `step` and 0 the source held a script to its end, each of its steps was taken, and the sink took their text and
     // that of the sources at their end, and nothing else.
     ensures steps { command_of (map string_bytes words.now) ≡ Some command.Step → result ≡ 0
-        → WroteSteps (seen S.left S.faults source.old source.new) (seen K.taken K.faults sink.old sink.new) }
+        → WroteSteps (seen S.left S.faults source.old source.new)
+        (seen K.taken K.faults sink.old sink.new) }
 
     // With `gen N T` and 0 nothing was read, and the sink took the summary of the load, and nothing else.
-    ensures load { (lines tasks : ℕ) → command_of (map string_bytes words.now) ≡ Some (command.Gen lines tasks) → result ≡ 0
-        → WroteSummary lines tasks (seen S.left S.faults source.old source.new) (seen K.taken K.faults sink.old sink.new) }
+    ensures load { (lines tasks : ℕ)
+        → command_of (map string_bytes words.now) ≡ Some (command.Gen lines tasks) → result ≡ 0
+        → WroteSummary lines tasks (seen S.left S.faults source.old source.new)
+        (seen K.taken K.faults sink.old sink.new) }
 
     // Each status has its cause, and what was taken is its text, or with 5 a beginning of another's.
     ensures cause { (outcome : Result (List ℕ) Refusal)
-        × IsOutcome (map string_bytes words.now) (seen S.left S.faults source.old source.new) outcome
+        × IsOutcome (map string_bytes words.now)
+        (seen S.left S.faults source.old source.new) outcome
         × IsWritten (seen K.taken K.faults sink.old sink.new) outcome result }
 
     // The right words, with `run` a script, with `step` one whose steps are all in turn, over a source and a sink that don't
     // fail, gives 0, or 9 if memory runs out.
-    ensures complete { IsFaultless (map string_bytes words.now) (seen S.left S.faults source.old source.new)
-        (seen K.taken K.faults sink.old sink.new)
+    ensures complete { IsFaultless (map string_bytes words.now)
+        (seen S.left S.faults source.old source.new) (seen K.taken K.faults sink.old sink.new)
         → (result ≡ 0) ⊎ (result ≡ 9) }
 {
-    let outcome = told(rt, alloc, words, source, gate, modules);
+    let outcome = told(alloc, outcome_of(rt, alloc, words, source, gate, modules));
     write::write_outcome(sink, &outcome)
-}
-
-/// What is to be written: the text of the run's history, of the steps or of the load's summary, or why there is none, with
-/// its line.
-#[tactic(auto, using(crate::proofs::Told::told_cause))]
-fn told<S: Source, G: Gate, P: Policy, R: Threads + Wait + Sync>(
-    rt: &R,
-    alloc: Global,
-    words: &[String],
-    source: &mut S,
-    gate: &G,
-    modules: Vec<P>,
-) -> Result<String, ToldRefusal>
-    requires modules { AreAllModules (map (λ p. module_of (P.spec p)) modules.items) }
-    requires fresh { All (λ p. IsFresh (P.spec p)) modules.items }
-    ensures { IsOutcome (map string_bytes words.now) (seen S.left S.faults source.old source.new) (bytes_of_outcome result) }
-{
-    match outcome_of(rt, alloc, words, source, gate, modules) {
-        Ok(text) => Ok(text),
-        Err(refusal) => Err(ToldRefusal::new(alloc, refusal)),
-    }
 }
 
 /// The text of the run's history, of the steps or of the load's summary, or why there is none.
@@ -103,7 +87,8 @@ fn outcome_of<S: Source, G: Gate, P: Policy, R: Threads + Wait + Sync>(
 ) -> Result<String, Refusal>
     requires modules { AreAllModules (map (λ p. module_of (P.spec p)) modules.items) }
     requires fresh { All (λ p. IsFresh (P.spec p)) modules.items }
-    ensures { IsOutcome (map string_bytes words.now) (seen S.left S.faults source.old source.new) (bytes_of_outcome result) }
+    ensures { IsOutcome (map string_bytes words.now)
+        (seen S.left S.faults source.old source.new) (bytes_of_outcome result) }
 {
     match Command::of_words(words) {
         None => Err(Refusal::Usage),

@@ -2,6 +2,7 @@
 
 use crate::tests::{DENIAL, DENIED, run_load, run_script, wants};
 use mf_io::{Gate, MemSink};
+use std::alloc::{AllocError, Global};
 use std::process::Abort;
 use std::sync::Wait;
 use std::sync::atomic::{AtomicU64, Ordering};
@@ -16,23 +17,33 @@ struct Counts {
     others: AtomicU64,
 }
 
-impl Gate for Counts {
-    fn between<R: Threads + Wait + Sync>(&self, _rt: &R, task: u32, line: u32) {
+impl Counts {
+    fn new() -> Counts {
+        Counts {
+            between: AtomicU64::new(0),
+            after: AtomicU64::new(0),
+            others: AtomicU64::new(0),
+        }
+    }
+
+    /// Counts a call for this line, `own` where it is the first line of the first task.
+    fn count(&self, own: &AtomicU64, task: u32, line: u32) {
         let count = if task == 0 && line == 1 {
-            &self.between
+            own
         } else {
             &self.others
         };
         count.fetch_add(1, Ordering::SeqCst);
     }
+}
+
+impl Gate for Counts {
+    fn between<R: Threads + Wait + Sync>(&self, _rt: &R, task: u32, line: u32) {
+        self.count(&self.between, task, line);
+    }
 
     fn after<R: Threads + Wait + Sync>(&self, _rt: &R, task: u32, line: u32) {
-        let count = if task == 0 && line == 1 {
-            &self.after
-        } else {
-            &self.others
-        };
-        count.fetch_add(1, Ordering::SeqCst);
+        self.count(&self.after, task, line);
     }
 }
 
@@ -111,11 +122,7 @@ impl Gate for Meeting {
 #[test]
 fn each_line_calls_the_gate_once(rt: HostRuntime) -> Result<(), Fail> {
     let alloc = rt.alloc();
-    let counts = Counts {
-        between: AtomicU64::new(0),
-        after: AtomicU64::new(0),
-        others: AtomicU64::new(0),
-    };
+    let counts = Counts::new();
     let mut sink = MemSink::new(alloc, 1000, 1000, Vec::new(alloc))?;
     let status = run_script(&rt, alloc, DENIAL, &mut sink, &counts)?;
     wants(&rt, "one line", status, 0, &sink, DENIED.as_bytes());
@@ -134,13 +141,24 @@ read /f
 end
 ";
 
+/// The meeting of the script's two tasks, whose history the sink takes.
+fn meeting_of<R: Abort + Threads + Wait + Sync>(
+    rt: &R,
+    alloc: Global,
+    script: &str,
+    sink: &mut MemSink,
+) -> Result<Meeting, AllocError> {
+    let meeting = Meeting::new();
+    let status = run_script(rt, alloc, script, sink, &meeting)?;
+    assert!(rt; status == 0);
+    Ok(meeting)
+}
+
 #[test]
 fn one_task_commits_while_another_is_between(rt: HostRuntime) -> Result<(), Fail> {
     let alloc = rt.alloc();
-    let meeting = Meeting::new();
     let mut sink = MemSink::new(alloc, 1000, 1000, Vec::new(alloc))?;
-    let status = run_script(&rt, alloc, TWO_READERS, &mut sink, &meeting)?;
-    assert!(rt; status == 0);
+    let meeting = meeting_of(&rt, alloc, TWO_READERS, &mut sink)?;
     meeting.wants_both(&rt);
     Ok(())
 }
@@ -182,10 +200,9 @@ leave a
 #[test]
 fn a_stale_commit_is_tried_again(rt: HostRuntime) -> Result<(), Fail> {
     let alloc = rt.alloc();
-    let meeting = Meeting::new();
     let mut sink = MemSink::new(alloc, 1000, 1000, Vec::new(alloc))?;
-    let status = run_script(&rt, alloc, READER_AND_REMOVER, &mut sink, &meeting)?;
-    assert!(rt; status == 0 && sink.taken().ends_with(REMOVED_BEFORE_THE_COMMIT.as_bytes()));
+    let meeting = meeting_of(&rt, alloc, READER_AND_REMOVER, &mut sink)?;
+    assert!(rt; sink.taken().ends_with(REMOVED_BEFORE_THE_COMMIT.as_bytes()));
     wants_count(&rt, &meeting.waits_that_ran_out, 0);
     wants_count(&rt, &meeting.calls_between, 3);
     Ok(())

@@ -5,6 +5,7 @@ use crate::tests::wants;
 use mf_biba::Biba;
 use mf_bsdextended::Bsdextended;
 use mf_io::{MemSink, MemSource, Sink, Source};
+use mf_lomac::Lomac;
 use mf_mls::Mls;
 use mf_partition::Partition;
 use mf_policy::Policy;
@@ -143,6 +144,7 @@ fn step_with<S: Source, K: Sink>(
     let mut modules: Vec<Box<dyn Policy + Send + Sync>> = Vec::new(alloc);
     modules.push(Box::new(alloc, Biba::new())?)?;
     modules.push(Box::new(alloc, Mls::new())?)?;
+    modules.push(Box::new(alloc, Lomac::new())?)?;
     modules.push(Box::new(alloc, Partition::new())?)?;
     modules.push(Box::new(alloc, Bsdextended::new(alloc)?)?)?;
     modules.push(Box::new(alloc, Priority::new())?)?;

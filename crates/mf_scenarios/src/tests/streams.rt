@@ -4,6 +4,7 @@ use crate::tests::{DENIAL, DENIED, run_with, words_of};
 use mf_biba::Biba;
 use mf_bsdextended::Bsdextended;
 use mf_io::{KnownSink, OpenGate, StdSource, SureSink, SureSource};
+use mf_lomac::Lomac;
 use mf_mls::Mls;
 use mf_partition::Partition;
 use mf_policy::Policy;
@@ -24,6 +25,7 @@ fn run_over_sure<R: Threads + Wait + Sync>(
     let mut modules: Vec<Box<dyn Policy + Send + Sync>> = Vec::new(alloc);
     modules.push(Box::new(alloc, Biba::new())?)?;
     modules.push(Box::new(alloc, Mls::new())?)?;
+    modules.push(Box::new(alloc, Lomac::new())?)?;
     modules.push(Box::new(alloc, Partition::new())?)?;
     modules.push(Box::new(alloc, Bsdextended::new(alloc)?)?)?;
     modules.push(Box::new(alloc, Priority::new())?)?;

@@ -3,7 +3,7 @@ use denote.Param.Object.{read_made, Made}
 use Rattle.mf_bsdextended.specs.declared.bsdextended.Bsdextended.{Bsdextended}
 use Rattle.mf_policy.specs.declared.spec.Spec.{Spec}
 use Rattle.mf_policy.specs.declared.spec.Spec.TheVariants as means
-use Rattle.mf_top.proofs.Modules.{are_all, are_fresh, behind}
+use Rattle.mf_top.proofs.Modules.{are_all, behind, one_of_each}
 use Rattle.mf_scenarios.proofs.tests.stepping.step_with.OwnLists.{own-1}
 use Rattle.mf_scenarios.proofs.tests.stepping.step_with.Goals as goal
 
@@ -13,19 +13,23 @@ made_spec {i} {at} same {y} {x} made = read_made own-1 (own-1.entry at) at refl 
 
 pub run_steps-requires-clause-modules : goal.run_steps-requires-clause-modules
 run_steps-requires-clause-modules g c κs within =
-    are_all _ _ _ _ _ _ _ _ _ _ _ _ c.new-modules.ensures.items c.in_ok-push.ensures.items c.in_ok-push-2.ensures.items c.in_ok-push-3.ensures.items c.in_ok-push-4.ensures.items c.in_ok-push-5.ensures.items
+    are_all _ _
+    (one_of_each (λ p. (own-1.entry p.vtable).1.spec p.value) _ _ _ _ _ _ _ _ _ _ _ _ _
+    c.new-modules.ensures.items c.in_ok-push.ensures.items c.in_ok-push-2.ensures.items c.in_ok-push-3.ensures.items c.in_ok-push-4.ensures.items c.in_ok-push-5.ensures.items c.in_ok-push-6.ensures.items
     (behind (λ v. (own-1.entry v).0.Denot) (λ v x. (own-1.entry v).1.spec x) _ _ c.into_dyn_box.result.value _ c.into_dyn_box.ensures.0 (λ y. refl))
     (behind (λ v. (own-1.entry v).0.Denot) (λ v x. (own-1.entry v).1.spec x) _ _ c.into_dyn_box-in_ok-new-2.result.value _ c.into_dyn_box-in_ok-new-2.ensures.0 (λ y. refl))
     (behind (λ v. (own-1.entry v).0.Denot) (λ v x. (own-1.entry v).1.spec x) _ _ c.into_dyn_box-in_ok-new-3.result.value _ c.into_dyn_box-in_ok-new-3.ensures.0 (λ y. refl))
-    (made_spec c.into_dyn_box-in_ok-new-5.ensures.0 c.into_dyn_box-in_ok-new-5.ensures.1 ∙ (ap (λ (p : Bsdextended). means.Bsdextended p.rules p.first_match) c.in_ok-new-5.ensures.ok ∙ c.in_ok-new-4.ensures))
-    (behind (λ v. (own-1.entry v).0.Denot) (λ v x. (own-1.entry v).1.spec x) _ _ c.into_dyn_box-in_ok-new-6.result.value _ c.into_dyn_box-in_ok-new-6.ensures.0 (λ y. refl))
+    (behind (λ v. (own-1.entry v).0.Denot) (λ v x. (own-1.entry v).1.spec x) _ _ c.into_dyn_box-in_ok-new-4.result.value _ c.into_dyn_box-in_ok-new-4.ensures.0 (λ y. refl))
+    (made_spec c.into_dyn_box-in_ok-new-6.ensures.0 c.into_dyn_box-in_ok-new-6.ensures.1 ∙ (ap (λ (p : Bsdextended). means.Bsdextended p.rules p.first_match) c.in_ok-new-6.ensures.ok ∙ c.in_ok-new-5.ensures))
+    (behind (λ v. (own-1.entry v).0.Denot) (λ v x. (own-1.entry v).1.spec x) _ _ c.into_dyn_box-in_ok-new-7.result.value _ c.into_dyn_box-in_ok-new-7.ensures.0 (λ y. refl)))
 
 pub run_steps-requires-clause-fresh : goal.run_steps-requires-clause-fresh
 run_steps-requires-clause-fresh g c κs within =
-    are_fresh _ _ _ _ _ _ _ _ _ _ _ c.new-modules.ensures.items c.in_ok-push.ensures.items c.in_ok-push-2.ensures.items c.in_ok-push-3.ensures.items c.in_ok-push-4.ensures.items c.in_ok-push-5.ensures.items
-    (λ p. (own-1.entry p.vtable).1.spec p.value)
+    (one_of_each (λ p. (own-1.entry p.vtable).1.spec p.value) _ _ _ _ _ _ _ _ _ _ _ _ _
+    c.new-modules.ensures.items c.in_ok-push.ensures.items c.in_ok-push-2.ensures.items c.in_ok-push-3.ensures.items c.in_ok-push-4.ensures.items c.in_ok-push-5.ensures.items c.in_ok-push-6.ensures.items
     (behind (λ v. (own-1.entry v).0.Denot) (λ v x. (own-1.entry v).1.spec x) _ _ c.into_dyn_box.result.value _ c.into_dyn_box.ensures.0 (λ y. refl))
     (behind (λ v. (own-1.entry v).0.Denot) (λ v x. (own-1.entry v).1.spec x) _ _ c.into_dyn_box-in_ok-new-2.result.value _ c.into_dyn_box-in_ok-new-2.ensures.0 (λ y. refl))
     (behind (λ v. (own-1.entry v).0.Denot) (λ v x. (own-1.entry v).1.spec x) _ _ c.into_dyn_box-in_ok-new-3.result.value _ c.into_dyn_box-in_ok-new-3.ensures.0 (λ y. refl))
-    (made_spec c.into_dyn_box-in_ok-new-5.ensures.0 c.into_dyn_box-in_ok-new-5.ensures.1 ∙ (ap (λ (p : Bsdextended). means.Bsdextended p.rules p.first_match) c.in_ok-new-5.ensures.ok ∙ c.in_ok-new-4.ensures))
-    (behind (λ v. (own-1.entry v).0.Denot) (λ v x. (own-1.entry v).1.spec x) _ _ c.into_dyn_box-in_ok-new-6.result.value _ c.into_dyn_box-in_ok-new-6.ensures.0 (λ y. refl))
+    (behind (λ v. (own-1.entry v).0.Denot) (λ v x. (own-1.entry v).1.spec x) _ _ c.into_dyn_box-in_ok-new-4.result.value _ c.into_dyn_box-in_ok-new-4.ensures.0 (λ y. refl))
+    (made_spec c.into_dyn_box-in_ok-new-6.ensures.0 c.into_dyn_box-in_ok-new-6.ensures.1 ∙ (ap (λ (p : Bsdextended). means.Bsdextended p.rules p.first_match) c.in_ok-new-6.ensures.ok ∙ c.in_ok-new-5.ensures))
+    (behind (λ v. (own-1.entry v).0.Denot) (λ v x. (own-1.entry v).1.spec x) _ _ c.into_dyn_box-in_ok-new-7.result.value _ c.into_dyn_box-in_ok-new-7.ensures.0 (λ y. refl))).fresh
