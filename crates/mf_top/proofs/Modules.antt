@@ -45,8 +45,8 @@ is_fresh s m is = is ∙ ap fresh_of (sym (ap module_of is ∙ own_module m))
 
 one_more : {X : Type 0} (spec : X → Spec) (m : Module) (x : X) (xs ys : List X) (ms : List Module) → ys ≡ xs ++ x ∷ [] → spec x ≡ fresh_of m → AreFirst spec xs ms
     → AreFirst spec ys (ms ++ m ∷ [])
-one_more spec m x xs ys ms is fresh before =
-    let f = λ x. module_of (spec x) in
+one_more {X} spec m x xs ys ms is fresh before =
+    let f : X → Module = λ x. module_of (spec x) in
     let last : f x ∷ [] ≡ m ∷ [] = ap (λ (n : Module). n ∷ []) (ap module_of fresh ∙ own_module m) in
     record {
       modules = ap (map f) is ∙ map-append f xs (x ∷ []) ∙ ap (λ (ns : List Module). ns ++ f x ∷ []) before.modules ∙ ap (λ (ns : List Module). ms ++ ns) last;
