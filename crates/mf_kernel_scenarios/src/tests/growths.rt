@@ -1,20 +1,34 @@
 //! A core whose growths are refused: it is as it was before, its list and catalogue too, and the
 //! call done again gives the same. Where no memory is refused this shows nothing but what the calls
 //! do; checks/memory.sh runs it with one allocation refused after another.
+ghost use Rattle.std.specs.Prelude.{◌≡◌, ◌<◌, All, length, map};
+ghost use Rattle.mf_policy.specs.Modules.{module_of};
+ghost use Rattle.mf_list.specs.Fresh.{IsFresh};
+ghost use Rattle.mf_calls.specs.WellFormed.{IsWellFormed};
+ghost use Rattle.mf_core.specs.AllModules.{AreAllModules};
+ghost use Rattle.mf_core.specs.CoreView.{specs_of};
+ghost use Rattle.mf_core.specs.Policies.{AreOf};
 
-use crate::tests::machine::{Machine, change, commit, enter, history_of, leave};
-use crate::tests::{OverModules, history_of as history_over};
+use mf_biba::Biba;
+use mf_bsdextended::Bsdextended;
 use mf_calls::Script;
 use mf_core::{ChangeOutcome, Commit, Core, Turn};
-use mf_list::Listed;
+use mf_hist::print_history;
+use mf_list::{Catalogue, Fixed, Listed, PolicyList};
+use mf_lomac::Lomac;
+use mf_mls::Mls;
+use mf_names::SCRIPT_LIMIT;
+use mf_partition::Partition;
+use mf_plan::Plan;
 use mf_policy::Policy;
+use mf_priority::Priority;
+use mf_script::read_script;
 use std::alloc::{AllocError, Global};
 use std::process::Abort;
-use std::sync::Wait;
 use std::test::Fail;
 
-/// The first task's lines take memory: for an entity, for what it holds or hands back, for a label, or
-/// for a policy.
+/// The lines of a task that take memory: for an entity, for what it holds or hands back, for a
+/// label, or for a policy.
 const GROWING: &str = "boot mac_biba
 boot mac_lomac
 file /f reg uid 0 gid 0 mode 644 label - text hi
@@ -40,8 +54,6 @@ ugidfw add subject uid 5 object mode n
 ugidfw list
 kldunload mac_partition
 @c exit
-end
-task u uid 0 gid 0 label -
 end
 ";
 
@@ -82,8 +94,6 @@ write /hi x
 setpmac lomac/high
 getpmac
 end
-task u uid 0 gid 0 label -
-end
 ";
 
 const LOWERED: &[&str] = &[
@@ -93,6 +103,29 @@ const LOWERED: &[&str] = &[
     "done t 4 no EPERM cred_relabel mac_lomac 1",
     "done t 5 ok label lomac/5",
 ];
+
+/// A core of a script with a task, with its policies.
+#[derive(Drop)]
+struct Machine<'s, P: Policy> {
+    core: Core<'s>,
+    fixed: Fixed<P>,
+    list: PolicyList<P>,
+    catalogue: Catalogue<P>,
+
+    ghost policies: { AreOf (specs_of core) fixed list catalogue },
+    ghost tasks: { 0 < length core.script.tasks },
+}
+
+/// The text of the history.
+fn history_of<P: Policy>(
+    alloc: Global,
+    script: &Script,
+    machine: &Machine<P>,
+) -> Result<String, AllocError> {
+    let mut text = String::new(alloc);
+    print_history(script, machine.core.history(), &mut text)?;
+    Ok(text)
+}
 
 /// What can be read of the core: its turn and its counts, the live entities, and the history.
 fn reading_of<P: Policy>(
@@ -124,6 +157,20 @@ fn wants_reading<P: Policy>(
     Ok(())
 }
 
+/// Plans the call of the open entry, asks the policies, and commits it.
+fn commit<P: Policy>(
+    rt: &impl Abort,
+    alloc: Global,
+    machine: &mut Machine<P>,
+) -> Result<Commit, AllocError> {
+    assert!(rt; machine.core.turn(0) == Turn::Entered);
+    let mut plan = Plan::new();
+    machine.core.plan(0, &mut plan);
+    let listed = Listed::new(&machine.fixed, &machine.list);
+    let verdict = Core::walk(&listed, &plan);
+    machine.core.done(alloc, 0, &listed, &plan, &verdict)
+}
+
 /// Commits the call of the open entry; where memory is refused, the core is as it was, and the call
 /// is committed once more.
 fn commit_or_stay<P: Policy>(
@@ -133,15 +180,31 @@ fn commit_or_stay<P: Policy>(
     machine: &mut Machine<P>,
 ) -> Result<(), AllocError> {
     let before = reading_of(alloc, script, machine)?;
-    let done = match commit(rt, alloc, machine, 0) {
+    let done = match commit(rt, alloc, machine) {
         Ok(done) => done,
         Err(AllocError) => {
             wants_reading(rt, alloc, script, machine, before.as_str())?;
-            commit(rt, alloc, machine, 0)?
+            commit(rt, alloc, machine)?
         }
     };
     assert!(rt; done == Commit::Done);
     Ok(())
+}
+
+/// Makes the change of the task's next line.
+fn change<P: Policy>(
+    rt: &impl Abort,
+    alloc: Global,
+    machine: &mut Machine<P>,
+) -> Result<ChangeOutcome, AllocError> {
+    assert!(rt; machine.core.turn(0) == Turn::Change);
+    machine.core.change(
+        alloc,
+        0,
+        &machine.fixed,
+        &mut machine.list,
+        &mut machine.catalogue,
+    )
 }
 
 /// Makes the change of the task's next line; where memory is refused, core and policies are as they
@@ -153,15 +216,25 @@ fn change_or_stay<P: Policy>(
     machine: &mut Machine<P>,
 ) -> Result<(), AllocError> {
     let before = reading_of(alloc, script, machine)?;
-    let outcome = match change(rt, alloc, machine, 0) {
+    let outcome = match change(rt, alloc, machine) {
         Ok(outcome) => outcome,
         Err(AllocError) => {
             wants_reading(rt, alloc, script, machine, before.as_str())?;
-            change(rt, alloc, machine, 0)?
+            change(rt, alloc, machine)?
         }
     };
     assert!(rt; outcome == ChangeOutcome::Done);
     Ok(())
+}
+
+fn enter<P: Policy>(rt: &impl Abort, machine: &mut Machine<P>) {
+    assert!(rt; machine.core.turn(0) == Turn::Entry);
+    machine.core.enter(0);
+}
+
+fn leave<P: Policy>(rt: &impl Abort, machine: &mut Machine<P>) {
+    assert!(rt; machine.core.turn(0) == Turn::Done);
+    machine.core.leave(0);
 }
 
 /// Does the task's next line, where it has one.
@@ -173,9 +246,9 @@ fn do_line<P: Policy>(
 ) -> Result<(), AllocError> {
     match machine.core.turn(0) {
         Turn::Entry => {
-            enter(rt, machine, 0);
+            enter(rt, machine);
             commit_or_stay(rt, alloc, script, machine)?;
-            leave(rt, machine, 0);
+            leave(rt, machine);
             Ok(())
         }
         Turn::Change => change_or_stay(rt, alloc, script, machine),
@@ -183,31 +256,44 @@ fn do_line<P: Policy>(
     }
 }
 
-/// The task's lines, one after another.
-#[derive(Drop)]
-struct Lines;
-
-impl OverModules for Lines {
-    fn over<P: Policy, R: Wait + Abort>(
-        &self,
-        rt: &R,
-        alloc: Global,
-        script: &Script,
-        modules: Vec<P>,
-    ) -> Result<String, AllocError> {
-        assert!(rt; script.tasks.len() == 2);
-        let (core, fixed, list, catalogue) = Core::new(alloc, script, modules)?;
-        let mut machine = Machine {
-            core,
-            fixed,
-            list,
-            catalogue,
-        };
-        for _ in 0..MANY {
-            do_line(rt, alloc, script, &mut machine)?;
-        }
-        history_of(alloc, script, &machine)
+/// The history of the task's lines, one after another.
+fn history_over<P: Policy>(
+    rt: &impl Abort,
+    alloc: Global,
+    script: &Script,
+    modules: Vec<P>,
+) -> Result<String, AllocError>
+    requires formed { IsWellFormed script.now }
+    requires tasks { 0 < length script.now.tasks }
+    requires modules { AreAllModules (map (λ p. module_of (P.spec p)) modules.items) }
+    requires fresh { All (λ p. IsFresh (P.spec p)) modules.items }
+{
+    let (core, fixed, list, catalogue) = Core::new(alloc, script, modules)?;
+    let mut machine = Machine {
+        core,
+        fixed,
+        list,
+        catalogue,
+    };
+    for _ in 0..MANY {
+        do_line(rt, alloc, script, &mut machine)?;
     }
+    history_of(alloc, script, &machine)
+}
+
+/// The history over the modules that are built in.
+fn over_modules(rt: &impl Abort, alloc: Global, script: &Script) -> Result<String, AllocError>
+    requires formed { IsWellFormed script.now }
+    requires tasks { 0 < length script.now.tasks }
+{
+    let mut modules: Vec<Box<dyn Policy + Send + Sync>> = Vec::new(alloc);
+    modules.push(Box::new(alloc, Biba::new())?)?;
+    modules.push(Box::new(alloc, Mls::new())?)?;
+    modules.push(Box::new(alloc, Lomac::new())?)?;
+    modules.push(Box::new(alloc, Partition::new())?)?;
+    modules.push(Box::new(alloc, Bsdextended::new(alloc)?)?)?;
+    modules.push(Box::new(alloc, Priority::new())?)?;
+    history_over(rt, alloc, script, modules)
 }
 
 /// Wants the replies in a history to be these.
@@ -231,16 +317,22 @@ fn wants_replies(
     Ok(())
 }
 
-#[test]
-fn a_core_after_refused_growths(rt: HostRuntime) -> Result<(), Fail> {
-    let text = history_over(&rt, rt.alloc(), GROWING, &Lines)?;
-    wants_replies(&rt, rt.alloc(), text.as_str(), REPLIES)?;
+/// Wants the task's lines of this script to be replied to so.
+fn wants_lines(rt: &impl Abort, alloc: Global, text: &str, replies: &[&str]) -> Result<(), Fail> {
+    assert!(rt; text.len() <= SCRIPT_LIMIT);
+    let script = read_script(alloc, text.as_bytes())?;
+    assert!(rt; script.tasks.len() == 1);
+    let history = over_modules(rt, alloc, &script)?;
+    wants_replies(rt, alloc, history.as_str(), replies)?;
     Ok(())
 }
 
 #[test]
+fn a_core_after_refused_growths(rt: HostRuntime) -> Result<(), Fail> {
+    wants_lines(&rt, rt.alloc(), GROWING, REPLIES)
+}
+
+#[test]
 fn a_process_that_lowers_itself(rt: HostRuntime) -> Result<(), Fail> {
-    let text = history_over(&rt, rt.alloc(), LOWERING, &Lines)?;
-    wants_replies(&rt, rt.alloc(), text.as_str(), LOWERED)?;
-    Ok(())
+    wants_lines(&rt, rt.alloc(), LOWERING, LOWERED)
 }

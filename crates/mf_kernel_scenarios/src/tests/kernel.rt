@@ -7,14 +7,21 @@ ghost use Rattle.mf_perform.specs.Verdict.{verdict_of};
 ghost use Rattle.mf_core.specs.AllModules.{AreAllModules};
 ghost use Rattle.mf_top.specs.Passes.{IsSameTicket};
 
-use crate::tests::{OverModules, history_of};
+use mf_biba::Biba;
+use mf_bsdextended::Bsdextended;
 use mf_calls::Script;
 use mf_core::{Commit, Turn};
 use mf_hist::print_history;
 use mf_list::Listed;
+use mf_lomac::Lomac;
+use mf_mls::Mls;
+use mf_names::SCRIPT_LIMIT;
+use mf_partition::Partition;
 use mf_perform::Verdict;
 use mf_plan::Plan;
 use mf_policy::Policy;
+use mf_priority::Priority;
+use mf_script::read_script;
 use mf_share::{Job, Kernel, Ticket};
 use std::alloc::{AllocError, Global};
 use std::marker::Brand;
@@ -121,38 +128,38 @@ fn commit_twice<P: Policy, J: Job, B: Ledger, R: Wait>(
     }
 }
 
-/// A relabel between the walk and the commit of another task's read.
-#[derive(Drop)]
-struct RelabelDuringARead;
-
-impl OverModules for RelabelDuringARead {
-    fn over<P: Policy, R: Wait + Abort>(
-        &self,
-        rt: &R,
-        alloc: Global,
-        script: &Script,
-        modules: Vec<P>,
-    ) -> Result<String, AllocError> {
-        let parts = script.tasks.len() as u64 + 1;
-        relabelled_during_a_read::<P, Brand, Brand, R>(
-            rt,
-            alloc,
-            script,
-            modules,
-            Blank::new(parts),
-            Blank::new(parts),
-        )
-    }
-}
-
 #[test]
 fn a_plan_goes_stale(rt: HostRuntime) -> Result<(), Fail> {
-    let text = history_of(
-        &rt,
-        rt.alloc(),
-        RELABELLED_DURING_A_READ,
-        &RelabelDuringARead,
-    )?;
+    let alloc = rt.alloc();
+    assert!(rt; RELABELLED_DURING_A_READ.len() <= SCRIPT_LIMIT);
+    let script = read_script(alloc, RELABELLED_DURING_A_READ.as_bytes())?;
+    let text = over_modules(&rt, alloc, &script)?;
     assert!(rt; text.as_str() == HISTORY);
     Ok(())
+}
+
+/// The history over the modules that are built in.
+fn over_modules<R: Wait + Abort>(
+    rt: &R,
+    alloc: Global,
+    script: &Script,
+) -> Result<String, AllocError>
+    requires formed { IsWellFormed script.now }
+{
+    let parts = script.tasks.len() as u64 + 1;
+    let mut modules: Vec<Box<dyn Policy + Send + Sync>> = Vec::new(alloc);
+    modules.push(Box::new(alloc, Biba::new())?)?;
+    modules.push(Box::new(alloc, Mls::new())?)?;
+    modules.push(Box::new(alloc, Lomac::new())?)?;
+    modules.push(Box::new(alloc, Partition::new())?)?;
+    modules.push(Box::new(alloc, Bsdextended::new(alloc)?)?)?;
+    modules.push(Box::new(alloc, Priority::new())?)?;
+    relabelled_during_a_read::<Box<dyn Policy + Send + Sync>, Brand, Brand, R>(
+        rt,
+        alloc,
+        script,
+        modules,
+        Blank::new(parts),
+        Blank::new(parts),
+    )
 }

@@ -1,4 +1,4 @@
-use Rattle.mf_kernel_scenarios.proofs.tests.kernel.RelabelDuringAReadOverModules.over.Given as goal
+use Rattle.mf_kernel_scenarios.proofs.tests.kernel.over_modules.Given as goal
 
 abbrev pub ghosts-relabelled_during_a_read-J-Job : goal.ghosts-relabelled_during_a_read-J-Job
 ghosts-relabelled_during_a_read-J-Job g a = record { script = a.script.now }

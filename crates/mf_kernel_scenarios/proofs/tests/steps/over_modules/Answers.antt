@@ -4,15 +4,15 @@ use Rattle.mf_bsdextended.specs.declared.bsdextended.Bsdextended.{Bsdextended}
 use Rattle.mf_policy.specs.declared.spec.Spec.{Spec}
 use Rattle.mf_policy.specs.declared.spec.Spec.TheVariants as means
 use Rattle.mf_top.proofs.Modules.{are_all, behind, one_of_each}
-use Rattle.mf_kernel_scenarios.proofs.tests.over_modules.OwnLists.{own-1}
-use Rattle.mf_kernel_scenarios.proofs.tests.over_modules.Goals as goal
+use Rattle.mf_kernel_scenarios.proofs.tests.steps.over_modules.OwnLists.{own-1}
+use Rattle.mf_kernel_scenarios.proofs.tests.steps.over_modules.Goals as goal
 
 made_spec : {i at : own-1.I} → i ≡ at → {y : (own-1.entry i).0.Denot} {x : (own-1.entry at).0.Denot}
     → Made (λ j. (own-1.entry j).0.coded.code) (own-1.entry at).0.coded.code at i y x → (own-1.entry i).1.spec y ≡ (own-1.entry at).1.spec x
 made_spec {i} {at} same {y} {x} made = read_made own-1 (own-1.entry at) at refl Spec (λ j v. j.1.spec v) i y x made
 
-pub over-requires-clause-modules : goal.over-requires-clause-modules
-over-requires-clause-modules g c =
+pub change_during_entry-requires-clause-modules : goal.change_during_entry-requires-clause-modules
+change_during_entry-requires-clause-modules g c κs within =
     are_all _ _
     (one_of_each (λ p. (own-1.entry p.vtable).1.spec p.value) _ _ _ _ _ _ _ _ _ _ _ _ _
     c.new-modules.ensures.items c.in_ok-push.ensures.items c.in_ok-push-2.ensures.items c.in_ok-push-3.ensures.items c.in_ok-push-4.ensures.items c.in_ok-push-5.ensures.items c.in_ok-push-6.ensures.items
@@ -23,8 +23,8 @@ over-requires-clause-modules g c =
     (made_spec c.into_dyn_box-in_ok-new-6.ensures.0 c.into_dyn_box-in_ok-new-6.ensures.1 ∙ (ap (λ (p : Bsdextended). means.Bsdextended p.rules p.first_match) c.in_ok-new-6.ensures.ok ∙ c.in_ok-new-5.ensures))
     (behind (λ v. (own-1.entry v).0.Denot) (λ v x. (own-1.entry v).1.spec x) _ _ c.into_dyn_box-in_ok-new-7.result.value _ c.into_dyn_box-in_ok-new-7.ensures.0 (λ y. refl)))
 
-pub over-requires-clause-fresh : goal.over-requires-clause-fresh
-over-requires-clause-fresh g c =
+pub change_during_entry-requires-clause-fresh : goal.change_during_entry-requires-clause-fresh
+change_during_entry-requires-clause-fresh g c κs within =
     (one_of_each (λ p. (own-1.entry p.vtable).1.spec p.value) _ _ _ _ _ _ _ _ _ _ _ _ _
     c.new-modules.ensures.items c.in_ok-push.ensures.items c.in_ok-push-2.ensures.items c.in_ok-push-3.ensures.items c.in_ok-push-4.ensures.items c.in_ok-push-5.ensures.items c.in_ok-push-6.ensures.items
     (behind (λ v. (own-1.entry v).0.Denot) (λ v x. (own-1.entry v).1.spec x) _ _ c.into_dyn_box.result.value _ c.into_dyn_box.ensures.0 (λ y. refl))
