@@ -85,7 +85,12 @@ impl Lattice for Biba {
         credential_relabel(label, asked)
     }
 
-    fn relabel_object(_subject: &Elem, label: &RangeLabel, old: &Elem, asked: &RangeLabel) -> Errno {
+    fn relabel_object(
+        _subject: &Elem,
+        label: &RangeLabel,
+        old: &Elem,
+        asked: &RangeLabel,
+    ) -> Errno {
         object_relabel(label, old, asked)
     }
 }

@@ -86,7 +86,12 @@ impl Lattice for Lomac {
         errno_unless(may_assign(subject, &asked.effective), Errno::Eperm)
     }
 
-    fn relabel_object(subject: &Elem, _label: &RangeLabel, old: &Elem, asked: &RangeLabel) -> Errno {
+    fn relabel_object(
+        subject: &Elem,
+        _label: &RangeLabel,
+        old: &Elem,
+        asked: &RangeLabel,
+    ) -> Errno {
         let may_give = dominates(subject, old) && may_assign(subject, &asked.effective);
         errno_unless(may_give, Errno::Eperm)
     }
