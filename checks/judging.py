@@ -12,7 +12,7 @@ from macsim_text import BadInput, events_of, script_of
 
 
 # The allocations in which `main` begins; its words come behind them.
-FIRST_DOZEN = 12
+BEGINNING = 13
 
 
 class Work:
@@ -40,7 +40,7 @@ def lacks_memory(work, number, ended):
     """Whether a run that ended with 9, where the allocation of that number was refused, says so.
     Where its words weren't there yet it prints nothing."""
     return ended.printed == b"macsim: no memory\n" or (
-        not ended.printed and number <= FIRST_DOZEN + len(work.words)
+        not ended.printed and number <= BEGINNING + len(work.words)
     )
 
 

@@ -1,6 +1,6 @@
 """Refuses the program one allocation after another, in a run of its own each: over three worked
 scripts, a load and the examples. A run that is refused an allocation ends with 0 and what is right
-for its script, or with 9 and no part of a history; the first dozen, in which `main` makes the words
+for its script, or with 9 and no part of a history; the first thirteen, in which `main` makes the words
 and the modules, end with 9. The tests of refused growths are run so too, with each refused: they
 hold, or say that memory ran out. A line for each script, with how many allocations it asks for and
 how many were refused, then a count. Of each script every 16th is refused, by the day of the year
@@ -13,7 +13,7 @@ import re
 import time
 from collections import Counter
 
-from judging import FIRST_DOZEN, ROOT, Work, lacks_memory, told_of
+from judging import BEGINNING, ROOT, Work, lacks_memory, told_of
 from running import NOTHING, Program, one
 from scripts import WORKED
 
@@ -47,7 +47,7 @@ def is_as_wanted(work, number, ended):
         return False
     if ended.status == 9:
         return lacks_memory(work, number, ended)
-    return number > FIRST_DOZEN and work.is_right(ended.printed)
+    return number > BEGINNING and work.is_right(ended.printed)
 
 
 def is_held(ended):
@@ -111,7 +111,7 @@ def main():
     program = Program(ROOT / "crates/macsim/out/macsim", given.refusing)
     for place, work in enumerate(works(program)):
         if place == 0:
-            refuse_work(count, program, work, range(1, FIRST_DOZEN + 1))
+            refuse_work(count, program, work, range(1, BEGINNING + 1))
         refuse_work(count, program, work, count.numbers_to(work.usual.allocations))
     for crate in given.tested:
         refuse_tests(count, crate, given.refusing)

@@ -11,7 +11,7 @@ import time
 from collections import Counter
 
 import scripts
-from judging import FIRST_DOZEN, ROOT, Work, fault_of, lacks_memory, told_of
+from judging import BEGINNING, ROOT, Work, fault_of, lacks_memory, told_of
 from running import ALL, ALL_PROCESSORS, NOTHING, Program, Refused, on_processors, one
 
 # How often each script is run on each number of processors.
@@ -91,7 +91,7 @@ class Runs:
     def without_memory(self, every, start):
         for work in self.works:
             most, statuses = work.usual.allocations, Counter()
-            first = range(1, FIRST_DOZEN + len(work.words) + 1)
+            first = range(1, BEGINNING + len(work.words) + 1)
             for number in sorted({*first, *range(start, most + 1, every)}):
                 name = f"allocation {number} refused"
                 ended = self.try_run(name, work, refused=number)
