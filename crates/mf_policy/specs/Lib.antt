@@ -5,6 +5,7 @@ pub mod IsChange
 pub mod Laws
 pub mod LoadFlags
 pub mod Loading
+pub mod Lowering
 pub mod Modules
 pub mod NewLabels
 pub mod Operations

@@ -8,6 +8,7 @@ mod lattice;
 mod laws;
 mod load_flags;
 mod loading;
+mod lowering;
 mod modules;
 mod operations;
 mod policy;
@@ -22,6 +23,7 @@ pub use lattice::{Lattice, errno_unless, lattice_answer, slot_label};
 pub use laws::{objects_get_no_range, subjects_stay_valid};
 pub use load_flags::{LoadFlags, flags_of};
 pub use loading::{LoadFault, UnloadFault, load_fault, registration_of, unload_fault};
+pub use lowering::{after_check, lowered, value_in};
 pub use modules::{
     Facts, Labelling, boot_value, facts_of, inherited, is_named, labels_kind, may_ask,
     number_asked, range_asked, takes, wants_slot,

@@ -3,6 +3,7 @@ ghost use Rattle.std.specs.Prelude.{◌≡◌, ◌<◌, ◌≤◌, [], nat_eq, f
 ghost use Rattle.std.specs.List.{insert, position_or_len};
 ghost use Rattle.mf_policy.specs.Registration.{Entry, entries_without, holds_slot, is_listed, is_of, with_newest};
 ghost use Rattle.mf_policy.specs.Dynamic.{is_dynamic};
+ghost use Rattle.mf_policy.specs.Lowering.{lomac_slot};
 ghost use Rattle.mf_policy.specs.Settings.{change_in, listed_rules};
 ghost use Rattle.mf_policy.specs.IsChange.{IsChange};
 ghost use Rattle.std.specs.Option.{option_copied};
@@ -132,6 +133,16 @@ impl SpecList {
     {
         match entry_of(&self.entries, Module::Bsdextended) {
             Some(entry) => entry.1.rules(),
+            None => None,
+        }
+    }
+
+    /// The label slot of mac_lomac, where it is listed.
+    pub fn lomac_slot(&self) -> Option<u8>
+        ensures { result ≡ lomac_slot self.now }
+    {
+        match entry_of(&self.entries, Module::Lomac) {
+            Some(entry) => entry.0.slot,
             None => None,
         }
     }
