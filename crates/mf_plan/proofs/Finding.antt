@@ -22,7 +22,7 @@ use Rattle.mf_plan.specs.Found.{AreFound, asked_at, target_at}
 use Rattle.mf_plan.specs.Names.{caller_name}
 use Rattle.mf_plan.specs.Outline.{item_asking}
 use Rattle.mf_plan.specs.Path.{found_at, lookup_along}
-use Rattle.mf_plan.specs.Plan.{plan_in, plan_of, row_for}
+use Rattle.mf_plan.specs.Plan.{call_row, plan_in, row_for}
 use Rattle.mf_plan.specs.Planned.{Plan}
 use Rattle.mf_plan.specs.Relabels.{claimed_in}
 use Rattle.mf_plan.specs.Effect.{Effect, relabelled_by}
@@ -155,7 +155,7 @@ module _ (s : State) (task : List ℕ) (me : Id) where
       (same ∙ ap (λ (e : Ended). where_done e.tail (asked_at s (about_of s task me c).place)) same_end ∙ sym (asks c))
 
   pub plan_by : (child : Option (List ℕ)) (c : Call) (plan : Plan) → process_named s.objects (caller_name task child) ≡ Some me → plan ≡ plan_in s (row_for s task c me)
-      → plan ≡ plan_of s task child c
+      → plan ≡ plan_in s (call_row s task child c)
   plan_by child c plan is same = same ∙ ap (λ (caller : Option Id). plan_in s (row_by s task c caller)) (sym is)
 
   pub are_found : (child : Option (List ℕ)) (c : Call) (found : Found) → process_named s.objects (caller_name task child) ≡ Some me → found.caller ≡ Some me

@@ -5,6 +5,7 @@ pub mod Found
 pub mod Items
 pub mod LastLabel
 pub mod Loading
+pub mod Lowering
 pub mod Names
 pub mod Outline
 pub mod Path

@@ -6,6 +6,7 @@ use Rattle.mf_objects.specs.declared.id.Id.{Id}
 use Rattle.mf_calls.specs.declared.script.Call.{Call}
 use Rattle.mf_plan.specs.declared.state.State.{State}
 use Rattle.mf_plan.specs.Effect.{relabelled_by}
+use Rattle.mf_plan.specs.Lowering.{lowering}
 use Rattle.mf_plan.specs.Names.{caller_name}
 use Rattle.mf_plan.specs.Outline.{item_asking}
 use Rattle.mf_plan.specs.Planned.{Plan}
@@ -26,5 +27,9 @@ call_row s task child c = option_map_or (row_for s task c) (process_named s.obje
 abbrev pub plan_in : State → Row → Plan
 plan_in s row = record { items = map (item_asking s.objects (option_map (λ asked. asked.1) (relabelled_by row.effect))) row.checks; tail = row.tail }
 
+-- the plan with its checks as this caller comes to them, one after another
+abbrev pub lowering_by : State → Option Id → Plan → Plan
+lowering_by s caller plan = record plan { items = option_map_or (λ me. lowering s me plan.items) caller plan.items }
+
 abbrev pub plan_of : State → List ℕ → Option (List ℕ) → Call → Plan
-plan_of s task child c = plan_in s (call_row s task child c)
+plan_of s task child c = lowering_by s (process_named s.objects (caller_name task child)) (plan_in s (call_row s task child c))

@@ -38,7 +38,7 @@ pub fn plan_of(state: &State, task: &str, child: Option<&str>, call: &Call) -> P
     requires task { IsName task.now }
     requires child { IfSome (option_copied child) IsName }
     requires formed { IsFormedCall call.now }
-    ensures { result ≡ spec.plan_of state.now task.now (option_copied child.entry) call.now }
+    ensures { result ≡ spec.plan_in state.now (spec.call_row state.now task.now (option_copied child.entry) call.now) }
 {
     let mut plan = Plan::new();
     plan.make(state, task, child, call);
@@ -53,7 +53,7 @@ impl Plan {
         requires child { IfSome (option_copied child) IsName }
         requires formed { IsFormedCall call.now }
         ensures plan { self.new
-            ≡ spec.plan_of state.now task.now (option_copied child.entry) call.now }
+            ≡ spec.plan_in state.now (spec.call_row state.now task.now (option_copied child.entry) call.now) }
         ensures found { self.new.tail ≡ Do
             → AreFound state.now task.now (option_copied child.entry) call.now result }
         ensures caller { result.caller
@@ -77,7 +77,7 @@ impl Plan {
         requires child { IfSome (option_copied child) IsName }
         requires formed { IsFormedCall call.now }
         ensures is { IsSome result
-            ↔ (self.now ≡ spec.plan_of state.now task.now (option_copied child.entry) call.now) }
+            ↔ (self.now ≡ spec.plan_in state.now (spec.call_row state.now task.now (option_copied child.entry) call.now)) }
         ensures found { self.now.tail ≡ Do → IfSome result
             (λ found. AreFound state.now task.now (option_copied child.entry) call.now found) }
         ensures caller { IfSome result (λ found. found.caller
@@ -105,7 +105,7 @@ pub fn outline_of(
     requires child { IfSome (option_copied child) IsName }
     requires formed { IsFormedCall call.now }
     ensures plan { outlines.outlined state.now.objects result
-        ≡ spec.plan_of state.now task.now (option_copied child.entry) call.now }
+        ≡ spec.plan_in state.now (spec.call_row state.now task.now (option_copied child.entry) call.now) }
     ensures live { outlines.AreLive state.now.objects result.checks }
     ensures caller { result.found.caller
         ≡ process_named state.now.objects (caller_name task.now (option_copied child.entry)) }
