@@ -6,7 +6,7 @@ use mf_elem::{Elem, LabelValue, RangeLabel, Request, SLOTS};
 use mf_errno::{Errno, Module, Priv};
 use mf_item::{CheckOp, Item, Kind, ObjectView, SubjectView};
 use mf_lomac::Lomac;
-use mf_policy::{Policy, Spec};
+use mf_policy::{Policy, Spec, after_check, lowered};
 
 #[test]
 fn facts_of_the_module(rt: HostRuntime) {
@@ -49,19 +49,28 @@ fn labelled(element: Elem) -> [LabelValue; SLOTS] {
     [LabelValue::Range(RangeLabel::effective(element)); SLOTS]
 }
 
-/// The answer to a relabel, of the subject's own credential or of a file with the old element.
-fn relabel(op: CheckOp, subject: Elem, old: Elem, asked: Option<Elem>) -> Errno {
-    let subject = SubjectView {
+/// A subject of this element.
+fn subject_of(element: Elem) -> SubjectView {
+    SubjectView {
         id: 0,
         cred: Cred::default(),
-        label: labelled(subject),
-    };
-    let object = ObjectView {
+        label: labelled(element),
+    }
+}
+
+/// A file of this element.
+fn file_of(element: Elem) -> ObjectView {
+    ObjectView {
         id: 1,
         kind: Kind::Vnode,
         file: FileView::default(),
-        label: labelled(old),
-    };
+        label: labelled(element),
+    }
+}
+
+/// The answer to a relabel, of the subject's own credential or of a file with the old element.
+fn relabel(op: CheckOp, subject: Elem, old: Elem, asked: Option<Elem>) -> Errno {
+    let (subject, object) = (subject_of(subject), file_of(old));
     let mut request = Request::none();
     request.lomac = asked;
     Lomac::new().check(
@@ -89,5 +98,70 @@ fn gives_what_it_dominates(rt: HostRuntime) {
     ];
     for (op, subject, old, asked, errno) in rows {
         assert!(rt; relabel(*op, *subject, *old, *asked) == *errno);
+    }
+}
+
+/// What remains of a subject's element after it has observed an object of the second.
+#[test]
+fn what_remains_of_an_element(rt: HostRuntime) {
+    let (low, five, nine, high, equal) = (Elem::Low, grade(5), grade(9), Elem::High, Elem::Equal);
+    let rows = [
+        (low, low, low),
+        (low, five, low),
+        (low, high, low),
+        (five, low, low),
+        (five, five, five),
+        (five, nine, five),
+        (five, high, five),
+        (nine, low, low),
+        (nine, five, five),
+        (high, low, low),
+        (high, nine, nine),
+        (high, high, high),
+        (equal, low, equal),
+        (equal, five, equal),
+        (equal, equal, equal),
+        (low, equal, low),
+        (nine, equal, nine),
+        (high, equal, high),
+    ];
+    for (subject, object, remains) in &rows {
+        assert!(rt; lowered(subject, object) == *remains);
+    }
+}
+
+/// What is left of `high` in slot 0 after the check of a file that is low.
+fn left_by(op: CheckOp) -> LabelValue {
+    let (subject, object) = (subject_of(Elem::High), file_of(Elem::Low));
+    let item = Item::new(op, &subject, Some(&object), None, None);
+    after_check(0, &subject.label[0], &item)
+}
+
+#[test]
+fn who_learns_is_lowered(rt: HostRuntime) {
+    let rows = [
+        (CheckOp::VnodeLookup, Elem::Low),
+        (CheckOp::VnodeReaddir, Elem::Low),
+        (CheckOp::VnodeOpenRead, Elem::Low),
+        (CheckOp::VnodeRead, Elem::Low),
+        (CheckOp::VnodeExec, Elem::Low),
+        (CheckOp::VnodeStat, Elem::Low),
+        (CheckOp::PipeRead, Elem::Low),
+        (CheckOp::PipeStat, Elem::Low),
+        (CheckOp::SocketReceive, Elem::Low),
+        (CheckOp::ProcDebug, Elem::Low),
+        (CheckOp::VnodeOpenWrite, Elem::High),
+        (CheckOp::VnodeCreate, Elem::High),
+        (CheckOp::VnodeUnlink, Elem::High),
+        (CheckOp::VnodeRelabel, Elem::High),
+        (CheckOp::PipeWrite, Elem::High),
+        (CheckOp::SocketDeliver, Elem::High),
+        (CheckOp::SocketVisible, Elem::High),
+        (CheckOp::ProcVisible, Elem::High),
+        (CheckOp::ProcSignal, Elem::High),
+        (CheckOp::Priv, Elem::High),
+    ];
+    for (op, left) in &rows {
+        assert!(rt; left_by(*op) == labelled(*left)[0]);
     }
 }

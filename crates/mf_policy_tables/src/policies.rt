@@ -108,6 +108,7 @@ fn has_biba(rt: &impl Abort, list: &SpecList) {
     assert!(rt; list.spec(0).same(&Spec::Biba) && list.registration(0) == BIBA);
     assert!(rt; list.find(Module::Biba) == Some(0) && list.find(Module::Mls).is_none());
     assert!(rt; list.holder(0) == Some(Module::Biba) && list.holder(1).is_none());
+    assert!(rt; list.lomac_slot().is_none());
 }
 
 #[test]
@@ -151,6 +152,7 @@ fn labels_of_lomac(rt: HostRuntime) -> Result<(), AllocError> {
         fixed: true,
     };
     listed.list(lomac, Spec::Lomac)?;
+    assert!(rt; listed.lomac_slot() == Some(0));
     let mut asks_five = Request::none();
     asks_five.lomac = Some(grade(5));
     let nine = Origin::Maker([LabelValue::Range(element(grade(9))); SLOTS]);

@@ -1,4 +1,4 @@
-//! Two tasks on one kernel, in one thread: the second relabels the file between the first one's walk and commit.
+//! Two tasks on one kernel, in one thread: between the first one's walk and commit the second changes what its plan holds.
 ghost use Rattle.std.specs.Prelude.{◌≡◌, ◌+◌, false, All, length, map};
 ghost use Rattle.mf_policy.specs.Modules.{module_of};
 ghost use Rattle.mf_list.specs.Fresh.{IsFresh};
@@ -30,7 +30,8 @@ use std::sync::Wait;
 use std::sync::ledger::{Blank, Ledger};
 use std::test::Fail;
 
-const RELABELLED_DURING_A_READ: &str = "boot mac_biba
+/// Two tasks, of which the second relabels the file that the first reads.
+const RELABELLED: &str = "boot mac_biba
 file /f reg uid 0 gid 0 mode 644 label biba/high text hi
 task a uid 0 gid 0 label biba/high
 read /f
@@ -40,7 +41,7 @@ setfmac biba/low /f
 end
 ";
 
-const HISTORY: &str = "boot mac_biba 0
+const DENIED_BY_THE_NEW_LABEL: &str = "boot mac_biba 0
 enter a
 enter b
 done b 1 ok
@@ -49,8 +50,34 @@ done a 1 no EACCES vnode_open_read mac_biba 2
 leave a
 ";
 
-/// The history of the two tasks: after the second one's call the view of the file in the first one's plan is out of date.
-fn relabelled_during_a_read<P: Policy, J: Job, B: Ledger, R: Wait + Abort>(
+/// Two tasks, of which the second sinks, by what it reads, to where the first may debug it.
+const SUNK: &str = "boot mac_lomac
+file /f reg uid 0 gid 0 mode 644 label lomac/5 text hi
+task a uid 0 gid 0 label lomac/7
+debug b
+end
+task b uid 0 gid 0 label lomac/9
+read /f
+end
+";
+
+const ALLOWED_BY_THE_LOWER_LABEL: &str = "boot mac_lomac 0
+enter a
+enter b
+done b 1 ok bytes 2 =hi
+leave b
+done a 1 ok
+leave a
+";
+
+/// Each script, and its history.
+const CHANGED_DURING_A_CALL: &[(&str, &str)] = &[
+    (RELABELLED, DENIED_BY_THE_NEW_LABEL),
+    (SUNK, ALLOWED_BY_THE_LOWER_LABEL),
+];
+
+/// The history of the two tasks: after the second one's call the view of the object in the first one's plan is out of date.
+fn changed_during_a_call<P: Policy, J: Job, B: Ledger, R: Wait + Abort>(
     rt: &R,
     alloc: Global,
     script: &Script,
@@ -78,13 +105,13 @@ fn relabelled_during_a_read<P: Policy, J: Job, B: Ledger, R: Wait + Abort>(
     let mut early = Plan::new();
     kernel.plan(rt, &first, &mut early);
     let early_verdict = Kernel::walk(list, &first, &early);
-    let relabelled = commit_new_plan(rt, alloc, &kernel, &mut second, list);
+    let changed = commit_new_plan(rt, alloc, &kernel, &mut second, list);
     kernel.leave(rt, second, &mut passes[1]);
-    let read = commit_twice(rt, alloc, &kernel, &mut first, list, &early, &early_verdict);
+    let called = commit_twice(rt, alloc, &kernel, &mut first, list, &early, &early_verdict);
     kernel.leave(rt, first, &mut passes[0]);
     drop(policies);
     let core = kernel.close(passes);
-    assert!(rt; matches!(relabelled, Ok(Commit::Done)) && matches!(read, Ok(Commit::Done)));
+    assert!(rt; matches!(changed, Ok(Commit::Done)) && matches!(called, Ok(Commit::Done)));
     let mut text = String::new(alloc);
     print_history(script, core.history(), &mut text)?;
     Ok(text)
@@ -131,10 +158,11 @@ fn commit_twice<P: Policy, J: Job, B: Ledger, R: Wait>(
 #[test]
 fn a_plan_goes_stale(rt: HostRuntime) -> Result<(), Fail> {
     let alloc = rt.alloc();
-    assert!(rt; RELABELLED_DURING_A_READ.len() <= SCRIPT_LIMIT);
-    let script = read_script(alloc, RELABELLED_DURING_A_READ.as_bytes())?;
-    let text = over_modules(&rt, alloc, &script)?;
-    assert!(rt; text.as_str() == HISTORY);
+    for (text, history) in CHANGED_DURING_A_CALL {
+        assert!(rt; text.len() <= SCRIPT_LIMIT);
+        let script = read_script(alloc, text.as_bytes())?;
+        assert!(rt; over_modules(&rt, alloc, &script)?.as_str() == *history);
+    }
     Ok(())
 }
 
@@ -154,7 +182,7 @@ fn over_modules<R: Wait + Abort>(
     modules.push(Box::new(alloc, Partition::new())?)?;
     modules.push(Box::new(alloc, Bsdextended::new(alloc)?)?)?;
     modules.push(Box::new(alloc, Priority::new())?)?;
-    relabelled_during_a_read::<Box<dyn Policy + Send + Sync>, Brand, Brand, R>(
+    changed_during_a_call::<Box<dyn Policy + Send + Sync>, Brand, Brand, R>(
         rt,
         alloc,
         script,

@@ -40,6 +40,18 @@ const TAKEN: &[Case] = &[
         ..STEPPED
     },
     Case {
+        name: "a process sinks between the walk and the commit of the one that debugs it, which is lowered by the second walk alone",
+        script: "boot mac_lomac\nfile /lo reg uid 0 gid 0 mode 644 label lomac/5 text hi\ntask a uid 0 gid 0 label -\ndebug b\ngetpmac\nend\ntask b uid 0 gid 0 label lomac/9\nread /lo\nend\nsteps\nenter a\nplan a\nenter b\nplan b\ndone b\nleave b\ndone a\nplan a\ndone a\nleave a\nenter a\nplan a\ndone a\nleave a\nend\n",
+        text: "boot mac_lomac 0\nenter a\nenter b\ndone b 1 ok bytes 2 =hi\nleave b\nstale a\ndone a 1 ok\nleave a\nenter a\ndone a 2 ok label lomac/5\nleave a\nsource lomac vnode:/ high\nsource lomac vnode:/lo 5\nsource lomac proc:a 5,9,high\nsource lomac proc:b 5,9,high\n",
+        ..STEPPED
+    },
+    Case {
+        name: "a stale commit lowers nobody",
+        script: "boot mac_lomac\nfile /lo reg uid 0 gid 0 mode 644 label lomac/9 text hi\ntask a uid 0 gid 0 label -\nread /lo\nend\ntask b uid 0 gid 0 label lomac/9\nsetfmac lomac/5 /lo\nsignal a\nend\nsteps\nenter a\nplan a\nenter b\nplan b\ndone b\nleave b\ndone a\nenter b\nplan b\ndone b\nend\n",
+        text: "boot mac_lomac 0\nenter a\nenter b\ndone b 1 ok\nleave b\nstale a\nenter b\ndone b 2 no EACCES proc_signal mac_lomac 1\nsource lomac vnode:/ high\nsource lomac vnode:/lo 5\nsource lomac proc:a high\nsource lomac proc:b 9,high\n",
+        ..STEPPED
+    },
+    Case {
         name: "a plan that is made again is the one that counts",
         script: "file /f reg uid 0 gid 0 mode 644 label - text hi\ntask a uid 0 gid 0 label -\nread /f\nend\ntask b uid 0 gid 0 label -\nchmod /f 600\nread /f\nend\nsteps\nenter a\nplan a\nenter b\nplan b\ndone b\nplan a\nleave b\ndone a\nenter b\nend\n",
         text: "enter a\nenter b\ndone b 1 ok\nleave b\ndone a 1 ok bytes 2 =hi\nenter b\n",

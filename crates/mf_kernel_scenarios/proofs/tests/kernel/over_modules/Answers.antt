@@ -11,8 +11,8 @@ made_spec : {i at : own-1.I} → i ≡ at → {y : (own-1.entry i).0.Denot} {x :
     → Made (λ j. (own-1.entry j).0.coded.code) (own-1.entry at).0.coded.code at i y x → (own-1.entry i).1.spec y ≡ (own-1.entry at).1.spec x
 made_spec {i} {at} same {y} {x} made = read_made own-1 (own-1.entry at) at refl Spec (λ j v. j.1.spec v) i y x made
 
-pub relabelled_during_a_read-requires-clause-modules : goal.relabelled_during_a_read-requires-clause-modules
-relabelled_during_a_read-requires-clause-modules g c κs within =
+pub changed_during_a_call-requires-clause-modules : goal.changed_during_a_call-requires-clause-modules
+changed_during_a_call-requires-clause-modules g c κs within =
     are_all _ _
     (one_of_each (λ p. (own-1.entry p.vtable).1.spec p.value) _ _ _ _ _ _ _ _ _ _ _ _ _
     c.new-modules.ensures.items c.in_ok-push.ensures.items c.in_ok-push-2.ensures.items c.in_ok-push-3.ensures.items c.in_ok-push-4.ensures.items c.in_ok-push-5.ensures.items c.in_ok-push-6.ensures.items
@@ -23,8 +23,8 @@ relabelled_during_a_read-requires-clause-modules g c κs within =
     (made_spec c.into_dyn_box-in_ok-new-6.ensures.0 c.into_dyn_box-in_ok-new-6.ensures.1 ∙ (ap (λ (p : Bsdextended). means.Bsdextended p.rules p.first_match) c.in_ok-new-6.ensures.ok ∙ c.in_ok-new-5.ensures))
     (behind (λ v. (own-1.entry v).0.Denot) (λ v x. (own-1.entry v).1.spec x) _ _ c.into_dyn_box-in_ok-new-7.result.value _ c.into_dyn_box-in_ok-new-7.ensures.0 (λ y. refl)))
 
-pub relabelled_during_a_read-requires-clause-fresh : goal.relabelled_during_a_read-requires-clause-fresh
-relabelled_during_a_read-requires-clause-fresh g c κs within =
+pub changed_during_a_call-requires-clause-fresh : goal.changed_during_a_call-requires-clause-fresh
+changed_during_a_call-requires-clause-fresh g c κs within =
     (one_of_each (λ p. (own-1.entry p.vtable).1.spec p.value) _ _ _ _ _ _ _ _ _ _ _ _ _
     c.new-modules.ensures.items c.in_ok-push.ensures.items c.in_ok-push-2.ensures.items c.in_ok-push-3.ensures.items c.in_ok-push-4.ensures.items c.in_ok-push-5.ensures.items c.in_ok-push-6.ensures.items
     (behind (λ v. (own-1.entry v).0.Denot) (λ v x. (own-1.entry v).1.spec x) _ _ c.into_dyn_box.result.value _ c.into_dyn_box.ensures.0 (λ y. refl))

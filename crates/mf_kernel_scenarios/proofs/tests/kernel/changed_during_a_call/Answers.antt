@@ -1,7 +1,7 @@
 use Rattle.std.proofs.Common.{◌≡◌, length, ap, ◌∙◌, arith}
 use Rattle.mf_share.specs.Passes.{PassView}
 use Rattle.mf_kernel_scenarios.proofs.Pairs.{left-task, left-out, first-read, second-read, second-before, two-back}
-use Rattle.mf_kernel_scenarios.proofs.tests.kernel.relabelled_during_a_read.Goals as goal
+use Rattle.mf_kernel_scenarios.proofs.tests.kernel.changed_during_a_call.Goals as goal
 
 pub close-core-requires-clause-each : goal.close-core-requires-clause-each
 close-core-requires-clause-each g c = λ _ _.
