@@ -20,6 +20,7 @@ use Rattle.mf_plan.specs.Path.{root}
 use Rattle.mf_perform.specs.Effect.{with_objects, with_created, with_request}
 use Rattle.mf_objects.proofs.Finding.{find_push_miss, find_push_hit, find_beyond, find_given, find_changed, find_filter, rising_filter}
 use Rattle.mf_perform.proofs.Allowed.{IsAllowed}
+use Rattle.mf_perform.proofs.Observing.{passes_found, same_id}
 use Rattle.mf_perform.proofs.Rooted.{IsRooted, inside_some}
 use Rattle.mf_perform.proofs.StateChange.{Deed, StateChange}
 use Rattle.mf_perform.proofs.StateChange.StateChange.{same, created, changed, relabels, removed, loaded, unloaded, set_to}
@@ -41,17 +42,6 @@ pub record ChangesEntities (by : Deed) (s s' : State) : Type 0 where
   pub rising : IsRising 0 s'.objects.next s'.objects.live
   pub next : s.objects.next ≤ s'.objects.next
   pub each : (id : Id) → EntityChange by s id (live_at s.objects id) (live_at s'.objects id)
-
-passes_found : (test : LiveEntity → Bool) (es : List LiveEntity) (x : LiveEntity) → find test es ≡ Some x → test x ≡ true
-passes_found test [] x is = cc
-passes_found test (e ∷ es) x is = one (test e) refl (passes_found test es x) is
-  where
-    one : (b : Bool) → test e ≡ b → (find test es ≡ Some x → test x ≡ true) → cond b (Some e) (find test es) ≡ Some x → test x ≡ true
-    one true hit rest is = ap test (sym (inside_some e x is)) ∙ hit
-    one false miss rest is = rest is
-
-same_id : (a b : Id) (x : LiveEntity) → has_id a x ≡ true → has_id b x ≡ true → a ≡ b
-same_id a b x own other = ap (λ (n : ℕ). let i : Id = record { 0 = n } in i) (sym (id_is a x own) ∙ id_is b x other)
 
 unchanged : (by : Deed) (s : State) (id : Id) (found found' : Option LiveEntity) → found' ≡ found → EntityChange by s id found found'
 unchanged by s id found found' is = subst (λ (o : Option LiveEntity). EntityChange by s id found o) (sym is) (itself found)

@@ -2,6 +2,8 @@ pub mod Granted
 pub mod Allowed
 mod Requests
 pub mod Rooted
+pub mod Observing
+mod Lowered
 pub mod RelabelChange
 pub mod StateChange
 pub mod EntityChange

@@ -1,4 +1,4 @@
--- How a call changes the state: not at all; one entity is made, one changed, some removed; a module is loaded, or unloaded; a setting is
+-- How a call changes the state after its checks: not at all; one entity is made, one changed, some removed; a module is loaded, or unloaded; a setting is
 -- changed.
 use Rattle.std.proofs.Common.{◌≡◌, ℕ, Bool, true, false, cond, not, List, Option, Some, None, Result, Ok, Err, drop, refl, ap, sym, ◌∙◌}
 use Rattle.std.specs.Option.{option_map_or}
@@ -6,6 +6,7 @@ use Rattle.mf_errno.specs.declared.errno.Errno.{Errno}
 use Rattle.mf_errno.specs.declared.module.Module.{Module}
 use Rattle.mf_elem.specs.declared.label.Request.{Request}
 use Rattle.mf_item.specs.declared.view.Kind.TheVariants as kinds
+use Rattle.mf_item.specs.Item.{Item}
 use Rattle.mf_policy.specs.declared.loading.UnloadFault.TheVariants.{NotLoaded, Pinned}
 use Rattle.mf_policy.specs.Loading.{load_fault}
 use Rattle.mf_policy.specs.Modules.{facts_of}
@@ -19,12 +20,14 @@ use Rattle.mf_objects.specs.Live.{LiveEntity, has_id, is_process, kind_of, live_
 use Rattle.mf_objects.specs.Changes.{without, goes_with, with_change, with_what, appended, with_message, with_messages, cleared, with_mode}
 use Rattle.mf_objects.specs.Population.{IsRising}
 use Rattle.mf_calls.specs.declared.script.Call.{Call}
+use Rattle.mf_calls.specs.Tasks.{is_change}
 use Rattle.mf_plan.specs.Planned.{Plan}
 use Rattle.mf_plan.specs.declared.outline.Check.{Check}
 use Rattle.mf_plan.specs.declared.plan.Tail.{Tail}
 use Rattle.mf_plan.specs.declared.plan.Tail.TheVariants.{Do, Refuse}
 use Rattle.mf_plan.specs.declared.reply.Payload.{Payload}
 use Rattle.mf_plan.specs.declared.reply.Reply.{Reply}
+use Rattle.mf_plan.specs.declared.reply.Reply.TheVariants as reply
 use Rattle.mf_plan.specs.declared.state.State.{State}
 use Rattle.mf_plan.specs.Effect.{Effect, relabelled_by}
 use Rattle.mf_plan.specs.Effect.Effect.{Unchanged, Make, Append, Deliver, Empty, Receive, SetMode, Unlink, End, Relabel, Load, Unload, Set}
@@ -39,10 +42,12 @@ use Rattle.mf_perform.specs.declared.verdict.Denial.{Denial}
 use Rattle.mf_perform.specs.Verdict.{verdict_of}
 use Rattle.mf_perform.specs.Reply.{tail_reply, reply_to}
 use Rattle.mf_perform.specs.Effect.{after, with_objects, with_created, with_request}
-use Rattle.mf_perform.specs.OneCall.{performed, after_reply, call_reply, call_state}
+use Rattle.mf_perform.specs.Passed.{passed}
+use Rattle.mf_perform.specs.OneCall.{performed, after_reply, call_reply, call_state, observed, observed_by}
 use Rattle.mf_perform.proofs.Allowed.{IsAllowed}
 use Rattle.mf_perform.proofs.Granted.{all_granted}
 use Rattle.mf_perform.proofs.Loads.{SuitsList, suits_list}
+use Rattle.mf_perform.proofs.Observing.{ObservingKeeps, checks_passed, observing, observing_keeps, process_kept}
 use Rattle.mf_perform.proofs.Rooted.{HasKind, IsRooted, named_process, process_kind}
 use Rattle.mf_perform.proofs.RelabelChange.{RelabelMade, relabel_made, with_relabelled}
 use Rattle.mf_perform.proofs.RelabelChange.RelabelMade.{no_change, permitted}
@@ -137,9 +142,9 @@ by_effect by s me (Set m change) made suits asked relabel = set_to m change refl
 
 -- The effect of a call that may be done
 
--- the state after the call by who makes it, if somebody does
-abbrev pub performed_by : State → List ℕ → Call → Option Id → State
-performed_by s task c caller = option_map_or (λ me. after s me (row_for s task c me).effect) caller s
+-- the state after the call from the one after its checks, by who makes it, if somebody does
+abbrev pub performed_by : State → State → List ℕ → Call → Option Id → State
+performed_by s s1 task c caller = option_map_or (λ me. after s1 me (row_for s task c me).effect) caller s1
 
 -- what suits each row of a call suits its effect
 pub suits_row : (s : State) (task : List ℕ) (me : Id) (c : Call) (checks : List Check) (there : Result (At (about_of s task me c).place) Errno)
@@ -148,34 +153,42 @@ pub suits_row : (s : State) (task : List ℕ) (me : Id) (c : Call) (checks : Lis
 suits_row s task me c checks (Ok what) done = suits_list s task me c what done
 suits_row s task me c checks (Err e) done = cc
 
--- a live process of the name makes the call
-made_by : (by : Deed) (s : State) (name : List ℕ) (caller : Id) → by.caller ≡ Some caller → process_named s.objects name ≡ Some caller
-    → IsRising 0 s.objects.next s.objects.live → IsMadeBy by s caller
-made_by by s name caller own found rising =
-    let me : HasKind is_process s.objects caller = named_process s.objects name caller found rising in
-    record { entity = me.entity; caller = own; live = me.live; process = process_kind me.entity.what me.passes }
+module _ (by : Deed) (s s1 : State) (observer : Option Id) (checks : List Item) (keeps : ObservingKeeps observer checks s s1) where
+  -- the checks leave the list of policies as it is
+  suits_now : (e : Effect) → SuitsList s e → SuitsList s1 e
+  suits_now (Load m) suits = rw (keeps.specs, keeps.numbers, keeps.booted) suits
+  suits_now (Unload m) suits = rw (keeps.specs) suits
+  suits_now other suits = tt
 
-by_caller : (by : Deed) (s : State) (task name : List ℕ) (c : Call) (caller : Option Id) → by.caller ≡ caller → process_named s.objects name ≡ caller
-    → IsRising 0 s.objects.next s.objects.live → (row_by s task c caller).tail ≡ Do → by.asked ≡ relabelled_by (row_by s task c caller).effect → RelabelMade s by.asked
-    → StateChange by s (performed_by s task c caller)
-by_caller by s task name c None own found rising done asked relabel = same refl
-by_caller by s task name c (Some me) own found rising done asked relabel =
-    let way = way_to s me (about_of s task me c).place in
-    by_effect by s me (row_for s task c me).effect (made_by by s name me own found rising) (suits_row s task me c way.checks way.there done) asked relabel
+  -- a live process of the name makes the call
+  made_by : (name : List ℕ) (caller : Id) → by.caller ≡ Some caller → process_named s.objects name ≡ Some caller → IsRising 0 s.objects.next s.objects.live
+      → IsMadeBy by s1 caller
+  made_by name caller own found rising =
+      let me : HasKind is_process s1.objects caller = process_kept observer checks s s1 caller keeps (named_process s.objects name caller found rising) in
+      record { entity = me.entity; caller = own; live = me.live; process = process_kind me.entity.what me.passes }
 
--- a call that is refused or denied changes nothing, and asks nothing of a label
+  by_caller : (task name : List ℕ) (c : Call) (caller : Option Id) → by.caller ≡ caller → process_named s.objects name ≡ caller
+      → IsRising 0 s.objects.next s.objects.live → (row_by s task c caller).tail ≡ Do → by.asked ≡ relabelled_by (row_by s task c caller).effect → RelabelMade s1 by.asked
+      → StateChange by s1 (performed_by s s1 task c caller)
+  by_caller task name c None own found rising done asked relabel = same refl
+  by_caller task name c (Some me) own found rising done asked relabel =
+      let way = way_to s me (about_of s task me c).place in
+      by_effect by s1 me (row_for s task c me).effect (made_by name me own found rising) (suits_now (row_for s task c me).effect (suits_row s task me c way.checks way.there done)) asked
+      relabel
 
-module _ (s done : State) (caller : Option Id) (asked : Option (Id × Request)) (p : Payload) where
+-- a call that is refused or denied changes nothing more, and asks nothing of a label
+
+module _ (s1 done : State) (caller : Option Id) (asked : Option (Id × Request)) (p : Payload) where
   abbrev by_reply : Reply → Deed
   by_reply r = record { caller = caller; asked = after_reply r None asked }
 
-  tail_change : (tail : Tail) → (tail ≡ Do → StateChange (record { caller = caller; asked = asked }) s done)
-      → StateChange (by_reply (tail_reply tail p)) s (after_reply (tail_reply tail p) s done)
+  tail_change : (tail : Tail) → (tail ≡ Do → StateChange (record { caller = caller; asked = asked }) s1 done)
+      → StateChange (by_reply (tail_reply tail p)) s1 (after_reply (tail_reply tail p) s1 done)
   tail_change Do may = may refl
   tail_change (Refuse errno) may = same refl
 
-  reply_change : (plan : Plan) (denied : Option Denial) → (plan.tail ≡ Do → denied ≡ None → StateChange (record { caller = caller; asked = asked }) s done)
-      → StateChange (by_reply (reply_to plan denied p)) s (after_reply (reply_to plan denied p) s done)
+  reply_change : (plan : Plan) (denied : Option Denial) → (plan.tail ≡ Do → denied ≡ None → StateChange (record { caller = caller; asked = asked }) s1 done)
+      → StateChange (by_reply (reply_to plan denied p)) s1 (after_reply (reply_to plan denied p) s1 done)
   reply_change plan None may = tail_change plan.tail (λ proceeds. may proceeds refl)
   reply_change plan (Some denial) may = same refl
 
@@ -189,19 +202,47 @@ step_by s task child c =
       asked = after_reply (call_reply s task child c) None (relabelled_by (call_row s task child c).effect);
     }
 
-pub step_change : (s : State) (task : List ℕ) (child : Option (List ℕ)) (c : Call) → IsRooted s.objects
-    → StateChange (step_by s task child c) s (call_state s task child c)
-step_change s task child c rooted =
-    reply_change s (performed s task child c) caller asked (call_row s task child c).payload plan (verdict_of s.specs plan).denied
-    (λ proceeds none.
-    by_caller by s task (caller_name task child) c caller refl refl rooted.rising proceeds refl
-    (relabel_made s task (caller_name task child) c caller refl rooted (record { proceeds = proceeds; granted = all_granted s.specs plan none })))
+-- the state after all checks of a call that is done
+observed_whole : (s : State) (task : List ℕ) (child : Option (List ℕ)) (c : Call) → (plan_of s task child c).tail ≡ Do
+    → (verdict_of s.specs (plan_of s task child c)).denied ≡ None → is_change c ≡ false
+    → observed s task child c ≡ option_map_or (observed_by s (plan_of s task child c).items) (process_named s.objects (caller_name task child)) s
+observed_whole s task child c proceeds none entry =
+    ap (λ (b : Bool). cond b s (by_checks (passed (call_reply s task child c) plan.items))) entry
+    ∙ ap (λ (r : Reply). by_checks (passed r plan.items)) replied
   where
     plan : Plan
     plan = plan_of s task child c
 
+    p : Payload
+    p = (call_row s task child c).payload
+
+    by_checks : List Item → State
+    by_checks items = option_map_or (observed_by s items) (process_named s.objects (caller_name task child)) s
+
+    replied : call_reply s task child c ≡ reply.Ok p
+    replied = ap (λ (denied : Option Denial). reply_to plan denied p) none ∙ ap (λ (tail : Tail). tail_reply tail p) proceeds
+
+-- a call changes the state after its checks so
+pub step_change : (s : State) (task : List ℕ) (child : Option (List ℕ)) (c : Call) → IsRooted s.objects
+    → StateChange (step_by s task child c) (observed s task child c) (call_state s task child c)
+step_change s task child c rooted =
+    reply_change s1 (performed s task child c) caller asked (call_row s task child c).payload plan (verdict_of s.specs plan).denied
+    (λ proceeds none.
+    by_caller by s s1 caller (checks_passed s task child c) keeps task (caller_name task child) c caller refl refl rooted.rising proceeds refl
+    (relabel_made s s1 task (caller_name task child) c caller caller (checks_passed s task child c) refl rooted keeps (observed_whole s task child c proceeds none)
+    (record { proceeds = proceeds; granted = all_granted s.specs plan none })))
+  where
+    plan : Plan
+    plan = plan_of s task child c
+
+    s1 : State
+    s1 = observed s task child c
+
     caller : Option Id
     caller = process_named s.objects (caller_name task child)
+
+    keeps : ObservingKeeps caller (checks_passed s task child c) s s1
+    keeps = observing_keeps s s1 (observing s task child c rooted) rooted
 
     asked : Option (Id × Request)
     asked = relabelled_by (call_row s task child c).effect
