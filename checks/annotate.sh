@@ -1,7 +1,7 @@
 #!/bin/sh
 # Runs each script of examples/, and holds tools/annotate to what is printed: without what it adds its text is the history, and for each denial
 # the number and the operation of the last of the checks that it derives are those of the reply, and a cause of the manual stands below.
-# Then the whole text of one example, and that it says what is wrong with an input, and prints nothing of it. A line for each failure, then a
+# Then the whole text of one example, that a subject is shown as it was lowered, and that it says what is wrong with an input, and prints nothing of it. A line for each failure, then a
 # count.
 . "$(dirname "$0")/counting"
 
@@ -53,6 +53,18 @@ for script in examples/*.macsim; do
     is_explained "$script"
     count $? "$script: a line isn't as in the history, or a denial isn't derived"
 done
+
+# The subject is shown as the check found it: lowered by the look-ups before.
+script=examples/45-lowered-and-denied.macsim
+run "$script"
+cat >"$folder/expected" <<'END'
+done t 2 no EACCES vnode_open_write mac_lomac 3    # line 9: write /pub/f x
+    checks: 1 vnode_lookup vnode:/, 2 vnode_lookup vnode:/pub, 3 vnode_open_write vnode:/pub/f
+    subject: proc:t lomac/5
+    object: vnode:/pub/f lomac/9
+END
+tools/annotate "$script" "$folder/history" | grep -A3 ' no EACCES' | cmp -s - "$folder/expected"
+count $? "$script: another text of the denial"
 
 script=examples/01-plainest-denial.macsim
 run "$script"

@@ -1,7 +1,8 @@
 #!/bin/sh
 # Runs each script of examples/, and holds tools/flows to what is printed: the sources that its flows come to are the lines of sources. Then
-# the same of a script in which each operation that moves information is told by the sources alone; what it draws and tells of one example;
-# and that it says what is wrong with an input, and prints nothing of it. A line for each failure, then a count.
+# the same of a script in which each operation that moves information is told by the sources alone, and of one in which so is each that lowers
+# under mac_lomac; what it draws and tells of one example; and that it says what is wrong with an input, and prints nothing of it. A line for
+# each failure, then a count.
 . "$(dirname "$0")/counting"
 
 has_its_sources() {
@@ -82,6 +83,73 @@ end
 END
 has_its_sources "$folder/each.macsim"
 count $? "the flows of each operation come to other sources than are printed"
+
+# Each child observes one thing, of a grade of its own, and then makes a pipe, whose sources have the element that the child was lowered to.
+# One makes a file by a call that lowers it, and the last does what lowers nobody.
+cat >"$folder/lowered.macsim" <<'END'
+boot mac_lomac
+file /list dir uid 0 gid 0 mode 755 label lomac/21
+file /tool reg uid 0 gid 0 mode 755 label lomac/22
+file /seen reg uid 0 gid 0 mode 644 label lomac/23
+file /read reg uid 0 gid 0 mode 644 label lomac/24
+file /high reg uid 0 gid 0 mode 644 label -
+task t uid 0 gid 0 label lomac/high
+fork low
+@low setpmac lomac/28
+pipe five
+setpipemac lomac/25 five
+pipe six
+setpipemac lomac/26 six
+socket seven
+setsockmac lomac/27 seven
+fork readdir
+@readdir readdir /list
+@readdir pipe readdir
+fork lookup
+@lookup read /list/none
+@lookup pipe lookup
+fork exec
+@exec exec /tool
+@exec pipe exec
+fork stat
+@stat stat /seen
+@stat pipe stat
+fork read
+@read read /read
+@read pipe read
+fork pread
+@pread pread five
+@pread pipe pread
+fork pstat
+@pstat pstat six
+@pstat pipe pstat
+fork recv
+@recv recv seven
+@recv pipe recv
+fork debug
+@debug debug t.low
+@debug pipe debug
+fork denied
+@denied create /list/new
+@denied setpmac lomac/high
+@denied write /high x
+@denied pipe denied
+fork others
+@others signal t.low
+@others sched t.low
+@others see t.low
+@others seesock seven
+@others pwrite five x
+@others send seven seven x
+@others chmod /seen 600
+@others write /read x
+@others setfmac lomac/3 /tool
+@others pipe others
+pipe last
+end
+END
+has_its_sources "$folder/lowered.macsim"
+count $? "the flows of processes that are lowered come to other sources than are printed"
 
 script=examples/19-through-a-process.macsim
 run "$script"

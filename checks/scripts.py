@@ -1,5 +1,5 @@
 """Scripts that several checks run: worked ones, by name, and loads of tasks that change the list of
-policies or a setting."""
+policies or a setting, or that mac_lomac lowers."""
 
 
 def script_of(front, *tasks):
@@ -78,3 +78,20 @@ def mixed(lines):
     file = "file /f reg uid 0 gid 0 mode 644 label biba/equal text hi"
     tasks = [(f"t{task} {EQUAL}", calls(task)) for task in range(TASKS)]
     return script_of(["boot mac_biba", "boot mac_bsdextended", file], *tasks)
+
+
+def sinking(lines):
+    """Sixteen tasks that mac_lomac lowers, by what they read, and by whom they debug."""
+    kinds = ["debug t{other}", "read /f{grade}", "write /f{grade} x", "getpmac"]
+    call = lambda task, place: kinds[(task + place) % len(kinds)].format(
+        other=(task + place + 1) % TASKS, grade=(3 * task + 5 * place) % TASKS
+    )
+    files = [
+        f"file /f{grade} reg uid 0 gid 0 mode 644 label lomac/{grade + 20 - grade % 5} text hi"
+        for grade in range(TASKS)
+    ]
+    tasks = [
+        (f"t{task} uid 0 gid 0 label lomac/{40 - task}", [call(task, place) for place in range(lines)])
+        for task in range(TASKS)
+    ]
+    return script_of(["boot mac_lomac", *files], *tasks)

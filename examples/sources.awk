@@ -11,7 +11,7 @@ function stop(why) {
     stop("sources.awk: line " NR " is none of a history: " $0)
 }
 $1 == "source" { told[$2]++; lines++ }
-$1 == "boot" && $2 ~ /^mac_(biba|mls)$/ { booted[substr($2, 5)] }
+$1 == "boot" && $2 ~ /^mac_(biba|mls|lomac)$/ { booted[substr($2, 5)] }
 $1 == "source" && $4 != "-" {
     count = split($4, element, ",")
     for (i = 1; i <= count; i++)
@@ -20,7 +20,7 @@ $1 == "source" && $4 != "-" {
 END {
     if (failed) exit 1
     for (policy in booted) if (!told[policy]) stop("sources.awk: the history isn't whole, it ends before the sources of mac_" policy)
-    if (!lines) stop("sources.awk: there are no sources in it, as where neither mac_biba nor mac_mls was booted")
+    if (!lines) stop("sources.awk: there are no sources in it, as where none of mac_biba, mac_mls and mac_lomac was booted")
     print "digraph sources {"
     for (i = 1; i <= edges; i++) print edge[i]
     print "}"

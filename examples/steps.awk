@@ -1,6 +1,6 @@
 # Prints a steps part that makes the history of a `run` again: behind the history's script, with `macsim step`, it gives the same lines. What
 # is no such history, as the fault of a script, and one that is cut are told on the standard error, with status 1, and nothing is printed; but
-# where neither mac_biba nor mac_mls was booted a history has no sources, so a cut between two calls isn't seen. It isn't proved;
+# where none of mac_biba, mac_mls and mac_lomac was booted a history has no sources, so a cut between two calls isn't seen. It isn't proved;
 # checks/steps.sh compares the two histories.
 function stop(why) {
     print why > "/dev/stderr"
@@ -21,7 +21,7 @@ function may_come() {
 $1 ~ /^(waits|stale)$/ { stop("steps.awk: line " NR " is of macsim step, whose script has its steps: " $0) }
 /[^ -~]/ || $1 !~ /^(boot|enter|done|leave|changed|source)$/ { stop("steps.awk: line " NR " is none of a history: " $0) }
 !may_come() { stop("steps.awk: line " NR " may not come here: " $0) }
-$1 == "boot" && $2 ~ /^mac_(biba|mls)$/ { booted[substr($2, 5)] }
+$1 == "boot" && $2 ~ /^mac_(biba|mls|lomac)$/ { booted[substr($2, 5)] }
 $1 == "source" { told++; sources[$2]++ }
 $1 == "enter" { open[$2] = 1; inside++ }
 $1 == "done" { open[$2] = 2 }

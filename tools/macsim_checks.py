@@ -1,8 +1,15 @@
-"""The checks of each call, with what they are about, by the tables of calls in docs/MANUAL.md (CALLS). Nothing of it is proved.
+"""The checks of each call, with what they are about, by the tables of calls in docs/MANUAL.md (CALLS), and which way information moves at a
+check that passes, by the table of operations (POLICIES). Nothing of it is proved.
 
 Each check is its operation, its subject and its object, which may be None. The framework's tests end a call between two checks only where
 something isn't there or isn't a directory, and where a label text or a module isn't known, which the reply tells.
 """
+TO_SUBJECT = set("vnode_lookup vnode_readdir vnode_open_read vnode_read vnode_exec vnode_stat pipe_read pipe_stat socket_receive".split())
+TO_OBJECT = set(
+    "vnode_open_write vnode_write vnode_create vnode_unlink_dir vnode_unlink vnode_setmode pipe_write socket_send socket_deliver"
+    " proc_signal proc_sched".split()
+)
+BOTH_WAYS = {"proc_debug"}
 # What is looked for under one name: its kind, the place of the name among the words, and the operation.
 NAMED = {
     "see": ("proc", 1, "proc_visible"),

@@ -1,10 +1,13 @@
-"""Label texts, and what labels are when something comes or is relabelled, by docs/MANUAL.md (LABELS, RELABELLING). Nothing of it is proved."""
+"""Label texts, and what labels are when something comes, is relabelled or lowered, by docs/MANUAL.md (LABELS, RELABELLING, POLICIES). Nothing of
+it is proved.
+"""
 import re
 from collections import namedtuple
 
 from macsim_text import DIGITS, number_of
 
-# An element is a tuple that stands in the order in which sources are listed: low, grades with their rising compartments, high, equal.
+# An element is a tuple that stands in the order in which sources are listed: low, grades with their rising compartments, high, equal. So do
+# the elements of mac_lomac, which have no compartments, by dominance.
 LOW, HIGH, EQUAL = (0,), (2,), (3,)
 GRADE = 1
 NAMED = {"low": LOW, "lo": LOW, "high": HIGH, "hi": HIGH, "equal": EQUAL, "eq": EQUAL}
@@ -17,7 +20,8 @@ BIBA, MLS, LOMAC, PARTITION = "mac_biba", "mac_mls", "mac_lomac", "mac_partition
 MODULES = {"biba": BIBA, "mls": MLS, "lomac": LOMAC, "partition": PARTITION}
 LATTICES = {BIBA: HIGH, MLS: LOW, LOMAC: HIGH}
 # Those whose labels have ranges, and those of which lines of sources are printed, in their order.
-WITH_RANGES = WITH_SOURCES = (BIBA, MLS)
+WITH_RANGES = (BIBA, MLS)
+WITH_SOURCES = (BIBA, MLS, LOMAC)
 
 
 def element_of(text):
@@ -101,6 +105,15 @@ def new_label(slots, kind, maker):
         elif labels_kind(module, kind):
             label[slot] = value or 0
     return label
+
+
+def lowered(slots, label, observed):
+    """The label of a process after it has observed a thing of the other label: mac_lomac lowers it, where neither is `equal`."""
+    slot = slots.get(LOMAC)
+    own, other = label.get(slot), observed.get(slot)
+    if own is None or other is None or EQUAL in (own.effective, other.effective):
+        return label
+    return {**label, slot: own._replace(effective=min(own.effective, other.effective))}
 
 
 def relabelled(slots, label, request):

@@ -3,9 +3,9 @@ things. Nothing of it is proved. A history that doesn't fit the script is BadInp
 """
 from collections import namedtuple
 
-from macsim_checks import CREATING, RELABELS, checks_of, is_change, is_reply_to
+from macsim_checks import BOTH_WAYS, CREATING, RELABELS, TO_SUBJECT, checks_of, is_change, is_reply_to
 from macsim_kernel import Kernel
-from macsim_labels import LATTICES, PARTITION, WITH_SOURCES, boot_label, new_label, relabelled, request_of
+from macsim_labels import LATTICES, PARTITION, WITH_SOURCES, boot_label, lowered, new_label, relabelled, request_of
 from macsim_text import BadInput, denial_of
 from macsim_things import Credential, FileFacts, Thing, Things
 
@@ -88,12 +88,23 @@ class Replay:
             raise Mismatch(f"task {task} made no call")
         return self.script.tasks[task].calls[made - 1]
 
-    def seen(self, operation, subject, found):
-        file = found.facts if found is not None and found.kind == "vnode" else None
-        return Check(operation, subject, found, subject.label, found and found.label, file)
+    def after_check(self, label, operation, found):
+        """The label of the process that calls, after a check that passed."""
+        observes = operation in TO_SUBJECT or operation in BOTH_WAYS
+        return lowered(self.slots, label, found.label) if observes else label
+
+    def checks_in_turn(self, call, caller, reply):
+        """The checks of a call, each with the process that calls as those before it lower it. What they are about is as it was."""
+        checks, label = [], caller and caller.label
+        for operation, subject, found in checks_of(self.things, caller, call.words, reply):
+            file = found.facts if found is not None and found.kind == "vnode" else None
+            own = label if subject is caller else subject.label
+            checks.append(Check(operation, subject, found, own, found and found.label, file))
+            label = self.after_check(label, operation, found)
+        return checks
 
     def asked_checks(self, call, caller, reply):
-        checks = [self.seen(*check) for check in checks_of(self.things, caller, call.words, reply)]
+        checks = self.checks_in_turn(call, caller, reply)
         denial = denial_of(reply)
         if denial is None:
             return checks, None
@@ -112,6 +123,8 @@ class Replay:
         caller = self.things.named("proc", event.task if call.child is None else f"{event.task}.{call.child}")
         checks, denial = self.asked_checks(call, caller, event.reply)
         slots = self.slots
+        for check in checks if denial is None else checks[:-1]:
+            caller.label = self.after_check(caller.label, check.operation, check.object)
         made, changed = self.do(event, call, caller) if event.reply.startswith("ok") else (None, None)
         return Happening(event, call.number, call, caller, checks, denial, slots, made, changed)
 

@@ -234,7 +234,7 @@ EVENTS = {
     **dict.fromkeys(("enter", "leave", "stale"), rf"[a-z]+ {TASK}"),
     "waits": rf"waits {TASK} [1-9]\d?",
     **dict.fromkeys(("done", "changed"), rf"[a-z]+ {TASK} (?P<line>[1-9]\d{{0,3}}) (?P<reply>ok(?: .+)?|no E[A-Z]+ - -|{DENIED})"),
-    "source": r"source (?:biba|mls) \S+ \S+",
+    "source": r"source (?:biba|mls|lomac) \S+ \S+",
 }
 
 
