@@ -20,8 +20,9 @@ use Rattle.mf_perform.specs.declared.relisting.Relisting.{Relisting}
 use Rattle.mf_perform.specs.Relisting.{IsFormed, Tells}
 use Rattle.mf_perform.specs.Reply.{tail_reply, reply_to}
 use Rattle.mf_perform.specs.Refused.{is_ok}
-use Rattle.mf_perform.specs.OneCall.{performed, call_reply, call_state}
+use Rattle.mf_perform.specs.OneCall.{performed, call_reply, call_state, observed}
 use Rattle.mf_perform.specs.Verdict.{verdict_of}
+use Rattle.mf_perform.proofs.Observing.{observed_change}
 use Rattle.mf_core.specs.declared.history.History.{History}
 use Rattle.mf_core.specs.declared.progress.Turn.TheVariants as turns
 use Rattle.mf_core.specs.LegalHistory.{RunState, next_line, next_reply, next_state, turn_of}
@@ -123,7 +124,9 @@ module _ (s : Script) (h : History) (r : RunState) (t : ℕ) (line : Line) (repl
   pub line_refused : is_ok reply ≡ false → next_state s r t ≡ r.state
   line_refused refused =
       moved s r t line next
-      ∙ refused_only (call_reply r.state (name_of s t) line.child line.call) r.state (performed r.state (name_of s t) line.child line.call) (ap is_ok reply_is ∙ refused)
+      ∙ refused_only (call_reply r.state (name_of s t) line.child line.call) (observed r.state (name_of s t) line.child line.call)
+      (performed r.state (name_of s t) line.child line.call) (ap is_ok reply_is ∙ refused)
+      ∙ observed_change r.state (name_of s t) line.child line.call is_a_change
 
   -- it is made, where it is done
   pub line_made : (relisting : Option Relisting) → is_ok reply ≡ true → Tells r.state line.call relisting → IfSome relisting IsFormed

@@ -197,6 +197,30 @@ observing s task child c rooted = observing_by s task child c rooted (is_change 
 
 -- What stays
 
+-- the list of policies, and what a module that comes finds
+pub record KeepsPolicies (s s1 : State) : Type 0 where
+  pub specs : s1.specs ≡ s.specs
+  pub numbers : s1.numbers ≡ s.numbers
+  pub booted : s1.booted ≡ s.booted
+
+pub observed_policies : (s : State) (task : List ℕ) (child : Option (List ℕ)) (c : Call) → KeepsPolicies s (observed s task child c)
+observed_policies s task child c = by_change (is_change c)
+  where
+    checks : List Item
+    checks = checks_passed s task child c
+
+    by_listed : (me : Id) (at : Option ℕ) → KeepsPolicies s (by_slot s task child c me at)
+    by_listed me None = record { specs = refl; numbers = refl; booted = refl }
+    by_listed me (Some slot) = record { specs = refl; numbers = refl; booted = refl }
+
+    by_caller : (found : Option Id) → KeepsPolicies s (option_map_or (observed_by s checks) found s)
+    by_caller None = record { specs = refl; numbers = refl; booted = refl }
+    by_caller (Some me) = by_listed me (lomac_slot s.specs)
+
+    by_change : (b : Bool) → KeepsPolicies s (cond b s (option_map_or (observed_by s checks) (process_named s.objects (caller_name task child)) s))
+    by_change true = record { specs = refl; numbers = refl; booted = refl }
+    by_change false = by_caller (process_named s.objects (caller_name task child))
+
 -- the entity of an id before and after the checks
 pub data HasObserved (caller : Option Id) (checks : List Item) (s : State) (id : Id) : Option LiveEntity → Option LiveEntity → Type 0 where
   absent : HasObserved caller checks s id None None
