@@ -22,7 +22,7 @@ use Rattle.mf_plan.specs.Found.{AreFound, asked_at, target_at}
 use Rattle.mf_plan.specs.Names.{caller_name}
 use Rattle.mf_plan.specs.Outline.{item_asking}
 use Rattle.mf_plan.specs.Path.{found_at, lookup_along}
-use Rattle.mf_plan.specs.Plan.{call_row, plan_in, row_for}
+use Rattle.mf_plan.specs.Plan.{call_row, lowering_by, plan_in, plan_of, row_for}
 use Rattle.mf_plan.specs.Planned.{Plan}
 use Rattle.mf_plan.specs.Relabels.{claimed_in}
 use Rattle.mf_plan.specs.Effect.{Effect, relabelled_by}
@@ -158,6 +158,11 @@ module _ (s : State) (task : List ℕ) (me : Id) where
       → plan ≡ plan_in s (call_row s task child c)
   plan_by child c plan is same = same ∙ ap (λ (caller : Option Id). plan_in s (row_by s task c caller)) (sym is)
 
+  -- the plan of a call that this process makes, as it comes to its checks
+  pub plan_with : (child : Option (List ℕ)) (c : Call) → process_named s.objects (caller_name task child) ≡ Some me
+      → plan_of s task child c ≡ lowering_by s (Some me) (plan_in s (row_for s task c me))
+  plan_with child c is = ap (λ (caller : Option Id). lowering_by s caller (plan_in s (row_by s task c caller))) is
+
   pub are_found : (child : Option (List ℕ)) (c : Call) (found : Found) → process_named s.objects (caller_name task child) ≡ Some me → found.caller ≡ Some me
       → (end_by s task me c).tail ≡ Do → found.target ≡ target_at s me (about_of s task me c).place → found.request ≡ asked_at s (about_of s task me c).place
       → AreFound s task child c found
@@ -175,3 +180,8 @@ module _ (s : State) (task : List ℕ) (me : Id) where
           request = request ∙ request_there s me place there.what there.is;
         };
       }
+
+-- and of one that nobody makes
+pub plan_without : (s : State) (task : List ℕ) (child : Option (List ℕ)) (c : Call) → process_named s.objects (caller_name task child) ≡ None
+    → plan_of s task child c ≡ plan_in s (refuse errno.Esrch)
+plan_without s task child c is = ap (λ (caller : Option Id). lowering_by s caller (plan_in s (row_by s task c caller))) is

@@ -29,12 +29,12 @@ kept subjects rest check within =
     at : get_or (subjects ++ rest) check.subject nobody ≡ get_or subjects check.subject nobody
     at = grind (arith, places)
 
-all_kept : (subjects rest : List SubjectView) (seen : List CheckView) → HaveSubjects subjects seen → items_with (subjects ++ rest) seen ≡ items_with subjects seen
+pub all_kept : (subjects rest : List SubjectView) (seen : List CheckView) → HaveSubjects subjects seen → items_with (subjects ++ rest) seen ≡ items_with subjects seen
 all_kept subjects rest [] have = refl
 all_kept subjects rest (check ∷ seen) have =
     (λ k. kept subjects rest check (have 0 check (omega arith)) k ∷ all_kept subjects rest seen (λ i d below. have (suc i) d (omega arith)) k)
 
-longer : (subjects rest : List SubjectView) (seen : List CheckView) → HaveSubjects subjects seen → HaveSubjects (subjects ++ rest) seen
+pub longer : (subjects rest : List SubjectView) (seen : List CheckView) → HaveSubjects subjects seen → HaveSubjects (subjects ++ rest) seen
 longer subjects rest seen have = λ k d below. omega (arith, have k d below, length-append subjects rest)
 
 -- the view of a check, as policies see it
@@ -88,15 +88,14 @@ one_more objects asked checks done subjects subjects' seen last d view place fil
     more = λ k. old k ++ asked_item objects asked check subjects' view is subject k ∷ []
 
 -- where one check is seen otherwise, all together are
-pub view_differs : (objects : Entities) (asked : Option Request) (checks : List Check) (subjects : List SubjectView) (seen : List CheckView) (i : ℕ) (dv : CheckView) (dc : Check) (is : Bool)
-    → length seen ≡ length checks → i < length checks → is ≡ false
-    → (item_with subjects (get_or seen i dv) ≡ item_asking objects asked (get_or checks i dc) → IsTrue is)
-    → items_with subjects seen ≡ map (item_asking objects asked) checks → IsTrue false
-view_differs objects asked checks subjects seen i dv dc true long within differs holds same = cc differs
-view_differs objects asked checks subjects seen i dv dc false long within differs holds same =
-    holds (sym (get_or-map (item_with subjects) seen i dv other (omega (arith, long, within)))
+pub view_differs : {A B : Type 0} (view : A → Item) (other_view : B → Item) (seen : List A) (checks : List B) (i : ℕ) (dv : A) (dc : B) (is : Bool)
+    → length seen ≡ length checks → i < length checks → is ≡ false → (view (get_or seen i dv) ≡ other_view (get_or checks i dc) → IsTrue is)
+    → map view seen ≡ map other_view checks → IsTrue false
+view_differs view other_view seen checks i dv dc true long within differs holds same = cc differs
+view_differs view other_view seen checks i dv dc false long within differs holds same =
+    holds (sym (get_or-map view seen i dv other (omega (arith, long, within)))
     ∙ ap (λ (items : List Item). get_or items i other) same
-    ∙ get_or-map (item_asking objects asked) checks i dc other within)
+    ∙ get_or-map other_view checks i dc other within)
   where
     other : Item
-    other = item_asking objects asked (get_or checks i dc)
+    other = other_view (get_or checks i dc)

@@ -1,7 +1,7 @@
 -- The checks of a call while mac_lomac is listed: each finds the caller as those before it have lowered it, as mac_lomac(4) lowers a subject at
 -- each entry point.
 use Rattle.std.specs.Option.{option_map_or}
-use Rattle.std.specs.Prelude.{ℕ, ◌==◌, if◌then◌else◌, List, [], ◌∷◌, Option, slice_set}
+use Rattle.std.specs.Prelude.{ℕ, ◌==◌, if◌then◌else◌, List, [], ◌∷◌, slice_set}
 use Rattle.mf_elem.specs.declared.label.LabelValue.{LabelValue}
 use Rattle.mf_item.specs.declared.view.SubjectView.{SubjectView}
 use Rattle.mf_item.specs.Item.{Item}

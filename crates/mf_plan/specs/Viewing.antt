@@ -1,5 +1,6 @@
 -- How the views of a plan's checks are made and compared; inner contracts alone cite this.
-use Rattle.std.specs.Prelude.{◌≡◌, ℕ, ◌-◌, ◌<◌, List, ◌++◌, length, slice_index_or, Option, Some, None, option_map}
+use Rattle.std.specs.Prelude.{◌≡◌, ℕ, ◌-◌, ◌<◌, ◌==◌, if◌then◌else◌, List, ◌++◌, length, slice_index_or, Option, Some, None, option_map}
+use Rattle.mf_elem.specs.declared.label.LabelValue.{LabelValue}
 use Rattle.mf_elem.specs.declared.label.Request.{Request}
 use Rattle.mf_item.specs.declared.view.SubjectView.{SubjectView}
 use Rattle.mf_objects.specs.Live.{Entities}
@@ -7,6 +8,7 @@ use Rattle.mf_plan.specs.declared.outline.Check.{Check}
 use Rattle.mf_plan.specs.declared.views.CheckView.{CheckView}
 use Rattle.mf_plan.specs.Outline.{request_with, subject_in}
 use Rattle.mf_plan.specs.Items.{nobody}
+use Rattle.mf_plan.specs.Lowering.{with_slot}
 use Rattle.mf_plan.specs.Views.{object_of}
 
 -- the view is that of the check, but for its subject
@@ -36,3 +38,7 @@ IsFoundAt objects subjects (Some last) place = slice_index_or subjects place nob
 pub record GrowsTo (old new : List SubjectView) : Type 0 where
   pub rest : List SubjectView
   pub is : new ≡ old ++ rest
+
+-- the subject while the caller has this value in the slot
+abbrev pub while_caller : ℕ → ℕ → LabelValue → SubjectView → SubjectView
+while_caller slot caller value subject = if subject.id == caller then with_slot slot value subject else subject

@@ -6,6 +6,7 @@ mod found;
 mod last_label;
 mod loading;
 mod lookup;
+mod lowering;
 mod named;
 mod names;
 mod outline;

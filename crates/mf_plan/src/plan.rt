@@ -1,22 +1,26 @@
 //! Plans: the checks that a call asks the policies for, in order, and how it ends where none is denied.
-ghost use Rattle.std.specs.Prelude.{◌≡◌, ◌↔◌, ◌<◌, ◌≤◌, length, slice_index_or, IsTrue};
+ghost use Rattle.std.specs.Prelude.{◌≡◌, ◌↔◌, ◌<◌, ◌≤◌, length, slice_index_or, IfSome, IsSome, IsTrue};
 ghost use Rattle.mf_item.specs.Item.{Item};
+ghost use Rattle.mf_objects.specs.Live.{live_at};
 ghost use Rattle.mf_plan.specs.Outline as outlines;
+ghost use Rattle.mf_plan.specs.Plan.{lowering_by};
 ghost use Rattle.mf_plan.specs.Planned.{proceed};
 
 use crate::last_label::LastLabel;
+use crate::lowering::fill_lowered;
 use crate::outline::Outline;
-use crate::views::{CheckView, Subjects, are_views, fill_views};
+use crate::state::State;
+use crate::views::{CheckView, Subjects, are_views, same_views};
 use mf_errno::Errno;
 use mf_item::{Item, SubjectView};
-use mf_objects::Objects;
 use std::marker::Model;
 
 /// The most checks that a plan has room for. No call asks for more than 10: 8 look-ups and 2 more.
 pub const MOST_CHECKS: usize = 12;
 
-/// The most subjects that a plan has room for: one for each check, and one that a plan before had.
-pub const MOST_SUBJECTS: usize = MOST_CHECKS + 1;
+/// The most subjects that a plan has room for: one for each check, one more for each that finds the caller lowered, and one that a
+/// plan before had.
+pub const MOST_SUBJECTS: usize = 2 * MOST_CHECKS + 1;
 
 /// How a call ends where no check is denied.
 #[derive(Clone, Copy, PartialEq, Eq)]
@@ -93,34 +97,65 @@ impl Plan {
     }
 
     /// Becomes the plan of that outline in the present state.
-    pub(crate) fn fill(&mut self, objects: &Objects, outline: &Outline)
-        requires { outlines.AreLive objects.now outline.now.checks }
-        ensures { self.new ≡ outlines.outlined objects.now outline.now }
+    pub(crate) fn fill(&mut self, state: &State, outline: &Outline)
+        requires live { outlines.AreLive state.now.objects outline.now.checks }
+        requires caller { IfSome outline.now.found.caller
+            (λ id. IsSome (live_at state.now.objects id)) }
+        ensures { self.new ≡ lowering_by state.now outline.now.found.caller
+            (outlines.outlined state.now.objects outline.now) }
     {
-        let checks = outline.checks.as_slice();
-        fill_views(
-            objects,
-            &outline.found.request,
-            checks,
-            &mut self.subjects,
-            &mut self.checks,
-        );
-        self.count = checks.len();
+        let count = outline.checks.len();
+        fill_lowered(state, outline, &mut self.subjects, &mut self.checks);
+        self.count = count;
         self.tail = outline.tail;
     }
 
-    /// Whether this is the plan of that outline in the present state. What costs least is compared first.
-    pub(crate) fn is_outlined(&self, objects: &Objects, outline: &Outline) -> bool
-        requires { outlines.AreLive objects.now outline.now.checks }
-        ensures { IsTrue result ↔ (self.now ≡ outlines.outlined objects.now outline.now) }
+    /// Whether this is the plan of that outline in the present state. What costs least is compared first. Where nobody is lowered
+    /// no plan is made for it.
+    pub(crate) fn is_outlined(&self, state: &State, outline: &Outline) -> bool
+        requires live { outlines.AreLive state.now.objects outline.now.checks }
+        requires caller { IfSome outline.now.found.caller
+            (λ id. IsSome (live_at state.now.objects id)) }
+        ensures { IsTrue result ↔ (self.now ≡ lowering_by state.now outline.now.found.caller
+            (outlines.outlined state.now.objects outline.now)) }
     {
         self.tail == outline.tail
-            && are_views(
-                objects,
-                &outline.found.request,
-                outline.checks.as_slice(),
+            && if state.specs.lomac_slot().is_some() {
+                self.is_filled(state, outline)
+            } else {
+                are_views(
+                    &state.objects,
+                    &outline.found.request,
+                    outline.checks.as_slice(),
+                    self.subjects.as_slice(),
+                    &self.checks[..self.count],
+                )
+            }
+    }
+
+    /// Whether this is the plan of that outline in the present state, which is made anew.
+    fn is_filled(&self, state: &State, outline: &Outline) -> bool
+        requires live { outlines.AreLive state.now.objects outline.now.checks }
+        requires caller { IfSome outline.now.found.caller
+            (λ id. IsSome (live_at state.now.objects id)) }
+        ensures { IsTrue result ↔ (self.now ≡ lowering_by state.now outline.now.found.caller
+            (outlines.outlined state.now.objects outline.now)) }
+    {
+        let mut plan = Plan::new();
+        plan.fill(state, outline);
+        self.same(&plan)
+    }
+
+    /// Whether the two are one plan.
+    fn same(&self, other: &Plan) -> bool
+        ensures { IsTrue result ↔ (self.now ≡ other.now) }
+    {
+        self.tail == other.tail
+            && same_views(
                 self.subjects.as_slice(),
                 &self.checks[..self.count],
+                other.subjects.as_slice(),
+                &other.checks[..other.count],
             )
     }
 }

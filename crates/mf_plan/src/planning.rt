@@ -4,6 +4,7 @@ ghost use Rattle.std.specs.Option.{option_copied};
 ghost use Rattle.mf_calls.specs.WellFormed.{IsFormedCall, IsName};
 ghost use Rattle.mf_plan.specs.declared.plan.Tail.TheVariants.{Do};
 ghost use Rattle.mf_item.specs.declared.operation.CheckOp.TheVariants as op;
+ghost use Rattle.mf_objects.specs.Live.{live_at};
 ghost use Rattle.mf_plan.specs.Checks as check;
 ghost use Rattle.mf_plan.specs.Ended.{end_by, ended_by};
 ghost use Rattle.mf_plan.specs.Found.{AreFound, asked_at, target_at};
@@ -38,7 +39,7 @@ pub fn plan_of(state: &State, task: &str, child: Option<&str>, call: &Call) -> P
     requires task { IsName task.now }
     requires child { IfSome (option_copied child) IsName }
     requires formed { IsFormedCall call.now }
-    ensures { result ≡ spec.plan_in state.now (spec.call_row state.now task.now (option_copied child.entry) call.now) }
+    ensures { result ≡ spec.plan_of state.now task.now (option_copied child.entry) call.now }
 {
     let mut plan = Plan::new();
     plan.make(state, task, child, call);
@@ -53,7 +54,7 @@ impl Plan {
         requires child { IfSome (option_copied child) IsName }
         requires formed { IsFormedCall call.now }
         ensures plan { self.new
-            ≡ spec.plan_in state.now (spec.call_row state.now task.now (option_copied child.entry) call.now) }
+            ≡ spec.plan_of state.now task.now (option_copied child.entry) call.now }
         ensures found { self.new.tail ≡ Do
             → AreFound state.now task.now (option_copied child.entry) call.now result }
         ensures caller { result.caller
@@ -61,7 +62,7 @@ impl Plan {
     {
         self.label.keep(call);
         let outline = outline_of(state, task, child, call, &self.label);
-        self.fill(&state.objects, &outline);
+        self.fill(state, &outline);
         outline.found
     }
 
@@ -77,14 +78,14 @@ impl Plan {
         requires child { IfSome (option_copied child) IsName }
         requires formed { IsFormedCall call.now }
         ensures is { IsSome result
-            ↔ (self.now ≡ spec.plan_in state.now (spec.call_row state.now task.now (option_copied child.entry) call.now)) }
+            ↔ (self.now ≡ spec.plan_of state.now task.now (option_copied child.entry) call.now) }
         ensures found { self.now.tail ≡ Do → IfSome result
             (λ found. AreFound state.now task.now (option_copied child.entry) call.now found) }
         ensures caller { IfSome result (λ found. found.caller
             ≡ process_named state.now.objects (caller_name task.now (option_copied child.entry))) }
     {
         let outline = outline_of(state, task, child, call, &self.label);
-        if self.is_outlined(&state.objects, &outline) {
+        if self.is_outlined(state, &outline) {
             Some(outline.found)
         } else {
             None
@@ -109,6 +110,7 @@ pub fn outline_of(
     ensures live { outlines.AreLive state.now.objects result.checks }
     ensures caller { result.found.caller
         ≡ process_named state.now.objects (caller_name task.now (option_copied child.entry)) }
+    ensures lives { IfSome result.found.caller (λ id. IsSome (live_at state.now.objects id)) }
     ensures found { result.tail ≡ Do
         → AreFound state.now task.now (option_copied child.entry) call.now result.found }
 {
