@@ -214,7 +214,7 @@ pub keeps_valid : {by : Deed} (slot : ℕ) (r : Registration) (s s' : State) →
 keeps_valid slot r s s' within step pinned all id e found =
     change_valid slot r s id (live_at s.objects id) (live_at s'.objects id) e within pinned all refl (step.each id) found
 
-same_policies : (slot : ℕ) (r : Registration) (s s' : State) → s'.specs ≡ s.specs → s'.numbers ≡ s.numbers → IsPinned slot r s.specs s.numbers
+pub same_policies : (slot : ℕ) (r : Registration) (s s' : State) → s'.specs ≡ s.specs → s'.numbers ≡ s.numbers → IsPinned slot r s.specs s.numbers
     → IsPinned slot r s'.specs s'.numbers
 same_policies slot r s s' specs numbers pinned =
     subst (λ (x : List Entry). IsPinned slot r x s'.numbers) (sym specs) (subst (λ (n : ℕ). IsPinned slot r s.specs n) (sym numbers) pinned)

@@ -7,6 +7,7 @@ pub mod Asked
 pub mod Boots
 pub mod Openings
 pub mod Kept
+pub mod Observed
 pub mod Marked
 mod Leading
 pub mod Files

@@ -8,6 +8,7 @@ use Rattle.mf_elem.specs.declared.label.LabelValue.TheVariants.{Unset, Range, Nu
 use Rattle.mf_elem.specs.declared.label.TheConstants.{SLOTS}
 use Rattle.mf_elem.specs.declared.label.Request.{Request}
 use Rattle.mf_item.specs.declared.view.Kind.TheVariants as kinds
+use Rattle.mf_item.specs.Item.{Item}
 use Rattle.mf_policy.specs.declared.registration.Registration.{Registration}
 use Rattle.mf_policy.specs.Registration.{Entry, holds_slot, given_after}
 use Rattle.mf_policy.specs.Relabelled.{value_after, relabelled_value, relabelled}
@@ -33,6 +34,10 @@ use Rattle.mf_lifetimes.specs.Marks.Mark.{Made, Ended, Left}
 use Rattle.mf_lifetimes.specs.Laws.{state_of, SlotsAreMadeOnce, AreMarksOf, SetSlotsAreMarked, GoneSlotsHaveEnded, holds_valid, LabelsAll, BootedPoliciesLast}
 use Rattle.mf_lifetimes.specs.Once.{AreOnce}
 use Rattle.mf_lifetimes.specs.Once.AreOnce.{never, made as made_once, ended as ended_once, left as left_once}
+use Rattle.mf_perform.specs.OneCall.{observed}
+use Rattle.mf_perform.proofs.Observing.{HasObserved, Observing, ObservingKeeps, checks_passed, observing, observing_keeps}
+use Rattle.mf_perform.proofs.Observing.HasObserved.{absent as is_absent, lowered, unlowered}
+use Rattle.mf_perform.proofs.Observing.Observing.{kept as all_kept}
 use Rattle.mf_perform.proofs.StateChange.{Deed, StateChange, step_by, step_change}
 use Rattle.mf_perform.proofs.StateChange.StateChange.{same}
 use Rattle.mf_perform.proofs.EntityChange.{EntityChange, ChangesEntities, changes_entities}
@@ -44,7 +49,8 @@ use Rattle.mf_lifetimes.proofs.Valid.{IsValidOf}
 use Rattle.mf_lifetimes.proofs.FirstValues.{with_first, unchanged_marks, relabelled_marks}
 use Rattle.mf_lifetimes.proofs.Boots.{Standing, boots_standing, boots_pinned, boots_below, boots_single}
 use Rattle.mf_lifetimes.proofs.Openings.{AreBooted, opening_booted}
-use Rattle.mf_lifetimes.proofs.Kept.{four_values, created_marks, boot_marks, boot_holds, AllValid, keeps_valid, keeps_pinned, Holding, IsKept, keeps, relabel_valid, holder_valid, maker_valid}
+use Rattle.mf_lifetimes.proofs.Observed.{lowered_keeps_marks, observing_kept, observing_valid, same_added}
+use Rattle.mf_lifetimes.proofs.Kept.{same_policies, four_values, created_marks, boot_marks, boot_holds, AllValid, keeps_valid, keeps_pinned, Holding, IsKept, keeps, relabel_valid, holder_valid, maker_valid}
 
 -- An entity that isn't live has no slot that is made and hasn't ended, and no marks where its id isn't given yet; the marks of a live one
 -- tell the value.
@@ -149,6 +155,39 @@ step_marked {by = by} slot id s s' marks within shape marked =
       agree = change_marked slot id s s'.objects.next (live_at s.objects id) (live_at s'.objects id) marks within marked.kept refl step.next (step.each id) marked.agree;
     }
 
+-- The checks of a call
+
+-- the marks of an entity tell the value that its slot has after the checks
+observed_agree : {caller : Option Id} {checks : List Item} (slot : ℕ) (id : Id) (s : State) (next : ℕ) (found found1 : Option LiveEntity) (marks : List Mark)
+    → HasObserved caller checks s id found found1 → Agree slot id next found marks → Agree slot id next found1 marks
+observed_agree slot id s next _ _ marks is_absent agree = agree
+observed_agree slot id s next _ _ marks (unlowered e) agree = agree
+observed_agree {checks = checks} slot id s next _ _ marks (lowered at e named listed process sees) agree =
+    lowered_keeps_marks slot at e s.objects checks sees marks agree
+
+-- the marks are those of before the checks: these add none
+observing_marked : {caller : Option Id} {checks : List Item} (slot : ℕ) (id : Id) (s s1 : State) (marks : List Mark) → Observing caller checks s s1
+    → IsMarked slot id s marks → IsMarked slot id s1 marks
+observing_marked {caller = caller} {checks = checks} slot id s s1 marks shape marked =
+    let keeps : ObservingKeeps caller checks s s1 = observing_keeps s s1 shape marked.kept.rooted in
+    record {
+      kept = observing_kept slot s s1 shape marked.kept;
+      agree = rw (keeps.next) (observed_agree slot id s s.objects.next (live_at s.objects id) (live_at s1.objects id) marks (keeps.each id) marked.agree);
+    }
+
+same_across : {caller : Option Id} {checks : List Item} (slot : ℕ) (id : Id) (s s1 s' : State) (marks : List Mark) → ObservingKeeps caller checks s s1
+    → marks_across id slot marks s1 s' ≡ marks_across id slot marks s s'
+same_across slot id s s1 s' marks keeps =
+    ap (λ (specs : List Entry). marks ++ added_marks specs slot marks (live_at s1.objects id) (live_at s'.objects id)) keeps.specs
+    ∙ ap (λ (added : List Mark). marks ++ added) (same_added s id s.specs slot marks (live_at s.objects id) (live_at s1.objects id) (live_at s'.objects id) (keeps.each id))
+
+-- a call's checks, and what it changes after them
+call_marked : {caller : Option Id} {checks : List Item} {by : Deed} (slot : ℕ) (id : Id) (s s1 s' : State) (marks : List Mark) → slot < SLOTS → Observing caller checks s s1
+    → StateChange by s1 s' → IsMarked slot id s marks → IsMarked slot id s' (marks_across id slot marks s s')
+call_marked {caller = caller} {checks = checks} slot id s s1 s' marks within observes shape marked =
+    let keeps : ObservingKeeps caller checks s s1 = observing_keeps s s1 observes marked.kept.rooted in
+    subst (IsMarked slot id s') (same_across slot id s s1 s' marks keeps) (step_marked slot id s1 s' marks within shape (observing_marked slot id s s1 marks observes marked))
+
 -- A run
 
 -- who makes the call of a line, and of an event, and what it asks of whose label where it is done
@@ -166,11 +205,44 @@ by_event s r (event.Done t line reply) = by_line s r t (next_line s r.progress t
 by_event s r (event.Leave t) = by_nobody
 by_event s r (event.Changed t line reply) = by_line s r t (next_line s r.progress t)
 
-line_change : (s : Script) (r : RunState) (t : ℕ) (next : Option Line) → IsRooted r.state.objects → StateChange (by_line s r t next) r.state (state_at s r t next)
+-- the checks of a line, and of an event, that pass, and the state after them
+
+abbrev checks_line : Script → RunState → ℕ → Option Line → List Item
+checks_line s r t None = []
+checks_line s r t (Some line) = checks_passed r.state (name_of s t) line.child line.call
+
+abbrev seen_line : Script → RunState → ℕ → Option Line → State
+seen_line s r t None = r.state
+seen_line s r t (Some line) = observed r.state (name_of s t) line.child line.call
+
+abbrev pub checks_by : Script → RunState → Event → List Item
+checks_by s r (event.Enter t) = []
+checks_by s r (event.Done t line reply) = checks_line s r t (next_line s r.progress t)
+checks_by s r (event.Leave t) = []
+checks_by s r (event.Changed t line reply) = checks_line s r t (next_line s r.progress t)
+
+abbrev pub seen_by : Script → RunState → Event → State
+seen_by s r (event.Enter t) = r.state
+seen_by s r (event.Done t line reply) = seen_line s r t (next_line s r.progress t)
+seen_by s r (event.Leave t) = r.state
+seen_by s r (event.Changed t line reply) = seen_line s r t (next_line s r.progress t)
+
+line_observing : (s : Script) (r : RunState) (t : ℕ) (next : Option Line) → IsRooted r.state.objects
+    → Observing (by_line s r t next).caller (checks_line s r t next) r.state (seen_line s r t next)
+line_observing s r t None rooted = all_kept refl
+line_observing s r t (Some line) rooted = observing r.state (name_of s t) line.child line.call rooted
+
+line_change : (s : Script) (r : RunState) (t : ℕ) (next : Option Line) → IsRooted r.state.objects → StateChange (by_line s r t next) (seen_line s r t next) (state_at s r t next)
 line_change s r t None rooted = same refl
 line_change s r t (Some line) rooted = step_change r.state (name_of s t) line.child line.call rooted
 
-pub event_change : (s : Script) (r : RunState) (e : Event) → IsRooted r.state.objects → StateChange (by_event s r e) r.state (run_after s r e).state
+pub event_observing : (s : Script) (r : RunState) (e : Event) → IsRooted r.state.objects → Observing (by_event s r e).caller (checks_by s r e) r.state (seen_by s r e)
+event_observing s r (event.Enter t) rooted = all_kept refl
+event_observing s r (event.Done t line reply) rooted = line_observing s r t (next_line s r.progress t) rooted
+event_observing s r (event.Leave t) rooted = all_kept refl
+event_observing s r (event.Changed t line reply) rooted = line_observing s r t (next_line s r.progress t) rooted
+
+pub event_change : (s : Script) (r : RunState) (e : Event) → IsRooted r.state.objects → StateChange (by_event s r e) (seen_by s r e) (run_after s r e).state
 event_change s r (event.Enter t) rooted = same refl
 event_change s r (event.Done t line reply) rooted = line_change s r t (next_line s r.progress t) rooted
 event_change s r (event.Leave t) rooted = same refl
@@ -181,7 +253,7 @@ run_marked : (slot : ℕ) (id : Id) (s : Script) (r : RunState) (marks : List Ma
 run_marked slot id s r marks [] within marked = marked
 run_marked slot id s r marks (e ∷ es) within marked =
     run_marked slot id s (run_after s r e) (marks_across id slot marks r.state (run_after s r e).state) es within
-    (step_marked slot id r.state (run_after s r e).state marks within (event_change s r e marked.kept.rooted) marked)
+    (call_marked slot id r.state (seen_by s r e) (run_after s r e).state marks within (event_observing s r e marked.kept.rooted) (event_change s r e marked.kept.rooted) marked)
 
 -- The opening state
 
@@ -281,11 +353,22 @@ step_held {by = by} slot r s s' within shape held =
       valid = keeps_valid slot r s s' within step held.pinned held.valid;
     }
 
+pub observing_held : {caller : Option Id} {checks : List Item} (slot : ℕ) (r : Registration) (s s1 : State) → Observing caller checks s s1 → IsHeld slot r s → IsHeld slot r s1
+observing_held {caller = caller} {checks = checks} slot r s s1 shape held =
+    let keeps : ObservingKeeps caller checks s s1 = observing_keeps s s1 shape held.kept.rooted in
+    record {
+      kept = observing_kept slot s s1 shape held.kept;
+      pinned = same_policies slot r s s1 keeps.specs keeps.numbers held.pinned;
+      valid = observing_valid slot r s s1 keeps held.kept.slots.single held.pinned held.valid;
+    }
+
 run_held : (slot : ℕ) (r : Registration) (s : Script) (run : RunState) (es : List Event) → slot < SLOTS → IsHeld slot r run.state
     → IsHeld slot r (fold (run_after s) run es).state
 run_held slot r s run [] within held = held
 run_held slot r s run (e ∷ es) within held =
-    run_held slot r s (run_after s run e) es within (step_held slot r run.state (run_after s run e).state within (event_change s run e held.kept.rooted) held)
+    run_held slot r s (run_after s run e) es within
+    (step_held slot r (seen_by s run e) (run_after s run e).state within (event_change s run e held.kept.rooted)
+    (observing_held slot r run.state (seen_by s run e) (event_observing s run e held.kept.rooted) held))
 
 labels_all : (slot : ℕ) (r : Registration) (s : State) → IsHeld slot r s → LabelsAll r slot s
 labels_all slot r s held =
