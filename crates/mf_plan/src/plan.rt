@@ -133,7 +133,9 @@ impl Plan {
             }
     }
 
-    /// Whether this is the plan of that outline in the present state, which is made anew.
+    /// Whether this is the plan of that outline in the present state, which is made anew. It stands apart, so that a comparison that
+    /// makes no plan needs no room for one.
+    #[inline(never)]
     fn is_filled(&self, state: &State, outline: &Outline) -> bool
         requires live { outlines.AreLive state.now.objects outline.now.checks }
         requires caller { IfSome outline.now.found.caller
