@@ -1,14 +1,9 @@
 -- What no call changes: whether boot has ended. And how far the next id goes on.
-use Rattle.std.proofs.Common.{◌≡◌, ℕ, ◌+◌, ◌≤◌, List, Option, Some, Result, Ok, Err, OnOk, OnErr, refl, sym, ◌∙◌, subst, arith}
+use Rattle.std.proofs.Common.{◌≡◌, ◌+◌, ◌≤◌, Result, Ok, Err, OnOk, OnErr, refl, sym, subst, arith}
 use Rattle.mf_objects.specs.declared.id.Id.{Id}
-use Rattle.mf_calls.specs.declared.script.Call.{Call}
-use Rattle.mf_plan.specs.declared.found.Found.{Found}
 use Rattle.mf_plan.specs.declared.state.State.{State}
 use Rattle.mf_plan.specs.Effect.{Effect}
 use Rattle.mf_plan.specs.Effect.Effect.{Make}
-use Rattle.mf_plan.specs.Found.{AreFound, IsAbout}
-use Rattle.mf_plan.specs.Names.{caller_name}
-use Rattle.mf_plan.specs.Views.{process_named}
 use Rattle.mf_perform.specs.Effect.{after}
 
 -- boot has ended or not as before, and at most one id was given
@@ -25,14 +20,3 @@ after_keeps s me other = record { next = omega arith; rises = omega arith; kept 
 pub call_keeps : {T E : Type 0} (r : Result T E) (s s' : State) (me : Id) (e : Effect) → OnOk r (s' ≡ after s me e) → OnErr r (s' ≡ s) → Keeps s s'
 call_keeps (Ok value) s s' me e ok err = subst (Keeps s) (sym ok) (after_keeps s me e)
 call_keeps (Err error) s s' me e ok err = subst (Keeps s) (sym err) (record { next = omega arith; rises = omega arith; kept = refl })
-
--- the process that was found makes the call
-pub record Makes (s : State) (task : List ℕ) (child : Option (List ℕ)) (c : Call) (found : Found) (me : Id) : Type 0 where
-  pub named : process_named s.objects (caller_name task child) ≡ Some me
-  pub is : IsAbout s task me c found
-
-pub makes : (s : State) (task : List ℕ) (child : Option (List ℕ)) (c : Call) (found : Found) (me : Id) → AreFound s task child c found → found.caller ≡ Some me
-    → Makes s task child c found me
-makes s task child c found me are own =
-    let same : are.me ≡ me = cc (sym are.caller ∙ own) in
-    subst (Makes s task child c found) same (record { named = are.named; is = are.is })

@@ -18,3 +18,7 @@ mod Given
 mod LabelParts
 pub mod Loads
 mod Suiting
+pub mod LabelsAlone
+mod PutBack
+mod LoweredBy
+mod Ready

@@ -19,6 +19,7 @@ use Rattle.mf_policy.specs.declared.settings.Change.{Change}
 use Rattle.mf_policy.specs.declared.settings.Change.TheVariants.{RuleAdd}
 use Rattle.mf_calls.specs.declared.script.Call.{Call}
 use Rattle.mf_calls.specs.declared.script.Call.TheVariants as call
+use Rattle.mf_plan.specs.declared.found.Found.{Found}
 use Rattle.mf_plan.specs.declared.reply.LabelPart.{LabelPart}
 use Rattle.mf_plan.specs.declared.reply.Payload.{Payload}
 use Rattle.mf_plan.specs.declared.reply.Payload.TheVariants as payload
@@ -29,6 +30,7 @@ use Rattle.mf_plan.specs.Names.{child_name}
 use Rattle.mf_plan.specs.Path.{last_name}
 use Rattle.mf_plan.specs.Payloads.{head, label, label_part, loaded, message, names}
 use Rattle.mf_plan.specs.Rows.{new_file}
+use Rattle.mf_perform.specs.Effect.{after}
 
 -- Effects
 
@@ -83,6 +85,14 @@ effect_found s task me (call.Sysctl name value) found asked = Unchanged
 effect_found s task me (call.UgidfwAdd rule) found asked = Unchanged
 effect_found s task me (call.UgidfwSet n rule) found asked = Unchanged
 effect_found s task me (call.UgidfwRemove n) found asked = Unchanged
+
+-- what the call of an entry changes, by all that was found; nothing where nobody was found who makes it
+abbrev pub effect_of : State → List ℕ → Call → Found → Effect
+effect_of s task c found = option_map_or (λ me. effect_found s task me c found.target found.request) found.caller Unchanged
+
+-- and the state after it
+abbrev pub after_found : State → List ℕ → Call → Found → State
+after_found s task c found = option_map_or (λ me. after s me (effect_found s task me c found.target found.request)) found.caller s
 
 -- Payloads
 

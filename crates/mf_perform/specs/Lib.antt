@@ -1,5 +1,6 @@
 pub mod Effect
 pub mod Found
+pub mod Held
 pub mod OneCall
 pub mod Passed
 pub mod Refused

@@ -1,16 +1,12 @@
 //! What the call of an entry changes: entities alone.
-ghost use Rattle.std.specs.Prelude.{◌≡◌, ◌+◌, ◌<◌, ◌≤◌, IsOk, OnOk, OnErr, false};
+ghost use Rattle.std.specs.Prelude.{◌≡◌, ◌+◌, ◌<◌, ◌≤◌, IfSome, IsOk, OnOk, OnErr, false};
 ghost use Rattle.mf_objects.specs.declared.limits.TheConstants.{ID_LIMIT};
 ghost use Rattle.mf_objects.specs.Live.{is_process};
 ghost use Rattle.mf_objects.specs.Lives.{IsLive};
-ghost use Rattle.mf_plan.specs.Found.{AreFound};
-ghost use Rattle.mf_plan.specs.Plan.{plan_of, call_row};
-ghost use Rattle.mf_plan.specs.declared.plan.Tail.TheVariants.{Do};
 ghost use Rattle.mf_calls.specs.Tasks.{is_change};
 ghost use Rattle.mf_calls.specs.WellFormed.{IsFormedCall, IsFormedLine, IsName};
 ghost use Rattle.mf_perform.specs.Effect.{after, takes_memory};
-ghost use Rattle.mf_perform.specs.Found.{effect_found};
-ghost use Rattle.mf_perform.specs.OneCall.{performed};
+ghost use Rattle.mf_perform.specs.Found.{after_found, effect_found, effect_of};
 ghost use Rattle.mf_perform.specs.Suits.{Suits};
 
 use crate::channels::{append, deliver, pipe, pread, recv, socket};
@@ -23,10 +19,10 @@ use mf_objects::Id;
 use mf_plan::{Found, State};
 use std::alloc::{AllocError, Global};
 
-/// Does the call of a line of the task, which is about what was found. Its plan must end without a refusal, and no check of it
-/// be denied; and it mustn't be a change of the policies, which is made by `listed_after` and `put_listed`. If memory runs out, the
-/// state is unchanged.
-pub fn perform(
+/// Does the call of a line of the task, by what was found of it in the state before its checks. They have lowered its caller by now, and
+/// nothing else has changed since. It mustn't be a change of the policies, which is made by `listed_after` and `put_listed`. If memory
+/// runs out, the state is unchanged.
+pub(crate) fn perform(
     alloc: Global,
     state: &mut State,
     task: &str,
@@ -36,20 +32,19 @@ pub fn perform(
     requires task { IsName task.now }
     requires line { IsFormedLine line.now }
     requires entry { is_change line.now.call ≡ false }
-    requires proceeds { (plan_of state.old task.now line.now.child line.now.call).tail ≡ Do }
-    requires found { AreFound state.old task.now line.now.child line.now.call found.now }
+    requires caller { IfSome found.now.caller (λ me. IsLive is_process state.old.objects me) }
+    requires suits { IfSome found.now.caller (λ me. Suits state.old
+        (effect_found state.old task.now me line.now.call found.now.target found.now.request)) }
     requires next { state.old.objects.next < ID_LIMIT }
     ensures ok { OnOk result (state.new
-        ≡ performed state.old task.now line.now.child line.now.call) }
+        ≡ after_found state.old task.now line.now.call found.now) }
     ensures err { OnErr result (state.new ≡ state.old) }
     ensures next { state.new.objects.next ≤ state.old.objects.next + 1 }
     ensures rises { state.old.objects.next ≤ state.new.objects.next }
     ensures kept { state.new.booted ≡ state.old.booted }
-    ensures memory { takes_memory (call_row state.old task.now line.now.child line.now.call).effect
+    ensures memory { takes_memory (effect_of state.old task.now line.now.call found.now)
         ≡ false → IsOk result }
 {
-    // Counting the entities shows the proof that what was found among them lives.
-    let _live = state.objects.live();
     match found.caller {
         Some(caller) => {
             let target = found.target;

@@ -1,0 +1,21 @@
+-- What a caller has in the slot of mac_lomac; inner contracts alone cite this.
+use Rattle.std.specs.Option.{option_map_or}
+use Rattle.std.specs.Prelude.{Option}
+use Rattle.mf_elem.specs.declared.label.LabelValue.{LabelValue}
+use Rattle.mf_elem.specs.declared.label.LabelValue.TheVariants.{Unset}
+use Rattle.mf_objects.specs.declared.id.Id.{Id}
+use Rattle.mf_objects.specs.Changes.{with_change}
+use Rattle.mf_objects.specs.Labels.{with_value}
+use Rattle.mf_objects.specs.Lives.{value_at}
+use Rattle.mf_policy.specs.Lowering.{lomac_slot}
+use Rattle.mf_plan.specs.declared.state.State.{State}
+use Rattle.mf_perform.specs.Effect.{with_objects}
+
+-- its value, where mac_lomac is listed and somebody calls
+abbrev pub lomac_value : State → Option Id → LabelValue
+lomac_value s caller = option_map_or (λ slot. option_map_or (λ me. value_at s.objects me slot) caller Unset) (lomac_slot s.specs) Unset
+
+-- the state in which it has this one
+abbrev pub with_lomac_value : LabelValue → State → Option Id → State
+with_lomac_value value s caller =
+    option_map_or (λ slot. option_map_or (λ me. with_objects s (with_change (with_value slot value) s.objects me)) caller s) (lomac_slot s.specs) s
