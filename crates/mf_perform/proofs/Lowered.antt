@@ -1,13 +1,13 @@
 -- How the last check of a plan finds its caller: as the checks before it leave it, which is as the state after all has it where the last moves
 -- nothing to its subject.
-use Rattle.std.proofs.Common.{◌≡◌, ℕ, ◌==◌, Bool, true, false, cond, List, [], ◌∷◌, ◌++◌, Option, Some, None, option_map, refl, ap, sym, ◌∙◌, subst, eq-eqb}
+use Rattle.std.proofs.Common.{◌≡◌, ℕ, Bool, false, cond, List, [], ◌∷◌, ◌++◌, Option, Some, None, option_map, refl, ap, sym, ◌∙◌, subst, eq-eqb}
 use Rattle.std.specs.Option.{option_map_or}
 use Rattle.std.specs.Prelude.{slice_set}
 use Rattle.std.specs.List.{AllByRecursion}
 use Rattle.mf_elem.specs.declared.label.LabelValue.{LabelValue}
 use Rattle.mf_item.specs.Item.{Item}
 use Rattle.mf_policy.specs.Answer.{object_slot}
-use Rattle.mf_policy.specs.Lowering.{after_check, after_checks, lomac_slot, lowered_value, observes}
+use Rattle.mf_policy.specs.Lowering.{after_checks, lomac_slot, lowered_value, observes}
 use Rattle.mf_policy.specs.Operations.{row_of}
 use Rattle.mf_objects.specs.declared.id.Id.{Id}
 use Rattle.mf_objects.specs.Live.{LiveEntity, Entities, has_id, label_at, live_at}
@@ -17,41 +17,11 @@ use Rattle.mf_objects.specs.Labels.{with_value}
 use Rattle.mf_objects.proofs.Entities.{label_of, changed_at}
 use Rattle.mf_plan.specs.declared.state.State.{State}
 use Rattle.mf_plan.specs.Lowering.{each_lowered, lowering, while_lowered, with_slot}
+use Rattle.mf_plan.proofs.LoweredChecks.{after_pushed, each_pushed, same_afters}
 use Rattle.mf_perform.specs.Effect.{with_objects}
 use Rattle.mf_perform.specs.OneCall.{observed_by}
 use Rattle.mf_perform.proofs.Granted.{IsGranted, last_granted}
 use Rattle.mf_perform.proofs.Observing.{find_valued, passes_found}
-
--- Lowered checks
-
-same_after : (slot caller : ℕ) (value own : LabelValue) (item : Item) → after_check slot value (while_lowered slot caller own item) ≡ after_check slot value item
-same_after slot caller value own item = one (item.subject.id == caller)
-  where
-    one : (b : Bool) → after_check slot value (cond b (record item { subject = with_slot slot own item.subject }) item) ≡ after_check slot value item
-    one true = refl
-    one false = refl
-
--- the value after the checks of a plan, as policies see them, is that after its rows
-pub same_afters : (slot caller : ℕ) (value own : LabelValue) (items : List Item)
-    → after_checks slot value (each_lowered slot caller own items) ≡ after_checks slot value items
-same_afters slot caller value own [] = refl
-same_afters slot caller value own (item ∷ items) =
-    ap (λ (v : LabelValue). after_checks slot v (each_lowered slot caller (after_check slot own item) items)) (same_after slot caller value own item)
-    ∙ same_afters slot caller (after_check slot value item) (after_check slot own item) items
-
--- one check more
-pub each_pushed : (slot caller : ℕ) (value : LabelValue) (items : List Item) (item : Item)
-    → each_lowered slot caller value (items ++ item ∷ []) ≡ each_lowered slot caller value items ++ while_lowered slot caller (after_checks slot value items) item ∷ []
-each_pushed slot caller value [] item = refl
-each_pushed slot caller value (x ∷ items) item =
-    ap (λ (rest : List Item). while_lowered slot caller value x ∷ rest) (each_pushed slot caller (after_check slot value x) items item)
-
-pub after_pushed : (slot : ℕ) (value : LabelValue) (items : List Item) (item : Item)
-    → after_checks slot value (items ++ item ∷ []) ≡ after_check slot (after_checks slot value items) item
-after_pushed slot value [] item = refl
-after_pushed slot value (x ∷ items) item = after_pushed slot (after_check slot value x) items item
-
--- The last check
 
 -- the check of a plan as its caller comes to it in s, with the caller's label as it is in s1
 pub record LastCheck (s s1 : State) (me : Id) (item : Item) : Type 0 where

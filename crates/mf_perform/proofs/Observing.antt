@@ -1,6 +1,6 @@
 -- What the checks of a call make of a state where they pass: nothing; or, where mac_lomac is listed, its caller, which is a live process, has
 -- another value of it.
-use Rattle.std.proofs.Common.{◌≡◌, ℕ, ◌-◌, ◌==◌, zero, suc, Bool, true, false, cond, List, [], ◌∷◌, map, take, Option, Some, None, option_map, refl, ap, sym, ◌∙◌, subst}
+use Rattle.std.proofs.Common.{◌≡◌, ℕ, ◌-◌, zero, suc, Bool, true, false, cond, List, [], ◌∷◌, map, take, Option, Some, None, option_map, refl, ap, sym, ◌∙◌, subst}
 use Rattle.std.specs.Option.{option_map_or}
 use Rattle.std.specs.Prelude.{find, slice_index_or, IfSome}
 use Rattle.std.specs.List.{AllByRecursion}
@@ -29,12 +29,11 @@ use Rattle.mf_plan.specs.declared.outline.Check.{Check}
 use Rattle.mf_plan.specs.declared.reply.Reply.{Reply}
 use Rattle.mf_plan.specs.declared.reply.Reply.TheVariants as reply
 use Rattle.mf_plan.specs.declared.state.State.{State}
-use Rattle.mf_plan.specs.Lowering.{each_lowered, while_lowered, with_slot}
 use Rattle.mf_plan.specs.Names.{caller_name}
 use Rattle.mf_plan.specs.Outline.{item_asking}
-use Rattle.mf_plan.specs.Plan.{call_row, lowering_by, plan_in, plan_of}
-use Rattle.mf_plan.specs.Planned.{Plan}
+use Rattle.mf_plan.specs.Plan.{call_row, plan_in, plan_of}
 use Rattle.mf_plan.specs.Views.{object_of, process_named}
+use Rattle.mf_plan.proofs.LoweredChecks.{IsSameCheck, plan_all}
 use Rattle.mf_perform.specs.Effect.{with_objects}
 use Rattle.mf_perform.specs.OneCall.{call_reply, observed, observed_by}
 use Rattle.mf_perform.specs.Passed.{passed}
@@ -58,19 +57,6 @@ items_see : (o : Entities) (asked : Option Request) (checks : List Check) → Al
 items_see o asked [] = tt
 items_see o asked (check ∷ checks) = (item_sees o asked check, items_see o asked checks)
 
-while_sees : (o : Entities) (slot caller : ℕ) (value : LabelValue) (item : Item) → Sees o item → Sees o (while_lowered slot caller value item)
-while_sees o slot caller value item sees = one (item.subject.id == caller)
-  where
-    one : (b : Bool) → Sees o (cond b (record item { subject = with_slot slot value item.subject }) item)
-    one true = sees
-    one false = sees
-
-each_sees : (o : Entities) (slot caller : ℕ) (value : LabelValue) (items : List Item) → AllByRecursion (Sees o) items
-    → AllByRecursion (Sees o) (each_lowered slot caller value items)
-each_sees o slot caller value [] all = tt
-each_sees o slot caller value (item ∷ items) all =
-    (while_sees o slot caller value item all.0, each_sees o slot caller (after_check slot value item) items all.1)
-
 take_sees : (o : Entities) (n : ℕ) (items : List Item) → AllByRecursion (Sees o) items → AllByRecursion (Sees o) (take n items)
 take_sees o zero items all = tt
 take_sees o (suc n) [] all = tt
@@ -81,13 +67,10 @@ passed_see o (reply.Denied errno op item by) items all = take_sees o (item - 1) 
 passed_see o (reply.Ok payload) items all = all
 passed_see o (reply.Refused errno) items all = all
 
-plan_sees : (s : State) (caller : Option Id) (plan : Plan) → AllByRecursion (Sees s.objects) plan.items → AllByRecursion (Sees s.objects) (lowering_by s caller plan).items
-plan_sees s None plan all = all
-plan_sees s (Some me) plan all = one (lomac_slot s.specs)
-  where
-    one : (at : Option ℕ) → AllByRecursion (Sees s.objects) (option_map_or (λ slot. each_lowered slot me.0 (value_at s.objects me slot) plan.items) at plan.items)
-    one None = all
-    one (Some slot) = each_sees s.objects slot me.0 (value_at s.objects me slot) plan.items all
+-- what a check sees of its object is read of no label of a subject
+sees_so : (o : Entities) (item other : Item) → IsSameCheck item other → Sees o other → Sees o item
+sees_so o item other same sees =
+    subst (λ (at : Option ObjectView). IfSome at (λ object. object ≡ object_of o (record { 0 = object.id }))) (sym same.object) sees
 
 -- A value that is lowered
 
@@ -131,7 +114,8 @@ checks_passed s task child c = passed (call_reply s task child c) (plan_of s tas
 call_sees : (s : State) (task : List ℕ) (child : Option (List ℕ)) (c : Call) → AllByRecursion (Sees s.objects) (checks_passed s task child c)
 call_sees s task child c =
     passed_see s.objects (call_reply s task child c) (plan_of s task child c).items
-    (plan_sees s (process_named s.objects (caller_name task child)) (plan_in s (call_row s task child c)) (items_see s.objects _ (call_row s task child c).checks))
+    (plan_all s (Sees s.objects) (sees_so s.objects) (process_named s.objects (caller_name task child)) (plan_in s (call_row s task child c))
+    (items_see s.objects _ (call_row s task child c).checks))
 
 -- the value that is read at the id of a live entity is its own
 lowered_own : (s : State) (slot : ℕ) (me : Id) (e : LiveEntity) (checks : List Item) → live_at s.objects me ≡ Some e
