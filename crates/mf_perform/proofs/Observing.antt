@@ -37,6 +37,7 @@ use Rattle.mf_plan.proofs.LoweredChecks.{IsSameCheck, plan_all}
 use Rattle.mf_perform.specs.Effect.{with_objects}
 use Rattle.mf_perform.specs.OneCall.{call_reply, observed, observed_by}
 use Rattle.mf_perform.specs.Passed.{passed}
+use Rattle.mf_perform.proofs.LoweredBy.{lowers as lowers_caller}
 use Rattle.mf_perform.proofs.Rooted.{HasKind, IsRooted, inside_some, named_process, process_kind}
 
 -- What checks see
@@ -153,11 +154,7 @@ module _ (s : State) (task : List ℕ) (child : Option (List ℕ)) (c : Call) wh
   -- else the caller is
   pub observed_lowers : (slot : ℕ) (me : Id) (e : LiveEntity) → lomac_slot s.specs ≡ Some slot → is_change c ≡ false → caller_of ≡ Some me → live_at s.objects me ≡ Some e
       → observed s task child c ≡ with_objects s (with_change (with_value slot (after_checks slot (value_in slot e) checks_of)) s.objects me)
-  observed_lowers slot me e at entry named live =
-      ap (λ (b : Bool). cond b s (option_map_or (observed_by s checks_of) caller_of s)) entry
-      ∙ ap (λ (found : Option Id). option_map_or (observed_by s checks_of) found s) named
-      ∙ ap (by_slot me) at
-      ∙ lowered_own s slot me e checks_of live
+  observed_lowers slot me e at entry named live = lowers_caller s task child c slot me entry at named ∙ lowered_own s slot me e checks_of live
 
   module _ (rooted : IsRooted s.objects) where
     observing_slot : (me : Id) (at : Option ℕ) → lomac_slot s.specs ≡ at → caller_of ≡ Some me → Observing caller_of checks_of s (by_slot me at)
