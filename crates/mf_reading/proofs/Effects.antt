@@ -1,7 +1,8 @@
 -- What a call changes, where it is done, stays within the bounds: by the effect, and by the call what the effect needs.
-use Rattle.std.proofs.Common.{◌≡◌, ℕ, ◌+◌, ◌<◌, ◌≤◌, ◌^◌, Bool, true, false, List, [], ◌∷◌, length, drop, Option, Some, None, Result, Ok, Err, refl, ap, subst, arith}
-use Rattle.std.specs.Prelude.{All, IfSome, if◌then◌else◌, nat_eq, nat_le, not, option_map}
+use Rattle.std.proofs.Common.{◌≡◌, ℕ, ◌+◌, ◌<◌, ◌≤◌, ◌^◌, Bool, true, false, List, [], ◌∷◌, length, drop, Option, Some, None, Result, Ok, Err, refl, ap, sym, subst, arith}
+use Rattle.std.specs.Prelude.{All, IfSome, if◌then◌else◌, nat_eq, nat_le, not, option_map, slice_set}
 use Rattle.std.specs.List.{AllByRecursion}
+use Rattle.std.proofs.lemmas.List.{length-map}
 use Rattle.std.proofs.lemmas.Bool.{leb-false, ltb-false}
 use Rattle.std.specs.Option.{ok_or}
 use Rattle.mf_errno.specs.declared.errno.Errno.{Errno}
@@ -10,6 +11,8 @@ use Rattle.mf_errno.specs.declared.module.Module.{Module}
 use Rattle.mf_errno.specs.declared.module.Module.TheVariants as modules
 use Rattle.mf_cred.specs.declared.cred.TheConstants.{FILE_MODE, DIRECTORY_MODE}
 use Rattle.mf_elem.specs.declared.label.LabelValue.{LabelValue}
+use Rattle.mf_item.specs.Item.{Item}
+use Rattle.mf_policy.specs.Lowering.{after_checks}
 use Rattle.mf_policy.specs.declared.labels.Origin.TheVariants.{Maker}
 use Rattle.mf_policy.specs.declared.settings.Change.{Change}
 use Rattle.mf_policy.specs.declared.settings.Change.TheVariants.{FirstMatch, RuleAdd, RuleSet, RuleRemove}
@@ -21,9 +24,11 @@ use Rattle.mf_names.specs.declared.limits.TheConstants.{CONTENT_LIMIT, SCRIPT_LI
 use Rattle.mf_objects.specs.declared.limits.TheConstants.{MOST_ENTITIES, PIPE_LIMIT}
 use Rattle.mf_objects.specs.declared.id.Id.{Id}
 use Rattle.mf_objects.specs.declared.entity.EntityData.{EntityData}
-use Rattle.mf_objects.specs.Live.{LiveEntity, Entities, content_at, content_of, cred_at, has_id, kind_of, label_at, live_at}
+use Rattle.mf_objects.specs.Live.{LiveEntity, Entities, content_at, content_of, cred_at, has_id, kind_of, label_at, live_at, value_in}
+use Rattle.mf_objects.proofs.Entities.{changed_at}
 use Rattle.mf_objects.proofs.Shorthands.{reading}
-use Rattle.mf_objects.specs.Changes.{appended, cleared, goes_with, new_pipe, new_process, new_socket, new_vnode, with_message, with_messages, with_mode, with_what, without}
+use Rattle.mf_objects.specs.Changes.{appended, cleared, goes_with, new_pipe, new_process, new_socket, new_vnode, with_change, with_message, with_messages, with_mode, with_what, without}
+use Rattle.mf_objects.specs.Labels.{with_value}
 use Rattle.mf_calls.specs.declared.script.Call.{Call}
 use Rattle.mf_calls.specs.declared.script.Call.TheVariants as call
 use Rattle.mf_calls.specs.Names.{is_component}
@@ -34,7 +39,6 @@ use Rattle.mf_plan.specs.declared.plan.Tail.TheVariants.{Do, Refuse}
 use Rattle.mf_plan.specs.declared.state.State.{State}
 use Rattle.mf_plan.specs.declared.target.Target.{Target}
 use Rattle.mf_plan.specs.declared.target.Target.TheVariants.{Root, Name, Nowhere}
-use Rattle.mf_plan.specs.Names.{child_name}
 use Rattle.mf_plan.specs.Path.{entry_at, free_at, last_name, lookup_along, lookup_from, root}
 use Rattle.mf_plan.specs.Effect.{Effect}
 use Rattle.mf_plan.specs.Effect.Effect.{Unchanged, Make, Append, Deliver, Empty, Receive, SetMode, Unlink, End, Relabel, Load, Unload, Set}
@@ -47,11 +51,13 @@ use Rattle.mf_plan.specs.Views.{is_dir, overfills, process_named}
 use Rattle.mf_plan.proofs.LookingUp.{last_entry}
 use Rattle.mf_plan.proofs.Finding.{row_by}
 use Rattle.mf_perform.specs.Effect.{after, with_data, with_objects}
+use Rattle.mf_perform.proofs.Observing.{Observing}
+use Rattle.mf_perform.proofs.Observing.Observing.{kept, lowers}
 use Rattle.mf_perform.proofs.StateChange.{performed_by}
 use Rattle.mf_lifetimes.proofs.Listing.{all_newest, all_without}
 use Rattle.mf_reading.proofs.Bounded.{AreBounded, HoldsBounded, IsBoundedData, IsBoundedSpec, IsNamed}
 use Rattle.mf_reading.proofs.Contents.{file_fits, no_text, uid_fits}
-use Rattle.mf_reading.proofs.Holding.{HasRoom, Keeps, KeepsFirst, added_bounded, appending, changed_bounded, clearing, entry_goes, moding, process_goes, receiving, relabelling, removed_bounded, sending}
+use Rattle.mf_reading.proofs.Holding.{HasRoom, Keeps, KeepsFirst, added_bounded, appending, changed_bounded, clearing, entry_goes, first_lowered, held_lowered, moding, process_goes, receiving, relabelling, removed_bounded, sending}
 use Rattle.mf_reading.proofs.Lists.{by_place}
 use Rattle.mf_reading.proofs.Rules.{IsFormedChange, fresh_bounded, specs_changed}
 use Rattle.mf_text.specs.Results.{and_then}
@@ -122,6 +128,27 @@ Fits o (End id) = KeepsFirst (goes_with id) o.live
 Fits o (Set m change) = IsFormedChange change
 Fits o other = Unit {0}
 
+-- what suits an effect suits it after checks that passed, which change a label alone
+
+module _ (o : Entities) (slot : ℕ) (value : LabelValue) (me : Id) where
+  fits_lowered : (effect : Effect) → Fits o effect → Fits (with_change (with_value slot value) o me) effect
+  fits_lowered (Make name what) fits = (omega (arith, length-map o.live (changed_at (with_value slot value) me), fits.0), fits.1, fits.2)
+  fits_lowered (Append id text) fits = (fits.0, held_lowered slot value me (HasRoom text) o id fits.1)
+  fits_lowered (Deliver id text) fits = fits
+  fits_lowered (SetMode id mode) fits = fits
+  fits_lowered (Unlink id) fits = first_lowered slot value me (has_id id) (λ e. refl) o.live fits
+  fits_lowered (End id) fits = first_lowered slot value me (goes_with id) (λ e. refl) o.live fits
+  fits_lowered (Set m change) fits = fits
+  fits_lowered other fits = tt
+
+fits_observed : {caller : Option Id} {checks : List Item} (s now : State) → Observing caller checks s now → (effect : Effect) → Fits s.objects effect
+    → Fits now.objects effect
+fits_observed s now (kept is) effect fits = subst (λ (x : State). Fits x.objects effect) (sym is) fits
+fits_observed {checks = checks} s now (lowers slot me e lomac caller live process sees is) effect fits =
+    subst (λ (x : State). Fits x.objects effect) (sym is) (fits_lowered s.objects slot (after_checks slot (value_in slot e) checks) me effect fits)
+
+-- What is done
+
 module _ (s : State) (holds : HoldsBounded s) where
   changed_holds : (change : EntityData → EntityData) (may : EntityData → Type 0) (id : Id) → Keeps (with_what change) may
       → ((e : LiveEntity) → live_at s.objects id ≡ Some e → may e.what) → HoldsBounded (with_data s id change)
@@ -146,7 +173,7 @@ module _ (s : State) (holds : HoldsBounded s) where
   effect_holds me (Relabel id request) fits =
       let label : List LabelValue = relabelled s.specs request (label_at s.objects id) in
       record {
-        objects = changed_bounded s.objects holds.objects (λ e. record e { label = label }) (λ w. Unit {0}) (relabelling label) id (λ e live. tt);
+        objects = changed_bounded s.objects holds.objects (λ e. record e { label = label }) (λ w. Unit {0}) (relabelling (λ e. label)) id (λ e live. tt);
         specs = holds.specs;
       }
   effect_holds me (Load m) fits = record {
@@ -156,6 +183,20 @@ module _ (s : State) (holds : HoldsBounded s) where
   effect_holds me (Unload m) fits = record { objects = holds.objects; specs = all_without (λ entry. IsBoundedSpec entry.1) m s.specs holds.specs }
   effect_holds me (Set m change) fits = record { objects = holds.objects; specs = specs_changed m change s.specs fits holds.specs }
 
+-- the state after checks that passed
+pub observed_holds : {caller : Option Id} {checks : List Item} (s now : State) → Observing caller checks s now → HoldsBounded s → HoldsBounded now
+observed_holds s now (kept is) holds = subst HoldsBounded (sym is) holds
+observed_holds {checks = checks} s now (lowers slot me e lomac caller live process sees is) holds =
+    let value : LabelValue = after_checks slot (value_in slot e) checks in
+    subst HoldsBounded (sym is)
+    (record {
+      objects = changed_bounded s.objects holds.objects (with_value slot value) (λ w. Unit {0}) (relabelling (λ x. slice_set x.label slot value)) me (λ x live. tt);
+      specs = holds.specs;
+    })
+
+-- What suits it
+
+module _ (s : State) (holds : HoldsBounded s) where
   -- bytes fit where the framework doesn't refuse them
   room_at : (most : ℕ) (text : List ℕ) (id : Id) (e : LiveEntity) → most ≤ CONTENT_LIMIT → overfills most s.objects text id ≡ false → live_at s.objects id ≡ Some e
       → HasRoom text e.what
@@ -226,19 +267,21 @@ module _ (s : State) (holds : HoldsBounded s) where
     row_fits (call.UgidfwRemove n) asked there done formed = change_formed not_root (Some modules.Bsdextended) (Some (RuleRemove n)) asked there tt
     row_fits other what there done formed = tt
 
-    call_holds : (c : Call) → IsFormedCall c → (row_for s task c me).tail ≡ Do → HoldsBounded (after s me (row_for s task c me).effect)
-    call_holds c formed done = one (way_to s me (about_of s task me c).place).there refl done
+    call_fits : (c : Call) → IsFormedCall c → (row_for s task c me).tail ≡ Do → Fits s.objects (row_for s task c me).effect
+    call_fits c formed done = one (way_to s me (about_of s task me c).place).there refl done
       where
         whole : Result (At (about_of s task me c).place) Errno → Row
         whole there = through (record { checks = (way_to s me (about_of s task me c).place).checks; there = there }) (about_of s task me c).row
 
         one : (there : Result (At (about_of s task me c).place) Errno) → (way_to s me (about_of s task me c).place).there ≡ there → (whole there).tail ≡ Do
-            → HoldsBounded (after s me (whole there).effect)
-        one (Ok what) is done = effect_holds me ((about_of s task me c).row what).effect (row_fits c what is done formed)
-        one (Err e) is done = holds
+            → Fits s.objects (whole there).effect
+        one (Ok what) is done = row_fits c what is done formed
+        one (Err e) is done = cc
 
-  -- the state after a call that may be done
-  pub performed_holds : (task name : List ℕ) (c : Call) (caller : Option Id) → process_named s.objects name ≡ caller → IsFormedCall c → (row_by s task c caller).tail ≡ Do
-      → HoldsBounded (performed_by s task c caller)
-  performed_holds task name c None is formed done = holds
-  performed_holds task name c (Some me) is formed done = call_holds task name me is c formed done
+  -- the state after a call that may be done, from the one after its checks
+  pub performed_holds : {by : Option Id} {checks : List Item} (now : State) → Observing by checks s now → (task name : List ℕ) (c : Call) (caller : Option Id)
+      → process_named s.objects name ≡ caller → IsFormedCall c → (row_by s task c caller).tail ≡ Do → HoldsBounded (performed_by s now task c caller)
+  performed_holds now observed task name c None is formed done = observed_holds s now observed holds
+  performed_holds now observed task name c (Some me) is formed done =
+      let effect = (row_for s task c me).effect in
+      effect_holds now (observed_holds s now observed holds) me effect (fits_observed s now observed effect (call_fits task name me is c formed done))

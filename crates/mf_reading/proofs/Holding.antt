@@ -1,5 +1,5 @@
 -- What entities hold stays within the bounds as they come, change and go.
-use Rattle.std.proofs.Common.{◌≡◌, ℕ, ◌+◌, ◌<◌, ◌≤◌, Bool, true, false, cond, not, ◌&&◌, List, [], ◌∷◌, ◌++◌, length, drop, map, Some, refl, ap, sym, ◌∙◌, subst, arith}
+use Rattle.std.proofs.Common.{◌≡◌, ℕ, ◌+◌, ◌<◌, ◌≤◌, Bool, true, false, cond, not, ◌&&◌, List, [], ◌∷◌, ◌++◌, length, drop, map, Option, Some, None, option_map, refl, ap, sym, ◌∙◌, subst, arith}
 use Rattle.std.specs.Prelude.{filter, find}
 use Rattle.std.specs.List.{AllByRecursion}
 use Rattle.std.specs.Str.{bytes_eq}
@@ -15,6 +15,7 @@ use Rattle.mf_objects.specs.declared.entity.EntityData.{EntityData}
 use Rattle.mf_objects.specs.declared.entity.EntityData.TheVariants.{Process, Vnode, Pipe, Socket}
 use Rattle.mf_objects.specs.Live.{LiveEntity, Entities, content_of, has_id, id_of, is_one_named, is_entry, is_made_by, is_process, kind_of, live_at}
 use Rattle.mf_objects.specs.Changes.{appended, cleared, goes_with, made, with_change, with_entity, with_message, with_messages, with_mode, with_what, without}
+use Rattle.mf_objects.specs.Labels.{with_value}
 use Rattle.mf_objects.specs.Population.{IsRising}
 use Rattle.mf_objects.proofs.Belonging.{same_id}
 use Rattle.mf_objects.proofs.Finding.{rising_filter}
@@ -22,11 +23,12 @@ use Rattle.mf_objects.proofs.Rising.{id_is, rising_changed, rising_push}
 use Rattle.mf_calls.specs.declared.limits.TheConstants.{MODE_LIMIT}
 use Rattle.mf_calls.specs.Names.{is_component}
 use Rattle.mf_calls.specs.WellFormed.{IsText}
+use Rattle.mf_perform.proofs.Observing.{find_valued}
 use Rattle.mf_reading.proofs.Bounded.{AreBounded, IsAlone, IsBounded, IsBoundedData, IsNamed, RootIsFirst}
 use Rattle.mf_reading.proofs.Contents.{no_text}
 use Rattle.mf_reading.proofs.Finding.{all_own, found_with, later, other_id}
 use Rattle.mf_lifetimes.proofs.Files.{all_both, all_push}
-use Rattle.mf_reading.proofs.Lists.{all_kept, all_mapped, few_kept}
+use Rattle.mf_reading.proofs.Lists.{all_kept, all_mapped, either_way, few_kept}
 
 -- Changes of what one entity holds
 
@@ -48,7 +50,7 @@ keeping : (change : EntityData → EntityData) (may : EntityData → Type 0) →
 keeping change may like held = record { id = λ e. refl; name = λ e. refl; like = λ e. like e.what; held = λ e. held e.what }
 
 -- another label keeps them
-pub relabelling : (label : List LabelValue) → Keeps (λ e. record e { label = label }) (λ w. Unit {0})
+pub relabelling : (label : LiveEntity → List LabelValue) → Keeps (λ e. record e { label = label e }) (λ w. Unit {0})
 relabelling label = record { id = λ e. refl; name = λ e. refl; like = λ e. record { entry = λ dir. refl; kind = refl }; held = λ e any held. held }
 
 -- so many bytes more may be held
@@ -214,6 +216,30 @@ removed_bounded o gone keeps bounded =
       few = omega (arith, few_kept stays o.live, bounded.few);
       each = all_kept IsBounded stays o.live bounded.each;
     }
+
+-- One entity has another value in a label slot
+
+module _ (slot : ℕ) (value : LabelValue) (me : Id) where
+  abbrev lowers_it : LiveEntity → LiveEntity
+  lowers_it = changed_at (with_value slot value) me
+
+  -- what is so of what it is stays so
+  pub held_lowered : (may : EntityData → Type 0) (o : Entities) (id : Id) → ((e : LiveEntity) → live_at o id ≡ Some e → may e.what) → (e : LiveEntity)
+      → live_at (with_change (with_value slot value) o me) id ≡ Some e → may e.what
+  held_lowered may o id before e live = one (live_at o id) refl (sym (find_valued slot value me id o.live) ∙ live)
+    where
+      one : (found : Option LiveEntity) → live_at o id ≡ found → option_map lowers_it found ≡ Some e → may e.what
+      one None there is = cc
+      one (Some x) there is =
+          let same : lowers_it x ≡ e = cc in
+          let here : may x.what = before x there in
+          subst (λ (y : LiveEntity). may y.what) same (either_way (λ (y : LiveEntity). may y.what) (has_id me x) (with_value slot value x) x here here)
+
+  -- the first stays where it stayed, by a test that doesn't look at labels
+  pub first_lowered : (gone : LiveEntity → Bool) → ((e : LiveEntity) → gone (with_value slot value e) ≡ gone e) → (live : List LiveEntity) → KeepsFirst gone live
+      → KeepsFirst gone (map lowers_it live)
+  first_lowered gone same [] keeps = tt
+  first_lowered gone same (e ∷ live) keeps = either_way (λ (x : LiveEntity). gone x ≡ false) (has_id me e) (with_value slot value e) e (same e ∙ keeps) keeps
 
 -- a vnode is no process, and no process made it
 

@@ -42,14 +42,14 @@ use Rattle.mf_reading.proofs.Values.{boot_fits, inherited_fits, relabelled_fits}
 -- Who holds a slot
 
 -- the policy that holds the slot is this one
-abbrev IsHolder : List Entry → Entry → Type 0
+abbrev pub IsHolder : List Entry → Entry → Type 0
 IsHolder specs x = (slot : ℕ) → x.0.slot ≡ Some slot → find (holds_slot slot) specs ≡ Some x
 
 holds_own : (slot : ℕ) (x : Entry) → x.0.slot ≡ Some slot → holds_slot slot x ≡ true
 holds_own slot x at = ap (λ (s : Option ℕ). option_eq nat_eq s (Some slot)) at ∙ eq-eqb slot slot refl
 
 -- where each slot has at most one holder
-holders : (specs : List Entry) → ((slot : ℕ) → AtMostOne slot specs) → AllByRecursion (IsHolder specs) specs
+pub holders : (specs : List Entry) → ((slot : ℕ) → AtMostOne slot specs) → AllByRecursion (IsHolder specs) specs
 holders [] single = tt
 holders (x ∷ specs) single =
     (λ slot at. rw (holds_own slot x at) refl, all_from (IsHolder specs) (IsHolder (x ∷ specs)) specs further (holders specs (λ slot. (single slot).1)))
@@ -82,7 +82,7 @@ four_unset given value unset (suc (suc zero)) more = unset 2 more
 four_unset given value unset (suc (suc (suc zero))) more = unset 3 more
 four_unset given value unset (suc (suc (suc (suc slot)))) more = refl
 
-at_slot : (x : Entry) (label : List LabelValue) (slot : ℕ) → x.0.slot ≡ Some slot → Fits label x.0
+pub at_slot : (x : Entry) (label : List LabelValue) (slot : ℕ) → x.0.slot ≡ Some slot → Fits label x.0
     → FitsLabelling (facts_of x.0.module).labels (slice_index_or label slot Unset)
 at_slot x label slot at fits = subst (λ (own : Option ℕ). FitsSlot x.0.module own label) at fits
 

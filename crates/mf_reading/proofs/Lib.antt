@@ -11,6 +11,7 @@ mod Effects
 mod Values
 mod Listed
 mod Labelled
+mod Lowered
 mod Openings
 pub mod Runs
 pub mod WholeText

@@ -1,14 +1,18 @@
 -- The listed policies keep slots of their own, by how a step changes the state.
-use Rattle.std.proofs.Common.{◌≡◌, ℕ, ◌+◌, ◌≤◌, Bool, true, false, cond, ◌&&◌, List, Some, None, refl, ap, sym, ◌∙◌, subst, arith}
+use Rattle.std.proofs.Common.{◌≡◌, ℕ, ◌+◌, ◌≤◌, Bool, true, false, cond, ◌&&◌, List, Option, Some, None, refl, ap, sym, ◌∙◌, subst, arith}
 use Rattle.std.specs.Prelude.{if◌then◌else◌, nat_le}
 use Rattle.std.specs.List.{AllByRecursion}
 use Rattle.std.proofs.lemmas.Bool.{leb-false}
 use Rattle.mf_errno.specs.declared.module.Module.{Module}
 use Rattle.mf_elem.specs.declared.label.TheConstants.{SLOTS}
+use Rattle.mf_item.specs.Item.{Item}
 use Rattle.mf_policy.specs.declared.loading.LoadFault.TheVariants.{NotLate, Exists, NoSlot}
 use Rattle.mf_policy.specs.Modules.{facts_of, wants_slot}
 use Rattle.mf_policy.specs.Registration.{Entry, is_listed, registration_of, slot_for}
+use Rattle.mf_objects.specs.declared.id.Id.{Id}
 use Rattle.mf_plan.specs.declared.state.State.{State}
+use Rattle.mf_perform.proofs.Observing.{Observing}
+use Rattle.mf_perform.proofs.Observing.Observing.{kept, lowers}
 use Rattle.mf_perform.proofs.StateChange.{Deed, StateChange}
 use Rattle.mf_perform.proofs.StateChange.StateChange.{same, created, changed, relabels, removed, loaded, unloaded, set_to}
 use Rattle.mf_lifetimes.proofs.Listing.{AtMostOne, IsBelow, all_newest, all_without, below_newest, newest, one_without, single_newest}
@@ -41,6 +45,12 @@ same_listed s s' specs numbers booted listed = record {
   single = λ slot. subst (λ (x : List Entry). AtMostOne slot x) (sym specs) (listed.single slot);
   slotted = subst (λ (x : List Entry). AllByRecursion (λ entry. IsSlotted entry.0) x) (sym specs) listed.slotted;
 }
+
+-- the state after checks that passed
+pub observed_listed : {caller : Option Id} {checks : List Item} (s now : State) → Observing caller checks s now → AreListed s → AreListed now
+observed_listed s now (kept is) listed = subst AreListed (sym is) listed
+observed_listed s now (lowers slot me e lomac caller live process sees is) listed =
+    same_listed s now (ap (λ (x : State). x.specs) is) (ap (λ (x : State). x.numbers) is) (ap (λ (x : State). x.booted) is) listed
 
 pub keeps_listed : {by : Deed} (s s' : State) → StateChange by s s' → AreListed s → AreListed s'
 keeps_listed s s' (same is) listed = subst AreListed (sym is) listed

@@ -26,7 +26,7 @@ use Rattle.mf_plan.specs.Path.{entry_of, going_on, lookup_along, lookup_from, no
 use Rattle.mf_plan.specs.declared.outline.Check.{Check}
 use Rattle.mf_plan.specs.Checks.{on}
 use Rattle.mf_plan.specs.Outline.{item_asking}
-use Rattle.mf_plan.specs.Plan.{plan_of, row_for, call_row}
+use Rattle.mf_plan.specs.Plan.{plan_in, plan_of, row_for, call_row}
 use Rattle.mf_plan.specs.Relabels.{claimed_in}
 use Rattle.mf_plan.specs.Row.{Row, if_there}
 use Rattle.mf_plan.specs.Rows.{about_of}
@@ -35,6 +35,7 @@ use Rattle.mf_plan.specs.Ways.{At, Place, Way, asking, straight, then_way, way_t
 use Rattle.mf_plan.specs.Ways.Place.{Asking, Entry, File, Free, Sockets}
 use Rattle.mf_plan.specs.Views.{is_dir, overfills, process_named, entity_named}
 use Rattle.mf_plan.proofs.Finding.{asked_of, row_by}
+use Rattle.mf_plan.proofs.LoweredChecks.{plan_long}
 use Rattle.mf_perform.specs.declared.verdict.Denial.{Denial}
 use Rattle.mf_perform.specs.Verdict.{denial_at, denial_from}
 use Rattle.mf_list.specs.Asked.{answer_to}
@@ -163,7 +164,9 @@ few_called s task c (Some me) formed = few_for s me task c formed
 pub few_checks : (s : State) (task : List ℕ) (child : Option (List ℕ)) (c : Call) → IsFormedCall c → length (plan_of s task child c).items ≤ 12
 few_checks s task child c formed =
     let row = call_row s task child c in
-    omega (arith, length-map row.checks (item_asking s.objects (asked_of row.effect)), few_called s task c (process_named s.objects (caller_name task child)) formed)
+    let caller = process_named s.objects (caller_name task child) in
+    let asked = length-map row.checks (item_asking s.objects (asked_of row.effect)) in
+    omega (arith, plan_long s caller (plan_in s row), asked, few_called s task c caller formed)
 
 -- Denials
 

@@ -36,7 +36,7 @@ use Rattle.mf_plan.specs.declared.reply.Payload.TheVariants as payload
 use Rattle.mf_plan.specs.declared.state.State.{State}
 use Rattle.mf_plan.specs.Names.{caller_name}
 use Rattle.mf_plan.specs.Path.{file_at_path}
-use Rattle.mf_plan.specs.Payloads.{head, label, loaded, message, names}
+use Rattle.mf_plan.specs.Payloads.{head, label, loaded, names}
 use Rattle.mf_plan.specs.Plan.{plan_of, row_for, call_row}
 use Rattle.mf_plan.specs.Planned.{Plan}
 use Rattle.mf_plan.specs.Rows.{about_of}

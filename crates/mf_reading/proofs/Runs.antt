@@ -17,8 +17,10 @@ use Rattle.mf_plan.specs.Names.{caller_name}
 use Rattle.mf_plan.specs.Plan.{plan_of, call_row}
 use Rattle.mf_plan.specs.Views.{process_named}
 use Rattle.mf_plan.specs.declared.plan.Tail.TheVariants.{Do}
-use Rattle.mf_perform.specs.OneCall.{after_reply, performed, call_reply, call_state}
+use Rattle.mf_perform.specs.OneCall.{after_reply, call_reply, call_state, observed, performed}
 use Rattle.mf_perform.specs.Verdict.{verdict_of}
+use Rattle.mf_perform.proofs.Observing.{Observing, checks_passed, observing}
+use Rattle.mf_perform.proofs.Rooted.{IsRooted}
 use Rattle.mf_perform.proofs.StateChange.{step_change}
 use Rattle.mf_core.specs.declared.history.Event.{Event}
 use Rattle.mf_core.specs.declared.history.Event.TheVariants as event
@@ -30,34 +32,49 @@ use Rattle.mf_hist.specs.Lines.{IsReply}
 use Rattle.mf_hist.proofs.Legal.{legal_readable}
 use Rattle.mf_reading.specs.Laws.{LegalHistoriesAreRead, RepliesFit}
 use Rattle.mf_reading.proofs.Bounded.{HoldsBounded, IsBoundedState}
-use Rattle.mf_reading.proofs.Effects.{performed_holds}
+use Rattle.mf_reading.proofs.Effects.{observed_holds, performed_holds}
 use Rattle.mf_reading.proofs.Finding.{objects_rooted}
 use Rattle.mf_reading.proofs.Labelled.{keeps_labelled}
-use Rattle.mf_reading.proofs.Listed.{keeps_listed}
+use Rattle.mf_reading.proofs.Listed.{keeps_listed, observed_listed}
+use Rattle.mf_reading.proofs.Lowered.{observed_labelled}
 use Rattle.mf_reading.proofs.Openings.{opening_bounded}
 use Rattle.mf_reading.proofs.Replies.{reply_fits}
 
 -- One call
 
-module _ (s : State) (task : List ℕ) (child : Option (List ℕ)) (c : Call) (formed : IsFormedCall c) where
-  step_holds : HoldsBounded s → HoldsBounded (call_state s task child c)
-  step_holds holds = one (call_reply s task child c) refl
-    where
-      one : (r : Reply) → call_reply s task child c ≡ r → HoldsBounded (after_reply r s (performed s task child c))
-      one (reply.Ok p) is =
-          let may : (plan_of s task child c).tail ≡ Do = ok_do (plan_of s task child c) (verdict_of s.specs (plan_of s task child c)) (call_row s task child c).payload p is in
-          performed_holds s holds task (caller_name task child) c (process_named s.objects (caller_name task child)) refl formed may
-      one (reply.Denied errno op item by) is = holds
-      one (reply.Refused errno) is = holds
+module _ (s : State) (task : List ℕ) (child : Option (List ℕ)) (c : Call) (formed : IsFormedCall c) (bounded : IsBoundedState s) where
+  rooted : IsRooted s.objects
+  rooted = objects_rooted s.objects bounded.holds.objects.rising bounded.holds.objects.rooted
 
-  step_bounded : IsBoundedState s → IsBoundedState (call_state s task child c)
-  step_bounded bounded =
-      let shape = step_change s task child c (objects_rooted s.objects bounded.holds.objects.rising bounded.holds.objects.rooted) in
+  -- what its checks that passed make of the state
+  watched : Observing (process_named s.objects (caller_name task child)) (checks_passed s task child c) s (observed s task child c)
+  watched = observing s task child c rooted
+
+  step_holds : HoldsBounded (call_state s task child c)
+  step_holds = one (call_reply s task child c) refl
+    where
+      now_holds : HoldsBounded (observed s task child c)
+      now_holds = observed_holds s (observed s task child c) watched bounded.holds
+
+      one : (r : Reply) → call_reply s task child c ≡ r → HoldsBounded (after_reply r (observed s task child c) (performed s task child c))
+      one (reply.Ok p) is =
+          let plan = plan_of s task child c in
+          let may : plan.tail ≡ Do = ok_do plan (verdict_of s.specs plan) (call_row s task child c).payload p is in
+          let name = caller_name task child in
+          performed_holds s bounded.holds (observed s task child c) watched task name c (process_named s.objects name) refl formed may
+      one (reply.Denied errno op item by) is = now_holds
+      one (reply.Refused errno) is = now_holds
+
+  step_bounded : IsBoundedState (call_state s task child c)
+  step_bounded =
+      let now = observed s task child c in
+      let shape = step_change s task child c rooted in
+      let listed = observed_listed s now watched bounded.listed in
       record {
-        holds = step_holds bounded.holds;
-        listed = keeps_listed s (call_state s task child c) shape bounded.listed;
+        holds = step_holds;
+        listed = keeps_listed now (call_state s task child c) shape listed;
         once = step_once s task bounded.once child c;
-        labelled = keeps_labelled s (call_state s task child c) shape bounded.listed bounded.labelled;
+        labelled = keeps_labelled now (call_state s task child c) shape listed (observed_labelled s now watched bounded.listed bounded.labelled);
       }
 
 -- Lines
