@@ -1,5 +1,5 @@
--- The checks of a call while mac_lomac is listed: each finds the caller as those before it have lowered it, as mac_lomac(4) lowers a subject at
--- each entry point.
+-- The checks of a call while mac_lomac is listed: each finds the caller as those before it have lowered it. Which checks lower is this model's own
+-- choice (docs/DIFFERENCES.md).
 use Rattle.std.specs.Option.{option_map_or}
 use Rattle.std.specs.Prelude.{ℕ, ◌==◌, if◌then◌else◌, List, [], ◌∷◌, slice_set}
 use Rattle.mf_elem.specs.declared.label.LabelValue.{LabelValue}
@@ -23,6 +23,6 @@ each_lowered slot caller value [] = []
 each_lowered slot caller value (item ∷ items) =
     while_lowered slot caller value item ∷ each_lowered slot caller (after_check slot value item) items
 
--- the checks of this caller as it comes to them, which is as it is in the state where mac_lomac isn't listed
+-- the checks of this caller as it comes to them: where mac_lomac isn't listed, as it is in the state
 abbrev pub lowering : State → Id → List Item → List Item
 lowering s caller items = option_map_or (λ slot. each_lowered slot caller.0 (value_at s.objects caller slot) items) (lomac_slot s.specs) items

@@ -68,7 +68,7 @@ fn once_passed(
     after_check(slot, value, &check.item(&subjects[check.subject]))
 }
 
-/// Has each check find the caller as those before it lower it, who has this value at first.
+/// Has each check find the caller as those before it lower it; at first the caller has this value.
 fn lower(slot: u8, caller: u32, own: LabelValue, subjects: &mut Subjects, checks: &mut [CheckView])
     requires room { length subjects.old + length checks.old ≤ MOST_SUBJECTS }
     requires places { HaveSubjects subjects.old checks.old }

@@ -32,8 +32,8 @@ pub enum Tail {
 }
 
 /// The checks of a call, in the order in which they are asked, and its end. Contracts see each check as an item with its
-/// subject. It lies here once for all that share it, and checks of one call have one subject, but for what a socket delivers. The
-/// views after the first `count` are left from calls before.
+/// subject. It lies here once for all that share it, and checks of one call have one subject, but for what a socket delivers, and
+/// where mac_lomac lowers the caller between two of them. The views after the first `count` are left from calls before.
 #[derive(Drop)]
 pub struct Plan {
     /// The label text that the plan was made by, where it was a relabel's.

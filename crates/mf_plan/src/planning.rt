@@ -106,7 +106,8 @@ pub fn outline_of(
     requires child { IfSome (option_copied child) IsName }
     requires formed { IsFormedCall call.now }
     ensures plan { outlines.outlined state.now.objects result
-        ≡ spec.plan_in state.now (spec.call_row state.now task.now (option_copied child.entry) call.now) }
+        ≡ spec.plan_in state.now
+        (spec.call_row state.now task.now (option_copied child.entry) call.now) }
     ensures live { outlines.AreLive state.now.objects result.checks }
     ensures caller { result.found.caller
         ≡ process_named state.now.objects (caller_name task.now (option_copied child.entry)) }
