@@ -1,5 +1,5 @@
 -- What a stepper keeps true: the plans that are kept stay good, step by step.
-use Rattle.std.proofs.Common.{◌≡◌, ◌≢◌, ℕ, ◌+◌, ◌<◌, ◌≤◌, Bool, true, false, zero, suc, cond, List, [], ◌∷◌, length, map, Option, Some, None, refl, sym, ap, ◌∙◌, subst, arith, length-set, eqb}
+use Rattle.std.proofs.Common.{◌≡◌, ◌≢◌, ℕ, ◌+◌, ◌<◌, ◌≤◌, Bool, true, false, zero, suc, List, [], ◌∷◌, length, map, Option, Some, None, refl, sym, ap, ◌∙◌, subst, arith, length-set, eqb}
 use Rattle.std.proofs.lemmas.Bool.Decides.{Decides-eqb}
 use Rattle.std.proofs.lemmas.List.{get_or-set_other, get_or-set_same}
 use Rattle.std.specs.Prelude.{slice_set, IsTrue}
@@ -17,13 +17,12 @@ use Rattle.mf_core.specs.declared.progress.Commit.TheVariants as commits
 use Rattle.mf_core.specs.declared.progress.ChangeOutcome.{ChangeOutcome}
 use Rattle.mf_core.specs.declared.progress.ChangeOutcome.TheVariants as outcomes
 use Rattle.mf_core.specs.Policies.{AreOf}
+use Rattle.mf_core.proofs.Consistency.{entered_phase}
 use Rattle.mf_core.specs.CoreView.{CoreView, run_state, specs_of, progress_of, turn_at, AdvancesOn, Changes, Commits}
 use Rattle.mf_errno.specs.declared.module.Module.{Module}
 use Rattle.mf_policy.specs.Registration.{Entry}
 use Rattle.mf_plan.specs.Planned.{Plan}
-use Rattle.mf_calls.specs.Tasks.{is_change}
 use Rattle.mf_calls.specs.declared.script.Script.{Script}
-use Rattle.mf_calls.specs.declared.script.Line.{Line}
 use Rattle.mf_calls.specs.declared.script.Task.{Task}
 use Rattle.mf_steps.specs.declared.kept.KeptPlan.{KeptPlan}
 use Rattle.mf_calls.specs.declared.limits.TheConstants.{TASK_LIMIT}
@@ -98,17 +97,6 @@ none_entered (x ∷ list) (suc u) none is =
     none_entered list u (omega (arith, none, split)) is
 
 -- Phases
-
-entry_or_change : (b : Bool) → cond b turn.Change turn.Entry ≡ turn.Entered → ⊥
-entry_or_change true e = cc
-entry_or_change false e = cc
-
-entered_phase : (p : Phase) (next : Option Line) → turn_in p next ≡ turn.Entered → p ≡ phase.Entered
-entered_phase phase.Idle None e = absurd cc
-entered_phase phase.Idle (Some line) e = absurd (entry_or_change (is_change line.call) e)
-entered_phase phase.Entered next e = refl
-entered_phase phase.Done next e = absurd cc
-entered_phase phase.Stopped next e = absurd cc
 
 pub phase_entered : (core : CoreView) (t : ℕ) → turn_at core t ≡ turn.Entered → (progress_at (progress_of core) t).phase ≡ phase.Entered
 phase_entered core t e = entered_phase (progress_at (progress_of core) t).phase (next_line core.script (run_state core).progress t) e
