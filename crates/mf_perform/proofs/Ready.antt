@@ -21,6 +21,7 @@ use Rattle.mf_plan.specs.declared.plan.Tail.TheVariants.{Do, Refuse}
 use Rattle.mf_plan.specs.declared.reply.Payload.{Payload}
 use Rattle.mf_plan.specs.declared.reply.Reply.{Reply}
 use Rattle.mf_plan.specs.declared.state.State.{State}
+use Rattle.mf_plan.specs.Effect.Effect.{Unchanged}
 use Rattle.mf_plan.specs.Found.{AreFound}
 use Rattle.mf_plan.specs.Names.{caller_name}
 use Rattle.mf_plan.specs.Plan.{call_row, plan_of, row_for}
@@ -29,7 +30,7 @@ use Rattle.mf_plan.specs.Views.{process_named}
 use Rattle.mf_plan.proofs.Finding.{row_by}
 use Rattle.mf_perform.specs.declared.verdict.Denial.{Denial}
 use Rattle.mf_perform.specs.Effect.{after, with_objects}
-use Rattle.mf_perform.specs.Found.{after_found, effect_found}
+use Rattle.mf_perform.specs.Found.{after_found, effect_found, effect_of}
 use Rattle.mf_perform.specs.Held.{lomac_value, with_lomac_value}
 use Rattle.mf_perform.specs.OneCall.{call_reply, observed, performed}
 use Rattle.mf_perform.specs.Passed.{passed}
@@ -148,6 +149,7 @@ pub record Ready (s : State) (task : List ℕ) (child : Option (List ℕ)) (c : 
   pub caller : IfSome found.caller (λ me. IsLive is_process (observed s task child c).objects me)
   pub suits : IfSome found.caller (λ me. Suits (observed s task child c) (effect_found (observed s task child c) task me c found.target found.request))
   pub does : after_found (observed s task child c) task c found ≡ performed s task child c
+  pub effect : effect_of (observed s task child c) task c found ≡ (call_row s task child c).effect
   pub before : IfSome found.caller (λ me. IsSome (live_at s.objects me))
   pub live : IfSome found.caller (λ me. IsSome (live_at (observed s task child c).objects me))
   pub held : is_set (lomac_value s found.caller) ≡ is_set (lomac_value (observed s task child c) found.caller)
@@ -162,6 +164,9 @@ ready s task child c found r population are entry replied done =
       does = ap (λ (caller : Option Id). option_map_or (λ (me : Id). after s1 me (effect_found s1 task me c found.target found.request)) caller s1) are.caller
           ∙ ap (after s1 are.me) (may.same ∙ effect)
           ∙ ap (λ (caller : Option Id). option_map_or (λ (me : Id). after s1 me (row_for s task c me).effect) caller s1) (sym are.named);
+      effect = ap (λ (caller : Option Id). option_map_or (λ (me : Id). effect_found s1 task me c found.target found.request) caller Unchanged) are.caller
+          ∙ may.same ∙ effect
+          ∙ ap (λ (caller : Option Id). (row_by s task c caller).effect) (sym are.named);
       before = subst (λ (caller : Option Id). IfSome caller (λ me. IsSome (live_at s.objects me))) (sym are.caller) (some_live is_process s.objects are.me lives);
       live = subst (λ (caller : Option Id). IfSome caller (λ me. IsSome (live_at s1.objects me))) (sym are.caller) (some_live is_process s1.objects are.me may.caller);
       held = subst (λ (caller : Option Id). is_set (lomac_value s caller) ≡ is_set (lomac_value s1 caller)) (sym are.caller) (still_held s task child c are.me entry are.named);

@@ -45,7 +45,7 @@ performed s task child call =
     let now = observed s task child call in
     option_map_or (λ me. after now me (row_for s task call me).effect) (process_named s.objects (caller_name task child)) now
 
--- what comes of a call by its reply: what is so where it is done; and what was so before where it is denied or refused, which changes nothing
+-- what comes of a call by its reply: what is so where it is done; and where it is denied or refused what was so without its effect
 abbrev pub after_reply : {A : Type 0} → Reply → A → A → A
 after_reply (reply.Ok payload) before done = done
 after_reply other before done = before

@@ -5,6 +5,8 @@ ghost use Rattle.mf_objects.specs.Live.{is_set, live_at};
 ghost use Rattle.mf_calls.specs.Tasks.{is_change};
 ghost use Rattle.mf_calls.specs.WellFormed.{IsFormedLine, IsName};
 ghost use Rattle.mf_plan.specs.Found.{AreFound};
+ghost use Rattle.mf_plan.specs.Plan.{call_row};
+ghost use Rattle.mf_perform.specs.Effect.{takes_memory};
 ghost use Rattle.mf_perform.specs.Held.{lomac_value, with_lomac_value};
 ghost use Rattle.mf_perform.specs.OneCall.{call_reply, call_state, observed, performed};
 ghost use Rattle.mf_perform.specs.Refused.{is_ok};
@@ -39,8 +41,11 @@ pub fn complete(
         ≡ call_state state.old task.now line.now.child line.now.call) }
     ensures err { OnErr result (state.new ≡ state.old) }
     ensures ids { state.new.objects.next ≤ state.old.objects.next + 1 }
+    ensures rises { state.old.objects.next ≤ state.new.objects.next }
     ensures booted { state.new.booted ≡ state.old.booted }
     ensures memory { is_ok reply.now ≡ false → IsOk result }
+    ensures effect { takes_memory (call_row state.old task.now line.now.child line.now.call).effect
+        ≡ false → IsOk result }
 {
     match reply {
         Reply::Ok(_) => lower_and_perform(alloc, state, task, line, found, reply),
@@ -71,7 +76,10 @@ fn lower_and_perform(
         ≡ performed state.old task.now line.now.child line.now.call) }
     ensures err { OnErr result (state.new ≡ state.old) }
     ensures ids { state.new.objects.next ≤ state.old.objects.next + 1 }
+    ensures rises { state.old.objects.next ≤ state.new.objects.next }
     ensures booted { state.new.booted ≡ state.old.booted }
+    ensures effect { takes_memory (call_row state.old task.now line.now.child line.now.call).effect
+        ≡ false → IsOk result }
 {
     // Counting the entities shows the proof that what was found among them lives.
     let _live = state.objects.live();

@@ -1,5 +1,5 @@
 //! Labels as calls show them and change them.
-ghost use Rattle.std.specs.Prelude.{◌≡◌, ◌<◌, ◌≤◌, ◌+◌, ◌∷◌, ◌++◌, [], length, slice_index_or, false, IsOk, IsSome, OnOk, OnErr};
+ghost use Rattle.std.specs.Prelude.{◌≡◌, ◌<◌, ◌≤◌, ◌+◌, ◌∷◌, ◌++◌, [], length, false, IsOk, IsSome, OnOk, OnErr};
 ghost use Rattle.mf_elem.specs.declared.label.LabelValue.TheVariants.{Unset};
 ghost use Rattle.mf_slots.specs.Zones.{given};
 ghost use Rattle.mf_objects.specs.Live.{label_at, live_at};
@@ -17,7 +17,7 @@ use mf_errno::Module;
 use mf_item::Kind;
 use mf_objects::Id;
 use mf_plan::{LabelPart, State};
-use mf_policy::{SpecList, labels_kind, sets_value, value_after};
+use mf_policy::{SpecList, labels_kind, sets_value, value_after, value_in};
 use std::alloc::AllocError;
 
 /// The parts of the label of an entity of that kind: one for each listed policy that labels the kind.
@@ -64,15 +64,6 @@ fn label_part(specs: &SpecList, label: &[LabelValue; SLOTS], module: Module) -> 
     let slot = specs.registration(place).slot.unwrap_or(0);
     let value = shown(value_in(label, slot));
     Some(LabelPart { module, value })
-}
-
-fn value_in(label: &[LabelValue; SLOTS], slot: u8) -> LabelValue
-    ensures { result ≡ slice_index_or label.now slot Unset }
-{
-    match label.get(slot as usize) {
-        Some(value) => *value,
-        None => LabelValue::Unset,
-    }
 }
 
 /// The value as it is shown: an unset slot, of a policy that was loaded after the entity came, counts as no partition.

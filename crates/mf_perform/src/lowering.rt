@@ -135,7 +135,7 @@ fn after_one(objects: &Objects, slot: u8, value: LabelValue, check: &Check) -> L
     ensures { (asked : Option Request) → result
         ≡ lowering.after_check slot value (item_asking objects.now asked check.now) }
 {
-    // Whose value it is counts nothing here.
+    // Who the subject is counts for nothing here.
     let subject = SubjectView::default();
     let object = view_of(objects, check.object);
     let item = Item::new(check.op, &subject, object.as_ref(), None, None);

@@ -4,7 +4,8 @@ use Rattle.mf_elem.specs.declared.label.LabelValue.{LabelValue}
 use Rattle.mf_objects.specs.Live.{is_process, is_set, live_at}
 use Rattle.mf_objects.specs.Lives.{IsLive}
 use Rattle.mf_plan.specs.declared.state.State.{State}
-use Rattle.mf_perform.specs.Found.{after_found, effect_found}
+use Rattle.mf_perform.specs.Effect.{takes_memory}
+use Rattle.mf_perform.specs.Found.{after_found, effect_found, effect_of}
 use Rattle.mf_perform.specs.Held.{lomac_value, with_lomac_value}
 use Rattle.mf_perform.specs.Suits.{Suits}
 use Rattle.mf_perform.proofs.Ready.{ready}
@@ -54,3 +55,10 @@ returns-clause-ok c =
     let r = ready c.args.state.now c.args.task.now c.args.line.now.child c.args.line.now.call c.args.found.now c.args.reply.now c.live-live.ensures.population c.requires.found
     c.requires.entry c.requires.reply c.requires.done in
     c.in_default.ensures.ok ∙ ap (λ (s : State). after_found s c.args.task.now c.args.line.now.call c.args.found.now) c.lower.ensures ∙ r.does
+
+pub returns-in-Err-clause-effect : goal.returns-in-Err-clause-effect
+returns-in-Err-clause-effect c = λ none.
+    let r = ready c.args.state.now c.args.task.now c.args.line.now.child c.args.line.now.call c.args.found.now c.args.reply.now c.live-live.ensures.population c.requires.found
+    c.requires.entry c.requires.reply c.requires.done in
+    c.in-Err.ensures.memory
+    (ap (λ (s : State). takes_memory (effect_of s c.args.task.now c.args.line.now.call c.args.found.now)) c.lower.ensures ∙ ap takes_memory r.effect ∙ none)
