@@ -1,15 +1,12 @@
 //! A run of a script: the state of the framework, and how far each task is.
 ghost use Rattle.std.specs.Prelude.{◌≡◌, ◌<◌, ◌≤◌, ◌+◌, ◌⊎◌, ◌↔◌, length, fold, true, false, IfOk, IsOk, IfSome, IsSome, OnOk, OnErr, Some};
-ghost use Rattle.mf_objects.specs.declared.limits.TheConstants.{ID_LIMIT};
 ghost use Rattle.mf_list.specs.Once.{IsListedOnce};
 ghost use Rattle.mf_calls.specs.declared.limits.TheConstants.{LINE_LIMIT};
-ghost use Rattle.mf_calls.specs.Tasks.{is_change, lines_of};
-ghost use Rattle.mf_calls.specs.WellFormed.{IsFormedLine, IsName, IsWellFormed};
+ghost use Rattle.mf_calls.specs.Tasks.{lines_of};
+ghost use Rattle.mf_calls.specs.WellFormed.{IsFormedLine, IsWellFormed};
 ghost use Rattle.mf_plan.specs.declared.plan.Tail.TheVariants.{Do};
-ghost use Rattle.mf_plan.specs.Found.{AreFound};
 ghost use Rattle.mf_plan.specs.declared.reply.Payload.TheVariants as payload;
 ghost use Rattle.mf_perform.specs.Refused.{is_ok};
-ghost use Rattle.mf_perform.specs.OneCall.{call_reply, call_state};
 ghost use Rattle.mf_perform.specs.Verdict.{verdict_of};
 ghost use Rattle.mf_perform.specs.Reply.{reply_to};
 ghost use Rattle.mf_core.specs.declared.history.Event.TheVariants as event;
@@ -28,7 +25,7 @@ use crate::kept_reply::KeptReply;
 use crate::opening::opening_objects;
 use crate::progress::{Phase, ProgressList, Turn};
 use mf_calls::{Line, Script};
-use mf_perform::{Verdict, load, payload_of, perform, refusal_of};
+use mf_perform::{Verdict, complete, load, payload_of, refusal_of};
 use mf_plan::{Found, Plan, Reply, State};
 use mf_policy::SpecList;
 use mf_slots::SlotNumbers;
@@ -189,7 +186,8 @@ impl<'s> Run<'s> {
     {
         let line = self.line(task);
         let name = self.script.name_of(task);
-        redo(alloc, &mut self.state, name, line, found, reply)?;
+        let lent = reply.lend();
+        complete(alloc, &mut self.state, name, line, found, lent.get())?;
         self.progress.set_phase(task as usize, Phase::Done);
         Ok(())
     }
@@ -232,34 +230,4 @@ fn booted(alloc: Global, script: &Script) -> Result<(SpecList, SlotNumbers), All
         load(alloc, &mut specs, &mut numbers, false, *wanted)?;
     }
     Ok((specs, numbers))
-}
-
-/// Does the call of a line of the task again where its reply was Ok. The reply must be that to the call in this state. If
-/// memory runs out, the state is unchanged.
-fn redo(
-    alloc: Global,
-    state: &mut State,
-    task: &str,
-    line: &Line,
-    found: &Found,
-    reply: &KeptReply,
-) -> Result<(), AllocError>
-    requires task { IsName task.now }
-    requires line { IsFormedLine line.now }
-    requires entry { is_change line.now.call ≡ false }
-    requires reply { reply.now ≡ call_reply state.old task.now line.now.child line.now.call }
-    requires found { is_ok reply.now ≡ true
-        → AreFound state.old task.now line.now.child line.now.call found.now }
-    requires next { state.old.objects.next < ID_LIMIT }
-    ensures state { OnOk result (state.new
-        ≡ call_state state.old task.now line.now.child line.now.call) }
-    ensures err { OnErr result (state.new ≡ state.old) }
-    ensures ids { state.new.objects.next ≤ state.old.objects.next + 1 }
-    ensures booted { state.new.booted ≡ state.old.booted }
-    ensures memory { is_ok reply.now ≡ false → IsOk result }
-{
-    if reply.is_ok() {
-        perform(alloc, state, task, line, found)?;
-    }
-    Ok(())
 }
