@@ -1,13 +1,13 @@
 //! Calls of t and its child c where mac_biba is listed: what they make, and what the policy refuses. There is nothing but the
 //! root, which is high, the process t and the process u.
-ghost use Rattle.std.specs.Prelude.{◌≡◌, ◌<◌, ◌≤◌, length, false};
-ghost use Rattle.mf_objects.specs.declared.limits.TheConstants.{ID_LIMIT};
+ghost use Rattle.std.specs.Prelude.{◌≡◌, ◌≤◌, IfOk, length};
 ghost use Rattle.mf_policy.specs.declared.registration.TheConstants.{MOST_LISTED};
-ghost use Rattle.mf_calls.specs.Tasks.{is_change};
 ghost use Rattle.mf_calls.specs.WellFormed.{IsFormedLine, IsName};
 ghost use Rattle.mf_plan.specs.declared.plan.Tail.TheVariants.{Do};
 ghost use Rattle.mf_plan.specs.Found.{AreFound};
 ghost use Rattle.mf_plan.specs.Plan.{plan_of};
+ghost use Rattle.mf_perform.specs.OneCall.{call_reply};
+ghost use Rattle.mf_perform.specs.Verdict.{verdict_of};
 
 use crate::scripts::{only_line, script_of};
 use mf_biba::Biba;
@@ -18,8 +18,8 @@ use mf_errno::Module;
 use mf_item::Kind;
 use mf_list::{Catalogue, Fixed, Listed, PolicyList};
 use mf_objects::Objects;
-use mf_perform::{payload_of, perform, refusal_of, verdict_of};
-use mf_plan::{Found, Plan, Reply, State, Tail};
+use mf_perform::{Verdict, complete, payload_of, refusal_of, verdict_of};
+use mf_plan::{Found, Plan, Reply, State};
 use mf_policy::{Origin, Policy, Registration, Spec, SpecList, new_label};
 use mf_slots::SlotNumbers;
 use std::alloc::{AllocError, Global};
@@ -108,28 +108,33 @@ fn booted(rt: &impl Abort, alloc: Global, t: Elem, u: Elem) -> Result<Machine<Bi
     Ok(Machine { state, fixed, list })
 }
 
-/// Does the call of a line that nothing refuses.
-fn completed(
+/// The reply to the call of a line, by its plan and the verdict on it.
+fn reply_by(
     alloc: Global,
-    state: &mut State,
+    state: &State,
     task: &str,
     line: &Line,
+    plan: &Plan,
     found: &Found,
+    verdict: &Verdict,
 ) -> Result<Reply, AllocError>
-    requires task { IsName task.now }
     requires line { IsFormedLine line.now }
-    requires entry { is_change line.now.call ≡ false }
-    requires proceeds { (plan_of state.old task.now line.now.child line.now.call).tail ≡ Do }
-    requires found { AreFound state.old task.now line.now.child line.now.call found.now }
-    requires few { length state.old.specs ≤ MOST_LISTED }
-    requires next { state.old.objects.next < ID_LIMIT }
+    requires plan { plan.now ≡ plan_of state.now task.now line.now.child line.now.call }
+    requires found { plan.now.tail ≡ Do
+        → AreFound state.now task.now line.now.child line.now.call found.now }
+    requires verdict { verdict.now ≡ verdict_of state.now.specs plan.now }
+    requires few { length state.now.specs ≤ MOST_LISTED }
+    ensures { IfOk result (λ reply. reply
+        ≡ call_reply state.now task.now line.now.child line.now.call) }
 {
-    let payload = payload_of(alloc, state, found, &line.call)?;
-    perform(alloc, state, task, line, found)?;
-    Ok(Reply::Ok(payload))
+    match refusal_of(plan, verdict) {
+        Some(refusal) => Ok(refusal),
+        None => Ok(Reply::Ok(payload_of(alloc, state, found, &line.call)?)),
+    }
 }
 
-/// Does the call of the line, which is no change, where the policies are those of the state.
+/// Makes of the state what the call of the line makes of it, where the policies are those of the state, and replies to it. It is no
+/// change.
 fn reply_of<P: Policy>(
     rt: &impl Abort,
     alloc: Global,
@@ -141,18 +146,14 @@ fn reply_of<P: Policy>(
     requires line { IsFormedLine line.now }
 {
     let list = Listed::new(&machine.fixed, &machine.list);
-    assert!(rt; list.same_specs(&machine.state.specs));
+    assert!(rt; list.same_specs(&machine.state.specs) && !line.call.is_change());
     assert!(rt; machine.state.specs.len() <= 8 && machine.state.objects.next_id() < u32::MAX);
     let mut plan = Plan::new();
     let found = plan.make(&machine.state, task, line.child_name(), &line.call);
     let verdict = verdict_of(&list, &plan);
-    match refusal_of(&plan, &verdict) {
-        Some(refusal) => Ok(refusal),
-        None => {
-            assert!(rt; plan.tail() == Tail::Do && !line.call.is_change());
-            completed(alloc, &mut machine.state, task, line, &found)
-        }
-    }
+    let reply = reply_by(alloc, &machine.state, task, line, &plan, &found, &verdict)?;
+    complete(alloc, &mut machine.state, task, line, &found, &reply)?;
+    Ok(reply)
 }
 
 fn reply_text(alloc: Global, reply: &Reply) -> Result<String, AllocError> {

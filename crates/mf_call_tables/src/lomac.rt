@@ -57,14 +57,64 @@ const LOWERED: &[(&str, &str)] = &[
     ("getpmac", "ok"),
 ];
 
+/// Nor does who is lowered by what he reads.
+const READS_DOWN: &[(&str, &str)] = &[
+    ("create /hi", "ok"),
+    ("create /lo", "ok"),
+    ("setfmac lomac/5 /lo", "ok"),
+    ("read /lo", "ok"),
+    ("write /hi x", "EACCES vnode_open_write 2"),
+    ("setpmac lomac/high", "EPERM cred_relabel 1"),
+    ("getpmac", "ok"),
+];
+
+/// A check finds the caller as those before it have lowered it, and so it stays where the call is denied.
+const DENIED: &[(&str, &str)] = &[
+    ("mkdir /d", "ok"),
+    ("create /d/f", "ok"),
+    ("setfmac lomac/6 /d", "ok"),
+    ("write /d/f x", "EACCES vnode_open_write 3"),
+];
+
+/// And where it is refused; what the process makes then has the lowered element.
+const REFUSED: &[(&str, &str)] = &[
+    ("mkdir /d", "ok"),
+    ("setfmac lomac/3 /d", "ok"),
+    ("read /d/none", "ENOENT"),
+    ("pipe p", "ok"),
+    ("fork c", "ok"),
+    ("@c pwrite p x", "ok"),
+    ("@c setpmac lomac/4", "EPERM cred_relabel 1"),
+];
+
+/// Calls, and the grade to which they lower t.
+const CALLS: &[(&[(&str, &str)], u16)] = &[
+    (LOWERED, 4),
+    (READS_DOWN, 5),
+    (DENIED, 6),
+    (REFUSED, 3),
+];
+
+/// Whether t has this grade after the calls.
+fn sinks_to(
+    rt: &impl Abort,
+    alloc: Global,
+    calls: &[(&str, &str)],
+    grade: u16,
+) -> Result<bool, AllocError> {
+    let mut machine = booted(rt, alloc)?;
+    run(rt, alloc, &mut machine, calls)?;
+    let label = labelled(Elem::Grade(grade, Comps::empty()), None);
+    Ok(match machine.state.objects.process("t") {
+        Some(t) => machine.state.objects.label(t) == label,
+        None => false,
+    })
+}
+
 #[test]
-fn who_lowers_himself(rt: HostRuntime) -> Result<(), AllocError> {
-    let mut machine = booted(&rt, rt.alloc())?;
-    run(&rt, rt.alloc(), &mut machine, LOWERED)?;
-    let four = labelled(Elem::Grade(4, Comps::empty()), None);
-    match machine.state.objects.process("t") {
-        Some(t) => assert!(rt; machine.state.objects.label(t) == four),
-        None => panic!(rt; "t lives"),
+fn who_is_lowered(rt: HostRuntime) -> Result<(), AllocError> {
+    for (calls, grade) in CALLS {
+        assert!(rt; sinks_to(&rt, rt.alloc(), calls, *grade)?);
     }
     Ok(())
 }

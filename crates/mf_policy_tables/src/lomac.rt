@@ -133,8 +133,9 @@ fn what_remains_of_an_element(rt: HostRuntime) {
 /// What is left of `high` in slot 0 after the check of a file that is low.
 fn left_by(op: CheckOp) -> LabelValue {
     let (subject, object) = (subject_of(Elem::High), file_of(Elem::Low));
+    let own = subject.label[0];
     let item = Item::new(op, &subject, Some(&object), None, None);
-    after_check(0, &subject.label[0], &item)
+    after_check(0, &own, &item)
 }
 
 #[test]

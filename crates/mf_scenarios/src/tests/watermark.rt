@@ -100,8 +100,9 @@ const PROCESSES: &[Rows] = &[
         rows: &[
             ("write /d/f x", "no EACCES vnode_open_write mac_lomac 3"),
             ("getpmac", "ok label lomac/5"),
+            ("unlink /d/f", "no EACCES vnode_unlink mac_lomac 4"),
         ],
-        sources: "source lomac vnode:/ high\nsource lomac vnode:/d 5\nsource lomac vnode:/d/f 9\nsource lomac proc:t 5,9,high\n",
+        sources: "source lomac vnode:/ high\nsource lomac vnode:/d 5,9,high\nsource lomac vnode:/d/f 9\nsource lomac proc:t 5,9,high\n",
         ..LOMAC
     },
     Rows {
