@@ -1,5 +1,6 @@
--- Sets whose elements a party may observe, and what movements that a policy allows make of them.
+-- Sets whose elements stand in a policy's order to a party's, and what movements that the policy allows make of them.
 use Rattle.std.proofs.Common.{◌≡◌, Bool, true, false, cond, List, [], ◌∷◌, Option, Some, None, refl, sym, subst}
+use Rattle.std.specs.Option.{option_map_or}
 use Rattle.std.specs.declared.cmp.Ordering.{Ordering}
 use Rattle.std.specs.declared.cmp.Ordering.TheVariants.{Less, Equal, Greater}
 use Rattle.std.specs.Ordering.{match_ordering}
@@ -17,10 +18,10 @@ use Rattle.mf_policy.specs.declared.operations.Movement.{Movement}
 use Rattle.mf_policy.specs.Operations.{row_of}
 use Rattle.mf_policy.specs.declared.operations.Movement.TheVariants.{Still, ToSubject, ToObject, BothWays}
 use Rattle.mf_policy.specs.declared.operations.Test.TheVariants.{Observe, Modify, ObserveAndModify, SameLevel}
-use Rattle.mf_policy.specs.Answer.{LatticePolicy, errno_unless, labels_answer}
+use Rattle.mf_policy.specs.Answer.{errno_unless, labels_answer}
 use Rattle.mf_flow.specs.Order.{elem_cmp, union}
 use Rattle.mf_flow.specs.Sources.{held_by, own_source}
-use Rattle.mf_flow.proofs.Orders.{IsFlowPolicy}
+use Rattle.mf_flow.proofs.Orders.{FlowPolicy, IsFlowPolicy}
 
 -- Sets
 
@@ -43,22 +44,22 @@ all_from : (P Q : Elem → Type 0) (xs : List Elem) → ((x : Elem) → P x → 
 all_from P Q [] gives all = tt
 all_from P Q (x ∷ xs) gives all = (gives x all.0, all_from P Q xs gives all.1)
 
--- the source isn't equal, and a party of the element may observe it
-abbrev pub IsFit : LatticePolicy → Elem → Elem → Type 0
-IsFit p own source = (is_equal source ≡ false) × (p.may_observe own source ≡ true)
+-- the source isn't equal, and stands in the policy's order to the element
+abbrev pub IsFit : FlowPolicy → Elem → Elem → Type 0
+IsFit p own source = (is_equal source ≡ false) × (p.order source own ≡ true)
 
 -- a party labelled equal has no sources, and those of another are fit for it
-abbrev pub FitBy : LatticePolicy → Elem → Bool → List Elem → Type 0
+abbrev pub FitBy : FlowPolicy → Elem → Bool → List Elem → Type 0
 FitBy p own true set = set ≡ []
 FitBy p own false set = AllByRecursion (IsFit p own) set
 
 -- the sources of a party of this element; without one it has none
-abbrev pub Fit : LatticePolicy → Option Elem → List Elem → Type 0
+abbrev pub Fit : FlowPolicy → Option Elem → List Elem → Type 0
 Fit p None set = set ≡ []
 Fit p (Some own) set = FitBy p own (is_equal own) set
 
 -- an element alone is fit
-pub alone_fit : (p : LatticePolicy) → IsFlowPolicy p → (element : Option Elem) → Fit p element (own_source element)
+pub alone_fit : (p : FlowPolicy) → IsFlowPolicy p → (element : Option Elem) → Fit p element (own_source element)
 alone_fit p flows None = refl
 alone_fit p flows (Some own) = one (is_equal own) refl
   where
@@ -66,38 +67,77 @@ alone_fit p flows (Some own) = one (is_equal own) refl
     one true equal = refl
     one false plain = ((plain, flows.itself own), tt)
 
+-- whether a party of this element has no sources
+abbrev pub is_exempt : Option Elem → Bool
+is_exempt element = option_map_or is_equal element true
+
+-- the policy's labels have the element, where there is one
+abbrev pub Has : FlowPolicy → Option Elem → Type 0
+Has p None = Unit {0}
+Has p (Some element) = p.has element ≡ true
+
 -- Allowed movements
 
--- the one party may observe the other, where both have elements other than equal
-abbrev pub Allowed : LatticePolicy → Option Elem → Option Elem → Type 0
+-- what is of the one element may come to a party of the other
+abbrev pub Allowed : FlowPolicy → Option Elem → Option Elem → Type 0
 Allowed p None from = Unit {0}
 Allowed p (Some to) None = Unit {0}
-Allowed p (Some to) (Some from) = p.may_observe to from ≡ true
+Allowed p (Some to) (Some from) = p.order from to ≡ true
 
-abbrev pub AllowedBy : LatticePolicy → Movement → Option Elem → Option Elem → Type 0
+pub allowed_itself : (p : FlowPolicy) → IsFlowPolicy p → (element : Option Elem) → Allowed p element element
+allowed_itself p flows None = tt
+allowed_itself p flows (Some own) = flows.itself own
+
+-- what remains of a subject's element after it has observed the object
+abbrev pub remaining : FlowPolicy → Option Elem → Option Elem → Option Elem
+remaining p (Some subject) (Some object) = Some (p.remains subject object)
+remaining p subject object = subject
+
+pub remaining_exempt : (p : FlowPolicy) → IsFlowPolicy p → (subject object : Option Elem) → is_exempt (remaining p subject object) ≡ is_exempt subject
+remaining_exempt p flows None object = refl
+remaining_exempt p flows (Some subject) None = refl
+remaining_exempt p flows (Some subject) (Some object) = flows.equal subject object
+
+pub remaining_has : (p : FlowPolicy) → IsFlowPolicy p → (subject object : Option Elem) → Has p subject → Has p object → Has p (remaining p subject object)
+remaining_has p flows None object own theirs = tt
+remaining_has p flows (Some subject) None own theirs = own
+remaining_has p flows (Some subject) (Some object) own theirs = flows.still subject object own theirs
+
+pub nothing_observed : (p : FlowPolicy) (subject : Option Elem) → remaining p subject None ≡ subject
+nothing_observed p None = refl
+nothing_observed p (Some subject) = refl
+
+-- what is of the subject and of the object may come to what remains of the subject
+abbrev pub Observed : FlowPolicy → Option Elem → Option Elem → Type 0
+Observed p subject object = Allowed p (remaining p subject object) subject × Allowed p (remaining p subject object) object
+
+abbrev pub AllowedBy : FlowPolicy → Movement → Option Elem → Option Elem → Type 0
 AllowedBy p Still subject object = Unit {0}
-AllowedBy p ToSubject subject object = Allowed p subject object
+AllowedBy p ToSubject subject object = Observed p subject object
 AllowedBy p ToObject subject object = Allowed p object subject
-AllowedBy p BothWays subject object = Allowed p subject object × Allowed p object subject
+AllowedBy p BothWays subject object = Observed p subject object × Allowed p object subject
 
--- what comes to a party that may observe the giver is fit
-pub received_fit : (p : LatticePolicy) → IsFlowPolicy p → (to from : Option Elem) (set given : List Elem) → Allowed p to from → Fit p to set → Fit p from given
-    → Fit p to (held_by to (union set given))
-received_fit p flows None from set given allowed own theirs = refl
-received_fit p flows (Some to) from set given allowed own theirs = one (is_equal to) own
+-- What comes to a party is fit for the element that it then has, where that is equal exactly if its first one is, and where what it had and what
+-- it gets may come to that.
+pub received_fit : (p : FlowPolicy) → IsFlowPolicy p → (to from now first : Option Elem) (set given : List Elem) → is_exempt first ≡ is_exempt now
+    → Allowed p now to → Allowed p now from → Fit p to set → Fit p from given → Fit p now (held_by first (union set given))
+received_fit p flows to from None None set given same own theirs fit fit' = refl
+received_fit p flows to from None (Some first) set given same own theirs fit fit' = rw same refl
+received_fit p flows to from (Some now) None set given same own theirs fit fit' = subst (λ (b : Bool). FitBy p now b []) same refl
+received_fit p flows to from (Some now) (Some first) set given same own theirs fit fit' = one (is_equal now) same
   where
-    -- their sources are fit for the party
-    passed : (from : Option Elem) → Allowed p (Some to) from → Fit p from given → AllByRecursion (IsFit p to) given
-    passed None allowed none = subst (AllByRecursion (IsFit p to)) (sym none) tt
-    passed (Some giver) allowed fit = two (is_equal giver) refl fit
+    -- the sources of the one are fit for the other
+    passed : (from : Option Elem) (given : List Elem) → Allowed p (Some now) from → Fit p from given → AllByRecursion (IsFit p now) given
+    passed None given allowed none = subst (AllByRecursion (IsFit p now)) (sym none) tt
+    passed (Some giver) given allowed fit = two (is_equal giver) refl fit
       where
-        two : (b : Bool) → is_equal giver ≡ b → FitBy p giver b given → AllByRecursion (IsFit p to) given
-        two true equal none = subst (AllByRecursion (IsFit p to)) (sym none) tt
-        two false plain all = all_from (IsFit p giver) (IsFit p to) given (λ x fit. (fit.0, flows.along to giver x plain allowed fit.1)) all
+        two : (b : Bool) → is_equal giver ≡ b → FitBy p giver b given → AllByRecursion (IsFit p now) given
+        two true equal none = subst (AllByRecursion (IsFit p now)) (sym none) tt
+        two false plain all = all_from (IsFit p giver) (IsFit p now) given (λ x fit. (fit.0, flows.along x giver now plain fit.1 allowed)) all
 
-    one : (b : Bool) → FitBy p to b set → FitBy p to b (cond b [] (union set given))
-    one true none = refl
-    one false all = all_union (IsFit p to) set given all (passed from allowed theirs)
+    one : (b : Bool) → is_equal first ≡ b → FitBy p now b (cond (is_equal first) [] (union set given))
+    one true equal = rw equal refl
+    one false plain = rw plain (all_union (IsFit p now) set given (passed to set own fit) (passed from given theirs fit'))
 
 -- Answers
 
@@ -110,62 +150,74 @@ both_pass true true success = (refl, refl)
 both_pass true false success = cc
 both_pass false b success = cc
 
-module _ (p : LatticePolicy) (flows : IsFlowPolicy p) (label asked : RangeLabel) where
-  observes : (errno : Errno) (subject object : Option Elem) → (errno ≡ Success → ⊥) → labels_answer p (Observe errno) label asked subject object ≡ Success
-      → Allowed p subject object
-  observes errno None object fails success = tt
-  observes errno (Some subject) None fails success = tt
-  observes errno (Some subject) (Some object) fails success = passes (p.may_observe subject object) errno fails success
+module _ (p : FlowPolicy) (flows : IsFlowPolicy p) (label asked : RangeLabel) (subject object : Option Elem) (own : Has p subject) (theirs : Has p object) where
+  observes : (errno : Errno) → (errno ≡ Success → ⊥) → labels_answer p.lattice (Observe errno) label asked subject object ≡ Success → Observed p subject object
+  observes errno fails success = one subject object own theirs success
+    where
+      one : (subject object : Option Elem) → Has p subject → Has p object → labels_answer p.lattice (Observe errno) label asked subject object ≡ Success
+          → Observed p subject object
+      one None object own theirs success = (tt, tt)
+      one (Some subject) None own theirs success = (flows.itself subject, tt)
+      one (Some subject) (Some object) own theirs success = flows.looks subject object own theirs (passes (p.lattice.may_observe subject object) errno fails success)
 
-  modifies : (subject object : Option Elem) → labels_answer p Modify label asked subject object ≡ Success → Allowed p object subject
-  modifies subject None success = tt
-  modifies None (Some object) success = tt
-  modifies (Some subject) (Some object) success = flows.back subject object (passes (p.may_modify subject object) Eacces (λ same. cc) success)
+  modifies : labels_answer p.lattice Modify label asked subject object ≡ Success → Allowed p object subject
+  modifies success = one subject object success
+    where
+      one : (subject object : Option Elem) → labels_answer p.lattice Modify label asked subject object ≡ Success → Allowed p object subject
+      one subject None success = tt
+      one None (Some object) success = tt
+      one (Some subject) (Some object) success = flows.writes subject object (passes (p.lattice.may_modify subject object) Eacces (λ same. cc) success)
 
-  levels : (subject object : Option Elem) → labels_answer p SameLevel label asked subject object ≡ Success → Allowed p object subject
-  levels subject None success = tt
-  levels None (Some object) success = tt
-  levels (Some subject) (Some object) success = flows.level subject object (passes (same_level subject object) Eacces (λ same. cc) success)
+  levels : labels_answer p.lattice SameLevel label asked subject object ≡ Success → Allowed p object subject
+  levels success = one subject object success
+    where
+      one : (subject object : Option Elem) → labels_answer p.lattice SameLevel label asked subject object ≡ Success → Allowed p object subject
+      one subject None success = tt
+      one None (Some object) success = tt
+      one (Some subject) (Some object) success = flows.level subject object (passes (same_level subject object) Eacces (λ same. cc) success)
 
-  does_both : (subject object : Option Elem) → labels_answer p ObserveAndModify label asked subject object ≡ Success
-      → Allowed p subject object × Allowed p object subject
-  does_both None None success = (tt, tt)
-  does_both None (Some object) success = (tt, tt)
-  does_both (Some subject) None success = (tt, tt)
-  does_both (Some subject) (Some object) success =
-      let both = both_pass (p.may_observe subject object) (p.may_modify subject object) success in
-      (both.0, flows.back subject object both.1)
+  does_both : labels_answer p.lattice ObserveAndModify label asked subject object ≡ Success → Observed p subject object × Allowed p object subject
+  does_both success = one subject object own theirs success
+    where
+      one : (subject object : Option Elem) → Has p subject → Has p object → labels_answer p.lattice ObserveAndModify label asked subject object ≡ Success
+          → Observed p subject object × Allowed p object subject
+      one None None own theirs success = ((tt, tt), tt)
+      one None (Some object) own theirs success = ((tt, tt), tt)
+      one (Some subject) None own theirs success = ((flows.itself subject, tt), tt)
+      one (Some subject) (Some object) own theirs success =
+          let both = both_pass (p.lattice.may_observe subject object) (p.lattice.may_modify subject object) success in
+          (flows.looks subject object own theirs both.0, flows.writes subject object both.1)
 
   -- an operation that the policy passes moves information only as it may
-  pub allows : (operation : CheckOp) (subject object : Option Elem) → labels_answer p (row_of operation).test label asked subject object ≡ Success
+  pub allows : (operation : CheckOp) → labels_answer p.lattice (row_of operation).test label asked subject object ≡ Success
       → AllowedBy p (row_of operation).movement subject object
-  allows op.VnodeLookup subject object success = observes Eacces subject object (λ same. cc) success
-  allows op.VnodeOpenRead subject object success = observes Eacces subject object (λ same. cc) success
-  allows op.VnodeOpenWrite subject object success = modifies subject object success
-  allows op.VnodeRead subject object success = observes Eacces subject object (λ same. cc) success
-  allows op.VnodeWrite subject object success = modifies subject object success
-  allows op.VnodeExec subject object success = observes Eacces subject object (λ same. cc) success
-  allows op.VnodeStat subject object success = observes Eacces subject object (λ same. cc) success
-  allows op.VnodeReaddir subject object success = observes Eacces subject object (λ same. cc) success
-  allows op.VnodeCreate subject object success = modifies subject object success
-  allows op.VnodeUnlinkDir subject object success = modifies subject object success
-  allows op.VnodeUnlink subject object success = modifies subject object success
-  allows op.VnodeSetmode subject object success = modifies subject object success
-  allows op.VnodeRelabel subject object success = tt
-  allows op.PipeRead subject object success = observes Eacces subject object (λ same. cc) success
-  allows op.PipeWrite subject object success = modifies subject object success
-  allows op.PipeStat subject object success = observes Eacces subject object (λ same. cc) success
-  allows op.PipeRelabel subject object success = tt
-  allows op.SocketSend subject object success = modifies subject object success
-  allows op.SocketDeliver subject object success = levels subject object success
-  allows op.SocketReceive subject object success = observes Eacces subject object (λ same. cc) success
-  allows op.SocketVisible subject object success = tt
-  allows op.SocketRelabel subject object success = tt
-  allows op.CredRelabel subject object success = tt
-  allows op.ProcVisible subject object success = tt
-  allows op.ProcSignal subject object success = (does_both subject object success).1
-  allows op.ProcDebug subject object success = does_both subject object success
-  allows op.ProcSched subject object success = (does_both subject object success).1
-  allows op.KldLoad subject object success = tt
-  allows op.KldUnload subject object success = tt
-  allows op.Priv subject object success = tt
+  allows op.VnodeLookup success = observes Eacces (λ same. cc) success
+  allows op.VnodeOpenRead success = observes Eacces (λ same. cc) success
+  allows op.VnodeOpenWrite success = modifies success
+  allows op.VnodeRead success = observes Eacces (λ same. cc) success
+  allows op.VnodeWrite success = modifies success
+  allows op.VnodeExec success = observes Eacces (λ same. cc) success
+  allows op.VnodeStat success = observes Eacces (λ same. cc) success
+  allows op.VnodeReaddir success = observes Eacces (λ same. cc) success
+  allows op.VnodeCreate success = modifies success
+  allows op.VnodeUnlinkDir success = modifies success
+  allows op.VnodeUnlink success = modifies success
+  allows op.VnodeSetmode success = modifies success
+  allows op.VnodeRelabel success = tt
+  allows op.PipeRead success = observes Eacces (λ same. cc) success
+  allows op.PipeWrite success = modifies success
+  allows op.PipeStat success = observes Eacces (λ same. cc) success
+  allows op.PipeRelabel success = tt
+  allows op.SocketSend success = modifies success
+  allows op.SocketDeliver success = levels success
+  allows op.SocketReceive success = observes Eacces (λ same. cc) success
+  allows op.SocketVisible success = tt
+  allows op.SocketRelabel success = tt
+  allows op.CredRelabel success = tt
+  allows op.ProcVisible success = tt
+  allows op.ProcSignal success = (does_both success).1
+  allows op.ProcDebug success = does_both success
+  allows op.ProcSched success = (does_both success).1
+  allows op.KldLoad success = tt
+  allows op.KldUnload success = tt
+  allows op.Priv success = tt

@@ -1,5 +1,5 @@
 -- What the code does for a call, as the history goes on.
-use Rattle.std.proofs.Common.{◌≡◌, ℕ, ◌-◌, slice_get, List, [], ◌∷◌, Option, Some, None, refl, true, ap, sym, ◌∙◌, subst, arith}
+use Rattle.std.proofs.Common.{◌≡◌, ℕ, ◌-◌, ◌==◌, Bool, true, false, cond, slice_get, List, [], ◌∷◌, Option, Some, None, refl, ap, sym, ◌∙◌, subst, arith}
 use Rattle.std.specs.Prelude.{fold, map}
 use Rattle.std.proofs.lemmas.List.{take-map}
 use Rattle.mf_item.specs.Item.{Item}
@@ -15,7 +15,12 @@ use Rattle.mf_plan.specs.declared.reply.Reply.TheVariants as reply
 use Rattle.mf_plan.specs.declared.found.Found.{Found}
 use Rattle.mf_plan.specs.declared.plan.Tail.TheVariants.{Do}
 use Rattle.mf_plan.specs.Found.{AreFound}
-use Rattle.mf_plan.specs.Plan.{plan_of}
+use Rattle.mf_elem.specs.declared.label.LabelValue.{LabelValue}
+use Rattle.mf_policy.specs.Lowering.{after_check, lomac_slot}
+use Rattle.mf_objects.specs.Lives.{value_at}
+use Rattle.mf_plan.specs.Lowering.{each_lowered, lowering, while_lowered, with_slot}
+use Rattle.mf_plan.specs.Plan.{call_row, plan_in, plan_of}
+use Rattle.mf_plan.proofs.LoweredChecks.{lowering_taken}
 use Rattle.mf_perform.specs.Refused.{is_ok}
 use Rattle.mf_perform.specs.OneCall.{call_reply}
 use Rattle.mf_core.specs.declared.history.Event.{Event}
@@ -27,7 +32,7 @@ use Rattle.mf_core.proofs.SameLists.{done_tail}
 use Rattle.mf_perform.specs.Passed.{passed}
 use Rattle.mf_flow.specs.declared.following.Flow.{Flow}
 use Rattle.mf_flow.specs.Rows.{Rows, rows_moved, rows_after_line, flow_moved, flow_settled, flow_after_event, asked_of, rows_by, caller_of}
-use Rattle.std.specs.Option.{option_zip}
+use Rattle.std.specs.Option.{option_map_or, option_zip}
 use Rattle.mf_core.proofs.LookedUp.{reply_at}
 use Rattle.mf_elem.specs.declared.label.Request.{Request}
 use Rattle.mf_flow.proofs.Relabels.{zipped}
@@ -40,12 +45,12 @@ flow_after_line s s' task found said f =
     record f { sets = rows_after_line (slot_of f.registration) f.registration.module s s' task found said f.sets }
 
 line_flow : (s s' : State) (task : List ℕ) (found : Option Line) (line : Line) (said : Reply) (f : Flow) (items : List Item) (next : ℕ) (o : Entities) (caller : Option Id)
-    (asked : Option (Id × Request)) → found ≡ Some line → items ≡ passed said (plan_of s task line.child line.call).items → next ≡ s.objects.next
-    → o ≡ s'.objects → caller ≡ caller_of s task line → asked ≡ asked_of s task line said
+    (asked : Option (Id × Request)) → found ≡ Some line → flow_moved s.objects items f ≡ flow_moved s.objects (passed said (plan_of s task line.child line.call).items) f
+    → next ≡ s.objects.next → o ≡ s'.objects → caller ≡ caller_of s task line → asked ≡ asked_of s task line said
     → flow_settled next o caller asked (flow_moved s.objects items f) ≡ flow_after_line s s' task found said f
-line_flow s s' task found line said f items next o caller asked found_is items_are next_is o_is caller_is asked_is =
+line_flow s s' task found line said f items next o caller asked found_is moved_is next_is o_is caller_is asked_is =
     let moved : Flow = flow_moved s.objects (passed said (plan_of s task line.child line.call).items) f in
-    ap (λ (xs : List Item). flow_settled next o caller asked (flow_moved s.objects xs f)) items_are
+    ap (flow_settled next o caller asked) moved_is
     ∙ ap (λ (k : ℕ). flow_settled k o caller asked moved) next_is
     ∙ ap (λ (x : Entities). flow_settled s.objects.next x caller asked moved) o_is
     ∙ ap (λ (x : Option Id). flow_settled s.objects.next s'.objects x asked moved) caller_is
@@ -70,12 +75,56 @@ same_flow : (o : Entities) (asked : Option Request) (checks : List Check) (f : F
     → flow_moved o (map (item_asking o asked) checks) f ≡ flow_moved o (map (item_of o) checks) f
 same_flow o asked checks f = ap (λ (rows : Rows). record f { sets = rows }) (same_fold (slot_of f.registration) o asked f.sets checks)
 
+-- A check moves the same whether or not its caller is lowered
+
+while_moves : (n slot : ℕ) (o : Entities) (me : ℕ) (value : LabelValue) (rows : Rows) (item : Item) → rows_moved n o rows (while_lowered slot me value item) ≡ rows_moved n o rows item
+while_moves n slot o me value rows item = one (item.subject.id == me)
+  where
+    one : (b : Bool) → rows_moved n o rows (cond b (record item { subject = with_slot slot value item.subject }) item) ≡ rows_moved n o rows item
+    one true = refl
+    one false = refl
+
+each_moves : (n slot : ℕ) (o : Entities) (me : ℕ) (value : LabelValue) (rows : Rows) (items : List Item)
+    → fold (rows_moved n o) rows (each_lowered slot me value items) ≡ fold (rows_moved n o) rows items
+each_moves n slot o me value rows [] = refl
+each_moves n slot o me value rows (item ∷ items) =
+    ap (λ (x : Rows). fold (rows_moved n o) x (each_lowered slot me (after_check slot value item) items)) (while_moves n slot o me value rows item)
+    ∙ each_moves n slot o me (after_check slot value item) (rows_moved n o rows item) items
+
+lowering_moves : (s : State) (n : ℕ) (me : Id) (rows : Rows) (items : List Item) → fold (rows_moved n s.objects) rows (lowering s me items) ≡ fold (rows_moved n s.objects) rows items
+lowering_moves s n me rows items = one (lomac_slot s.specs)
+  where
+    one : (slot : Option ℕ)
+        → fold (rows_moved n s.objects) rows (option_map_or (λ slot. each_lowered slot me.0 (value_at s.objects me slot) items) slot items) ≡ fold (rows_moved n s.objects) rows items
+    one None = refl
+    one (Some slot) = each_moves n slot s.objects me.0 (value_at s.objects me slot) rows items
+
+passed_lowering : (s : State) (me : Id) (said : Reply) (items : List Item) → passed said (lowering s me items) ≡ lowering s me (passed said items)
+passed_lowering s me (reply.Ok payload) items = refl
+passed_lowering s me (reply.Denied errno op item by) items = lowering_taken s me (item - 1) items
+passed_lowering s me (reply.Refused errno) items = refl
+
+-- the checks of the row of a call move what those of its plan do
+plan_moves : (s : State) (task : List ℕ) (line : Line) (said : Reply) (f : Flow)
+    → flow_moved s.objects (passed said (plan_in s (call_row s task line.child line.call)).items) f ≡ flow_moved s.objects (passed said (plan_of s task line.child line.call).items) f
+plan_moves s task line said f = one (caller_of s task line)
+  where
+    raw : List Item
+    raw = (plan_in s (call_row s task line.child line.call)).items
+
+    one : (caller : Option Id)
+        → flow_moved s.objects (passed said raw) f ≡ flow_moved s.objects (passed said (option_map_or (λ me. lowering s me raw) caller raw)) f
+    one None = refl
+    one (Some me) =
+        ap (λ (rows : Rows). record f { sets = rows })
+        (sym (lowering_moves s (slot_of f.registration) me f.sets (passed said raw)) ∙ sym (ap (fold (rows_moved (slot_of f.registration) s.objects) f.sets) (passed_lowering s me said raw)))
+
 -- The call of an event that may come, whose line is the task's next one in this state
 
 pub done_flow : (s : Script) (run : RunState) (e : Event) (t number : ℕ) (said : Reply) (state state' : State) (task : List ℕ) (line : Line) (f moved : Flow)
     (request : Option Request) (checks : List Check) (next : ℕ) (caller : Option Id) (asked : Option (Id × Request)) → e ≡ event.Done t number said
     → state ≡ run.state → state' ≡ (run_after s run e).state → task ≡ name_of s t → next_line s run.progress t ≡ Some line
-    → map (item_asking state.objects request) checks ≡ passed said (plan_of state task line.child line.call).items
+    → map (item_asking state.objects request) checks ≡ passed said (plan_in state (call_row state task line.child line.call)).items
     → moved ≡ flow_moved state.objects (map (item_of state.objects) checks) f → next ≡ state.objects.next
     → caller ≡ caller_of state task line → asked ≡ asked_of state task line said
     → flow_settled next state'.objects caller asked moved ≡ flow_after_event s run e f
@@ -84,7 +133,10 @@ done_flow s run e t number said state state' task line f moved request checks ne
     ap (flow_settled next state'.objects caller asked) (moved_is ∙ sym (same_flow state.objects request checks f)
     ∙ ap (λ (x : State). flow_moved x.objects items f) here)
     ∙ line_flow run.state (run_after s run (event.Done t number said)).state (name_of s t) (next_line s run.progress t) line said f items next state'.objects caller asked line_is
-    (items_are ∙ ap (λ (x : State). passed said (plan_of x task line.child line.call).items) here ∙ ap (λ (x : List ℕ). passed said (plan_of run.state x line.child line.call).items) task_is)
+    (ap (λ (xs : List Item). flow_moved run.state.objects xs f)
+    (items_are ∙ ap (λ (x : State). passed said (plan_in x (call_row x task line.child line.call)).items) here
+    ∙ ap (λ (x : List ℕ). passed said (plan_in run.state (call_row run.state x line.child line.call)).items) task_is)
+    ∙ plan_moves run.state (name_of s t) line said f)
     (next_is ∙ ap (λ (x : State). x.objects.next) here)
     (ap (λ (x : State). x.objects) after_is ∙ ap (λ (x : Event). (run_after s run x).state.objects) is)
     (caller_is ∙ ap (λ (x : State). caller_of x task line) here ∙ ap (λ (x : List ℕ). caller_of run.state x line) task_is)

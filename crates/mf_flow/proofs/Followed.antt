@@ -1,25 +1,28 @@
 -- The rows that are kept while a history is gone through are its sources.
-use Rattle.std.proofs.Common.{◌≡◌, ℕ, ◌<◌, ◌+◌, suc, List, [], ◌∷◌, length, drop, get_or, map, Option, Some, None, Result, Ok, Err, refl, ap, sym, ◌∙◌, subst, arith}
+use Rattle.std.proofs.Common.{◌≡◌, ℕ, ◌<◌, ◌+◌, suc, false, List, [], ◌∷◌, length, drop, get_or, map, Option, Some, None, Result, Ok, Err, refl, ap, sym, ◌∙◌, subst, arith}
 use Rattle.std.specs.Prelude.{OnOk, fold}
 use Rattle.std.specs.List.{AllByRecursion}
 use Rattle.std.proofs.Math.Seq.{drop-cons}
 use Rattle.mf_core.proofs.LookedUp.{reply_at, state_at}
-use Rattle.mf_errno.specs.declared.errno.Errno.TheVariants.{Success}
 use Rattle.mf_elem.specs.declared.label.TheConstants.{SLOTS}
 use Rattle.mf_item.specs.Item.{Item}
 use Rattle.mf_policy.specs.declared.registration.Registration.{Registration}
-use Rattle.mf_policy.specs.Answer.{LatticePolicy, lattice_answer}
 use Rattle.mf_list.specs.Asked.{slot_of}
 use Rattle.mf_objects.proofs.Entities.{label_of as values_of}
-use Rattle.mf_objects.specs.Live.{LiveEntity, Entities}
+use Rattle.mf_objects.specs.declared.id.Id.{Id}
+use Rattle.mf_objects.specs.Live.{LiveEntity, Entities, live_at}
 use Rattle.mf_calls.specs.declared.script.Line.{Line}
 use Rattle.mf_calls.specs.declared.script.Script.{Script}
 use Rattle.mf_calls.specs.Tasks.{name_of}
 use Rattle.mf_calls.specs.WellFormed.{IsWellFormed}
 use Rattle.mf_plan.specs.declared.state.State.{State}
 use Rattle.mf_plan.specs.declared.reply.Reply.{Reply}
-use Rattle.mf_plan.specs.Plan.{plan_of, call_row}
-use Rattle.mf_perform.specs.OneCall.{call_reply, call_state}
+use Rattle.mf_plan.specs.Names.{caller_name}
+use Rattle.mf_plan.specs.Plan.{plan_of}
+use Rattle.mf_plan.specs.Views.{process_named}
+use Rattle.mf_perform.specs.OneCall.{call_reply, call_state, observed}
+use Rattle.mf_perform.proofs.Observing.{HasObserved, ObservingKeeps, checks_passed, observing, observing_keeps}
+use Rattle.mf_perform.proofs.Observing.HasObserved.{absent, unlowered, lowered}
 use Rattle.mf_core.specs.declared.history.Event.{Event}
 use Rattle.mf_core.specs.declared.history.Event.TheVariants as event
 use Rattle.mf_core.specs.declared.history.History.{History}
@@ -29,64 +32,97 @@ use Rattle.mf_core.specs.LegalHistory.{RunState, opening_run, next_line, MayCome
 use Rattle.mf_core.specs.RunView.{RunView}
 use Rattle.mf_perform.proofs.StateChange.{Deed, StateChange}
 use Rattle.mf_perform.proofs.EntityChange.{ChangesEntities, changes_entities}
-use Rattle.mf_lifetimes.proofs.Marked.{by_line, event_change}
 use Rattle.mf_perform.specs.Passed.{passed}
 use Rattle.mf_flow.specs.declared.following.Flow.{Flow}
 use Rattle.mf_flow.specs.Rows.{AreKept, AreOwnRows, AreRows, EachBecomes, HasSlot, IsFlowOf, IsKept, IsOpening, Rows, rows_moved, rows_created, rows_after_line, rows_after_event, flow_after_event}
 use Rattle.mf_flow.specs.Sources.{Sets, own_source, element_by, sets_after_line, sets_after_event, sets_after, sources_of}
-use Rattle.mf_flow.proofs.Across.{moved_by_all, opening_sets}
-use Rattle.mf_perform.proofs.Granted.{IsGranted}
-use Rattle.mf_flow.proofs.Granted.{passed_granted, all_passed}
-use Rattle.mf_flow.proofs.Copies.{IsCopied, plan_copied}
+use Rattle.mf_flow.proofs.Across.{gives_element, moved_by_all, opening_sets, set_of, sets_across}
 use Rattle.mf_flow.proofs.Elements.{all_labelled}
 use Rattle.mf_flow.proofs.Relabels.{relabel_state}
-use Rattle.mf_flow.proofs.Flowing.{IsFlowing, IsOf, deed_of, own_answer, line_objects, event_flowing, opening_flowing}
-use Rattle.mf_flow.proofs.RowsKept.{items_rows, kept_itself}
+use Rattle.mf_flow.proofs.Orders.{FlowPolicy}
+use Rattle.mf_flow.proofs.Flowing.{IsFlowing, IsOf, deed_of, line_change, line_objects, event_flowing, opening_flowing, same_before}
+use Rattle.mf_flow.proofs.RowsKept.{fit_held, items_rows, kept_itself}
 use Rattle.mf_flow.proofs.RowsAfter.{change_next, created_rows, given_rows}
 use Rattle.mf_flow.specs.Table.{sourced}
 use Rattle.mf_lifetimes.proofs.Files.{all_both, all_from}
 use Rattle.mf_flow.proofs.Becoming.{all_becoming, becomes_itself, by_registration, same_registrations}
 use Rattle.mf_flow.proofs.Dominating.{IsBootedFor, IsSourced, all_sourced}
 
-call_rows : (p : LatticePolicy) (r : Registration) (s s' : State) (task : List ℕ) (line : Line) (said : Reply) (sets : Sets) (rows : Rows) → IsOf p r
-    → call_reply s task line.child line.call ≡ said → s' ≡ call_state s task line.child line.call → StateChange (deed_of s task line said) s s' → IsFlowing p r s sets → AreRows s.objects sets rows
-    → AreRows s'.objects (sets_after_line r s s' task (Some line) said sets) (rows_after_line (slot_of r) r.module s s' task (Some line) said rows)
-call_rows p r s s' task line said sets rows of is after_is shape flowing are =
-    let by : Deed = deed_of s task line said in
-    let items : List Item = passed said (plan_of s task line.child line.call).items in
-    let step : ChangesEntities by s s' = changes_entities by s s' shape flowing.held.kept.rooted.rising in
-    let granted : AllByRecursion (IsGranted s.specs) items =
-    subst (λ (x : Reply). AllByRecursion (IsGranted s.specs) (passed x (plan_of s task line.child line.call).items)) is
-    (passed_granted s.specs (plan_of s task line.child line.call) (call_row s task line.child line.call).payload) in
-    let copied : AllByRecursion (IsCopied s.objects) items =
-    all_passed (IsCopied s.objects) said (plan_of s task line.child line.call).items (plan_copied s (call_row s task line.child line.call)) in
-    let success : AllByRecursion (λ (item : Item). lattice_answer p (slot_of r) item ≡ Success) items = own_answer p r s.specs s.numbers items of flowing.held.pinned granted in
-    let moved : Sets = moved_by_all r s.objects sets items in
-    let moved_rows : Rows = fold (rows_moved (slot_of r) s.objects) rows items in
-    let after_checks : AreRows s.objects moved moved_rows =
-    items_rows p of.flows r s.objects flowing.held.kept.rooted.rising (all_labelled r s flowing.held) sets rows items success copied flowing.fit are in
-    given_rows r by s s' flowing.held.kept.rooted.rising step moved by.asked (rows_created (slot_of r) s.objects.next s'.objects by.caller moved_rows)
-    (λ asked one. ap (λ (x : State). x.objects.next) (after_is ∙ relabel_state s task line.child line.call said asked is one))
-    (created_rows r by s s' flowing.held.kept.rooted.rising step moved moved_rows after_checks (change_next by s s' shape))
+-- rows of sources are rows of others that are the same
+same_sets : (o : Entities) (sets sets' : Sets) (rows : Rows) → ((id : Id) → sets id ≡ sets' id) → AreRows o sets rows → AreRows o sets' rows
+same_sets o sets sets' rows same are = record { count = are.count; each = λ id e live. are.each id e live ∙ same id }
 
-done_rows : (p : LatticePolicy) (r : Registration) (s : Script) (run : RunState) (t : ℕ) (next : Option Line) (said : Reply) (sets : Sets) (rows : Rows) → IsOf p r
-    → reply_at s run t next ≡ Some said → StateChange (by_line s run t next) run.state (state_at s run t next) → IsFlowing p r run.state sets → AreRows run.state.objects sets rows
+-- what is live after checks was live before
+was_live : {caller : Option Id} {checks : List Item} (s : State) (id : Id) (found seen : Option LiveEntity) (e : LiveEntity) → HasObserved caller checks s id found seen → seen ≡ Some e
+    → (old : LiveEntity) × (found ≡ Some old)
+was_live s id _ _ e absent is = cc
+was_live s id _ _ e (unlowered old) is = (old, refl)
+was_live s id _ _ e (lowered slot old mine at process sees) is = (old, refl)
+
+call_rows : (p : FlowPolicy) (r : Registration) (s s' : State) (task : List ℕ) (line : Line) (said : Reply) (sets : Sets) (rows : Rows)
+    → call_reply s task line.child line.call ≡ said → s' ≡ call_state s task line.child line.call
+    → StateChange (deed_of s task line said) (observed s task line.child line.call) s' → IsFlowing p r s sets → AreRows s.objects sets rows
+    → AreRows s'.objects (sets_after_line r s s' task (Some line) said sets) (rows_after_line (slot_of r) r.module s s' task (Some line) said rows)
+call_rows p r s s' task line said sets rows is after_is shape flowing are =
+    same_sets s'.objects (sets_across r s1 s' by.caller (gives_element r by.asked) moved) (sets_after_line r s s' task (Some line) said sets)
+    (rows_after_line (slot_of r) r.module s s' task (Some line) said rows)
+    (λ id. same_before r s id (live_at s.objects id) (live_at s1.objects id) (live_at s'.objects id) (gives_element r by.asked id) (moved id) (set_of by.caller moved) (keeps.each id))
+    (given_rows r by s1 s' keeps.rooted.rising step moved by.asked (rows_created (slot_of r) s.objects.next s'.objects by.caller moved_rows)
+    (λ asked one. ap (λ (x : State). x.objects.next) (after_is ∙ relabel_state s task line.child line.call said asked is one))
+    (subst (λ (next : ℕ). AreRows s'.objects (sets_across r s1 s' by.caller (λ id. false) moved) (rows_created (slot_of r) next s'.objects by.caller moved_rows)) keeps.next
+    (created_rows r by s1 s' keeps.rooted.rising step moved moved_rows seen (change_next by s1 s' shape))))
+  where
+    by : Deed
+    by = deed_of s task line said
+
+    items : List Item
+    items = passed said (plan_of s task line.child line.call).items
+
+    s1 : State
+    s1 = observed s task line.child line.call
+
+    keeps : ObservingKeeps (process_named s.objects (caller_name task line.child)) (checks_passed s task line.child line.call) s s1
+    keeps = observing_keeps s s1 (observing s task line.child line.call flowing.held.kept.rooted) flowing.held.kept.rooted
+
+    step : ChangesEntities by s1 s'
+    step = changes_entities by s1 s' shape keeps.rooted.rising
+
+    moved : Sets
+    moved = moved_by_all r s.objects sets items
+
+    moved_rows : Rows
+    moved_rows = fold (rows_moved (slot_of r) s.objects) rows items
+
+    after_checks : AreRows s.objects moved moved_rows
+    after_checks =
+        items_rows r s.objects flowing.held.kept.rooted.rising (all_labelled r s flowing.held) sets rows items (fit_held p r s.objects sets flowing.fit) are
+
+    -- so they are in the state after the checks
+    seen : AreRows s1.objects moved moved_rows
+    seen =
+        record {
+          count = after_checks.count ∙ sym keeps.next;
+          each = λ id e live.
+              let was = was_live s id (live_at s.objects id) (live_at s1.objects id) e (keeps.each id) live in
+              after_checks.each id was.0 was.1;
+        }
+
+done_rows : (p : FlowPolicy) (r : Registration) (s : Script) (run : RunState) (t : ℕ) (next : Option Line) (said : Reply) (sets : Sets) (rows : Rows)
+    → reply_at s run t next ≡ Some said → IsFlowing p r run.state sets → AreRows run.state.objects sets rows
     → AreRows (state_at s run t next).objects (sets_after_line r run.state (state_at s run t next) (name_of s t) next said sets)
     (rows_after_line (slot_of r) r.module run.state (state_at s run t next) (name_of s t) next said rows)
-done_rows p r s run t None said sets rows of is shape flowing are = cc
-done_rows p r s run t (Some line) said sets rows of is shape flowing are =
+done_rows p r s run t None said sets rows is flowing are = cc
+done_rows p r s run t (Some line) said sets rows is flowing are =
     let same : call_reply run.state (name_of s t) line.child line.call ≡ said = cc in
-    call_rows p r run.state (state_at s run t (Some line)) (name_of s t) line said sets rows of same refl
-    (subst (λ (x : Reply). StateChange (deed_of run.state (name_of s t) line x) run.state (state_at s run t (Some line))) same shape) flowing are
+    call_rows p r run.state (state_at s run t (Some line)) (name_of s t) line said sets rows same refl (line_change s run t line said same flowing.held.kept.rooted) flowing are
 
-event_rows : (p : LatticePolicy) (r : Registration) (s : Script) (run : RunState) (e : Event) (sets : Sets) (rows : Rows) → IsOf p r → MayCome s run e
+event_rows : (p : FlowPolicy) (r : Registration) (s : Script) (run : RunState) (e : Event) (sets : Sets) (rows : Rows) → MayCome s run e
     → IsFlowing p r run.state sets → AreRows run.state.objects sets rows
     → AreRows (run_after s run e).state.objects (sets_after_event s r run e sets) (rows_after_event s (slot_of r) r.module run e rows)
-event_rows p r s run (event.Enter t) sets rows of may flowing are = are
-event_rows p r s run (event.Done t line said) sets rows of may flowing are =
-    done_rows p r s run t (next_line s run.progress t) said sets rows of may.2 (event_change s run (event.Done t line said) flowing.held.kept.rooted) flowing are
-event_rows p r s run (event.Leave t) sets rows of may flowing are = are
-event_rows p r s run (event.Changed t line said) sets rows of may flowing are =
+event_rows p r s run (event.Enter t) sets rows may flowing are = are
+event_rows p r s run (event.Done t line said) sets rows may flowing are = done_rows p r s run t (next_line s run.progress t) said sets rows may.2 flowing are
+event_rows p r s run (event.Leave t) sets rows may flowing are = are
+event_rows p r s run (event.Changed t line said) sets rows may flowing are =
     subst (λ (o : Entities). AreRows o sets rows) (sym (line_objects s run t (progress_at run.progress t).phase (next_line s run.progress t) may.1)) are
 
 -- Entities that are gone
@@ -105,7 +141,7 @@ pub record IsReplayed (s : Script) (es : List Event) (n : ℕ) (replay : RunView
   pub run : fold (run_after s) replay.run (drop n es) ≡ fold (run_after s) (opening_run s) es
 
 -- the sources so far, and how the rest leads to those of the history
-pub record Followed (p : LatticePolicy) (s : Script) (r : Registration) (es : List Event) (n : ℕ) (replay : RunView) (rows : Rows) : Type 0 where
+pub record Followed (p : FlowPolicy) (s : Script) (r : Registration) (es : List Event) (n : ℕ) (replay : RunView) (rows : Rows) : Type 0 where
   sets : Sets
   flows : sets_after s r replay.run sets (drop n es) ≡ sources_of s r es
   flowing : IsFlowing p r replay.run.state sets
@@ -113,7 +149,7 @@ pub record Followed (p : LatticePolicy) (s : Script) (r : Registration) (es : Li
 
 -- the same for the policy that is booted so
 pub record IsFollowed (s : Script) (r : Registration) (es : List Event) (n : ℕ) (replay : RunView) (rows : Rows) : Type 0 where
-  policy : LatticePolicy
+  policy : FlowPolicy
   of : IsOf policy r
   followed : Followed policy s r es n replay rows
 
@@ -123,7 +159,7 @@ IsFlow s es n replay f = IsFollowed s f.registration es n replay f.sets
 
 -- At the opening
 
-opening_for : (p : LatticePolicy) (s : Script) (h : History) (r : Registration) (rows : Rows) → IsWellFormed s → IsBootedFor p s r
+opening_for : (p : FlowPolicy) (s : Script) (h : History) (r : Registration) (rows : Rows) → IsWellFormed s → IsBootedFor p s r
     → AreRows (opening_state s).objects (opening_sets s r) rows → IsFollowed s r h.events.list 0 (record { script = s; run = opening_run s }) rows
 opening_for p s h r rows formed booted are =
     record {
@@ -132,7 +168,7 @@ opening_for p s h r rows formed booted are =
       followed = record { sets = opening_sets s r; flows = refl; flowing = opening_flowing p r s formed booted.of booted.pinned; kept = are };
     }
 
-opening_followed : (p : LatticePolicy) (s : Script) (h : History) (r : Registration) (es : List Event) (replay : RunView) (rows : Rows) → IsBootedFor p s r → es ≡ h.events.list → IsWellFormed s
+opening_followed : (p : FlowPolicy) (s : Script) (h : History) (r : Registration) (es : List Event) (replay : RunView) (rows : Rows) → IsBootedFor p s r → es ≡ h.events.list → IsWellFormed s
     → replay ≡ record { script = s; run = opening_run s } → AreRows (opening_state s).objects (opening_sets s r) rows → IsFollowed s r es 0 replay rows
 opening_followed p s h r es replay rows booted all formed is are =
     subst (λ (x : List Event). IsFollowed s r x 0 replay rows) (sym all)
@@ -194,13 +230,13 @@ followed_more : (s : Script) (r : Registration) (es : List Event) (n : ℕ) (rep
     → rows' ≡ rows_after_event s (slot_of r) r.module replay.run e rows → AreKept (run_after s replay.run e).state.objects rows' rows'' → IsFollowed s r es (n + 1) replay' rows''
 followed_more s r es n replay replay' rows rows' rows'' e d within replayed followed is next rows_are kept =
     let so_far = followed.followed in
-    let p : LatticePolicy = followed.policy in
+    let p : FlowPolicy = followed.policy in
     let rest : drop n es ≡ e ∷ drop (suc n) es = rest_is es n e d within is in
     let may : AllMayCome s replay.run (e ∷ drop (suc n) es) = subst (AllMayCome s replay.run) rest replayed.may in
     let place : suc n ≡ n + 1 = omega arith in
     let sets : Sets = sets_after_event s r replay.run e so_far.sets in
     let after_event : AreRows (run_after s replay.run e).state.objects sets rows' =
-    subst (AreRows (run_after s replay.run e).state.objects sets) (sym rows_are) (event_rows p r s replay.run e so_far.sets rows followed.of may.0 so_far.flowing so_far.kept) in
+    subst (AreRows (run_after s replay.run e).state.objects sets) (sym rows_are) (event_rows p r s replay.run e so_far.sets rows may.0 so_far.flowing so_far.kept) in
     subst (λ (k : ℕ). IsFollowed s r es k replay' rows'') place
     (subst (λ (x : RunView). IsFollowed s r es (suc n) x rows'') (sym next)
     (record {

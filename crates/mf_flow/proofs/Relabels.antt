@@ -19,7 +19,7 @@ use Rattle.mf_plan.specs.Views.{process_named}
 use Rattle.mf_plan.specs.Ways.{At, asked_in, target_in}
 use Rattle.mf_plan.proofs.Finding.{row_by}
 use Rattle.mf_perform.specs.Effect.{after, with_request}
-use Rattle.mf_perform.specs.OneCall.{after_reply, performed, call_reply, call_state}
+use Rattle.mf_perform.specs.OneCall.{after_reply, observed, performed, call_reply, call_state}
 use Rattle.mf_perform.proofs.Handing.{effect_there}
 use Rattle.mf_perform.proofs.StateChange.{performed_by}
 
@@ -27,17 +27,17 @@ relabel_effect : (s : State) (me : Id) (e : Effect) (asked : Id × Request) → 
 relabel_effect s me (Relabel id request) asked is = let same : (id, request) ≡ asked = cc in ap (with_request s) same
 relabel_effect s me other asked is = cc
 
-relabel_performed : (s : State) (task : List ℕ) (c : Call) (caller : Option Id) (asked : Id × Request) → relabelled_by (row_by s task c caller).effect ≡ Some asked
-    → performed_by s task c caller ≡ with_request s asked
-relabel_performed s task c None asked is = cc
-relabel_performed s task c (Some me) asked is = relabel_effect s me (row_for s task c me).effect asked is
+relabel_performed : (s s1 : State) (task : List ℕ) (c : Call) (caller : Option Id) (asked : Id × Request) → relabelled_by (row_by s task c caller).effect ≡ Some asked
+    → performed_by s s1 task c caller ≡ with_request s1 asked
+relabel_performed s s1 task c None asked is = cc
+relabel_performed s s1 task c (Some me) asked is = relabel_effect s1 me (row_for s task c me).effect asked is
 
 -- the state after a call that is done and relabels
 pub relabel_state : (s : State) (task : List ℕ) (child : Option (List ℕ)) (c : Call) (said : Reply) (asked : Id × Request) → call_reply s task child c ≡ said
-    → after_reply said None (relabelled_by (call_row s task child c).effect) ≡ Some asked → call_state s task child c ≡ with_request s asked
+    → after_reply said None (relabelled_by (call_row s task child c).effect) ≡ Some asked → call_state s task child c ≡ with_request (observed s task child c) asked
 relabel_state s task child c (reply.Ok payload) asked is one =
-    ap (λ (x : Reply). after_reply x s (performed s task child c)) is
-    ∙ relabel_performed s task c (process_named s.objects (caller_name task child)) asked one
+    ap (λ (x : Reply). after_reply x (observed s task child c) (performed s task child c)) is
+    ∙ relabel_performed s (observed s task child c) task c (process_named s.objects (caller_name task child)) asked one
 relabel_state s task child c (reply.Denied errno op item by) asked is one = cc
 relabel_state s task child c (reply.Refused errno) asked is one = cc
 

@@ -21,7 +21,7 @@ use Rattle.mf_flow.specs.Order.{union}
 use Rattle.mf_flow.specs.Rows.{AreRows, Rows, set_at, element_of, element_numbered, new_row, maker_row, rows_created, rows_given}
 use Rattle.mf_flow.specs.Sources.{Sets, element_by, held_by, own_source, has_element, set_after}
 use Rattle.mf_flow.proofs.Across.{gives_element, set_of, sets_across, is_id}
-use Rattle.mf_flow.proofs.Flowing.{same_id}
+use Rattle.mf_flow.proofs.Moves.{same_id}
 use Rattle.mf_flow.proofs.RowsKept.{first_from, former_row, last_row}
 
 -- a step gives at most one id

@@ -1,18 +1,12 @@
 -- The rows that are kept are the sources of the live entities.
-use Rattle.std.proofs.Common.{◌≡◌, ◌≢◌, ℕ, ◌<◌, ◌≤◌, ◌+◌, zero, suc, Bool, true, false, cond, nat_eq, nat_le, List, [], ◌∷◌, ◌++◌, length, set, Option, Some, None, slice_index_or, refl, ap, sym, ◌∙◌, subst, arith, length-set, get_or-set_same, get_or-set_other}
+use Rattle.std.proofs.Common.{◌≡◌, ◌≢◌, ℕ, ◌<◌, ◌≤◌, ◌+◌, zero, suc, Bool, true, false, cond, nat_eq, nat_le, List, [], ◌∷◌, ◌++◌, length, set, Option, Some, None, refl, ap, sym, ◌∙◌, subst, arith, length-set, get_or-set_same, get_or-set_other}
 use Rattle.std.specs.Prelude.{find, fold}
-use Rattle.std.specs.List.{AllByRecursion}
 use Rattle.std.proofs.lemmas.Bool.Decides.{nat_tests}
-use Rattle.mf_errno.specs.declared.errno.Errno.TheVariants.{Success}
 use Rattle.mf_elem.specs.declared.elem.Elem.{Elem}
-use Rattle.mf_elem.specs.declared.label.LabelValue.{LabelValue}
-use Rattle.mf_elem.specs.declared.label.LabelValue.TheVariants.{Unset}
 use Rattle.mf_elem.specs.Label.{is_equal}
 use Rattle.mf_item.specs.Item.{Item}
-use Rattle.mf_item.specs.declared.view.SubjectView.{SubjectView}
 use Rattle.mf_item.specs.declared.view.ObjectView.{ObjectView}
 use Rattle.mf_policy.specs.declared.registration.Registration.{Registration}
-use Rattle.mf_policy.specs.Answer.{LatticePolicy, range_label, object_slot, part_of, lattice_answer}
 use Rattle.mf_policy.specs.Operations.{row_of}
 use Rattle.mf_policy.specs.declared.operations.Movement.{Movement}
 use Rattle.mf_policy.specs.declared.operations.Movement.TheVariants.{Still, ToSubject, ToObject, BothWays}
@@ -28,37 +22,62 @@ use Rattle.mf_flow.specs.Order.{union}
 use Rattle.mf_flow.specs.Rows.{AreKept, AreRows, Rows, set_at, element_of, element_numbered, may_come, set_joined, set_received, rows_between, rows_with, rows_moved}
 use Rattle.mf_flow.specs.Sources.{Sets, element_by, held_by, received, moved, moved_by, moves_between}
 use Rattle.mf_flow.proofs.Across.{moved_with, moved_by_all, element_at, is_id}
-use Rattle.mf_flow.proofs.Orders.{IsFlowPolicy}
-use Rattle.mf_flow.proofs.Bounds.{Fit, FitBy, AllowedBy, allows}
+use Rattle.mf_flow.proofs.Orders.{FlowPolicy}
+use Rattle.mf_flow.proofs.Bounds.{Fit, FitBy, is_exempt}
 use Rattle.mf_flow.proofs.Placing.{union_nothing}
-use Rattle.mf_flow.proofs.Copies.{IsSubject, IsObject, IsCopied}
 use Rattle.mf_flow.proofs.Elements.{HasElement}
-use Rattle.mf_flow.proofs.Flowing.{AllFit, same_id, received_all, item_fit}
+use Rattle.mf_flow.proofs.Flowing.{AllFit}
+use Rattle.mf_flow.proofs.Moves.{same_id}
 
 -- each live entity has an element
 abbrev pub AllLabelled : Registration → Entities → Type 0
 AllLabelled r o = (id : Id) (e : LiveEntity) → live_at o id ≡ Some e → HasElement (element_by r e.label)
 
-module _ (p : LatticePolicy) (flows : IsFlowPolicy p) (r : Registration) (o : Entities) (rising : IsRising 0 o.next o.live) (labelled : AllLabelled r o) where
+-- a party that is exempt from sources has none
+abbrev pub AllHeld : Registration → Entities → Sets → Type 0
+AllHeld r o sets = (id : Id) → is_exempt (element_at r o id) ≡ true → sets id ≡ []
+
+-- so it is where they are fit
+pub fit_held : (p : FlowPolicy) (r : Registration) (o : Entities) (sets : Sets) → AllFit p r o sets → AllHeld r o sets
+fit_held p r o sets fit id = one (element_at r o id) (fit id)
+  where
+    one : (element : Option Elem) → Fit p element (sets id) → is_exempt element ≡ true → sets id ≡ []
+    one None none exempt = none
+    one (Some own) fit equal = subst (λ (b : Bool). FitBy p own b (sets id)) equal fit
+
+held_nothing : (element : Option Elem) (set : List Elem) → is_exempt element ≡ true → held_by element set ≡ []
+held_nothing None set exempt = refl
+held_nothing (Some own) set equal = rw equal refl
+
+received_held : (r : Registration) (o : Entities) (to : Id) (given : List Elem) (sets : Sets) → AllHeld r o sets → AllHeld r o (received r o to given sets)
+received_held r o to given sets all id = one (is_id id to) refl
+  where
+    one : (b : Bool) → is_id id to ≡ b → is_exempt (element_at r o id) ≡ true → cond b (held_by (element_at r o to) (union (sets to) given)) (sets id) ≡ []
+    one true same exempt =
+        held_nothing (element_at r o to) (union (sets to) given) (ap (λ (x : Id). is_exempt (element_at r o x)) (sym (same_id id to same)) ∙ exempt)
+    one false other exempt = all id exempt
+
+module _ (r : Registration) (o : Entities) (rising : IsRising 0 o.next o.live) (labelled : AllLabelled r o) where
   -- what a party has after something came to it
-  joined_is : (own : Elem) (b : Bool) → is_equal own ≡ b → (mine set given_row given : List Elem) → FitBy p own b set → mine ≡ set → (from : Option Elem) → Fit p from given
-      → ((x : Elem) → from ≡ Some x → given_row ≡ given) → cond (may_come (Some own) from) (union mine given_row) mine ≡ held_by (Some own) (union set given)
-  joined_is own true equal mine set given_row given none is None fit told = rw equal (is ∙ none)
-  joined_is own true equal mine set given_row given none is (Some x) fit told = rw equal (is ∙ none)
-  joined_is own false plain mine set given_row given all is None fit told = rw plain (is ∙ sym (ap (union set) fit ∙ union_nothing set))
-  joined_is own false plain mine set given_row given all is (Some x) fit told =
+  joined_is : (own : Elem) (b : Bool) → is_equal own ≡ b → (mine set given_row given : List Elem) → (b ≡ true → set ≡ []) → mine ≡ set → (from : Option Elem)
+      → (is_exempt from ≡ true → given ≡ []) → ((x : Elem) → from ≡ Some x → given_row ≡ given)
+      → cond (may_come (Some own) from) (union mine given_row) mine ≡ held_by (Some own) (union set given)
+  joined_is own true equal mine set given_row given none is None theirs told = rw equal (is ∙ none refl)
+  joined_is own true equal mine set given_row given none is (Some x) theirs told = rw equal (is ∙ none refl)
+  joined_is own false plain mine set given_row given none is None theirs told = rw plain (is ∙ sym (ap (union set) (theirs refl) ∙ union_nothing set))
+  joined_is own false plain mine set given_row given none is (Some x) theirs told =
       rw plain (ap (λ (xs : List Elem). union xs given_row) is ∙ ap (union set) (told x refl))
 
-  own_row : (sets : Sets) (rows : Rows) (to from : Id) (e : LiveEntity) (given_row given : List Elem) → AllFit p r o sets → AreRows o sets rows → live_at o to ≡ Some e
-      → Fit p (element_at r o from) given → ((giver : LiveEntity) → live_at o from ≡ Some giver → given_row ≡ given)
+  own_row : (sets : Sets) (rows : Rows) (to from : Id) (e : LiveEntity) (given_row given : List Elem) → AllHeld r o sets → AreRows o sets rows → live_at o to ≡ Some e
+      → (is_exempt (element_at r o from) ≡ true → given ≡ []) → ((giver : LiveEntity) → live_at o from ≡ Some giver → given_row ≡ given)
       → set_at (set_received (slot_of r) o rows to.0 from.0 given_row) to.0 ≡ held_by (element_at r o to) (union (sets to) given)
-  own_row sets rows to from e given_row given fit are live theirs told =
+  own_row sets rows to from e given_row given held are live theirs told =
       let has : HasElement (element_by r e.label) = labelled to e live in
       let is : element_at r o to ≡ Some has.0 = ap (λ (found : Option LiveEntity). element_by r (values_of found)) live ∙ has.1 in
       get_or-set_same rows to.0 (set_joined (slot_of r) o to.0 from.0 (set_at rows to.0) given_row) [] within
       ∙ subst (λ (element : Option Elem). cond (may_come element (element_at r o from)) (union (set_at rows to.0) given_row) (set_at rows to.0) ≡ held_by element (union (sets to) given)) (sym is)
-      (joined_is has.0 (is_equal has.0) refl (set_at rows to.0) (sets to) given_row given (subst (λ (element : Option Elem). Fit p element (sets to)) is (fit to)) (are.each to e live)
-      (element_at r o from) theirs (given_by (live_at o from) refl))
+      (joined_is has.0 (is_equal has.0) refl (set_at rows to.0) (sets to) given_row given (subst (λ (element : Option Elem). is_exempt element ≡ true → sets to ≡ []) is (held to))
+      (are.each to e live) (element_at r o from) theirs (given_by (live_at o from) refl))
     where
       within : to.0 < length rows
       within = omega (arith, are.count, find_given to e 0 o.next o.live live rising)
@@ -67,10 +86,10 @@ module _ (p : LatticePolicy) (flows : IsFlowPolicy p) (r : Registration) (o : En
       given_by None is x some = cc
       given_by (Some giver) is x some = told giver is
 
-  received_rows : (sets : Sets) (rows : Rows) (to from : Id) (given_row given : List Elem) → AllFit p r o sets → AreRows o sets rows
-      → Fit p (element_at r o from) given → ((giver : LiveEntity) → live_at o from ≡ Some giver → given_row ≡ given)
+  received_rows : (sets : Sets) (rows : Rows) (to from : Id) (given_row given : List Elem) → AllHeld r o sets → AreRows o sets rows
+      → (is_exempt (element_at r o from) ≡ true → given ≡ []) → ((giver : LiveEntity) → live_at o from ≡ Some giver → given_row ≡ given)
       → AreRows o (received r o to given sets) (set_received (slot_of r) o rows to.0 from.0 given_row)
-  received_rows sets rows to from given_row given fit are theirs told =
+  received_rows sets rows to from given_row given held are theirs told =
       record {
         count = length-set rows to.0 (set_joined (slot_of r) o to.0 from.0 (set_at rows to.0) given_row) ∙ are.count;
         each = λ id e live. one id e live (is_id id to) refl;
@@ -82,7 +101,7 @@ module _ (p : LatticePolicy) (flows : IsFlowPolicy p) (r : Registration) (o : En
           let here : id ≡ to = same_id id to same in
           let at : live_at o to ≡ Some e = ap (live_at o) (sym here) ∙ live in
           ap (λ (x : Id). set_at (set_received (slot_of r) o rows to.0 from.0 given_row) x.0) here
-          ∙ own_row sets rows to from e given_row given fit are at theirs told
+          ∙ own_row sets rows to from e given_row given held are at theirs told
       one id e live false other =
           let differ : id.0 ≢ to.0 = λ same. differs id.0 to.0 other same in
           get_or-set_other rows to.0 id.0 (set_joined (slot_of r) o to.0 from.0 (set_at rows to.0) given_row) [] differ ∙ are.each id e live
@@ -90,44 +109,43 @@ module _ (p : LatticePolicy) (flows : IsFlowPolicy p) (r : Registration) (o : En
           differs : (a b : ℕ) → nat_eq a b ≡ false → a ≡ b → ⊥
           differs a b test equal = grind (arith, nat_tests)
 
-  between_rows : (sets : Sets) (rows : Rows) (subject object : Id) (movement : Movement) → AllFit p r o sets → AllowedBy p movement (element_at r o subject) (element_at r o object)
-      → AreRows o sets rows → AreRows o (moved r o sets (moves_between subject object movement)) (rows_between (slot_of r) o rows movement subject.0 object.0)
-  between_rows sets rows subject object Still fit allowed are = are
-  between_rows sets rows subject object ToSubject fit allowed are =
-      received_rows sets rows subject object (set_at rows object.0) (sets object) fit are (fit object) (are.each object)
-  between_rows sets rows subject object ToObject fit allowed are =
-      received_rows sets rows object subject (set_at rows subject.0) (sets subject) fit are (fit subject) (are.each subject)
-  between_rows sets rows subject object BothWays fit allowed are =
+  between_rows : (sets : Sets) (rows : Rows) (subject object : Id) (movement : Movement) → AllHeld r o sets → AreRows o sets rows
+      → AreRows o (moved r o sets (moves_between subject object movement)) (rows_between (slot_of r) o rows movement subject.0 object.0)
+  between_rows sets rows subject object Still held are = are
+  between_rows sets rows subject object ToSubject held are =
+      received_rows sets rows subject object (set_at rows object.0) (sets object) held are (held object) (are.each object)
+  between_rows sets rows subject object ToObject held are =
+      received_rows sets rows object subject (set_at rows subject.0) (sets subject) held are (held subject) (are.each subject)
+  between_rows sets rows subject object BothWays held are =
       received_rows (received r o subject (sets object) sets) (set_received (slot_of r) o rows subject.0 object.0 (set_at rows object.0)) object subject (set_at rows subject.0) (sets subject)
-      (received_all p flows r o subject object (sets object) sets allowed.0 (fit object) fit)
-      (received_rows sets rows subject object (set_at rows object.0) (sets object) fit are (fit object) (are.each object))
-      (fit subject) (are.each subject)
+      (received_held r o subject (sets object) sets held)
+      (received_rows sets rows subject object (set_at rows object.0) (sets object) held are (held object) (are.each object))
+      (held subject) (are.each subject)
 
-  with_rows : (sets : Sets) (rows : Rows) (movement : Movement) (subject : SubjectView) (object : Option ObjectView) → IsSubject o subject → IsObject o object
-      → AllowedBy p movement (element_by r subject.label) (range_label (object_slot object (slot_of r))).effective → AllFit p r o sets → AreRows o sets rows
-      → AreRows o (moved_with r o (record { 0 = subject.id }) object sets movement) (rows_with (slot_of r) o rows movement subject.id object)
-  with_rows sets rows movement subject None own theirs allowed fit are = are
-  with_rows sets rows movement subject (Some object) own theirs allowed fit are =
-      between_rows sets rows (record { 0 = subject.id }) (record { 0 = object.id }) movement fit
-      (subst (λ (label : List LabelValue). AllowedBy p movement (element_by r label) (element_at r o (record { 0 = object.id }))) own
-      (subst (λ (label : List LabelValue). AllowedBy p movement (element_by r subject.label) (element_by r label)) theirs allowed))
-      are
+  between_held : (sets : Sets) (subject object : Id) (movement : Movement) → AllHeld r o sets → AllHeld r o (moved r o sets (moves_between subject object movement))
+  between_held sets subject object Still held = held
+  between_held sets subject object ToSubject held = received_held r o subject (sets object) sets held
+  between_held sets subject object ToObject held = received_held r o object (sets subject) sets held
+  between_held sets subject object BothWays held =
+      received_held r o object (sets subject) (received r o subject (sets object) sets) (received_held r o subject (sets object) sets held)
 
-  -- a check that the policy passes
-  item_rows : (sets : Sets) (rows : Rows) (item : Item) → lattice_answer p (slot_of r) item ≡ Success → IsCopied o item → AllFit p r o sets → AreRows o sets rows
-      → AreRows o (moved_by r o sets item) (rows_moved (slot_of r) o rows item)
-  item_rows sets rows item success copied fit are =
-      with_rows sets rows (row_of item.op).movement item.subject item.object copied.0 copied.1
-      (allows p flows (range_label (slice_index_or item.subject.label (slot_of r) Unset)) (part_of p item.request) item.op (element_by r item.subject.label)
-      (range_label (object_slot item.object (slot_of r))).effective success)
-      fit are
+  with_rows : (sets : Sets) (rows : Rows) (movement : Movement) (subject : ℕ) (object : Option ObjectView) → AllHeld r o sets → AreRows o sets rows
+      → AreRows o (moved_with r o (record { 0 = subject }) object sets movement) (rows_with (slot_of r) o rows movement subject object)
+  with_rows sets rows movement subject None held are = are
+  with_rows sets rows movement subject (Some object) held are = between_rows sets rows (record { 0 = subject }) (record { 0 = object.id }) movement held are
 
-  pub items_rows : (sets : Sets) (rows : Rows) (items : List Item) → AllByRecursion (λ item. lattice_answer p (slot_of r) item ≡ Success) items → AllByRecursion (IsCopied o) items
-      → AllFit p r o sets → AreRows o sets rows → AreRows o (moved_by_all r o sets items) (fold (rows_moved (slot_of r) o) rows items)
-  items_rows sets rows [] success copied fit are = are
-  items_rows sets rows (item ∷ items) success copied fit are =
-      items_rows (moved_by r o sets item) (rows_moved (slot_of r) o rows item) items success.1 copied.1
-      (item_fit p flows r o sets item success.0 copied.0 fit) (item_rows sets rows item success.0 copied.0 fit are)
+  with_held : (sets : Sets) (movement : Movement) (subject : Id) (object : Option ObjectView) → AllHeld r o sets → AllHeld r o (moved_with r o subject object sets movement)
+  with_held sets movement subject None held = held
+  with_held sets movement subject (Some object) held = between_held sets subject (record { 0 = object.id }) movement held
+
+  -- checks that passed
+  pub items_rows : (sets : Sets) (rows : Rows) (items : List Item) → AllHeld r o sets → AreRows o sets rows
+      → AreRows o (moved_by_all r o sets items) (fold (rows_moved (slot_of r) o) rows items)
+  items_rows sets rows [] held are = are
+  items_rows sets rows (item ∷ items) held are =
+      items_rows (moved_by r o sets item) (rows_moved (slot_of r) o rows item) items
+      (with_held sets (row_of item.op).movement (record { 0 = item.subject.id }) item.object held)
+      (with_rows sets rows (row_of item.op).movement item.subject.id item.object held are)
 
 -- The first from a number on
 

@@ -12,13 +12,14 @@ ghost use Rattle.mf_flow.specs.Rows as spec;
 ghost use Rattle.mf_flow.specs.Sources.{own_source, held_by};
 
 use crate::elem_set::ElemSet;
-use crate::moving::{move_all, passed};
+use crate::moving::move_all;
 use crate::relabelling::{asked_of, give};
 use crate::set_list::{SetList, sweep};
 use mf_calls::Script;
 use mf_core::{Event, Run};
 use mf_elem::{Elem, Request};
 use mf_objects::{Id, Objects};
+use mf_perform::passed;
 use mf_plan::{Check, LastLabel, outline_of};
 use mf_policy::{Registration, slot_label};
 use std::alloc::{AllocError, Global};

@@ -3,7 +3,6 @@ ghost use Rattle.std.specs.Prelude.{◌≡◌, ◌<◌, fold, map, unwrap_or, If
 ghost use Rattle.mf_elem.specs.declared.label.TheConstants.{SLOTS};
 ghost use Rattle.mf_plan.specs.Outline.{item_of};
 ghost use Rattle.mf_policy.specs.Operations.{row_of};
-ghost use Rattle.mf_perform.specs.Passed as spec;
 ghost use Rattle.mf_flow.specs.Rows as rows;
 
 use crate::elem_set::{ElemSet, has_all};
@@ -11,7 +10,7 @@ use crate::set_list::SetList;
 use mf_elem::Elem;
 use mf_item::CheckOp;
 use mf_objects::Objects;
-use mf_plan::{Check, Reply};
+use mf_plan::Check;
 use mf_policy::{Movement, row_of, slot_label};
 use std::alloc::{AllocError, Global};
 
@@ -150,23 +149,6 @@ fn move_by(
             check.subject.number(),
             object.number(),
         ),
-    }
-}
-
-/// The checks that passed, by the reply.
-pub fn passed<'a>(reply: &Reply, checks: &'a [Check]) -> &'a [Check]
-    ensures { result.now ≡ spec.passed reply.now checks.now }
-{
-    match reply {
-        Reply::Denied { item, .. } => {
-            let passed = (*item as usize).saturating_sub(1);
-            if passed < checks.len() {
-                &checks[..passed]
-            } else {
-                checks
-            }
-        }
-        Reply::Ok(_) | Reply::Refused(_) => checks,
     }
 }
 

@@ -38,11 +38,11 @@ pub struct Row {
     pub elements: ElemSet,
 }
 
-/// Rows for mac_biba where it was booted, and then for mac_mls, of the live entities by rising id.
+/// Rows for mac_biba where it was booted, then for mac_mls, and then for mac_lomac, of the live entities by rising id.
 pub type Table = Listing<Row>;
 
-/// The sources of each live entity at the end of a legal history. Under mac_biba each of them dominates the entity's element,
-/// and under mac_mls the element dominates each.
+/// The sources of each live entity at the end of a legal history. Under mac_biba and mac_lomac each of them dominates the
+/// entity's element, and under mac_mls the element dominates each.
 pub fn sources(alloc: Global, script: &Script, history: &History) -> Result<Table, AllocError>
     requires formed { IsWellFormed script.now }
     requires legal { IsLegal script.now history.now }
@@ -64,6 +64,7 @@ fn sourced(alloc: Global, boots: &BootList) -> Result<Vec<Registration>, AllocEr
     let mut booted = Vec::new(alloc);
     push_booted(boots, Module::Biba, &mut booted)?;
     push_booted(boots, Module::Mls, &mut booted)?;
+    push_booted(boots, Module::Lomac, &mut booted)?;
     Ok(booted)
 }
 

@@ -10,7 +10,7 @@ use Rattle.mf_plan.specs.Names.{caller_name}
 use Rattle.mf_plan.specs.Outline.{item_asking, item_of}
 use Rattle.mf_plan.specs.declared.state.State.{State}
 use Rattle.mf_objects.specs.Live.{Entities}
-use Rattle.mf_plan.specs.Plan.{plan_of}
+use Rattle.mf_plan.specs.Plan.{call_row, plan_in, plan_of}
 use Rattle.mf_plan.specs.Views.{process_named}
 use Rattle.mf_perform.specs.OneCall.{after_reply}
 use Rattle.mf_core.specs.declared.history.Event.{Event}
@@ -48,12 +48,12 @@ returns-in_ok-commit-in-Done-clause-flows c =
     let after_is : state' ≡ (run_after s run e).state =
     c.state.ensures ∙ ap (λ (x : RunView). x.run.state) c.in_ok-commit-in-Done.ensures.ok ∙ ap (λ (x : Event). (run_after c.args.run.now.script run x).state) (sym c.in-Done.is)
     ∙ ap (λ (x : Script). (run_after x run e).state) c.requires.script in
-    let items_are : map (item_asking state.objects request) checks ≡ passed c.in-Done.reply (plan_of state task line.child line.call).items =
+    let items_are : map (item_asking state.objects request) checks ≡ passed c.in-Done.reply (plan_in state (call_row state task line.child line.call)).items =
     ap (map (item_asking state.objects request)) (c.passed-checks.ensures ∙ ap (λ xs. passed c.get-said.result.now xs) c.as_slice.ensures.value
     ∙ ap (λ (said : Reply). passed said outline.checks) said_is)
     ∙ sym (passed_map c.in-Done.reply (item_asking state.objects request) outline.checks)
     ∙ ap (λ (p : Plan). passed c.in-Done.reply p.items) c.outline_of-outline.ensures.plan
-    ∙ ap (λ (child : Option (List ℕ)). passed c.in-Done.reply (plan_of state task child line.call).items) c.child_name.ensures in
+    ∙ ap (λ (child : Option (List ℕ)). passed c.in-Done.reply (plan_in state (call_row state task child line.call)).items) c.child_name.ensures in
     let caller_is = c.outline_of-outline.ensures.caller ∙ ap (λ (child : Option (List ℕ)). process_named state.objects (caller_name task child)) c.child_name.ensures in
     let asked_is =
     c.asked_of-asked.ensures ∙ ap (λ (said : Reply). after_reply said None (option_zip outline.found.target request)) said_is
