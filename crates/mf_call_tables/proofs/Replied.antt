@@ -1,17 +1,13 @@
 -- The reply to a call, by its plan and the verdict on it.
-use Rattle.std.proofs.Common.{ℕ, ◌≡◌, true, List, Option, Some, None, refl, ap, ◌∙◌}
+use Rattle.std.proofs.Common.{ℕ, ◌≡◌, List, Option, ap, ◌∙◌}
 use Rattle.mf_calls.specs.declared.script.Call.{Call}
 use Rattle.mf_plan.specs.Plan.{plan_of, call_row}
 use Rattle.mf_plan.specs.Planned.{Plan}
-use Rattle.mf_plan.specs.declared.plan.Tail.{Tail}
-use Rattle.mf_plan.specs.declared.plan.Tail.TheVariants.{Do, Refuse}
 use Rattle.mf_plan.specs.declared.reply.Payload.{Payload}
 use Rattle.mf_plan.specs.declared.state.State.{State}
-use Rattle.mf_perform.specs.declared.verdict.Denial.{Denial}
 use Rattle.mf_perform.specs.declared.verdict.Verdict.{Verdict}
 use Rattle.mf_perform.specs.OneCall.{call_reply}
-use Rattle.mf_perform.specs.Refused.{is_ok}
-use Rattle.mf_perform.specs.Reply.{tail_reply, reply_to}
+use Rattle.mf_perform.specs.Reply.{reply_to}
 use Rattle.mf_perform.specs.Verdict.{verdict_of}
 
 pub by_call : (s : State) (task : List ℕ) (child : Option (List ℕ)) (c : Call) (plan : Plan) (verdict : Verdict) → plan ≡ plan_of s task child c
@@ -19,12 +15,3 @@ pub by_call : (s : State) (task : List ℕ) (child : Option (List ℕ)) (c : Cal
 by_call s task child c plan verdict planned judged =
     let p : Payload = (call_row s task child c).payload in
     ap (λ (v : Verdict). reply_to plan v.denied p) judged ∙ ap (λ (q : Plan). reply_to q (verdict_of s.specs q).denied p) planned
-
--- the plan of a call that is done ends with no refusal
-pub proceeds : (plan : Plan) (denied : Option Denial) (p : Payload) → is_ok (reply_to plan denied p) ≡ true → plan.tail ≡ Do
-proceeds plan None p done = by_tail plan.tail done
-  where
-    by_tail : (tail : Tail) → is_ok (tail_reply tail p) ≡ true → tail ≡ Do
-    by_tail Do is = refl
-    by_tail (Refuse errno) is = cc
-proceeds plan (Some denial) p done = cc

@@ -1,12 +1,13 @@
 //! Calls of t and its child c where mac_biba is listed: what they make, and what the policy refuses. There is nothing but the
 //! root, which is high, the process t and the process u.
-ghost use Rattle.std.specs.Prelude.{◌≡◌, ◌≤◌, IfOk, length};
+ghost use Rattle.std.specs.Prelude.{◌≡◌, ◌≤◌, IfOk, length, true};
 ghost use Rattle.mf_policy.specs.declared.registration.TheConstants.{MOST_LISTED};
 ghost use Rattle.mf_calls.specs.WellFormed.{IsFormedLine, IsName};
 ghost use Rattle.mf_plan.specs.declared.plan.Tail.TheVariants.{Do};
 ghost use Rattle.mf_plan.specs.Found.{AreFound};
 ghost use Rattle.mf_plan.specs.Plan.{plan_of};
 ghost use Rattle.mf_perform.specs.OneCall.{call_reply};
+ghost use Rattle.mf_perform.specs.Refused.{is_ok};
 ghost use Rattle.mf_perform.specs.Verdict.{verdict_of};
 
 use crate::scripts::{only_line, script_of};
@@ -124,13 +125,16 @@ fn reply_by(
         → AreFound state.now task.now line.now.child line.now.call found.now }
     requires verdict { verdict.now ≡ verdict_of state.now.specs plan.now }
     requires few { length state.now.specs ≤ MOST_LISTED }
-    ensures { IfOk result (λ reply. reply
+    ensures reply { IfOk result (λ reply. reply
         ≡ call_reply state.now task.now line.now.child line.now.call) }
+    ensures found { IfOk result (λ reply. is_ok reply ≡ true
+        → AreFound state.now task.now line.now.child line.now.call found.now) }
 {
-    match refusal_of(plan, verdict) {
-        Some(refusal) => Ok(refusal),
-        None => Ok(Reply::Ok(payload_of(alloc, state, found, &line.call)?)),
+    if let Some(refusal) = refusal_of(plan, verdict) {
+        return Ok(refusal);
     }
+    let payload = payload_of(alloc, state, found, &line.call)?;
+    Ok(Reply::Ok(payload))
 }
 
 /// Makes of the state what the call of the line makes of it, where the policies are those of the state, and replies to it. It is no
