@@ -1,8 +1,8 @@
 #!/bin/sh
 # Runs each script of examples/, and holds tools/annotate to what is printed: without what it adds its text is the history, and for each denial
 # the number and the operation of the last of the checks that it derives are those of the reply, and a cause of the manual stands below.
-# Then the whole text of one example, that a subject is shown as it was lowered, and that it says what is wrong with an input, and prints nothing of it. A line for each failure, then a
-# count.
+# Then the whole text of one example, that a subject is shown as it was lowered, and that it says what is wrong with an input, and prints
+# nothing of it. A line for each failure, then a count.
 . "$(dirname "$0")/counting"
 
 # Whether below each denial stand its checks, as many as its number says and the last with its operation, and a cause. Prints how many.
