@@ -7,7 +7,7 @@ use Rattle.mf_errno.specs.Errno.{number_of, errno_named}
 use Rattle.mf_errno.specs.Same.{is_same}
 use Rattle.mf_errno.specs.Names.{error_text, all_errors}
 use Rattle.mf_errno.specs.declared.errno.Errno.{Errno}
-use Rattle.mf_errno.specs.declared.errno.Errno.TheVariants.{Success, Eperm, Enoent, Esrch, Edeadlk, Enomem, Eacces, Ebusy, Eexist, Enotdir, Eisdir, Einval, Enfile, Efbig, Eagain, Enobufs, Enotempty}
+use Rattle.mf_errno.specs.declared.errno.Errno.TheVariants.{Success, Eperm, Enoent, Esrch, Ebadf, Edeadlk, Enomem, Eacces, Ebusy, Eexist, Enotdir, Eisdir, Einval, Enfile, Emfile, Efbig, Eagain, Enobufs, Enotempty}
 use Rattle.mf_errno.proofs.Modules.{differs}
 
 errno_numbered : ℕ → Option Errno
@@ -19,6 +19,7 @@ own_number Success = refl
 own_number Eperm = refl
 own_number Enoent = refl
 own_number Esrch = refl
+own_number Ebadf = refl
 own_number Edeadlk = refl
 own_number Enomem = refl
 own_number Eacces = refl
@@ -28,6 +29,7 @@ own_number Enotdir = refl
 own_number Eisdir = refl
 own_number Einval = refl
 own_number Enfile = refl
+own_number Emfile = refl
 own_number Efbig = refl
 own_number Eagain = refl
 own_number Enobufs = refl
@@ -40,6 +42,7 @@ own_name Success = refl
 own_name Eperm = refl
 own_name Enoent = refl
 own_name Esrch = refl
+own_name Ebadf = refl
 own_name Edeadlk = refl
 own_name Enomem = refl
 own_name Eacces = refl
@@ -49,6 +52,7 @@ own_name Enotdir = refl
 own_name Eisdir = refl
 own_name Einval = refl
 own_name Enfile = refl
+own_name Emfile = refl
 own_name Efbig = refl
 own_name Eagain = refl
 own_name Enobufs = refl
@@ -73,6 +77,7 @@ is_same-refl Success = refl
 is_same-refl Eperm = refl
 is_same-refl Enoent = refl
 is_same-refl Esrch = refl
+is_same-refl Ebadf = refl
 is_same-refl Edeadlk = refl
 is_same-refl Enomem = refl
 is_same-refl Eacces = refl
@@ -82,6 +87,7 @@ is_same-refl Enotdir = refl
 is_same-refl Eisdir = refl
 is_same-refl Einval = refl
 is_same-refl Enfile = refl
+is_same-refl Emfile = refl
 is_same-refl Efbig = refl
 is_same-refl Eagain = refl
 is_same-refl Enobufs = refl

@@ -1,7 +1,7 @@
 -- The numbers of the errors, as errno(2) has them.
 use Rattle.std.specs.Prelude.{◌≡◌, ℕ, List, Option, find}
 use Rattle.mf_errno.specs.declared.errno.Errno.{Errno}
-use Rattle.mf_errno.specs.declared.errno.Errno.TheVariants.{Success, Eperm, Enoent, Esrch, Edeadlk, Enomem, Eacces, Ebusy, Eexist, Enotdir, Eisdir, Einval, Enfile, Efbig, Eagain, Enobufs, Enotempty}
+use Rattle.mf_errno.specs.declared.errno.Errno.TheVariants.{Success, Eperm, Enoent, Esrch, Ebadf, Edeadlk, Enomem, Eacces, Ebusy, Eexist, Enotdir, Eisdir, Einval, Enfile, Emfile, Efbig, Eagain, Enobufs, Enotempty}
 use Rattle.mf_errno.specs.Names.{error_text, all_errors}
 use Rattle.std.specs.Str.{bytes_eq}
 
@@ -11,6 +11,7 @@ number_of Success = 0
 number_of Eperm = 1
 number_of Enoent = 2
 number_of Esrch = 3
+number_of Ebadf = 9
 number_of Edeadlk = 11
 number_of Enomem = 12
 number_of Eacces = 13
@@ -20,6 +21,7 @@ number_of Enotdir = 20
 number_of Eisdir = 21
 number_of Einval = 22
 number_of Enfile = 23
+number_of Emfile = 24
 number_of Efbig = 27
 number_of Eagain = 35
 number_of Enobufs = 55

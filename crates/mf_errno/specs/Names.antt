@@ -3,7 +3,7 @@
 use Rattle.std.specs.Prelude.{ℕ, List, [], ◌∷◌, ◌++◌, Option, find, codes}
 use Rattle.std.specs.Str.{bytes_eq}
 use Rattle.mf_errno.specs.declared.errno.Errno.{Errno}
-use Rattle.mf_errno.specs.declared.errno.Errno.TheVariants.{Success, Eperm, Enoent, Esrch, Edeadlk, Enomem, Eacces, Ebusy, Eexist, Enotdir, Eisdir, Einval, Enfile, Efbig, Eagain, Enobufs, Enotempty}
+use Rattle.mf_errno.specs.declared.errno.Errno.TheVariants.{Success, Eperm, Enoent, Esrch, Ebadf, Edeadlk, Enomem, Eacces, Ebusy, Eexist, Enotdir, Eisdir, Einval, Enfile, Emfile, Efbig, Eagain, Enobufs, Enotempty}
 use Rattle.mf_errno.specs.declared.module.Module.{Module}
 use Rattle.mf_errno.specs.declared.module.Module.TheVariants.{Biba, Mls, Lomac, Partition, Bsdextended, Priority}
 
@@ -12,6 +12,7 @@ error_text Success = codes "ok"
 error_text Eperm = codes "EPERM"
 error_text Enoent = codes "ENOENT"
 error_text Esrch = codes "ESRCH"
+error_text Ebadf = codes "EBADF"
 error_text Edeadlk = codes "EDEADLK"
 error_text Enomem = codes "ENOMEM"
 error_text Eacces = codes "EACCES"
@@ -21,6 +22,7 @@ error_text Enotdir = codes "ENOTDIR"
 error_text Eisdir = codes "EISDIR"
 error_text Einval = codes "EINVAL"
 error_text Enfile = codes "ENFILE"
+error_text Emfile = codes "EMFILE"
 error_text Efbig = codes "EFBIG"
 error_text Eagain = codes "EAGAIN"
 error_text Enobufs = codes "ENOBUFS"
@@ -28,7 +30,7 @@ error_text Enotempty = codes "ENOTEMPTY"
 
 -- all of them, by their numbers
 abbrev pub all_errors : List Errno
-all_errors = Success ∷ Eperm ∷ Enoent ∷ Esrch ∷ Edeadlk ∷ Enomem ∷ Eacces ∷ Ebusy ∷ Eexist ∷ Enotdir ∷ Eisdir ∷ Einval ∷ Enfile ∷ Efbig ∷ Eagain ∷ Enobufs ∷ Enotempty ∷ []
+all_errors = Success ∷ Eperm ∷ Enoent ∷ Esrch ∷ Ebadf ∷ Edeadlk ∷ Enomem ∷ Eacces ∷ Ebusy ∷ Eexist ∷ Enotdir ∷ Eisdir ∷ Einval ∷ Enfile ∷ Emfile ∷ Efbig ∷ Eagain ∷ Enobufs ∷ Enotempty ∷ []
 
 -- the policy of a module, as label texts name it
 abbrev pub policy_text : Module → List ℕ

@@ -1,7 +1,7 @@
 use Rattle.std.proofs.Common.{◌≢◌, sym}
 use Rattle.mf_errno.specs.Names.{error_text}
 use Rattle.mf_errno.specs.declared.errno.Errno.{Errno}
-use Rattle.mf_errno.specs.declared.errno.Errno.TheVariants.{Success, Eperm, Enoent, Esrch, Edeadlk, Enomem, Eacces, Ebusy, Eexist, Enotdir, Eisdir, Einval, Enfile, Efbig, Eagain, Enobufs, Enotempty}
+use Rattle.mf_errno.specs.declared.errno.Errno.TheVariants.{Success, Eperm, Enoent, Esrch, Ebadf, Edeadlk, Enomem, Eacces, Ebusy, Eexist, Enotdir, Eisdir, Einval, Enfile, Emfile, Efbig, Eagain, Enobufs, Enotempty}
 use Rattle.mf_errno.proofs.Errors.{no_name}
 use Rattle.mf_errno.proofs.errno.Errno.from_name.Goals as goal
 
@@ -14,6 +14,7 @@ returns-in_default c =
       | Eperm ↦ other.not-EPERM
       | Enoent ↦ other.not-ENOENT
       | Esrch ↦ other.not-ESRCH
+      | Ebadf ↦ other.not-EBADF
       | Edeadlk ↦ other.not-EDEADLK
       | Enomem ↦ other.not-ENOMEM
       | Eacces ↦ other.not-EACCES
@@ -23,6 +24,7 @@ returns-in_default c =
       | Eisdir ↦ other.not-EISDIR
       | Einval ↦ other.not-EINVAL
       | Enfile ↦ other.not-ENFILE
+      | Emfile ↦ other.not-EMFILE
       | Efbig ↦ other.not-EFBIG
       | Eagain ↦ other.not-EAGAIN
       | Enobufs ↦ other.not-ENOBUFS
