@@ -8,7 +8,7 @@ mod name;
 mod path;
 
 pub use bytes::Bytes;
-pub use limits::{CONTENT_LIMIT, NAME_LIMIT, PATH_LIMIT, SCRIPT_LIMIT};
+pub use limits::{CONTENT_LIMIT, MOST_DESCRIPTORS, NAME_LIMIT, PATH_LIMIT, SCRIPT_LIMIT};
 pub use listing::Listing;
 pub use name::{Name, NameList, Word};
 pub use path::{Components, Path};
