@@ -62,13 +62,13 @@ line_is k i number number' call is next drawn_is =
 
 pub generated_is : (n t : ℕ) (boots : List Module) (files : List FileLine) (tasks : List Task) (steps : List Step)
     → boots ≡ Biba ∷ [] → files ≡ load_files t → tasks ≡ load_tasks n t → steps ≡ []
-    → record { boots = boots; files = files; tasks = tasks; steps = steps } ≡ generated n t
+    → record { boots = boots; revocation = false; files = files; tasks = tasks; steps = steps } ≡ generated n t
 unfolding generated
 generated_is n t boots files tasks steps booted filed tasked stepped =
-    ap (λ (b : List Module). record { boots = b; files = files; tasks = tasks; steps = steps }) booted
-    ∙ ap (λ (f : List FileLine). record { boots = Biba ∷ []; files = f; tasks = tasks; steps = steps }) filed
-    ∙ ap (λ (ts : List Task). record { boots = Biba ∷ []; files = load_files t; tasks = ts; steps = steps }) tasked
-    ∙ ap (λ (ss : List Step). record { boots = Biba ∷ []; files = load_files t; tasks = load_tasks n t; steps = ss }) stepped
+    ap (λ (b : List Module). record { boots = b; revocation = false; files = files; tasks = tasks; steps = steps }) booted
+    ∙ ap (λ (f : List FileLine). record { boots = Biba ∷ []; revocation = false; files = f; tasks = tasks; steps = steps }) filed
+    ∙ ap (λ (ts : List Task). record { boots = Biba ∷ []; revocation = false; files = load_files t; tasks = ts; steps = steps }) tasked
+    ∙ ap (λ (ss : List Step). record { boots = Biba ∷ []; revocation = false; files = load_files t; tasks = load_tasks n t; steps = ss }) stepped
 
 pub line_more : (k i number number' : ℕ) (call : Call) (lines lines' : List Line) → lines ≡ load_lines k i → number ≡ number_at k i → number' ≡ next_in_sequence number
     → call ≡ call_of k (drawn number') → lines' ≡ lines ++ record { child = None; call = call } ∷ [] → lines' ≡ load_lines k (i + 1)

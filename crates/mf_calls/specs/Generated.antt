@@ -134,4 +134,4 @@ load_tasks n (suc k) = load_tasks n k ++ load_task n k ∷ []
 
 -- the script of so many tasks with so many lines each
 unfoldable pub generated : ℕ → ℕ → Script
-generated n t = record { boots = Biba ∷ []; files = load_files t; tasks = load_tasks n t; steps = [] }
+generated n t = record { boots = Biba ∷ []; revocation = false; files = load_files t; tasks = load_tasks n t; steps = [] }

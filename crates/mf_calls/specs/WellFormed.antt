@@ -1,5 +1,5 @@
 -- Which scripts are well formed, by the grammar and the limits of docs/MANUAL.md (THE SCRIPT, LIMITS).
-use Rattle.std.specs.Prelude.{◌≡◌, ◌≢◌, ℕ, ◌<◌, ◌≤◌, true, IsTrue, List, [], ◌∷◌, ◌++◌, length, IfSome, All, AllPairs}
+use Rattle.std.specs.Prelude.{◌≡◌, ◌≢◌, ℕ, ◌<◌, ◌≤◌, true, ◌||◌, IsTrue, List, [], ◌∷◌, ◌++◌, length, IfSome, All, AllPairs}
 use Rattle.std.specs.List.{sum_by, count_by}
 use Rattle.std.specs.Char.{is_ascii_graphic}
 use Rattle.mf_errno.specs.declared.module.Module.{Module}
@@ -21,7 +21,7 @@ use Rattle.mf_calls.specs.Paths.{directory_of, has_directory}
 use Rattle.mf_calls.specs.Tasks.{lists_rules}
 use Rattle.mf_calls.specs.Boots.{may_ask_for}
 use Rattle.mf_calls.specs.declared.limits.TheConstants.{FILE_LIMIT, TASK_LIMIT, LINE_LIMIT, RULE_LIST_LIMIT, STEP_LIMIT, MODE_LIMIT, UID_MAX}
-use Rattle.mf_names.specs.declared.limits.TheConstants.{CONTENT_LIMIT, PATH_LIMIT, SCRIPT_LIMIT}
+use Rattle.mf_names.specs.declared.limits.TheConstants.{CONTENT_LIMIT, MOST_DESCRIPTORS, PATH_LIMIT, SCRIPT_LIMIT}
 use Rattle.mf_cred.specs.declared.cred.TheConstants.{MOST_GROUPS}
 
 -- some, all or none of the modules, each at most once, in any order
@@ -110,6 +110,10 @@ IsFormedCall (call.Setfmac label path) = IsWord label × IsPath path
 IsFormedCall (call.Readdir path) = IsPath path
 IsFormedCall (call.Chmod path mode) = IsPath path × (mode ≤ MODE_LIMIT)
 IsFormedCall (call.Unlink path) = IsPath path
+IsFormedCall (call.OpenFd path read write) = IsPath path × ((read || write) ≡ true)
+IsFormedCall (call.Fread n) = n < MOST_DESCRIPTORS
+IsFormedCall (call.Fwrite n text) = (n < MOST_DESCRIPTORS) × IsText SCRIPT_LIMIT text
+IsFormedCall (call.Close n) = n < MOST_DESCRIPTORS
 IsFormedCall (call.Pipe name) = IsName name
 IsFormedCall (call.Socket name) = IsName name
 IsFormedCall (call.Pread name) = IsName name

@@ -30,6 +30,7 @@ pub fn generate(alloc: Global, lines: u32, tasks: u32) -> Result<Script, AllocEr
     let tasks = load_tasks(alloc, lines, tasks)?;
     Ok(Script {
         boots,
+        revocation: false,
         files,
         tasks,
         steps: Listing::new(alloc),

@@ -7,6 +7,7 @@ mod limits;
 mod names;
 mod paths;
 mod script;
+mod tunable;
 
 pub use boots::{is_booted, may_ask_for};
 pub use generated::generate;
@@ -22,3 +23,4 @@ pub use mf_names::{
 pub use names::{is_component, is_name};
 pub use paths::{directory_of, is_same_path};
 pub use script::{Call, FileLine, Line, Script, Step, StepKind, Task};
+pub use tunable::{revocation_name, switch};

@@ -54,6 +54,14 @@ pub enum Call {
     Chmod(Path, u16),
     /// Removes the file, or the directory without entries.
     Unlink(Path),
+    /// Opens the file under the lowest free number: for reading, for writing, or for both.
+    OpenFd(Path, bool, bool),
+    /// Reads the whole file that is open under the number.
+    Fread(u32),
+    /// Appends the bytes to the file that is open under the number.
+    Fwrite(u32, Bytes<SCRIPT_LIMIT>),
+    /// Closes the descriptor of the number.
+    Close(u32),
     /// Makes a pipe.
     Pipe(Name),
     /// Makes a socket.
@@ -172,11 +180,12 @@ pub struct Step {
     pub task: Name,
 }
 
-/// A script: the modules in the order in which they are booted, the files, the tasks, and the steps, which fix the order of
-/// what the tasks do.
+/// A script: the modules in the order in which they are booted, whether mac_biba, where it is booted, tests each transfer through
+/// a descriptor, the files, the tasks, and the steps, which fix the order of what the tasks do.
 #[derive(Drop)]
 pub struct Script {
     pub boots: Listing<Module>,
+    pub revocation: bool,
     pub files: Listing<FileLine>,
     pub tasks: Listing<Task>,
     pub steps: Listing<Step>,
