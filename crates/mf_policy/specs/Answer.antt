@@ -27,7 +27,7 @@ use Rattle.mf_policy.specs.declared.operations.Test.TheVariants.{Observe, Modify
 use Rattle.mf_policy.specs.declared.operations.PartitionTest.{PartitionTest}
 use Rattle.mf_policy.specs.declared.operations.PartitionTest.TheVariants.{Agree, Join, Ignore}
 use Rattle.mf_policy.specs.Modules.{range_asked, number_asked, partition_of}
-use Rattle.mf_policy.specs.Operations.{row_of}
+use Rattle.mf_policy.specs.Operations.{is_transfer, row_of}
 use Rattle.mf_policy.specs.Relabel.{credential_relabel, object_relabel}
 
 -- A policy whose labels have elements: whether a subject of one element may observe and may modify an object of another, and which part of a
@@ -156,9 +156,18 @@ rules_answer rules first item =
     option_map_or (λ letters. errno_unless (verdict first rules item.subject.cred (attributes_of item.object) letters) Eacces)
     (row_of item.op).letters Success
 
+-- whether a policy of this spec tests each transfer of bytes through an open file, and not its opening alone
+abbrev pub tests_transfers : Spec → Bool
+tests_transfers (means.Biba revocation) = revocation
+tests_transfers means.Mls = true
+tests_transfers means.Lomac = true
+tests_transfers means.Partition = true
+tests_transfers (means.Bsdextended rules first) = true
+tests_transfers means.Priority = true
+
 -- what a policy of this spec, which holds this slot, answers to an item
 abbrev pub answer : Spec → ℕ → Item → Errno
-answer means.Biba slot item = lattice_answer biba slot item
+answer (means.Biba revocation) slot item = if is_transfer item.op && not revocation then Success else lattice_answer biba slot item
 answer means.Mls slot item = lattice_answer mls slot item
 answer means.Lomac slot item = lattice_answer lomac slot item
 answer means.Partition slot item = partition_answer slot item

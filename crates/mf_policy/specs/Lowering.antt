@@ -1,5 +1,5 @@
 -- What a subject becomes by what it observes: mac_lomac(4) lowers it to the element of each object that doesn't dominate it.
-use Rattle.std.specs.Prelude.{ℕ, Bool, true, false, if◌then◌else◌, List, fold, find, Option, Some, option_and_then}
+use Rattle.std.specs.Prelude.{ℕ, Bool, true, false, if◌then◌else◌, List, fold, Option, Some}
 use Rattle.mf_errno.specs.declared.module.Module.TheVariants as modules
 use Rattle.mf_elem.specs.declared.elem.Elem.{Elem}
 use Rattle.mf_elem.specs.declared.label.LabelValue.{LabelValue}
@@ -10,7 +10,7 @@ use Rattle.mf_policy.specs.declared.operations.Movement.{Movement}
 use Rattle.mf_policy.specs.declared.operations.Movement.TheVariants.{ToSubject, BothWays}
 use Rattle.mf_policy.specs.Answer.{object_slot, range_label}
 use Rattle.mf_policy.specs.Operations.{row_of}
-use Rattle.mf_policy.specs.Registration.{Entry, is_of}
+use Rattle.mf_policy.specs.Registration.{Entry, slot_in}
 
 -- What remains of a subject's element after it has observed an object of another. What is labelled `equal` is dominated by every element and
 -- dominates each: so it isn't lowered, and lowers nothing.
@@ -43,4 +43,4 @@ after_checks slot value items = fold (after_check slot) value items
 
 -- the label slot of mac_lomac, where it is listed
 abbrev pub lomac_slot : List Entry → Option ℕ
-lomac_slot listed = option_and_then (λ entry. entry.0.slot) (find (is_of modules.Lomac) listed)
+lomac_slot = slot_in modules.Lomac

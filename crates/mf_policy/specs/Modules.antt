@@ -1,5 +1,6 @@
 -- What is true of each module whatever its settings, and its spec in its initial state. When a module may be loaded is mac(4)'s table, and the
--- labels at boot are those of mac_biba(4), mac_mls(4) and mac_lomac(4). That mac_bsdextended begins with first match is mac_bsdextended(4)'s.
+-- labels at boot are those of mac_biba(4), mac_mls(4) and mac_lomac(4). That mac_biba begins without
+-- revocation is mac_biba(4)'s, and that mac_bsdextended begins with first match is mac_bsdextended(4)'s.
 use Rattle.std.specs.Option.{option_map_or}
 use Rattle.std.specs.Prelude.{ℕ, Bool, true, false, not, ◌&&◌, ◌||◌, if◌then◌else◌, Option, Some, None, is_none, is_some, option_map, replicate, unwrap_or}
 use Rattle.mf_errno.specs.declared.module.Module.{Module}
@@ -51,16 +52,16 @@ number_asked other request = None
 
 -- the module of a spec
 abbrev pub module_of : Spec → Module
-module_of means.Biba = modules.Biba
+module_of (means.Biba revocation) = modules.Biba
 module_of means.Mls = modules.Mls
 module_of means.Lomac = modules.Lomac
 module_of means.Partition = modules.Partition
 module_of (means.Bsdextended rules first) = modules.Bsdextended
 module_of means.Priority = modules.Priority
 
--- the spec of a module in its initial state; mac_bsdextended begins with no rules and with first match
+-- the spec of a module in its initial state; mac_biba begins without revocation, mac_bsdextended with no rules and with first match
 abbrev pub fresh_of : Module → Spec
-fresh_of modules.Biba = means.Biba
+fresh_of modules.Biba = means.Biba false
 fresh_of modules.Mls = means.Mls
 fresh_of modules.Lomac = means.Lomac
 fresh_of modules.Partition = means.Partition

@@ -1,6 +1,6 @@
 -- The listed policies, as values, and what a registration and its end make of them: the static and the dynamic list, and slots that aren't given
 -- again, of sys/security/mac/mac_framework.c.
-use Rattle.std.specs.Prelude.{ℕ, ◌+◌, Bool, if◌then◌else◌, not, ◌&&◌, ◌==◌, List, [], ◌∷◌, Option, Some, None}
+use Rattle.std.specs.Prelude.{ℕ, ◌+◌, Bool, if◌then◌else◌, not, ◌&&◌, ◌==◌, List, [], ◌∷◌, Option, Some, None, find, option_and_then, option_map}
 use Rattle.std.specs.List.{list_any}
 use Rattle.std.specs.Option.{option_eq}
 use Rattle.mf_errno.specs.Same.{same_module}
@@ -19,6 +19,14 @@ is_of m entry = same_module m entry.0.module
 
 abbrev pub is_listed : Module → List Entry → Bool
 is_listed m entries = list_any (is_of m) entries
+
+-- the label slot of a module, where it is listed and has one
+abbrev pub slot_in : Module → List Entry → Option ℕ
+slot_in m entries = option_and_then (λ entry. entry.0.slot) (find (is_of m) entries)
+
+-- the spec of a module's policy, where it is listed
+abbrev pub spec_in : Module → List Entry → Option Spec
+spec_in m entries = option_map (λ entry. entry.1) (find (is_of m) entries)
 
 -- whether the entry's policy holds the slot
 abbrev pub holds_slot : ℕ → Entry → Bool

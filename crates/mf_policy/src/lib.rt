@@ -28,10 +28,10 @@ pub use modules::{
     Facts, Labelling, boot_value, facts_of, inherited, is_named, labels_kind, may_ask,
     number_asked, range_asked, takes, wants_slot,
 };
-pub use operations::{Movement, PartitionTest, Row, Test, row_of};
+pub use operations::{Movement, PartitionTest, Row, Test, is_transfer, row_of};
 pub use policy::Policy;
 pub use registration::{MOST_LISTED, Registration};
 pub use relabel::{credential_relabel, object_relabel};
-pub use settings::{Change, Changed, change_rules};
+pub use settings::{Change, Changed, change_revocation, change_rules};
 pub use spec::Spec;
 pub use spec_list::SpecList;

@@ -1,4 +1,4 @@
-//! The table of operations: what policies test for each, and which way each moves information.
+//! The table of operations: what policies test for each, which way each moves information, and which are transfers.
 ghost use Rattle.std.specs.Prelude.{◌≡◌};
 ghost use Rattle.mf_policy.specs.Operations as spec;
 
@@ -61,6 +61,8 @@ pub struct Row {
     /// The letters of ugidfw(8) that rules about files have to give, all of them; none may be asked for. None where they aren't asked.
     pub letters: Option<u8>,
     pub movement: Movement,
+    /// Whether it is a transfer of bytes through an open file.
+    pub transfer: bool,
 }
 
 impl Row {
@@ -72,6 +74,16 @@ impl Row {
             partition,
             letters,
             movement,
+            transfer: false,
+        }
+    }
+
+    fn as_transfer(self) -> Row
+        ensures { result ≡ spec.as_transfer self }
+    {
+        Row {
+            transfer: true,
+            ..self
         }
     }
 }
@@ -85,8 +97,8 @@ pub fn row_of(op: CheckOp) -> Row
         CheckOp::VnodeLookup => Row::of(Observe(Eacces), Ignore, Some(EXECUTE), ToSubject),
         CheckOp::VnodeOpenRead => Row::of(Observe(Eacces), Ignore, Some(READ), ToSubject),
         CheckOp::VnodeOpenWrite => Row::of(Modify, Ignore, Some(WRITE), ToObject),
-        CheckOp::VnodeRead => Row::of(Observe(Eacces), Ignore, Some(0), ToSubject),
-        CheckOp::VnodeWrite => Row::of(Modify, Ignore, Some(0), ToObject),
+        CheckOp::VnodeRead => Row::of(Observe(Eacces), Ignore, Some(0), ToSubject).as_transfer(),
+        CheckOp::VnodeWrite => Row::of(Modify, Ignore, Some(0), ToObject).as_transfer(),
         CheckOp::VnodeExec => Row::of(Observe(Eacces), Ignore, Some(READ | EXECUTE), ToSubject),
         CheckOp::VnodeStat => Row::of(Observe(Eacces), Ignore, Some(STAT), ToSubject),
         CheckOp::VnodeReaddir => Row::of(Observe(Eacces), Ignore, Some(READ), ToSubject),
@@ -113,4 +125,11 @@ pub fn row_of(op: CheckOp) -> Row
         CheckOp::KldUnload => Row::of(GuardModules, Ignore, None, Still),
         CheckOp::Priv => Row::of(Pass, Ignore, None, Still),
     }
+}
+
+/// Whether the operation is a transfer of bytes through an open file.
+pub fn is_transfer(op: CheckOp) -> bool
+    ensures { result ≡ spec.is_transfer op }
+{
+    row_of(op).transfer
 }

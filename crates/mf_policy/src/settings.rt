@@ -1,4 +1,4 @@
-//! The settings of policies, and changes of them. mac_bsdextended(4) alone has settings: its rules, and first match.
+//! The settings of policies, and changes of them: revocation of mac_biba(4), and rules and first match of mac_bsdextended(4).
 ghost use Rattle.std.specs.Prelude.{◌≡◌, IfOk, OnErr};
 ghost use Rattle.mf_policy.specs.Settings as spec;
 ghost use Rattle.mf_policy.specs.IsChange.{IsChange};
@@ -11,6 +11,9 @@ use std::alloc::AllocError;
 /// A change of a setting.
 #[derive(Clone, Copy)]
 pub enum Change {
+    /// Whether mac_biba's policy tests each transfer of bytes through an open file, as the tunable
+    /// `security.mac.biba.revocation_enabled` of mac_biba(4) has it.
+    Revocation(bool),
     /// Whether the file system firewall stops at the first rule that matches, as the sysctl
     /// `security.mac.bsdextended.firstmatch_enabled` of mac_bsdextended(4) sets it.
     FirstMatch(bool),
@@ -51,6 +54,27 @@ impl Changed {
     }
 }
 
+/// What mac_biba's policy would answer to a change.
+pub(crate) fn answer_of_revocation(change: &Change) -> Changed
+    ensures { (revocation : _) → result ≡ (spec.change_of (means.Biba revocation) change.now).0 }
+{
+    match change {
+        Change::Revocation(_) => Changed::done(),
+        Change::FirstMatch(_) | Change::RuleAdd(_) | Change::RuleSet(..) | Change::RuleRemove(_) =>
+            Changed::no_setting(),
+    }
+}
+
+/// Changes a setting of mac_biba's policy, which tests transfers or doesn't.
+pub fn change_revocation(revocation: &mut bool, change: &Change) -> Changed
+    ensures { (result, means.Biba revocation.new) ≡ spec.change_of (means.Biba revocation.old) change.now }
+{
+    if let Change::Revocation(enabled) = change {
+        *revocation = *enabled;
+    }
+    answer_of_revocation(change)
+}
+
 /// What mac_bsdextended's policy with these rules would answer to a change.
 pub(crate) fn answer_of_rules(rules: &RuleList, change: &Change) -> Changed
     ensures { (first : _) → result ≡ (spec.change_of (means.Bsdextended rules.now first) change.now).0 }
@@ -65,6 +89,7 @@ pub(crate) fn answer_of_rules(rules: &RuleList, change: &Change) -> Changed
             Some(_) => Changed::done(),
             None => Changed::with(Errno::Enoent, None),
         },
+        Change::Revocation(_) => Changed::no_setting(),
     }
 }
 
@@ -96,5 +121,6 @@ pub fn change_rules(
             Ok(()) => Ok(Changed::done()),
             Err(_) => Ok(Changed::with(Errno::Enoent, None)),
         },
+        Change::Revocation(_) => Ok(Changed::no_setting()),
     }
 }

@@ -1,11 +1,14 @@
 //! The specs of policies.
 ghost use Rattle.std.specs.Prelude.{◌≡◌, ◌↔◌, IsTrue, IfOk, OnErr};
 ghost use Rattle.mf_policy.specs.Modules as facts;
+ghost use Rattle.mf_policy.specs.Answer.{tests_transfers};
 ghost use Rattle.mf_policy.specs.Settings.{change_of, file_rules};
 ghost use Rattle.mf_policy.specs.IsChange.{IsChange};
 ghost use Rattle.std.specs.Option.{option_copied};
 
-use crate::settings::{Change, Changed, answer_of_rules, change_rules};
+use crate::settings::{
+    Change, Changed, answer_of_revocation, answer_of_rules, change_revocation, change_rules,
+};
 use mf_errno::Module;
 use mf_rule::RuleList;
 use std::alloc::{AllocError, Global};
@@ -13,7 +16,8 @@ use std::alloc::{AllocError, Global};
 /// What determines a policy's answers: its module, with the values of its settings.
 #[derive(Drop)]
 pub enum Spec {
-    Biba,
+    /// Whether it tests each transfer of bytes through an open file.
+    Biba { revocation: bool },
     Mls,
     Lomac,
     Partition,
@@ -28,7 +32,7 @@ impl Spec {
         ensures { IfOk result (λ spec. spec ≡ facts.fresh_of «module») }
     {
         match module {
-            Module::Biba => Ok(Spec::Biba),
+            Module::Biba => Ok(Spec::Biba { revocation: false }),
             Module::Mls => Ok(Spec::Mls),
             Module::Lomac => Ok(Spec::Lomac),
             Module::Partition => Ok(Spec::Partition),
@@ -45,7 +49,9 @@ impl Spec {
         ensures { IfOk result (λ spec. spec ≡ self.now) }
     {
         match self {
-            Spec::Biba => Ok(Spec::Biba),
+            Spec::Biba { revocation } => Ok(Spec::Biba {
+                revocation: *revocation,
+            }),
             Spec::Mls => Ok(Spec::Mls),
             Spec::Lomac => Ok(Spec::Lomac),
             Spec::Partition => Ok(Spec::Partition),
@@ -62,7 +68,10 @@ impl Spec {
         ensures { IsTrue result ↔ (self.now ≡ other.now) }
     {
         match self {
-            Spec::Biba => matches!(other, Spec::Biba),
+            Spec::Biba { revocation } => match other {
+                Spec::Biba { revocation: other } => *revocation == *other,
+                _ => false,
+            },
             Spec::Mls => matches!(other, Spec::Mls),
             Spec::Lomac => matches!(other, Spec::Lomac),
             Spec::Partition => matches!(other, Spec::Partition),
@@ -83,9 +92,8 @@ impl Spec {
     {
         match self {
             Spec::Bsdextended { rules, .. } => answer_of_rules(rules, change),
-            Spec::Biba | Spec::Mls | Spec::Lomac | Spec::Partition | Spec::Priority => {
-                Changed::no_setting()
-            }
+            Spec::Biba { .. } => answer_of_revocation(change),
+            Spec::Mls | Spec::Lomac | Spec::Partition | Spec::Priority => Changed::no_setting(),
         }
     }
 
@@ -97,9 +105,8 @@ impl Spec {
     {
         match self {
             Spec::Bsdextended { rules, first_match } => change_rules(rules, first_match, change),
-            Spec::Biba | Spec::Mls | Spec::Lomac | Spec::Partition | Spec::Priority => {
-                Ok(Changed::no_setting())
-            }
+            Spec::Biba { revocation } => Ok(change_revocation(revocation, change)),
+            Spec::Mls | Spec::Lomac | Spec::Partition | Spec::Priority => Ok(Changed::no_setting()),
         }
     }
 
@@ -109,7 +116,18 @@ impl Spec {
     {
         match self {
             Spec::Bsdextended { rules, .. } => Some(rules),
-            Spec::Biba | Spec::Mls | Spec::Lomac | Spec::Partition | Spec::Priority => None,
+            Spec::Biba { .. } | Spec::Mls | Spec::Lomac | Spec::Partition | Spec::Priority => None,
+        }
+    }
+
+    /// Whether the policy tests each transfer of bytes through an open file, and not its opening alone.
+    pub fn tests_transfers(&self) -> bool
+        ensures { result ≡ tests_transfers self.now }
+    {
+        match self {
+            Spec::Biba { revocation } => *revocation,
+            Spec::Mls | Spec::Lomac | Spec::Partition | Spec::Bsdextended { .. } | Spec::Priority =>
+                true,
         }
     }
 }

@@ -1,7 +1,7 @@
 //! The listed registrations with the specs of their policies.
 ghost use Rattle.std.specs.Prelude.{◌≡◌, ◌<◌, ◌≤◌, [], nat_eq, find, length, option_map, position, slice_index_or, slice_set, IfOk, OnOk, OnErr};
 ghost use Rattle.std.specs.List.{insert, position_or_len};
-ghost use Rattle.mf_policy.specs.Registration.{Entry, entries_without, holds_slot, is_listed, is_of, with_newest};
+ghost use Rattle.mf_policy.specs.Registration.{Entry, entries_without, holds_slot, is_listed, is_of, slot_in, spec_in, with_newest};
 ghost use Rattle.mf_policy.specs.Dynamic.{is_dynamic};
 ghost use Rattle.mf_policy.specs.Lowering.{lomac_slot};
 ghost use Rattle.mf_policy.specs.Settings.{change_in, listed_rules};
@@ -137,14 +137,31 @@ impl SpecList {
         }
     }
 
+    /// The spec of the module's policy, where it is listed.
+    pub fn spec_of(&self, module: Module) -> Option<&Spec>
+        ensures { option_copied result ≡ spec_in «module» self.now }
+    {
+        match entry_of(&self.entries, module) {
+            Some(entry) => Some(&entry.1),
+            None => None,
+        }
+    }
+
+    /// The label slot of the module, where it is listed and has one.
+    pub fn slot_in(&self, module: Module) -> Option<u8>
+        ensures { result ≡ slot_in «module» self.now }
+    {
+        match entry_of(&self.entries, module) {
+            Some(entry) => entry.0.slot,
+            None => None,
+        }
+    }
+
     /// The label slot of mac_lomac, where it is listed.
     pub fn lomac_slot(&self) -> Option<u8>
         ensures { result ≡ lomac_slot self.now }
     {
-        match entry_of(&self.entries, Module::Lomac) {
-            Some(entry) => entry.0.slot,
-            None => None,
-        }
+        self.slot_in(Module::Lomac)
     }
 
     /// Inserts an entry before a place, or at the end. If memory runs out, the list is unchanged.
