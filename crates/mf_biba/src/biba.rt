@@ -1,5 +1,5 @@
 //! Biba: a subject may observe what dominates it, and modify what it dominates.
-ghost use Rattle.std.specs.Prelude.{◌≡◌};
+ghost use Rattle.std.specs.Prelude.{◌≡◌, false};
 ghost use Rattle.mf_policy.specs.declared.spec.Spec.TheVariants as means;
 
 use mf_cred::Cred;
@@ -7,27 +7,29 @@ use mf_elem::{Elem, RangeLabel, Request, dominates, privileged};
 use mf_errno::{Errno, Module, Priv};
 use mf_item::Item;
 use mf_policy::{
-    Change, Changed, Lattice, LoadFlags, Policy, Spec, credential_relabel, errno_unless, flags_of,
-    lattice_answer, object_relabel, range_asked, wants_slot,
+    Change, Changed, Lattice, LoadFlags, Policy, Spec, change_revocation, credential_relabel,
+    errno_unless, flags_of, is_transfer, lattice_answer, object_relabel, range_asked, wants_slot,
 };
 use std::alloc::{AllocError, Global};
 
-/// The integrity policy of mac_biba(4): no information flows up, from a subject or object to one of greater integrity. It
-/// has no settings.
+/// The integrity policy of mac_biba(4): no information flows up, from a subject or object to one of greater integrity. Its
+/// setting is whether it tests each transfer of bytes through an open file, and not its opening alone.
 #[derive(Debug, Drop)]
-pub struct Biba;
+pub struct Biba {
+    revocation: bool,
+}
 
 impl Biba {
     /// The policy in its initial state.
     pub fn new() -> Biba
-        ensures { ⟦<Biba as Policy>⟧.spec result ≡ means.Biba }
+        ensures { ⟦<Biba as Policy>⟧.spec result ≡ means.Biba false }
     {
-        Biba
+        Biba { revocation: false }
     }
 }
 
 impl Policy for Biba {
-    ghost spec = { λ _. means.Biba };
+    ghost spec = { λ policy. means.Biba policy.revocation };
 
     fn module(&self) -> Module {
         Module::Biba
@@ -42,10 +44,17 @@ impl Policy for Biba {
     }
 
     fn same(&self, other: &Spec) -> bool {
-        matches!(other, Spec::Biba)
+        match other {
+            Spec::Biba { revocation } => self.revocation == *revocation,
+            Spec::Mls | Spec::Lomac | Spec::Partition | Spec::Bsdextended { .. } | Spec::Priority =>
+                false,
+        }
     }
 
     fn check(&self, slot: u8, item: &Item) -> Errno {
+        if is_transfer(item.op()) && !self.revocation {
+            return Errno::Success;
+        }
         lattice_answer::<Biba>(slot, item)
     }
 
@@ -53,11 +62,13 @@ impl Policy for Biba {
         false
     }
 
-    fn change(&mut self, _alloc: Global, _change: &Change) -> Result<Changed, AllocError> {
-        Ok(Changed::no_setting())
+    fn change(&mut self, _alloc: Global, change: &Change) -> Result<Changed, AllocError> {
+        Ok(change_revocation(&mut self.revocation, change))
     }
 
-    fn reset(&mut self) {}
+    fn reset(&mut self) {
+        self.revocation = false;
+    }
 }
 
 impl Lattice for Biba {
