@@ -1,5 +1,5 @@
 -- Scripts as they are spelled: each line as pieces, and which words spell a piece, as docs/MANUAL.md (THE SCRIPT) has them.
-use Rattle.std.specs.Prelude.{◌≡◌, ℕ, ◌⊎◌, ◌-◌, ◌||◌, true, false, not, if◌then◌else◌, Bool, List, [], ◌∷◌, ◌++◌, map, Ok, Some, codes}
+use Rattle.std.specs.Prelude.{◌≡◌, ℕ, ◌⊎◌, ◌-◌, ◌||◌, true, false, not, IsTrue, if◌then◌else◌, Bool, List, [], ◌∷◌, ◌++◌, map, Ok, Some, codes}
 use Rattle.std.specs.List.{AllZip, filter, flat_map, list_all, join_with_byte}
 use Rattle.std.specs.Option.{option_map_or}
 use Rattle.std.specs.Char.{is_ascii_graphic}
@@ -7,6 +7,7 @@ use Rattle.std.specs.Str.{byte}
 use Rattle.mf_errno.specs.Names.{module_text}
 use Rattle.mf_errno.specs.Privilege.{privilege_text}
 use Rattle.mf_errno.specs.declared.module.Module.{Module}
+use Rattle.mf_errno.specs.declared.module.Module.TheVariants.{Biba}
 use Rattle.mf_elem.specs.declared.label.Request.{Request}
 use Rattle.mf_elem.specs.Label.{no_request}
 use Rattle.mf_text.specs.Number.{number_in}
@@ -16,6 +17,9 @@ use Rattle.mf_rule.specs.declared.rule.Rule.{Rule}
 use Rattle.mf_rule.specs.declared.rule_list.TheConstants.{MAX_RULES}
 use Rattle.mf_rule.specs.RuleGrammar as rule
 use Rattle.mf_words.specs.Words.{Words, words_in, lines_in, is_blank, is_comment}
+use Rattle.mf_names.specs.declared.limits.TheConstants.{MOST_DESCRIPTORS}
+use Rattle.mf_calls.specs.Boots.{is_booted}
+use Rattle.mf_calls.specs.Tunable.{revocation_name}
 use Rattle.mf_calls.specs.declared.limits.TheConstants.{UID_MAX, MODE_LIMIT}
 use Rattle.mf_calls.specs.declared.script.Call.{Call}
 use Rattle.mf_calls.specs.declared.script.Call.TheVariants as call
@@ -69,6 +73,10 @@ SpellLine ws pieces = ⊥
 
 -- The pieces of each line
 
+-- how a file is opened: `r` for reading, `w` for writing
+abbrev pub open_mode : Bool → Bool → List ℕ
+open_mode read write = (if read then codes "r" else []) ++ (if write then codes "w" else [])
+
 abbrev pub call_pieces : Call → Pieces
 call_pieces (call.Fork child) = Word (codes "fork") ∷ Word child ∷ []
 call_pieces call.Exit = Word (codes "exit") ∷ []
@@ -90,6 +98,10 @@ call_pieces (call.Setfmac label p) = Word (codes "setfmac") ∷ Word label ∷ p
 call_pieces (call.Readdir p) = Word (codes "readdir") ∷ path p ∷ []
 call_pieces (call.Chmod p mode) = Word (codes "chmod") ∷ path p ∷ Octal mode ∷ []
 call_pieces (call.Unlink p) = Word (codes "unlink") ∷ path p ∷ []
+call_pieces (call.OpenFd p read write) = Word (codes "open") ∷ path p ∷ Word (open_mode read write) ∷ []
+call_pieces (call.Fread n) = Word (codes "fread") ∷ Decimal (MOST_DESCRIPTORS - 1) n ∷ []
+call_pieces (call.Fwrite n text) = Word (codes "fwrite") ∷ Decimal (MOST_DESCRIPTORS - 1) n ∷ Text text ∷ []
+call_pieces (call.Close n) = Word (codes "close") ∷ Decimal (MOST_DESCRIPTORS - 1) n ∷ []
 call_pieces (call.Pipe name) = Word (codes "pipe") ∷ Word name ∷ []
 call_pieces (call.Socket name) = Word (codes "socket") ∷ Word name ∷ []
 call_pieces (call.Pread name) = Word (codes "pread") ∷ Word name ∷ []
@@ -114,6 +126,14 @@ line_pieces line = option_map_or (λ child. Word (codes "@" ++ child) ∷ call_p
 
 abbrev pub boot_pieces : Module → Pieces
 boot_pieces m = Word (codes "boot") ∷ Word (module_text m) ∷ []
+
+-- off or on
+abbrev pub switch_word : Bool → List ℕ
+switch_word true = codes "1"
+switch_word false = codes "0"
+
+abbrev pub tunable_pieces : Bool → Pieces
+tunable_pieces revocation = Word (codes "tunable") ∷ Setting revocation_name (switch_word revocation) ∷ []
 
 -- only a text that has some byte is given
 abbrev pub text_pieces : List ℕ → Pieces
@@ -149,8 +169,17 @@ task_rows t = task_pieces t ∷ map line_pieces t.lines ++ (Word (codes "end") �
 abbrev pub step_rows : List Step → List Pieces
 step_rows steps = (Word (codes "steps") ∷ []) ∷ map step_pieces steps ++ (Word (codes "end") ∷ []) ∷ []
 
-abbrev pub front_rows : Script → List Pieces
-front_rows s = map boot_pieces s.boots ++ map file_pieces s.files ++ flat_map task_rows s.tasks
+-- the line of the tunable, which only a script that boots mac_biba has, and which may be left out where the tunable is off
+abbrev pub SayTunable : Script → List Pieces → Type 0
+SayTunable s rows = ((rows ≡ tunable_pieces s.revocation ∷ []) × IsTrue (is_booted s.boots Biba)) ⊎ ((rows ≡ []) × (s.revocation ≡ false))
+
+-- the lines of the steps, which may be left out where there are none
+abbrev pub SaySteps : List Step → List Pieces → Type 0
+SaySteps steps rows = (rows ≡ step_rows steps) ⊎ ((rows ≡ []) × (steps ≡ []))
+
+-- the lines of all else, with these of the tunable
+abbrev pub front_rows : List Pieces → Script → List Pieces
+front_rows tunable s = map boot_pieces s.boots ++ tunable ++ map file_pieces s.files ++ flat_map task_rows s.tasks
 
 abbrev pub says : Words → Bool
 says [] = false
@@ -159,10 +188,14 @@ says (w ∷ ws) = not (is_comment w)
 abbrev pub sayings : List (List ℕ) → List Words
 sayings lines = filter says (map words_in lines)
 
--- the lines spell the script, of which a script without steps may lack the lines of the steps
+-- the lines spell the script
 pub record SpellScript (lines : List (List ℕ)) (s : Script) : Type 0 where
+  pub tunable : List Pieces
+  pub steps : List Pieces
   pub plain : list_all (λ line. list_all is_line_byte line) lines ≡ true
-  pub spelled : AllZip SpellLine (sayings lines) (front_rows s ++ step_rows s.steps) ⊎ ((s.steps ≡ []) × AllZip SpellLine (sayings lines) (front_rows s))
+  pub say_tunable : SayTunable s tunable
+  pub say_steps : SaySteps s.steps steps
+  pub spelled : AllZip SpellLine (sayings lines) (front_rows tunable s ++ steps)
 
 abbrev pub IsTextOf : List ℕ → Script → Type 0
 IsTextOf bytes s = SpellScript (lines_in bytes) s

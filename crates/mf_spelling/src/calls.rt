@@ -1,7 +1,7 @@
 //! The line of a call.
 ghost use Rattle.std.specs.Prelude.{◌≡◌, ◌++◌, OnOk, OnErr, string_bytes};
 ghost use Rattle.mf_text.specs.Appending.{Extends};
-ghost use Rattle.mf_spelling.specs.Spelling.{call_pieces};
+ghost use Rattle.mf_spelling.specs.Spelling.{call_pieces, open_mode};
 ghost use Rattle.mf_spelling.specs.Canonical.{words_behind, words_text};
 ghost use Rattle.mf_spelling.specs.Printed.{Adds, behind_first, first_word};
 
@@ -45,6 +45,10 @@ fn call_name(call: &Call) -> &'static str
         Call::Readdir(_) => "readdir",
         Call::Chmod(..) => "chmod",
         Call::Unlink(_) => "unlink",
+        Call::OpenFd(..) => "open",
+        Call::Fread(_) => "fread",
+        Call::Fwrite(..) => "fwrite",
+        Call::Close(_) => "close",
         Call::Pipe(_) => "pipe",
         Call::Socket(_) => "socket",
         Call::Pread(_) => "pread",
@@ -108,6 +112,15 @@ fn push_arguments(call: &Call, out: &mut String) -> Result<(), AllocError>
             push_path(path, out)?;
             push_mode(*mode, out)
         }
+        Call::OpenFd(path, read, write) => {
+            push_path(path, out)?;
+            push_word(open_mode(*read, *write), out)
+        }
+        Call::Fread(number) | Call::Close(number) => push_number(*number, out),
+        Call::Fwrite(number, text) => {
+            push_number(*number, out)?;
+            push_text(text.as_slice(), out)
+        }
         Call::Pwrite(name, text) => {
             push_word(name.as_str(), out)?;
             push_text(text.as_slice(), out)
@@ -136,5 +149,17 @@ fn push_arguments(call: &Call, out: &mut String) -> Result<(), AllocError>
             push_word("remove", out)?;
             push_number(*number, out)
         }
+    }
+}
+
+/// How a file is opened: `r` for reading, `w` for writing.
+fn open_mode(read: bool, write: bool) -> &'static str
+    ensures { result.now ≡ open_mode read write }
+{
+    match (read, write) {
+        (true, true) => "rw",
+        (true, false) => "r",
+        (false, true) => "w",
+        (false, false) => "",
     }
 }

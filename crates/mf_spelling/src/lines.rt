@@ -1,18 +1,18 @@
 //! The lines of a script, one function for each kind.
-ghost use Rattle.std.specs.Prelude.{◌≡◌, ◌∷◌, ◌++◌, OnOk, OnErr, codes, string_bytes};
+ghost use Rattle.std.specs.Prelude.{◌≡◌, ◌∷◌, ◌++◌, true, OnOk, OnErr, codes, string_bytes};
 ghost use Rattle.std.specs.Option.{option_copied};
 ghost use Rattle.std.specs.Fmt.{decimal};
 ghost use Rattle.mf_text.specs.Appending.{Extends};
 ghost use Rattle.mf_words.specs.Words.{space};
-ghost use Rattle.mf_spelling.specs.Spelling.{boot_pieces, file_pieces, line_pieces, step_pieces, step_word, task_pieces, text_pieces};
+ghost use Rattle.mf_spelling.specs.Spelling.{boot_pieces, file_pieces, line_pieces, step_pieces, step_word, task_pieces, text_pieces, tunable_pieces};
 ghost use Rattle.mf_spelling.specs.Canonical.{line_text, octal, words_behind};
 ghost use Rattle.mf_spelling.specs.Printed.{Adds, attribute_pieces, caller_text, credential_pieces, inside_pieces, kind_word, owner_pieces};
 
 use crate::calls::push_call;
 use crate::words::{
-    push_groups, push_label, push_mode, push_number, push_path, push_text, push_word,
+    push_groups, push_label, push_mode, push_number, push_path, push_setting, push_text, push_word,
 };
-use mf_calls::{FileLine, Line, Step, StepKind, Task};
+use mf_calls::{FileLine, Line, Step, StepKind, Task, revocation_name};
 use mf_cred::{Cred, FileView};
 use mf_errno::Module;
 use std::alloc::{AllocError, Global};
@@ -23,6 +23,16 @@ pub fn push_boot(module: Module, out: &mut String) -> Result<(), AllocError>
 {
     out.push_str("boot")?;
     push_word(module.name(), out)?;
+    out.push('\n')
+}
+
+/// The line that turns the tunable on.
+pub fn push_tunable(out: &mut String) -> Result<(), AllocError>
+    ensures ok { OnOk result (Adds out.old out.new (line_text (tunable_pieces true))) }
+    ensures err { OnErr result (Extends (string_bytes out.old) (string_bytes out.new)) }
+{
+    out.push_str("tunable")?;
+    push_setting(revocation_name(), "1", out)?;
     out.push('\n')
 }
 

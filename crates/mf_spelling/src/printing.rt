@@ -3,17 +3,17 @@ ghost use Rattle.std.specs.Prelude.{◌≡◌, ◌++◌, OnOk, OnErr, string_byt
 ghost use Rattle.std.specs.List.{flat_map};
 ghost use Rattle.mf_text.specs.Appending.{Extends};
 ghost use Rattle.mf_spelling.specs.Spelling.{boot_pieces, file_pieces, line_pieces, step_pieces};
-ghost use Rattle.mf_spelling.specs.Canonical.{lines_text, script_text, steps_text, task_text};
+ghost use Rattle.mf_spelling.specs.Canonical.{lines_text, script_text, steps_text, task_text, tunable_text};
 ghost use Rattle.mf_spelling.specs.Printed.{Adds};
 
-use crate::lines::{push_boot, push_file, push_line, push_step, push_task};
+use crate::lines::{push_boot, push_file, push_line, push_step, push_task, push_tunable};
 use mf_calls::{FileLine, Line, Script, Step, Task};
 use mf_errno::Module;
 use std::alloc::{AllocError, Global};
 
-/// Appends the canonical text of a script: its boots, files, tasks and steps, a line each, words with one space between
-/// them, numbers without leading zeros, labels and rules in their canonical texts. If memory runs out, `out` is
-/// unchanged.
+/// Appends the canonical text of a script: its boots, its tunable where that is on, its files, tasks and steps, a line each,
+/// words with one space between them, numbers without leading zeros, labels and rules in their canonical texts. If memory
+/// runs out, `out` is unchanged.
 pub fn print_script(alloc: Global, script: &Script, out: &mut String) -> Result<(), AllocError>
     ensures ok { OnOk result (string_bytes out.new
         ≡ string_bytes out.old ++ script_text script.now) }
@@ -32,6 +32,7 @@ fn push_script(alloc: Global, script: &Script, out: &mut String) -> Result<(), A
     ensures err { OnErr result (Extends (string_bytes out.old) (string_bytes out.new)) }
 {
     push_boots(script.boots.as_slice(), out)?;
+    push_set_tunable(script.revocation, out)?;
     push_files(alloc, script.files.as_slice(), out)?;
     push_tasks(alloc, script.tasks.as_slice(), out)?;
     push_steps(script.steps.as_slice(), out)
@@ -45,6 +46,18 @@ fn push_boots(boots: &[Module], out: &mut String) -> Result<(), AllocError>
         push_boot(*module, out)?;
     }
     Ok(())
+}
+
+/// The line of the tunable, where it is on.
+fn push_set_tunable(revocation: bool, out: &mut String) -> Result<(), AllocError>
+    ensures ok { OnOk result (Adds out.old out.new (tunable_text revocation)) }
+    ensures err { OnErr result (Extends (string_bytes out.old) (string_bytes out.new)) }
+{
+    if revocation {
+        push_tunable(out)
+    } else {
+        Ok(())
+    }
 }
 
 fn push_files(alloc: Global, files: &[FileLine], out: &mut String) -> Result<(), AllocError>
