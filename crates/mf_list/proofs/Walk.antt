@@ -154,3 +154,35 @@ changed_walked m change fixed list absent =
     one None = refl
     one (Some entry) =
         ap (λ (es : List Entry). ((change_of entry.1 change).0, es)) (with_spec-walked m (change_of entry.1 change).1 fixed list absent)
+
+with_spec-absent : (m : Module) (spec : Spec) (list : List Entry) → is_listed m list ≡ false → with_spec m spec list ≡ list
+with_spec-absent m spec [] absent = refl
+with_spec-absent m spec (x ∷ xs) absent =
+    elim (is_of m x) as (λ b. (b || is_listed m xs) ≡ false → cond b ((x.0, spec) ∷ xs) (x ∷ with_spec m spec xs) ≡ x ∷ xs) [
+      | true ↦ λ l. cc
+      | false ↦ λ l. ap (λ (es : List Entry). x ∷ es) (with_spec-absent m spec xs l)
+    ] absent
+
+with_spec-static : (m : Module) (spec : Spec) (fixed list : List Entry) → is_listed m list ≡ false → with_spec m spec (fixed ++ list) ≡ with_spec m spec fixed ++ list
+with_spec-static m spec [] list absent = with_spec-absent m spec list absent
+with_spec-static m spec (x ∷ xs) list absent =
+    elim (is_of m x) as (λ b. cond b ((x.0, spec) ∷ (xs ++ list)) (x ∷ with_spec m spec (xs ++ list)) ≡ cond b ((x.0, spec) ∷ xs) (x ∷ with_spec m spec xs) ++ list) [
+      | true ↦ refl
+      | false ↦ ap (λ (es : List Entry). x ∷ es) (with_spec-static m spec xs list absent)
+    ]
+
+-- and so is a change of a policy of the static list
+pub changed_static : (m : Module) (change : Change) (fixed list : List Entry) → is_listed m list ≡ false
+    → change_in m change (fixed ++ list) ≡ ((change_in m change fixed).0, (change_in m change fixed).1 ++ list)
+changed_static m change fixed list absent =
+    ap (change_at m change (fixed ++ list)) (find-append (is_of m) fixed list ∙ ap (option_or (find (is_of m) fixed)) (find_none m list absent) ∙ or_none (find (is_of m) fixed))
+    ∙ one (find (is_of m) fixed)
+  where
+    or_none : (found : Option Entry) → option_or found None ≡ found
+    or_none None = refl
+    or_none (Some entry) = refl
+
+    one : (found : Option Entry) → change_at m change (fixed ++ list) found ≡ ((change_at m change fixed found).0, (change_at m change fixed found).1 ++ list)
+    one None = refl
+    one (Some entry) =
+        ap (λ (es : List Entry). ((change_of entry.1 change).0, es)) (with_spec-static m (change_of entry.1 change).1 fixed list absent)

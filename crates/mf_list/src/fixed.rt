@@ -1,14 +1,16 @@
 //! The static list.
-ghost use Rattle.std.specs.Prelude.{◌≡◌, ◌<◌, [], ◌∷◌, All, IfOk, false, find, length, slice_index_or};
+ghost use Rattle.std.specs.Prelude.{◌≡◌, ◌<◌, [], ◌∷◌, All, IfOk, OnErr, false, find, length, slice_index_or};
 ghost use Rattle.std.specs.Option.{option_copied};
+ghost use Rattle.mf_policy.specs.IsChange.{IsChange};
 ghost use Rattle.mf_policy.specs.Registration.{Entry, is_listed, is_of};
+ghost use Rattle.mf_policy.specs.Settings.{change_in};
 ghost use Rattle.mf_list.specs.Lists.{IsPinned};
 ghost use Rattle.mf_list.specs.Once.{IsListedOnce};
 
 use crate::entries::Entries;
 use crate::listed_policy::ListedPolicy;
 use mf_errno::Module;
-use mf_policy::Policy;
+use mf_policy::{Change, Changed, Policy};
 use std::alloc::{AllocError, Global};
 use std::marker::Model;
 
@@ -55,6 +57,22 @@ impl<P: Policy> Fixed<P> {
         ensures pinned { All IsPinned self.now }
     {
         self.entries.len()
+    }
+
+    /// Changes a setting of the module's policy. The result is ENOENT where the module isn't listed here. If memory runs
+    /// out, the list is unchanged.
+    pub fn set(
+        &mut self,
+        alloc: Global,
+        module: Module,
+        change: &Change,
+    ) -> Result<Changed, AllocError>
+        requires { IsChange change.now }
+        ensures ok { IfOk result
+            (λ changed. (changed, self.new) ≡ change_in «module» change.now self.old) }
+        ensures err { OnErr result (self.new ≡ self.old) }
+    {
+        self.entries.change(alloc, module, change)
     }
 
     /// The policy at a place.

@@ -6,7 +6,7 @@ use Rattle.mf_policy.specs.Registration.{Entry}
 use Rattle.mf_list.proofs.listed.Listed.same_specs.Goals as goal
 
 some_entry : Entry
-some_entry = (record { «module» = modules.Biba; slot = None; fixed = false }, means.Biba)
+some_entry = (record { «module» = modules.Biba; slot = None; fixed = false }, means.Biba false)
 
 pub returns-then-not-agrees_at : goal.returns-then-not-agrees_at
 returns-then-not-agrees_at g c =
