@@ -6,7 +6,7 @@ use Rattle.std.specs.Option.{option_copied, option_or}
 use Rattle.std.proofs.lemmas.List.Folds.{find-append}
 use Rattle.mf_errno.specs.declared.module.Module.{Module}
 use Rattle.mf_errno.proofs.Modules.{same_module-is}
-use Rattle.mf_policy.specs.Registration.{Entry, is_listed, is_of}
+use Rattle.mf_policy.specs.Registration.{Entry, is_of}
 
 -- whether one passes
 pub is_some-find : {X : Type 0} (p : X → Bool) (xs : List X) → is_some (find p xs) ≡ list_any p xs

@@ -1,5 +1,5 @@
 -- That the lists and the catalogue together hold the same modules as before.
-use Rattle.std.proofs.Common.{◌≡◌, ℕ, List, Option, Some, None, Result, Ok, Err, IfOk, OnErr, find, refl, ap, ◌∙◌, arith}
+use Rattle.std.proofs.Common.{◌≡◌, List, Option, Some, None, Result, Ok, Err, IfOk, OnErr, find, refl, ap, ◌∙◌, arith}
 use Rattle.mf_errno.specs.Same.{same_module}
 use Rattle.mf_errno.specs.declared.module.Module.{Module}
 use Rattle.mf_policy.specs.declared.registration.Registration.{Registration}

@@ -1,7 +1,7 @@
 -- What keeps the policies of the static list such that they stay in it, and those of the dynamic list such that they may leave it.
 use Rattle.std.proofs.Common.{◌≡◌, ℕ, true, false, cond, List, [], ◌∷◌, All, Option, Some, None, Result, Ok, Err, IfOk, OnErr, find, ap, sym, subst, suc, zero}
 use Rattle.std.specs.List.{remove}
-use Rattle.std.proofs.lemmas.List.Elements.{All-cons, All-head, All-nil, All-tail}
+use Rattle.std.proofs.lemmas.List.Elements.{All-cons, All-head, All-tail}
 use Rattle.mf_errno.specs.declared.module.Module.{Module}
 use Rattle.mf_policy.specs.Registration.{Entry, is_of}
 use Rattle.mf_policy.specs.declared.settings.Change.{Change}

@@ -1,17 +1,14 @@
 -- The walk over the static and then the dynamic list: what stands in which, and what becomes of the walk where one of the two changes.
-use Rattle.std.proofs.Common.{◌≡◌, ℕ, ◌+◌, ◌≤◌, Bool, true, false, cond, not, ◌&&◌, ◌||◌, List, [], ◌∷◌, ◌++◌, Option, Some, None, All, find, length, refl, ap, sym, subst, ◌∙◌, arith, suc, zero}
-use Rattle.std.specs.List.{list_any}
+use Rattle.std.proofs.Common.{◌≡◌, ◌+◌, ◌≤◌, Bool, true, false, cond, not, ◌&&◌, ◌||◌, List, [], ◌∷◌, ◌++◌, Option, Some, None, All, find, refl, ap, sym, ◌∙◌, arith}
 use Rattle.std.specs.Option.{option_or}
 use Rattle.std.proofs.lemmas.List.Elements.{All-head, All-tail}
 use Rattle.std.proofs.lemmas.List.Folds.{find-append, list_any-append}
-use Rattle.mf_errno.specs.Same.{same_module}
 use Rattle.mf_errno.specs.declared.module.Module.{Module}
 use Rattle.mf_errno.specs.declared.module.Module.TheVariants.{Biba, Mls, Lomac}
 use Rattle.mf_errno.proofs.Modules.{same_module-is}
 use Rattle.mf_policy.specs.Modules.{facts_of}
 use Rattle.mf_policy.specs.Registration.{Entry, entries_without, is_listed, is_of, with_newest}
 use Rattle.mf_policy.specs.declared.settings.Change.{Change}
-use Rattle.mf_policy.specs.declared.settings.Changed.{Changed}
 use Rattle.mf_policy.specs.declared.spec.Spec.{Spec}
 use Rattle.mf_policy.specs.Settings.{change_in, change_of, with_spec}
 use Rattle.mf_policy.proofs.ByEntry.{change_at}

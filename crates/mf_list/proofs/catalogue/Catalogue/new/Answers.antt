@@ -1,5 +1,4 @@
-use Rattle.std.proofs.Common.{◌≤◌, List, arith, map, sym, subst, ap, All}
-use Rattle.mf_errno.specs.declared.module.Module.{Module}
+use Rattle.std.proofs.Common.{List, arith, map, sym, subst, All}
 use Rattle.mf_policy.specs.Modules.{module_of}
 use Rattle.mf_list.specs.Fresh.{IsFresh}
 use Rattle.mf_list.specs.Once.{AreDistinct}

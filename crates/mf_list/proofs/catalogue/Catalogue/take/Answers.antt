@@ -1,4 +1,4 @@
-use Rattle.std.proofs.Common.{List, All, ◌<◌, ◌≤◌, subst, ◌∙◌, ap, sym, get_or, length, map, arith}
+use Rattle.std.proofs.Common.{List, All, ◌<◌, subst, ◌∙◌, ap, sym, get_or, length, map, arith}
 use Rattle.std.specs.List.{remove}
 use Rattle.std.proofs.Math.ListN.{get_or-map}
 use Rattle.std.proofs.lemmas.List.{length-map}

@@ -1,4 +1,4 @@
-use Rattle.std.proofs.Common.{◌≡◌, ◌≤◌, ◌<◌, ◌∷◌, List, length, ◌∙◌, ap, sym, subst, false, arith}
+use Rattle.std.proofs.Common.{◌≡◌, ◌∷◌, List, sym, subst, false, arith}
 use Rattle.mf_policy.specs.Registration.{Entry, is_listed}
 use Rattle.mf_list.specs.Once.{IsListedOnce}
 use Rattle.mf_list.proofs.Counts.{listed_few, listed_once-cons}

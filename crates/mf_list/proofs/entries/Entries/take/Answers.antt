@@ -1,4 +1,4 @@
-use Rattle.std.proofs.Common.{◌≤◌, List, sym, subst, arith}
+use Rattle.std.proofs.Common.{List, sym, subst, arith}
 use Rattle.mf_policy.specs.Registration.{Entry}
 use Rattle.mf_list.specs.Once.{IsListedOnce}
 use Rattle.mf_list.proofs.Counts.{listed_once-remove}

@@ -1,4 +1,4 @@
-use Rattle.std.proofs.Common.{◌≡◌, List, Option, Some, IfSome, find, is_some, ap, sym, subst, ◌∙◌}
+use Rattle.std.proofs.Common.{◌≡◌, Option, IfSome, find, is_some, ap, sym, subst, ◌∙◌}
 use Rattle.std.specs.Option.{option_copied}
 use Rattle.mf_policy.specs.Registration.{Entry, is_of}
 use Rattle.mf_list.proofs.Finds.{found_first, found_is, found_second, is_some-copied, is_some-find, if_some-copied}

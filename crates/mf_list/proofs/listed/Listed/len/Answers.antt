@@ -1,4 +1,4 @@
-use Rattle.std.proofs.Common.{◌≡◌, ◌≤◌, ◌+◌, ◌++◌, List, length, length-append, subst, arith}
+use Rattle.std.proofs.Common.{◌≤◌, List, length, subst, arith}
 use Rattle.mf_policy.specs.Registration.{Entry}
 use Rattle.mf_list.proofs.Counts.{listed_few}
 use Rattle.mf_list.proofs.Walk.{walked_once}

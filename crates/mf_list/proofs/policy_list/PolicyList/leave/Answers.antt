@@ -1,6 +1,5 @@
 use Rattle.std.proofs.Common.{◌≡◌, ◌∙◌, ◌++◌, ◌∷◌, [], ap, false, sym, subst}
 use Rattle.mf_errno.specs.declared.module.Module.{Module}
-use Rattle.mf_policy.specs.Modules.{module_of}
 use Rattle.mf_policy.specs.Registration.{Entry}
 use Rattle.mf_list.specs.Lists.{in_catalogue}
 use Rattle.mf_list.proofs.policy_list.PolicyList.leave.Goals as goal
