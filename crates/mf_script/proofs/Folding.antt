@@ -1,5 +1,5 @@
 -- Lines one after another.
-use Rattle.std.proofs.Common.{◌≡◌, ℕ, ◌+◌, List, [], ◌∷◌, Result, Ok, Err, sym, ap, ◌∙◌, subst}
+use Rattle.std.proofs.Common.{◌≡◌, ℕ, ◌+◌, false, List, [], ◌∷◌, Result, Ok, Err, sym, ap, ◌∙◌, subst}
 use Rattle.mf_errno.specs.declared.module.Module.{Module}
 use Rattle.mf_words.specs.Words.{lines_in}
 use Rattle.mf_calls.specs.declared.script.FileLine.{FileLine}
@@ -18,16 +18,16 @@ use Rattle.mf_script.specs.Grammar.{Reading, at_line, or_at, ended, line_read, b
 use Rattle.mf_script.specs.Outcome.{IsRefusedAt, IsScriptOf}
 
 pub blank_is : (boots : List Module) (files : List FileLine) (tasks : List Task) (steps : List Step) → boots ≡ [] → files ≡ [] → tasks ≡ [] → steps ≡ []
-    → record { boots = boots; files = files; tasks = tasks; steps = steps } ≡ blank
+    → record { boots = boots; revocation = false; files = files; tasks = tasks; steps = steps } ≡ blank
 blank_is boots files tasks steps b f t s =
-    ap (λ (b : List Module). record { boots = b; files = files; tasks = tasks; steps = steps }) b
-    ∙ ap (λ (f : List FileLine). record { boots = []; files = f; tasks = tasks; steps = steps }) f
-    ∙ ap (λ (t : List Task). record { boots = []; files = []; tasks = t; steps = steps }) t
-    ∙ ap (λ (s : List Step). record { boots = []; files = []; tasks = []; steps = s }) s
+    ap (λ (b : List Module). record { boots = b; revocation = false; files = files; tasks = tasks; steps = steps }) b
+    ∙ ap (λ (f : List FileLine). record { boots = []; revocation = false; files = f; tasks = tasks; steps = steps }) f
+    ∙ ap (λ (t : List Task). record { boots = []; revocation = false; files = []; tasks = t; steps = steps }) t
+    ∙ ap (λ (s : List Step). record { boots = []; revocation = false; files = []; tasks = []; steps = s }) s
 
 pub start : (boots : List Module) (files : List FileLine) (tasks : List Task) (steps : List Step) (bytes : List ℕ) (lines : List (List ℕ))
     → boots ≡ [] → files ≡ [] → tasks ≡ [] → steps ≡ [] → lines ≡ lines_in bytes
-    → script_from (record { boots = boots; files = files; tasks = tasks; steps = steps }) place.Boots 1 lines ≡ script_of bytes
+    → script_from (record { boots = boots; revocation = false; files = files; tasks = tasks; steps = steps }) place.Boots 1 lines ≡ script_of bytes
 unfolding script_of
 start boots files tasks steps bytes lines b f t s l =
     ap (λ (script : Script). script_from script place.Boots 1 lines) (blank_is boots files tasks steps b f t s) ∙ ap (script_from blank place.Boots 1) l

@@ -1,22 +1,23 @@
 -- The calls and lines of tasks that the grammar reads are well formed.
-use Rattle.std.proofs.Common.{◌≡◌, ℕ, ◌<◌, ◌≤◌, Bool, true, false, List, [], ◌∷◌, Some, if◌then◌else◌}
+use Rattle.std.proofs.Common.{◌≡◌, ℕ, ◌<◌, ◌≤◌, ◌||◌, Bool, true, false, List, [], ◌∷◌, Some, if◌then◌else◌}
 use Rattle.std.specs.Str.{bytes_eq}
 use Rattle.mf_errno.specs.Privilege.{privilege_named}
 use Rattle.mf_script.specs.declared.error.ScriptFault.TheVariants.{UnknownWord}
 use Rattle.mf_calls.specs.declared.script.Call.{Call}
 use Rattle.mf_calls.specs.declared.script.Call.TheVariants as call
+use Rattle.mf_names.specs.declared.limits.TheConstants.{MOST_DESCRIPTORS}
 use Rattle.mf_calls.specs.declared.limits.TheConstants.{MODE_LIMIT}
 use Rattle.mf_rule.specs.declared.rule_list.TheConstants.{MAX_RULES}
 use Rattle.mf_calls.specs.Names.{is_process_name}
 use Rattle.mf_calls.specs.WellFormed.{IsWord, IsName, IsPath, IsFormedCall, IsFormedLine}
 use Rattle.mf_script.specs.Readers.{Read, fails, by_option}
 use Rattle.mf_words.specs.Words.{Words}
-use Rattle.mf_script.specs.Parts.{entry_named, simple_name_of, process_of, path_of, mode_of, text_of, privilege_of, rule_number_of}
+use Rattle.mf_script.specs.Parts.{entry_named, simple_name_of, process_of, path_of, mode_of, open_mode_of, text_of, privilege_of, rule_number_of, descriptor_of}
 use Rattle.mf_script.specs.Calls.{Arguments, bare, one, two, three, add_rule, set_rule, ugidfw_calls, ugidfw, calls, call_in, call_named, call_words}
 use Rattle.mf_script.specs.Lines.{behind_at, line_words}
 use Rattle.mf_script.proofs.ScriptWords.{AreWords, by_word}
 use Rattle.mf_script.proofs.Yields.{Yields, done, refused, chain, skip, chosen}
-use Rattle.mf_script.proofs.FormedParts.{name_formed, process_formed, path_formed, mode_formed, bytes_formed, word_formed, sides_formed, rule_number_formed, rule_formed}
+use Rattle.mf_script.proofs.FormedParts.{name_formed, process_formed, path_formed, mode_formed, open_mode_formed, bytes_formed, word_formed, sides_formed, rule_number_formed, descriptor_formed, rule_formed}
 
 -- a reader of well formed calls
 abbrev AreFormed : Arguments → Type 0
@@ -49,6 +50,12 @@ path_read w word = path_formed w
 
 mode_read : Reads (λ mode. mode ≤ MODE_LIMIT) mode_of
 mode_read w word = mode_formed w
+
+descriptor_read : Reads (λ n. n < MOST_DESCRIPTORS) descriptor_of
+descriptor_read w word = descriptor_formed w
+
+open_mode_read : Reads (λ mode. (mode.0 || mode.1) ≡ true) open_mode_of
+open_mode_read w word = open_mode_formed w
 
 privilege_read : Reads (λ privilege. Unit {0}) privilege_of
 unfolding privilege_of
@@ -133,6 +140,10 @@ all_formed =
     & one_formed _ _ call.Readdir path_read (λ x ok. ok)
     & two_formed _ _ _ _ call.Chmod path_read mode_read (λ path mode path_ok mode_ok. (path_ok, mode_ok))
     & one_formed _ _ call.Unlink path_read (λ x ok. ok)
+    & two_formed _ _ _ _ (λ path mode. call.OpenFd path mode.0 mode.1) path_read open_mode_read (λ path mode path_ok mode_ok. (path_ok, mode_ok))
+    & one_formed _ _ call.Fread descriptor_read (λ n ok. ok)
+    & two_formed _ _ _ _ call.Fwrite descriptor_read bytes_formed (λ n text n_ok text_ok. (n_ok, text_ok))
+    & one_formed _ _ call.Close descriptor_read (λ n ok. ok)
     & one_formed _ _ call.Pipe name_read (λ x ok. ok)
     & one_formed _ _ call.Socket name_read (λ x ok. ok)
     & one_formed _ _ call.Pread name_read (λ x ok. ok)

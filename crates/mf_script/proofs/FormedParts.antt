@@ -1,6 +1,6 @@
 -- What the grammar reads of a word is well formed.
 use Rattle.mf_labeltext.specs.Bytes.{comma, slash}
-use Rattle.std.proofs.Common.{All, ◌≡◌, ℕ, suc, ◌+◌, ◌<◌, arith, length-append, ◌==◌, ◌≤◌, Bool, true, false, if◌then◌else◌, List, [], ◌∷◌, ◌++◌, length, Option, Some, None, Result, Ok, Err, refl, subst, ap, ◌∙◌, lit≤}
+use Rattle.std.proofs.Common.{All, ◌≡◌, ℕ, suc, ◌+◌, ◌<◌, arith, length-append, ◌==◌, ◌≤◌, ◌||◌, Bool, true, false, if◌then◌else◌, List, [], ◌∷◌, ◌++◌, length, Option, Some, None, Result, Ok, Err, refl, subst, ap, ◌∙◌, lit≤}
 use Rattle.std.specs.Prelude.{nat_lt, codes}
 use Rattle.std.specs.List.{slice_split}
 use Rattle.std.specs.Str.{byte, bytes_eq}
@@ -20,7 +20,7 @@ use Rattle.mf_labeltext.specs.Reading.{request_in, cut, parts}
 use Rattle.mf_labeltext.proofs.Cutting.{IsCut, cut_is}
 use Rattle.mf_labeltext.proofs.Requests.{request_spells}
 use Rattle.mf_labeltext.proofs.Formed.{spelled_is_request}
-use Rattle.mf_names.specs.declared.limits.TheConstants.{PATH_LIMIT}
+use Rattle.mf_names.specs.declared.limits.TheConstants.{MOST_DESCRIPTORS, PATH_LIMIT}
 use Rattle.mf_cred.specs.declared.cred.TheConstants.{MOST_GROUPS}
 use Rattle.mf_item.specs.declared.view.Kind.{Kind}
 use Rattle.mf_rule.specs.declared.fault.RuleFault.{RuleFault}
@@ -34,9 +34,9 @@ use Rattle.mf_calls.specs.declared.limits.TheConstants.{UID_MAX, MODE_LIMIT}
 use Rattle.mf_names.specs.declared.limits.TheConstants.{SCRIPT_LIMIT}
 use Rattle.mf_calls.specs.Names.{is_name, is_process_name, is_component}
 use Rattle.mf_calls.specs.WellFormed.{IsWord, IsPrintable, IsAsked, IsPath, IsText}
-use Rattle.mf_script.specs.declared.error.ScriptFault.TheVariants.{Missing, BadNumber, BadLabel, BadRule, BadText}
+use Rattle.mf_script.specs.declared.error.ScriptFault.TheVariants.{UnknownWord, Missing, BadNumber, BadLabel, BadRule, BadText}
 use Rattle.mf_script.specs.Readers.{Read, fails, or_fault, by_option}
-use Rattle.mf_script.specs.Parts.{all_added, number_of, with_group, groups_of, simple_name_of, process_of, mode_of, with_component, components_of, behind_root, path_of, any_word, text_of, sides_of, rule_number_of, rule_of}
+use Rattle.mf_script.specs.Parts.{all_added, number_to, number_of, descriptor_of, open_mode_of, with_group, groups_of, simple_name_of, process_of, mode_of, with_component, components_of, behind_root, path_of, any_word, text_of, sides_of, rule_number_of, rule_of}
 use Rattle.mf_script.specs.Grammar.{requested, judged_request}
 use Rattle.mf_script.proofs.EscapedBytes.{escaped_short, escaped_fit}
 use Rattle.mf_script.proofs.Numbers.{number_most}
@@ -47,12 +47,21 @@ pub name_formed : (w : List ℕ) → Yields (λ name. is_name name ≡ true) (si
 unfolding simple_name_of
 name_formed w = checked _ _ _ (λ e. done e)
 
-pub number_formed : (w : List ℕ) → Yields (λ n. n ≤ UID_MAX) (number_of w)
-unfolding number_of
-number_formed w = by_number (number_in 10 0 UID_MAX w) refl where
-  by_number : (read : Result ℕ NumberFault) → number_in 10 0 UID_MAX w ≡ read → Yields (λ n. n ≤ UID_MAX) (or_fault BadNumber read)
-  by_number (Ok n) e = done (number_most 10 0 UID_MAX w n e)
+number_fits : (most : ℕ) (w : List ℕ) → Yields (λ n. n ≤ most) (number_to most w)
+unfolding number_to
+number_fits most w = by_number (number_in 10 0 most w) refl where
+  by_number : (read : Result ℕ NumberFault) → number_in 10 0 most w ≡ read → Yields (λ n. n ≤ most) (or_fault BadNumber read)
+  by_number (Ok n) e = done (number_most 10 0 most w n e)
   by_number (Err fault) e = refused
+
+pub number_formed : (w : List ℕ) → Yields (λ n. n ≤ UID_MAX) (number_of w)
+number_formed w = number_fits UID_MAX w
+
+pub rule_number_formed : (w : List ℕ) → Yields (λ n. n < MAX_RULES) (rule_number_of w)
+rule_number_formed w = widened (number_fits 249 w) (λ n most. omega (arith, most))
+
+pub descriptor_formed : (w : List ℕ) → Yields (λ n. n < MOST_DESCRIPTORS) (descriptor_of w)
+descriptor_formed w = widened (number_fits 15 w) (λ n most. omega (arith, most))
 
 pub mode_formed : (w : List ℕ) → Yields (λ mode. mode ≤ MODE_LIMIT) (mode_of w)
 unfolding mode_of
@@ -61,12 +70,16 @@ mode_formed w = by_number (number_in 8 0 MODE_LIMIT w) refl where
   by_number (Ok mode) e = done (number_most 8 0 MODE_LIMIT w mode e)
   by_number (Err fault) e = refused
 
-pub rule_number_formed : (w : List ℕ) → Yields (λ n. n < MAX_RULES) (rule_number_of w)
-unfolding rule_number_of
-rule_number_formed w = by_number (number_in 10 0 249 w) refl where
-  by_number : (read : Result ℕ NumberFault) → number_in 10 0 249 w ≡ read → Yields (λ n. n < 250) (or_fault BadNumber read)
-  by_number (Ok n) e = let most = number_most 10 0 249 w n e in done (omega (arith, most))
-  by_number (Err fault) e = refused
+pub open_mode_formed : (w : List ℕ) → Yields (λ mode. (mode.0 || mode.1) ≡ true) (open_mode_of w)
+unfolding open_mode_of
+open_mode_formed w = by_tests (bytes_eq w (codes "r")) (bytes_eq w (codes "w")) (bytes_eq w (codes "rw")) where
+  by_tests : (reads writes both : Bool)
+      → Yields (λ (mode : Bool × Bool). (mode.0 || mode.1) ≡ true)
+      (by_option (if reads then Some (true, false) else if writes then Some (false, true) else if both then Some (true, true) else None) (fails UnknownWord) Ok)
+  by_tests true writes both = done refl
+  by_tests false true both = done refl
+  by_tests false false true = done refl
+  by_tests false false false = refused
 
 pub process_formed : (w : List ℕ) → Yields (λ name. is_process_name name ≡ true) (process_of w)
 unfolding process_of

@@ -1,5 +1,5 @@
 -- What was read so far of a script is well formed, and each line that is read keeps it so.
-use Rattle.std.proofs.Common.{◌≡◌, ◌≢◌, ℕ, ◌+◌, ◌≤◌, true, List, [], ◌∷◌, ◌++◌, length, Result, Ok, Err, refl, sym, ap, ◌∙◌, subst, arith, length-append, lit≤}
+use Rattle.std.proofs.Common.{◌≡◌, ◌≢◌, ℕ, ◌+◌, ◌≤◌, Bool, true, false, List, [], ◌∷◌, ◌++◌, length, Result, Ok, Err, refl, sym, ap, ◌∙◌, subst, arith, length-append, lit≤}
 use Rattle.std.proofs.lemmas.Bool.{ltb-true}
 use Rattle.std.proofs.lemmas.List.Elements.{All-nil, All-push}
 use Rattle.std.proofs.lemmas.List.Quantifiers.{all_pairs_push}
@@ -20,7 +20,7 @@ use Rattle.mf_script.specs.declared.error.ScriptError.{ScriptError}
 use Rattle.mf_script.specs.declared.error.ScriptError.TheVariants as error
 use Rattle.mf_script.specs.declared.rows.Place.{Place}
 use Rattle.mf_script.specs.declared.rows.Place.TheVariants as place
-use Rattle.mf_script.specs.Grammar.{Reading, boot_in, file_in, task_in, line_in, step_in, nothing_behind, behind_tasks, behind_files, behind_boots, in_task, in_steps, row_in, words_line, line_read, blank, ended}
+use Rattle.mf_script.specs.Grammar.{Reading, boot_in, tunable_in, file_in, task_in, line_in, step_in, nothing_behind, behind_tasks, behind_files, behind_tunable, behind_boots, in_task, in_steps, row_in, words_line, line_read, blank, ended}
 use Rattle.mf_script.specs.Outcome.{IsScriptOf}
 use Rattle.mf_script.proofs.ScriptWords.{AreWords, script_words}
 use Rattle.mf_script.proofs.FormedLines.{file_formed, task_formed, step_formed}
@@ -36,6 +36,7 @@ record IsOpen (s : Script) (t : Task) (lists : ℕ) : Type 0 where
 
 IsAt : Script → Place → Type 0
 IsAt s place.Boots = (s.files ≡ []) × (s.tasks ≡ [])
+IsAt s place.Tunable = s.tasks ≡ []
 IsAt s place.Files = s.tasks ≡ []
 IsAt s (place.Tasks lists) = lists ≡ sum_by rule_list_count s.tasks
 IsAt s (place.Task t lists) = IsOpen s t lists
@@ -83,6 +84,22 @@ with_boots s boots formed no_files no_tasks are =
       tasks = formed.tasks;
       names = formed.names;
       each_task = subst (All (IsFormedTask boots)) (sym no_tasks) (All-nil _);
+      rule_lists = formed.rule_lists;
+      steps = formed.steps;
+      each_step = formed.each_step;
+    }
+
+with_revocation : (s : Script) (revocation : Bool) → IsWellFormed s → IsWellFormed (record s { revocation = revocation })
+with_revocation s revocation formed =
+    record {
+      boots = formed.boots;
+      files = formed.files;
+      paths = formed.paths;
+      each_file = formed.each_file;
+      directories = formed.directories;
+      tasks = formed.tasks;
+      names = formed.names;
+      each_task = formed.each_task;
       rule_lists = formed.rule_lists;
       steps = formed.steps;
       each_step = formed.each_step;
@@ -147,6 +164,11 @@ boot_keeps s ws formed no_files no_tasks =
     chain _ _ (boot_listed s.boots ws formed.boots)
     (λ m are. done (record { formed = with_boots s (s.boots ++ m ∷ []) formed no_files no_tasks are; at = (no_files, no_tasks) }))
 
+tunable_keeps : (s : Script) (again : Bool) (ws : Words) → IsWellFormed s → s.tasks ≡ [] → Yields Keeps (tunable_in s again ws)
+unfolding tunable_in Keeps IsAt
+tunable_keeps s again ws formed no_tasks =
+    skip _ _ (λ sides. skip _ _ (λ revocation. done (record { formed = with_revocation s revocation formed; at = no_tasks })))
+
 files_of : (s : Script) → IsWellFormed s → AreFiles s.boots s.files
 files_of s formed = record { few = formed.files; paths = formed.paths; each = formed.each_file; directories = formed.directories }
 
@@ -196,10 +218,15 @@ unfolding behind_files
 files_keep s w ws are formed no_tasks =
     either (bytes_eq w (codes "file")) _ _ (file_keeps s ws are formed no_tasks) (tasks_keep s 0 w ws are formed (ap (sum_by rule_list_count) (sym no_tasks)))
 
+tunable_keep : (s : Script) (again : Bool) (w : List ℕ) (ws : Words) → AreWords ws → IsWellFormed s → s.tasks ≡ [] → Yields Keeps (behind_tunable s again w ws)
+unfolding behind_tunable
+tunable_keep s again w ws are formed no_tasks =
+    either (bytes_eq w (codes "tunable")) _ _ (tunable_keeps s again ws formed no_tasks) (files_keep s w ws are formed no_tasks)
+
 boots_keep : (s : Script) (w : List ℕ) (ws : Words) → AreWords ws → IsWellFormed s → s.files ≡ [] → s.tasks ≡ [] → Yields Keeps (behind_boots s w ws)
 unfolding behind_boots
 boots_keep s w ws are formed no_files no_tasks =
-    either (bytes_eq w (codes "boot")) _ _ (boot_keeps s ws formed no_files no_tasks) (files_keep s w ws are formed no_tasks)
+    either (bytes_eq w (codes "boot")) _ _ (boot_keeps s ws formed no_files no_tasks) (tunable_keep s false w ws are formed no_tasks)
 
 in_task_keeps : (s : Script) (t : Task) (lists : ℕ) (w : List ℕ) (ws : Words) → AreWords ws → IsWellFormed s → IsOpen s t lists → Yields Keeps (in_task s t lists w ws)
 unfolding in_task Keeps IsAt
@@ -216,6 +243,7 @@ in_steps_keeps s w ws are formed =
 row_keeps : (s : Script) (p : Place) (w : List ℕ) (ws : Words) → AreWords ws → IsSoFar s p → Yields Keeps (row_in s p w ws)
 unfolding row_in IsAt
 row_keeps s place.Boots w ws are so = boots_keep s w ws are so.formed so.at.0 so.at.1
+row_keeps s place.Tunable w ws are so = tunable_keep s true w ws are so.formed so.at
 row_keeps s place.Files w ws are so = files_keep s w ws are so.formed so.at
 row_keeps s (place.Tasks lists) w ws are so = tasks_keep s lists w ws are so.formed so.at
 row_keeps s (place.Task t lists) w ws are so = in_task_keeps s t lists w ws are so.formed so.at
@@ -239,6 +267,7 @@ line_kept s p line s' p' few so e = (reads s p line few so).of (s', p') e
 
 same_script : (s : Script) (p : Place) (n : ℕ) (found : Script) → ended s p n ≡ Ok found → s ≡ found
 same_script s place.Boots n found e = cc
+same_script s place.Tunable n found e = cc
 same_script s place.Files n found e = cc
 same_script s (place.Tasks lists) n found e = cc
 same_script s (place.Task t lists) n found e = cc

@@ -5,7 +5,7 @@ use Rattle.mf_calls.specs.declared.script.Call.{Call}
 use Rattle.mf_calls.specs.declared.script.Call.TheVariants as call
 use Rattle.mf_script.specs.declared.error.ScriptFault.TheVariants.{Missing}
 use Rattle.mf_script.specs.Readers.{Read, ◌>>=◌, fails}
-use Rattle.mf_script.specs.Parts.{word_by, no_more, one_of, any_word, mode_of, rule_number_of, simple_name_of, process_of, path_of, text_of, privilege_of, sides_of, rule_of}
+use Rattle.mf_script.specs.Parts.{word_by, no_more, one_of, any_word, mode_of, rule_number_of, descriptor_of, open_mode_of, simple_name_of, process_of, path_of, text_of, privilege_of, sides_of, rule_of}
 
 -- a reader of the arguments behind a call's name, which returns the words after them too
 abbrev pub Arguments : Type 0
@@ -96,6 +96,14 @@ file_calls =
     ∷ (codes "unlink", one path_of call.Unlink)
     ∷ []
 
+abbrev pub descriptor_calls : Table
+descriptor_calls =
+    (codes "open", two path_of open_mode_of (λ path mode. call.OpenFd path mode.0 mode.1))
+    ∷ (codes "fread", one descriptor_of call.Fread)
+    ∷ (codes "fwrite", two descriptor_of text_of call.Fwrite)
+    ∷ (codes "close", one descriptor_of call.Close)
+    ∷ []
+
 abbrev pub channel_calls : Table
 channel_calls =
     (codes "pipe", one simple_name_of call.Pipe)
@@ -124,7 +132,7 @@ setting_calls =
     ∷ []
 
 abbrev pub calls : Table
-calls = process_calls ++ file_calls ++ channel_calls ++ module_calls ++ setting_calls
+calls = process_calls ++ file_calls ++ descriptor_calls ++ channel_calls ++ module_calls ++ setting_calls
 
 -- a call by its name: its arguments, and no more
 unfoldable pub call_named : List ℕ → Words → Read Call

@@ -1,12 +1,13 @@
 -- Which bytes are a script, which script they are, and else the first faulty line with its first fault: the grammar, the limits and the order
 -- of faults of docs/MANUAL.md (THE SCRIPT). In a line NotText is looked for first, then the words from left to right, then Extra, and then what
 -- the words ask for is judged.
-use Rattle.std.specs.Prelude.{ℕ, ◌+◌, ◌==◌, Bool, not, ◌&&◌, ◌||◌, nat_lt, nat_le, if◌then◌else◌, List, [], ◌∷◌, ◌++◌, length, Result, Ok, Err, codes}
+use Rattle.std.specs.Prelude.{ℕ, ◌+◌, ◌==◌, Bool, true, false, not, ◌&&◌, ◌||◌, nat_lt, nat_le, if◌then◌else◌, List, [], ◌∷◌, ◌++◌, length, Result, Ok, Err, codes}
 use Rattle.std.specs.Cmp.Lexicographic.{pointwise}
 use Rattle.std.specs.List.{list_all, list_any}
 use Rattle.std.specs.Str.{bytes_eq}
-use Rattle.mf_errno.specs.declared.errno.Errno.TheVariants.{Enoent, Eexist}
+use Rattle.mf_errno.specs.declared.errno.Errno.TheVariants.{Enoent, Eexist, Einval}
 use Rattle.mf_errno.specs.declared.module.Module.{Module}
+use Rattle.mf_errno.specs.declared.module.Module.TheVariants.{Biba}
 use Rattle.mf_errno.specs.Names.{module_named}
 use Rattle.mf_elem.specs.declared.label.Request.{Request}
 use Rattle.mf_elem.specs.Label.{no_request}
@@ -23,6 +24,7 @@ use Rattle.mf_calls.specs.declared.script.Script.{Script}
 use Rattle.mf_calls.specs.Paths.{directory_of, has_directory}
 use Rattle.mf_calls.specs.Boots.{is_booted, may_ask_for}
 use Rattle.mf_calls.specs.Tasks.{lists_rules}
+use Rattle.mf_calls.specs.Tunable.{revocation_name, switch}
 use Rattle.mf_spelling.specs.Spelling.{is_line_byte}
 use Rattle.mf_script.specs.declared.error.ScriptFault.TheVariants.{NotText, UnknownWord, BadLabel, BadPath, Duplicate, NoEnd, TooMany}
 use Rattle.mf_script.specs.declared.error.ScriptError.{ScriptError}
@@ -32,9 +34,9 @@ use Rattle.mf_script.specs.declared.lines.FileWords.{FileWords}
 use Rattle.mf_script.specs.declared.lines.TaskWords.{TaskWords}
 use Rattle.mf_script.specs.declared.rows.Place.{Place}
 use Rattle.mf_script.specs.declared.rows.Place.TheVariants as place
-use Rattle.mf_script.specs.Readers.{Read, ◌>>=◌, plain, fails, boot_refused, unless, or_fault, by_option}
+use Rattle.mf_script.specs.Readers.{Read, ◌>>=◌, plain, fails, boot_refused, unless, unless_refused, or_fault, by_option}
 use Rattle.mf_script.specs.Parts.{no_more}
-use Rattle.mf_script.specs.Lines.{boot_words, file_words, task_words, line_words, step_words}
+use Rattle.mf_script.specs.Lines.{boot_words, tunable_words, file_words, task_words, line_words, step_words}
 
 -- What the words of a line ask for is judged in this order: TooMany, BootRefused, Duplicate, BadPath, BadLabel.
 
@@ -45,6 +47,14 @@ judged_module boots m = if is_booted boots m then boot_refused Eexist else Ok m
 -- the module of that name after these
 unfoldable pub judged_boot : List Module → List ℕ → Read Module
 judged_boot boots name = by_option (module_named name) (boot_refused Enoent) (judged_module boots)
+
+-- what the tunable of that name is set to; `again` where an earlier line has set it
+unfoldable pub judged_tunable : List Module → Bool → (List ℕ × List ℕ) → Read Bool
+judged_tunable boots again sides = do
+  u ← unless_refused Enoent (bytes_eq sides.0 revocation_name && is_booted boots Biba)
+  revocation ← by_option (switch sides.1) (boot_refused Einval) Ok
+  u ← unless Duplicate (not again)
+  Ok revocation
 
 -- what a label text asks for, where `-` asks for nothing
 unfoldable pub requested : List ℕ → Read Request
@@ -96,8 +106,8 @@ with_list call lists =
     if lists_rules call then (unless TooMany (nat_lt lists RULE_LIST_LIMIT) >>= λ u. Ok (lists + 1))
     else Ok lists
 
--- Each line makes the script longer, or the task that is open, and gives the place of the next line: behind boots, files or tasks, in a task,
--- in the steps, or behind them. A place among tasks knows how many of their lines list the rules.
+-- Each line makes the script longer, or the task that is open, and gives the place of the next line: behind boots, the tunable, files or tasks, in
+-- a task, in the steps, or behind them. A place among tasks knows how many of their lines list the rules.
 
 abbrev pub Reading : Type 0
 Reading = Script × Place
@@ -110,6 +120,12 @@ unfoldable pub boot_in : Script → Words → Read Reading
 boot_in s ws = do
   m ← booted_after s.boots ws
   Ok (record s { boots = s.boots ++ m ∷ [] }, place.Boots)
+
+unfoldable pub tunable_in : Script → Bool → Words → Read Reading
+tunable_in s again ws = do
+  sides ← tunable_words ws
+  revocation ← judged_tunable s.boots again sides
+  Ok (record s { revocation = revocation }, place.Tunable)
 
 unfoldable pub file_in : Script → Words → Read Reading
 file_in s ws = do
@@ -140,7 +156,7 @@ step_in s w ws = do
 unfoldable pub nothing_behind : Reading → Words → Read Reading
 nothing_behind next ws = no_more ws >>= λ u. Ok next
 
--- script = *boot *file *task [ steps ], by the first word of a line and the words behind it
+-- script = *boot *tunable *file *task [ steps ], by the first word of a line and the words behind it
 
 unfoldable pub behind_tasks : Script → ℕ → List ℕ → Words → Read Reading
 behind_tasks s lists w ws =
@@ -151,8 +167,11 @@ behind_tasks s lists w ws =
 unfoldable pub behind_files : Script → List ℕ → Words → Read Reading
 behind_files s w ws = if bytes_eq w (codes "file") then file_in s ws else behind_tasks s 0 w ws
 
+unfoldable pub behind_tunable : Script → Bool → List ℕ → Words → Read Reading
+behind_tunable s again w ws = if bytes_eq w (codes "tunable") then tunable_in s again ws else behind_files s w ws
+
 unfoldable pub behind_boots : Script → List ℕ → Words → Read Reading
-behind_boots s w ws = if bytes_eq w (codes "boot") then boot_in s ws else behind_files s w ws
+behind_boots s w ws = if bytes_eq w (codes "boot") then boot_in s ws else behind_tunable s false w ws
 
 -- task = .. *line "end"
 unfoldable pub in_task : Script → Task → ℕ → List ℕ → Words → Read Reading
@@ -166,6 +185,7 @@ in_steps s w ws = if bytes_eq w (codes "end") then nothing_behind (s, place.End)
 
 unfoldable pub row_in : Script → Place → List ℕ → Words → Read Reading
 row_in s place.Boots w ws = behind_boots s w ws
+row_in s place.Tunable w ws = behind_tunable s true w ws
 row_in s place.Files w ws = behind_files s w ws
 row_in s (place.Tasks lists) w ws = behind_tasks s lists w ws
 row_in s (place.Task t lists) w ws = in_task s t lists w ws
@@ -202,7 +222,7 @@ script_from s p n [] = ended s p n
 script_from s p n (line ∷ lines) = or_at n (line_read s p line) (λ next. script_from next.0 next.1 (n + 1) lines)
 
 abbrev pub blank : Script
-blank = record { boots = []; files = []; tasks = []; steps = [] }
+blank = record { boots = []; revocation = false; files = []; tasks = []; steps = [] }
 
 -- the script that the bytes are, or its first fault
 unfoldable pub script_of : List ℕ → Result Script ScriptError

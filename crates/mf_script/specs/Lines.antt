@@ -14,7 +14,7 @@ use Rattle.mf_script.specs.declared.error.ScriptFault.TheVariants.{UnknownWord, 
 use Rattle.mf_script.specs.declared.lines.FileWords.{FileWords}
 use Rattle.mf_script.specs.declared.lines.TaskWords.{TaskWords}
 use Rattle.mf_script.specs.Readers.{Read, ◌>>=◌, fails, by_option}
-use Rattle.mf_script.specs.Parts.{word_by, field, no_more, one_of, any_word, number_of, mode_of, simple_name_of, path_of, groups_of, is_directory_of, text_of}
+use Rattle.mf_script.specs.Parts.{word_by, field, no_more, one_of, any_word, number_of, mode_of, simple_name_of, path_of, groups_of, is_directory_of, text_of, sides_of}
 use Rattle.mf_script.specs.Calls.{call_named, call_words}
 
 -- behind the word `boot`: MODULE
@@ -23,6 +23,13 @@ boot_words ws = do
   name ← word_by any_word ws
   u ← no_more name.1
   Ok name.0
+
+-- behind the word `tunable`: NAME=VALUE, as of a call of sysctl(8)
+unfoldable pub tunable_words : Words → Read (List ℕ × List ℕ)
+tunable_words ws = do
+  sides ← word_by sides_of ws
+  u ← no_more sides.1
+  Ok sides.0
 
 -- of a regular file [ "text" TEXT ], of a directory nothing
 unfoldable pub file_content : Bool → Words → Read (List ℕ × Words)

@@ -1,14 +1,14 @@
 -- The words of a line one by one, each with its fault, as the table of words in docs/MANUAL.md (THE SCRIPT) has them. A reader takes words
 -- from the front, and returns what it read and the words after it.
 use Rattle.mf_labeltext.specs.Bytes.{comma, slash}
-use Rattle.std.specs.Prelude.{ℕ, ◌-◌, Bool, true, false, ◌&&◌, ◌==◌, nat_lt, if◌then◌else◌, List, [], ◌∷◌, ◌++◌, length, Option, Some, None, Ok, codes}
+use Rattle.std.specs.Prelude.{ℕ, ◌-◌, Bool, true, false, ◌&&◌, ◌==◌, nat_lt, if◌then◌else◌, List, [], ◌∷◌, ◌++◌, length, map, Option, Some, None, Ok, codes}
 use Rattle.std.specs.Str.{byte, bytes_eq}
 use Rattle.mf_errno.specs.Privilege.{privilege_named}
 use Rattle.mf_errno.specs.declared.privilege.Priv.{Priv}
 use Rattle.mf_text.specs.Number.{number_in}
 use Rattle.mf_text.specs.Escape.{bytes_of}
 use Rattle.mf_labeltext.specs.Reading.{cut, parts}
-use Rattle.mf_names.specs.declared.limits.TheConstants.{PATH_LIMIT}
+use Rattle.mf_names.specs.declared.limits.TheConstants.{MOST_DESCRIPTORS, PATH_LIMIT}
 use Rattle.mf_cred.specs.declared.cred.TheConstants.{MOST_GROUPS}
 use Rattle.mf_rule.specs.declared.rule.Rule.{Rule}
 use Rattle.mf_rule.specs.declared.rule_list.TheConstants.{MAX_RULES}
@@ -16,6 +16,7 @@ use Rattle.mf_rule.specs.Reading.{rule_in}
 use Rattle.mf_words.specs.Words.{Words}
 use Rattle.mf_calls.specs.declared.limits.TheConstants.{UID_MAX, MODE_LIMIT}
 use Rattle.mf_calls.specs.Names.{is_name, is_process_name, is_component}
+use Rattle.mf_spelling.specs.Spelling.{open_mode}
 use Rattle.mf_script.specs.declared.error.ScriptFault.TheVariants.{UnknownWord, Missing, Extra, BadNumber, BadRule, BadPath, BadText}
 use Rattle.mf_script.specs.Readers.{Read, ◌>>=◌, fails, unless, or_fault, by_option}
 
@@ -53,13 +54,21 @@ one_of table w more = by_option (entry_named w table) (fails UnknownWord) more
 unfoldable pub any_word : List ℕ → Read (List ℕ)
 any_word w = Ok w
 
--- a uid or gid: a decimal number of 32 bits
-unfoldable pub number_of : List ℕ → Read ℕ
-number_of w = or_fault BadNumber (number_in 10 0 UID_MAX w)
+-- a decimal number of at most that
+unfoldable pub number_to : ℕ → List ℕ → Read ℕ
+number_to most w = or_fault BadNumber (number_in 10 0 most w)
+
+-- a uid or gid: a number of 32 bits
+abbrev pub number_of : List ℕ → Read ℕ
+number_of = number_to UID_MAX
 
 -- the number of a rule of mac_bsdextended(4)
-unfoldable pub rule_number_of : List ℕ → Read ℕ
-rule_number_of w = or_fault BadNumber (number_in 10 0 (MAX_RULES - 1) w)
+abbrev pub rule_number_of : List ℕ → Read ℕ
+rule_number_of = number_to (MAX_RULES - 1)
+
+-- the number of a descriptor
+abbrev pub descriptor_of : List ℕ → Read ℕ
+descriptor_of = number_to (MOST_DESCRIPTORS - 1)
 
 -- a file mode: an octal number up to 7777
 unfoldable pub mode_of : List ℕ → Read ℕ
@@ -80,6 +89,13 @@ privilege_of w = by_option (privilege_named w) (fails UnknownWord) Ok
 -- the kind of a file: whether it is a directory
 unfoldable pub is_directory_of : List ℕ → Read Bool
 is_directory_of w = one_of ((codes "reg", false) ∷ (codes "dir", true) ∷ []) w Ok
+
+abbrev pub open_modes : List (List ℕ × (Bool × Bool))
+open_modes = map (λ mode. (open_mode mode.0 mode.1, mode)) ((true, false) ∷ (false, true) ∷ (true, true) ∷ [])
+
+-- how a file is opened: whether for reading, and whether for writing
+unfoldable pub open_mode_of : List ℕ → Read (Bool × Bool)
+open_mode_of w = one_of open_modes w Ok
 
 -- the bytes that a text with escapes stands for
 unfoldable pub text_of : List ℕ → Read (List ℕ)

@@ -33,6 +33,11 @@ abbrev pub unless : ScriptFault → Bool → Read (Unit {0})
 unless fault true = Ok tt
 unless fault false = fails fault
 
+-- goes on where the test is true, and else refuses what is to be booted, or set before it, with that errno
+abbrev pub unless_refused : Errno → Bool → Read (Unit {0})
+unless_refused errno true = Ok tt
+unless_refused errno false = boot_refused errno
+
 -- what another reader reads, each of whose faults is this one here
 abbrev pub or_fault : {A E : Type 0} → ScriptFault → Result A E → Read A
 or_fault fault (Ok x) = Ok x

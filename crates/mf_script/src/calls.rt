@@ -4,8 +4,8 @@
 ghost use Rattle.std.specs.Prelude.{◌≡◌, ◌++◌};
 ghost use Rattle.mf_script.specs.Gives.{Gives};
 ghost use Rattle.mf_calls.specs.declared.script.Call.TheVariants as call;
-ghost use Rattle.mf_script.specs.Parts.{any_word, simple_name_of, path_of, mode_of, text_of, sides_of};
-ghost use Rattle.mf_script.specs.Calls.{call_in, call_named, call_words, calls, file_calls, channel_calls, module_calls, setting_calls, add_rule, set_rule, ugidfw_calls, ugidfw, one, two, three};
+ghost use Rattle.mf_script.specs.Parts.{any_word, simple_name_of, path_of, mode_of, open_mode_of, descriptor_of, text_of, sides_of};
+ghost use Rattle.mf_script.specs.Calls.{call_in, call_named, call_words, calls, file_calls, descriptor_calls, channel_calls, module_calls, setting_calls, add_rule, set_rule, ugidfw_calls, ugidfw, one, two, three};
 
 use crate::error::ScriptFault;
 use crate::refusal::{Refusal, faulty};
@@ -53,6 +53,24 @@ fn chmod(alloc: Global, words: &mut Words) -> Result<Call, Refusal>
     let path = names::path(alloc, words)?;
     let mode = parts::mode(words)?;
     Ok(Call::Chmod(path, mode))
+}
+
+fn open(alloc: Global, words: &mut Words) -> Result<Call, Refusal>
+    ensures { Gives (λ c. (c, words.new)) result
+        (two path_of open_mode_of (λ path mode. call.OpenFd path mode.0 mode.1) words.old) }
+{
+    let path = names::path(alloc, words)?;
+    let (read, write) = parts::open_mode(words)?;
+    Ok(Call::OpenFd(path, read, write))
+}
+
+fn fwrite(alloc: Global, words: &mut Words) -> Result<Call, Refusal>
+    ensures { Gives (λ c. (c, words.new)) result
+        (two descriptor_of text_of call.Fwrite words.old) }
+{
+    let number = parts::descriptor(words)?;
+    let text = parts::text(alloc, words)?;
+    Ok(Call::Fwrite(number, text))
 }
 
 fn pwrite(alloc: Global, words: &mut Words) -> Result<Call, Refusal>
@@ -146,7 +164,9 @@ fn call(alloc: Global, name: &str, words: &mut Words) -> Result<Call, Refusal>
 #[tactic(auto, unfolding(crate::specs::Calls::call_in, crate::specs::Readers::and_then))]
 fn file_call(alloc: Global, name: &str, words: &mut Words) -> Result<Call, Refusal>
     ensures { Gives (λ c. (c, words.new)) result
-        (call_in (file_calls ++ channel_calls ++ module_calls ++ setting_calls) name.now words.old) }
+        (call_in
+        (file_calls ++ descriptor_calls ++ channel_calls ++ module_calls ++ setting_calls)
+        name.now words.old) }
 {
     match name {
         "exec" => Ok(Call::Exec(names::path(alloc, words)?)),
@@ -160,11 +180,27 @@ fn file_call(alloc: Global, name: &str, words: &mut Words) -> Result<Call, Refus
         "readdir" => Ok(Call::Readdir(names::path(alloc, words)?)),
         "chmod" => chmod(alloc, words),
         "unlink" => Ok(Call::Unlink(names::path(alloc, words)?)),
+        _ => descriptor_call(alloc, name, words),
+    }
+}
+
+/// The same of a call that is about descriptors, or about no file.
+#[tactic(auto, unfolding(crate::specs::Calls::call_in, crate::specs::Readers::and_then))]
+fn descriptor_call(alloc: Global, name: &str, words: &mut Words) -> Result<Call, Refusal>
+    ensures { Gives (λ c. (c, words.new)) result
+        (call_in (descriptor_calls ++ channel_calls ++ module_calls ++ setting_calls)
+        name.now words.old) }
+{
+    match name {
+        "open" => open(alloc, words),
+        "fread" => Ok(Call::Fread(parts::descriptor(words)?)),
+        "fwrite" => fwrite(alloc, words),
+        "close" => Ok(Call::Close(parts::descriptor(words)?)),
         _ => channel_call(alloc, name, words),
     }
 }
 
-/// The same of a call that is about no file either.
+/// The same of a call that is about no file.
 #[tactic(auto, unfolding(crate::specs::Calls::call_in, crate::specs::Readers::and_then))]
 fn channel_call(alloc: Global, name: &str, words: &mut Words) -> Result<Call, Refusal>
     ensures { Gives (λ c. (c, words.new)) result

@@ -26,13 +26,13 @@ pub enum ScriptFault {
     BadRule,
     /// No path or no name, or a file whose directory isn't there.
     BadPath,
-    /// A path or a task's name of an earlier line.
+    /// A path or a task's name of an earlier line, or a tunable that one has set.
     Duplicate,
     /// The script ends inside a task or inside the steps.
     NoEnd,
     /// More than the limit.
     TooMany,
-    /// A module that can't be booted.
+    /// A module that can't be booted, or a tunable that can't be set.
     BootRefused,
     /// A text with a bad escape.
     BadText,
@@ -85,7 +85,8 @@ impl ScriptFault {
 /// Why bytes are not read as a script.
 #[derive(Clone, Copy, Debug, PartialEq, Eq, Error)]
 pub enum ScriptError {
-    /// The first faulty line, counted from 1, and its first fault, with an errno where a module can't be booted.
+    /// The first faulty line, counted from 1, and its first fault, with an errno where a module can't be booted or a tunable
+    /// can't be set.
     #[error("line {line}: {fault:?}")]
     Fault {
         line: u32,

@@ -6,14 +6,14 @@ ghost use Rattle.std.specs.List.{list_any};
 ghost use Rattle.mf_names.specs.declared.limits.TheConstants.{CONTENT_LIMIT};
 ghost use Rattle.mf_calls.specs.Paths.{is_directory_at, has_directory};
 ghost use Rattle.mf_script.specs.Gives.{Gives};
-ghost use Rattle.mf_script.specs.Grammar.{judged_module, judged_boot, requested, judged_request, has_path, file_label, judged_file, has_name, task_label, judged_task, with_list};
+ghost use Rattle.mf_script.specs.Grammar.{judged_module, judged_boot, judged_tunable, requested, judged_request, has_path, file_label, judged_file, has_name, task_label, judged_task, with_list};
 
 use crate::error::ScriptFault;
 use crate::lines::{FileWords, TaskWords};
 use crate::refusal::{Refusal, boot_refused, faulty};
 use mf_calls::{
     Bytes, CONTENT_LIMIT, Call, Components, FILE_LIMIT, FileLine, Listing, Name, RULE_LIST_LIMIT,
-    TASK_LIMIT, Task, directory_of, is_booted, is_same_path, may_ask_for,
+    TASK_LIMIT, Task, directory_of, is_booted, is_same_path, may_ask_for, revocation_name, switch,
 };
 use mf_elem::Request;
 use mf_errno::{Errno, Module};
@@ -42,6 +42,28 @@ pub fn judged_boot(boots: &[Module], name: &str) -> Result<Module, Refusal>
         None => Err(boot_refused(Errno::Enoent)),
         Some(named) => judged_module(boots, named),
     }
+}
+
+/// What the tunable of that name is set to, where it may be set after these modules; `again` where an earlier line has set it.
+#[tactic(auto, unfolding(crate::specs::Grammar::judged_tunable, crate::specs::Readers::and_then))]
+pub fn judged_tunable(
+    boots: &[Module],
+    again: bool,
+    name: &str,
+    value: &str,
+) -> Result<bool, Refusal>
+    ensures { Gives (λ r. r) result (judged_tunable boots.now again (name.now, value.now)) }
+{
+    if name != revocation_name() || !is_booted(boots, Module::Biba) {
+        return Err(boot_refused(Errno::Enoent));
+    }
+    let Some(revocation) = switch(value) else {
+        return Err(boot_refused(Errno::Einval));
+    };
+    if again {
+        return Err(faulty(ScriptFault::Duplicate));
+    }
+    Ok(revocation)
 }
 
 #[tactic(auto, unfolding(crate::specs::Grammar::requested))]

@@ -3,7 +3,7 @@
 
 ghost use Rattle.std.specs.Prelude.{◌≡◌};
 ghost use Rattle.mf_script.specs.Gives.{Gives};
-ghost use Rattle.mf_script.specs.Lines.{boot_words, file_content, file_view, file_words, cred_words, task_words, line_words, step_kind_of, step_words};
+ghost use Rattle.mf_script.specs.Lines.{boot_words, tunable_words, file_content, file_view, file_words, cred_words, task_words, line_words, step_kind_of, step_words};
 
 use crate::error::ScriptFault;
 use crate::refusal::{Refusal, faulty};
@@ -36,6 +36,15 @@ pub fn boot_words(alloc: Global, words: &mut Words) -> Result<Word, Refusal>
 {
     let name = parts::word(alloc, words)?;
     parts::at_end(words, name)
+}
+
+/// The words behind `tunable`: a name and its value.
+#[tactic(auto, unfolding(crate::specs::Lines::tunable_words, crate::specs::Readers::and_then))]
+pub fn tunable_words(alloc: Global, words: &mut Words) -> Result<(Word, Word), Refusal>
+    ensures { Gives (λ sides. sides) result (tunable_words words.old) }
+{
+    let sides = parts::sides(alloc, words)?;
+    parts::at_end(words, sides)
 }
 
 /// The text of a file line, where it has one. A directory has none.

@@ -25,6 +25,7 @@ pub fn read_script(alloc: Global, bytes: &[u8]) -> Result<Script, ScriptError>
 {
     let mut script = Script {
         boots: Listing::new(alloc),
+        revocation: false,
         files: Listing::new(alloc),
         tasks: Listing::new(alloc),
         steps: Listing::new(alloc),
@@ -66,7 +67,7 @@ fn ended(script: Script, place: Place, number: u32) -> Result<Script, ScriptErro
             fault: ScriptFault::NoEnd,
             errno: None,
         }),
-        Place::Boots | Place::Files | Place::Tasks(_) | Place::End => Ok(script),
+        Place::Boots | Place::Tunable | Place::Files | Place::Tasks(_) | Place::End => Ok(script),
     }
 }
 

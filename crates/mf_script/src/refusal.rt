@@ -7,7 +7,7 @@ use crate::error::ScriptFault;
 use mf_errno::Errno;
 use std::alloc::{AllocError, AllocFailed};
 
-/// The fault of a line, with an errno where a module can't be booted.
+/// The fault of a line, with an errno where a module can't be booted or a tunable can't be set.
 #[derive(Clone, Copy)]
 pub struct LineFault {
     pub fault: ScriptFault,
@@ -30,7 +30,7 @@ pub fn faulty(fault: ScriptFault) -> Refusal
     Refusal::Faulty(LineFault { fault, errno: None })
 }
 
-/// The refusal of a boot line with that errno.
+/// The refusal of a boot line, or of the tunable's, with that errno.
 pub fn boot_refused(errno: Errno) -> Refusal
     ensures { result ≡ refusal.Faulty (record { fault = BootRefused; errno = Some errno }) }
 {

@@ -4,7 +4,7 @@
 ghost use Rattle.std.specs.Prelude.{◌≡◌, ◌++◌, ◌∷◌, []};
 ghost use Rattle.mf_script.specs.Gives.{Gives};
 ghost use Rattle.mf_script.specs.declared.rows.Place.TheVariants as place;
-ghost use Rattle.mf_script.specs.Grammar.{booted_after, boot_in, file_in, task_in, line_in, step_in, nothing_behind, behind_tasks, behind_files, behind_boots, in_task, in_steps, row_in, words_line};
+ghost use Rattle.mf_script.specs.Grammar.{booted_after, boot_in, tunable_in, file_in, task_in, line_in, step_in, nothing_behind, behind_tasks, behind_files, behind_tunable, behind_boots, in_task, in_steps, row_in, words_line};
 
 use crate::error::ScriptFault;
 use crate::refusal::{Refusal, faulty};
@@ -19,6 +19,8 @@ use std::alloc::Global;
 pub enum Place {
     /// Behind boot lines, or none.
     Boots,
+    /// Behind the tunable.
+    Tunable,
     /// Behind files.
     Files,
     /// Behind a task that has ended.
@@ -48,6 +50,22 @@ fn boot_row(alloc: Global, script: &mut Script, words: &mut Words) -> Result<Pla
     let booted = booted_after(alloc, script.boots.as_slice(), words)?;
     script.boots.push(booted)?;
     Ok(Place::Boots)
+}
+
+/// Takes the words behind `tunable`; `again` where an earlier line has set it.
+#[tactic(auto, unfolding(crate::specs::Grammar::tunable_in, crate::specs::Readers::and_then))]
+fn tunable_row(
+    alloc: Global,
+    script: &mut Script,
+    again: bool,
+    words: &mut Words,
+) -> Result<Place, Refusal>
+    ensures { Gives (λ p. (script.new, p)) result (tunable_in script.old again words.old) }
+{
+    let (name, value) = lines::tunable_words(alloc, words)?;
+    let boots = script.boots.as_slice();
+    script.revocation = judging::judged_tunable(boots, again, name.as_str(), value.as_str())?;
+    Ok(Place::Tunable)
 }
 
 /// Takes the words behind `file`.
@@ -179,6 +197,25 @@ fn behind_files(
     }
 }
 
+/// Takes a line that may set the tunable; `again` where an earlier line has set it.
+#[tactic(auto, unfolding(crate::specs::Grammar::behind_tunable))]
+fn behind_tunable(
+    alloc: Global,
+    script: &mut Script,
+    again: bool,
+    first: &str,
+    words: &mut Words,
+) -> Result<Place, Refusal>
+    ensures { Gives (λ p. (script.new, p)) result
+        (behind_tunable script.old again first.now words.old) }
+{
+    if first == "tunable" {
+        tunable_row(alloc, script, again, words)
+    } else {
+        behind_files(alloc, script, first, words)
+    }
+}
+
 /// Takes a line behind boot lines.
 #[tactic(auto, unfolding(crate::specs::Grammar::behind_boots))]
 fn behind_boots(
@@ -192,7 +229,7 @@ fn behind_boots(
     if first == "boot" {
         boot_row(alloc, script, words)
     } else {
-        behind_files(alloc, script, first, words)
+        behind_tunable(alloc, script, false, first, words)
     }
 }
 
@@ -246,6 +283,7 @@ fn row(
 {
     match place {
         Place::Boots => behind_boots(alloc, script, first, words),
+        Place::Tunable => behind_tunable(alloc, script, true, first, words),
         Place::Files => behind_files(alloc, script, first, words),
         Place::Tasks(lists) => behind_tasks(alloc, script, lists, first, words),
         Place::Task(task, lists) => in_task(alloc, script, task, lists, first, words),

@@ -12,13 +12,13 @@ use Rattle.mf_calls.specs.declared.script.Call.{Call}
 use Rattle.mf_calls.specs.declared.script.Call.TheVariants as call
 use Rattle.mf_script.specs.declared.error.ScriptFault.TheVariants.{UnknownWord, BadRule}
 use Rattle.mf_script.specs.Readers.{Read, fails, by_option}
-use Rattle.mf_script.specs.Parts.{entry_named, any_word, simple_name_of, process_of, path_of, mode_of, text_of, privilege_of, rule_number_of, rule_of, sides_of}
+use Rattle.mf_script.specs.Parts.{entry_named, any_word, simple_name_of, process_of, path_of, mode_of, open_mode_of, text_of, privilege_of, rule_number_of, descriptor_of, rule_of, sides_of}
 use Rattle.mf_script.specs.Calls.{Arguments, bare, one, two, three, add_rule, set_rule, ugidfw_calls, ugidfw, calls, call_in, call_named, call_words}
 use Rattle.mf_script.specs.Lines.{behind_at, line_words}
 use Rattle.mf_script.proofs.Yields.{Yields, done, refused, chain}
-use Rattle.mf_spelling.specs.Spelling.{Piece, Word, Decimal, Octal, Text, Setting, Rules, Pieces, path, SpellLine, call_pieces, line_pieces}
+use Rattle.mf_spelling.specs.Spelling.{Piece, Word, Decimal, Octal, Text, Setting, Rules, Pieces, path, SpellLine, open_mode, call_pieces, line_pieces}
 use Rattle.mf_spelled.proofs.Lines.{Reads, headed, before, at_end, by_word, nothing_left, if_ok, if_some}
-use Rattle.mf_spelled.proofs.Words.{any_spells, name_spells, process_spells, rule_number_spells, mode_spells, text_spells, sides_spell, privilege_spells, path_spells}
+use Rattle.mf_spelled.proofs.Words.{any_spells, name_spells, process_spells, number_spells, open_mode_spells, mode_spells, text_spells, sides_spell, privilege_spells, path_spells}
 
 -- the words of a line in front, and the arguments, where nothing is left behind them, spell the call
 abbrev SpellCall : Words → (Call × Words) → Type 0
@@ -75,7 +75,7 @@ set_spelled : IsSpelled (codes "ugidfw" ∷ codes "set" ∷ []) set_rule
 unfolding set_rule
 set_spelled = record {
   of = λ ws.
-      chain _ _ (by_word (Decimal 249) rule_number_of rule_number_spells ws) (λ number at. chain _ _ (rule_spells number.1) (λ rule spells. done (λ none.
+      chain _ _ (by_word (Decimal 249) rule_number_of (number_spells 249) ws) (λ number at. chain _ _ (rule_spells number.1) (λ rule spells. done (λ none.
       by_pieces (codes "ugidfw" ∷ codes "set" ∷ []) ws (call.UgidfwSet number.0 rule.0) (Decimal 249 number.0 ∷ Rules rule.0 ∷ []) refl (before (Decimal 249 number.0) ws number.1 (Rules rule.0 ∷ []) at spells))));
 }
 
@@ -113,7 +113,7 @@ ugidfw_all =
     bare_spelled _ call.UgidfwList refl
     & add_spelled
     & set_spelled
-    & one_spelled _ (Decimal 249) rule_number_of call.UgidfwRemove rule_number_spells (λ n. refl)
+    & one_spelled _ (Decimal 249) rule_number_of call.UgidfwRemove (number_spells 249) (λ n. refl)
     & none_left _
 
 ugidfw_read : (ws : Words) → Yields (SpellCall (codes "ugidfw" ∷ ws)) (ugidfw ws)
@@ -146,6 +146,10 @@ all_spelled =
     & one_spelled _ path path_of call.Readdir path_spells (λ x. refl)
     & two_spelled _ path Octal path_of mode_of call.Chmod path_spells mode_spells (λ x y. refl)
     & one_spelled _ path path_of call.Unlink path_spells (λ x. refl)
+    & two_spelled _ path (λ mode. Word (open_mode mode.0 mode.1)) path_of open_mode_of (λ p mode. call.OpenFd p mode.0 mode.1) path_spells open_mode_spells (λ x y. refl)
+    & one_spelled _ (Decimal 15) descriptor_of call.Fread (number_spells 15) (λ n. refl)
+    & two_spelled _ (Decimal 15) Text descriptor_of text_of call.Fwrite (number_spells 15) text_spells (λ x y. refl)
+    & one_spelled _ (Decimal 15) descriptor_of call.Close (number_spells 15) (λ n. refl)
     & one_spelled _ Word simple_name_of call.Pipe name_spells (λ x. refl)
     & one_spelled _ Word simple_name_of call.Socket name_spells (λ x. refl)
     & one_spelled _ Word simple_name_of call.Pread name_spells (λ x. refl)

@@ -2,6 +2,7 @@
 use Rattle.std.proofs.Common.{◌≡◌, ℕ, Bool, true, false, not, ◌&&◌, List, [], ◌∷◌, Option, Some, None, Ok, refl, ap, ◌∙◌, codes}
 use Rattle.std.specs.Prelude.{is_none}
 use Rattle.std.specs.Str.{bytes_eq}
+use Rattle.std.proofs.lemmas.Bool.{not-true}
 use Rattle.std.specs.Option.{IfSome}
 use Rattle.mf_errno.specs.Privilege.{privilege_text}
 use Rattle.mf_rule.specs.declared.rule.Rule.{Rule}
@@ -12,12 +13,12 @@ use Rattle.mf_calls.specs.declared.script.Call.TheVariants as call
 use Rattle.mf_calls.specs.declared.script.Line.{Line}
 use Rattle.mf_script.specs.declared.error.ScriptFault.TheVariants.{UnknownWord}
 use Rattle.mf_script.specs.Readers.{Read, and_then, by_option, fails}
-use Rattle.mf_script.specs.Parts.{entry_named, word_by, no_more, any_word, simple_name_of, process_of, path_of, mode_of, text_of, privilege_of, rule_number_of, rule_of, sides_of}
+use Rattle.mf_script.specs.Parts.{entry_named, word_by, no_more, any_word, simple_name_of, process_of, path_of, mode_of, open_mode_of, text_of, privilege_of, rule_number_of, descriptor_of, rule_of, sides_of}
 use Rattle.mf_script.specs.Calls.{Arguments, bare, one, two, three, add_rule, set_rule, ugidfw_calls, ugidfw, calls, call_in, call_named, call_words}
 use Rattle.mf_script.specs.Lines.{behind_at, line_words}
 use Rattle.mf_script.proofs.ScriptWords.{both}
-use Rattle.mf_spelling.specs.Spelling.{Piece, Word, Decimal, Octal, Groups, Text, Setting, Label, Rules, Pieces, path, Spells, SpellLine, call_pieces, line_pieces}
-use Rattle.mf_spelled.proofs.WordsBack.{IsRead, any_back, name_back, process_back, rule_number_back, mode_back, text_back, sides_back, privilege_back, path_back, rule_back}
+use Rattle.mf_spelling.specs.Spelling.{Piece, Word, Decimal, Octal, Groups, Text, Setting, Label, Rules, Pieces, path, Spells, SpellLine, open_mode, call_pieces, line_pieces}
+use Rattle.mf_spelled.proofs.WordsBack.{IsRead, any_back, name_back, process_back, number_back, open_mode_back, mode_back, text_back, sides_back, privilege_back, path_back, rule_back}
 
 -- Words that spell a row that begins with a piece
 
@@ -133,7 +134,7 @@ add_back rule ws spelled = rw ((rule_read rule ws spelled).is) refl
 set_back : (n : ℕ) (rule : Rule) (ws : Words) → SpellLine ws (Decimal 249 n ∷ Rules rule ∷ []) → AreRead set_rule ws (call.UgidfwSet n rule)
 unfolding set_rule and_then
 set_back n rule ws spelled =
-    let number = word_read rule_number_of (Decimal 249 n) n tt (rule_number_back n) ws (Rules rule ∷ []) spelled in
+    let number = word_read rule_number_of (Decimal 249 n) n tt (number_back 249 n) ws (Rules rule ∷ []) spelled in
     rw (number.is, (rule_read rule number.rest number.spelled).is) refl
 
 -- what ugidfw(8) does, by the word behind it
@@ -169,6 +170,12 @@ call_back (call.Setfmac label p) formed = named_two (codes "setfmac") any_word p
 call_back (call.Readdir p) formed = named_one (codes "readdir") path_of call.Readdir (path p) p refl tt (path_back p formed)
 call_back (call.Chmod p mode) formed = named_two (codes "chmod") path_of mode_of call.Chmod (path p) (Octal mode) p mode refl tt tt (path_back p formed.0) (mode_back mode)
 call_back (call.Unlink p) formed = named_one (codes "unlink") path_of call.Unlink (path p) p refl tt (path_back p formed)
+call_back (call.OpenFd p read write) formed =
+    named_two (codes "open") path_of open_mode_of (λ p mode. call.OpenFd p mode.0 mode.1) (path p) (Word (open_mode read write)) p (read, write) refl tt tt
+    (path_back p formed.0) (open_mode_back read write formed.1)
+call_back (call.Fread n) formed = named_one (codes "fread") descriptor_of call.Fread (Decimal 15 n) n refl tt (number_back 15 n)
+call_back (call.Fwrite n text) formed = named_two (codes "fwrite") descriptor_of text_of call.Fwrite (Decimal 15 n) (Text text) n text refl tt tt (number_back 15 n) (text_back text)
+call_back (call.Close n) formed = named_one (codes "close") descriptor_of call.Close (Decimal 15 n) n refl tt (number_back 15 n)
 call_back (call.Pipe name) formed = named_one (codes "pipe") simple_name_of call.Pipe (Word name) name refl tt (name_back name formed)
 call_back (call.Socket name) formed = named_one (codes "socket") simple_name_of call.Socket (Word name) name refl tt (name_back name formed)
 call_back (call.Pread name) formed = named_one (codes "pread") simple_name_of call.Pread (Word name) name refl tt (name_back name formed)
@@ -194,7 +201,7 @@ call_back (call.UgidfwSet n rule) formed =
     (ugidfw_back (codes "set") set_rule (Decimal 249 n ∷ Rules rule ∷ []) (call.UgidfwSet n rule) refl (set_back n rule))
 call_back (call.UgidfwRemove n) formed =
     named_back (codes "ugidfw") ugidfw (Word (codes "remove") ∷ Decimal 249 n ∷ []) (call.UgidfwRemove n) refl
-    (ugidfw_back (codes "remove") (one rule_number_of call.UgidfwRemove) (Decimal 249 n ∷ []) (call.UgidfwRemove n) refl (one_back rule_number_of call.UgidfwRemove (Decimal 249 n) n tt (rule_number_back n)))
+    (ugidfw_back (codes "remove") (one rule_number_of call.UgidfwRemove) (Decimal 249 n ∷ []) (call.UgidfwRemove n) refl (one_back rule_number_of call.UgidfwRemove (Decimal 249 n) n tt (number_back 249 n)))
 
 -- Lines of a task
 
@@ -224,6 +231,10 @@ opens_line (call.Setfmac label p) = refl
 opens_line (call.Readdir p) = refl
 opens_line (call.Chmod p mode) = refl
 opens_line (call.Unlink p) = refl
+opens_line (call.OpenFd p read write) = refl
+opens_line (call.Fread n) = refl
+opens_line (call.Fwrite n text) = refl
+opens_line (call.Close n) = refl
 opens_line (call.Pipe name) = refl
 opens_line (call.Socket name) = refl
 opens_line (call.Pread name) = refl
@@ -250,14 +261,10 @@ record IsOpening (w : List ℕ) : Type 0 where
 
 is_opening : (w : List ℕ) → (is_none (behind_at w) && not (bytes_eq w (codes "end")) && not (is_comment w)) ≡ true → IsOpening w
 is_opening w e = let three = both (is_none (behind_at w) && not (bytes_eq w (codes "end"))) (not (is_comment w)) e in let two = both (is_none (behind_at w)) (not (bytes_eq w (codes "end"))) three.0 in
-    record { no_child = by_found (behind_at w) two.0; no_end = flipped _ two.1; no_comment = flipped _ three.1 } where
+    record { no_child = by_found (behind_at w) two.0; no_end = not-true _ two.1; no_comment = not-true _ three.1 } where
       by_found : (found : Option (List ℕ)) → is_none found ≡ true → found ≡ None
       by_found None h = refl
       by_found (Some x) h = cc
-
-      flipped : (b : Bool) → not b ≡ true → b ≡ false
-      flipped true h = cc
-      flipped false h = refl
 
 opened : (w : List ℕ) (ws : Words) (pieces : Pieces) → opens pieces ≡ true → SpellLine (w ∷ ws) pieces → IsOpening w
 opened w ws [] e spelled = cc

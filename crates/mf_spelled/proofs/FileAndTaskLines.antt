@@ -4,10 +4,13 @@ use Rattle.std.specs.Prelude.{if◌then◌else◌, ◌&&◌}
 use Rattle.std.specs.List.{AllByRecursion}
 use Rattle.std.specs.Char.{is_digit, digit_value}
 use Rattle.std.specs.Str.{bytes_eq}
+use Rattle.std.proofs.lemmas.Bool.{not-true}
 use Rattle.std.proofs.lemmas.Slice.Eq.{bytes_eq-Decides}
 use Rattle.mf_text.specs.Escape.{bytes_from, with_first}
 use Rattle.mf_errno.specs.Names.{module_named, module_text}
+use Rattle.mf_errno.specs.declared.errno.Errno.TheVariants.{Enoent}
 use Rattle.mf_errno.specs.declared.module.Module.{Module}
+use Rattle.mf_errno.specs.declared.module.Module.TheVariants.{Biba}
 use Rattle.mf_elem.specs.declared.label.Request.{Request}
 use Rattle.mf_calls.specs.declared.limits.TheConstants.{UID_MAX}
 use Rattle.mf_words.specs.Words.{Words}
@@ -15,6 +18,7 @@ use Rattle.mf_calls.specs.declared.script.FileLine.{FileLine}
 use Rattle.mf_calls.specs.declared.script.Task.{Task}
 use Rattle.mf_calls.specs.declared.script.StepKind.{StepKind}
 use Rattle.mf_calls.specs.Boots.{is_booted}
+use Rattle.mf_calls.specs.Tunable.{revocation_name, switch}
 use Rattle.mf_item.specs.declared.view.Kind.{Kind}
 use Rattle.mf_item.specs.declared.view.Kind.TheVariants as kinds
 use Rattle.mf_cred.specs.declared.cred.Cred.{Cred}
@@ -22,14 +26,14 @@ use Rattle.mf_cred.specs.declared.cred.FileView.{FileView}
 use Rattle.mf_script.specs.declared.lines.FileWords.{FileWords}
 use Rattle.mf_script.specs.declared.lines.TaskWords.{TaskWords}
 use Rattle.mf_script.specs.declared.error.ScriptFault.TheVariants.{UnknownWord}
-use Rattle.mf_script.specs.Readers.{by_option, fails}
-use Rattle.mf_script.specs.Parts.{entry_named, any_word, number_of, mode_of, simple_name_of, path_of, groups_of, is_directory_of, text_of}
-use Rattle.mf_script.specs.Lines.{boot_words, file_view, file_words, file_content, cred_words, task_words, step_words, step_kind_of, step_kinds}
-use Rattle.mf_script.specs.Grammar.{judged_boot, judged_module, booted_after, file_label, judged_file, task_label, judged_task, judged_request}
+use Rattle.mf_script.specs.Readers.{by_option, fails, unless_refused}
+use Rattle.mf_script.specs.Parts.{entry_named, any_word, number_of, mode_of, simple_name_of, path_of, groups_of, is_directory_of, text_of, sides_of}
+use Rattle.mf_script.specs.Lines.{boot_words, tunable_words, file_view, file_words, file_content, cred_words, task_words, step_words, step_kind_of, step_kinds}
+use Rattle.mf_script.specs.Grammar.{judged_tunable, judged_boot, judged_module, booted_after, file_label, judged_file, task_label, judged_task, judged_request}
 use Rattle.mf_script.proofs.Yields.{Yields, done, refused, chain, checked, either, widened}
-use Rattle.mf_spelling.specs.Spelling.{Piece, Word, Decimal, Octal, Groups, Text, Label, path, Spells, SpellLine, boot_pieces, file_pieces, text_pieces, task_pieces, step_word, step_pieces, Pieces}
+use Rattle.mf_spelling.specs.Spelling.{Piece, Word, Decimal, Octal, Groups, Text, Setting, Label, path, Spells, SpellLine, boot_pieces, switch_word, tunable_pieces, file_pieces, text_pieces, task_pieces, step_word, step_pieces, Pieces}
 use Rattle.mf_spelled.proofs.Lines.{Reads, before, at_end, IsFirst, IsField, by_word, by_field, two_before, nothing_left, if_some}
-use Rattle.mf_spelled.proofs.Words.{any_spells, name_spells, number_spells, mode_spells, text_spells, path_spells, groups_spell, request_read, module_spells}
+use Rattle.mf_spelled.proofs.Words.{any_spells, name_spells, number_spells, mode_spells, text_spells, sides_spell, path_spells, groups_spell, request_read, module_spells, named_under}
 
 -- Words have some byte
 
@@ -117,8 +121,8 @@ view_spelled : (ws : Words) → AreSome ws → Yields (λ f. IsView f.0 ws f.1) 
 unfolding file_view
 view_spelled ws some =
     chain _ _ (by_word (λ dir. Word (if dir then codes "dir" else codes "reg")) is_directory_of directory_spells ws) (λ dir at_dir. let some = behind_first _ ws dir.1 at_dir some in
-    chain _ _ (by_field (codes "uid") (Decimal UID_MAX) number_of number_spells dir.1) (λ uid at_uid. let some = behind_field (codes "uid") _ dir.1 uid.1 at_uid some in
-    chain _ _ (by_field (codes "gid") (Decimal UID_MAX) number_of number_spells uid.1) (λ gid at_gid. let some = behind_field (codes "gid") _ uid.1 gid.1 at_gid some in
+    chain _ _ (by_field (codes "uid") (Decimal UID_MAX) number_of (number_spells UID_MAX) dir.1) (λ uid at_uid. let some = behind_field (codes "uid") _ dir.1 uid.1 at_uid some in
+    chain _ _ (by_field (codes "gid") (Decimal UID_MAX) number_of (number_spells UID_MAX) uid.1) (λ gid at_gid. let some = behind_field (codes "gid") _ uid.1 gid.1 at_gid some in
     chain _ _ (by_field (codes "mode") Octal mode_of mode_spells gid.1) (λ mode at_mode. done (record {
       some = behind_field (codes "mode") _ gid.1 mode.1 at_mode some;
       spelled = λ pieces rest.
@@ -157,7 +161,7 @@ IsCred cred ws rest = (pieces : Pieces) → SpellLine rest pieces
 cred_spelled : (ws : Words) → Yields (λ cred. IsCred cred.0 ws cred.1) (cred_words ws)
 unfolding cred_words IsCred
 cred_spelled ws =
-    chain _ _ (by_field (codes "uid") (Decimal UID_MAX) number_of number_spells ws) (λ uid at_uid.
+    chain _ _ (by_field (codes "uid") (Decimal UID_MAX) number_of (number_spells UID_MAX) ws) (λ uid at_uid.
     chain _ _ (by_field (codes "gid") Groups groups_of groups_spell uid.1) (λ groups at_groups. done (λ pieces rest.
     two_before (codes "uid") (Decimal UID_MAX uid.0) ws uid.1 _ at_uid (two_before (codes "gid") (Groups groups.0) uid.1 groups.1 pieces at_groups rest))))
 
@@ -175,18 +179,9 @@ task_spelled ws =
 
 -- Steps
 
-named_under : (w : List ℕ) (kind : StepKind) (table : List (List ℕ × StepKind)) → AllByRecursion (λ (entry : List ℕ × StepKind). entry.0 ≡ step_word entry.1) table
-    → entry_named w table ≡ Some kind → w ≡ step_word kind
-named_under w kind [] named e = cc
-named_under w kind (entry ∷ table) named e = by_test (bytes_eq w entry.0) (bytes_eq-Decides w entry.0).0 (named_under w kind table named.1) e where
-  by_test : (same : Bool) → (same ≡ true → w ≡ entry.0) → (entry_named w table ≡ Some kind → w ≡ step_word kind)
-      → (if same then Some entry.1 else entry_named w table) ≡ Some kind → w ≡ step_word kind
-  by_test true same further h = let here : entry.1 ≡ kind = cc in same refl ∙ named.0 ∙ ap step_word here
-  by_test false same further h = further h
-
 kind_spells : Reads (λ kind. Word (step_word kind)) step_kind_of
 unfolding step_kind_of
-kind_spells w = if_some (entry_named w step_kinds) _ _ refused (λ kind e. done (named_under w kind step_kinds (refl, (refl, (refl, (refl, (refl, tt))))) e))
+kind_spells w = if_some (entry_named w step_kinds) _ _ refused (λ kind e. done (named_under step_word w kind step_kinds (refl, (refl, (refl, (refl, (refl, tt))))) e))
 
 pub step_spelled : (w : List ℕ) (ws : Words) → Yields (λ x. SpellLine (w ∷ ws) (step_pieces x)) (step_words w ws)
 unfolding step_words
@@ -215,6 +210,48 @@ pub boot_spelled : (boots : List Module) (ws : Words) → Yields (λ m. SpellLin
 unfolding booted_after
 boot_spelled boots ws = chain _ _ (boot_name ws) (λ name whole. widened (boot_judged boots name)
     (λ m spelled. subst (λ (ws : Words). SpellLine (codes "boot" ∷ ws) (boot_pieces m)) (sym whole) spelled))
+
+-- the tunable is set once, which a script does that boots mac_biba
+pub record IsSet (boots : List Module) (again : Bool) (ws : Words) (revocation : Bool) : Type 0 where
+  pub spelled : SpellLine (codes "tunable" ∷ ws) (tunable_pieces revocation)
+  pub booted : is_booted boots Biba ≡ true
+  pub once : again ≡ false
+
+tunable_named : (boots : List Module) (name : List ℕ)
+    → Yields (λ u. (name ≡ revocation_name) × (is_booted boots Biba ≡ true)) (unless_refused Enoent (bytes_eq name revocation_name && is_booted boots Biba))
+tunable_named boots name = by_tests (bytes_eq name revocation_name) (is_booted boots Biba) (bytes_eq-Decides name revocation_name).0 where
+  by_tests : (same booted : Bool) → (same ≡ true → name ≡ revocation_name)
+      → Yields (λ (u : Unit {0}). (name ≡ revocation_name) × (booted ≡ true)) (unless_refused Enoent (same && booted))
+  by_tests true true is = done (is refl, refl)
+  by_tests true false is = refused
+  by_tests false booted is = refused
+
+switch_is : (value : List ℕ) (revocation : Bool) → switch value ≡ Some revocation → value ≡ switch_word revocation
+unfolding switch
+switch_is value revocation = by_tests (bytes_eq (codes "0") value) (bytes_eq (codes "1") value) (bytes_eq-Decides (codes "0") value).0 (bytes_eq-Decides (codes "1") value).0 where
+  by_tests : (off on : Bool) → (off ≡ true → codes "0" ≡ value) → (on ≡ true → codes "1" ≡ value)
+      → (if off then Some false else if on then Some true else None) ≡ Some revocation → value ≡ switch_word revocation
+  by_tests true on is_off is_on e = let here : false ≡ revocation = cc in sym (is_off refl) ∙ ap switch_word here
+  by_tests false true is_off is_on e = let here : true ≡ revocation = cc in sym (is_on refl) ∙ ap switch_word here
+  by_tests false false is_off is_on e = cc
+
+pub tunable_spelled : (ws : Words) → Yields (λ sides. SpellLine ws (Setting sides.0 sides.1 ∷ [])) (tunable_words ws)
+unfolding tunable_words
+tunable_spelled ws =
+    chain _ _ (by_word (λ sides. Setting sides.0 sides.1) sides_of sides_spell ws) (λ sides at.
+    chain _ _ (nothing_left sides.1) (λ u none. done (before (Setting sides.0.0 sides.0.1) ws sides.1 [] at (at_end sides.1 none))))
+
+pub tunable_judged : (boots : List Module) (again : Bool) (ws : Words) (sides : List ℕ × List ℕ) → SpellLine ws (Setting sides.0 sides.1 ∷ [])
+    → Yields (IsSet boots again ws) (judged_tunable boots again sides)
+unfolding judged_tunable
+tunable_judged boots again ws sides spelled =
+    chain _ _ (tunable_named boots sides.0) (λ u named.
+    chain _ _ (if_some (switch sides.1) _ _ refused (λ revocation e. done (switch_is sides.1 revocation e))) (λ revocation is.
+    checked _ _ _ (λ first. done (record {
+      spelled = (refl, subst (λ value. SpellLine ws (Setting revocation_name value ∷ [])) is (subst (λ name. SpellLine ws (Setting name sides.1 ∷ [])) named.0 spelled));
+      booted = named.1;
+      once = not-true again first;
+    }))))
 
 request_judged : (kind : Kind) (boots : List Module) (w : List ℕ) → Yields (λ request. Spells w (Label request)) (judged_request kind boots w)
 unfolding judged_request

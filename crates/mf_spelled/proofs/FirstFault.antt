@@ -33,6 +33,7 @@ record Ends (s : Script) (p : Place) (k : ℕ) : Type 0 where
 can_end : (s : Script) (p : Place) (k : ℕ) → Ends s p k
 unfolding script_from line_read words_line row_in in_task in_steps nothing_behind and_then
 can_end s place.Boots k = record { script = s; before = inl refl }
+can_end s place.Tunable k = record { script = s; before = inl refl }
 can_end s place.Files k = record { script = s; before = inl refl }
 can_end s (place.Tasks lists) k = record { script = s; before = inl refl }
 can_end s (place.Task t lists) k = record { script = record s { tasks = s.tasks ++ t ∷ [] }; before = inr refl }
@@ -56,6 +57,7 @@ no_end s p k line fault errno e = (
 ) where
   at : (p : Place) → ended s p k ≡ Err (Fault line fault errno) → line ≡ k + 0
   at place.Boots e = cc
+  at place.Tunable e = cc
   at place.Files e = cc
   at (place.Tasks lists) e = cc
   at (place.Task t lists) e = let same : k ≡ line = cc in omega (arith, same)

@@ -8,6 +8,7 @@ use Rattle.std.proofs.lemmas.Slice.Eq.{bytes_eq-Decides}
 use Rattle.mf_errno.specs.Names.{module_text}
 use Rattle.mf_errno.proofs.Modules.{own_name}
 use Rattle.mf_errno.specs.declared.module.Module.{Module}
+use Rattle.mf_errno.specs.declared.module.Module.TheVariants.{Biba}
 use Rattle.mf_elem.specs.declared.label.Request.{Request}
 use Rattle.mf_item.specs.declared.view.Kind.{Kind}
 use Rattle.mf_item.specs.declared.view.Kind.TheVariants as kinds
@@ -16,19 +17,22 @@ use Rattle.mf_words.specs.Words.{Words}
 use Rattle.mf_calls.specs.declared.limits.TheConstants.{UID_MAX, FILE_LIMIT}
 use Rattle.mf_calls.specs.declared.script.FileLine.{FileLine}
 use Rattle.mf_calls.specs.declared.script.Task.{Task}
+use Rattle.mf_calls.specs.declared.script.Script.{Script}
 use Rattle.mf_calls.specs.declared.script.Step.{Step}
 use Rattle.mf_calls.specs.declared.script.StepKind.{StepKind}
 use Rattle.mf_calls.specs.declared.script.StepKind.TheVariants as step
 use Rattle.mf_calls.specs.Boots.{is_booted, may_ask_for}
+use Rattle.mf_calls.specs.Tunable.{revocation_name, switch}
 use Rattle.mf_calls.specs.Paths.{directory_of, has_directory}
 use Rattle.mf_calls.specs.WellFormed.{IsAsked, IsFormedFile, IsFormedTask, IsName}
 use Rattle.mf_script.specs.declared.error.ScriptFault.TheVariants as fault
+use Rattle.mf_script.specs.declared.rows.Place.TheVariants as place
 use Rattle.mf_script.specs.Readers.{Read, and_then}
-use Rattle.mf_script.specs.Parts.{word_by, field, fixed, no_more, any_word, number_of, mode_of, simple_name_of, path_of, groups_of, is_directory_of, text_of}
-use Rattle.mf_script.specs.Lines.{boot_words, file_view, file_words, file_content, cred_words, task_words, step_words, step_kind_of}
-use Rattle.mf_script.specs.Grammar.{has_path, booted_after, judged_boot, judged_module, file_label, judged_file, judged_request}
-use Rattle.mf_spelling.specs.Spelling.{Piece, Word, Decimal, Octal, Groups, Text, Label, Pieces, path, Spells, SpellLine, boot_pieces, file_pieces, text_pieces, task_pieces, step_word, step_pieces}
-use Rattle.mf_spelled.proofs.WordsBack.{IsRead, passes, any_back, name_back, number_back, mode_back, text_back, path_back, groups_back, request_back}
+use Rattle.mf_script.specs.Parts.{word_by, field, fixed, no_more, any_word, number_of, mode_of, simple_name_of, path_of, groups_of, is_directory_of, text_of, sides_of}
+use Rattle.mf_script.specs.Lines.{boot_words, tunable_words, file_view, file_words, file_content, cred_words, task_words, step_words, step_kind_of}
+use Rattle.mf_script.specs.Grammar.{tunable_in, judged_tunable, has_path, booted_after, judged_boot, judged_module, file_label, judged_file, judged_request}
+use Rattle.mf_spelling.specs.Spelling.{Piece, Word, Decimal, Octal, Groups, Text, Setting, Label, Pieces, path, Spells, SpellLine, boot_pieces, switch_word, file_pieces, text_pieces, task_pieces, step_word, step_pieces}
+use Rattle.mf_spelled.proofs.WordsBack.{IsRead, passes, any_back, name_back, number_back, mode_back, text_back, sides_back, path_back, groups_back, request_back}
 use Rattle.mf_spelled.proofs.CallsBack.{IsSingle, IsFront, front, none, word_read}
 
 -- the word that says what comes, and the word behind it
@@ -107,8 +111,8 @@ unfolding file_words file_view label_read and_then
 file_back boots f formed w ws spelled =
     let name = word_read path_of (path f.path) f.path tt (path_back f.path formed.path) ws _ spelled.1 in
     let dir = word_read is_directory_of (Word (if f.file.dir then codes "dir" else codes "reg")) f.file.dir tt (directory_back f.file.dir) name.rest _ name.spelled in
-    let uid = field_read (codes "uid") number_of (Decimal UID_MAX f.file.uid) f.file.uid tt (number_back f.file.uid) dir.rest _ dir.spelled in
-    let gid = field_read (codes "gid") number_of (Decimal UID_MAX f.file.gid) f.file.gid tt (number_back f.file.gid) uid.rest _ uid.spelled in
+    let uid = field_read (codes "uid") number_of (Decimal UID_MAX f.file.uid) f.file.uid tt (number_back UID_MAX f.file.uid) dir.rest _ dir.spelled in
+    let gid = field_read (codes "gid") number_of (Decimal UID_MAX f.file.gid) f.file.gid tt (number_back UID_MAX f.file.gid) uid.rest _ uid.spelled in
     let mode = field_read (codes "mode") mode_of (Octal f.file.mode) f.file.mode tt (mode_back f.file.mode) gid.rest _ gid.spelled in
     let label = label_read f.label mode.rest (text_pieces f.text) mode.spelled in
     let text = text_read f.file.dir f.text formed.directory label.field.rest label.field.spelled in
@@ -127,7 +131,7 @@ pub task_back : (boots : List Module) (t : Task) → IsFormedTask boots t → (w
 unfolding task_words cred_words label_read and_then
 task_back boots t formed w ws spelled =
     let name = word_read simple_name_of (Word t.name) t.name tt (name_back t.name formed.name) ws _ spelled.1 in
-    let uid = field_read (codes "uid") number_of (Decimal UID_MAX t.cred.uid) t.cred.uid tt (number_back t.cred.uid) name.rest _ name.spelled in
+    let uid = field_read (codes "uid") number_of (Decimal UID_MAX t.cred.uid) t.cred.uid tt (number_back UID_MAX t.cred.uid) name.rest _ name.spelled in
     let groups = field_read (codes "gid") groups_of (Groups t.cred.groups) t.cred.groups tt (groups_back t.cred.groups formed.cred.few) uid.rest _ uid.spelled in
     let label = label_read t.label groups.rest [] groups.spelled in
     record {
@@ -163,6 +167,17 @@ unfolding booted_after boot_words judged_boot judged_module and_then
 boot_back boots m new w ws spelled =
     let name = word_read any_word (Word (module_text m)) (module_text m) tt (any_back (module_text m)) ws [] spelled.1 in
     rw (name.is, no_more_left name.rest name.spelled, own_name m, new) refl
+
+pub tunable_back : (s : Script) (revocation : Bool) → is_booted s.boots Biba ≡ true → (ws : Words) → SpellLine ws (Setting revocation_name (switch_word revocation) ∷ [])
+    → tunable_in s false ws ≡ Ok (record s { revocation = revocation }, place.Tunable)
+unfolding tunable_in tunable_words judged_tunable switch and_then
+tunable_back s revocation booted ws spelled =
+    let sides = word_read sides_of (Setting revocation_name (switch_word revocation)) (revocation_name, switch_word revocation) tt (sides_back revocation_name (switch_word revocation)) ws [] spelled in
+    by_value revocation sides.rest sides.spelled sides.is where
+      by_value : (revocation : Bool) → (rest : Words) → SpellLine rest [] → word_by sides_of ws ≡ Ok ((revocation_name, switch_word revocation), rest)
+          → tunable_in s false ws ≡ Ok (record s { revocation = revocation }, place.Tunable)
+      by_value true rest end is = rw (is, no_more_left rest end, booted) refl
+      by_value false rest end is = rw (is, no_more_left rest end, booted) refl
 
 pub file_judged : (boots : List Module) (files : List FileLine) (f : FileLine) (w : List ℕ) → IsFormedFile boots f → Spells w (Label f.label) → length files < FILE_LIMIT
     → (length f.path == 0) ≡ false → list_any (has_path f.path) files ≡ false → has_directory files (directory_of f.path) ≡ true

@@ -1,10 +1,12 @@
 -- The canonical text of a script spells it.
-use Rattle.std.proofs.Common.{◌≡◌, ◌≢◌, ℕ, ◌<◌, ◌≤◌, Bool, true, false, List, [], ◌∷◌, ◌++◌, length, map, Option, Some, None, refl, sym, subst, arith, inl, inr, append-nil, lit<}
-use Rattle.std.specs.Prelude.{All, codes, not, if◌then◌else◌}
-use Rattle.std.proofs.lemmas.List.Elements.{All-head, All-tail}
+use Rattle.std.proofs.Common.{◌≡◌, ◌≢◌, ℕ, ◌<◌, ◌≤◌, ◌==◌, ◌||◌, Bool, true, false, List, [], ◌∷◌, ◌++◌, length, map, Option, Some, None, refl, sym, ap, ◌∙◌, subst, arith, inl, inr, append-nil, lit<, lit≤}
+use Rattle.std.specs.Prelude.{All, codes, get_or, not, if◌then◌else◌}
+use Rattle.std.proofs.lemmas.List.Elements.{All-nil, All-cons, All-head, All-tail}
 use Rattle.std.proofs.lemmas.List.Concat.{flat_map-cons}
 use Rattle.std.specs.List.{flat_map, list_all, AllZip}
 use Rattle.std.specs.Option.{IfSome}
+use Rattle.std.specs.Char.{is_ascii_graphic}
+use Rattle.std.specs.Str.{byte}
 use Rattle.mf_errno.specs.Privilege.{privilege_text}
 use Rattle.mf_errno.specs.declared.module.Module.{Module}
 use Rattle.mf_errno.specs.declared.module.Module.TheVariants as modules
@@ -16,7 +18,8 @@ use Rattle.mf_item.specs.declared.view.Kind.TheVariants as kinds
 use Rattle.mf_words.specs.Words.{lines_in}
 use Rattle.mf_calls.specs.Boots.{names_booted}
 use Rattle.mf_calls.specs.Names.{is_name, is_some_text}
-use Rattle.mf_calls.specs.WellFormed.{IsAsked, IsFormedCall, IsFormedFile, IsFormedLine, IsFormedTask, IsWellFormed, IsName}
+use Rattle.mf_calls.specs.Tunable.{revocation_name}
+use Rattle.mf_calls.specs.WellFormed.{IsPrintable, IsAsked, IsFormedCall, IsFormedFile, IsFormedLine, IsFormedTask, IsWellFormed, IsName}
 use Rattle.mf_calls.specs.declared.script.Call.{Call}
 use Rattle.mf_calls.specs.declared.script.Call.TheVariants as call
 use Rattle.mf_calls.specs.declared.script.FileLine.{FileLine}
@@ -26,8 +29,8 @@ use Rattle.mf_calls.specs.declared.script.StepKind.{StepKind}
 use Rattle.mf_calls.specs.declared.script.StepKind.TheVariants as steps
 use Rattle.mf_calls.specs.declared.script.Task.{Task}
 use Rattle.mf_calls.specs.declared.script.Script.{Script}
-use Rattle.mf_spelling.specs.Spelling.{Pieces, IsTextOf, sayings, is_line_byte, call_pieces, line_pieces, boot_pieces, file_pieces, text_pieces, task_pieces, step_pieces, task_rows, step_rows, front_rows, SpellLine, Word}
-use Rattle.mf_spelling.specs.Canonical.{line_text, lines_text, task_text, steps_text, script_text, IsSpellableCall, IsSpellable}
+use Rattle.mf_spelling.specs.Spelling.{Pieces, IsTextOf, sayings, is_line_byte, call_pieces, line_pieces, boot_pieces, tunable_pieces, open_mode, file_pieces, text_pieces, task_pieces, step_pieces, task_rows, step_rows, SayTunable, SaySteps, front_rows, SpellLine, Word}
+use Rattle.mf_spelling.specs.Canonical.{line_text, lines_text, tunable_text, task_text, steps_text, script_text, IsSpellableCall, IsSpellable}
 use Rattle.mf_spelled.proofs.WordTexts.{is_word, both}
 use Rattle.mf_spelled.proofs.NameTexts.{name_word, path_word, process_word, any_word}
 use Rattle.mf_spelled.proofs.PieceTexts.{AreOfWords}
@@ -43,6 +46,12 @@ privilege_word privileges.KldUnload = refl
 privilege_word privileges.MacPartition = refl
 privilege_word privileges.SchedRtprio = refl
 privilege_word privileges.SchedIdprio = refl
+
+open_mode_word : (read write : Bool) → (read || write) ≡ true → is_word (open_mode read write) ≡ true
+open_mode_word true true some = refl
+open_mode_word true false some = refl
+open_mode_word false true some = refl
+open_mode_word false false some = absurd cc
 
 call_row : (c : Call) → IsFormedCall c → IsSpellableCall c → IsRow (call_pieces c)
 call_row (call.Fork child) formed spellable = (refl, refl, (name_word child formed, tt))
@@ -65,6 +74,10 @@ call_row (call.Setfmac label p) formed spellable = (refl, refl, (any_word label 
 call_row (call.Readdir p) formed spellable = (refl, refl, (path_word p formed, tt))
 call_row (call.Chmod p mode) formed spellable = (refl, refl, (path_word p formed.0, (formed.1, tt)))
 call_row (call.Unlink p) formed spellable = (refl, refl, (path_word p formed, tt))
+call_row (call.OpenFd p read write) formed spellable = (refl, refl, (path_word p formed.0, (open_mode_word read write formed.1, tt)))
+call_row (call.Fread n) formed spellable = (refl, refl, ((lit< tt, omega (arith, formed)), tt))
+call_row (call.Fwrite n text) formed spellable = (refl, refl, ((lit< tt, omega (arith, formed.0)), ((spellable, formed.1.each), tt)))
+call_row (call.Close n) formed spellable = (refl, refl, ((lit< tt, omega (arith, formed)), tt))
 call_row (call.Pipe name) formed spellable = (refl, refl, (name_word name formed, tt))
 call_row (call.Socket name) formed spellable = (refl, refl, (name_word name formed, tt))
 call_row (call.Pread name) formed spellable = (refl, refl, (name_word name formed, tt))
@@ -107,6 +120,10 @@ call_behind (call.Setfmac label p) row = (row.0, row.2)
 call_behind (call.Readdir p) row = (row.0, row.2)
 call_behind (call.Chmod p mode) row = (row.0, row.2)
 call_behind (call.Unlink p) row = (row.0, row.2)
+call_behind (call.OpenFd p read write) row = (row.0, row.2)
+call_behind (call.Fread n) row = (row.0, row.2)
+call_behind (call.Fwrite n text) row = (row.0, row.2)
+call_behind (call.Close n) row = (row.0, row.2)
 call_behind (call.Pipe name) row = (row.0, row.2)
 call_behind (call.Socket name) row = (row.0, row.2)
 call_behind (call.Pread name) row = (row.0, row.2)
@@ -138,11 +155,44 @@ line_row line formed spellable = by_child line.child formed.child where
   by_child None named = row
   by_child (Some child) named = (child_word child named, refl, call_behind line.call row)
 
--- Boots, files, tasks and steps
+-- Boots, the tunable, files, tasks and steps
 
 boot_row : (m : Module) → IsRow (boot_pieces m)
 boot_row modules.Biba = (refl, refl, (refl, tt))
 boot_row other = (refl, refl, (refl, tt))
+
+-- bytes that each pass a test
+each_passes : (test : ℕ → Bool) (text : List ℕ) → list_all test text ≡ true → All (λ b. test b ≡ true) text
+each_passes test [] e = All-nil _
+each_passes test (b ∷ text) e = let tests = both (test b) (list_all test text) e in All-cons (λ b. test b ≡ true) b text tests.0 (each_passes test text tests.1)
+
+name_printable : IsPrintable revocation_name
+name_printable = record { each = each_passes is_ascii_graphic revocation_name refl; few = lit≤ tt }
+
+no_equals_sign : All (λ b. b ≢ byte "=") revocation_name
+no_equals_sign = λ k d within. differs (get_or revocation_name k d) (each_passes (λ b. not (b == byte "=")) revocation_name refl k d within) where
+  differs : (b : ℕ) → not (b == byte "=") ≡ true → b ≢ byte "="
+  differs b e same = let here : not (byte "=" == byte "=") ≡ true = ap (λ b. not (b == byte "=")) (sym same) ∙ e in cc
+
+tunable_row : IsRow (tunable_pieces true)
+tunable_row = (refl, refl, ((name_printable, record { each = each_passes is_ascii_graphic (codes "1") refl; few = lit≤ tt }, no_equals_sign), tt))
+
+-- the rows of the tunable, which a canonical text has where it is on
+tunable_rows : Bool → List Pieces
+tunable_rows true = tunable_pieces true ∷ []
+tunable_rows false = []
+
+tunable_line : (revocation : Bool) → AreRows (tunable_text revocation) (tunable_rows revocation)
+unfolding tunable_rows
+tunable_line true = one_row (tunable_pieces true) tunable_row
+tunable_line false = no_rows
+
+tunable_said : (s : Script) → IsSpellable s → SayTunable s (tunable_rows s.revocation)
+unfolding tunable_rows
+tunable_said s spellable = by_test s.revocation refl where
+  by_test : (on : Bool) → s.revocation ≡ on → SayTunable s (tunable_rows on)
+  by_test true e = inl (ap (λ on. tunable_pieces on ∷ []) (sym e), spellable.tunable e)
+  by_test false e = inr (refl, e)
 
 kind_word : (dir : Bool) → is_word (if dir then codes "dir" else codes "reg") ≡ true
 kind_word true = refl
@@ -267,15 +317,17 @@ tasks_lines boots (t ∷ tasks) formed spellable =
     (tasks_lines boots tasks (All-tail (IsFormedTask boots) t tasks formed) (All-tail CanSpell t tasks spellable))))
 
 front_text : Script → List ℕ
-front_text s = lines_text boot_pieces s.boots ++ lines_text file_pieces s.files ++ flat_map task_text s.tasks
+front_text s = lines_text boot_pieces s.boots ++ tunable_text s.revocation ++ lines_text file_pieces s.files ++ flat_map task_text s.tasks
 
-front_lines : (s : Script) → IsWellFormed s → IsSpellable s → AreRows (front_text s) (front_rows s)
+front_lines : (s : Script) → IsWellFormed s → IsSpellable s → AreRows (front_text s) (front_rows (tunable_rows s.revocation) s)
 unfolding front_text
 front_lines s formed spellable =
-    rows_append (lines_text boot_pieces s.boots ++ lines_text file_pieces s.files) (flat_map task_text s.tasks) (map boot_pieces s.boots ++ map file_pieces s.files) (flat_map task_rows s.tasks)
-    (rows_append (lines_text boot_pieces s.boots) (lines_text file_pieces s.files) (map boot_pieces s.boots) (map file_pieces s.files)
-    (rows_of boot_pieces (λ m. Unit {0}) (λ m u. boot_row m) s.boots (λ k d within. tt))
-    (rows_of file_pieces (IsFormedFile s.boots) (file_row s.boots) s.files formed.each_file)) (tasks_lines s.boots s.tasks formed.each_task spellable)
+    rows_append (lines_text boot_pieces s.boots ++ tunable_text s.revocation ++ lines_text file_pieces s.files) (flat_map task_text s.tasks)
+    (map boot_pieces s.boots ++ tunable_rows s.revocation ++ map file_pieces s.files) (flat_map task_rows s.tasks)
+    (rows_append (lines_text boot_pieces s.boots ++ tunable_text s.revocation) (lines_text file_pieces s.files) (map boot_pieces s.boots ++ tunable_rows s.revocation) (map file_pieces s.files)
+    (rows_append (lines_text boot_pieces s.boots) (tunable_text s.revocation) (map boot_pieces s.boots) (tunable_rows s.revocation)
+    (rows_of boot_pieces (λ m. Unit {0}) (λ m u. boot_row m) s.boots (λ k d within. tt)) (tunable_line s.revocation))
+    (rows_of file_pieces (IsFormedFile s.boots) (file_row s.boots) s.files formed.each_file)) (tasks_lines s.boots s.tasks formed.each_task spellable.calls)
 
 steps_lines : (first : Step) (more : List Step) → All (λ (step : Step). IsName step.task) (first ∷ more) → AreRows (steps_text (first ∷ more)) (step_rows (first ∷ more))
 steps_lines first more formed =
@@ -296,23 +348,33 @@ whole text rows are = subst (λ (text : List ℕ). AllZip SpellLine (sayings (li
 whole_plain : (text : List ℕ) (rows : List Pieces) → AreRows text rows → list_all (λ line. list_all is_line_byte line) (lines_in text) ≡ true
 whole_plain text rows are = subst (λ (text : List ℕ). list_all (λ line. list_all is_line_byte line) (lines_in text) ≡ true) (append-nil text) (are.plain [] refl)
 
-pub canonical_spells : CanonicalTextsSpell
-canonical_spells s formed spellable = subst (λ text. IsTextOf text s) (sym (front_then s)) (by_steps s.steps refl formed.each_step) where
-  front : AreRows (front_text s) (front_rows s)
-  front = front_lines s formed spellable
+-- the rows of the steps, where there are some
+rows_of_steps : List Step → List Pieces
+rows_of_steps [] = []
+rows_of_steps (first ∷ more) = step_rows (first ∷ more)
 
-  by_steps : (steps : List Step) → s.steps ≡ steps → All (λ (step : Step). IsName step.task) steps → IsTextOf (front_text s ++ steps_text steps) s
-  by_steps [] none each = record {
-    plain = subst (λ (text : List ℕ). list_all (λ line. list_all is_line_byte line) (lines_in text) ≡ true) (sym (append-nil (front_text s))) (whole_plain (front_text s) (front_rows s) front);
-    spelled = inr (none, subst (λ (text : List ℕ). AllZip SpellLine (sayings (lines_in text)) (front_rows s)) (sym (append-nil (front_text s))) (whole (front_text s) (front_rows s) front));
-  }
-  by_steps (first ∷ more) is each =
-      let rows = rows_append (front_text s) (steps_text (first ∷ more)) (front_rows s) (step_rows (first ∷ more)) front (steps_lines first more each) in
-      record {
-        plain = whole_plain (front_text s ++ steps_text (first ∷ more)) (front_rows s ++ step_rows (first ∷ more)) rows;
-        spelled = inl (subst (λ (steps : List Step). AllZip SpellLine (sayings (lines_in (front_text s ++ steps_text (first ∷ more)))) (front_rows s ++ step_rows steps)) (sym is)
-            (whole (front_text s ++ steps_text (first ∷ more)) (front_rows s ++ step_rows (first ∷ more)) rows));
-      }
+steps_said : (steps : List Step) → SaySteps steps (rows_of_steps steps)
+unfolding rows_of_steps
+steps_said [] = inr (refl, refl)
+steps_said (first ∷ more) = inl refl
+
+all_steps_lines : (steps : List Step) → All (λ (step : Step). IsName step.task) steps → AreRows (steps_text steps) (rows_of_steps steps)
+unfolding rows_of_steps
+all_steps_lines [] each = no_rows
+all_steps_lines (first ∷ more) each = steps_lines first more each
+
+pub canonical_spells : CanonicalTextsSpell
+canonical_spells s formed spellable =
+    let front = front_lines s formed spellable in
+    let rows = rows_append (front_text s) (steps_text s.steps) (front_rows (tunable_rows s.revocation) s) (rows_of_steps s.steps) front (all_steps_lines s.steps formed.each_step) in
+    subst (λ text. IsTextOf text s) (sym (front_then s)) (record {
+      tunable = tunable_rows s.revocation;
+      steps = rows_of_steps s.steps;
+      plain = whole_plain (front_text s ++ steps_text s.steps) (front_rows (tunable_rows s.revocation) s ++ rows_of_steps s.steps) rows;
+      say_tunable = tunable_said s spellable;
+      say_steps = steps_said s.steps;
+      spelled = whole (front_text s ++ steps_text s.steps) (front_rows (tunable_rows s.revocation) s ++ rows_of_steps s.steps) rows;
+    })
 
 pub canonical_read : CanonicalTextsAreRead
 canonical_read s formed spellable few = spelled_read (script_text s) s formed (canonical_spells s formed spellable)

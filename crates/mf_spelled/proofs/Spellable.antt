@@ -1,5 +1,5 @@
 -- What is read of a text can be spelled.
-use Rattle.std.proofs.Common.{◌≡◌, ◌≢◌, ℕ, Bool, true, false, cond, List, [], ◌∷◌, ◌++◌, length, map, Option, Some, None, Ok, ap, ◌∙◌, subst, inl, inr, ◌⊎◌}
+use Rattle.std.proofs.Common.{◌≡◌, ◌≢◌, ℕ, Bool, true, false, cond, List, [], ◌∷◌, ◌++◌, length, map, Option, Some, None, Ok, ap, ◌∙◌, subst, inl, inr}
 use Rattle.std.specs.Str.{byte}
 use Rattle.std.specs.Prelude.{All}
 use Rattle.std.proofs.lemmas.List.Concat.{flat_map-cons}
@@ -8,13 +8,16 @@ use Rattle.std.specs.List.{AllByRecursion, flat_map, AllZip}
 use Rattle.mf_labeltext.proofs.Cutting.{IsFree, cut_is}
 use Rattle.mf_words.specs.Words.{Words, words_in}
 use Rattle.mf_words.proofs.Pieces.{words_pieces}
+use Rattle.mf_errno.specs.declared.module.Module.TheVariants.{Biba}
+use Rattle.mf_calls.specs.Boots.{is_booted}
 use Rattle.mf_calls.specs.declared.script.Call.{Call}
 use Rattle.mf_calls.specs.declared.script.Call.TheVariants as call
 use Rattle.mf_calls.specs.declared.script.Line.{Line}
 use Rattle.mf_calls.specs.declared.script.Task.{Task}
 use Rattle.mf_calls.specs.declared.script.Script.{Script}
-use Rattle.mf_spelling.specs.Spelling.{Word, Text, Setting, Pieces, SpellLine, SpellScript, call_pieces, line_pieces, boot_pieces, file_pieces, task_rows, front_rows, step_rows, says, sayings}
+use Rattle.mf_spelling.specs.Spelling.{Piece, Word, Decimal, Text, Setting, Pieces, SpellLine, SpellScript, call_pieces, line_pieces, boot_pieces, file_pieces, task_rows, SayTunable, front_rows, says, sayings}
 use Rattle.mf_spelling.specs.Canonical.{IsSpellableCall, IsSpellable}
+use Rattle.mf_spelled.proofs.CallsBack.{IsSingle, front}
 use Rattle.mf_spelled.proofs.FileAndTaskLines.{AreSome, some_bytes}
 use Rattle.mf_spelled.proofs.Scripts.{some_words, any_bytes, scripts_spelled}
 use Rattle.mf_words.specs.Words.{lines_in}
@@ -54,11 +57,14 @@ second_part P (x ∷ a) b all = second_part P a b all.1
 
 -- Calls and lines
 
+behind_piece : (piece : Piece) (row : Pieces) → IsSingle piece → IsSpoken (piece ∷ row) → IsSpoken row
+behind_piece piece row single is =
+    let f = front is.words piece row single is.spelled in
+    let some : AreSome (f.word ∷ f.rest) = subst AreSome f.whole is.some in
+    record { words = f.rest; some = some.1; spelled = f.spelled }
+
 behind_word : (w : List ℕ) (row : Pieces) → IsSpoken (Word w ∷ row) → IsSpoken row
-behind_word w row is = by_words is.words is.some is.spelled where
-  by_words : (words : Words) → AreSome words → SpellLine words (Word w ∷ row) → IsSpoken row
-  by_words [] some spelled = absurd spelled
-  by_words (v ∷ words) some spelled = record { words = words; some = some.1; spelled = spelled.1 }
+behind_word w row is = behind_piece (Word w) row tt is
 
 text_some : (text : List ℕ) → IsSpoken (Text text ∷ []) → text ≢ []
 text_some text is = by_words is.words is.some is.spelled where
@@ -78,6 +84,7 @@ setting_free name value is = by_words is.words is.spelled where
 
 call_spellable : (c : Call) → IsSpoken (call_pieces c) → IsSpellableCall c
 call_spellable (call.Write path text) is = text_some text (behind_word _ _ (behind_word _ _ is))
+call_spellable (call.Fwrite n text) is = text_some text (behind_piece (Decimal 15 n) _ tt (behind_word _ _ is))
 call_spellable (call.Pwrite name text) is = text_some text (behind_word _ _ (behind_word _ _ is))
 call_spellable (call.Send from to text) is = text_some text (behind_word _ _ (behind_word _ _ (behind_word _ _ is)))
 call_spellable (call.Sysctl name value) is = setting_free name value (behind_word _ _ is)
@@ -105,14 +112,20 @@ tasks_spellable (t ∷ tasks) all =
     let own = first_part IsSpoken (task_rows t) (flat_map task_rows tasks) both in
     All-cons CanSpell t tasks (lines_spellable t.lines (first_part IsSpoken (map line_pieces t.lines) _ own.1)) (tasks_spellable tasks (second_part IsSpoken (task_rows t) (flat_map task_rows tasks) both))
 
-front_spellable : (s : Script) → AllByRecursion IsSpoken (front_rows s) → IsSpellable s
-front_spellable s all = tasks_spellable s.tasks (second_part IsSpoken (map boot_pieces s.boots ++ map file_pieces s.files) (flat_map task_rows s.tasks) all)
+-- a script whose tunable is on has its line, and so boots mac_biba
+tunable_spellable : (s : Script) (rows : List Pieces) → SayTunable s rows → s.revocation ≡ true → is_booted s.boots Biba ≡ true
+tunable_spellable s rows (inl said) on = said.1
+tunable_spellable s rows (inr unsaid) on = let off = unsaid.1 in cc
 
 pub spelled_spellable : (lines : List (List ℕ)) (s : Script) → SpellScript lines s → IsSpellable s
-spelled_spellable lines s script = by_steps script.spelled where
-  by_steps : AllZip SpellLine (sayings lines) (front_rows s ++ step_rows s.steps) ⊎ ((s.steps ≡ []) × AllZip SpellLine (sayings lines) (front_rows s)) → IsSpellable s
-  by_steps (inl spelled) = front_spellable s (first_part IsSpoken (front_rows s) (step_rows s.steps) (spoken (sayings lines) (front_rows s ++ step_rows s.steps) (sayings_some lines) spelled))
-  by_steps (inr spelled) = front_spellable s (spoken (sayings lines) (front_rows s) (sayings_some lines) spelled.1)
+spelled_spellable lines s script =
+    let before = map boot_pieces s.boots ++ script.tunable ++ map file_pieces s.files in
+    let all = spoken (sayings lines) (front_rows script.tunable s ++ script.steps) (sayings_some lines) script.spelled in
+    let front = first_part IsSpoken (front_rows script.tunable s) script.steps all in
+    record {
+      tunable = tunable_spellable s script.tunable script.say_tunable;
+      calls = tasks_spellable s.tasks (second_part IsSpoken before (flat_map task_rows s.tasks) front);
+    }
 
 pub read_spellable : ReadScriptsAreSpellable
 read_spellable bytes s e = spelled_spellable (lines_in bytes) s (scripts_spelled bytes s e)

@@ -1,7 +1,7 @@
 -- The words of a line that are read spell their pieces.
 use Rattle.std.proofs.Common.{◌≡◌, ℕ, Bool, true, false, ◌==◌, List, [], ◌∷◌, ◌++◌, map, Some, Ok, refl, sym, ap, ◌∙◌, inl, inr, codes}
 use Rattle.std.specs.Prelude.{if◌then◌else◌, find}
-use Rattle.std.specs.List.{join_with_byte, slice_split}
+use Rattle.std.specs.List.{AllByRecursion, join_with_byte, slice_split}
 use Rattle.std.specs.Str.{byte, bytes_eq}
 use Rattle.std.proofs.lemmas.List.{append_assoc, append-nil}
 use Rattle.std.proofs.lemmas.List.Splits.{join_with_byte-slice_split}
@@ -19,10 +19,10 @@ use Rattle.mf_labeltext.specs.Reading.{parts, cut, request_in}
 use Rattle.mf_calls.specs.declared.limits.TheConstants.{UID_MAX, MODE_LIMIT}
 use Rattle.mf_script.specs.declared.error.ScriptFault.TheVariants as fault
 use Rattle.mf_script.specs.Readers.{or_fault}
-use Rattle.mf_script.specs.Parts.{any_word, number_of, rule_number_of, mode_of, simple_name_of, process_of, privilege_of, text_of, sides_of, all_added, with_group, groups_of, with_component, components_of, behind_root, path_of}
+use Rattle.mf_script.specs.Parts.{entry_named, any_word, number_to, open_modes, open_mode_of, mode_of, simple_name_of, process_of, privilege_of, text_of, sides_of, all_added, with_group, groups_of, with_component, components_of, behind_root, path_of}
 use Rattle.mf_script.specs.Grammar.{requested}
 use Rattle.mf_script.proofs.Yields.{Yields, done, refused, chain, checked, widened}
-use Rattle.mf_spelling.specs.Spelling.{Word, Decimal, Octal, Groups, Text, Setting, Label, path, Spells}
+use Rattle.mf_spelling.specs.Spelling.{Word, Decimal, Octal, Groups, Text, Setting, Label, path, open_mode, Spells}
 use Rattle.mf_spelled.proofs.Lines.{Reads, if_ok, if_some}
 
 pub any_spells : Reads Word any_word
@@ -37,13 +37,9 @@ pub process_spells : Reads Word process_of
 unfolding process_of
 process_spells w = checked _ _ _ (λ e. done refl)
 
-pub number_spells : Reads (Decimal UID_MAX) number_of
-unfolding number_of
-number_spells w = if_ok fault.BadNumber (number_in 10 0 UID_MAX w) (λ n e. e)
-
-pub rule_number_spells : Reads (Decimal 249) rule_number_of
-unfolding rule_number_of
-rule_number_spells w = if_ok fault.BadNumber (number_in 10 0 249 w) (λ n e. e)
+pub number_spells : (most : ℕ) → Reads (Decimal most) (number_to most)
+unfolding number_to
+number_spells most w = if_ok fault.BadNumber (number_in 10 0 most w) (λ n e. e)
 
 pub mode_spells : Reads Octal mode_of
 unfolding mode_of
@@ -56,6 +52,21 @@ text_spells w = if_ok fault.BadText (bytes_of w) (λ bytes e. e)
 pub sides_spell : Reads (λ sides. Setting sides.0 sides.1) sides_of
 unfolding sides_of
 sides_spell w = if_some (cut (byte "=") w) _ _ refused (λ sides e. done e)
+
+-- what a table has under a word, where each entry stands under its text
+pub named_under : {A : Type 0} (text : A → List ℕ) (w : List ℕ) (x : A) (table : List (List ℕ × A)) → AllByRecursion (λ (entry : List ℕ × A). entry.0 ≡ text entry.1) table
+    → entry_named w table ≡ Some x → w ≡ text x
+named_under text w x [] named e = cc
+named_under text w x (entry ∷ table) named e = by_test (bytes_eq w entry.0) (bytes_eq-Decides w entry.0).0 (named_under text w x table named.1) e where
+  by_test : (same : Bool) → (same ≡ true → w ≡ entry.0) → (entry_named w table ≡ Some x → w ≡ text x)
+      → (if same then Some entry.1 else entry_named w table) ≡ Some x → w ≡ text x
+  by_test true same further h = let here : entry.1 ≡ x = cc in same refl ∙ named.0 ∙ ap text here
+  by_test false same further h = further h
+
+pub open_mode_spells : Reads (λ mode. Word (open_mode mode.0 mode.1)) open_mode_of
+unfolding open_mode_of
+open_mode_spells w =
+    if_some (entry_named w open_modes) _ _ refused (λ mode e. done (named_under (λ mode. open_mode mode.0 mode.1) w mode open_modes (refl, (refl, (refl, tt))) e))
 
 -- the word of what a look-up by words finds
 found_by : {A : Type 0} (text : A → List ℕ) (xs : List A) (w : List ℕ) (x : A) → find (λ x. bytes_eq (text x) w) xs ≡ Some x → w ≡ text x
@@ -110,7 +121,7 @@ record AreMore (groups : List ℕ) (ws : List (List ℕ)) (all : List ℕ) : Typ
 
 one_group : (groups w : List ℕ) → Yields (AreMore groups (w ∷ [])) (with_group groups w)
 unfolding with_group
-one_group groups w = checked _ _ _ (λ e. chain _ _ (number_spells w) (λ group is. done (record { more = group ∷ []; whole = refl; read = ap (λ n. n ∷ []) is })))
+one_group groups w = checked _ _ _ (λ e. chain _ _ (number_spells UID_MAX w) (λ group is. done (record { more = group ∷ []; whole = refl; read = ap (λ n. n ∷ []) is })))
 
 groups_added : (ws : List (List ℕ)) (groups : List ℕ) → Yields (AreMore groups ws) (all_added with_group groups ws)
 unfolding all_added
