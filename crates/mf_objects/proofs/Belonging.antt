@@ -11,11 +11,13 @@ use Rattle.mf_objects.specs.declared.id.Id.{Id}
 use Rattle.mf_objects.specs.declared.entity.EntityData.{EntityData}
 use Rattle.mf_objects.specs.declared.entity.EntityData.TheVariants.{Process, Vnode, Pipe, Socket}
 use Rattle.mf_objects.specs.Live.{LiveEntity, Entities, has_id, live_at, is_process, is_pipe, is_socket, is_entry, is_made_by}
-use Rattle.mf_objects.specs.Lives.{passes, is_directory, IsLive, is_held_by}
+use Rattle.mf_objects.specs.Lives.{passes, is_directory, is_regular, IsLive, is_held_by}
+use Rattle.mf_objects.specs.declared.descriptors.Fd.{Fd}
 use Rattle.mf_objects.specs.Changes.{appended, cleared, with_mode, with_messages}
+use Rattle.mf_objects.specs.Descriptors.{with_fds}
 use Rattle.mf_objects.specs.Fits.{MayJoin, IsBare, FitsBytes}
 use Rattle.mf_objects.specs.Population.{HasOlder, shares_names, NoBytesIfDirectory, Belongs, AllBelong, IsPopulation, IsRising}
-use Rattle.mf_objects.proofs.Rising.{id_is, id_differs, below_next, at_least}
+use Rattle.mf_objects.proofs.Rising.{id_is, id_differs, below_next, at_least, changed_id}
 
 pub same_id : (a b : Id) → a.0 ≡ b.0 → a ≡ b
 same_id a b same = ap (λ (n : ℕ). let i : Id = record { 0 = n } in i) same
@@ -102,7 +104,7 @@ pub bare_none : (live : List LiveEntity) (id : Id) (w : EntityData) → AllBelon
 bare_none live id (Process process) all is bare =
     none_of live id (no_entry live id all (is is_directory)) (none_counted (λ (e : LiveEntity). is_made_by id e.what) live bare)
 bare_none live id (Vnode vnode) all is bare =
-    none_of live id (none_counted (λ (e : LiveEntity). is_entry id e.what) live bare) (no_made live id all (is is_process))
+    none_of live id (none_counted (λ (e : LiveEntity). is_entry id e.what) live bare.0) (no_made live id all (is is_process))
 bare_none live id (Pipe pipe) all is bare = none_of live id (no_entry live id all (is is_directory)) (no_made live id all (is is_process))
 bare_none live id (Socket socket) all is bare = none_of live id (no_entry live id all (is is_directory)) (no_made live id all (is is_process))
 
@@ -127,7 +129,7 @@ passes_or : (test : EntityData → Bool) (found other : Option LiveEntity) → p
 passes_or test None other is = absurd (false≢true is)
 passes_or test (Some e) other is = is
 
-passes_append : (test : EntityData → Bool) (id : Id) (live more : List LiveEntity) → passes test (find (has_id id) live) ≡ true → passes test (find (has_id id) (live ++ more)) ≡ true
+pub passes_append : (test : EntityData → Bool) (id : Id) (live more : List LiveEntity) → passes test (find (has_id id) live) ≡ true → passes test (find (has_id id) (live ++ more)) ≡ true
 passes_append test id live more is =
     ap (passes test) (find-append (has_id id) live more) ∙ passes_or test (find (has_id id) live) (find (has_id id) more) is
 
@@ -174,7 +176,7 @@ joins_bare objects (Socket socket) join directory = absurd (false≢true directo
 pub All-remove : (P : LiveEntity → Type 0) (es : List LiveEntity) (i : ℕ) → All P es → All P (remove es i)
 All-remove P es i all = All-append P (take i es) (drop (suc i) es) (All-take P i es all) (All-drop P (suc i) es all)
 
-find_remove : (test : LiveEntity → Bool) (es : List LiveEntity) (i : ℕ) (d : LiveEntity) → i < length es → test (get_or es i d) ≡ false → find test (remove es i) ≡ find test es
+pub find_remove : (test : LiveEntity → Bool) (es : List LiveEntity) (i : ℕ) (d : LiveEntity) → i < length es → test (get_or es i d) ≡ false → find test (remove es i) ≡ find test es
 find_remove test [] i d within miss = absurd (omega arith)
 find_remove test (e ∷ es) zero d within miss = rw miss refl
 find_remove test (e ∷ es) (suc i) d within miss = one (test e) (find_remove test es i d (omega arith) miss)
@@ -223,6 +225,7 @@ belong_remove live i x within is all none =
 pub record Stays (w w' : EntityData) : Type 0 where
   pub process : is_process w' ≡ is_process w
   pub directory : is_directory w' ≡ is_directory w
+  pub regular : is_regular w' ≡ is_regular w
   pub belongs : (live : List LiveEntity) (n : ℕ) → Belongs live n w → Belongs live n w'
   pub no_bytes : NoBytesIfDirectory w → NoBytesIfDirectory w'
   pub pipe : is_pipe w' ≡ is_pipe w
@@ -231,26 +234,26 @@ pub record Stays (w w' : EntityData) : Type 0 where
   pub names : (other : EntityData) → shares_names w' other ≡ shares_names w other
 
 pub stays_same : (w : EntityData) → Stays w w
-stays_same w = record { process = refl; directory = refl; belongs = λ live n b. b; pipe = refl; socket = refl; entry = λ dir. refl; names = λ other. refl; no_bytes = λ held. held }
+stays_same w = record { process = refl; directory = refl; regular = refl; belongs = λ live n b. b; pipe = refl; socket = refl; entry = λ dir. refl; names = λ other. refl; no_bytes = λ held. held }
 
 pub appended_stays : (text : List ℕ) (w : EntityData) → FitsBytes (length text) w → Stays w (appended text w)
 appended_stays text (Process process) fits = absurd fits
 appended_stays text (Vnode vnode) fits =
-    record { process = refl; directory = refl; belongs = λ live n b. b; pipe = refl; socket = refl; entry = λ dir. refl; names = λ other. refl; no_bytes = λ held directory. absurd (false≢true (sym fits.0 ∙ directory)) }
+    record { process = refl; directory = refl; regular = refl; belongs = λ live n b. b; pipe = refl; socket = refl; entry = λ dir. refl; names = λ other. refl; no_bytes = λ held directory. absurd (false≢true (sym fits.0 ∙ directory)) }
 appended_stays text (Pipe pipe) fits =
-    record { process = refl; directory = refl; belongs = λ live n b. b; pipe = refl; socket = refl; entry = λ dir. refl; names = λ other. refl; no_bytes = λ held directory. absurd (false≢true directory) }
+    record { process = refl; directory = refl; regular = refl; belongs = λ live n b. b; pipe = refl; socket = refl; entry = λ dir. refl; names = λ other. refl; no_bytes = λ held directory. absurd (false≢true directory) }
 appended_stays text (Socket socket) fits = absurd fits
 
 pub cleared_stays : (w : EntityData) → Stays w (cleared w)
 cleared_stays (Process process) = stays_same (Process process)
 cleared_stays (Vnode vnode) = stays_same (Vnode vnode)
 cleared_stays (Pipe pipe) =
-    record { process = refl; directory = refl; belongs = λ live n b. b; pipe = refl; socket = refl; entry = λ dir. refl; names = λ other. refl; no_bytes = λ held directory. absurd (false≢true directory) }
+    record { process = refl; directory = refl; regular = refl; belongs = λ live n b. b; pipe = refl; socket = refl; entry = λ dir. refl; names = λ other. refl; no_bytes = λ held directory. absurd (false≢true directory) }
 cleared_stays (Socket socket) = stays_same (Socket socket)
 
 pub mode_stays : (mode : ℕ) (w : EntityData) → Stays w (with_mode mode w)
 mode_stays mode (Process process) = stays_same (Process process)
-mode_stays mode (Vnode vnode) = record { process = refl; directory = refl; belongs = λ live n b. b; pipe = refl; socket = refl; entry = λ dir. refl; names = λ other. refl; no_bytes = λ held. held }
+mode_stays mode (Vnode vnode) = record { process = refl; directory = refl; regular = refl; belongs = λ live n b. b; pipe = refl; socket = refl; entry = λ dir. refl; names = λ other. refl; no_bytes = λ held. held }
 mode_stays mode (Pipe pipe) = stays_same (Pipe pipe)
 mode_stays mode (Socket socket) = stays_same (Socket socket)
 
@@ -259,80 +262,78 @@ messages_stay change (Process process) = stays_same (Process process)
 messages_stay change (Vnode vnode) = stays_same (Vnode vnode)
 messages_stay change (Pipe pipe) = stays_same (Pipe pipe)
 messages_stay change (Socket socket) =
-    record { process = refl; directory = refl; belongs = λ live n b. b; pipe = refl; socket = refl; entry = λ dir. refl; names = λ other. refl; no_bytes = λ held directory. absurd (false≢true directory) }
+    record { process = refl; directory = refl; regular = refl; belongs = λ live n b. b; pipe = refl; socket = refl; entry = λ dir. refl; names = λ other. refl; no_bytes = λ held directory. absurd (false≢true directory) }
+
+pub fds_stay : (change : List Fd → List Fd) (w : EntityData) → Stays w (with_fds change w)
+fds_stay change (Process process) =
+    record { process = refl; directory = refl; regular = refl; belongs = λ live n b. b; pipe = refl; socket = refl; entry = λ dir. refl; names = λ other. refl; no_bytes = λ held. held }
+fds_stay change (Vnode vnode) = stays_same (Vnode vnode)
+fds_stay change (Pipe pipe) = stays_same (Pipe pipe)
+fds_stay change (Socket socket) = stays_same (Socket socket)
+
+-- each entity stays as it is to be
+abbrev pub AllStay : (LiveEntity → LiveEntity) → List LiveEntity → Type 0
+AllStay f live = All (λ (e : LiveEntity). Stays e.what (f e).what) live
 
 -- the entity of this id stays as it is to be, where it is changed
 abbrev pub StaysAt : (LiveEntity → LiveEntity) → Id → List LiveEntity → Type 0
 StaysAt change id live = All (λ (e : LiveEntity). has_id id e ≡ true → Stays e.what (change e).what) live
 
+pub changed_stays : (change : LiveEntity → LiveEntity) (id : Id) (live : List LiveEntity) → StaysAt change id live → AllStay (changed_at change id) live
+changed_stays change id live stays k d l = one (get_or live k d) (has_id id (get_or live k d)) refl (stays k d l)
+  where
+    one : (e : LiveEntity) (b : Bool) → has_id id e ≡ b → (has_id id e ≡ true → Stays e.what (change e).what) → Stays e.what (cond b (change e) e).what
+    one e true has here = here has
+    one e false has here = stays_same e.what
+
 -- there is one entity of this id: the one at this place
-pub stays_at : (change : LiveEntity → LiveEntity) (id : Id) (next : ℕ) (live : List LiveEntity) (i : ℕ) (x : LiveEntity) → i < length live → IsRising 0 next live → x ≡ get_or live i x → has_id id x ≡ true
-    → Stays x.what (change x).what → StaysAt change id live
-stays_at change id next live i x within rising at has stays k d l other =
+pub all_of_id : (P : LiveEntity → Type 0) (id : Id) (next : ℕ) (live : List LiveEntity) (i : ℕ) (x : LiveEntity) → i < length live → IsRising 0 next live → x ≡ get_or live i x → has_id id x ≡ true
+    → P x → All (λ e. has_id id e ≡ true → P e) live
+all_of_id P id next live i x within rising at has here k d l other =
     let e : LiveEntity = get_or live k d in
     let own : find (has_id e.id) live ≡ Some e = find_own 0 next live k d l rising in
     let own_x : find (has_id x.id) live ≡ Some x = subst (λ (y : LiveEntity). find (has_id y.id) live ≡ Some y) (sym at) (find_own 0 next live i x within rising) in
     let same : x.id ≡ e.id = same_id x.id e.id (id_is id x has ∙ sym (id_is id e other)) in
-    subst (λ (y : LiveEntity). Stays y.what (change y).what) (inside_some x e (sym own_x ∙ ap (λ (j : Id). find (has_id j) live) same ∙ own)) stays
+    subst P (inside_some x e (sym own_x ∙ ap (λ (j : Id). find (has_id j) live) same ∙ own)) here
   where
     inside_some : (a b : LiveEntity) → Some a ≡ Some b → a ≡ b
     inside_some a b e = cc
 
--- a look-up by id, where one entity is changed and keeps its id
-passes_changed : (change : LiveEntity → LiveEntity) (test : EntityData → Bool) (id of : Id) (es : List LiveEntity) → ((e : LiveEntity) → (change e).id ≡ e.id)
-    → All (λ e. has_id id e ≡ true → test (change e).what ≡ test e.what) es
-    → passes test (find (has_id of) (map (changed_at change id) es)) ≡ passes test (find (has_id of) es)
-passes_changed change test id of [] ids tests = refl
-passes_changed change test id of (e ∷ es) ids tests =
-    let has : has_id of (changed_at change id e) ≡ has_id of e = ap (λ (i : Id). nat_eq i.0 of.0) (same (has_id id e)) in
-    let P : LiveEntity → Type 0 = λ x. has_id id x ≡ true → test (change x).what ≡ test x.what in
-    rw has (one (has_id of e) (passed (has_id id e) refl (All-head P e es tests)) (passes_changed change test id of es ids (All-tail P e es tests)))
+-- a look-up by id, where entities are changed and keep their ids
+pub passes_mapped : (f : LiveEntity → LiveEntity) (test : EntityData → Bool) (of : Id) (es : List LiveEntity) → ((e : LiveEntity) → (f e).id ≡ e.id)
+    → All (λ e. test (f e).what ≡ test e.what) es → passes test (find (has_id of) (map f es)) ≡ passes test (find (has_id of) es)
+passes_mapped f test of [] ids tests = refl
+passes_mapped f test of (e ∷ es) ids tests =
+    let has : has_id of (f e) ≡ has_id of e = ap (λ (i : Id). nat_eq i.0 of.0) (ids e) in
+    let P : LiveEntity → Type 0 = λ x. test (f x).what ≡ test x.what in
+    rw has (one (has_id of e) (All-head P e es tests) (passes_mapped f test of es ids (All-tail P e es tests)))
   where
-    same : (b : Bool) → (cond b (change e) e).id ≡ e.id
-    same true = ids e
-    same false = refl
-
-    passed : (b : Bool) → has_id id e ≡ b → (has_id id e ≡ true → test (change e).what ≡ test e.what) → test (cond b (change e) e).what ≡ test e.what
-    passed true has here = here has
-    passed false has here = refl
-
-    one : (b : Bool) → test (changed_at change id e).what ≡ test e.what
-        → passes test (find (has_id of) (map (changed_at change id) es)) ≡ passes test (find (has_id of) es)
-        → passes test (cond b (Some (changed_at change id e)) (find (has_id of) (map (changed_at change id) es))) ≡ passes test (cond b (Some e) (find (has_id of) es))
+    one : (b : Bool) → test (f e).what ≡ test e.what → passes test (find (has_id of) (map f es)) ≡ passes test (find (has_id of) es)
+        → passes test (cond b (Some (f e)) (find (has_id of) (map f es))) ≡ passes test (cond b (Some e) (find (has_id of) es))
     one true here rest = here
     one false here rest = rest
 
+pub belong_mapped : (f : LiveEntity → LiveEntity) (live : List LiveEntity) → ((e : LiveEntity) → (f e).id ≡ e.id) → AllStay f live → AllBelong live → AllBelong (map f live)
+belong_mapped f live ids stays all =
+    All-map (λ (e : LiveEntity). Belongs (map f live) e.id.0 e.what) f live (λ k d l. one (get_or live k d) (stays k d l) (all k d l))
+  where
+    moved : (n : ℕ) (w : EntityData) → Belongs live n w → Belongs (map f live) n w
+    moved n w =
+        Belongs-weaker live (map f live) n w
+        (λ dir _ is. passes_mapped f is_directory dir live ids (λ k d l. (stays k d l).directory) ∙ is)
+        (λ maker _ is. passes_mapped f is_process maker live ids (λ k d l. (stays k d l).process) ∙ is)
+
+    one : (e : LiveEntity) → Stays e.what (f e).what → Belongs live e.id.0 e.what → Belongs (map f live) (f e).id.0 (f e).what
+    one e stays belongs = moved (f e).id.0 (f e).what (subst (λ (i : Id). Belongs live i.0 (f e).what) (sym (ids e)) (stays.belongs live e.id.0 belongs))
+
 pub belong_changed : (change : LiveEntity → LiveEntity) (id : Id) (live : List LiveEntity) → ((e : LiveEntity) → (change e).id ≡ e.id) → StaysAt change id live
     → AllBelong live → AllBelong (map (changed_at change id) live)
-belong_changed change id live ids stays all =
-    All-map P (changed_at change id) live (λ k d l. one (get_or live k d) (has_id id (get_or live k d)) refl (stays k d l) (all k d l))
-  where
-    live' : List LiveEntity
-    live' = map (changed_at change id) live
+belong_changed change id live ids stays all = belong_mapped (changed_at change id) live (changed_id change id ids) (changed_stays change id live stays) all
 
-    P : LiveEntity → Type 0
-    P e = Belongs live' e.id.0 e.what
-
-    moved : (n : ℕ) (w : EntityData) → Belongs live n w → Belongs live' n w
-    moved n w =
-        Belongs-weaker live live' n w
-        (λ dir _ is. passes_changed change is_directory id dir live ids (λ k d l has. (stays k d l has).directory) ∙ is)
-        (λ maker _ is. passes_changed change is_process id maker live ids (λ k d l has. (stays k d l has).process) ∙ is)
-
-    one : (e : LiveEntity) (b : Bool) → has_id id e ≡ b → (has_id id e ≡ true → Stays e.what (change e).what) → Belongs live e.id.0 e.what → P (cond b (change e) e)
-    one e true has stays belongs =
-        moved (change e).id.0 (change e).what
-        (subst (λ (i : Id). Belongs live i.0 (change e).what) (sym (ids e)) ((stays has).belongs live e.id.0 belongs))
-    one e false has stays belongs = moved e.id.0 e.what belongs
+pub directories_mapped : (f : LiveEntity → LiveEntity) (live : List LiveEntity) → AllStay f live
+    → All (λ e. NoBytesIfDirectory e.what) live → All (λ e. NoBytesIfDirectory e.what) (map f live)
+directories_mapped f live stays all = All-map (λ (e : LiveEntity). NoBytesIfDirectory e.what) f live (λ k d l. (stays k d l).no_bytes (all k d l))
 
 pub directories_changed : (change : LiveEntity → LiveEntity) (id : Id) (live : List LiveEntity) → StaysAt change id live
     → All (λ e. NoBytesIfDirectory e.what) live → All (λ e. NoBytesIfDirectory e.what) (map (changed_at change id) live)
-directories_changed change id live stays all =
-    All-map P (changed_at change id) live (λ k d l. one (get_or live k d) (has_id id (get_or live k d)) refl (stays k d l) (all k d l))
-  where
-    P : LiveEntity → Type 0
-    P e = NoBytesIfDirectory e.what
-
-    one : (e : LiveEntity) (b : Bool) → has_id id e ≡ b → (has_id id e ≡ true → Stays e.what (change e).what) → P e → P (cond b (change e) e)
-    one e true has stays held = (stays has).no_bytes held
-    one e false has stays held = held
+directories_changed change id live stays all = directories_mapped (changed_at change id) live (changed_stays change id live stays) all

@@ -1,5 +1,5 @@
 -- Look-ups by id among live entities that are changed.
-use Rattle.std.proofs.Common.{◌≡◌, ℕ, ◌<◌, ◌≤◌, ◌+◌, Bool, true, false, cond, List, [], ◌∷◌, ◌++◌, Option, Some, None, map, refl, ap, ◌∙◌, arith, ◌⊎◌, inl, inr, eq-eqb, option_map}
+use Rattle.std.proofs.Common.{◌≡◌, ℕ, ◌<◌, ◌≤◌, ◌+◌, Bool, true, false, cond, List, [], ◌∷◌, ◌++◌, Option, Some, None, map, refl, ap, ◌∙◌, arith, ◌⊎◌, inl, inr, nat_eq, eq-eqb, option_map}
 use Rattle.std.specs.Prelude.{filter, find}
 use Rattle.mf_objects.proofs.Entities.{changed_at}
 use Rattle.mf_objects.specs.declared.id.Id.{Id}
@@ -48,6 +48,17 @@ find_given id e least next (x ∷ es) found rising = one (has_id id x) refl (fin
         → cond b (Some x) (find (has_id id) es) ≡ Some e → id.0 < next
     one true hit rest here = omega (arith, id_is id x hit, below_next (x.id.0 + 1) next es rising.1)
     one false miss rest later = rest later rising.1
+
+-- a change of entities that keeps their ids
+pub find_mapped : (f : LiveEntity → LiveEntity) (id : Id) (es : List LiveEntity) → ((e : LiveEntity) → (f e).id ≡ e.id) → find (has_id id) (map f es) ≡ option_map f (find (has_id id) es)
+find_mapped f id [] ids = refl
+find_mapped f id (e ∷ es) ids =
+    ap (λ (i : Id). cond (nat_eq i.0 id.0) (Some (f e)) (find (has_id id) (map f es))) (ids e) ∙ one (has_id id e) (find_mapped f id es ids)
+  where
+    one : (b : Bool) → find (has_id id) (map f es) ≡ option_map f (find (has_id id) es)
+        → cond b (Some (f e)) (find (has_id id) (map f es)) ≡ option_map f (cond b (Some e) (find (has_id id) es))
+    one true rest = refl
+    one false rest = rest
 
 -- a change of what an entity holds
 pub find_changed : (change : EntityData → EntityData) (at id : Id) (es : List LiveEntity)

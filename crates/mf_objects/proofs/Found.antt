@@ -14,11 +14,13 @@ use Rattle.mf_objects.specs.Live.{LiveEntity, Entities, has_id, live_at, id_of, 
 use Rattle.mf_objects.proofs.Shorthands.{reading}
 use Rattle.mf_objects.specs.Lives.{is_from, IsLeast, is_directory, IsFirstLive, IsLiveWhere, IsLive, is_vnode}
 use Rattle.std.specs.Str.{bytes_eq}
-use Rattle.mf_objects.specs.Population.{Belongs, IsPopulation, IsRising, HasRoot}
+use Rattle.mf_objects.specs.Descriptors.{fds_of}
+use Rattle.mf_objects.specs.Population.{AreDescriptors, Belongs, IsPopulation, IsRising, HasRoot}
 use Rattle.mf_objects.specs.Sound.{live_entity, with_values, live_of, IsSound, IsPlace}
 use Rattle.mf_objects.proofs.Rising.{id_differs, at_least}
 use Rattle.mf_objects.proofs.Belonging.{Stays, entry_directory, find_all}
-use Rattle.mf_objects.proofs.Kept.{view, found_place, what_changed, set_same}
+use Rattle.mf_objects.proofs.Kept.{view, found_place, what_changed, set_same, described_place}
+use Rattle.mf_objects.proofs.Opened.{described_same}
 
 find-live : (test : LiveEntity → Bool) (zones : Contents) (es : List Entity)
     → find test (live_of zones es) ≡ option_map (live_entity zones) (find (λ (e : Entity). test (live_entity zones e)) es)
@@ -101,10 +103,10 @@ messages_place next zones es id i e place is = ap (reading messages_of []) (foun
 -- after a change that may want memory
 pub what_sound : (r : Result (Unit {0}) AllocError) (next : ℕ) (zones : Contents) (es : List Entity) (id : Id) (i : ℕ) (e : Entity) (w : EntityData) (change : EntityData → EntityData)
     → IsPlace (view next zones es) id i → e ≡ get_or es i e → IsSound next zones es → Stays e.what (change e.what)
-    → OnOk r (w ≡ change e.what) → OnErr r (w ≡ e.what) → IsSound next zones (set es i (record e { what = w }))
-what_sound (Ok u) next zones es id i e w change place is sound stays changed same =
-    (what_changed next zones es id i e w change place is sound stays changed).sound
-what_sound (Err error) next zones es id i e w change place is sound stays changed same =
+    → AreDescriptors (live_of zones es) (fds_of w) → OnOk r (w ≡ change e.what) → OnErr r (w ≡ e.what) → IsSound next zones (set es i (record e { what = w }))
+what_sound (Ok u) next zones es id i e w change place is sound stays described changed same =
+    (what_changed next zones es id i e w change place is sound stays described changed).sound
+what_sound (Err error) next zones es id i e w change place is sound stays described changed same =
     let e' : Entity = record e { what = w } in
     let is_same : e' ≡ e = ap (λ (x : EntityData). let y : Entity = record e { what = x } in y) same in
     let put : set es i e' ≡ es = ap (set es i) is_same ∙ set_same es i e is in
@@ -247,3 +249,9 @@ all_before n (e ∷ es) none = one (nat_le n e.id.0) refl (all_before n es) none
 pub none_from : (n : ℕ) (objects : Entities) (found : Option Id) → IsFirstLive (is_from n) objects found → IfNone found (All (λ e. e.id.0 < n) objects.live)
 none_from n objects None is = all_before n objects.live is.absent
 none_from n objects (Some id) is = tt
+
+-- a change that leaves the descriptors as they are
+pub described_still : (next : ℕ) (zones : Contents) (es : List Entity) (id : Id) (i : ℕ) (e : Entity) (w : EntityData) → IsPlace (view next zones es) id i → e ≡ get_or es i e
+    → IsSound next zones es → fds_of w ≡ fds_of e.what → AreDescriptors (live_of zones es) (fds_of w)
+described_still next zones es id i e w place is sound same =
+    described_same (live_of zones es) (fds_of e.what) (fds_of w) same (described_place next zones es id i e place is sound)

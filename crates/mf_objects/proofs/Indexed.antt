@@ -234,3 +234,26 @@ pub index_set : (index : List (List Id)) (es : List Entity) (i : ℕ) (e e' : En
 index_set index es i e e' place id name group is =
     let stays : home e' ≡ home e = ap (bucket_of (group_of e'.what)) name ∙ ap (λ (g : Group). bucket_of g e.name) group in
     record { count = is.count; each = λ at l. is.each at l ∙ sym (bucket_set at es i e e' place id stays) }
+
+-- Entities changed, which keep their ids, their groups and their names
+
+bucket_mapped : (f : Entity → Entity) (at : ℕ) (es : List Entity) → ((e : Entity) → (f e).id ≡ e.id) → ((e : Entity) → home (f e) ≡ home e) → bucket at (map f es) ≡ bucket at es
+bucket_mapped f at [] ids stay = refl
+bucket_mapped f at (e ∷ es) ids stay = rw (stay e) (one (nat_eq (home e) at) (bucket_mapped f at es ids stay))
+  where
+    all : List Entity → List Id
+    all xs = map (λ (y : Entity). y.id) xs
+
+    kept : List Entity → List Entity
+    kept xs = filter (λ (y : Entity). nat_eq (home y) at) xs
+
+    one : (c : Bool) → all (kept (map f es)) ≡ all (kept es) → all (cond c (f e ∷ kept (map f es)) (kept (map f es))) ≡ all (cond c (e ∷ kept es) (kept es))
+    one true rest = ap (λ (id : Id). id ∷ all (kept (map f es))) (ids e) ∙ ap (λ (is : List Id). e.id ∷ is) rest
+    one false rest = rest
+
+pub index_mapped : (f : Entity → Entity) (index : List (List Id)) (es : List Entity) → ((e : Entity) → (f e).id ≡ e.id) → ((e : Entity) → (f e).name ≡ e.name)
+    → ((e : Entity) → group_of (f e).what ≡ group_of e.what) → IsIndex index es → IsIndex index (map f es)
+index_mapped f index es ids names groups is =
+    let stay : (e : Entity) → home (f e) ≡ home e =
+    λ e. ap (bucket_of (group_of (f e).what)) (names e) ∙ ap (λ (g : Group). bucket_of g e.name) (groups e) in
+    record { count = is.count; each = λ at l. is.each at l ∙ sym (bucket_mapped f at es ids stay) }

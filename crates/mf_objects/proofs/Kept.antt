@@ -1,7 +1,7 @@
 -- What each change makes of the live entities, and that it keeps what is true of every population.
 use Rattle.std.proofs.Common.{◌≡◌, ◌≢◌, ◌↔◌, ℕ, ◌<◌, ◌+◌, List, [], ◌∷◌, ◌++◌, Option, Some, None, length, get_or, set, take, drop, map, remove, refl, ap, sym, ◌∙◌, subst, arith, zero, suc, IsSome, nat_eq, nat_lt, true, false, Bool, cond, position, not, Result, Ok, Err, OnOk, OnErr, IsTrue, replicate}
 use Rattle.std.specs.declared.alloc.AllocError.{AllocError}
-use Rattle.std.specs.Prelude.{find}
+use Rattle.std.specs.Prelude.{All, find}
 use Rattle.std.specs.List.{position_or_len}
 use Rattle.std.proofs.lemmas.List.{set-get_or, map-append, set_split, length-set, length-map, length-take-le, length-append, length-drop, get_or-map, take-map, drop-map}
 use Rattle.std.proofs.lemmas.List.Elements.{All-push, All-cons, All-nil}
@@ -19,15 +19,17 @@ use Rattle.mf_objects.specs.declared.entity.EntityData.{EntityData}
 use Rattle.mf_objects.specs.Live.{LiveEntity, Entities, has_id, live_at, label_at}
 use Rattle.mf_objects.specs.Lives.{passes, is_directory, HasSlotsFor, value_at as live_value}
 use Rattle.mf_objects.specs.Changes.{with_change, with_what}
+use Rattle.mf_objects.specs.Descriptors.{fds_of}
 use Rattle.mf_objects.specs.Labels.{with_value, with_label}
 use Rattle.mf_objects.specs.Fits.{IsBare}
-use Rattle.mf_objects.specs.Population.{NoBytesIfDirectory, Belongs, IsPopulation, is_namesake}
+use Rattle.mf_objects.specs.Population.{NoBytesIfDirectory, Belongs, AreDescriptors, IsPopulation, is_namesake}
 use Rattle.mf_objects.specs.Sound.{live_entity, labels_of, IsExact, live_of, IsSound, IsPlace}
 use Rattle.mf_objects.proofs.Zoned.{exact_push, live_push, exact_drop, live_drop, is_held, SetsSlot, relabels_set, relabels_make, exact_relabel, live_relabel, split_place, live_split, exact_none}
 use Rattle.mf_objects.proofs.Relabelled.{exact_whole, live_whole}
-use Rattle.mf_objects.proofs.Rising.{rising_push, rising_remove, rising_changed, root_push, root_remove, root_changed, set_changed, find_first, id_is}
-use Rattle.mf_objects.proofs.Belonging.{Stays, StaysAt, stays_same, stays_at, directories_changed, All-remove, belong_one, belong_push, belong_remove, belong_changed, bare_none, find_own}
-use Rattle.mf_objects.proofs.Names.{names_changed, names_push, names_one}
+use Rattle.mf_objects.proofs.Rising.{rising_push, rising_remove, rising_mapped, changed_id, root_push, root_remove, root_mapped, set_changed, find_first, id_is}
+use Rattle.mf_objects.proofs.Belonging.{Stays, AllStay, StaysAt, stays_same, changed_stays, all_of_id, directories_mapped, All-remove, belong_one, belong_push, belong_remove, belong_mapped, bare_none, find_own}
+use Rattle.mf_objects.proofs.Names.{changed_name, names_mapped, names_push, names_one}
+use Rattle.mf_objects.proofs.Opened.{described_none, described_push, bare_unopened, described_remove, described_mapped, described_same, fds_changed}
 
 -- the live entities as contracts see them
 abbrev pub view : ℕ → Contents → List Entity → Entities
@@ -39,9 +41,9 @@ pub record Becomes (next : ℕ) (zones : Contents) (es : List Entity) (objects :
   pub shows : view next zones es ≡ objects
 
 pub added : (next : ℕ) (zones zones' : Contents) (es : List Entity) (e : Entity) (values : List LabelValue) → e.id.0 ≡ next → length es < 1024 → length values ≡ 4
-    → IsSound next zones es → Belongs (live_of zones es) next e.what → NoBytesIfDirectory e.what → find (is_namesake e.name e.what) (live_of zones es) ≡ None → MakesLabel zones zones' e.label values
+    → IsSound next zones es → Belongs (live_of zones es) next e.what → NoBytesIfDirectory e.what → fds_of e.what ≡ [] → find (is_namesake e.name e.what) (live_of zones es) ≡ None → MakesLabel zones zones' e.label values
     → Becomes (next + 1) zones' (es ++ e ∷ []) (record { next = next + 1; live = live_of zones es ++ record { id = e.id; name = e.name; label = values; what = e.what } ∷ [] })
-added next zones zones' es e values is room four sound belongs no_bytes free makes =
+added next zones zones' es e values is room four sound belongs no_bytes unopened free makes =
     let x : LiveEntity = record { id = e.id; name = e.name; label = values; what = e.what } in
     let live : live_of zones' (es ++ e ∷ []) ≡ live_of zones es ++ x ∷ [] = live_push zones zones' es e values four sound.exact makes in
     let joined : Belongs (live_of zones es) x.id.0 x.what = subst (λ (n : ℕ). Belongs (live_of zones es) n x.what) (sym is) belongs in
@@ -52,6 +54,7 @@ added next zones zones' es e values is room four sound belongs no_bytes free mak
       belong = belong_push (live_of zones es) x sound.population.belong joined;
       directories = All-push (λ (l : LiveEntity). NoBytesIfDirectory l.what) (live_of zones es) x sound.population.directories no_bytes;
       names = names_push (live_of zones es) x sound.population.names free;
+      descriptors = described_push (live_of zones es) x sound.population.descriptors unopened;
     } in
     record {
       sound = record {
@@ -85,14 +88,15 @@ dropped next zones zones' es i e within later is sound bare gives =
     let at : live_entity zones e ≡ get_or lives i (live_entity zones e) = seen_place zones es i e within is in
     let own : find (has_id e.id) lives ≡ Some (live_entity zones e) =
     subst (λ (x : LiveEntity). find (has_id x.id) lives ≡ Some x) (sym at) (find_own 0 next lives i (live_entity zones e) long sound.population.rising) in
+    let one : (test : EntityData → Bool) → passes test (find (has_id e.id) lives) ≡ test e.what = λ test. ap (passes test) own in
     let shrunk : IsPopulation (record { next = next; live = remove lives i }) =
     record {
       rising = rising_remove 0 next lives i sound.population.rising;
       rooted = root_remove lives i later sound.population.rooted;
-      belong = belong_remove lives i (live_entity zones e) long at sound.population.belong
-          (bare_none lives e.id e.what sound.population.belong (λ test. ap (passes test) own) bare);
+      belong = belong_remove lives i (live_entity zones e) long at sound.population.belong (bare_none lives e.id e.what sound.population.belong one bare);
       directories = All-remove (λ (l : LiveEntity). NoBytesIfDirectory l.what) lives i sound.population.directories;
       names = all_pairs_remove (λ (older l : LiveEntity). is_namesake l.name l.what older ≡ false) lives i long sound.population.names;
+      descriptors = described_remove lives i (live_entity zones e) long at sound.population.descriptors (bare_unopened lives e.id e.what sound.population.descriptors one bare);
     } in
     record {
       sound = record {
@@ -139,28 +143,48 @@ pub found_place : (next : ℕ) (zones : Contents) (es : List Entity) (id : Id) (
 found_place next zones es id i e place is =
     place.found (live_entity zones e) ∙ ap (λ (x : LiveEntity). Some x) (sym (seen_place zones es i e (place_within next zones es id i place) is))
 
+-- entities that are changed, and keep their ids and names
+pub population_mapped : (f : LiveEntity → LiveEntity) (objects : Entities) → ((e : LiveEntity) → (f e).id ≡ e.id) → ((e : LiveEntity) → (f e).name ≡ e.name)
+    → AllStay f objects.live → All (λ e. AreDescriptors objects.live (fds_of (f e).what)) objects.live
+    → IsPopulation objects → IsPopulation (record objects { live = map f objects.live })
+population_mapped f objects ids names stay described population =
+    record {
+      rising = rising_mapped f 0 objects.next objects.live ids population.rising;
+      rooted = root_mapped f objects.live ids (λ k d l. (stay k d l).directory) population.rooted;
+      belong = belong_mapped f objects.live ids stay population.belong;
+      directories = directories_mapped f objects.live stay population.directories;
+      names = names_mapped f objects.live names stay population.names;
+      descriptors = described_mapped f objects.live ids stay described;
+    }
+
+-- the descriptors of the entity at a place
+pub described_place : (next : ℕ) (zones : Contents) (es : List Entity) (id : Id) (i : ℕ) (e : Entity) → IsPlace (view next zones es) id i → e ≡ get_or es i e
+    → IsSound next zones es → AreDescriptors (live_of zones es) (fds_of e.what)
+described_place next zones es id i e place is sound =
+    subst (λ (x : LiveEntity). AreDescriptors (live_of zones es) (fds_of x.what)) (sym (seen_place zones es i e (place_within next zones es id i place) is))
+    (sound.population.descriptors i (live_entity zones e) place.within)
+
 -- the entity at a place is changed, as contracts see it
 changes : (next : ℕ) (zones zones' : Contents) (es es' : List Entity) (id : Id) (i : ℕ) (e : Entity) (change : LiveEntity → LiveEntity)
     → IsPlace (view next zones es) id i → e ≡ get_or es i e → IsSound next zones es
     → ((x : LiveEntity) → (change x).id ≡ x.id) → ((x : LiveEntity) → (change x).name ≡ x.name) → Stays e.what (change (live_entity zones e)).what
+    → AreDescriptors (live_of zones es) (fds_of (change (live_entity zones e)).what)
     → live_of zones' es' ≡ set (live_of zones es) i (change (live_entity zones e)) → length es' ≡ length es → IsExact zones' (labels_of es') → NoneUnset zones'
     → Becomes next zones' es' (with_change change (view next zones es) id)
-changes next zones zones' es es' id i e change place is sound ids named stays shows len exact set_now =
+changes next zones zones' es es' id i e change place is sound ids named stays described shows len exact set_now =
     let within : i < length es = place_within next zones es id i place in
     let long : i < length (live_of zones es) = place.within in
     let at : live_entity zones e ≡ get_or (live_of zones es) i (live_entity zones e) = seen_place zones es i e within is in
     let has : has_id id (live_entity zones e) ≡ true = ap (has_id id) at ∙ place.has (live_entity zones e) in
     let live : live_of zones' es' ≡ map (changed_at change id) (live_of zones es) =
     shows ∙ set_changed change id 0 next (live_of zones es) i (live_entity zones e) long sound.population.rising at has in
-    let at_id : StaysAt change id (live_of zones es) = stays_at change id next (live_of zones es) i (live_entity zones e) long sound.population.rising at has stays in
+    let at_id : StaysAt change id (live_of zones es) =
+    all_of_id (λ (x : LiveEntity). Stays x.what (change x).what) id next (live_of zones es) i (live_entity zones e) long sound.population.rising at has stays in
+    let here : All (λ x. has_id id x ≡ true → AreDescriptors (live_of zones es) (fds_of (change x).what)) (live_of zones es) =
+    all_of_id (λ (x : LiveEntity). AreDescriptors (live_of zones es) (fds_of (change x).what)) id next (live_of zones es) i (live_entity zones e) long sound.population.rising at has described in
     let changed : IsPopulation (record { next = next; live = map (changed_at change id) (live_of zones es) }) =
-    record {
-      rising = rising_changed change id 0 next (live_of zones es) ids sound.population.rising;
-      rooted = root_changed change id (live_of zones es) ids (λ k d l has. (at_id k d l has).directory) sound.population.rooted;
-      belong = belong_changed change id (live_of zones es) ids at_id sound.population.belong;
-      directories = directories_changed change id (live_of zones es) at_id sound.population.directories;
-      names = names_changed change id (live_of zones es) named at_id sound.population.names;
-    } in
+    population_mapped (changed_at change id) (view next zones es) (changed_id change id ids) (changed_name change id named) (changed_stays change id (live_of zones es) at_id)
+    (fds_changed change id (live_of zones es) here sound.population.descriptors) sound.population in
     record {
       sound = record {
         population = rw live changed;
@@ -185,7 +209,7 @@ relabelled next zones zones' es id i e label slot h v place is sound value relab
     ∙ live_relabel zones zones' (take i es) (drop (suc i) es) e label slot h v relabels
     ∙ live_split zones (take i es) (drop (suc i) es) e i (with_value slot v (live_entity zones e)) (length-take-le i es (omega arith))
     ∙ ap (λ (xs : List Entity). set (live_of zones xs) i (with_value slot v (live_entity zones e))) (sym split) in
-    changes next zones zones' es (set es i e') id i e (with_value slot v) place is sound (λ x. refl) (λ x. refl) (stays_same e.what) live (length-set es i e')
+    changes next zones zones' es (set es i e') id i e (with_value slot v) place is sound (λ x. refl) (λ x. refl) (stays_same e.what) (described_place next zones es id i e place is sound) live (length-set es i e')
     (rw put (exact_relabel zones zones' (take i es) (drop (suc i) es) e label slot h v exact relabels))
     (set_writes zones zones' slot h v sound.set value relabels.writes)
 
@@ -227,7 +251,7 @@ label_changed next zones zones' es id i e label values four place is sound relab
     ∙ live_whole zones zones' (take i es) (drop (suc i) es) e label values four exact relabels
     ∙ live_split zones (take i es) (drop (suc i) es) e i (with_label values (live_entity zones e)) (length-take-le i es (omega arith))
     ∙ ap (λ (xs : List Entity). set (live_of zones xs) i (with_label values (live_entity zones e))) (sym split) in
-    changes next zones zones' es (set es i e') id i e (with_label values) place is sound (λ x. refl) (λ x. refl) (stays_same e.what) live (length-set es i e')
+    changes next zones zones' es (set es i e') id i e (with_label values) place is sound (λ x. refl) (λ x. refl) (stays_same e.what) (described_place next zones es id i e place is sound) live (length-set es i e')
     (rw put (exact_whole zones zones' (take i es) (drop (suc i) es) e label values exact relabels))
     (set_relabels zones zones' e.label label values sound.set relabels)
 
@@ -243,13 +267,15 @@ live_set zones (x ∷ es) (suc i) e = ap (λ (ls : List LiveEntity). live_entity
 
 -- what an entity holds is changed
 pub what_changed : (next : ℕ) (zones : Contents) (es : List Entity) (id : Id) (i : ℕ) (e : Entity) (w : EntityData) (change : EntityData → EntityData)
-    → IsPlace (view next zones es) id i → e ≡ get_or es i e → IsSound next zones es → Stays e.what (change e.what) → w ≡ change e.what
+    → IsPlace (view next zones es) id i → e ≡ get_or es i e → IsSound next zones es → Stays e.what (change e.what)
+    → AreDescriptors (live_of zones es) (fds_of w) → w ≡ change e.what
     → Becomes next zones (set es i (record e { what = w })) (with_change (with_what change) (view next zones es) id)
-what_changed next zones es id i e w change place is sound stays changed =
+what_changed next zones es id i e w change place is sound stays described changed =
     let e' : Entity = record e { what = w } in
     let live : live_of zones (set es i e') ≡ set (live_of zones es) i (with_what change (live_entity zones e)) =
     live_set zones es i e' ∙ ap (λ (x : EntityData). set (live_of zones es) i (with_what (λ _. x) (live_entity zones e))) changed in
-    changes next zones zones es (set es i e') id i e (with_what change) place is sound (λ x. refl) (λ x. refl) stays live (length-set es i e')
+    changes next zones zones es (set es i e') id i e (with_what change) place is sound (λ x. refl) (λ x. refl) stays
+    (described_same (live_of zones es) (fds_of w) (fds_of (change e.what)) (ap fds_of (sym changed)) described) live (length-set es i e')
     (subst (λ (ls : List Handles). IsExact zones ls) (sym (labels_set es i e e' is refl)) sound.exact) sound.set
 
 -- Look-ups by id
@@ -367,14 +393,15 @@ on_err (Ok x) P p = tt
 on_err (Err e) P p = p
 
 pub opened : (zones : Contents) (e : Entity) (values : List LabelValue) → length values ≡ 4 → MakesLabel (replicate 4 []) zones e.label values
-    → e.id.0 ≡ 0 → IsTrue (is_directory e.what) → Belongs (record { id = e.id; name = e.name; label = values; what = e.what } ∷ []) e.id.0 e.what → NoBytesIfDirectory e.what
+    → e.id.0 ≡ 0 → IsTrue (is_directory e.what) → Belongs (record { id = e.id; name = e.name; label = values; what = e.what } ∷ []) e.id.0 e.what → NoBytesIfDirectory e.what → fds_of e.what ≡ []
     → Becomes 1 zones ([] ++ e ∷ []) (record { next = 1; live = record { id = e.id; name = e.name; label = values; what = e.what } ∷ [] })
-opened zones e values four makes first directory belongs no_bytes =
+opened zones e values four makes first directory belongs no_bytes unopened =
     let x : LiveEntity = record { id = e.id; name = e.name; label = values; what = e.what } in
     let live : live_of zones ([] ++ e ∷ []) ≡ x ∷ [] = live_push (replicate 4 []) zones [] e values four exact_none makes in
     let P : LiveEntity → Type 0 = λ l. NoBytesIfDirectory l.what in
+    let D : LiveEntity → Type 0 = λ l. AreDescriptors (x ∷ []) (fds_of l.what) in
     let alone : IsPopulation (record { next = 1; live = x ∷ [] }) =
-    record { rising = (omega arith, omega (arith, first)); rooted = (first, directory); belong = belong_one x belongs; directories = All-cons P x [] no_bytes (All-nil P); names = names_one x } in
+    record { rising = (omega arith, omega (arith, first)); rooted = (first, directory); belong = belong_one x belongs; directories = All-cons P x [] no_bytes (All-nil P); names = names_one x; descriptors = All-cons D x [] (described_none (x ∷ []) (fds_of x.what) unopened) (All-nil D) } in
     record {
       sound = record {
         population = rw live alone;

@@ -7,6 +7,8 @@ pub mod Rising
 pub mod Finding
 pub mod Belonging
 pub mod Names
+pub mod Opened
+pub mod Numbers
 pub mod Kept
 pub mod ById
 pub mod Indexed
@@ -14,7 +16,11 @@ pub mod Members
 pub mod Found
 pub mod Held
 pub mod Removing
+pub mod Counted
+pub mod Closing
+pub mod Opening
 pub mod Naming
 pub mod ByteOrder
 pub mod Paths
+pub mod DescriptorLaws
 pub mod Laws

@@ -15,7 +15,7 @@ use Rattle.mf_objects.specs.declared.entity.EntityData.TheVariants.{Process, Vno
 use Rattle.mf_objects.specs.Live.{LiveEntity, has_id}
 use Rattle.mf_objects.specs.Lives.{is_held_by}
 use Rattle.mf_objects.specs.Population.{NamesDiffer, is_namesake, shares_names, is_entry_beside}
-use Rattle.mf_objects.proofs.Belonging.{Stays, StaysAt, stays_same, find_all}
+use Rattle.mf_objects.proofs.Belonging.{Stays, AllStay, StaysAt, changed_stays, find_all}
 
 -- what needs another name than the other still does
 shares_kept : (w w' other : EntityData) → Stays w w' → shares_names other w' ≡ shares_names other w
@@ -35,24 +35,26 @@ namesake_kept x x' y y' stays_x stays_y name_x name_y =
     ∙ ap (λ (n : List ℕ). shares_names y.what x.what && bytes_eq n y'.name) name_x
     ∙ ap (λ (n : List ℕ). shares_names y.what x.what && bytes_eq x.name n) name_y
 
-pub names_changed : (change : LiveEntity → LiveEntity) (id : Id) (live : List LiveEntity) → ((e : LiveEntity) → (change e).name ≡ e.name) → StaysAt change id live
-    → NamesDiffer live → NamesDiffer (map (changed_at change id) live)
-names_changed change id live names stays differ i j d before within =
-    let short : j < length live = omega (arith, within, length-map live (changed_at change id)) in
+pub changed_name : (change : LiveEntity → LiveEntity) (id : Id) → ((e : LiveEntity) → (change e).name ≡ e.name) → (e : LiveEntity) → (changed_at change id e).name ≡ e.name
+changed_name change id names e = one (has_id id e)
+  where
+    one : (b : Bool) → (cond b (change e) e).name ≡ e.name
+    one true = names e
+    one false = refl
+
+pub names_mapped : (f : LiveEntity → LiveEntity) (live : List LiveEntity) → ((e : LiveEntity) → (f e).name ≡ e.name) → AllStay f live → NamesDiffer live → NamesDiffer (map f live)
+names_mapped f live names stays differ i j d before within =
+    let short : j < length live = omega (arith, within, length-map live f) in
     let older : LiveEntity = get_or live i d in
     let newer : LiveEntity = get_or live j d in
-    let kept : is_namesake (changed_at change id newer).name (changed_at change id newer).what (changed_at change id older) ≡ is_namesake newer.name newer.what older =
-    namesake_kept older (changed_at change id older) newer (changed_at change id newer)
-    (stay older (has_id id older) refl (stays i d (omega arith))) (stay newer (has_id id newer) refl (stays j d short)) (name older (has_id id older)) (name newer (has_id id newer)) in
-    rw (get_or-map (changed_at change id) live i d d (omega arith), get_or-map (changed_at change id) live j d d short) (kept ∙ differ i j d before short)
-  where
-    stay : (e : LiveEntity) (b : Bool) → has_id id e ≡ b → (has_id id e ≡ true → Stays e.what (change e).what) → Stays e.what (cond b (change e) e).what
-    stay e true has here = here has
-    stay e false has here = stays_same e.what
+    let kept : is_namesake (f newer).name (f newer).what (f older) ≡ is_namesake newer.name newer.what older =
+    namesake_kept older (f older) newer (f newer) (stays i d (omega arith)) (stays j d short) (names older) (names newer) in
+    rw (get_or-map f live i d d (omega arith), get_or-map f live j d d short) (kept ∙ differ i j d before short)
 
-    name : (e : LiveEntity) (b : Bool) → (cond b (change e) e).name ≡ e.name
-    name e true = names e
-    name e false = refl
+pub names_changed : (change : LiveEntity → LiveEntity) (id : Id) (live : List LiveEntity) → ((e : LiveEntity) → (change e).name ≡ e.name) → StaysAt change id live
+    → NamesDiffer live → NamesDiffer (map (changed_at change id) live)
+names_changed change id live names stays differ =
+    names_mapped (changed_at change id) live (changed_name change id names) (changed_stays change id live stays) differ
 
 -- nothing that was looked for in vain is there
 none_passes : (test : LiveEntity → Bool) (live : List LiveEntity) → find test live ≡ None → All (λ e. test e ≡ false) live

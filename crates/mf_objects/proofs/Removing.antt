@@ -9,7 +9,7 @@ use Rattle.mf_objects.specs.declared.entity.EntityData.TheVariants.{Process, Vno
 use Rattle.mf_objects.specs.Live.{LiveEntity, Entities, has_id, live_at, is_process, is_entry, is_made_by, entry_count}
 use Rattle.mf_objects.specs.Lives.{passes, is_vnode, is_directory, IsLive}
 use Rattle.mf_objects.specs.Changes.{goes_with, without}
-use Rattle.mf_objects.specs.Fits.{IsBare}
+use Rattle.mf_objects.specs.Fits.{IsBare, IsUnopened}
 use Rattle.mf_objects.specs.Population.{HasRoot}
 use Rattle.mf_objects.specs.Sound.{IsPlace}
 use Rattle.mf_objects.proofs.Rising.{root_remove, id_is}
@@ -153,9 +153,9 @@ not_root next (r ∷ es) id root live same =
 
 -- The process itself
 
-find_filter : (p q : LiveEntity → Bool) (es : List LiveEntity) (x : LiveEntity) → find p es ≡ Some x → q x ≡ true → find p (filter q es) ≡ Some x
-find_filter p q [] x is keeps = cc
-find_filter p q (e ∷ es) x is keeps = one (p e) (q e) refl refl (λ here. find_filter p q es x here keeps) is
+pub kept_found : (p q : LiveEntity → Bool) (es : List LiveEntity) (x : LiveEntity) → find p es ≡ Some x → q x ≡ true → find p (filter q es) ≡ Some x
+kept_found p q [] x is keeps = cc
+kept_found p q (e ∷ es) x is keeps = one (p e) (q e) refl refl (λ here. kept_found p q es x here keeps) is
   where
     inside_some : (a b : LiveEntity) → Some a ≡ Some b → a ≡ b
     inside_some a b e = cc
@@ -179,7 +179,7 @@ process_stays objects id live = by_found (find (has_id id) objects.live) refl li
     by_found : (o : Option LiveEntity) → find (has_id id) objects.live ≡ o → passes is_process o ≡ true → IsLive is_process (without (λ e. is_made_by id e.what) objects) id
     by_found None is process = absurd (false≢true process)
     by_found (Some x) is process =
-        ap (passes is_process) (find_filter (has_id id) (λ e. not (is_made_by id e.what)) objects.live x is (not_made id x.what process)) ∙ process
+        ap (passes is_process) (kept_found (has_id id) (λ e. not (is_made_by id e.what)) objects.live x is (not_made id x.what process)) ∙ process
 
 -- a process that made nothing that lives
 pub process_bare : (live : List LiveEntity) (e : LiveEntity) → is_process e.what ≡ true → count_by (λ (x : LiveEntity). is_made_by e.id x.what) live ≡ 0 → IsBare live e.id e.what
@@ -191,13 +191,14 @@ process_bare live e process none = by_what e.what process
     by_what (Pipe pipe) process = absurd (false≢true process)
     by_what (Socket socket) process = absurd (false≢true process)
 
--- a vnode without entries
-pub vnode_bare : (live : List LiveEntity) (e : LiveEntity) → is_vnode e.what ≡ true → count_by (λ (x : LiveEntity). is_entry e.id x.what) live ≡ 0 → IsBare live e.id e.what
-vnode_bare live e vnode none = by_what e.what vnode
+-- a vnode without entries, which no process has open
+pub vnode_bare : (live : List LiveEntity) (e : LiveEntity) → is_vnode e.what ≡ true → count_by (λ (x : LiveEntity). is_entry e.id x.what) live ≡ 0 → IsUnopened e.id live
+    → IsBare live e.id e.what
+vnode_bare live e vnode none unopened = by_what e.what vnode
   where
     by_what : (w : EntityData) → is_vnode w ≡ true → IsBare live e.id w
     by_what (Process process) vnode = absurd (false≢true vnode)
-    by_what (Vnode v) vnode = none
+    by_what (Vnode v) vnode = (none, unopened)
     by_what (Pipe pipe) vnode = absurd (false≢true vnode)
     by_what (Socket socket) vnode = absurd (false≢true vnode)
 
@@ -238,12 +239,12 @@ process_at objects id place d is process none =
     (subst (λ (i : Id). count_by (λ (x : LiveEntity). is_made_by i x.what) objects.live ≡ 0) same none)
 
 pub vnode_at : (objects : Entities) (id : Id) (place : ℕ) (d : LiveEntity) → IsPlace objects id place → IsLive is_vnode objects id → entry_count objects id ≡ 0
-    → IsBare objects.live (get_or objects.live place d).id (get_or objects.live place d).what
-vnode_at objects id place d is vnode none =
+    → IsUnopened id objects.live → IsBare objects.live (get_or objects.live place d).id (get_or objects.live place d).what
+vnode_at objects id place d is vnode none unopened =
     let e : LiveEntity = get_or objects.live place d in
     let same : id ≡ e.id = same_id id e.id (sym (id_is id e (is.has d))) in
     vnode_bare objects.live e (sym (ap (passes is_vnode) (is.found d)) ∙ vnode)
-    (subst (λ (i : Id). count_by (λ (x : LiveEntity). is_entry i x.what) objects.live ≡ 0) same none)
+    (subst (λ (i : Id). count_by (λ (x : LiveEntity). is_entry i x.what) objects.live ≡ 0) same none) (subst (λ (i : Id). IsUnopened i objects.live) same unopened)
 
 pub process_later : (objects : Entities) (id : Id) (place : ℕ) → IsPlace objects id place → HasRoot objects.live → IsLive is_process objects id → 0 < place
 process_later objects id place is root process = is.later (not_root objects.next objects.live id root process)

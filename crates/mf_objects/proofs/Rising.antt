@@ -60,39 +60,42 @@ set_changed change id least next (x ∷ es) (suc i) e within rising is has =
     let rest : set es i (change e) ≡ map (changed_at change id) es = set_changed change id (x.id.0 + 1) next es i e (omega arith) rising.1 is has in
     rw no_id (ap (λ (ls : List LiveEntity). x ∷ ls) rest)
 
--- a change that keeps the ids
-pub rising_changed : (change : LiveEntity → LiveEntity) (id : Id) (least next : ℕ) (es : List LiveEntity) → ((e : LiveEntity) → (change e).id ≡ e.id)
-    → IsRising least next es → IsRising least next (map (changed_at change id) es)
-rising_changed change id least next [] keeps rising = rising
-rising_changed change id least next (e ∷ es) keeps rising =
-    let same : (changed_at change id e).id ≡ e.id = one (has_id id e) in
-    let rest = rising_changed change id (e.id.0 + 1) next es keeps rising.1 in
-    rw same (rising.0, rest)
+-- a change of all that keeps the ids
+pub rising_mapped : (f : LiveEntity → LiveEntity) (least next : ℕ) (es : List LiveEntity) → ((e : LiveEntity) → (f e).id ≡ e.id) → IsRising least next es → IsRising least next (map f es)
+rising_mapped f least next [] ids rising = rising
+rising_mapped f least next (e ∷ es) ids rising = let rest = rising_mapped f (e.id.0 + 1) next es ids rising.1 in rw (ids e) (rising.0, rest)
+
+-- a change of one that keeps the ids
+
+pub changed_id : (change : LiveEntity → LiveEntity) (id : Id) → ((e : LiveEntity) → (change e).id ≡ e.id) → (e : LiveEntity) → (changed_at change id e).id ≡ e.id
+changed_id change id ids e = one (has_id id e)
   where
     one : (b : Bool) → (cond b (change e) e).id ≡ e.id
-    one true = keeps e
+    one true = ids e
     one false = refl
+
+pub rising_changed : (change : LiveEntity → LiveEntity) (id : Id) (least next : ℕ) (es : List LiveEntity) → ((e : LiveEntity) → (change e).id ≡ e.id)
+    → IsRising least next es → IsRising least next (map (changed_at change id) es)
+rising_changed change id least next es keeps rising = rising_mapped (changed_at change id) least next es (changed_id change id keeps) rising
 
 pub root_push : (es ys : List LiveEntity) → HasRoot es → HasRoot (es ++ ys)
 root_push [] ys root = absurd root
 root_push (e ∷ es) ys root = root
 
+pub root_mapped : (f : LiveEntity → LiveEntity) (es : List LiveEntity) → ((e : LiveEntity) → (f e).id ≡ e.id)
+    → All (λ e. is_directory (f e).what ≡ is_directory e.what) es → HasRoot es → HasRoot (map f es)
+root_mapped f [] ids directory root = root
+root_mapped f (e ∷ es) ids directory root =
+    (ap (λ (i : Id). i.0) (ids e) ∙ root.0, All-head (λ (x : LiveEntity). is_directory (f x).what ≡ is_directory x.what) e es directory ∙ root.1)
+
 pub root_changed : (change : LiveEntity → LiveEntity) (id : Id) (es : List LiveEntity) → ((e : LiveEntity) → (change e).id ≡ e.id)
     → All (λ e. has_id id e ≡ true → is_directory (change e).what ≡ is_directory e.what) es → HasRoot es → HasRoot (map (changed_at change id) es)
-root_changed change id [] keeps directory root = root
-root_changed change id (e ∷ es) keeps directory root =
-    let P : LiveEntity → Type 0 = λ x. has_id id x ≡ true → is_directory (change x).what ≡ is_directory x.what in
-    let same : (changed_at change id e).id ≡ e.id = one (has_id id e) in
-    let kind : is_directory (changed_at change id e).what ≡ is_directory e.what = two (has_id id e) refl (All-head P e es directory) in
-    (ap (λ (i : Id). i.0) same ∙ root.0, kind ∙ root.1)
+root_changed change id es keeps directory root =
+    root_mapped (changed_at change id) es (changed_id change id keeps) (λ k d l. one (get_or es k d) (has_id id (get_or es k d)) refl (directory k d l)) root
   where
-    one : (b : Bool) → (cond b (change e) e).id ≡ e.id
-    one true = keeps e
-    one false = refl
-
-    two : (b : Bool) → has_id id e ≡ b → (has_id id e ≡ true → is_directory (change e).what ≡ is_directory e.what) → is_directory (cond b (change e) e).what ≡ is_directory e.what
-    two true has here = here has
-    two false has here = refl
+    one : (e : LiveEntity) (b : Bool) → has_id id e ≡ b → (has_id id e ≡ true → is_directory (change e).what ≡ is_directory e.what) → is_directory (cond b (change e) e).what ≡ is_directory e.what
+    one e true has here = here has
+    one e false has here = refl
 
 pub root_remove : (es : List LiveEntity) (i : ℕ) → 0 < i → HasRoot es → HasRoot (remove es i)
 root_remove [] i later root = absurd root

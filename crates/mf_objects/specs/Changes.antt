@@ -58,8 +58,9 @@ with_mode mode other = other
 
 -- What is made
 
+-- a process that has nothing open
 abbrev pub new_process : Cred → EntityData
-new_process cred = Process (record { cred = cred })
+new_process cred = Process (record { cred = cred; fds = [] })
 
 abbrev pub new_vnode : Id → FileView → List ℕ → EntityData
 new_vnode dir file text = Vnode (record { parent = Some dir; file = file; content = text })

@@ -1,4 +1,5 @@
 pub mod Changes
+pub mod Descriptors
 pub mod Fits
 pub mod Head
 pub mod Index

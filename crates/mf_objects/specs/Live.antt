@@ -80,9 +80,15 @@ no_file = record { uid = 0; gid = 0; mode = 0; dir = false }
 abbrev pub no_cred : Cred
 no_cred = record { uid = 0; ruid = 0; svuid = 0; groups = 0 ∷ [] }
 
+-- how a process is seen as an object: by its real uid and its first group
+abbrev pub process_file : Cred → FileView
+process_file cred = record { uid = cred.ruid; gid = slice_index_or cred.groups 0 0; mode = 0; dir = false }
+
 abbrev pub file_of : EntityData → FileView
+file_of (Process process) = process_file process.cred
 file_of (Vnode vnode) = vnode.file
-file_of other = no_file
+file_of (Pipe pipe) = no_file
+file_of (Socket socket) = no_file
 
 abbrev pub cred_of : EntityData → Cred
 cred_of (Process process) = process.cred

@@ -1,6 +1,6 @@
 -- Which entities live, and what they hold, as contracts ask it.
 use Rattle.std.specs.Option.{option_map_or}
-use Rattle.std.specs.Prelude.{◌≡◌, ◌==◌, ◌≢◌, ◌<◌, ◌≤◌, ℕ, All, Bool, true, false, IsTrue, nat_le, List, Option, Some, None, find, count_by, slice_index_or, IfSome, IfNone}
+use Rattle.std.specs.Prelude.{◌≡◌, ◌==◌, ◌≢◌, ◌<◌, ◌≤◌, ℕ, All, Bool, true, false, not, IsTrue, nat_le, List, Option, Some, None, find, count_by, slice_index_or, IfSome, IfNone}
 use Rattle.mf_elem.specs.declared.label.LabelValue.{LabelValue}
 use Rattle.mf_elem.specs.declared.label.TheConstants.{SLOTS}
 use Rattle.mf_elem.specs.declared.label.LabelValue.TheVariants as values
@@ -20,6 +20,10 @@ is_vnode other = false
 abbrev pub is_directory : EntityData → Bool
 is_directory (Vnode vnode) = vnode.file.dir
 is_directory other = false
+
+abbrev pub is_regular : EntityData → Bool
+is_regular (Vnode vnode) = not vnode.file.dir
+is_regular other = false
 
 abbrev pub passes : (EntityData → Bool) → Option LiveEntity → Bool
 passes test None = false

@@ -1,11 +1,14 @@
 -- What is true of the live entities at any time.
-use Rattle.std.specs.Prelude.{◌≡◌, ℕ, ◌+◌, ◌<◌, ◌≤◌, Bool, false, ◌&&◌, IsTrue, List, [], ◌∷◌, All, AllPairs, Option, Some, None, find, MatchOption}
+use Rattle.std.specs.Prelude.{◌≡◌, ◌≢◌, ℕ, ◌+◌, ◌<◌, ◌≤◌, Bool, false, ◌&&◌, IsTrue, List, [], ◌∷◌, length, All, AllPairs, Option, Some, None, find, MatchOption}
 use Rattle.std.specs.Str.{bytes_eq}
+use Rattle.mf_names.specs.declared.limits.TheConstants.{MOST_DESCRIPTORS}
 use Rattle.mf_objects.specs.declared.id.Id.{Id}
+use Rattle.mf_objects.specs.declared.descriptors.Fd.{Fd}
 use Rattle.mf_objects.specs.declared.entity.EntityData.{EntityData}
 use Rattle.mf_objects.specs.declared.entity.EntityData.TheVariants.{Process, Vnode, Pipe, Socket}
 use Rattle.mf_objects.specs.Live.{LiveEntity, Entities, has_id, is_process, is_pipe, is_socket, is_entry, content_of}
-use Rattle.mf_objects.specs.Lives.{passes, is_directory}
+use Rattle.mf_objects.specs.Lives.{passes, is_directory, is_regular}
+use Rattle.mf_objects.specs.Descriptors.{fds_of}
 
 -- the ids rise, are at least the first number and stay below the second
 abbrev pub IsRising : ℕ → ℕ → List LiveEntity → Type 0
@@ -56,6 +59,13 @@ is_namesake name what e = shares_names what e.what && bytes_eq e.name name
 abbrev pub NamesDiffer : List LiveEntity → Type 0
 NamesDiffer live = AllPairs (λ older e. is_namesake e.name e.what older ≡ false) live
 
+-- the descriptors of a process: they are no more than it may have, their numbers are below that and differ, and each is on a live regular file
+pub record AreDescriptors (live : List LiveEntity) (fds : List Fd) : Type 0 where
+  pub few : length fds ≤ MOST_DESCRIPTORS
+  pub within : All (λ fd. fd.number < MOST_DESCRIPTORS) fds
+  pub once : AllPairs (λ fd other. fd.number ≢ other.number) fds
+  pub files : All (λ fd. IsTrue (passes is_regular (find (has_id fd.file) live))) fds
+
 -- what is true of the live entities at any time
 pub record IsPopulation (objects : Entities) : Type 0 where
   pub rising : IsRising 0 objects.next objects.live
@@ -63,3 +73,4 @@ pub record IsPopulation (objects : Entities) : Type 0 where
   pub belong : AllBelong objects.live
   pub directories : All (λ e. NoBytesIfDirectory e.what) objects.live
   pub names : NamesDiffer objects.live
+  pub descriptors : All (λ e. AreDescriptors objects.live (fds_of e.what)) objects.live

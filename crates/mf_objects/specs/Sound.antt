@@ -1,5 +1,6 @@
 -- What is true of every population of live entities and the zones of their labels.
 use Rattle.std.specs.Prelude.{◌≡◌, ◌==◌, ◌≢◌, ℕ, ◌+◌, ◌<◌, ◌≤◌, true, slice_index_or, List, [], ◌∷◌, length, map, AllPairs, Option, Some, None, if◌then◌else◌}
+use Rattle.std.specs.List.{sum_by}
 use Rattle.mf_elem.specs.declared.label.LabelValue.{LabelValue}
 use Rattle.mf_elem.specs.declared.label.TheConstants.{SLOTS}
 use Rattle.mf_slots.specs.Zones.{Contents, Handles, handle, under, label_values, NoneUnset}
@@ -7,6 +8,7 @@ use Rattle.mf_objects.specs.declared.limits.TheConstants.{MOST_ENTITIES}
 use Rattle.mf_objects.specs.declared.entity.Entity.{Entity}
 use Rattle.mf_objects.specs.declared.id.Id.{Id}
 use Rattle.mf_objects.specs.Live.{LiveEntity, Entities, has_id, live_at}
+use Rattle.mf_objects.specs.Descriptors.{fds_of}
 use Rattle.mf_objects.specs.Population.{IsPopulation}
 
 -- an entity as contracts see it
@@ -45,6 +47,10 @@ pub record IsSound (next : ℕ) (zones : Contents) (entities : List Entity) : Ty
   pub few : length entities ≤ MOST_ENTITIES
   pub exact : IsExact zones (labels_of entities)
   pub set : NoneUnset zones
+
+-- how many descriptors the processes have
+abbrev pub open_count : List Entity → ℕ
+open_count entities = sum_by (λ (e : Entity). length (fds_of e.what)) entities
 
 -- the entities stand by rising id
 abbrev pub IsById : List Entity → Type 0

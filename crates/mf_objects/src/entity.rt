@@ -6,9 +6,13 @@ ghost use Rattle.mf_objects.specs.Index as index;
 ghost use Rattle.mf_objects.specs.Live as live;
 ghost use Rattle.mf_objects.specs.Lives.{is_held_by};
 ghost use Rattle.mf_objects.specs.Changes as change;
+ghost use Rattle.mf_objects.specs.Descriptors as fds;
 ghost use Rattle.mf_objects.specs.Fits.{FitsBytes, FitsMessage, HasMessage};
 ghost use Rattle.mf_objects.specs.Titles as title;
 
+mod descriptors;
+
+use crate::descriptors::Descriptors;
 use crate::id::Id;
 use crate::index::Group;
 use crate::limits::PIPE_LIMIT;
@@ -19,10 +23,11 @@ use mf_names::{Bytes, CONTENT_LIMIT, Name, SCRIPT_LIMIT};
 use mf_slots::Label;
 use std::alloc::AllocError;
 
-/// A process: its credential.
+/// A process: its credential, and the files that it has open.
 #[derive(Drop)]
 pub struct Process {
     pub cred: Cred,
+    pub fds: Descriptors,
 }
 
 /// A directory or a regular file: the directory that holds it, its attributes, and its bytes. A directory has no bytes, and
@@ -79,13 +84,15 @@ impl EntityData {
         }
     }
 
-    /// The attributes of a file or a directory; all zero for anything else.
+    /// The attributes of a file or a directory. A process has its real uid and its first group, and all
+    /// else is zero.
     pub fn file(&self) -> FileView
         ensures { result ≡ live.file_of self.now }
     {
         match self {
             EntityData::Vnode(vnode) => vnode.file,
-            EntityData::Process(_) | EntityData::Pipe(_) | EntityData::Socket(_) => FileView {
+            EntityData::Process(process) => process_file(&process.cred),
+            EntityData::Pipe(_) | EntityData::Socket(_) => FileView {
                 uid: 0,
                 gid: 0,
                 mode: 0,
@@ -201,6 +208,7 @@ impl EntityData {
         ensures ok { OnOk result (self.new ≡ change.appended text.now self.old) }
         ensures err { OnErr result (self.new ≡ self.old) }
         ensures group { index.group_of self.new ≡ index.group_of self.old }
+        ensures fds { fds.fds_of self.new ≡ fds.fds_of self.old }
     {
         match self {
             EntityData::Vnode(vnode) => vnode.content.append(text),
@@ -213,6 +221,7 @@ impl EntityData {
     pub fn clear(&mut self)
         ensures value { self.new ≡ change.cleared self.old }
         ensures group { index.group_of self.new ≡ index.group_of self.old }
+        ensures fds { fds.fds_of self.new ≡ fds.fds_of self.old }
     {
         match self {
             EntityData::Pipe(pipe) => pipe.bytes.clear(),
@@ -227,6 +236,7 @@ impl EntityData {
             ≡ change.with_messages (change.with_message message) self.old) }
         ensures err { OnErr result (self.new ≡ self.old) }
         ensures group { index.group_of self.new ≡ index.group_of self.old }
+        ensures fds { fds.fds_of self.new ≡ fds.fds_of self.old }
     {
         match self {
             EntityData::Socket(socket) => socket.messages.push(message),
@@ -240,6 +250,7 @@ impl EntityData {
         ensures rest { self.new ≡ change.with_messages (drop 1) self.old }
         ensures oldest { live.messages_of self.old ≡ result ∷ live.messages_of self.new }
         ensures group { index.group_of self.new ≡ index.group_of self.old }
+        ensures fds { fds.fds_of self.new ≡ fds.fds_of self.old }
     {
         match self {
             EntityData::Socket(socket) => socket.messages.pop(),
@@ -251,11 +262,28 @@ impl EntityData {
     pub fn set_mode(&mut self, mode: u16)
         ensures value { self.new ≡ change.with_mode mode self.old }
         ensures group { index.group_of self.new ≡ index.group_of self.old }
+        ensures fds { fds.fds_of self.new ≡ fds.fds_of self.old }
     {
         match self {
             EntityData::Vnode(vnode) => vnode.file.mode = mode,
             EntityData::Process(_) | EntityData::Pipe(_) | EntityData::Socket(_) => {}
         }
+    }
+}
+
+/// How a process is seen as an object.
+fn process_file(cred: &Cred) -> FileView
+    ensures { result ≡ live.process_file cred.now }
+{
+    let gid = match cred.groups.as_slice().first() {
+        Some(group) => *group,
+        None => 0,
+    };
+    FileView {
+        uid: cred.ruid,
+        gid,
+        mode: 0,
+        dir: false,
     }
 }
 

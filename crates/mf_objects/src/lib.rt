@@ -1,6 +1,8 @@
-//! The live entities of the kernel: processes, files and directories, pipes and sockets, with their labels.
+//! The live entities of the kernel: processes with the files that they have open, files and directories, pipes and sockets,
+//! with their labels.
 #![tactic(auto)]
 
+mod descriptors;
 mod entity;
 mod head;
 mod id;
@@ -9,6 +11,7 @@ mod limits;
 mod messages;
 mod objects;
 
+pub use descriptors::Fd;
 pub use head::Head;
 pub use id::Id;
 pub use limits::{

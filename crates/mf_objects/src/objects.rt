@@ -12,10 +12,12 @@ ghost use Rattle.mf_objects.specs.Index.{bucket_of, with_id};
 ghost use Rattle.mf_slots.specs.Zones.{MakesLabel};
 
 mod changing;
+mod descriptors;
 mod naming;
 mod reading;
 mod removing;
 
+use crate::descriptors::Descriptors;
 use crate::entity::{Entity, EntityData, Pipe, Process, Socket, Vnode};
 use crate::id::Id;
 use crate::index::{Group, NameIndex};
@@ -35,6 +37,8 @@ pub struct Objects {
     zones: Zones,
     entities: Vec<Entity>,
     index: NameIndex,
+    /// How many descriptors the processes have.
+    open_fds: u32,
 }
 
 impl Model for Objects {
@@ -42,13 +46,14 @@ impl Model for Objects {
 
     ghost Value = { Entities };
 
-    ghost use Rattle.mf_objects.specs.Sound.{live_of, IsSound};
+    ghost use Rattle.std.specs.Prelude.{◌≡◌};
+    ghost use Rattle.mf_objects.specs.Sound.{live_of, IsSound, open_count};
     ghost use Rattle.mf_objects.specs.Index.{IsIndex};
 
     ghost view = { λ a. record { next = a.next; live = live_of a.zones a.entities.items } };
 
     ghost invariant = { λ a. IsSound a.next a.zones a.entities.items
-        × IsIndex a.index a.entities.items };
+        × IsIndex a.index a.entities.items × (a.open_fds ≡ open_count a.entities.items) };
 }
 
 impl Objects {
@@ -82,10 +87,11 @@ impl Objects {
             zones,
             entities,
             index,
+            open_fds: 0,
         })
     }
 
-    /// Makes a process with this credential.
+    /// Makes a process with this credential, which has nothing open.
     pub fn add_process(
         &mut self,
         alloc: Global,
@@ -104,7 +110,10 @@ impl Objects {
         ensures id { IfOk result (λ id. id.0 ≡ self.old.next) }
         ensures err { OnErr result (self.new ≡ self.old) }
     {
-        let process = Process { cred: cred.copy() };
+        let process = Process {
+            cred: cred.copy(),
+            fds: Descriptors::new(alloc)?,
+        };
         self.add(alloc, name, values, EntityData::Process(process))
     }
 

@@ -99,7 +99,8 @@ impl Objects {
         self.entity(id).what.kind()
     }
 
-    /// The attributes of a file or a directory. What isn't a directory has no entries.
+    /// The attributes of a file or a directory; a process has its real uid and its first group. What isn't a directory has
+    /// no entries.
     pub fn file(&self, id: Id) -> FileView
         requires { IsSome (live.live_at self.now id) }
         ensures value { result ≡ live.file_at self.now id }

@@ -4,6 +4,7 @@ ghost use Rattle.mf_objects.specs.Live as live;
 ghost use Rattle.mf_objects.specs.Lives.{is_vnode, IsLive};
 ghost use Rattle.mf_objects.specs.declared.id.Id.{Id};
 ghost use Rattle.mf_objects.specs.Changes as change;
+ghost use Rattle.mf_objects.specs.Descriptors.{without_vnode};
 ghost use Rattle.mf_objects.specs.Fits.{IsBare};
 ghost use Rattle.mf_objects.specs.Population.{HasRoot};
 
@@ -12,7 +13,7 @@ use crate::entity::Entity;
 use crate::id::Id;
 
 impl Objects {
-    /// Removes a process, and the pipes and sockets that it made. Its children stay.
+    /// Removes a process with its descriptors, and the pipes and sockets that it made. Its children stay.
     pub fn remove_process(&mut self, id: Id)
         requires { IsLive live.is_process self.old id }
         ensures { self.new ≡ change.without (change.goes_with id) self.old }
@@ -39,13 +40,14 @@ impl Objects {
         }
     }
 
-    /// Removes a file, or a directory without entries; not the root.
+    /// Removes a file with all descriptors on it, or a directory without entries; not the root.
     pub fn remove_vnode(&mut self, id: Id)
         requires vnode { IsLive is_vnode self.old id }
         requires not_root { id.0 ≢ 0 }
         requires empty { live.entry_count self.old id ≡ 0 }
-        ensures { self.new ≡ change.without (live.has_id id) self.old }
+        ensures { self.new ≡ without_vnode id self.old }
     {
+        self.close_on(id);
         let place = self.place(id);
         self.remove_at(place);
     }
@@ -65,7 +67,8 @@ impl Objects {
         self.entities[place].what.is_made_by(maker)
     }
 
-    /// Removes the entity at a place, which no other belongs to, and frees its name and its label.
+    /// Removes the entity at a place, which no other belongs to and no process has open, and frees its name, its label and its
+    /// descriptors.
     fn remove_at(&mut self, place: usize)
         requires within { place < length self.old.live }
         requires later { 0 < place }
@@ -84,5 +87,6 @@ impl Objects {
         } = self.entities.remove(place);
         self.index.remove(what.group(), name.as_str(), id);
         self.zones.give_up(label);
+        self.open_fds -= what.fd_count();
     }
 }

@@ -7,10 +7,12 @@ use Rattle.mf_objects.specs.Live.{LiveEntity, Entities, live_at}
 use Rattle.mf_objects.specs.Changes.{with_entity, made}
 use Rattle.mf_objects.specs.Fits.{MayJoin}
 use Rattle.mf_objects.specs.Population.{IsRising, Belongs, is_namesake}
-use Rattle.mf_objects.specs.Sound.{live_of, live_entity}
+use Rattle.mf_objects.specs.Sound.{live_of, live_entity, open_count}
 use Rattle.mf_objects.proofs.Rising.{find_new}
 use Rattle.mf_objects.proofs.Belonging.{joins, joins_bare}
 use Rattle.mf_objects.proofs.Kept.{view, Becomes, added}
+use Rattle.mf_objects.proofs.Opened.{joins_unopened}
+use Rattle.mf_objects.proofs.Counted.{count_push}
 use Rattle.mf_objects.proofs.Indexed.{index_added}
 use Rattle.mf_objects.proofs.objects.Objects.add.Goals as goal
 
@@ -29,12 +31,13 @@ invariant_of-self-2 c =
     ∙ c.requires.name in
     let b : Becomes (c.self.inside.next + 1) c.enroll.new.zones (es ++ e ∷ [])
     (record { next = c.self.inside.next + 1; live = live_of zones es ++ record { id = e.id; name = e.name; label = c.args.values.now; what = e.what } ∷ [] }) =
-    added c.self.inside.next zones c.enroll.new.zones es e c.args.values.now refl room four c.self.invariant.0 belongs (joins_bare c.args.self.now c.args.what c.requires.joins) free c.in_ok-label.ensures.label in
+    added c.self.inside.next zones c.enroll.new.zones es e c.args.values.now refl room four c.self.invariant.0 belongs (joins_bare c.args.self.now c.args.what c.requires.joins) (joins_unopened c.args.self.now c.args.what c.requires.joins) free c.in_ok-label.ensures.label in
     let pushed : c.push.new.self.items ≡ c.reserve.new.self.items ++ e ∷ [] = rw c.unwrap.ensures at c.push.ensures.items in
     let items : c.push.new.self.items ≡ es ++ e ∷ [] = pushed ∙ ap (λ (xs : List Entity). xs ++ e ∷ []) c.reserve.ensures.items in (
       rw items b.sound,
       index_added c.self.inside.index c.enroll.new.index es c.push.new.self.items e c.group-group.result c.as_str.result.now c.group-group.ensures c.as_str.ensures c.in_ok-label.ensures.named items
           c.self.invariant.1,
+      c.self.invariant.2 ∙ sym (ap (λ (xs : List Entity). open_count xs) items ∙ count_push es e (joins_unopened c.args.self.now c.args.what c.requires.joins)),
     )
 
 pub returns-clause-ok : goal.returns-clause-ok
@@ -52,7 +55,7 @@ returns-clause-ok c =
     ∙ c.requires.name in
     let b : Becomes (c.self.inside.next + 1) c.enroll.new.zones (es ++ e ∷ [])
     (record { next = c.self.inside.next + 1; live = live_of zones es ++ record { id = e.id; name = e.name; label = c.args.values.now; what = e.what } ∷ [] }) =
-    added c.self.inside.next zones c.enroll.new.zones es e c.args.values.now refl room four c.self.invariant.0 belongs (joins_bare c.args.self.now c.args.what c.requires.joins) free c.in_ok-label.ensures.label in
+    added c.self.inside.next zones c.enroll.new.zones es e c.args.values.now refl room four c.self.invariant.0 belongs (joins_bare c.args.self.now c.args.what c.requires.joins) (joins_unopened c.args.self.now c.args.what c.requires.joins) free c.in_ok-label.ensures.label in
     let pushed : c.push.new.self.items ≡ c.reserve.new.self.items ++ e ∷ [] = rw c.unwrap.ensures at c.push.ensures.items in
     let items : c.push.new.self.items ≡ es ++ e ∷ [] = pushed ∙ ap (λ (xs : List Entity). xs ++ e ∷ []) c.reserve.ensures.items in
     ap (λ (xs : List Entity). view (c.self.inside.next + 1) c.enroll.new.zones xs) items
@@ -75,7 +78,7 @@ returns-clause-found c =
     ∙ c.requires.name in
     let b : Becomes (c.self.inside.next + 1) c.enroll.new.zones (es ++ e ∷ [])
     (record { next = c.self.inside.next + 1; live = live_of zones es ++ record { id = e.id; name = e.name; label = c.args.values.now; what = e.what } ∷ [] }) =
-    added c.self.inside.next zones c.enroll.new.zones es e c.args.values.now refl room four c.self.invariant.0 belongs (joins_bare c.args.self.now c.args.what c.requires.joins) free c.in_ok-label.ensures.label in
+    added c.self.inside.next zones c.enroll.new.zones es e c.args.values.now refl room four c.self.invariant.0 belongs (joins_bare c.args.self.now c.args.what c.requires.joins) (joins_unopened c.args.self.now c.args.what c.requires.joins) free c.in_ok-label.ensures.label in
     let pushed : c.push.new.self.items ≡ c.reserve.new.self.items ++ e ∷ [] = rw c.unwrap.ensures at c.push.ensures.items in
     let items : c.push.new.self.items ≡ es ++ e ∷ [] = pushed ∙ ap (λ (xs : List Entity). xs ++ e ∷ []) c.reserve.ensures.items in
     let whole : view (c.self.inside.next + 1) c.enroll.new.zones c.push.new.self.items ≡ with_entity c.args.self.now c.args.name.now c.args.values.now c.args.what =

@@ -7,8 +7,9 @@ use Rattle.mf_objects.specs.Fits.{FitsBytes}
 use Rattle.mf_objects.specs.Sound.{IsPlace}
 use Rattle.mf_objects.proofs.Kept.{view, what_changed}
 use Rattle.mf_objects.proofs.Belonging.{appended_stays}
-use Rattle.mf_objects.proofs.Found.{where_place, what_sound}
+use Rattle.mf_objects.proofs.Found.{where_place, what_sound, described_still}
 use Rattle.mf_objects.proofs.Indexed.{index_set}
+use Rattle.mf_objects.proofs.Counted.{still_open}
 use Rattle.mf_objects.proofs.objects.Objects.append.Goals as goal
 
 pub append-requires : goal.append-requires
@@ -34,8 +35,10 @@ invariant_of-self c =
     where_place (FitsBytes (length c.args.text.now)) next zones es c.args.id i e place c.index_mut-entity.ensures.value
     (subst (λ (o : Entities). IsLiveWhere (FitsBytes (length c.args.text.now)) (live_at o c.args.id)) (sym c.self.view_is) c.requires) in (
       what_sound c.append.result next zones es c.args.id i e c.append.new.self (appended c.args.text.now) place c.index_mut-entity.ensures.value c.self.invariant.0 (appended_stays c.args.text.now e.what fits)
+          (described_still next zones es c.args.id i e c.append.new.self place c.index_mut-entity.ensures.value c.self.invariant.0 c.append.ensures.fds)
           c.append.ensures.ok c.append.ensures.err,
       index_set c.self.inside.index es i e (record e { what = c.append.new.self }) c.index_mut-entity.ensures.value refl refl c.append.ensures.group c.self.invariant.1,
+      still_open c.self.inside.open_fds next zones es c.args.id i e (record e { what = c.append.new.self }) place c.index_mut-entity.ensures.value c.append.ensures.fds c.self.invariant.2,
     )
 
 pub returns-clause-ok : goal.returns-clause-ok
@@ -50,5 +53,6 @@ returns-clause-ok c =
     where_place (FitsBytes (length c.args.text.now)) next zones es c.args.id i e place c.index_mut-entity.ensures.value
     (subst (λ (o : Entities). IsLiveWhere (FitsBytes (length c.args.text.now)) (live_at o c.args.id)) (sym c.self.view_is) c.requires) in
     on_ok_weaker c.append.result (λ (changed : c.append.new.self ≡ (appended c.args.text.now) e.what).
-    (what_changed next zones es c.args.id i e c.append.new.self (appended c.args.text.now) place c.index_mut-entity.ensures.value c.self.invariant.0 (appended_stays c.args.text.now e.what fits) changed).shows
+    (what_changed next zones es c.args.id i e c.append.new.self (appended c.args.text.now) place c.index_mut-entity.ensures.value c.self.invariant.0 (appended_stays c.args.text.now e.what fits)
+    (described_still next zones es c.args.id i e c.append.new.self place c.index_mut-entity.ensures.value c.self.invariant.0 c.append.ensures.fds) changed).shows
     ∙ ap (λ (o : Entities). with_change (with_what (appended c.args.text.now)) o c.args.id) c.self.view_is) c.append.ensures.ok

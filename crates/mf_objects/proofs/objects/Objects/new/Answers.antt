@@ -7,6 +7,8 @@ use Rattle.mf_objects.specs.declared.id.Id.{Id}
 use Rattle.mf_objects.specs.Index.{IsIndex}
 use Rattle.mf_objects.specs.Changes.{with_root}
 use Rattle.mf_objects.proofs.Kept.{view, opened}
+use Rattle.mf_objects.specs.Sound.{open_count}
+use Rattle.mf_objects.proofs.Counted.{count_push}
 use Rattle.mf_objects.proofs.Indexed.{index_none, index_added}
 use Rattle.mf_objects.proofs.objects.Objects.new.Goals as goal
 
@@ -35,11 +37,12 @@ invariant_of-result c =
     let four : length values ≡ 4 = omega arith in
     let makes : MakesLabel (replicate 4 []) c.make_label.new.self c.in_ok-label.label values =
     subst (λ (z : Contents). MakesLabel z c.make_label.new.self c.in_ok-label.label values) c.in_ok-zones.ensures c.in_ok-label.ensures.ok in
-    let b = opened c.make_label.new.self e values four makes refl refl refl (λ _. c.new-2.ensures) in
+    let b = opened c.make_label.new.self e values four makes refl refl refl (λ _. c.new-2.ensures) refl in
     let items : c.push.new.self.items ≡ [] ++ e ∷ [] = c.in_ok-push.ensures.items ∙ ap (λ (xs : List Entity). xs ++ e ∷ []) c.new-entities.ensures.items in (
       rw items b.sound,
       index_added c.in_ok-index.index c.insert.new.self [] c.push.new.self.items e c.group.result c.as_str.result.now c.group.ensures c.as_str.ensures c.in_ok-insert.ensures.ok items
           (subst (λ (index : List (List Id)). IsIndex index []) (sym c.in_ok-index.ensures) index_none),
+      sym (ap (λ (xs : List Entity). open_count xs) items ∙ count_push [] e refl),
     )
 
 pub returns : goal.returns
@@ -56,7 +59,7 @@ returns c =
     let empty = c.in_ok-zones.ensures in
     let makes : MakesLabel (replicate 4 []) c.make_label.new.self c.in_ok-label.label values =
     subst (λ (z : Contents). MakesLabel z c.make_label.new.self c.in_ok-label.label values) empty c.in_ok-label.ensures.ok in
-    let b = opened c.make_label.new.self e values four makes refl refl refl (λ _. c.new-2.ensures) in
+    let b = opened c.make_label.new.self e values four makes refl refl refl (λ _. c.new-2.ensures) refl in
     let pushed = c.in_ok-push.ensures.items in
     let name = c.in_ok-from_str.ensures in
     let items : c.push.new.self.items ≡ [] ++ e ∷ [] = pushed ∙ ap (λ (xs : List Entity). xs ++ e ∷ []) c.new-entities.ensures.items in

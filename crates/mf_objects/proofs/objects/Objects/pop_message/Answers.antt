@@ -7,8 +7,9 @@ use Rattle.mf_objects.specs.Head.{head_of}
 use Rattle.mf_objects.specs.Sound.{IsPlace}
 use Rattle.mf_objects.proofs.Kept.{view, what_changed}
 use Rattle.mf_objects.proofs.Belonging.{messages_stay}
-use Rattle.mf_objects.proofs.Found.{where_place, messages_place}
+use Rattle.mf_objects.proofs.Found.{where_place, messages_place, described_still}
 use Rattle.mf_objects.proofs.Indexed.{index_set}
+use Rattle.mf_objects.proofs.Counted.{still_open}
 use Rattle.mf_objects.proofs.objects.Objects.pop_message.Goals as goal
 
 pub pop_message-message-requires : goal.pop_message-message-requires
@@ -31,8 +32,10 @@ invariant_of-self c =
     let e = c.index_mut-entity.result.now in
     let place : IsPlace (view next zones es) c.args.id i = subst (λ (o : Entities). IsPlace o c.args.id i) (sym c.self.view_is) c.place-place.ensures in (
       (what_changed next zones es c.args.id i e c.pop_message-message.new.self (with_messages (drop 1)) place c.index_mut-entity.ensures.value c.self.invariant.0
-          (messages_stay (drop 1) e.what) c.pop_message-message.ensures.rest).sound,
+          (messages_stay (drop 1) e.what)
+          (described_still next zones es c.args.id i e c.pop_message-message.new.self place c.index_mut-entity.ensures.value c.self.invariant.0 c.pop_message-message.ensures.fds) c.pop_message-message.ensures.rest).sound,
       index_set c.self.inside.index es i e (record e { what = c.pop_message-message.new.self }) c.index_mut-entity.ensures.value refl refl c.pop_message-message.ensures.group c.self.invariant.1,
+      still_open c.self.inside.open_fds next zones es c.args.id i e (record e { what = c.pop_message-message.new.self }) place c.index_mut-entity.ensures.value c.pop_message-message.ensures.fds c.self.invariant.2,
     )
 
 pub returns-clause-rest : goal.returns-clause-rest
@@ -44,7 +47,8 @@ returns-clause-rest c =
     let e = c.index_mut-entity.result.now in
     let place : IsPlace (view next zones es) c.args.id i = subst (λ (o : Entities). IsPlace o c.args.id i) (sym c.self.view_is) c.place-place.ensures in
     (what_changed next zones es c.args.id i e c.pop_message-message.new.self (with_messages (drop 1)) place c.index_mut-entity.ensures.value c.self.invariant.0
-    (messages_stay (drop 1) e.what) c.pop_message-message.ensures.rest).shows
+    (messages_stay (drop 1) e.what)
+    (described_still next zones es c.args.id i e c.pop_message-message.new.self place c.index_mut-entity.ensures.value c.self.invariant.0 c.pop_message-message.ensures.fds) c.pop_message-message.ensures.rest).shows
     ∙ ap (λ (o : Entities). with_change (with_what (with_messages (drop 1))) o c.args.id) c.self.view_is
 
 pub returns-clause-oldest : goal.returns-clause-oldest

@@ -11,6 +11,7 @@ use Rattle.mf_objects.specs.Sound.{IsPlace}
 use Rattle.mf_objects.proofs.Found.{label_there}
 use Rattle.mf_objects.proofs.Kept.{view, held_place, place_within, label_changed, relabel_sound, slots_made}
 use Rattle.mf_objects.proofs.Indexed.{index_set}
+use Rattle.mf_objects.proofs.Counted.{still_open}
 use Rattle.mf_objects.proofs.objects.Objects.relabel.Goals as goal
 
 pub relabel-requires : goal.relabel-requires
@@ -33,6 +34,7 @@ invariant_of-self c =
       relabel_sound c.relabel.result c.self.inside.next zones c.relabel.new.self es c.args.id c.place-place.result e c.relabel.new.label values
           (length-given_to c.args.values.now (label_values zones e.label)) place c.index_mut.ensures.value c.self.invariant.0 c.relabel.ensures.ok c.relabel.ensures.err,
       index_set c.self.inside.index es c.place-place.result e (record e { label = c.relabel.new.label }) c.index_mut.ensures.value refl refl refl c.self.invariant.1,
+      still_open c.self.inside.open_fds c.self.inside.next zones es c.args.id c.place-place.result e (record e { label = c.relabel.new.label }) place c.index_mut.ensures.value refl c.self.invariant.2,
     )
 
 pub returns-clause-ok : goal.returns-clause-ok

@@ -1,13 +1,14 @@
-use Rattle.std.proofs.Common.{◌≡◌, ◌<◌, ℕ, List, length, remove, ap, ◌∙◌, subst, arith}
+use Rattle.std.proofs.Common.{◌≡◌, ◌<◌, ℕ, List, length, remove, ap, sym, ◌∙◌, subst, arith}
 use Rattle.std.proofs.lemmas.List.{length-map}
 use Rattle.mf_objects.specs.declared.entity.Entity.{Entity}
 use Rattle.mf_objects.specs.Live.{LiveEntity, Entities}
 use Rattle.mf_objects.specs.Population.{IsRising}
-use Rattle.mf_objects.specs.Sound.{live_of, live_entity}
+use Rattle.mf_objects.specs.Sound.{live_of, live_entity, open_count}
 use Rattle.mf_objects.proofs.Rising.{remove_filter}
 use Rattle.mf_objects.proofs.Kept.{view, held_place, bare_place, dropped}
 use Rattle.mf_objects.proofs.ById.{stand_by_id}
 use Rattle.mf_objects.proofs.Indexed.{index_removed}
+use Rattle.mf_objects.proofs.Counted.{less_open}
 use Rattle.mf_objects.proofs.objects.Objects.remove_at.Goals as goal
 
 within : (next : ℕ) (objects : Entities) (es : List Entity) (lives : List LiveEntity) (place : ℕ) → lives ≡ objects.live → length lives ≡ length es → place < length objects.live → place < length es
@@ -38,6 +39,10 @@ invariant_of-self c =
           c.remove.ensures c.remove-name.ensures.items
           (within c.self.inside.next c.args.self.now es (live_of zones es) c.args.place (ap (λ (o : Entities). o.live) c.self.view_is) (length-map es (live_entity zones)) c.requires.within)
           c.remove-name.ensures.value (stand_by_id zones 0 c.self.inside.next es c.self.invariant.0.population.rising) c.self.invariant.1,
+      less_open c.self.inside.open_fds c.fd_count.result es c.args.place c.remove-name.result
+          (within c.self.inside.next c.args.self.now es (live_of zones es) c.args.place (ap (λ (o : Entities). o.live) c.self.view_is) (length-map es (live_entity zones)) c.requires.within)
+          c.remove-name.ensures.value c.self.invariant.2 c.fd_count.ensures.value
+          ∙ ap (λ (xs : List Entity). open_count xs) (sym c.remove-name.ensures.items),
     )
 
 pub returns-clause-removed : goal.returns-clause-removed

@@ -8,6 +8,7 @@ use Rattle.mf_objects.specs.Labels.{with_value}
 use Rattle.mf_objects.specs.Sound.{IsPlace}
 use Rattle.mf_objects.proofs.Kept.{view, held_place, made_place, place_within, value_set, value_made, unmade_value, unmade_none, made_sound}
 use Rattle.mf_objects.proofs.Indexed.{index_set}
+use Rattle.mf_objects.proofs.Counted.{still_open}
 use Rattle.mf_objects.proofs.objects.Objects.set_label.Goals as goal
 
 pub set-requires-clause-made : goal.set-requires-clause-made
@@ -29,6 +30,7 @@ invariant_of-self c =
       (value_set c.self.inside.next zones c.set.new.self es c.args.id c.place-place.result c.index_mut.result.now c.args.slot c.args.value
           c.requires.slot c.requires.value place c.index_mut.ensures.value c.self.invariant.0 c.set.ensures).sound,
       index_set c.self.inside.index es c.place-place.result c.index_mut.result.now c.index_mut.result.now c.index_mut.ensures.value refl refl refl c.self.invariant.1,
+      still_open c.self.inside.open_fds c.self.inside.next zones es c.args.id c.place-place.result c.index_mut.result.now c.index_mut.result.now place c.index_mut.ensures.value refl c.self.invariant.2,
     )
 
 pub returns-then-is_made-clause-ok : goal.returns-then-is_made-clause-ok
@@ -61,6 +63,7 @@ invariant_of-self-2 c =
       made_sound c.make.result c.self.inside.next zones c.make.new.self es c.args.id c.place-place.result c.index_mut.result.now c.make.new.label c.args.slot c.args.value
           c.requires.slot c.requires.value place c.index_mut.ensures.value c.self.invariant.0 unset c.make.ensures.ok c.make.ensures.err,
       index_set c.self.inside.index es c.place-place.result c.index_mut.result.now (record c.index_mut.result.now { label = c.make.new.label }) c.index_mut.ensures.value refl refl refl c.self.invariant.1,
+      still_open c.self.inside.open_fds c.self.inside.next zones es c.args.id c.place-place.result c.index_mut.result.now (record c.index_mut.result.now { label = c.make.new.label }) place c.index_mut.ensures.value refl c.self.invariant.2,
     )
 
 pub returns-clause-ok : goal.returns-clause-ok
