@@ -30,8 +30,8 @@ use Rattle.mf_plan.specs.Effect.Effect.{Unchanged}
 use Rattle.mf_plan.specs.Row.{Row, if_there, refuse, relabel_by, through}
 use Rattle.mf_plan.specs.Rows.{about_of}
 use Rattle.mf_plan.specs.Views.{process_named, entity_named}
-use Rattle.mf_plan.specs.Ways.{At, Place, Way, along, asking, missing, asked_in, straight, target_in, then_way, way_to, carrying}
-use Rattle.mf_plan.specs.Ways.Place.{Asking, Caller, Entry, File, Free, Named, Sockets}
+use Rattle.mf_plan.specs.Ways.{At, Place, Way, along, asking, missing, asked_in, opened_file_at, straight, target_in, then_way, way_to, carrying}
+use Rattle.mf_plan.specs.Ways.Place.{Asking, Caller, Entry, File, Free, Named, Opened, Sockets}
 
 -- What is there
 
@@ -65,6 +65,7 @@ module _ (s : State) (me : Id) where
   target_there (File path) id is = ap result_ok is
   target_there (Free path) id is = ap result_ok is
   target_there (Entry path) entry is = ap (λ (there : Result (Id × Id) Errno). option_map (λ (e : Id × Id). e.1) (result_ok there)) is
+  target_there (Opened access n) id is = is_there errno.Ebadf (opened_file_at s.objects me access n) id is
   target_there (Sockets from to) ends is = sockets_there (entity_named s.objects kinds.Socket from) (entity_named s.objects kinds.Socket to) ends is
   target_there (Asking kind text place) found is =
       target_there place found.1 (are_asked (claimed_in s.specs kind text) (way_to s me place).checks (way_to s me place).there found is).on_the_way

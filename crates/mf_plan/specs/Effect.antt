@@ -4,6 +4,7 @@ use Rattle.mf_errno.specs.declared.module.Module.{Module}
 use Rattle.mf_elem.specs.declared.label.Request.{Request}
 use Rattle.mf_objects.specs.declared.id.Id.{Id}
 use Rattle.mf_objects.specs.declared.entity.EntityData.{EntityData}
+use Rattle.mf_objects.specs.declared.descriptors.Fd.{Fd}
 use Rattle.mf_policy.specs.declared.settings.Change.{Change}
 
 pub data Effect : Type 0 where
@@ -14,6 +15,9 @@ pub data Effect : Type 0 where
   Append Deliver : Id → List ℕ → Effect
   -- a pipe is emptied; a socket's oldest message is taken; a file goes; a process goes, with its pipes and sockets
   Empty Receive Unlink End : Id → Effect
+  -- a process has a descriptor more; it has the one of a number no more
+  Open : Id → Fd → Effect
+  Close : Id → ℕ → Effect
   -- a file has another mode; an entity the label that it is asked to have
   SetMode : Id → ℕ → Effect
   Relabel : Id → Request → Effect

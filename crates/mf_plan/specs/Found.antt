@@ -5,6 +5,7 @@ use Rattle.mf_errno.specs.declared.module.Module.{Module}
 use Rattle.mf_elem.specs.declared.label.Request.{Request}
 use Rattle.mf_item.specs.declared.view.Kind.TheVariants as kinds
 use Rattle.mf_objects.specs.declared.id.Id.{Id}
+use Rattle.mf_objects.specs.declared.descriptors.Fd.{Fd}
 use Rattle.mf_policy.specs.declared.settings.Change.{Change}
 use Rattle.mf_calls.specs.declared.script.Call.{Call}
 use Rattle.mf_plan.specs.declared.found.Found.{Found}
@@ -15,8 +16,8 @@ use Rattle.mf_plan.specs.Places.{entry_at_path, free_dir_at}
 use Rattle.mf_plan.specs.Relabels.{claimed_in}
 use Rattle.mf_plan.specs.Rows.{about_of}
 use Rattle.mf_plan.specs.Views.{entity_named, process_named}
-use Rattle.mf_plan.specs.Ways.{At, Place, way_to, asked_in, target_in}
-use Rattle.mf_plan.specs.Ways.Place.{Asking, Caller, Entry, File, Free, Named, Setting, Sockets}
+use Rattle.mf_plan.specs.Ways.{At, Place, way_to, asked_in, opened_at, opened_file_at, target_in}
+use Rattle.mf_plan.specs.Ways.Place.{Asking, Caller, Entry, File, Free, Named, Opened, Setting, Sockets}
 
 -- what a call of this process is about
 pub record IsAbout (s : State) (task : List ℕ) (me : Id) (c : Call) (found : Found) : Type 0 where
@@ -41,9 +42,15 @@ target_at s me (Named kind name) = entity_named s.objects kind name
 target_at s me (File path) = file_at_path s.objects path
 target_at s me (Free path) = free_dir_at s.objects path
 target_at s me (Entry path) = entry_at_path s.objects path
+target_at s me (Opened access n) = opened_file_at s.objects me access n
 target_at s me (Sockets from to) = entity_named s.objects kinds.Socket to
 target_at s me (Asking kind text place) = target_at s me place
 target_at s me other = None
+
+-- the descriptor that a call goes through
+abbrev pub descriptor_at : State → Id → Place → Option Fd
+descriptor_at s me (Opened access n) = opened_at s.objects me access n
+descriptor_at s me other = None
 
 -- what is asked of a label
 abbrev pub asked_at : State → Place → Option Request
@@ -52,11 +59,16 @@ asked_at s other = None
 
 -- the module whose setting is to be changed, and the change that it is to have
 abbrev pub setting_at : Place → Option Module × Option Change
-setting_at (Setting m change) = (m, change)
+setting_at (Setting tunable m change) = (m, change)
 setting_at other = (None, None)
 
+-- whether nobody may change it
+abbrev pub tunable_at : Place → Bool
+tunable_at (Setting tunable m change) = tunable
+tunable_at other = false
+
 abbrev pub is_setting : Place → Bool
-is_setting (Setting m change) = true
+is_setting (Setting tunable m change) = true
 is_setting other = false
 
 -- the change of a setting, where there is a setting of the name and it has such a value

@@ -6,7 +6,8 @@ use Rattle.mf_item.specs.declared.operation.CheckOp.TheVariants as op
 use Rattle.mf_item.specs.declared.view.SubjectView.{SubjectView}
 use Rattle.mf_item.specs.Item.{Item}
 use Rattle.mf_objects.specs.declared.id.Id.{Id}
-use Rattle.mf_objects.specs.Live.{Entities, cred_at, label_at, live_at}
+use Rattle.mf_objects.specs.Live.{Entities, cred_at, is_process, label_at, live_at}
+use Rattle.mf_objects.specs.Lives.{IsLive}
 use Rattle.mf_plan.specs.declared.outline.Check.{Check}
 use Rattle.mf_plan.specs.declared.outline.Outline.{Outline}
 use Rattle.mf_plan.specs.Planned.{Plan}
@@ -59,5 +60,5 @@ pub record AreLive (objects : Entities) (checks : List Check) : Type 0 where
 
 -- a live process asks for checks, and all that these name is live
 pub record IsAsking (objects : Entities) (caller : Id) (checks : List Check) : Type 0 where
-  pub lives : IsSome (live_at objects caller)
+  pub lives : IsLive is_process objects caller
   pub live : AreLive objects checks

@@ -45,6 +45,10 @@ refuse e = record does_nothing { tail = Refuse e }
 abbrev pub ask : Check → Row → Row
 ask check rest = record rest { checks = check ∷ rest.checks }
 
+-- a check that is made where the test holds
+abbrev pub ask_if : Bool → Check → Row → Row
+ask_if test check rest = record rest { checks = if test then check ∷ rest.checks else rest.checks }
+
 abbrev pub refuse_if : Bool → Errno → Row → Row
 refuse_if test e rest = record rest { checks = if test then [] else rest.checks; tail = if test then Refuse e else rest.tail }
 

@@ -1,26 +1,31 @@
 //! Calls on files and directories: what a path leads to, and the checks and tests there.
-ghost use Rattle.std.specs.Prelude.{◌≡◌, ◌≤◌, [], map, length, All, IfOk};
+ghost use Rattle.std.specs.Prelude.{◌≡◌, ◌≤◌, ◌<◌, [], ◌++◌, map, length, if◌then◌else◌, All, IfOk, IsSome, Err, Ok, Some};
+ghost use Rattle.mf_text.specs.Results.{and_then};
 ghost use Rattle.mf_item.specs.declared.operation.CheckOp.TheVariants as op;
-ghost use Rattle.mf_objects.specs.Lives.{IsLive, is_directory, is_vnode};
+ghost use Rattle.mf_objects.specs.Live.{live_at};
+ghost use Rattle.mf_objects.specs.Lives.{IsLive, is_directory, is_regular, is_vnode};
 ghost use Rattle.mf_calls.specs.declared.script.Call.TheVariants as call;
 ghost use Rattle.mf_plan.specs.Checks.{on};
-ghost use Rattle.mf_plan.specs.Ended.{end_for, ended_by, end_in};
+ghost use Rattle.mf_plan.specs.Ended.{end_for, ended_by, end_in, tail_of};
 ghost use Rattle.mf_plan.specs.Found.{target_at};
 ghost use Rattle.mf_plan.specs.Outline as outline;
 ghost use Rattle.mf_plan.specs.Path.{lookup_along};
 ghost use Rattle.mf_plan.specs.Places.{IsTarget};
 ghost use Rattle.mf_plan.specs.Row as row;
+ghost use Rattle.mf_plan.specs.Rows.{appends, reads};
+ghost use Rattle.mf_plan.specs.Views.{is_dir};
 ghost use Rattle.mf_plan.specs.Ways.Place.{Entry, File, Free};
 ghost use Rattle.mf_plan.specs.Ways.{way_to};
 
 use crate::lookup::lookup_along;
 use crate::outline::{Checks, ask};
+use crate::plan::MOST_CHECKS;
+use crate::refusing::{is_full, overfills, refused_if};
 use crate::state::State;
 use crate::target::Target;
-use crate::views::{is_full, overfills_file};
 use mf_errno::Errno;
 use mf_item::CheckOp;
-use mf_names::{PATH_LIMIT, Path, SCRIPT_LIMIT};
+use mf_names::{CONTENT_LIMIT, MOST_DESCRIPTORS, PATH_LIMIT, Path, SCRIPT_LIMIT};
 use mf_objects::{Id, Objects};
 
 // What a path leads to
@@ -66,6 +71,30 @@ fn file(state: &State, caller: Id, path: &Path, checks: &mut Checks) -> Result<I
     ensures asking { outline.IsAsking state.now.objects caller checks.new }
 {
     walk(&state.objects, caller, path, checks).found(&state.objects)
+}
+
+/// The file. A directory is refused with this errno.
+fn regular(
+    state: &State,
+    caller: Id,
+    path: &Path,
+    errno: Errno,
+    checks: &mut Checks,
+) -> Result<Id, Errno>
+    requires empty { checks.old ≡ [] }
+    requires asking { outline.IsAsking state.now.objects caller checks.old }
+    ensures way { checks.new ≡ (way_to state.now caller (File path.now)).checks }
+    ensures there { result ≡ and_then (way_to state.now caller (File path.now)).there
+        (λ id. if is_dir state.now.objects id then Err errno else Ok id) }
+    ensures live { IfOk result (λ id. IsLive is_regular state.now.objects id) }
+    ensures few { length checks.new ≤ PATH_LIMIT }
+    ensures asking { outline.IsAsking state.now.objects caller checks.new }
+{
+    let id = file(state, caller, path, checks)?;
+    if state.objects.file(id).dir {
+        return Err(errno);
+    }
+    Ok(id)
 }
 
 /// The directory in which the last name is free.
@@ -129,10 +158,7 @@ pub(crate) fn exec(
     ensures target { IfOk result (λ target. target ≡ target_at state.now caller (File path.now)) }
     ensures asking { outline.IsAsking state.now.objects caller checks.new }
 {
-    let id = file(state, caller, path, checks)?;
-    if state.objects.file(id).dir {
-        return Err(Errno::Eacces);
-    }
+    let id = regular(state, caller, path, Errno::Eacces, checks)?;
     ask(&state.objects, caller, CheckOp::VnodeExec, id, checks);
     Ok(Some(id))
 }
@@ -152,10 +178,47 @@ pub(crate) fn create(
 {
     let dir = free(state, caller, path, checks)?;
     ask(&state.objects, caller, CheckOp::VnodeCreate, dir, checks);
-    if is_full(&state.objects) {
-        return Err(Errno::Enfile);
-    }
-    Ok(Some(dir))
+    refused_if(is_full(&state.objects), Errno::Enfile, dir)
+}
+
+/// The check of reading a file that is open.
+pub(crate) fn read_opened(
+    state: &State,
+    caller: Id,
+    id: Id,
+    checks: &mut Checks,
+) -> Result<Option<Id>, Errno>
+    requires live { IsSome (live_at state.now.objects id) }
+    requires few { length checks.old < MOST_CHECKS }
+    requires asking { outline.IsAsking state.now.objects caller checks.old }
+    ensures checks { checks.new ≡ checks.old ++ (reads state.now caller id).checks }
+    ensures end { result ≡ Ok (Some id) }
+    ensures asking { outline.IsAsking state.now.objects caller checks.new }
+{
+    ask(&state.objects, caller, CheckOp::VnodeRead, id, checks);
+    Ok(Some(id))
+}
+
+/// The check of appending to a file that is open, and the test that the text fits.
+pub(crate) fn write_opened(
+    state: &State,
+    caller: Id,
+    text: &[u8],
+    id: Id,
+    checks: &mut Checks,
+) -> Result<Option<Id>, Errno>
+    requires live { IsSome (live_at state.now.objects id) }
+    requires text { length text.now ≤ SCRIPT_LIMIT }
+    requires few { length checks.old < MOST_CHECKS }
+    requires asking { outline.IsAsking state.now.objects caller checks.old }
+    ensures checks { checks.new ≡ checks.old ++ (appends state.now caller text.now id).checks }
+    ensures end { tail_of result ≡ (appends state.now caller text.now id).tail }
+    ensures target { IfOk result (λ target. target ≡ Some id) }
+    ensures asking { outline.IsAsking state.now.objects caller checks.new }
+{
+    ask(&state.objects, caller, CheckOp::VnodeWrite, id, checks);
+    let full = overfills(CONTENT_LIMIT, &state.objects, text, id);
+    refused_if(full, Errno::Efbig, id)
 }
 
 pub(crate) fn read(
@@ -170,13 +233,9 @@ pub(crate) fn read(
     ensures target { IfOk result (λ target. target ≡ target_at state.now caller (File path.now)) }
     ensures asking { outline.IsAsking state.now.objects caller checks.new }
 {
-    let id = file(state, caller, path, checks)?;
-    if state.objects.file(id).dir {
-        return Err(Errno::Eisdir);
-    }
+    let id = regular(state, caller, path, Errno::Eisdir, checks)?;
     ask(&state.objects, caller, CheckOp::VnodeOpenRead, id, checks);
-    ask(&state.objects, caller, CheckOp::VnodeRead, id, checks);
-    Ok(Some(id))
+    read_opened(state, caller, id, checks)
 }
 
 pub(crate) fn write(
@@ -194,16 +253,9 @@ pub(crate) fn write(
     ensures target { IfOk result (λ target. target ≡ target_at state.now caller (File path.now)) }
     ensures asking { outline.IsAsking state.now.objects caller checks.new }
 {
-    let id = file(state, caller, path, checks)?;
-    if state.objects.file(id).dir {
-        return Err(Errno::Eisdir);
-    }
+    let id = regular(state, caller, path, Errno::Eisdir, checks)?;
     ask(&state.objects, caller, CheckOp::VnodeOpenWrite, id, checks);
-    ask(&state.objects, caller, CheckOp::VnodeWrite, id, checks);
-    if overfills_file(&state.objects, text, id) {
-        return Err(Errno::Efbig);
-    }
-    Ok(Some(id))
+    write_opened(state, caller, text, id, checks)
 }
 
 pub(crate) fn readdir(
@@ -241,8 +293,32 @@ pub(crate) fn unlink(
     let (dir, id) = entry(state, caller, path, checks)?;
     ask(&state.objects, caller, CheckOp::VnodeUnlinkDir, dir, checks);
     ask(&state.objects, caller, CheckOp::VnodeUnlink, id, checks);
-    if state.objects.count(id) > 0 {
-        return Err(Errno::Enotempty);
+    refused_if(state.objects.count(id) > 0, Errno::Enotempty, id)
+}
+
+/// The checks and tests of `open`: for reading, for writing, or for both.
+pub(crate) fn open(
+    state: &State,
+    caller: Id,
+    path: &Path,
+    read: bool,
+    write: bool,
+    checks: &mut Checks,
+) -> Result<Option<Id>, Errno>
+    requires empty { checks.old ≡ [] }
+    requires asking { outline.IsAsking state.now.objects caller checks.old }
+    ensures row { ended_by checks.new result
+        ≡ end_for state.now caller (call.OpenFd path.now read write) }
+    ensures target { IfOk result (λ target. target ≡ target_at state.now caller (File path.now)) }
+    ensures asking { outline.IsAsking state.now.objects caller checks.new }
+{
+    let id = regular(state, caller, path, Errno::Eisdir, checks)?;
+    if read {
+        ask(&state.objects, caller, CheckOp::VnodeOpenRead, id, checks);
     }
-    Ok(Some(id))
+    if write {
+        ask(&state.objects, caller, CheckOp::VnodeOpenWrite, id, checks);
+    }
+    let full = state.objects.fd_count(caller) >= MOST_DESCRIPTORS;
+    refused_if(full, Errno::Emfile, id)
 }

@@ -1,6 +1,7 @@
 //! Plans of calls: the checks that a call asks the policies for, in order, and how it ends where none is denied.
 #![tactic(auto)]
 
+mod descriptors;
 mod files;
 mod found;
 mod last_label;
@@ -12,13 +13,16 @@ mod names;
 mod outline;
 mod plan;
 mod planning;
+mod refusing;
 mod relabels;
 mod reply;
+mod same;
 mod settings;
 mod state;
 mod target;
 mod views;
 
+pub use descriptors::{Access, biba_value, descriptor_of_call};
 pub use found::Found;
 pub use last_label::LastLabel;
 pub use lookup::{Lookup, lookup_along, target_of};
@@ -30,3 +34,4 @@ pub use reply::{LabelPart, Loaded, Payload, Reply};
 pub use settings::asked_change;
 pub use state::State;
 pub use target::Target;
+pub use views::object_in;

@@ -1,6 +1,6 @@
 //! Calls on processes, pipes and sockets, which go by name.
 ghost use Rattle.std.specs.Option.{ok_or};
-ghost use Rattle.std.specs.Prelude.{◌≡◌, ◌≤◌, [], length, if◌then◌else◌, is_some, Err, IfOk, IfSome, IsSome, None, Ok};
+ghost use Rattle.std.specs.Prelude.{◌≡◌, ◌≤◌, [], ◌∷◌, length, if◌then◌else◌, is_some, Err, IfOk, IfSome, IsSome, None, Ok};
 ghost use Rattle.mf_errno.specs.declared.errno.Errno.TheVariants as errno;
 ghost use Rattle.mf_item.specs.declared.view.Kind.TheVariants as kinds;
 ghost use Rattle.mf_objects.specs.Live.{live_at};
@@ -17,12 +17,12 @@ ghost use Rattle.mf_plan.specs.Ways.Place.{Named, Sockets};
 
 use crate::names::child_name;
 use crate::outline::{Checks, ask, ask_delivery};
+use crate::refusing::{is_full, overfills, refused_if};
 use crate::state::State;
-use crate::views::{is_full, overfills_pipe};
 use mf_errno::Errno;
 use mf_item::{CheckOp, Kind};
 use mf_names::{Name, SCRIPT_LIMIT};
-use mf_objects::{Id, MOST_MESSAGES, Objects};
+use mf_objects::{Id, MOST_MESSAGES, Objects, PIPE_LIMIT};
 
 /// The tests of a call that makes an entity: EEXIST where `holder` has its name already, ENFILE where no further entity
 /// can be made.
@@ -83,6 +83,27 @@ fn holder(state: &State, kind: Kind, name: &Name) -> Result<Id, Errno>
     named(&state.objects, kind, name.as_str()).ok_or(missing(kind))
 }
 
+/// The process, pipe or socket of a name, and the check of it.
+fn asked(
+    state: &State,
+    caller: Id,
+    kind: Kind,
+    op: CheckOp,
+    name: &Name,
+    checks: &mut Checks,
+) -> Result<Id, Errno>
+    requires empty { checks.old ≡ [] }
+    requires asking { outline.IsAsking state.now.objects caller checks.old }
+    ensures checks { checks.new ≡ row.if_there (λ id. on caller op id ∷ []) (λ e. []) result }
+    ensures there { result ≡ (way_to state.now caller (Named kind name.now)).there }
+    ensures live { IfOk result (λ id. IsSome (live_at state.now.objects id)) }
+    ensures asking { outline.IsAsking state.now.objects caller checks.new }
+{
+    let id = holder(state, kind, name)?;
+    ask(&state.objects, caller, op, id, checks);
+    Ok(id)
+}
+
 /// One check of the process, pipe or socket of a name.
 pub(crate) fn on_named(
     state: &State,
@@ -101,8 +122,7 @@ pub(crate) fn on_named(
         ≡ target_at state.now caller (Named kind name.now)) }
     ensures asking { outline.IsAsking state.now.objects caller checks.new }
 {
-    let id = holder(state, kind, name)?;
-    ask(&state.objects, caller, op, id, checks);
+    let id = asked(state, caller, kind, op, name, checks)?;
     Ok(Some(id))
 }
 
@@ -119,12 +139,8 @@ pub(crate) fn pread(
         ≡ target_at state.now caller (Named kinds.Pipe name.now)) }
     ensures asking { outline.IsAsking state.now.objects caller checks.new }
 {
-    let id = holder(state, Kind::Pipe, name)?;
-    ask(&state.objects, caller, CheckOp::PipeRead, id, checks);
-    if state.objects.size(id) == 0 {
-        return Err(Errno::Eagain);
-    }
-    Ok(Some(id))
+    let id = asked(state, caller, Kind::Pipe, CheckOp::PipeRead, name, checks)?;
+    refused_if(state.objects.size(id) == 0, Errno::Eagain, id)
 }
 
 pub(crate) fn pwrite(
@@ -143,12 +159,9 @@ pub(crate) fn pwrite(
         ≡ target_at state.now caller (Named kinds.Pipe name.now)) }
     ensures asking { outline.IsAsking state.now.objects caller checks.new }
 {
-    let id = holder(state, Kind::Pipe, name)?;
-    ask(&state.objects, caller, CheckOp::PipeWrite, id, checks);
-    if overfills_pipe(&state.objects, text, id) {
-        return Err(Errno::Eagain);
-    }
-    Ok(Some(id))
+    let id = asked(state, caller, Kind::Pipe, CheckOp::PipeWrite, name, checks)?;
+    let full = overfills(PIPE_LIMIT, &state.objects, text, id);
+    refused_if(full, Errno::Eagain, id)
 }
 
 /// The checks and tests of `send`. The receiver is looked up after the check of the sender, so a denial wins over its
@@ -173,10 +186,8 @@ pub(crate) fn send(
     ask(objects, caller, CheckOp::SocketSend, from, checks);
     let to = holder(state, Kind::Socket, to)?;
     ask_delivery(objects, caller, from, to, checks);
-    if objects.count(to) as usize >= MOST_MESSAGES {
-        return Err(Errno::Enobufs);
-    }
-    Ok(Some(to))
+    let full = objects.count(to) as usize >= MOST_MESSAGES;
+    refused_if(full, Errno::Enobufs, to)
 }
 
 pub(crate) fn recv(
@@ -192,10 +203,13 @@ pub(crate) fn recv(
         ≡ target_at state.now caller (Named kinds.Socket name.now)) }
     ensures asking { outline.IsAsking state.now.objects caller checks.new }
 {
-    let id = holder(state, Kind::Socket, name)?;
-    ask(&state.objects, caller, CheckOp::SocketReceive, id, checks);
-    if state.objects.count(id) == 0 {
-        return Err(Errno::Eagain);
-    }
-    Ok(Some(id))
+    let id = asked(
+        state,
+        caller,
+        Kind::Socket,
+        CheckOp::SocketReceive,
+        name,
+        checks,
+    )?;
+    refused_if(state.objects.count(id) == 0, Errno::Eagain, id)
 }

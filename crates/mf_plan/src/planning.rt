@@ -14,7 +14,8 @@ ghost use Rattle.mf_plan.specs.Names.{caller_name};
 ghost use Rattle.mf_plan.specs.Rows.{about_of};
 ghost use Rattle.mf_plan.specs.Views.{process_named};
 
-use crate::files::{create, exec, on_file, read, readdir, unlink, write};
+use crate::descriptors::{close, fread, fwrite};
+use crate::files::{create, exec, on_file, open, read, readdir, unlink, write};
 use crate::found::Found;
 use crate::last_label::LastLabel;
 use crate::loading::{kldload, kldunload};
@@ -220,6 +221,12 @@ fn ask_for(
         Call::Readdir(path) => readdir(state, caller, path, checks),
         Call::Chmod(path, _) => on_file(state, caller, CheckOp::VnodeSetmode, path, checks),
         Call::Unlink(path) => unlink(state, caller, path, checks),
+        Call::OpenFd(path, reading, writing) => {
+            open(state, caller, path, *reading, *writing, checks)
+        }
+        Call::Fread(n) => fread(state, caller, *n, checks),
+        Call::Fwrite(n, text) => fwrite(state, caller, *n, text.as_slice(), checks),
+        Call::Close(n) => close(state, caller, *n),
         Call::Pipe(name) => make(state, objects.pipe(name.as_str())),
         Call::Socket(name) => make(state, objects.socket(name.as_str())),
         Call::Pread(name) => pread(state, caller, name, checks),

@@ -35,6 +35,8 @@ pub enum Payload {
     Head(Head),
     /// How many bytes there are.
     Size(u32),
+    /// The number under which a file was opened.
+    Fd(u32),
     /// The attributes, and the size in bytes, which is 0 for a directory.
     Stat(FileView, u32),
     /// The number of all entries, and the names of the first 16 in byte order.

@@ -9,7 +9,7 @@ ghost use Rattle.mf_errno.specs.declared.module.Module.TheVariants as modules;
 ghost use Rattle.mf_plan.specs.declared.reply.Payload.TheVariants as payload;
 ghost use Rattle.mf_plan.specs.declared.state.State.{State};
 ghost use Rattle.mf_plan.specs.Ended.{end_by, end_for, ended_by, end_in};
-ghost use Rattle.mf_plan.specs.Found.{asked_change, is_setting, setting_at};
+ghost use Rattle.mf_plan.specs.Found.{asked_change, is_setting, setting_at, tunable_at};
 ghost use Rattle.mf_plan.specs.Row as row;
 ghost use Rattle.mf_plan.specs.Rows.{about_of, set};
 ghost use Rattle.mf_plan.specs.Settings as spec;
@@ -17,7 +17,7 @@ ghost use Rattle.mf_plan.specs.Ways.Place.{Setting};
 ghost use Rattle.mf_plan.specs.Ways.{way_to};
 
 use crate::state::State;
-use mf_calls::Call;
+use mf_calls::{Call, revocation_name, switch};
 use mf_errno::{Errno, Module};
 use mf_objects::Id;
 use mf_policy::Change;
@@ -46,18 +46,6 @@ fn sysctl_module(name: &str) -> Option<Module>
     }
 }
 
-/// Off or on.
-#[tactic(auto, unfolding(crate::specs::Settings::switch))]
-fn switch(value: &str) -> Option<bool>
-    ensures { result ≡ spec.switch value.now }
-{
-    match value {
-        "0" => Some(false),
-        "1" => Some(true),
-        _ => None,
-    }
-}
-
 /// The module whose setting the call changes, and the change that it is to have, where they are known. The clause says so of every
 /// call by its place, so a call that is new and changes a setting is refused here until it has its line.
 fn setting_of(call: &Call) -> (Option<Module>, Option<Change>)
@@ -74,6 +62,19 @@ fn setting_of(call: &Call) -> (Option<Module>, Option<Change>)
         Call::UgidfwSet(number, rule) => of_rules(Change::RuleSet(*number, *rule)),
         Call::UgidfwRemove(number) => of_rules(Change::RuleRemove(*number)),
         _ => (None, None),
+    }
+}
+
+/// Whether the call would change a tunable of a listed module.
+fn is_tunable(state: &State, call: &Call) -> bool
+    ensures { (task : List ℕ) → (me : Id)
+        → result ≡ tunable_at (about_of state.now task me call.now).place }
+{
+    match call {
+        Call::Sysctl(name, _) => {
+            name.as_str() == revocation_name() && state.specs.is_listed(Module::Biba)
+        }
+        _ => false,
     }
 }
 
@@ -97,23 +98,24 @@ pub(crate) fn change_setting(
     ensures target { IfOk result (λ target. target ≡ None) }
 {
     let (module, change) = setting_of(call);
-    judge(state, caller, module, change)
+    judge(state, caller, is_tunable(state, call), module, change)
 }
 
-/// The tests of a change of a setting, which root alone makes.
+/// The tests of a change of a setting, which root alone makes, and of a tunable nobody.
 fn judge(
     state: &State,
     caller: Id,
+    tunable: bool,
     module: Option<Module>,
     change: Option<Change>,
 ) -> Result<Option<Id>, Errno>
     requires lives { IsSome (live_at state.now.objects caller) }
     ensures row { ended_by [] result
         ≡ end_in (row.through
-        (way_to state.now caller (Setting «module» change)) (set state.now payload.None)) }
+        (way_to state.now caller (Setting tunable «module» change)) (set state.now payload.None)) }
     ensures target { IfOk result (λ target. target ≡ None) }
 {
-    if !state.objects.cred(caller).is_root() {
+    if !state.objects.cred(caller).is_root() || tunable {
         return Err(Errno::Eperm);
     }
     let module = module.ok_or(Errno::Enoent)?;

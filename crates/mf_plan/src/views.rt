@@ -1,5 +1,5 @@
-//! Checks and live entities as policies see them, and what the framework tests of entities.
-ghost use Rattle.std.specs.Prelude.{◌≡◌, ◌↔◌, ◌≤◌, ◌<◌, ◌+◌, length, nat_le, map, option_map, take, IfSome, IsSome, IsTrue, Some, None, slice_index_or};
+//! Checks and live entities as policies see them.
+ghost use Rattle.std.specs.Prelude.{◌≡◌, ◌↔◌, ◌≤◌, ◌<◌, ◌+◌, length, map, option_map, take, IfSome, IsSome, IsTrue, Some, None, slice_index_or};
 ghost use Rattle.mf_objects.specs.Live.{live_at};
 ghost use Rattle.mf_plan.specs.Outline as outline;
 ghost use Rattle.mf_plan.specs.Items.{HaveSubjects, item_with, items_with, nobody};
@@ -12,8 +12,7 @@ use mf_cred::ArrayVec;
 use mf_elem::Request;
 use mf_errno::Priv;
 use mf_item::{CheckOp, Item, ObjectView, SubjectView};
-use mf_names::{CONTENT_LIMIT, SCRIPT_LIMIT};
-use mf_objects::{Id, MOST_ENTITIES, Objects, PIPE_LIMIT};
+use mf_objects::{Id, Objects};
 
 /// The subjects of a plan's checks, with room for one that a plan before had.
 pub(crate) type Subjects = ArrayVec<SubjectView, MOST_SUBJECTS>;
@@ -77,8 +76,8 @@ fn is_subject(objects: &Objects, check: Check, subject: &SubjectView) -> bool
         && objects.has_label(check.subject, &subject.label)
 }
 
-/// The object of a check.
-fn object_in(objects: &Objects, object: Option<Id>) -> Option<ObjectView>
+/// The object of a check, as policies see it.
+pub fn object_in(objects: &Objects, object: Option<Id>) -> Option<ObjectView>
     requires { IfSome object (λ id. IsSome (live_at objects.now id)) }
     ensures { result ≡ option_map (view.object_of objects.now) object }
 {
@@ -116,7 +115,7 @@ fn is_object(objects: &Objects, id: Option<Id>, object: &Option<ObjectView>) -> 
     }
 }
 
-fn same_privilege(privilege: Option<Priv>, other: Option<Priv>) -> bool
+pub(crate) fn same_privilege(privilege: Option<Priv>, other: Option<Priv>) -> bool
     ensures { IsTrue result ↔ (privilege ≡ other) }
 {
     privilege == other
@@ -338,91 +337,4 @@ pub(crate) fn are_views(
         before = seen[i].subject;
     }
     true
-}
-
-fn same_object(object: &Option<ObjectView>, other: &Option<ObjectView>) -> bool
-    ensures { IsTrue result ↔ (object.now ≡ other.now) }
-{
-    match (object, other) {
-        (None, None) => true,
-        (Some(object), Some(other)) => object.same(other),
-        _ => false,
-    }
-}
-
-fn same_request(request: &Option<Request>, other: &Option<Request>) -> bool
-    ensures { IsTrue result ↔ (request.now ≡ other.now) }
-{
-    match (request, other) {
-        (None, None) => true,
-        (Some(request), Some(other)) => request.same(other),
-        _ => false,
-    }
-}
-
-/// Whether policies see the two as one check.
-fn is_same(
-    subjects: &[SubjectView],
-    check: &CheckView,
-    theirs: &[SubjectView],
-    other: &CheckView,
-) -> bool
-    requires place { check.now.subject < length subjects.now }
-    requires their_place { other.now.subject < length theirs.now }
-    ensures { IsTrue result
-        ↔ (item_with subjects.now check.now ≡ item_with theirs.now other.now) }
-{
-    check.op == other.op
-        && subjects[check.subject].same(&theirs[other.subject])
-        && same_object(&check.object, &other.object)
-        && same_request(&check.request, &other.request)
-        && same_privilege(check.privilege, other.privilege)
-}
-
-/// Whether policies see the same checks.
-pub(crate) fn same_views(
-    subjects: &[SubjectView],
-    seen: &[CheckView],
-    theirs: &[SubjectView],
-    others: &[CheckView],
-) -> bool
-    requires places { HaveSubjects subjects.now seen.now }
-    requires their_places { HaveSubjects theirs.now others.now }
-    ensures { IsTrue result
-        ↔ (items_with subjects.now seen.now ≡ items_with theirs.now others.now) }
-{
-    if seen.len() != others.len() {
-        return false;
-    }
-    for (i, check) in seen.iter().enumerate() {
-        if !is_same(subjects, check, theirs, &others[i]) {
-            return false;
-        }
-    }
-    true
-}
-
-/// Whether no entity can be made.
-pub(crate) fn is_full(objects: &Objects) -> bool
-    ensures { result ≡ nat_le MOST_ENTITIES (length objects.now.live) }
-{
-    objects.live() >= MOST_ENTITIES
-}
-
-/// Whether the text doesn't fit the file.
-pub(crate) fn overfills_file(objects: &Objects, text: &[u8], id: Id) -> bool
-    requires live { IsSome (live_at objects.now id) }
-    requires text { length text.now ≤ SCRIPT_LIMIT }
-    ensures { result ≡ view.overfills CONTENT_LIMIT objects.now text.now id }
-{
-    objects.size(id) as usize + text.len() > CONTENT_LIMIT
-}
-
-/// Whether the text doesn't fit the pipe.
-pub(crate) fn overfills_pipe(objects: &Objects, text: &[u8], id: Id) -> bool
-    requires live { IsSome (live_at objects.now id) }
-    requires text { length text.now ≤ SCRIPT_LIMIT }
-    ensures { result ≡ view.overfills PIPE_LIMIT objects.now text.now id }
-{
-    objects.size(id) as usize + text.len() > PIPE_LIMIT
 }

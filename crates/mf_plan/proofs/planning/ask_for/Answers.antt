@@ -1,9 +1,14 @@
-use Rattle.std.proofs.Common.{◌∙◌}
+use Rattle.std.proofs.Common.{◌≡◌, ℕ, List, ◌⊎◌, inl, inr, ◌∙◌}
 use Rattle.std.specs.Option.{ok_or}
 use Rattle.mf_errno.specs.declared.errno.Errno.TheVariants as errno
 use Rattle.mf_item.specs.declared.operation.CheckOp.TheVariants as op
 use Rattle.mf_item.specs.declared.view.Kind.TheVariants as kinds
+use Rattle.mf_objects.specs.declared.id.Id.{Id}
+use Rattle.mf_calls.specs.declared.script.Call.{Call}
+use Rattle.mf_calls.specs.declared.script.Call.TheVariants as call
+use Rattle.mf_plan.specs.declared.state.State.{State}
 use Rattle.mf_plan.specs.Checks.{on}
+use Rattle.mf_plan.specs.Ended.{Ended, end_by, end_for}
 use Rattle.mf_plan.specs.Path.{found_at, lookup_along}
 use Rattle.mf_plan.specs.Views.{entity_named}
 use Rattle.mf_plan.specs.Ways.{along, straight}
@@ -30,3 +35,16 @@ returns-in_ok-claim-in-Setsockmac-clause-row c =
 
 pub returns-in-Send-clause-row : goal.returns-in-Send-clause-row
 returns-in-Send-clause-row c = rw c.in-Send.is c.send.ensures.row
+
+-- `create` and `mkdir` end alike
+made : (s : State) (task : List ℕ) (me : Id) (path : List (List ℕ)) (c : Call) (end : Ended) → (c ≡ call.Create path) ⊎ (c ≡ call.Mkdir path)
+    → end ≡ end_for s me (call.Create path) → end ≡ end_by s task me c
+made s task me path c end (inl is) same = rw is same
+made s task me path c end (inr is) same = rw is same
+
+pub returns-in-Create-clause-row : goal.returns-in-Create-clause-row
+returns-in-Create-clause-row c =
+    made c.args.state.now c.args.task.now c.args.caller c.in-Create.path c.args.call.now _ c.in-Create.is c.create.ensures.row
+
+pub returns-in-Chmod-clause-row : goal.returns-in-Chmod-clause-row
+returns-in-Chmod-clause-row c = rw c.in-Chmod.is c.on_file-in-Chmod.ensures.row

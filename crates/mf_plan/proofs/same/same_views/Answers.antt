@@ -1,7 +1,7 @@
 use Rattle.std.proofs.Common.{arith}
 use Rattle.mf_plan.specs.Items.{item_with}
 use Rattle.mf_plan.proofs.Viewing.{view_differs}
-use Rattle.mf_plan.proofs.views.same_views.Goals as goal
+use Rattle.mf_plan.proofs.same.same_views.Goals as goal
 
 pub returns-then-not-is_same : goal.returns-then-not-is_same
 returns-then-not-is_same c = (
