@@ -12,6 +12,7 @@ use Rattle.mf_objects.specs.declared.id.Id.{Id}
 use Rattle.mf_objects.specs.declared.entity.EntityData.{EntityData}
 use Rattle.mf_objects.specs.Live.{LiveEntity, Entities, has_id, kind_of, label_at, live_at}
 use Rattle.mf_objects.specs.Changes.{made, with_what, with_change, without}
+use Rattle.mf_objects.specs.Descriptors.{closed_on, without_vnode}
 use Rattle.mf_objects.specs.Labels.{with_label}
 use Rattle.mf_objects.specs.Population.{IsRising}
 use Rattle.mf_objects.proofs.Rising.{rising_push, rising_changed, id_is}
@@ -22,8 +23,9 @@ use Rattle.mf_objects.proofs.Finding.{find_push_miss, find_push_hit, find_beyond
 use Rattle.mf_perform.proofs.Allowed.{IsAllowed}
 use Rattle.mf_perform.proofs.Observing.{passes_found, same_id}
 use Rattle.mf_perform.proofs.Rooted.{IsRooted, inside_some}
-use Rattle.mf_perform.proofs.StateChange.{Deed, StateChange}
-use Rattle.mf_perform.proofs.StateChange.StateChange.{same, created, changed, relabels, removed, loaded, unloaded, set_to}
+use Rattle.mf_perform.proofs.Unlinking.{found_unlinked, rising_unlinked, without_open}
+use Rattle.mf_perform.proofs.StateChange.{Deed, StateChange, fds_kind}
+use Rattle.mf_perform.proofs.StateChange.StateChange.{same, created, changed, relabels, removed, unlinked, loaded, unloaded, set_to}
 
 -- the entity of an id before and after a step from the state, made by the process of that id
 pub data EntityChange (by : Deed) (s : State) (id : Id) : Option LiveEntity → Option LiveEntity → Type 0 where
@@ -168,6 +170,27 @@ by_removed by s gone rising =
     one id (inl stays_here) = unchanged by s id (find (has_id id) s.objects.live) (find (has_id id) (filter kept s.objects.live)) stays_here
     one id (inr none) = rw none (left id (find (has_id id) s.objects.live) refl)
 
+by_unlinked : (by : Deed) (s : State) (file : Id) → IsRising 0 s.objects.next s.objects.live → ChangesEntities by s (with_objects s (without_vnode file s.objects))
+by_unlinked by s file rising =
+    record {
+      rising = rising_unlinked file s.objects rising;
+      next = omega arith;
+      each = λ id. one id (live_at s.objects id) (live_at (without_vnode file s.objects) id) refl (found_unlinked file s.objects rising id);
+    }
+  where
+    stays_so : (id : Id) (found : Option LiveEntity) → EntityChange by s id found (option_map (without_open file) found)
+    stays_so id None = absent
+    stays_so id (Some e) = stays e (without_open file e) (fds_kind (closed_on file) e.what) refl
+
+    left : (id : Id) (found : Option LiveEntity) → live_at s.objects id ≡ found → EntityChange by s id found None
+    left id None is = absent
+    left id (Some e) is = goes e (find_given id e 0 s.objects.next s.objects.live is rising)
+
+    one : (id : Id) (found found' : Option LiveEntity) → live_at s.objects id ≡ found → (found' ≡ option_map (without_open file) found) ⊎ (found' ≡ None)
+        → EntityChange by s id found found'
+    one id found found' is (inl kept) = subst (EntityChange by s id found) (sym kept) (stays_so id found)
+    one id found found' is (inr none) = subst (EntityChange by s id found) (sym none) (left id found is)
+
 pub changes_entities : (by : Deed) (s s' : State) → StateChange by s s' → IsRising 0 s.objects.next s.objects.live → ChangesEntities by s s'
 changes_entities by s s' (same is) rising = by_same by s s' (ap (λ (x : State). x.objects) is) rising
 changes_entities by s s' (created from maker name what own live process is) rising =
@@ -176,9 +199,10 @@ changes_entities by s s' (changed change id kept is) rising = subst (ChangesEnti
 changes_entities by s s' (relabels id e request asked live allowed is) rising =
     subst (ChangesEntities by s) (sym is) (by_relabelled by s id e request asked live allowed rising)
 changes_entities by s s' (removed gone is) rising = subst (ChangesEntities by s) (sym is) (by_removed by s gone rising)
+changes_entities by s s' (unlinked file is) rising = subst (ChangesEntities by s) (sym is) (by_unlinked by s file rising)
 changes_entities by s s' (loaded m none is) rising = by_same by s s' (ap (λ (x : State). x.objects) is) rising
 changes_entities by s s' (unloaded m ok is) rising = by_same by s s' (ap (λ (x : State). x.objects) is) rising
-changes_entities by s s' (set_to m change is) rising = by_same by s s' (ap (λ (x : State). x.objects) is) rising
+changes_entities by s s' (set_to m change ok is) rising = by_same by s s' (ap (λ (x : State). x.objects) is) rising
 
 -- Each step keeps it that ids rise and that the first is of a vnode.
 pub stays_rooted : (by : Deed) (s s' : State) → ChangesEntities by s s' → IsRooted s.objects → IsRooted s'.objects

@@ -10,7 +10,7 @@ use Rattle.mf_plan.specs.Payloads.{loaded}
 
 -- an entry, where one is wanted
 abbrev pub some_entry : Entry
-some_entry = (record { «module» = modules.Biba; slot = None; fixed = false }, means.Biba)
+some_entry = (record { «module» = modules.Mls; slot = None; fixed = false }, means.Mls)
 
 -- the registration at a place
 abbrev pub IsAt : List Entry → ℕ → Registration → Type 0

@@ -24,9 +24,9 @@ part_at m listed label i r at is =
     let place = found (is_of m) listed i at in
     let within : position_or_len (is_of m) listed < length listed =
     ltb-true (position_or_len (is_of m) listed) (length listed) (sym (any_by_place (is_of m) listed) ∙ place.1) in
-    let here : find (is_of m) listed ≡ Some (get_or listed i (r, means.Biba)) =
-    subst (λ (k : ℕ). find (is_of m) listed ≡ Some (get_or listed k (r, means.Biba))) place.0 (entry_at m listed (r, means.Biba) within) in
-    ap (λ (x : Registration). Some (part_by m label x)) (is (r, means.Biba))
+    let here : find (is_of m) listed ≡ Some (get_or listed i (r, means.Mls)) =
+    subst (λ (k : ℕ). find (is_of m) listed ≡ Some (get_or listed k (r, means.Mls))) place.0 (entry_at m listed (r, means.Mls) within) in
+    ap (λ (x : Registration). Some (part_by m label x)) (is (r, means.Mls))
     ∙ sym (ap (option_map (λ (entry : Entry). part_by m label entry.0)) here)
 
 pub no_part : (m : Module) (listed : List Entry) (label : List LabelValue) → position (is_of m) listed ≡ None → None ≡ label_part listed label m

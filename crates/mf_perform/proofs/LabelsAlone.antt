@@ -1,5 +1,5 @@
 -- A change of labels alone: what is found is the same but for its label, and what suited an effect still does.
-use Rattle.std.proofs.Common.{◌≡◌, ℕ, ◌+◌, ◌<◌, Bool, true, false, cond, List, [], ◌∷◌, Option, Some, None, IsSome, is_some, option_map, refl, ap, sym, ◌∙◌, subst}
+use Rattle.std.proofs.Common.{◌≡◌, ℕ, ◌+◌, ◌<◌, Bool, true, false, cond, List, [], ◌∷◌, length, Option, Some, None, IsSome, is_some, option_map, refl, ap, sym, ◌∙◌, subst}
 use Rattle.std.proofs.lemmas.List.{length-map}
 use Rattle.std.proofs.lemmas.List.Sums.{sum_by-cons}
 use Rattle.std.specs.Option.{option_map_or}
@@ -9,7 +9,10 @@ use Rattle.mf_elem.specs.declared.label.Request.{Request}
 use Rattle.mf_objects.specs.declared.id.Id.{Id}
 use Rattle.mf_objects.specs.declared.entity.EntityData.{EntityData}
 use Rattle.mf_objects.specs.declared.entity.EntityData.TheVariants.{Process, Vnode, Pipe, Socket}
+use Rattle.mf_names.specs.declared.limits.TheConstants.{MOST_DESCRIPTORS}
+use Rattle.mf_objects.specs.declared.descriptors.Fd.{Fd}
 use Rattle.mf_objects.specs.declared.limits.TheConstants.{MOST_ENTITIES}
+use Rattle.mf_objects.specs.Descriptors.{fd_in, fds_at, fds_of, lowest_free}
 use Rattle.mf_objects.specs.Live.{LiveEntity, Entities, cred_at, cred_of, entry_count, file_at, file_of, has_id, is_entry, is_one_named, live_at, no_cred, no_file}
 use Rattle.mf_objects.specs.Lives.{IsLive, IsLiveWhere, is_directory, passes}
 use Rattle.mf_objects.proofs.Entities.{changed_at}
@@ -18,9 +21,10 @@ use Rattle.mf_calls.specs.declared.script.Call.{Call}
 use Rattle.mf_calls.specs.declared.script.Call.TheVariants as call
 use Rattle.mf_plan.specs.declared.state.State.{State}
 use Rattle.mf_plan.specs.Effect.{Effect}
-use Rattle.mf_plan.specs.Effect.Effect.{Make, Append, Deliver, Empty, Receive, SetMode, Unlink, Relabel, Load, Unload}
+use Rattle.mf_plan.specs.Effect.Effect.{Make, Append, Deliver, Empty, Receive, SetMode, Open, Close, Unlink, Relabel, Load, Unload}
 use Rattle.mf_perform.specs.Effect.{with_objects}
-use Rattle.mf_perform.specs.Found.{effect_found, make_file}
+use Rattle.mf_perform.specs.declared.descriptors.Opening.{Opening}
+use Rattle.mf_perform.specs.Found.{effect_found, fd_with, make_file, where_found}
 use Rattle.mf_perform.specs.Suits.{IsFree, Suits}
 
 -- it keeps all of an entity but its label
@@ -115,6 +119,9 @@ module _ (g : LiveEntity → LiveEntity) (keeps : KeepsRest g) where
     file_mapped : (id : Id) → file_at mapped id ≡ file_at o id
     file_mapped id = ap (λ (found : Option LiveEntity). option_map_or (λ (e : LiveEntity). file_of e.what) found no_file) (at_mapped id) ∙ read_mapped file_of no_file (live_at o id)
 
+    pub fds_mapped : (id : Id) → fds_at mapped id ≡ fds_at o id
+    fds_mapped id = ap (λ (found : Option LiveEntity). option_map_or (λ (e : LiveEntity). fds_of e.what) found []) (at_mapped id) ∙ read_mapped fds_of [] (live_at o id)
+
     free_mapped : (what : EntityData) (name : List ℕ) → IsFree o what name → IsFree mapped what name
     free_mapped (Process process) name free = none_mapped _ name free
     free_mapped (Vnode vnode) name free = by_parent vnode.parent free
@@ -144,6 +151,18 @@ module _ (g : LiveEntity → LiveEntity) (keeps : KeepsRest g) where
     still_suits (Empty id) suits = live_mapped s.objects _ id suits
     still_suits (Receive id) suits = holds_mapped s.objects _ id suits
     still_suits (SetMode id mode) suits = live_mapped s.objects _ id suits
+    still_suits (Open id fd) suits =
+        record {
+          process = live_mapped s.objects _ id suits.process;
+          few = subst (λ (fds : List Fd). length fds < MOST_DESCRIPTORS) (sym (fds_mapped s.objects id)) suits.few;
+          number = suits.number ∙ ap lowest_free (sym (fds_mapped s.objects id));
+          file = live_mapped s.objects _ fd.file suits.file;
+        }
+    still_suits (Close id n) suits =
+        record {
+          process = live_mapped s.objects _ id suits.process;
+          is_open = ap (λ (fds : List Fd). is_some (fd_in fds n)) (fds_mapped s.objects id) ∙ suits.is_open;
+        }
     still_suits (Unlink id) suits =
         record {
           vnode = live_mapped s.objects _ id suits.vnode;
@@ -159,10 +178,16 @@ module _ (g : LiveEntity → LiveEntity) (keeps : KeepsRest g) where
     file_same me path mode is_dir None = refl
     file_same me path mode is_dir (Some dir) = rw (cred_mapped s.objects me, file_mapped s.objects dir) refl
 
-    -- effects look at credentials and attributes alone
-    pub effect_same : (task : List ℕ) (me : Id) (c : Call) (found : Option Id) (asked : Option Request)
-        → effect_found relabelled_alone task me c found asked ≡ effect_found s task me c found asked
-    effect_same task me (call.Fork child) found asked = rw (cred_mapped s.objects me) refl
-    effect_same task me (call.Create path) found asked = file_same me path _ false found
-    effect_same task me (call.Mkdir path) found asked = file_same me path _ true found
-    effect_same task me other found asked = refl
+    open_same : (opening : Opening) (me : Id) (read write : Bool) (found : Option Id)
+        → where_found (λ id. Open me (fd_with relabelled_alone me read write opening id)) found ≡ where_found (λ id. Open me (fd_with s me read write opening id)) found
+    open_same opening me read write None = refl
+    open_same opening me read write (Some id) = rw (fds_mapped s.objects me) refl
+
+    -- effects look at credentials, attributes and descriptors alone
+    pub effect_same : (task : List ℕ) (me : Id) (opening : Opening) (c : Call) (found : Option Id) (asked : Option Request)
+        → effect_found relabelled_alone task me opening c found asked ≡ effect_found s task me opening c found asked
+    effect_same task me opening (call.Fork child) found asked = rw (cred_mapped s.objects me) refl
+    effect_same task me opening (call.Create path) found asked = file_same me path _ false found
+    effect_same task me opening (call.Mkdir path) found asked = file_same me path _ true found
+    effect_same task me opening (call.OpenFd path read write) found asked = open_same opening me read write found
+    effect_same task me opening other found asked = refl

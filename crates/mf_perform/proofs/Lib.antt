@@ -6,7 +6,9 @@ pub mod Observing
 mod Lowered
 pub mod RelabelChange
 pub mod StateChange
+pub mod Unlinking
 pub mod EntityChange
+pub mod Openings
 pub mod Replies
 mod Leading
 pub mod Handing

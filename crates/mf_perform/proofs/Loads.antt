@@ -1,5 +1,5 @@
 -- What a call that may be done asks of the list of policies: a module that may be loaded, or unloaded, or a setting.
-use Rattle.std.proofs.Common.{◌≡◌, ℕ, ◌<◌, ◌&&◌, Bool, true, false, not, List, [], Option, Some, None, option_map, Ok, Err, refl, ap, sym, ◌∙◌, if◌then◌else◌}
+use Rattle.std.proofs.Common.{◌≡◌, ℕ, ◌<◌, ◌&&◌, ◌||◌, Bool, true, false, not, List, [], Option, Some, None, option_map, Result, Ok, Err, refl, ap, sym, ◌∙◌, subst, if◌then◌else◌}
 use Rattle.std.proofs.lemmas.Bool.{leb-false}
 use Rattle.std.specs.Option.{option_map_or, option_zip, ok_or}
 use Rattle.std.specs.Prelude.{nat_eq, nat_le, codes, IfSome}
@@ -29,13 +29,14 @@ use Rattle.mf_plan.specs.Plan.{row_for}
 use Rattle.mf_plan.specs.declared.reply.Payload.TheVariants as payload
 use Rattle.mf_plan.specs.Row.{Row, changes, refuse_by, through, returns}
 use Rattle.mf_plan.specs.Rows.{about_of}
-use Rattle.mf_plan.specs.Settings.{switch, sysctl_module, unless_success}
+use Rattle.mf_calls.specs.Tunable.{switch}
+use Rattle.mf_plan.specs.Settings.{is_tunable, sysctl_module, unless_success}
 use Rattle.mf_policy.specs.Settings.{change_in}
 use Rattle.mf_calls.specs.Tasks.{is_change}
 use Rattle.mf_perform.specs.declared.relisting.Relisting.{Relisting}
 use Rattle.mf_perform.specs.declared.relisting.Relisting.TheVariants.{Load as ToLoad, Unload as ToUnload, Set as ToSet}
 use Rattle.mf_perform.specs.Relisting.{effect_in, relisting_at, SetsDynamic}
-use Rattle.mf_plan.specs.Ways.{At, setting_found, straight}
+use Rattle.mf_plan.specs.Ways.{At, setting_found, straight, way_to}
 use Rattle.mf_plan.specs.Ways.Place.{Setting}
 use Rattle.mf_text.specs.Results.{and_then}
 
@@ -115,30 +116,33 @@ module _ (s : State) (me : Id) (rest : Module × Change → Row) (same : (asked 
   by_root false None change done = cc
   by_root true m change done = cc
 
-  set_there : (m : Option Module) (change : Option Change) → (through (straight (setting_found s me m change)) set_row).tail ≡ Do
-      → option_map effect_in (relisting_at (Setting m change)) ≡ Some (through (straight (setting_found s me m change)) set_row).effect
-  set_there m change done = told_setting (option_zip m change) ∙ by_root (not (nat_eq (cred_at s.objects me).uid 0)) m change done
+  set_there : (tunable : Bool) (m : Option Module) (change : Option Change) → (through (straight (setting_found s me tunable m change)) set_row).tail ≡ Do
+      → option_map effect_in (relisting_at (Setting tunable m change)) ≡ Some (through (straight (setting_found s me tunable m change)) set_row).effect
+  set_there tunable m change done = told_setting (option_zip m change) ∙ by_root (not (nat_eq (cred_at s.objects me).uid 0) || tunable) m change done
 
 -- a change that may be done has the effect that is told, whoever makes it
 pub relisting_is : (s : State) (task : List ℕ) (me : Id) (c : Call) → is_change c ≡ true → (row_for s task c me).tail ≡ Do
     → option_map effect_in (relisting_at (about_of s task me c).place) ≡ Some (row_for s task c me).effect
 relisting_is s task me (call.Kldload name) change done =
-    told_module (module_named name) (λ m. ToLoad m) (λ m. Load m) (λ m. refl) ∙ found_module [] (about_of s task me (call.Kldload name)).row (λ m. Load m) (λ m. refl) (module_named name) done
+    told_module (module_named name) (λ m. ToLoad m) (λ m. Load m) (λ m. refl)
+    ∙ found_module [] (about_of s task me (call.Kldload name)).row (λ m. Load m) (λ m. refl) (module_named name) done
 relisting_is s task me (call.Kldunload name) change done =
-    told_module (module_named name) (λ m. ToUnload m) (λ m. Unload m) (λ m. refl) ∙ found_module [] (about_of s task me (call.Kldunload name)).row (λ m. Unload m) (λ m. refl) (module_named name) done
+    told_module (module_named name) (λ m. ToUnload m) (λ m. Unload m) (λ m. refl)
+    ∙ found_module [] (about_of s task me (call.Kldunload name)).row (λ m. Unload m) (λ m. refl) (module_named name) done
 relisting_is s task me (call.Sysctl name value) change done =
-    set_there s me (λ asked. changes (Set asked.0 asked.1)) (λ asked. refl) (sysctl_module name) (option_map FirstMatch (switch value)) done
+    set_there s me (λ asked. changes (Set asked.0 asked.1)) (λ asked. refl) (is_tunable s.specs name) (sysctl_module name) (option_map FirstMatch (switch value)) done
 relisting_is s task me (call.UgidfwAdd rule) change done =
-    set_there s me (λ asked. returns (option_map_or payload.Rule (change_in asked.0 asked.1 s.specs).0.number payload.None) (Set asked.0 asked.1)) (λ asked. refl) (Some modules.Bsdextended) (Some (RuleAdd rule)) done
+    set_there s me (λ asked. returns (option_map_or payload.Rule (change_in asked.0 asked.1 s.specs).0.number payload.None) (Set asked.0 asked.1))
+    (λ asked. refl) false (Some modules.Bsdextended) (Some (RuleAdd rule)) done
 relisting_is s task me (call.UgidfwSet n rule) change done =
-    set_there s me (λ asked. changes (Set asked.0 asked.1)) (λ asked. refl) (Some modules.Bsdextended) (Some (RuleSet n rule)) done
+    set_there s me (λ asked. changes (Set asked.0 asked.1)) (λ asked. refl) false (Some modules.Bsdextended) (Some (RuleSet n rule)) done
 relisting_is s task me (call.UgidfwRemove n) change done =
-    set_there s me (λ asked. changes (Set asked.0 asked.1)) (λ asked. refl) (Some modules.Bsdextended) (Some (RuleRemove n)) done
+    set_there s me (λ asked. changes (Set asked.0 asked.1)) (λ asked. refl) false (Some modules.Bsdextended) (Some (RuleRemove n)) done
 relisting_is s task me other change done = cc
 
 -- A change of a setting is of a module that may be unloaded: no other has one
 
-abbrev MayBeUnloaded : Module → Type 0
+abbrev pub MayBeUnloaded : Module → Type 0
 MayBeUnloaded m = (facts_of m).unload_ok ≡ true
 
 of_sysctl : (b : Bool) → IfSome (if b then Some modules.Bsdextended else None) MayBeUnloaded
@@ -166,3 +170,37 @@ sets_dynamic s task me (call.UgidfwAdd rule) = refl
 sets_dynamic s task me (call.UgidfwSet n rule) = refl
 sets_dynamic s task me (call.UgidfwRemove n) = refl
 sets_dynamic s task me other = tt
+
+-- so a call that may be done changes the setting of no other
+
+abbrev pub SetsUnloadable : Effect → Type 0
+SetsUnloadable (Set m change) = MayBeUnloaded m
+SetsUnloadable other = Unit {0}
+
+told_sets : (told : Option Relisting) (e : Effect) → IfSome told SetsDynamic → option_map effect_in told ≡ Some e → SetsUnloadable e
+told_sets None e dynamic is = cc
+told_sets (Some (ToLoad m)) e dynamic is = let same : Load m ≡ e = cc in subst SetsUnloadable same tt
+told_sets (Some (ToUnload m)) e dynamic is = let same : Unload m ≡ e = cc in subst SetsUnloadable same tt
+told_sets (Some (ToSet m change)) e dynamic is = let same : Set m change ≡ e = cc in subst SetsUnloadable same dynamic
+
+-- an entry sets nothing
+entry_sets : (s : State) (task : List ℕ) (me : Id) (c : Call) (checks : List Check) (there : Result (At (about_of s task me c).place) Errno)
+    → is_change c ≡ false → SetsUnloadable (through (record { checks = checks; there = there }) (about_of s task me c).row).effect
+entry_sets s task me c checks (Err e) entry = tt
+entry_sets s task me (call.Kldload name) checks (Ok what) entry = cc
+entry_sets s task me (call.Kldunload name) checks (Ok what) entry = cc
+entry_sets s task me (call.Sysctl name value) checks (Ok what) entry = cc
+entry_sets s task me (call.UgidfwAdd rule) checks (Ok what) entry = cc
+entry_sets s task me (call.UgidfwSet n rule) checks (Ok what) entry = cc
+entry_sets s task me (call.UgidfwRemove n) checks (Ok what) entry = cc
+entry_sets s task me other checks (Ok what) entry = tt
+
+pub row_sets : (s : State) (task : List ℕ) (me : Id) (c : Call) → (row_for s task c me).tail ≡ Do → SetsUnloadable (row_for s task c me).effect
+row_sets s task me c done = one (is_change c) refl
+  where
+    one : (b : Bool) → is_change c ≡ b → SetsUnloadable (row_for s task c me).effect
+    one true change =
+        told_sets (relisting_at (about_of s task me c).place) (row_for s task c me).effect (sets_dynamic s task me c) (relisting_is s task me c change done)
+    one false entry =
+        let place = (about_of s task me c).place in
+        entry_sets s task me c (way_to s me place).checks (way_to s me place).there entry

@@ -22,6 +22,7 @@ use Rattle.mf_objects.specs.Population.{IsPopulation}
 use Rattle.mf_objects.proofs.Entities.{label_of, changed_at}
 use Rattle.mf_objects.proofs.Belonging.{StaysAt, stays_same, belong_changed, directories_changed}
 use Rattle.mf_objects.proofs.Names.{names_changed}
+use Rattle.mf_objects.proofs.Opened.{described_changed}
 use Rattle.mf_objects.proofs.Rising.{id_is, rising_changed, root_changed}
 use Rattle.mf_calls.specs.declared.script.Call.{Call}
 use Rattle.mf_calls.specs.Tasks.{is_change}
@@ -336,6 +337,7 @@ valued_population slot value at o population =
       belong = belong_changed (with_value slot value) at o.live (λ e. refl) stays population.belong;
       directories = directories_changed (with_value slot value) at o.live stays population.directories;
       names = names_changed (with_value slot value) at o.live (λ e. refl) stays population.names;
+      descriptors = described_changed (with_value slot value) at o.live (λ e. refl) stays (λ k d l has. population.descriptors k d l) population.descriptors;
     }
   where
     stays : StaysAt (with_value slot value) at o.live

@@ -30,7 +30,8 @@ use Rattle.mf_plan.specs.Views.{process_named}
 use Rattle.mf_plan.proofs.Finding.{row_by}
 use Rattle.mf_perform.specs.declared.verdict.Denial.{Denial}
 use Rattle.mf_perform.specs.Effect.{after, with_objects}
-use Rattle.mf_perform.specs.Found.{after_found, effect_found, effect_of}
+use Rattle.mf_perform.specs.declared.descriptors.Opening.{Opening}
+use Rattle.mf_perform.specs.Found.{after_found, effect_found, effect_of, opening_of, opens}
 use Rattle.mf_perform.specs.Held.{lomac_value, with_lomac_value}
 use Rattle.mf_perform.specs.OneCall.{call_reply, observed, performed}
 use Rattle.mf_perform.specs.Passed.{passed}
@@ -78,16 +79,16 @@ checks_stand s task child c = one (observed s task child c) (checks_move s task 
     one _ (moved g keeps) = record { next = refl; booted = refl }
 
 -- and what the call needs of the state
-record StillMay (s s1 : State) (task : List ℕ) (me : Id) (c : Call) (target : Option Id) (asked : Option Request) : Type 0 where
+record StillMay (s s1 : State) (task : List ℕ) (me : Id) (opening : Opening) (c : Call) (target : Option Id) (asked : Option Request) : Type 0 where
   caller : IsLive is_process s1.objects me
-  suits : Suits s1 (effect_found s1 task me c target asked)
-  same : effect_found s1 task me c target asked ≡ effect_found s task me c target asked
+  suits : Suits s1 (effect_found s1 task me opening c target asked)
+  same : effect_found s1 task me opening c target asked ≡ effect_found s task me opening c target asked
 
-still_may : (s s1 : State) (task : List ℕ) (me : Id) (c : Call) (target : Option Id) (asked : Option Request) → LabelsMoved s s1 → IsLive is_process s.objects me
-    → Suits s (effect_found s task me c target asked) → StillMay s s1 task me c target asked
-still_may s _ task me c target asked unmoved lives suits = record { caller = lives; suits = suits; same = refl }
-still_may s _ task me c target asked (moved g keeps) lives suits =
-    let same = effect_same g keeps s task me c target asked in
+still_may : (s s1 : State) (task : List ℕ) (me : Id) (opening : Opening) (c : Call) (target : Option Id) (asked : Option Request) → LabelsMoved s s1 → IsLive is_process s.objects me
+    → Suits s (effect_found s task me opening c target asked) → StillMay s s1 task me opening c target asked
+still_may s _ task me opening c target asked unmoved lives suits = record { caller = lives; suits = suits; same = refl }
+still_may s _ task me opening c target asked (moved g keeps) lives suits =
+    let same = effect_same g keeps s task me opening c target asked in
     record {
       caller = live_mapped g keeps s.objects is_process me lives;
       suits = subst (Suits (relabelled_alone g keeps s)) (sym same) (still_suits g keeps s _ suits);
@@ -145,29 +146,28 @@ ok_proceeds plan None p done = ok_tail plan.tail p done
 ok_proceeds plan (Some denial) p done = cc
 
 -- what is known of it in the state after its checks
-pub record Ready (s : State) (task : List ℕ) (child : Option (List ℕ)) (c : Call) (found : Found) : Type 0 where
+pub record Ready (s : State) (task : List ℕ) (child : Option (List ℕ)) (opening : Opening) (c : Call) (found : Found) : Type 0 where
   pub caller : IfSome found.caller (λ me. IsLive is_process (observed s task child c).objects me)
-  pub suits : IfSome found.caller (λ me. Suits (observed s task child c) (effect_found (observed s task child c) task me c found.target found.request))
-  pub does : after_found (observed s task child c) task c found ≡ performed s task child c
-  pub effect : effect_of (observed s task child c) task c found ≡ (call_row s task child c).effect
-  pub before : IfSome found.caller (λ me. IsSome (live_at s.objects me))
+  pub suits : IfSome found.caller (λ me. Suits (observed s task child c) (effect_found (observed s task child c) task me opening c found.target found.request))
+  pub does : after_found (observed s task child c) task opening c found ≡ performed s task child c
+  pub effect : effect_of (observed s task child c) task opening c found ≡ (call_row s task child c).effect
   pub live : IfSome found.caller (λ me. IsSome (live_at (observed s task child c).objects me))
   pub held : is_set (lomac_value s found.caller) ≡ is_set (lomac_value (observed s task child c) found.caller)
   pub back : with_lomac_value (lomac_value s found.caller) (observed s task child c) found.caller ≡ s
 
-pub ready : (s : State) (task : List ℕ) (child : Option (List ℕ)) (c : Call) (found : Found) (r : Reply) → IsPopulation s.objects → AreFound s task child c found
-    → is_change c ≡ false → r ≡ call_reply s task child c → is_ok r ≡ true → Ready s task child c found
-ready s task child c found r population are entry replied done =
+pub ready : (s : State) (task : List ℕ) (child : Option (List ℕ)) (opening : Opening) (c : Call) (found : Found) (r : Reply) → IsPopulation s.objects
+    → AreFound s task child c found → is_change c ≡ false → (opens c ≡ true → opening ≡ opening_of s found.caller found.target) → r ≡ call_reply s task child c
+    → is_ok r ≡ true → Ready s task child opening c found
+ready s task child opening c found r population are entry seen replied done =
     record {
       caller = subst (λ (caller : Option Id). IfSome caller (λ me. IsLive is_process s1.objects me)) (sym are.caller) may.caller;
-      suits = subst (λ (caller : Option Id). IfSome caller (λ me. Suits s1 (effect_found s1 task me c found.target found.request))) (sym are.caller) may.suits;
-      does = ap (λ (caller : Option Id). option_map_or (λ (me : Id). after s1 me (effect_found s1 task me c found.target found.request)) caller s1) are.caller
+      suits = subst (λ (caller : Option Id). IfSome caller (λ me. Suits s1 (effect_found s1 task me opening c found.target found.request))) (sym are.caller) may.suits;
+      does = ap (λ (caller : Option Id). option_map_or (λ (me : Id). after s1 me (effect_found s1 task me opening c found.target found.request)) caller s1) are.caller
           ∙ ap (after s1 are.me) (may.same ∙ effect)
           ∙ ap (λ (caller : Option Id). option_map_or (λ (me : Id). after s1 me (row_for s task c me).effect) caller s1) (sym are.named);
-      effect = ap (λ (caller : Option Id). option_map_or (λ (me : Id). effect_found s1 task me c found.target found.request) caller Unchanged) are.caller
+      effect = ap (λ (caller : Option Id). option_map_or (λ (me : Id). effect_found s1 task me opening c found.target found.request) caller Unchanged) are.caller
           ∙ may.same ∙ effect
           ∙ ap (λ (caller : Option Id). (row_by s task c caller).effect) (sym are.named);
-      before = subst (λ (caller : Option Id). IfSome caller (λ me. IsSome (live_at s.objects me))) (sym are.caller) (some_live is_process s.objects are.me lives);
       live = subst (λ (caller : Option Id). IfSome caller (λ me. IsSome (live_at s1.objects me))) (sym are.caller) (some_live is_process s1.objects are.me may.caller);
       held = subst (λ (caller : Option Id). is_set (lomac_value s caller) ≡ is_set (lomac_value s1 caller)) (sym are.caller) (still_held s task child c are.me entry are.named);
       back = subst (λ (caller : Option Id). with_lomac_value (lomac_value s caller) s1 caller ≡ s) (sym are.caller)
@@ -180,15 +180,15 @@ ready s task child c found r population are entry replied done =
     lives : IsLive is_process s.objects are.me
     lives = caller_lives s.objects are.me (caller_name task child) population (sym are.named)
 
-    effect : effect_found s task are.me c found.target found.request ≡ (row_for s task c are.me).effect
-    effect = effect_is s task are.me c found are.is entry
+    effect : effect_found s task are.me opening c found.target found.request ≡ (row_for s task c are.me).effect
+    effect = effect_is s task are.me c found are.is opening entry (λ opened. seen opened ∙ ap (λ (caller : Option Id). opening_of s caller found.target) are.caller)
 
     proceeds : (row_for s task c are.me).tail ≡ Do
     proceeds =
         ap (λ (by : Option Id). (row_by s task c by).tail) (sym are.named)
         ∙ ok_proceeds (plan_of s task child c) (verdict_of s.specs (plan_of s task child c)).denied (call_row s task child c).payload (ap is_ok (sym replied) ∙ done)
 
-    may : StillMay s s1 task are.me c found.target found.request
+    may : StillMay s s1 task are.me opening c found.target found.request
     may =
-        still_may s s1 task are.me c found.target found.request (checks_move s task child c) lives
+        still_may s s1 task are.me opening c found.target found.request (checks_move s task child c) lives
         (subst (Suits s) (sym effect) (effect_suits s task are.me c population lives proceeds))

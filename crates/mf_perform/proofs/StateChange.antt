@@ -1,5 +1,5 @@
--- How a call changes the state after its checks: not at all; one entity is made, one changed, some removed; a module is loaded, or unloaded; a setting is
--- changed.
+-- How a call changes the state after its checks: not at all; one entity is made, one changed, some removed, or a file with all descriptors on it; a
+-- module is loaded, or unloaded; a setting is changed.
 use Rattle.std.proofs.Common.{◌≡◌, ℕ, Bool, true, false, cond, not, List, Option, Some, None, Result, Ok, Err, drop, refl, ap, sym, ◌∙◌}
 use Rattle.std.specs.Option.{option_map_or}
 use Rattle.mf_errno.specs.declared.errno.Errno.{Errno}
@@ -16,7 +16,9 @@ use Rattle.mf_policy.specs.declared.settings.Change.{Change}
 use Rattle.mf_objects.specs.declared.id.Id.{Id}
 use Rattle.mf_objects.specs.declared.entity.EntityData.{EntityData}
 use Rattle.mf_objects.specs.declared.entity.EntityData.TheVariants.{Process, Vnode, Pipe, Socket}
-use Rattle.mf_objects.specs.Live.{LiveEntity, has_id, is_process, kind_of, live_at}
+use Rattle.mf_objects.specs.declared.descriptors.Fd.{Fd}
+use Rattle.mf_objects.specs.Descriptors.{closed, opened, with_fds, without_vnode}
+use Rattle.mf_objects.specs.Live.{LiveEntity, is_process, kind_of, live_at}
 use Rattle.mf_objects.specs.Changes.{without, goes_with, with_change, with_what, appended, with_message, with_messages, cleared, with_mode}
 use Rattle.mf_objects.specs.Population.{IsRising}
 use Rattle.mf_calls.specs.declared.script.Call.{Call}
@@ -30,7 +32,7 @@ use Rattle.mf_plan.specs.declared.reply.Reply.{Reply}
 use Rattle.mf_plan.specs.declared.reply.Reply.TheVariants as reply
 use Rattle.mf_plan.specs.declared.state.State.{State}
 use Rattle.mf_plan.specs.Effect.{Effect, relabelled_by}
-use Rattle.mf_plan.specs.Effect.Effect.{Unchanged, Make, Append, Deliver, Empty, Receive, SetMode, Unlink, End, Relabel, Load, Unload, Set}
+use Rattle.mf_plan.specs.Effect.Effect.{Unchanged, Make, Append, Deliver, Empty, Receive, SetMode, Open, Close, Unlink, End, Relabel, Load, Unload, Set}
 use Rattle.mf_plan.specs.Names.{caller_name}
 use Rattle.mf_plan.specs.Plan.{plan_of, row_for, call_row}
 use Rattle.mf_plan.specs.Row.{through}
@@ -46,7 +48,7 @@ use Rattle.mf_perform.specs.Passed.{passed}
 use Rattle.mf_perform.specs.OneCall.{performed, after_reply, call_reply, call_state, observed, observed_by}
 use Rattle.mf_perform.proofs.Allowed.{IsAllowed}
 use Rattle.mf_perform.proofs.Granted.{all_granted}
-use Rattle.mf_perform.proofs.Loads.{SuitsList, suits_list}
+use Rattle.mf_perform.proofs.Loads.{SetsUnloadable, SuitsList, row_sets, suits_list}
 use Rattle.mf_perform.proofs.Observing.{ObservingKeeps, checks_passed, observing, observing_keeps, process_kept}
 use Rattle.mf_perform.proofs.Rooted.{HasKind, IsRooted, named_process, process_kind}
 use Rattle.mf_perform.proofs.RelabelChange.{RelabelMade, relabel_made, with_relabelled}
@@ -72,12 +74,15 @@ pub data StateChange (by : Deed) (s s' : State) : Type 0 where
       → s' ≡ with_request s (id, request) → StateChange by s s'
   -- some entities go
   removed : (gone : LiveEntity → Bool) → s' ≡ with_objects s (without gone s.objects) → StateChange by s s'
+  -- a file or a directory goes, with all descriptors on it
+  unlinked : (id : Id) → s' ≡ with_objects s (without_vnode id s.objects) → StateChange by s s'
   -- a policy comes, for which there is no fault
-  loaded : (m : Module) → load_fault s.booted s.specs s.numbers m ≡ None → s' ≡ record s { specs = with_registered s.specs (registration_of m s.booted s.numbers); numbers = given_after s.numbers m } → StateChange by s s'
+  loaded : (m : Module) → load_fault s.booted s.specs s.numbers m ≡ None
+      → s' ≡ record s { specs = with_registered s.specs (registration_of m s.booted s.numbers); numbers = given_after s.numbers m } → StateChange by s s'
   -- a policy goes that may be unloaded
   unloaded : (m : Module) → (facts_of m).unload_ok ≡ true → s' ≡ record s { specs = entries_without m s.specs } → StateChange by s s'
-  -- a listed policy has another setting
-  set_to : (m : Module) (change : Change) → s' ≡ record s { specs = (change_in m change s.specs).1 } → StateChange by s s'
+  -- a listed policy that may be unloaded has another setting
+  set_to : (m : Module) (change : Change) → (facts_of m).unload_ok ≡ true → s' ≡ record s { specs = (change_in m change s.specs).1 } → StateChange by s s'
 
 -- Changes keep the kind
 
@@ -105,6 +110,12 @@ mode_kind mode (Vnode vnode) = refl
 mode_kind mode (Pipe pipe) = refl
 mode_kind mode (Socket socket) = refl
 
+pub fds_kind : (change : List Fd → List Fd) (what : EntityData) → kind_of (with_fds change what) ≡ kind_of what
+fds_kind change (Process process) = refl
+fds_kind change (Vnode vnode) = refl
+fds_kind change (Pipe pipe) = refl
+fds_kind change (Socket socket) = refl
+
 -- Effects
 
 -- a live process makes a call
@@ -124,21 +135,23 @@ by_relabel : (by : Deed) (s : State) (id : Id) (request : Request) → by.asked 
 by_relabel by s id request asked (no_change kept) = same (sym (ap (with_relabelled s) asked) ∙ kept)
 by_relabel by s id request asked (permitted to e other is live allowed) = relabels to e other is live allowed (ap (with_relabelled s) (sym asked ∙ is))
 
-by_effect : (by : Deed) (s : State) (me : Id) (e : Effect) → IsMadeBy by s me → SuitsList s e → by.asked ≡ relabelled_by e → RelabelMade s by.asked
+by_effect : (by : Deed) (s : State) (me : Id) (e : Effect) → IsMadeBy by s me → SuitsList s e → SetsUnloadable e → by.asked ≡ relabelled_by e → RelabelMade s by.asked
     → StateChange by s (after s me e)
-by_effect by s me Unchanged made suits asked relabel = same refl
-by_effect by s me (Make name what) made suits asked relabel = created me made.entity name what made.caller made.live made.process refl
-by_effect by s me (Append id text) made suits asked relabel = changed (appended text) id (appended_kind text) refl
-by_effect by s me (Deliver id text) made suits asked relabel = changed (with_messages (with_message text)) id (messages_kind (with_message text)) refl
-by_effect by s me (Empty id) made suits asked relabel = changed cleared id cleared_kind refl
-by_effect by s me (Receive id) made suits asked relabel = changed (with_messages (drop 1)) id (messages_kind (drop 1)) refl
-by_effect by s me (SetMode id mode) made suits asked relabel = changed (with_mode mode) id (mode_kind mode) refl
-by_effect by s me (Unlink id) made suits asked relabel = removed (has_id id) refl
-by_effect by s me (End id) made suits asked relabel = removed (goes_with id) refl
-by_effect by s me (Relabel id request) made suits asked relabel = by_relabel by s id request asked relabel
-by_effect by s me (Load m) made suits asked relabel = loaded m suits refl
-by_effect by s me (Unload m) made suits asked relabel = unloaded m (may_unload (is_listed m s.specs) ((facts_of m).unload_ok) suits) refl
-by_effect by s me (Set m change) made suits asked relabel = set_to m change refl
+by_effect by s me Unchanged made suits sets asked relabel = same refl
+by_effect by s me (Make name what) made suits sets asked relabel = created me made.entity name what made.caller made.live made.process refl
+by_effect by s me (Append id text) made suits sets asked relabel = changed (appended text) id (appended_kind text) refl
+by_effect by s me (Deliver id text) made suits sets asked relabel = changed (with_messages (with_message text)) id (messages_kind (with_message text)) refl
+by_effect by s me (Empty id) made suits sets asked relabel = changed cleared id cleared_kind refl
+by_effect by s me (Receive id) made suits sets asked relabel = changed (with_messages (drop 1)) id (messages_kind (drop 1)) refl
+by_effect by s me (SetMode id mode) made suits sets asked relabel = changed (with_mode mode) id (mode_kind mode) refl
+by_effect by s me (Open id fd) made suits sets asked relabel = changed (with_fds (opened fd)) id (fds_kind (opened fd)) refl
+by_effect by s me (Close id n) made suits sets asked relabel = changed (with_fds (closed n)) id (fds_kind (closed n)) refl
+by_effect by s me (Unlink id) made suits sets asked relabel = unlinked id refl
+by_effect by s me (End id) made suits sets asked relabel = removed (goes_with id) refl
+by_effect by s me (Relabel id request) made suits sets asked relabel = by_relabel by s id request asked relabel
+by_effect by s me (Load m) made suits sets asked relabel = loaded m suits refl
+by_effect by s me (Unload m) made suits sets asked relabel = unloaded m (may_unload (is_listed m s.specs) ((facts_of m).unload_ok) suits) refl
+by_effect by s me (Set m change) made suits sets asked relabel = set_to m change sets refl
 
 -- The effect of a call that may be done
 
@@ -173,8 +186,8 @@ module _ (by : Deed) (s s1 : State) (observer : Option Id) (checks : List Item) 
   by_caller task name c None own found rising done asked relabel = same refl
   by_caller task name c (Some me) own found rising done asked relabel =
       let way = way_to s me (about_of s task me c).place in
-      by_effect by s1 me (row_for s task c me).effect (made_by name me own found rising) (suits_now (row_for s task c me).effect (suits_row s task me c way.checks way.there done)) asked
-      relabel
+      by_effect by s1 me (row_for s task c me).effect (made_by name me own found rising) (suits_now (row_for s task c me).effect (suits_row s task me c way.checks way.there done))
+      (row_sets s task me c done) asked relabel
 
 -- a call that is refused or denied changes nothing more, and asks nothing of a label
 

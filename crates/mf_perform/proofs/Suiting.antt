@@ -1,7 +1,8 @@
 -- By place what is found lives and is as the place says; and by call what a call that may be done changes suits its change.
-use Rattle.std.proofs.Common.{◌≡◌, ◌≢◌, ℕ, Bool, true, false, List, Option, Some, None, IsSome, is_some, option_map, length, Result, Ok, Err, refl, ap, sym, subst, ◌∙◌, if◌then◌else◌, arith}
-use Rattle.std.specs.Prelude.{◌==◌, find, nat_le, nat_lt, IfSome}
+use Rattle.std.proofs.Common.{◌≡◌, ◌≢◌, ℕ, Bool, true, false, cond, not, List, [], ◌∷◌, Option, Some, None, IsSome, is_some, option_map, length, ◌<◌, Result, Ok, Err, refl, ap, sym, subst, ◌∙◌, if◌then◌else◌, arith}
+use Rattle.std.specs.Prelude.{◌==◌, All, find, nat_le, nat_lt, option_and_then, IfSome}
 use Rattle.std.specs.Option.{option_map_or, ok_or}
+use Rattle.std.proofs.lemmas.List.Elements.{All-head, All-tail}
 use Rattle.std.proofs.lemmas.Bool.{eqb-false, leb-false, ltb-false}
 use Rattle.mf_errno.specs.declared.errno.Errno.{Errno}
 use Rattle.mf_errno.specs.declared.errno.Errno.TheVariants as errno
@@ -10,13 +11,17 @@ use Rattle.mf_plan.specs.declared.outline.Check.{Check}
 use Rattle.mf_item.specs.declared.operation.CheckOp.TheVariants as op
 use Rattle.mf_item.specs.declared.view.Kind.{Kind}
 use Rattle.mf_item.specs.declared.view.Kind.TheVariants as kinds
-use Rattle.mf_names.specs.declared.limits.TheConstants.{CONTENT_LIMIT}
+use Rattle.mf_names.specs.declared.limits.TheConstants.{CONTENT_LIMIT, MOST_DESCRIPTORS}
 use Rattle.mf_objects.specs.declared.limits.TheConstants.{MOST_ENTITIES, MOST_MESSAGES, PIPE_LIMIT}
 use Rattle.mf_objects.specs.declared.id.Id.{Id}
 use Rattle.mf_objects.specs.declared.entity.EntityData.{EntityData}
-use Rattle.mf_objects.specs.Live.{LiveEntity, Entities, count_at, id_of, is_one_named, is_entry, is_pipe, is_process, is_socket, live_at, live_named}
-use Rattle.mf_objects.specs.Lives.{IsLive, is_directory, is_vnode}
-use Rattle.mf_objects.specs.Population.{IsPopulation}
+use Rattle.mf_objects.specs.declared.descriptors.Fd.{Fd}
+use Rattle.mf_objects.specs.declared.entity.EntityData.TheVariants.{Vnode}
+use Rattle.mf_objects.specs.Descriptors.{fd_in, fds_at, fds_of, has_number}
+use Rattle.mf_objects.specs.Live.{LiveEntity, Entities, count_at, file_of, has_id, id_of, no_file, is_one_named, is_entry, is_pipe, is_process, is_socket, live_at, live_named}
+use Rattle.mf_objects.specs.Lives.{IsLive, is_directory, is_regular, is_vnode, passes}
+use Rattle.mf_objects.specs.Population.{AreDescriptors, IsPopulation}
+use Rattle.mf_objects.proofs.Belonging.{find_all}
 use Rattle.mf_objects.proofs.Laws.{fits_file, fits_pipe, fits_message, has_message, vnode_count}
 use Rattle.mf_policy.specs.Loading.{load_fault, load_errno, unload_fault, unload_errno}
 use Rattle.mf_calls.specs.declared.script.Call.{Call}
@@ -36,11 +41,66 @@ use Rattle.mf_plan.specs.Views.{is_dir, overfills, process_named, entity_named}
 use Rattle.mf_perform.proofs.Rooted.{named_lives}
 use Rattle.mf_perform.proofs.Leading.{caller_lives, dir_lives, file_lives, removable_lives, some_live}
 use Rattle.mf_perform.specs.Suits.{Suits}
-use Rattle.mf_plan.specs.Ways.Place.{Asking, Caller, Entry, File, Free, Named, Sockets, Unused}
-use Rattle.mf_plan.specs.Ways.{At, Place, asking, straight, then_way, target_in, way_to, carrying}
+use Rattle.mf_plan.specs.Ways.Place.{Asking, Caller, Entry, File, Free, Named, Opened, Sockets, Unused}
+use Rattle.mf_plan.specs.declared.descriptors.Access.{Access}
+use Rattle.mf_plan.specs.Ways.{At, Place, allows, asking, straight, then_way, target_in, way_to, carrying}
 use Rattle.mf_plan.specs.Row.{Row, through}
 use Rattle.mf_plan.specs.Rows.{about_of}
 use Rattle.mf_text.specs.Results.{and_then}
+
+-- Regular files
+
+module _ (o : Entities) (id : Id) where
+  by_data : (what : EntityData) → is_vnode what ≡ true → (file_of what).dir ≡ false → is_regular what ≡ true
+  by_data (Vnode vnode) is other = ap not other
+  by_data other is dir = cc
+
+  by_regular : (what : EntityData) → is_regular what ≡ true → (is_vnode what ≡ true) × ((file_of what).dir ≡ false)
+  by_regular (Vnode vnode) is = (refl, not_true vnode.file.dir is)
+    where
+      not_true : (b : Bool) → not b ≡ true → b ≡ false
+      not_true true is = cc
+      not_true false is = refl
+  by_regular other is = cc
+
+  regular_file : IsLive is_vnode o id → is_dir o id ≡ false → IsLive is_regular o id
+  regular_file = one (live_at o id)
+    where
+      one : (found : Option LiveEntity) → passes is_vnode found ≡ true → (option_map_or (λ e. file_of e.what) found no_file).dir ≡ false → passes is_regular found ≡ true
+      one None vnode other = cc
+      one (Some e) vnode other = by_data e.what vnode other
+
+  regular_vnode : IsLive is_regular o id → IsLive is_vnode o id
+  regular_vnode = one (live_at o id)
+    where
+      one : (found : Option LiveEntity) → passes is_regular found ≡ true → passes is_vnode found ≡ true
+      one None regular = cc
+      one (Some e) regular = (by_regular e.what regular).0
+
+  no_directory : IsLive is_regular o id → is_dir o id ≡ false
+  no_directory = one (live_at o id)
+    where
+      one : (found : Option LiveEntity) → passes is_regular found ≡ true → (option_map_or (λ e. file_of e.what) found no_file).dir ≡ false
+      one None regular = cc
+      one (Some e) regular = (by_regular e.what regular).1
+
+-- each descriptor of a live process is on one
+found_fd : (P : Fd → Type 0) (test : Fd → Bool) (fds : List Fd) (fd : Fd) → All P fds → find test fds ≡ Some fd → P fd
+found_fd P test [] fd all is = cc
+found_fd P test (first ∷ fds) fd all is = one (test first) (found_fd P test fds fd (All-tail P first fds all)) is
+  where
+    one : (b : Bool) → (find test fds ≡ Some fd → P fd) → cond b (Some first) (find test fds) ≡ Some fd → P fd
+    one true rest is = let same : first ≡ fd = cc in subst P same (All-head P first fds all)
+    one false rest is = rest is
+
+open_file : (o : Entities) (me : Id) (n : ℕ) (fd : Fd) → IsPopulation o → fd_in (fds_at o me) n ≡ Some fd → IsLive is_regular o fd.file
+open_file o me n fd population at = one (live_at o me) refl at
+  where
+    one : (found : Option LiveEntity) → live_at o me ≡ found → fd_in (option_map_or (λ e. fds_of e.what) found []) n ≡ Some fd → IsLive is_regular o fd.file
+    one None is at = cc
+    one (Some e) is at =
+        found_fd (λ (x : Fd). IsLive is_regular o x.file) (has_number n) (fds_of e.what) fd
+        (find_all (λ (x : LiveEntity). AreDescriptors o.live (fds_of x.what)) (has_id me) o.live e population.descriptors is).files at
 
 -- By place: what is found there lives, and is of the kind.
 
@@ -50,18 +110,19 @@ kind_test kinds.Vnode what = is_vnode what
 kind_test kinds.Pipe what = is_pipe what
 kind_test kinds.Socket what = is_socket what
 
-abbrev Holds : Entities → (place : Place) → At place → Type 0
-Holds o Caller id = IsLive is_process o id
-Holds o (Named kind name) id = IsLive (kind_test kind) o id
-Holds o (Unused kinds.Process name) free = live_named is_process o name ≡ None
-Holds o (Unused kinds.Pipe name) free = live_named is_pipe o name ≡ None
-Holds o (Unused kinds.Socket name) free = live_named is_socket o name ≡ None
-Holds o (File path) id = IsLive is_vnode o id
-Holds o (Free path) dir = IsLive is_directory o dir × (find (is_one_named (is_entry dir) (last_name path)) o.live ≡ None)
-Holds o (Entry path) entry = IsLive is_vnode o entry.1 × (entry.1.0 ≢ 0)
-Holds o (Sockets from to) ends = IsLive is_socket o ends.1
-Holds o (Asking kind text place) asked = Holds o place asked.1
-Holds o other found = Unit {0}
+abbrev Holds : Entities → Id → (place : Place) → At place → Type 0
+Holds o me Caller id = IsLive is_process o id
+Holds o me (Named kind name) id = IsLive (kind_test kind) o id
+Holds o me (Unused kinds.Process name) free = live_named is_process o name ≡ None
+Holds o me (Unused kinds.Pipe name) free = live_named is_pipe o name ≡ None
+Holds o me (Unused kinds.Socket name) free = live_named is_socket o name ≡ None
+Holds o me (File path) id = IsLive is_vnode o id
+Holds o me (Free path) dir = IsLive is_directory o dir × (find (is_one_named (is_entry dir) (last_name path)) o.live ≡ None)
+Holds o me (Entry path) entry = IsLive is_vnode o entry.1 × (entry.1.0 ≢ 0)
+Holds o me (Opened access n) id = IsLive is_regular o id × IsSome (fd_in (fds_at o me) n)
+Holds o me (Sockets from to) ends = IsLive is_socket o ends.1
+Holds o me (Asking kind text place) asked = Holds o me place asked.1
+Holds o me other found = Unit {0}
 
 found_so : {A : Type 0} (P : A → Type 0) (e : Errno) (holder : Option A) (a : A) → IfSome holder P → ok_or holder e ≡ Ok a → P a
 found_so P e None a holds is = cc
@@ -93,28 +154,51 @@ module _ (s : State) (me : Id) (population : IsPopulation s.objects) (lives : Is
   same_there (Some from) to ends is = is
   same_there None to ends is = cc
 
-  asked_holds : (place : Place) → ((b : At place) → (way_to s me place).there ≡ Ok b → Holds s.objects place b) → (request : Option Request) (checks : List Check) (there : Result (At place) Errno) (found : Request × At place) → (way_to s me place).there ≡ there
-      → (then_way (ok_or request errno.Einval) (λ r. carrying r (record { checks = checks; there = there }))).there ≡ Ok found → Holds s.objects place found.1
+  -- what is open under a number
+  opened_so : (access : Access) (n : ℕ) (id : Id) (found : Option Fd) → fd_in (fds_at s.objects me) n ≡ found
+      → ok_or (option_map (λ fd. fd.file) (option_and_then (λ fd. if allows access fd then Some fd else None) found)) errno.Ebadf ≡ Ok id
+      → IsLive is_regular s.objects id × IsSome (fd_in (fds_at s.objects me) n)
+  opened_so access n id None at is = cc
+  opened_so access n id (Some fd) at is = by_test (allows access fd) is
+    where
+      by_test : (b : Bool) → ok_or (option_map (λ fd. fd.file) (if b then Some fd else None)) errno.Ebadf ≡ Ok id
+          → IsLive is_regular s.objects id × IsSome (fd_in (fds_at s.objects me) n)
+      by_test true is =
+          let same : fd.file ≡ id = cc in
+          (subst (IsLive is_regular s.objects) same (open_file s.objects me n fd population at), ap (λ (found : Option Fd). is_some found) at)
+      by_test false is = cc
+
+  asked_holds : (place : Place) → ((b : At place) → (way_to s me place).there ≡ Ok b → Holds s.objects me place b) → (request : Option Request)
+      (checks : List Check) (there : Result (At place) Errno) (found : Request × At place) → (way_to s me place).there ≡ there
+      → (then_way (ok_or request errno.Einval) (λ r. carrying r (record { checks = checks; there = there }))).there ≡ Ok found → Holds s.objects me place found.1
   asked_holds place here (Some r) checks (Ok b) found at is = let same : b ≡ found.1 = cc in here found.1 (at ∙ ap Ok same)
   asked_holds place here (Some r) checks (Err e) found at is = cc
   asked_holds place here None checks there found at is = cc
 
-  place_holds : (place : Place) (found : At place) → (way_to s me place).there ≡ Ok found → Holds s.objects place found
+  place_holds : (place : Place) (found : At place) → (way_to s me place).there ≡ Ok found → Holds s.objects me place found
   place_holds Caller id is = let same : me ≡ id = cc in subst (λ (x : Id). IsLive is_process s.objects x) same lives
-  place_holds (Named kinds.Process name) id is = found_so (λ x. IsLive is_process s.objects x) errno.Esrch (process_named s.objects name) id (named_lives is_process s.objects name population.rising) is
+  place_holds (Named kinds.Process name) id is =
+      found_so (λ x. IsLive is_process s.objects x) errno.Esrch (process_named s.objects name) id
+      (named_lives is_process s.objects name population.rising) is
   place_holds (Named kinds.Vnode name) id is = cc
-  place_holds (Named kinds.Pipe name) id is = found_so (λ x. IsLive is_pipe s.objects x) errno.Enoent (entity_named s.objects kinds.Pipe name) id (named_lives is_pipe s.objects name population.rising) is
-  place_holds (Named kinds.Socket name) id is = found_so (λ x. IsLive is_socket s.objects x) errno.Enoent (entity_named s.objects kinds.Socket name) id (named_lives is_socket s.objects name population.rising) is
+  place_holds (Named kinds.Pipe name) id is =
+      found_so (λ x. IsLive is_pipe s.objects x) errno.Enoent (entity_named s.objects kinds.Pipe name) id
+      (named_lives is_pipe s.objects name population.rising) is
+  place_holds (Named kinds.Socket name) id is =
+      found_so (λ x. IsLive is_socket s.objects x) errno.Enoent (entity_named s.objects kinds.Socket name) id
+      (named_lives is_socket s.objects name population.rising) is
   place_holds (Unused kinds.Process name) free is = none_held (live_named is_process s.objects name) free is
   place_holds (Unused kinds.Pipe name) free is = none_held (live_named is_pipe s.objects name) free is
   place_holds (Unused kinds.Socket name) free is = none_held (live_named is_socket s.objects name) free is
   place_holds (File path) id is = file_lives s.objects population path id is
   place_holds (Free path) dir is = dir_lives s.objects population path dir is
   place_holds (Entry path) entry is = removable_lives s.objects population path entry is
+  place_holds (Opened access n) id is = opened_so access n id (fd_in (fds_at s.objects me) n) refl is
   place_holds (Sockets from to) ends is =
       sockets_so (entity_named s.objects kinds.Socket from) (entity_named s.objects kinds.Socket to) ends (named_lives is_socket s.objects to population.rising)
       (same_there (entity_named s.objects kinds.Socket from) (entity_named s.objects kinds.Socket to) ends is)
-  place_holds (Asking kind text place) found is = asked_holds place (place_holds place) (claimed_in s.specs kind text) (way_to s me place).checks (way_to s me place).there found refl is
+  place_holds (Asking kind text place) found is =
+      asked_holds place (place_holds place) (claimed_in s.specs kind text) (way_to s me place).checks (way_to s me place).there found refl is
   place_holds other found is = tt
 
   -- so what is said of a row with what holds there is said of the call
@@ -132,13 +216,17 @@ module _ (s : State) (me : Id) (population : IsPopulation s.objects) (lives : Is
     abbrev mine : (c : Call) → At (about_of s task me c).place → Row
     mine c = (about_of s task me c).row
 
+    has_room : (if nat_le MOST_ENTITIES (length s.objects.live) then Refuse errno.Enfile else Do) ≡ Do → length s.objects.live < MOST_ENTITIES
+    has_room done = leb-false 1024 _ (passed (nat_le MOST_ENTITIES (length s.objects.live)) errno.Enfile Do done).0
+
     -- The table: what suits, by the tests of the row and what holds at the place.
-    row_suits : (c : Call) (found : At (about_of s task me c).place) → Holds s.objects (about_of s task me c).place found → (mine c found).tail ≡ Do → Suits s (mine c found).effect
-    row_suits (call.Fork child) free holds done = record { few = leb-false 1024 _ (passed (nat_le MOST_ENTITIES (length s.objects.live)) errno.Enfile Do done).0; free = holds }
-    row_suits (call.Pipe name) free holds done = record { few = leb-false 1024 _ (passed (nat_le MOST_ENTITIES (length s.objects.live)) errno.Enfile Do done).0; free = holds }
-    row_suits (call.Socket name) free holds done = record { few = leb-false 1024 _ (passed (nat_le MOST_ENTITIES (length s.objects.live)) errno.Enfile Do done).0; free = holds }
-    row_suits (call.Create path) dir holds done = record { few = leb-false 1024 _ (passed (nat_le MOST_ENTITIES (length s.objects.live)) errno.Enfile Do done).0; free = holds }
-    row_suits (call.Mkdir path) dir holds done = record { few = leb-false 1024 _ (passed (nat_le MOST_ENTITIES (length s.objects.live)) errno.Enfile Do done).0; free = holds }
+    row_suits : (c : Call) (found : At (about_of s task me c).place) → Holds s.objects me (about_of s task me c).place found → (mine c found).tail ≡ Do
+        → Suits s (mine c found).effect
+    row_suits (call.Fork child) free holds done = record { few = has_room done; free = holds }
+    row_suits (call.Pipe name) free holds done = record { few = has_room done; free = holds }
+    row_suits (call.Socket name) free holds done = record { few = has_room done; free = holds }
+    row_suits (call.Create path) dir holds done = record { few = has_room done; free = holds }
+    row_suits (call.Mkdir path) dir holds done = record { few = has_room done; free = holds }
     row_suits (call.Write path text) id holds done =
         let regular = passed (is_dir s.objects id) errno.Eisdir _ done in
         fits_file (length text) s.objects id holds regular.0 (ltb-false 65536 _ (passed (overfills CONTENT_LIMIT s.objects text id) errno.Efbig Do regular.1).0)
@@ -146,9 +234,25 @@ module _ (s : State) (me : Id) (population : IsPopulation s.objects) (lives : Is
     row_suits (call.Unlink path) entry holds done =
         let empty = (passed (nat_lt 0 (count_at s.objects entry.1)) errno.Enotempty Do done).0 in
         record { vnode = holds.0; not_root = holds.1; empty = omega (arith, vnode_count s.objects entry.1 holds.0, ltb-false 0 _ empty) }
+    row_suits (call.OpenFd path read write) id holds done =
+        let regular = passed (is_dir s.objects id) errno.Eisdir _ done in
+        record {
+          process = lives;
+          few = leb-false 16 _ (passed (nat_le MOST_DESCRIPTORS (length (fds_at s.objects me))) errno.Emfile Do regular.1).0;
+          number = refl;
+          file = regular_file s.objects id holds regular.0;
+        }
+    row_suits (call.Fwrite n text) id holds done =
+        fits_file (length text) s.objects id (regular_vnode s.objects id holds.0) (no_directory s.objects id holds.0)
+        (ltb-false 65536 _ (passed (overfills CONTENT_LIMIT s.objects text id) errno.Efbig Do done).0)
+    row_suits (call.Close n) id holds done = record { process = lives; is_open = holds.1 }
     row_suits (call.Pread name) id holds done = holds
-    row_suits (call.Pwrite name text) id holds done = fits_pipe (length text) s.objects id holds (ltb-false 16384 _ (passed (overfills PIPE_LIMIT s.objects text id) errno.Eagain Do done).0)
-    row_suits (call.Send from to text) ends holds done = fits_message s.objects ends.1 holds (leb-false 16 _ (passed (nat_le MOST_MESSAGES (count_at s.objects ends.1)) errno.Enobufs Do done).0)
+    row_suits (call.Pwrite name text) id holds done =
+        fits_pipe (length text) s.objects id holds
+        (ltb-false 16384 _ (passed (overfills PIPE_LIMIT s.objects text id) errno.Eagain Do done).0)
+    row_suits (call.Send from to text) ends holds done =
+        fits_message s.objects ends.1 holds
+        (leb-false 16 _ (passed (nat_le MOST_MESSAGES (count_at s.objects ends.1)) errno.Enobufs Do done).0)
     row_suits (call.Recv name) id holds done =
         has_message s.objects id holds (omega (arith, eqb-false _ 0 (passed (count_at s.objects id == 0) errno.Eagain Do done).0))
     row_suits (call.Setpmac text) asked holds done = some_live is_process s.objects asked.1 holds
@@ -169,20 +273,36 @@ pub effect_suits : (s : State) (task : List ℕ) (me : Id) (c : Call) → IsPopu
 effect_suits s task me c population lives done = call_suits s me population lives task c done
 
 -- what is found lives
-pub target_lives : (o : Entities) (place : Place) (found : At place) → Holds o place found → IfSome (target_in place found) (λ id. IsSome (live_at o id))
-target_lives o Caller id holds = some_live is_process o id holds
-target_lives o (Named kind name) id holds = some_live (kind_test kind) o id holds
-target_lives o (File path) id holds = some_live is_vnode o id holds
-target_lives o (Free path) dir holds = some_live is_directory o dir holds.0
-target_lives o (Entry path) entry holds = some_live is_vnode o entry.1 holds.0
-target_lives o (Sockets from to) ends holds = some_live is_socket o ends.1 holds
-target_lives o (Asking kind text place) asked holds = target_lives o place asked.1 holds
-target_lives o other found holds = tt
+pub target_lives : (o : Entities) (me : Id) (place : Place) (found : At place) → Holds o me place found → IfSome (target_in place found) (λ id. IsSome (live_at o id))
+target_lives o me Caller id holds = some_live is_process o id holds
+target_lives o me (Named kind name) id holds = some_live (kind_test kind) o id holds
+target_lives o me (File path) id holds = some_live is_vnode o id holds
+target_lives o me (Free path) dir holds = some_live is_directory o dir holds.0
+target_lives o me (Entry path) entry holds = some_live is_vnode o entry.1 holds.0
+target_lives o me (Opened access n) id holds = some_live is_regular o id holds.0
+target_lives o me (Sockets from to) ends holds = some_live is_socket o ends.1 holds
+target_lives o me (Asking kind text place) asked holds = target_lives o me place asked.1 holds
+target_lives o me other found holds = tt
 
 pub found_lives : (s : State) (task : List ℕ) (child : Option (List ℕ)) (c : Call) (found : Found) → IsPopulation s.objects → AreFound s task child c found
     → IfSome found.target (λ id. IsSome (live_at s.objects id))
 found_lives s task child c found population are =
     let place = (about_of s task are.me c).place in
     subst (λ (target : Option Id). IfSome target (λ id. IsSome (live_at s.objects id))) (sym are.is.target)
-    (target_lives s.objects place are.is.what
+    (target_lives s.objects are.me place are.is.what
     (place_holds s are.me population (caller_lives s.objects are.me (caller_name task child) population (sym are.named)) place are.is.what are.is.there))
+
+-- and so does who calls
+pub finder_lives : (s : State) (task : List ℕ) (child : Option (List ℕ)) (c : Call) (found : Found) → IsPopulation s.objects → AreFound s task child c found
+    → IfSome found.caller (λ me. IsLive is_process s.objects me)
+finder_lives s task child c found population are =
+    subst (λ (caller : Option Id). IfSome caller (λ me. IsLive is_process s.objects me)) (sym are.caller)
+    (caller_lives s.objects are.me (caller_name task child) population (sym are.named))
+
+pub caller_found : (s : State) (task : List ℕ) (child : Option (List ℕ)) (c : Call) (found : Found) → IsPopulation s.objects → AreFound s task child c found
+    → IfSome found.caller (λ me. IsSome (live_at s.objects me))
+caller_found s task child c found population are = one found.caller (finder_lives s task child c found population are)
+  where
+    one : (caller : Option Id) → IfSome caller (λ me. IsLive is_process s.objects me) → IfSome caller (λ me. IsSome (live_at s.objects me))
+    one None lives = tt
+    one (Some me) lives = some_live is_process s.objects me lives

@@ -4,13 +4,14 @@ use Rattle.mf_elem.specs.declared.label.Request.{Request}
 use Rattle.mf_item.specs.declared.view.Kind.{Kind}
 use Rattle.mf_objects.specs.declared.id.Id.{Id}
 use Rattle.mf_objects.specs.declared.entity.EntityData.{EntityData}
-use Rattle.mf_objects.specs.Live.{Entities, has_id, kind_of, label_at}
+use Rattle.mf_objects.specs.Descriptors.{closed, opened, with_fds, without_vnode}
+use Rattle.mf_objects.specs.Live.{Entities, kind_of, label_at}
 use Rattle.mf_objects.specs.Changes.{with_entity, without, goes_with, with_change, with_what, appended, with_message, with_messages, cleared, with_mode}
 use Rattle.mf_plan.specs.declared.reply.Payload.{Payload}
 use Rattle.mf_plan.specs.declared.reply.Payload.TheVariants as payload
 use Rattle.mf_plan.specs.declared.state.State.{State}
 use Rattle.mf_plan.specs.Effect.{Effect}
-use Rattle.mf_plan.specs.Effect.Effect.{Unchanged, Make, Append, Deliver, Empty, Receive, SetMode, Unlink, End, Relabel, Load, Unload, Set}
+use Rattle.mf_plan.specs.Effect.Effect.{Unchanged, Make, Append, Deliver, Empty, Receive, SetMode, Open, Close, Unlink, End, Relabel, Load, Unload, Set}
 use Rattle.mf_policy.specs.Settings.{change_in}
 use Rattle.mf_policy.specs.declared.labels.Origin.TheVariants.{Maker}
 use Rattle.mf_policy.specs.NewLabels.{new_label}
@@ -45,7 +46,9 @@ after s me (Deliver id text) = with_data s id (with_messages (with_message text)
 after s me (Empty id) = with_data s id cleared
 after s me (Receive id) = with_data s id (with_messages (drop 1))
 after s me (SetMode id mode) = with_data s id (with_mode mode)
-after s me (Unlink id) = with_objects s (without (has_id id) s.objects)
+after s me (Open id fd) = with_data s id (with_fds (opened fd))
+after s me (Close id n) = with_data s id (with_fds (closed n))
+after s me (Unlink id) = with_objects s (without_vnode id s.objects)
 after s me (End id) = with_objects s (without (goes_with id) s.objects)
 after s me (Relabel id request) = with_request s (id, request)
 after s me (Load m) = record s { specs = with_registered s.specs (registration_of m s.booted s.numbers); numbers = given_after s.numbers m }
@@ -64,6 +67,8 @@ takes_memory Unchanged = false
 takes_memory (Empty id) = false
 takes_memory (Receive id) = false
 takes_memory (SetMode id mode) = false
+takes_memory (Open id fd) = false
+takes_memory (Close id n) = false
 takes_memory (Unlink id) = false
 takes_memory (End id) = false
 takes_memory (Unload m) = false
@@ -80,3 +85,4 @@ payload_takes_memory (payload.Stat file size) = false
 payload_takes_memory (payload.Modules modules) = false
 payload_takes_memory (payload.Rule number) = false
 payload_takes_memory (payload.Slot slot) = false
+payload_takes_memory (payload.Fd n) = false

@@ -26,18 +26,20 @@ effect_in (Set m change) = ToSet m change
 -- a setting is changed of a module that may be unloaded
 abbrev pub SetsDynamic : Relisting → Type 0
 SetsDynamic (Set m change) = (facts_of m).unload_ok ≡ true
-SetsDynamic other = Unit {0}
+SetsDynamic (Load m) = Unit {0}
+SetsDynamic (Unload m) = Unit {0}
 
 -- the values of the change fit
 abbrev pub IsFormed : Relisting → Type 0
 IsFormed (Set m change) = IsChange change
-IsFormed other = Unit {0}
+IsFormed (Load m) = Unit {0}
+IsFormed (Unload m) = Unit {0}
 
 -- what a call changes of the policies that is about this place, where it may be done; inner contracts alone cite this
 abbrev pub relisting_at : Place → Option Relisting
 relisting_at (Loading name) = option_map Load (module_named name)
 relisting_at (Unloading name) = option_map Unload (module_named name)
-relisting_at (Setting m change) = option_map (λ asked. Set asked.0 asked.1) (option_zip m change)
+relisting_at (Setting tunable m change) = option_map (λ asked. Set asked.0 asked.1) (option_zip m change)
 relisting_at other = None
 
 -- What is told of a call is what its place says; where the call is a change that may be done, that is the effect of its row, whoever makes it.

@@ -4,19 +4,34 @@ use Rattle.mf_objects.specs.declared.id.Id.{Id}
 use Rattle.mf_objects.specs.declared.entity.EntityData.{EntityData}
 use Rattle.mf_objects.specs.declared.entity.EntityData.TheVariants.{Process, Vnode, Pipe, Socket}
 use Rattle.mf_objects.specs.declared.limits.TheConstants.{MOST_ENTITIES}
+use Rattle.mf_names.specs.declared.limits.TheConstants.{MOST_DESCRIPTORS}
+use Rattle.mf_objects.specs.declared.descriptors.Fd.{Fd}
+use Rattle.mf_objects.specs.Descriptors.{fd_in, fds_at, lowest_free}
 use Rattle.mf_objects.specs.Fits.{FitsBytes, FitsMessage, HasMessage}
 use Rattle.mf_objects.specs.Live.{Entities, entry_count, is_one_named, is_entry, is_pipe, is_process, is_socket, live_at}
-use Rattle.mf_objects.specs.Lives.{IsLive, IsLiveWhere, is_directory, is_vnode}
+use Rattle.mf_objects.specs.Lives.{IsLive, IsLiveWhere, is_directory, is_regular, is_vnode}
 use Rattle.mf_policy.specs.Loading.{load_fault, unload_fault}
 use Rattle.mf_plan.specs.declared.state.State.{State}
 use Rattle.mf_plan.specs.Effect.{Effect}
-use Rattle.mf_plan.specs.Effect.Effect.{Make, Append, Deliver, Empty, Receive, SetMode, Unlink, Relabel, Load, Unload}
+use Rattle.mf_plan.specs.Effect.Effect.{Unchanged, Make, Append, Deliver, Empty, Receive, SetMode, Open, Close, Unlink, End, Relabel, Load, Unload, Set}
 
 -- a vnode that isn't the root, and has no entries
 pub record IsRemovable (o : Entities) (id : Id) : Type 0 where
   pub vnode : IsLive is_vnode o id
   pub not_root : id.0 ≢ 0
   pub empty : entry_count o id ≡ 0
+
+-- a process that may have one more descriptor, which gets the lowest free number, on a regular file
+pub record CanOpen (o : Entities) (id : Id) (fd : Fd) : Type 0 where
+  pub process : IsLive is_process o id
+  pub few : length (fds_at o id) < MOST_DESCRIPTORS
+  pub number : fd.number ≡ lowest_free (fds_at o id)
+  pub file : IsLive is_regular o fd.file
+
+-- a process that has a descriptor of the number
+pub record CanClose (o : Entities) (id : Id) (n : ℕ) : Type 0 where
+  pub process : IsLive is_process o id
+  pub is_open : IsSome (fd_in (fds_at o id) n)
 
 -- a name that is free: of an entry in its directory, which lives, or of a process, a pipe or a socket
 abbrev pub IsFree : Entities → EntityData → List ℕ → Type 0
@@ -38,8 +53,12 @@ Suits s (Deliver id text) = IsLiveWhere FitsMessage (live_at s.objects id)
 Suits s (Empty id) = IsLive is_pipe s.objects id
 Suits s (Receive id) = IsLiveWhere HasMessage (live_at s.objects id)
 Suits s (SetMode id mode) = IsLive is_vnode s.objects id
+Suits s (Open id fd) = CanOpen s.objects id fd
+Suits s (Close id n) = CanClose s.objects id n
 Suits s (Unlink id) = IsRemovable s.objects id
 Suits s (Relabel id request) = IsSome (live_at s.objects id)
 Suits s (Load m) = load_fault s.booted s.specs s.numbers m ≡ None
 Suits s (Unload m) = unload_fault s.specs m ≡ None
-Suits s other = Unit {0}
+Suits s Unchanged = Unit {0}
+Suits s (End id) = Unit {0}
+Suits s (Set m change) = Unit {0}

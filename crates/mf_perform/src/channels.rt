@@ -2,13 +2,12 @@
 ghost use Rattle.std.specs.Prelude.{◌≡◌, ◌<◌, ◌≤◌, OnOk, OnErr, IsOk, false, length};
 ghost use Rattle.mf_names.specs.declared.limits.TheConstants.{SCRIPT_LIMIT};
 ghost use Rattle.mf_objects.specs.declared.limits.TheConstants.{ID_LIMIT};
-ghost use Rattle.mf_objects.specs.Changes as change;
 ghost use Rattle.mf_objects.specs.declared.id.Id.{Id};
 ghost use Rattle.mf_objects.specs.Live.{is_process};
 ghost use Rattle.mf_objects.specs.Lives.{IsLive};
 ghost use Rattle.mf_plan.specs.Effect.Effect.{Append, Deliver, Empty, Make, Receive};
 ghost use Rattle.mf_perform.specs.Effect.{after, takes_memory};
-ghost use Rattle.mf_perform.specs.Found.{where_found};
+ghost use Rattle.mf_perform.specs.Found.{new_channel, where_found};
 ghost use Rattle.mf_perform.specs.Suits.{Suits};
 
 use crate::processes::label_from;
@@ -17,41 +16,38 @@ use mf_objects::Id;
 use mf_plan::State;
 use std::alloc::{AllocError, Global};
 
-/// Makes a pipe. If memory runs out, the state is unchanged.
-pub(crate) fn pipe(
-    alloc: Global,
-    state: &mut State,
-    caller: Id,
-    name: &str,
-) -> Result<(), AllocError>
-    requires caller { IsLive is_process state.old.objects caller }
-    requires room { Suits state.old (Make name.now (change.new_pipe caller)) }
-    requires next { state.old.objects.next < ID_LIMIT }
-    ensures ok { OnOk result (state.new
-        ≡ after state.old caller (Make name.now (change.new_pipe caller))) }
-    ensures err { OnErr result (state.new ≡ state.old) }
-{
-    let label = label_from(state, caller, Kind::Pipe);
-    state.objects.add_pipe(alloc, name, caller, &label)?;
-    Ok(())
+/// What carries bytes between processes.
+#[derive(Clone, Copy)]
+pub(crate) enum Channel {
+    Pipe,
+    Socket,
 }
 
-/// Makes a socket. If memory runs out, the state is unchanged.
-pub(crate) fn socket(
+/// Makes a pipe or a socket. If memory runs out, the state is unchanged.
+pub(crate) fn make_channel(
     alloc: Global,
     state: &mut State,
     caller: Id,
+    channel: Channel,
     name: &str,
 ) -> Result<(), AllocError>
     requires caller { IsLive is_process state.old.objects caller }
-    requires room { Suits state.old (Make name.now (change.new_socket caller)) }
+    requires room { Suits state.old (Make name.now (new_channel channel caller)) }
     requires next { state.old.objects.next < ID_LIMIT }
     ensures ok { OnOk result (state.new
-        ≡ after state.old caller (Make name.now (change.new_socket caller))) }
+        ≡ after state.old caller (Make name.now (new_channel channel caller))) }
     ensures err { OnErr result (state.new ≡ state.old) }
 {
-    let label = label_from(state, caller, Kind::Socket);
-    state.objects.add_socket(alloc, name, caller, &label)?;
+    match channel {
+        Channel::Pipe => {
+            let label = label_from(state, caller, Kind::Pipe);
+            state.objects.add_pipe(alloc, name, caller, &label)?;
+        }
+        Channel::Socket => {
+            let label = label_from(state, caller, Kind::Socket);
+            state.objects.add_socket(alloc, name, caller, &label)?;
+        }
+    }
     Ok(())
 }
 
@@ -65,7 +61,8 @@ pub(crate) fn pread(state: &mut State, pipe: Option<Id>)
     }
 }
 
-/// Puts the bytes at the end of what the file or pipe holds. If memory runs out, the state is unchanged.
+/// Puts the bytes at the end of what the file or pipe holds. If memory runs out, the state is
+/// unchanged.
 pub(crate) fn append(state: &mut State, target: Option<Id>, text: &[u8]) -> Result<(), AllocError>
     requires { Suits state.old (where_found (λ id. Append id text.now) target) }
     ensures ok { OnOk result ((me : Id)

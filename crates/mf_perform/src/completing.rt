@@ -11,6 +11,7 @@ ghost use Rattle.mf_perform.specs.Held.{lomac_value, with_lomac_value};
 ghost use Rattle.mf_perform.specs.OneCall.{call_reply, call_state, observed, performed};
 ghost use Rattle.mf_perform.specs.Refused.{is_ok};
 
+use crate::descriptors::opening_of;
 use crate::lowering::{lower, put, value_of};
 use crate::performing::perform;
 use mf_calls::Line;
@@ -19,9 +20,9 @@ use mf_objects::Id;
 use mf_plan::{Found, Reply, State};
 use std::alloc::{AllocError, Global};
 
-/// What the call of a line of the task makes of the state by its reply, which must be that to the call in this state: its checks that passed
-/// lower the caller, where mac_lomac is listed, whatever the reply; and where that is Ok, the call is done. If memory runs out, the state is
-/// unchanged.
+/// What the call of a line of the task makes of the state by its reply, which must be that to the
+/// call in this state: its checks that passed lower the caller, where mac_lomac is listed, whatever
+/// the reply; and where that is Ok, the call is done. If memory runs out, the state is unchanged.
 pub fn complete(
     alloc: Global,
     state: &mut State,
@@ -48,46 +49,18 @@ pub fn complete(
         ≡ false → IsOk result }
 {
     match reply {
-        Reply::Ok(_) => lower_and_perform(alloc, state, task, line, found, reply),
-        Reply::Denied { .. } | Reply::Refused(_) => {
+        Reply::Ok(_) => {
+            // Counting the entities shows the proof that what was found among them lives.
+            let _live = state.objects.live();
+            let before = held(state, found.caller);
+            let opening = opening_of(state, found, &line.call);
             lower(state, task, line, reply);
-            Ok(())
+            if let Err(error) = perform(alloc, state, task, line, found, &opening) {
+                put_back(state, found.caller, before);
+                return Err(error);
+            }
         }
-    }
-}
-
-/// Lowers the caller, and does the call in the state after that.
-fn lower_and_perform(
-    alloc: Global,
-    state: &mut State,
-    task: &str,
-    line: &Line,
-    found: &Found,
-    reply: &Reply,
-) -> Result<(), AllocError>
-    requires task { IsName task.now }
-    requires line { IsFormedLine line.now }
-    requires entry { is_change line.now.call ≡ false }
-    requires reply { reply.now ≡ call_reply state.old task.now line.now.child line.now.call }
-    requires done { is_ok reply.now ≡ true }
-    requires found { AreFound state.old task.now line.now.child line.now.call found.now }
-    requires next { state.old.objects.next < ID_LIMIT }
-    ensures ok { OnOk result (state.new
-        ≡ performed state.old task.now line.now.child line.now.call) }
-    ensures err { OnErr result (state.new ≡ state.old) }
-    ensures ids { state.new.objects.next ≤ state.old.objects.next + 1 }
-    ensures rises { state.old.objects.next ≤ state.new.objects.next }
-    ensures booted { state.new.booted ≡ state.old.booted }
-    ensures effect { takes_memory (call_row state.old task.now line.now.child line.now.call).effect
-        ≡ false → IsOk result }
-{
-    // Counting the entities shows the proof that what was found among them lives.
-    let _live = state.objects.live();
-    let before = held(state, found.caller);
-    lower(state, task, line, reply);
-    if let Err(error) = perform(alloc, state, task, line, found) {
-        put_back(state, found.caller, before);
-        return Err(error);
+        Reply::Denied { .. } | Reply::Refused(_) => lower(state, task, line, reply),
     }
     Ok(())
 }

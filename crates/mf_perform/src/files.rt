@@ -20,8 +20,8 @@ use mf_objects::Id;
 use mf_plan::State;
 use std::alloc::{AllocError, Global};
 
-/// Makes an empty file or directory under the last name of the path, which is free in the directory. If memory runs out, the
-/// state is unchanged.
+/// Makes an empty file or directory under the last name of the path, which is free in the
+/// directory. If memory runs out, the state is unchanged.
 pub(crate) fn make_file(
     alloc: Global,
     state: &mut State,

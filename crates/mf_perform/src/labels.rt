@@ -20,7 +20,8 @@ use mf_plan::{LabelPart, State};
 use mf_policy::{SpecList, labels_kind, sets_value, value_after, value_in};
 use std::alloc::AllocError;
 
-/// The parts of the label of an entity of that kind: one for each listed policy that labels the kind.
+/// The parts of the label of an entity of that kind: one for each listed policy that labels the
+/// kind.
 pub(crate) fn label_parts(
     specs: &SpecList,
     kind: Kind,
@@ -66,7 +67,8 @@ fn label_part(specs: &SpecList, label: &[LabelValue; SLOTS], module: Module) -> 
     Some(LabelPart { module, value })
 }
 
-/// The value as it is shown: an unset slot, of a policy that was loaded after the entity came, counts as no partition.
+/// The value as it is shown: an unset slot, of a policy that was loaded after the entity came,
+/// counts as no partition.
 fn shown(value: LabelValue) -> LabelValue
     ensures { result ≡ spec.shown value }
 {
@@ -76,8 +78,8 @@ fn shown(value: LabelValue) -> LabelValue
     }
 }
 
-/// Gives the entity the label that is asked for. Slots that are made first take memory; if it runs out, the state is
-/// unchanged.
+/// Gives the entity the label that is asked for. Slots that are made first take memory; if it runs
+/// out, the state is unchanged.
 pub(crate) fn relabel(
     state: &mut State,
     target: Option<Id>,
@@ -100,8 +102,8 @@ pub(crate) fn relabel(
     Ok(())
 }
 
-/// Puts down the value that the relabel sets in the entity's slot. Where it sets none, Unset stays there, so that the slot isn't
-/// written.
+/// Puts down the value that the relabel sets in the entity's slot. Where it sets none, Unset stays
+/// there, so that the slot isn't written.
 fn give(state: &State, id: Id, request: &Request, slot: u8, value: &mut LabelValue)
     requires live { IsSome (live_at state.now.objects id) }
     requires slot { slot < SLOTS }

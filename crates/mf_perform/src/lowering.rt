@@ -1,6 +1,6 @@
-//! What the checks of a call make of its caller: where mac_lomac is listed, each that passed lowers it to the element of what it observed,
-//! where that doesn't dominate its own.
-ghost use Rattle.std.specs.Prelude.{◌≡◌, ◌≢◌, ◌<◌, false, true, Option, Some, IfSome, IsSome, map, option_map};
+//! What the checks of a call make of its caller: where mac_lomac is listed, each that passed lowers
+//! it to the element of what it observed, where that doesn't dominate its own.
+ghost use Rattle.std.specs.Prelude.{◌≡◌, ◌<◌, false, true, Option, Some, IsSome, map};
 ghost use Rattle.mf_elem.specs.declared.label.TheConstants.{SLOTS};
 ghost use Rattle.mf_elem.specs.declared.label.LabelValue.TheVariants.{Unset};
 ghost use Rattle.mf_elem.specs.declared.label.Request.{Request};
@@ -12,15 +12,14 @@ ghost use Rattle.mf_policy.specs.Lowering as lowering;
 ghost use Rattle.mf_calls.specs.Tasks.{is_change};
 ghost use Rattle.mf_calls.specs.WellFormed.{IsFormedLine, IsName};
 ghost use Rattle.mf_plan.specs.Outline.{AreLive, IsLiveCheck, item_asking};
-ghost use Rattle.mf_plan.specs.Views.{object_of};
 ghost use Rattle.mf_perform.specs.OneCall.{call_reply, observed};
 ghost use Rattle.mf_perform.specs.Passed as spec;
 
 use mf_calls::Line;
 use mf_elem::{LabelValue, SLOTS};
-use mf_item::{Item, ObjectView, SubjectView};
+use mf_item::{Item, SubjectView};
 use mf_objects::{Id, Objects};
-use mf_plan::{Check, LastLabel, Reply, State, outline_of};
+use mf_plan::{Check, LastLabel, Reply, State, object_in, outline_of};
 use mf_policy::{after_check, value_in};
 
 /// The checks that passed, by the reply.
@@ -40,8 +39,9 @@ pub fn passed<'a>(reply: &Reply, checks: &'a [Check]) -> &'a [Check]
     }
 }
 
-/// Lowers the caller of a line of the task by its checks that passed, also where the call is denied later, or refused. The reply must be
-/// that to the call in this state. A change of the policies lowers nobody.
+/// Lowers the caller of a line of the task by its checks that passed, also where the call is denied
+/// later, or refused. The reply must be that to the call in this state. A change of the policies
+/// lowers nobody.
 pub(crate) fn lower(state: &mut State, task: &str, line: &Line, reply: &Reply)
     requires task { IsName task.now }
     requires line { IsFormedLine line.now }
@@ -101,7 +101,8 @@ pub(crate) fn value_of(objects: &Objects, id: Id, slot: u8) -> LabelValue
     value_in(&label, slot)
 }
 
-/// Gives a slot of the entity's label this value, which is set where the slot is. So no memory is taken.
+/// Gives a slot of the entity's label this value, which is set where the slot is. So no memory is
+/// taken.
 pub(crate) fn put(objects: &mut Objects, id: Id, slot: u8, value: LabelValue)
     requires live { IsSome (live_at objects.old id) }
     requires set { is_set value ≡ is_set (value_at objects.old id slot) }
@@ -137,23 +138,7 @@ fn after_one(objects: &Objects, slot: u8, value: LabelValue, check: &Check) -> L
 {
     // Who the subject is counts for nothing here.
     let subject = SubjectView::default();
-    let object = view_of(objects, check.object);
+    let object = object_in(objects, check.object);
     let item = Item::new(check.op, &subject, object.as_ref(), None, None);
     after_check(slot, &value, &item)
-}
-
-/// The object of a check, as policies see it.
-fn view_of(objects: &Objects, object: Option<Id>) -> Option<ObjectView>
-    requires { IfSome object (λ id. IsSome (live_at objects.now id)) }
-    ensures { result ≡ option_map (object_of objects.now) object }
-{
-    match object {
-        None => None,
-        Some(id) => Some(ObjectView {
-            id: id.number(),
-            kind: objects.kind(id),
-            file: objects.file(id),
-            label: objects.label(id),
-        }),
-    }
 }

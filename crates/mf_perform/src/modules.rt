@@ -1,4 +1,5 @@
-//! What changes of the policies, by loads, unloads and settings, make of the listed specs and of the state.
+//! What changes of the policies, by loads, unloads and settings, make of the listed specs and of
+//! the state.
 ghost use Rattle.std.specs.Prelude.{◌≡◌, ◌<◌, IfOk, OnOk, OnErr, IsTrue};
 ghost use Rattle.mf_elem.specs.declared.label.TheConstants.{SLOTS};
 ghost use Rattle.mf_objects.specs.declared.id.Id.{Id};
@@ -15,8 +16,9 @@ use mf_policy::{Registration, Spec, SpecList, registration_of, wants_slot};
 use mf_slots::SlotNumbers;
 use std::alloc::{AllocError, Global};
 
-/// Registers the module in its initial state, before or after the end of boot: its policy is the newest of the static or the
-/// dynamic list, and takes the next slot number where it wants one. If memory runs out, nothing changes.
+/// Registers the module in its initial state, before or after the end of boot: its policy is the
+/// newest of the static or the dynamic list, and takes the next slot number where it wants one. If
+/// memory runs out, nothing changes.
 pub fn load(
     alloc: Global,
     specs: &mut SpecList,
@@ -39,7 +41,8 @@ pub fn load(
     Ok(())
 }
 
-/// Lists a policy that is registered so, in its initial state. If memory runs out, the list is unchanged.
+/// Lists a policy that is registered so, in its initial state. If memory runs out, the list is
+/// unchanged.
 fn list_fresh(
     alloc: Global,
     specs: &mut SpecList,
@@ -62,8 +65,8 @@ fn take_slot(numbers: &mut SlotNumbers, wanted: Module)
     }
 }
 
-/// The listed specs after a change of the policies, whoever makes it. They are made beside those of the state, so that what else
-/// goes by the list can be changed before `put_listed`.
+/// The listed specs after a change of the policies, whoever makes it. They are made beside those of
+/// the state, so that what else goes by the list can be changed before `put_listed`.
 pub fn listed_after(
     alloc: Global,
     state: &State,
@@ -87,8 +90,8 @@ pub fn listed_after(
     Ok(specs)
 }
 
-/// Puts the specs that are listed after a change of the policies into the state, and takes a slot number for a module that wants
-/// one. It takes no memory.
+/// Puts the specs that are listed after a change of the policies into the state, and takes a slot
+/// number for a module that wants one. It takes no memory.
 pub fn put_listed(state: &mut State, specs: SpecList, relisting: &Relisting)
     requires suits { Suits state.old (effect_in relisting.now) }
     requires specs { (caller : Id)

@@ -2,7 +2,9 @@
 ghost use Rattle.std.specs.Option.{option_map_or};
 ghost use Rattle.std.specs.Prelude.{◌≡◌, ◌≤◌, ℕ, List, Option, IfOk, IsOk, IfSome, IsSome, Some, false, length, map};
 ghost use Rattle.mf_errno.specs.Names.{module_named};
-ghost use Rattle.mf_objects.specs.Live.{content_at, file_at, live_at};
+ghost use Rattle.mf_objects.specs.Descriptors.{fds_at, lowest_free};
+ghost use Rattle.mf_objects.specs.Live.{content_at, file_at, is_process, live_at};
+ghost use Rattle.mf_objects.specs.Lives.{IsLive};
 ghost use Rattle.mf_plan.specs.Found.{AreFound};
 ghost use Rattle.mf_plan.specs.Payloads as read;
 ghost use Rattle.mf_plan.specs.declared.reply.Payload.TheVariants as payloads;
@@ -24,8 +26,8 @@ use mf_policy::{Change, MOST_LISTED, SpecList, registration_of};
 use mf_rule::Rule;
 use std::alloc::{AllocError, Global};
 
-/// What the call, which is about what was found, hands back where it is done. Only a label, the names of a directory and
-/// a list of rules take memory.
+/// What the call, which is about what was found, hands back where it is done. Only a label, the
+/// names of a directory and a list of rules take memory.
 pub fn payload_of(
     alloc: Global,
     state: &State,
@@ -46,27 +48,31 @@ pub fn payload_of(
 {
     // Counting the entities shows the proof that the target lives.
     let _live = state.objects.live();
-    read_found(alloc, state, found.target, call)
+    read_found(alloc, state, found.caller, found.target, call)
 }
 
-/// What the call hands back, by the target that was found. The clause says of every call what the table of `payload_found` has.
+/// What the call hands back, by the caller and the target that were found. The clause says of every call what the
+/// table of `payload_found` has.
 fn read_found(
     alloc: Global,
     state: &State,
+    caller: Option<Id>,
     target: Option<Id>,
     call: &Call,
 ) -> Result<Payload, AllocError>
+    requires caller { IfSome caller (λ me. IsLive is_process state.now.objects me) }
     requires live { IfSome target (λ id. IsSome (live_at state.now.objects id)) }
     requires formed { IsFormedCall call.now }
     requires few { length state.now.specs ≤ MOST_LISTED }
     ensures value { IfOk result (λ payload. payload
-        ≡ spec.payload_found state.now call.now target) }
-    ensures memory { payload_takes_memory (spec.payload_found state.now call.now target) ≡ false
-        → IsOk result }
+        ≡ spec.payload_found state.now caller call.now target) }
+    ensures memory { payload_takes_memory (spec.payload_found state.now caller call.now target)
+        ≡ false → IsOk result }
 {
     let objects = &state.objects;
     match call {
-        Call::Read(_) | Call::Pread(_) => Ok(head(objects, target)),
+        Call::Read(_) | Call::Fread(_) | Call::Pread(_) => Ok(head(objects, target)),
+        Call::OpenFd(..) => Ok(next_number(objects, caller)),
         Call::Stat(_) => Ok(stat(objects, target)),
         Call::Getpmac | Call::Getfmac(_) => label(alloc, state, target),
         Call::Readdir(_) => names(alloc, objects, target),
@@ -76,7 +82,34 @@ fn read_found(
         Call::Kldload(name) => Ok(slot(state, name.as_str())),
         Call::UgidfwList => rules(alloc, &state.specs),
         Call::UgidfwAdd(rule) => Ok(added(&state.specs, *rule)),
-        _ => Ok(Payload::None),
+        Call::Fork(_)
+        | Call::Exit
+        | Call::See(_)
+        | Call::Signal(_)
+        | Call::Debug(_)
+        | Call::Sched(_)
+        | Call::Priv(_)
+        | Call::Setpmac(_)
+        | Call::Exec(_)
+        | Call::Create(_)
+        | Call::Mkdir(_)
+        | Call::Write(..)
+        | Call::Setfmac(..)
+        | Call::Chmod(..)
+        | Call::Unlink(_)
+        | Call::Fwrite(..)
+        | Call::Close(_)
+        | Call::Pipe(_)
+        | Call::Socket(_)
+        | Call::Pwrite(..)
+        | Call::Setpipemac(..)
+        | Call::Send(..)
+        | Call::Seesock(_)
+        | Call::Setsockmac(..)
+        | Call::Kldunload(_)
+        | Call::Sysctl(..)
+        | Call::UgidfwSet(..)
+        | Call::UgidfwRemove(_) => Ok(Payload::None),
     }
 }
 
@@ -134,6 +167,18 @@ fn label(alloc: Global, state: &State, found: Option<Id>) -> Result<Payload, All
             Payload::label(alloc, parts.as_slice())
         }
         None => Ok(Payload::None),
+    }
+}
+
+/// The number that the next descriptor of the process gets.
+fn next_number(objects: &Objects, caller: Option<Id>) -> Payload
+    requires { IfSome caller (λ me. IsLive is_process objects.now me) }
+    ensures { result ≡ spec.payload_of_found
+        (λ me. payloads.Fd (lowest_free (fds_at objects.now me))) caller }
+{
+    match caller {
+        Some(me) => Payload::Fd(objects.lowest_free(me)),
+        None => Payload::None,
     }
 }
 

@@ -9,101 +9,103 @@ ghost use Rattle.mf_perform.specs.Effect.{after, takes_memory};
 ghost use Rattle.mf_perform.specs.Found.{after_found, effect_found, effect_of};
 ghost use Rattle.mf_perform.specs.Suits.{Suits};
 
-use crate::channels::{append, deliver, pipe, pread, recv, socket};
+use crate::channels::{Channel, append, deliver, make_channel, pread, recv};
+use crate::descriptors::{Opening, close, open};
 use crate::files::{chmod, make_file, unlink};
 use crate::labels::relabel;
 use crate::processes::{exit, fork};
 use mf_calls::{Call, DIRECTORY_MODE, FILE_MODE, Line};
-use mf_elem::Request;
 use mf_objects::Id;
 use mf_plan::{Found, State};
 use std::alloc::{AllocError, Global};
 
-/// Does the call of a line of the task, by what was found of it in the state before its checks. They have lowered its caller by now, and
-/// nothing else has changed since. It mustn't be a change of the policies, which is made by `listed_after` and `put_listed`. If memory
-/// runs out, the state is unchanged.
+/// Does the call of a line of the task, by what was found of it in the state before its checks, and
+/// by what mac_biba had there in the labels. The checks have lowered its caller by now, and nothing
+/// else has changed since. It mustn't be a change of the policies, which is made by `listed_after`
+/// and `put_listed`. If memory runs out, the state is unchanged.
 pub(crate) fn perform(
     alloc: Global,
     state: &mut State,
     task: &str,
     line: &Line,
     found: &Found,
+    opening: &Opening,
 ) -> Result<(), AllocError>
     requires task { IsName task.now }
     requires line { IsFormedLine line.now }
     requires entry { is_change line.now.call ≡ false }
     requires caller { IfSome found.now.caller (λ me. IsLive is_process state.old.objects me) }
     requires suits { IfSome found.now.caller (λ me. Suits state.old
-        (effect_found state.old task.now me line.now.call found.now.target found.now.request)) }
+        (effect_found state.old task.now me opening.now line.now.call
+        found.now.target found.now.request)) }
     requires next { state.old.objects.next < ID_LIMIT }
     ensures ok { OnOk result (state.new
-        ≡ after_found state.old task.now line.now.call found.now) }
+        ≡ after_found state.old task.now opening.now line.now.call found.now) }
     ensures err { OnErr result (state.new ≡ state.old) }
     ensures next { state.new.objects.next ≤ state.old.objects.next + 1 }
     ensures rises { state.old.objects.next ≤ state.new.objects.next }
     ensures kept { state.new.booted ≡ state.old.booted }
-    ensures memory { takes_memory (effect_of state.old task.now line.now.call found.now)
+    ensures memory { takes_memory (effect_of state.old task.now opening.now line.now.call found.now)
         ≡ false → IsOk result }
 {
     match found.caller {
-        Some(caller) => {
-            let target = found.target;
-            perform_by(
-                alloc,
-                state,
-                task,
-                caller,
-                target,
-                &found.request,
-                &line.call,
-            )
-        }
+        Some(caller) => perform_by(alloc, state, task, caller, found, opening, &line.call),
         None => Ok(()),
     }
 }
 
-/// Does the call of a live process of the task, by the target and the request that were found. The clause says of every call what the
-/// table of `effect_found` has: the other calls change nothing.
+/// Does the call of a live process of the task, by the target and the request that were found. The
+/// clause says of every call what the table of `effect_found` has.
 fn perform_by(
     alloc: Global,
     state: &mut State,
     task: &str,
     caller: Id,
-    target: Option<Id>,
-    asked: &Option<Request>,
+    found: &Found,
+    opening: &Opening,
     call: &Call,
 ) -> Result<(), AllocError>
     requires task { IsName task.now }
     requires formed { IsFormedCall call.now }
     requires entry { is_change call.now ≡ false }
     requires caller { IsLive is_process state.old.objects caller }
-    requires suits { Suits state.old
-        (effect_found state.old task.now caller call.now target asked.now) }
+    requires suits { Suits state.old (effect_found state.old task.now caller opening.now call.now
+        found.now.target found.now.request) }
     requires next { state.old.objects.next < ID_LIMIT }
-    ensures ok { OnOk result (state.new ≡ after state.old caller
-        (effect_found state.old task.now caller call.now target asked.now)) }
+    ensures ok { OnOk result (state.new ≡ after state.old caller (effect_found state.old task.now
+        caller opening.now call.now found.now.target found.now.request)) }
     ensures err { OnErr result (state.new ≡ state.old) }
-    ensures memory { takes_memory (effect_found state.old task.now caller call.now target asked.now)
-        ≡ false → IsOk result }
+    ensures memory { takes_memory (effect_found state.old task.now caller opening.now call.now
+        found.now.target found.now.request) ≡ false → IsOk result }
 {
+    let target = found.target;
     match call {
         Call::Fork(child) => fork(alloc, state, task, caller, child.as_str())?,
         Call::Exit => exit(state, caller),
         Call::Setpmac(_) | Call::Setfmac(..) | Call::Setpipemac(..) | Call::Setsockmac(..) => {
-            relabel(state, target, asked)?
+            relabel(state, target, &found.request)?
         }
         Call::Create(path) => make_file(alloc, state, caller, target, path, FILE_MODE, false)?,
         Call::Mkdir(path) => make_file(alloc, state, caller, target, path, DIRECTORY_MODE, true)?,
         Call::Write(_, text) => append(state, target, text.as_slice())?,
         Call::Chmod(_, mode) => chmod(state, target, *mode),
         Call::Unlink(_) => unlink(state, target),
-        Call::Pipe(name) => pipe(alloc, state, caller, name.as_str())?,
-        Call::Socket(name) => socket(alloc, state, caller, name.as_str())?,
+        Call::OpenFd(_, read, write) => open(state, caller, target, *read, *write, opening),
+        Call::Fwrite(_, text) => append(state, target, text.as_slice())?,
+        Call::Close(number) => close(state, caller, *number),
+        Call::Pipe(name) => make_channel(alloc, state, caller, Channel::Pipe, name.as_str())?,
+        Call::Socket(name) => make_channel(alloc, state, caller, Channel::Socket, name.as_str())?,
         Call::Pread(_) => pread(state, target),
         Call::Pwrite(_, text) => append(state, target, text.as_slice())?,
         Call::Send(_, _, text) => deliver(alloc, state, target, text.as_slice())?,
         Call::Recv(_) => recv(state, target),
-        _ => {}
+        Call::See(_) | Call::Signal(_) | Call::Debug(_) | Call::Sched(_) | Call::Priv(_) => {}
+        Call::Getpmac | Call::Exec(_) | Call::Read(_) | Call::Fread(_) | Call::Stat(_) => {}
+        Call::Getfmac(_) | Call::Readdir(_) | Call::Pstat(_) | Call::Seesock(_) => {}
+        Call::Kldstat | Call::UgidfwList => {}
+        // Changes of the policies aren't made here.
+        Call::Kldload(_) | Call::Kldunload(_) | Call::Sysctl(..) => {}
+        Call::UgidfwAdd(_) | Call::UgidfwSet(..) | Call::UgidfwRemove(_) => {}
     }
     Ok(())
 }

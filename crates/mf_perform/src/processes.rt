@@ -28,7 +28,8 @@ pub(crate) fn label_from(state: &State, maker: Id, kind: Kind) -> [LabelValue; S
     new_label(&state.specs, kind, &origin)
 }
 
-/// Makes the task's child of that name, with the caller's credential. If memory runs out, the state is unchanged.
+/// Makes the task's child of that name, with the caller's credential. If memory runs out, the state
+/// is unchanged.
 pub(crate) fn fork(
     alloc: Global,
     state: &mut State,

@@ -11,8 +11,8 @@ use mf_errno::Module;
 use mf_plan::{State, asked_change};
 use mf_policy::Change;
 
-/// What a call changes of the policies: a module is registered, is taken off the list, or has another setting. Dynamic list, catalogue
-/// and state follow it one after another.
+/// What a call changes of the policies: a module is registered, is taken off the list, or has
+/// another setting. Dynamic list, catalogue and state follow it one after another.
 #[derive(Clone, Copy)]
 pub enum Relisting {
     Load(Module),
@@ -20,7 +20,8 @@ pub enum Relisting {
     Set(Module, Change),
 }
 
-/// What the call changes of the policies, where it may be done: then that is the effect of its row, whoever makes it.
+/// What the call changes of the policies, where it may be done: then that is the effect of its row,
+/// whoever makes it.
 pub fn relisting_of(_state: &State, call: &Call) -> Option<Relisting>
     requires formed { IsFormedCall call.now }
     ensures tells { spec.Tells _state.now call.now result }
@@ -29,8 +30,8 @@ pub fn relisting_of(_state: &State, call: &Call) -> Option<Relisting>
     told_by(call)
 }
 
-/// The change that the words of the call ask for. The clause says of every call what its place says, so a call that is new and changes
-/// the policies is refused here until it has its line.
+/// The change that the words of the call ask for. The clause says of every call what its place
+/// says, so a call that is new and changes the policies is refused here until it has its line.
 fn told_by(call: &Call) -> Option<Relisting>
     requires formed { IsFormedCall call.now }
     ensures value { (state : State) → (task : List ℕ) → (me : Id)
@@ -50,6 +51,41 @@ fn told_by(call: &Call) -> Option<Relisting>
             let (module, change) = asked_change(call)?;
             Some(Relisting::Set(module, change))
         }
-        _ => None,
+        Call::Fork(_)
+        | Call::Exit
+        | Call::See(_)
+        | Call::Signal(_)
+        | Call::Debug(_)
+        | Call::Sched(_)
+        | Call::Priv(_)
+        | Call::Getpmac
+        | Call::Setpmac(_)
+        | Call::Exec(_)
+        | Call::Create(_)
+        | Call::Mkdir(_)
+        | Call::Read(_)
+        | Call::Write(..)
+        | Call::Stat(_)
+        | Call::Getfmac(_)
+        | Call::Setfmac(..)
+        | Call::Readdir(_)
+        | Call::Chmod(..)
+        | Call::Unlink(_)
+        | Call::OpenFd(..)
+        | Call::Fread(_)
+        | Call::Fwrite(..)
+        | Call::Close(_)
+        | Call::Pipe(_)
+        | Call::Socket(_)
+        | Call::Pread(_)
+        | Call::Pwrite(..)
+        | Call::Pstat(_)
+        | Call::Setpipemac(..)
+        | Call::Send(..)
+        | Call::Recv(_)
+        | Call::Seesock(_)
+        | Call::Setsockmac(..)
+        | Call::Kldstat
+        | Call::UgidfwList => None,
     }
 }

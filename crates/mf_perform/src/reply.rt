@@ -8,8 +8,8 @@ use crate::verdict::{Denial, Verdict};
 use mf_item::CheckOp;
 use mf_plan::{Plan, Reply, Tail};
 
-/// The reply to a call that isn't done, by its plan and the policies' verdict: the denial, or else the framework's own
-/// refusal. None where the call is to be done.
+/// The reply to a call that isn't done, by its plan and the policies' verdict: the denial, or else
+/// the framework's own refusal. None where the call is to be done.
 pub fn refusal_of(plan: &Plan, verdict: &Verdict) -> Option<Reply>
     ensures reply { (payload : Payload)
         → spec.reply_to plan.now verdict.now.denied payload ≡ refused_or result payload }

@@ -7,8 +7,8 @@ use mf_list::Listed;
 use mf_plan::Plan;
 use mf_policy::Policy;
 
-/// A denial: the number of the denied check, from 1, the errno, and the policy that decided it. No policy decides a
-/// check of a privilege.
+/// A denial: the number of the denied check, from 1, the errno, and the policy that decided it. No
+/// policy decides a check of a privilege.
 #[derive(Clone, Copy)]
 pub struct Denial {
     pub item: u8,
