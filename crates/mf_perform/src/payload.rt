@@ -51,8 +51,8 @@ pub fn payload_of(
     read_found(alloc, state, found.caller, found.target, call)
 }
 
-/// What the call hands back, by the caller and the target that were found. The clause says of every call what the
-/// table of `payload_found` has.
+/// What the call hands back, by the caller and the target that were found. The clause says of every
+/// call what the table of `payload_found` has.
 fn read_found(
     alloc: Global,
     state: &State,
