@@ -1,8 +1,10 @@
 //! Faults of scripts: the smallest script of each, which of two faults counts, limits, and scripts that end too early.
 //! A fault is told as the program tells it: its line, number and name, with the errno where a module can't be booted.
 
+mod tunable;
 mod words;
 
+use crate::reading::wants;
 use mf_names::SCRIPT_LIMIT;
 use mf_script::{ScriptError, read_script};
 use std::alloc::{AllocError, Global};
@@ -135,7 +137,7 @@ fn text_of(alloc: Global, error: &Option<ScriptError>) -> Result<String, AllocEr
 /// The script has this fault.
 fn is_faulty(rt: &impl Abort, alloc: Global, script: &str, fault: &str) -> Result<(), AllocError> {
     let found = text_of(alloc, &error_of(rt, alloc, script))?;
-    assert_eq!(rt; found.as_str(), fault, "{script}");
+    wants(rt, script, found.as_str() == fault);
     Ok(())
 }
 
@@ -330,17 +332,22 @@ fn fault_of_cut(alloc: Global, lines: usize) -> Result<String, AllocError> {
     }
 }
 
+/// The script of so many lines has the fault of this script where it is cut after them.
+fn is_cut(rt: &impl Abort, alloc: Global, script: &str, lines: usize) -> Result<(), AllocError> {
+    let fault = fault_of_cut(alloc, lines)?;
+    is_faulty(rt, alloc, script, fault.as_str())
+}
+
 #[test]
 fn a_machine_is_cut_after_each_line(rt: HostRuntime) -> Result<(), AllocError> {
     let mut cut = String::new(rt.alloc());
     let mut lines: usize = 0;
     for line in MACHINE {
         lines = lines.saturating_add(1);
-        let fault = fault_of_cut(rt.alloc(), lines)?;
         cut.push_str(line)?;
-        is_faulty(&rt, rt.alloc(), cut.as_str(), fault.as_str())?;
+        is_cut(&rt, rt.alloc(), cut.as_str(), lines)?;
         cut.push_str("\n")?;
-        is_faulty(&rt, rt.alloc(), cut.as_str(), fault.as_str())?;
+        is_cut(&rt, rt.alloc(), cut.as_str(), lines)?;
     }
     Ok(())
 }

@@ -1,7 +1,9 @@
 //! Canonical texts, and scripts that are printed and read back.
 
-use crate::reading::{CALLS, GOOD_SCRIPTS, script_of};
-use mf_calls::Script;
+ghost use Rattle.std.specs.Prelude.{◌≤◌};
+
+use crate::reading::{CALLS, GOOD_SCRIPTS, script_of, wants};
+use mf_calls::{LINE_LIMIT, Script, TASK_LIMIT};
 use mf_script::{ScriptError, generate};
 use mf_spelling::print_script;
 use std::alloc::{AllocError, Global};
@@ -52,9 +54,21 @@ const CANONICAL: &[(&str, &str)] = &[
         "task t uid 0 gid 0 label -\nend\nsteps\n\n change\tt\n end \n",
         "task t uid 0 gid 0 label -\nend\nsteps\nchange t\nend\n",
     ),
+    (
+        "boot mac_biba\ntunable security.mac.biba.revocation_enabled=0\n",
+        "boot mac_biba\n",
+    ),
+    (
+        "boot mac_mls\nboot mac_biba\n tunable\tsecurity.mac.biba.revocation_enabled=1\nfile /a dir uid 0 gid 0 mode 0 label -",
+        "boot mac_mls\nboot mac_biba\ntunable security.mac.biba.revocation_enabled=1\nfile /a dir uid 0 gid 0 mode 0 label -\n",
+    ),
+    (
+        "task t uid 0 gid 0 label -\nopen / rw\nfread 007\nfwrite 00 \\41\n@c close 015\nend",
+        "task t uid 0 gid 0 label -\nopen / rw\nfread 7\nfwrite 0 A\n@c close 15\nend\n",
+    ),
 ];
 
-fn text_of(alloc: Global, script: &Script) -> Result<String, AllocError> {
+fn text_of(alloc: Global, script: &Script) -> Result<String, ScriptError> {
     let mut text = String::new(alloc);
     print_script(alloc, script, &mut text)?;
     Ok(text)
@@ -63,15 +77,20 @@ fn text_of(alloc: Global, script: &Script) -> Result<String, AllocError> {
 /// The canonical text of the script of a short text.
 fn canonical(rt: &impl Abort, alloc: Global, text: &str) -> Result<String, ScriptError> {
     let script = script_of(rt, alloc, text)?;
-    let text = text_of(alloc, &script)?;
-    Ok(text)
+    text_of(alloc, &script)
+}
+
+/// The script has this canonical text.
+fn is_printed(rt: &impl Abort, alloc: Global, script: &str, text: &str) -> Result<(), ScriptError> {
+    let found = canonical(rt, alloc, script)?;
+    wants(rt, script, found.as_str() == text);
+    Ok(())
 }
 
 #[test]
 fn canonical_texts(rt: HostRuntime) -> Result<(), ScriptError> {
-    for (text, wanted) in CANONICAL {
-        let found = canonical(&rt, rt.alloc(), text)?;
-        assert!(rt; found.as_str() == *wanted, "{text}");
+    for (script, text) in CANONICAL {
+        is_printed(&rt, rt.alloc(), script, text)?;
     }
     Ok(())
 }
@@ -79,9 +98,7 @@ fn canonical_texts(rt: HostRuntime) -> Result<(), ScriptError> {
 /// The call's line is its canonical text.
 fn prints_call(rt: &impl Abort, alloc: Global, call: &str) -> Result<(), ScriptError> {
     let text = format!(in alloc; "task t uid 0 gid 0 label -\n{call}\n@c {call}\nend\n")?;
-    let found = canonical(rt, alloc, text.as_str())?;
-    assert!(rt; found.as_str() == text.as_str(), "{call}");
-    Ok(())
+    is_printed(rt, alloc, text.as_str(), text.as_str())
 }
 
 #[test]
@@ -92,28 +109,34 @@ fn every_call_is_printed(rt: HostRuntime) -> Result<(), ScriptError> {
     Ok(())
 }
 
-/// The text is that of a script whose canonical text it is.
-fn is_canonical(rt: &impl Abort, alloc: Global, text: &str) -> Result<(), ScriptError> {
-    let again = canonical(rt, alloc, text)?;
-    assert!(rt; again.as_str() == text, "{text}");
-    Ok(())
+/// The script's canonical text is that of a script whose canonical text it is.
+fn is_read_back(rt: &impl Abort, alloc: Global, script: &str) -> Result<(), ScriptError> {
+    let text = canonical(rt, alloc, script)?;
+    is_printed(rt, alloc, text.as_str(), text.as_str())
 }
 
 #[test]
 fn printed_scripts_are_read_back(rt: HostRuntime) -> Result<(), ScriptError> {
     for script in GOOD_SCRIPTS {
-        let text = canonical(&rt, rt.alloc(), script)?;
-        is_canonical(&rt, rt.alloc(), text.as_str())?;
+        is_read_back(&rt, rt.alloc(), script)?;
     }
     Ok(())
+}
+
+/// The canonical text of the script of a load.
+fn load_text(alloc: Global, lines: u32, tasks: u32) -> Result<String, ScriptError>
+    requires lines { lines ≤ LINE_LIMIT }
+    requires tasks { tasks ≤ TASK_LIMIT }
+{
+    let load = generate(alloc, lines, tasks)?;
+    text_of(alloc, &load)
 }
 
 #[test]
 fn loads_are_read_back(rt: HostRuntime) -> Result<(), ScriptError> {
     for (lines, tasks) in [(0, 0), (1, 1), (40, 16)] {
-        let load = generate(rt.alloc(), lines, tasks)?;
-        let text = text_of(rt.alloc(), &load)?;
-        is_canonical(&rt, rt.alloc(), text.as_str())?;
+        let text = load_text(rt.alloc(), lines, tasks)?;
+        is_printed(&rt, rt.alloc(), text.as_str(), text.as_str())?;
     }
     Ok(())
 }

@@ -1,9 +1,9 @@
 //! Small scripts, and what is read of them.
 
-use mf_calls::{FileLine, Line, Script};
+use mf_calls::{FileLine, Line, Script, Task};
 use mf_errno::Errno;
 use mf_names::SCRIPT_LIMIT;
-use mf_script::{Call, ScriptError, ScriptFault, StepKind, generate, read_script};
+use mf_script::{Call, ScriptError, ScriptFault, Step, StepKind, generate, read_script};
 use std::alloc::{AllocError, Global};
 use std::process::Abort;
 
@@ -29,6 +29,12 @@ pub const CALLS: &[&str] = &[
     "readdir /",
     "chmod / 1777",
     "unlink /a",
+    "open / r",
+    "open /a w",
+    "open /a/b rw",
+    "fread 0",
+    "fwrite 15 \\00\\ff",
+    "close 7",
     "pipe p",
     "socket s",
     "pread p",
@@ -68,10 +74,17 @@ pub const GOOD_SCRIPTS: &[&str] = &[
     "boot mac_biba\nboot mac_lomac\ntask t uid 0 gid 0 label lomac/low,biba/5(1-9),lomac/high\nend",
     "steps\nend",
     "boot mac_biba\nsteps\nenter t\nend\n# the end",
+    "boot mac_biba\nboot mac_mls\n#\ntunable security.mac.biba.revocation_enabled=0\n\n#\nfile /a dir uid 0 gid 0 mode 0 label -\nsteps\nend",
+    "boot mac_biba\ntunable security.mac.biba.revocation_enabled=1\ntask t uid 0 gid 0 label -\nsysctl security.mac.biba.revocation_enabled=0\nend",
     "file /a dir uid 0 gid 0 mode 0 label -\nsteps\n\n change\tt\n end \n",
     "task t uid 0 gid 0 label -\nend\nsteps\nenter t\nplan t\ndone t\nleave u\nend",
     "file /a dir uid 0 gid 0 mode 7777 label -\nfile /a/b dir uid 0 gid 0 mode 0 label -\nfile /a/b/c reg uid 0 gid 0 mode 0 label - text x",
 ];
+
+/// Wants what is said of this to hold.
+pub fn wants(rt: &impl Abort, name: &str, holds: bool) {
+    assert!(rt; holds, "{name}");
+}
 
 /// Reads a short script.
 pub fn script_of(rt: &impl Abort, alloc: Global, text: &str) -> Result<Script, ScriptError> {
@@ -90,68 +103,100 @@ task www uid 80 gid 007,5,7 label biba/low
 @c\twrite /... \\41b
 \tend";
 
-fn has_the_mail(rt: &impl Abort, files: &[FileLine]) {
-    assert!(rt; files.len() == 2);
-    assert!(rt; files[0].file.dir);
-    assert!(rt; files[1].path.depth() == 2);
-    assert!(rt; files[1].file.mode == 0o644);
-    assert!(rt; files[1].text.as_slice() == b"a\n#".as_slice());
+/// Each mode in which a file is opened, with the tunable on.
+const MODES: &str = "boot mac_biba
+tunable security.mac.biba.revocation_enabled=1
+task t uid 0 gid 0 label -
+open /f r
+open /f w
+open /f rw
+fwrite 15 x\\20
+end
+";
+
+fn is_the_mail(files: &[FileLine]) -> bool {
+    let [directory, mail] = files else {
+        return false;
+    };
+    let is_inside = directory.file.dir && mail.path.depth() == 2;
+    is_inside && mail.file.mode == 0o644 && mail.text.as_slice() == b"a\n#".as_slice()
 }
 
-fn reads_and_writes(rt: &impl Abort, lines: &[Line]) {
-    assert!(rt; lines.len() == 2);
-    assert!(rt; lines[0].child.is_none());
-    assert!(rt; lines[1].child_name() == Some("c"));
-    match &lines[1].call {
-        Call::Write(_, text) => assert!(rt; text.as_slice() == b"Ab".as_slice()),
-        _ => panic!(rt; "the second line writes"),
-    }
+fn reads_and_writes(lines: &[Line]) -> bool {
+    let [reads, writes] = lines else {
+        return false;
+    };
+    let is_text = match &writes.call {
+        Call::Write(_, text) => text.as_slice() == b"Ab".as_slice(),
+        _ => false,
+    };
+    is_text && reads.child.is_none() && writes.child_name() == Some("c")
+}
+
+fn is_www(tasks: &[Task]) -> bool {
+    let [www] = tasks else {
+        return false;
+    };
+    let is_named = www.name.as_str() == "www";
+    let has_groups = www.cred.groups.as_slice() == [7, 5, 7].as_slice();
+    is_named && has_groups && reads_and_writes(www.lines.as_slice())
 }
 
 #[test]
 fn reads_what_the_lines_say(rt: HostRuntime) -> Result<(), ScriptError> {
     let script = script_of(&rt, rt.alloc(), MAIL)?;
-    has_the_mail(&rt, script.files.as_slice());
-    let tasks = script.tasks.as_slice();
-    assert!(rt; tasks.len() == 1);
-    assert!(rt; tasks[0].name.as_str() == "www");
-    assert!(rt; tasks[0].cred.groups.as_slice() == [7, 5, 7].as_slice());
-    reads_and_writes(&rt, tasks[0].lines.as_slice());
+    wants(&rt, "files", is_the_mail(script.files.as_slice()));
+    wants(&rt, "tasks", is_www(script.tasks.as_slice()));
+    wants(&rt, "no tunable", !script.revocation);
     Ok(())
+}
+
+/// The two steps begin an entry of a, and plan a call of b.
+fn enters_and_plans(steps: &[Step]) -> bool {
+    let [enters, plans] = steps else {
+        return false;
+    };
+    let kinds = enters.kind == StepKind::Enter && plans.kind == StepKind::Plan;
+    kinds && plans.task.as_str() == "b"
 }
 
 #[test]
 fn reads_the_steps(rt: HostRuntime) -> Result<(), ScriptError> {
     let script = script_of(&rt, rt.alloc(), "steps\nenter a\nplan b\nend")?;
-    let steps = script.steps.as_slice();
-    assert!(rt; steps.len() == 2);
-    assert!(rt; steps[0].kind == StepKind::Enter && steps[1].kind == StepKind::Plan);
-    assert!(rt; steps[1].task.as_str() == "b");
+    wants(&rt, "steps", enters_and_plans(script.steps.as_slice()));
     Ok(())
 }
 
 #[test]
 fn finds_the_fault_of_a_line(rt: HostRuntime) {
-    let found = script_of(&rt, rt.alloc(), "\n# a fault\nboot mac_foo");
-    assert_eq!(rt;
-        found.err(),
-        Some(ScriptError::Fault {
-            line: 3,
-            fault: ScriptFault::BootRefused,
-            errno: Some(Errno::Enoent),
-        })
+    let found = script_of(&rt, rt.alloc(), "\n# a fault\nboot mac_foo").err();
+    let fault = ScriptFault::BootRefused;
+    let wanted = ScriptError::Fault {
+        line: 3,
+        fault,
+        errno: Some(Errno::Enoent),
+    };
+    wants(&rt, "a fault", found == Some(wanted));
+    wants(
+        &rt,
+        "its name",
+        fault.number() == 12 && fault.name() == "BootRefused",
     );
-    assert!(rt; ScriptFault::BootRefused.number() == 12);
-    assert!(rt; ScriptFault::BootRefused.name() == "BootRefused");
+}
+
+/// The lines of the only task.
+fn only_lines(script: &Script) -> &[Line] {
+    match script.tasks.as_slice() {
+        [task] => task.lines.as_slice(),
+        _ => &[],
+    }
 }
 
 /// The call may be one of the task's and one of its child's.
 fn reads_call(rt: &impl Abort, alloc: Global, call: &str) -> Result<(), ScriptError> {
     let text = format!(in alloc; "task t uid 0 gid 0 label -\n{call}\n@c {call}\nend")?;
     let script = script_of(rt, alloc, text.as_str())?;
-    let tasks = script.tasks.as_slice();
-    assert!(rt; tasks.len() == 1, "{call}");
-    assert!(rt; tasks[0].lines.len() == 2, "{call}");
+    wants(rt, call, only_lines(&script).len() == 2);
     Ok(())
 }
 
@@ -163,13 +208,19 @@ fn reads_every_call(rt: HostRuntime) -> Result<(), ScriptError> {
     Ok(())
 }
 
-/// The line gives this setting this value.
-fn sets(rt: &impl Abort, line: &Line, setting: &str, wanted: &str) {
+/// Whether the line gives this setting this value.
+fn sets(line: &Line, setting: &str, wanted: &str) -> bool {
     match &line.call {
-        Call::Sysctl(name, value) => {
-            assert!(rt; name.as_str() == setting && value.as_str() == wanted);
-        }
-        _ => panic!(rt; "each line is a setting"),
+        Call::Sysctl(name, value) => name.as_str() == setting && value.as_str() == wanted,
+        _ => false,
+    }
+}
+
+/// Whether two lines give these settings these values.
+fn set_two(lines: &[Line], first: (&str, &str), second: (&str, &str)) -> bool {
+    match lines {
+        [one, other] => sets(one, first.0, first.1) && sets(other, second.0, second.1),
+        _ => false,
     }
 }
 
@@ -177,26 +228,52 @@ fn sets(rt: &impl Abort, line: &Line, setting: &str, wanted: &str) {
 fn a_setting_is_parted_at_its_first_equals_sign(rt: HostRuntime) -> Result<(), ScriptError> {
     let text = "task t uid 0 gid 0 label -\nsysctl a=b=c\nsysctl =\nend";
     let script = script_of(&rt, rt.alloc(), text)?;
-    let tasks = script.tasks.as_slice();
-    assert!(rt; tasks.len() == 1);
-    let lines = tasks[0].lines.as_slice();
-    assert!(rt; lines.len() == 2);
-    sets(&rt, &lines[0], "a", "b=c");
-    sets(&rt, &lines[1], "", "");
+    let is_parted = set_two(only_lines(&script), ("a", "b=c"), ("", ""));
+    wants(&rt, "settings", is_parted);
+    Ok(())
+}
+
+/// Whether the line opens a file in this mode.
+fn opens(line: &Line, read: bool, write: bool) -> bool {
+    match &line.call {
+        Call::OpenFd(path, reads, writes) => {
+            path.depth() == 1 && *reads == read && *writes == write
+        }
+        _ => false,
+    }
+}
+
+/// Whether the lines open a file in each mode, and write through the last descriptor.
+fn open_and_write(lines: &[Line]) -> bool {
+    let [read, write, both, writes] = lines else {
+        return false;
+    };
+    let is_written = match &writes.call {
+        Call::Fwrite(number, text) => *number == 15 && text.as_slice() == b"x ".as_slice(),
+        _ => false,
+    };
+    is_written && opens(read, true, false) && opens(write, false, true) && opens(both, true, true)
+}
+
+#[test]
+fn reads_the_modes_and_the_tunable(rt: HostRuntime) -> Result<(), ScriptError> {
+    let script = script_of(&rt, rt.alloc(), MODES)?;
+    wants(&rt, "the tunable", script.revocation);
+    wants(&rt, "modes", open_and_write(only_lines(&script)));
     Ok(())
 }
 
 #[test]
 fn takes_good_scripts(rt: HostRuntime) {
     for script in GOOD_SCRIPTS {
-        assert!(rt; script_of(&rt, rt.alloc(), script).is_ok(), "{script}");
+        wants(&rt, script, script_of(&rt, rt.alloc(), script).is_ok());
     }
 }
 
 #[test]
 fn a_load_is_generated(rt: HostRuntime) -> Result<(), AllocError> {
     let script = generate(rt.alloc(), 2, 3)?;
-    assert!(rt; script.files.len() == 6 && script.tasks.len() == 3);
-    assert!(rt; script.line_count() == 6);
+    let counts = (script.files.len(), script.tasks.len(), script.line_count());
+    wants(&rt, "a load", counts == (6, 3, 6));
     Ok(())
 }

@@ -207,7 +207,27 @@ const CALLS: &[Row] = &[
     ("read /1/2/3/4/5/6/7/8/9", "2 8 BadPath"),
     ("pipe a23456789b123456789c123456789d123", "2 8 BadPath"),
     ("pipe /p", "2 8 BadPath"),
-    ("open /a", "2 2 UnknownWord"),
+    ("opens /a r", "2 2 UnknownWord"),
+    ("open", "2 3 Missing"),
+    ("open /a", "2 3 Missing"),
+    ("open a wr", "2 8 BadPath"),
+    ("open /a wr x", "2 2 UnknownWord"),
+    ("open /a R", "2 2 UnknownWord"),
+    ("open /a r w", "2 4 Extra"),
+    ("open /a rw", "3 10 NoEnd"),
+    ("fread", "2 3 Missing"),
+    ("fread -1", "2 5 BadNumber"),
+    ("fread 16 x", "2 5 BadNumber"),
+    ("fread 15 x", "2 4 Extra"),
+    ("fread 15", "3 10 NoEnd"),
+    ("fwrite 16 \\", "2 5 BadNumber"),
+    ("fwrite 15", "2 3 Missing"),
+    ("fwrite 15 \\", "2 13 BadText"),
+    ("fwrite 015 x", "3 10 NoEnd"),
+    ("close x", "2 5 BadNumber"),
+    ("close 16", "2 5 BadNumber"),
+    ("close 0 0", "2 4 Extra"),
+    ("close 0", "3 10 NoEnd"),
     ("write /a", "2 3 Missing"),
     ("write /a x y", "2 4 Extra"),
     ("write /a \\4", "2 13 BadText"),
@@ -283,12 +303,16 @@ fn each_line_has_its_place(rt: HostRuntime) -> Result<(), AllocError> {
 }
 
 #[test]
-fn words_of_lines(rt: HostRuntime) -> Result<(), AllocError> {
+fn lines_of_boots_files_and_tasks(rt: HostRuntime) -> Result<(), AllocError> {
     are_faulty(&rt, rt.alloc(), "", BOOTS)?;
     are_faulty(&rt, rt.alloc(), "", FILES)?;
     are_faulty(&rt, rt.alloc(), "boot mac_lomac\n", LOMAC)?;
     are_faulty(&rt, rt.alloc(), "", TASK_LINES)?;
-    are_faulty(&rt, rt.alloc(), "boot mac_biba\ntask t ", TASKS)?;
+    are_faulty(&rt, rt.alloc(), "boot mac_biba\ntask t ", TASKS)
+}
+
+#[test]
+fn words_of_lines(rt: HostRuntime) -> Result<(), AllocError> {
     are_faulty(&rt, rt.alloc(), "task t uid 0 gid 0 label -\n", CALLS)?;
     are_faulty(&rt, rt.alloc(), "task t uid 0 gid 0 label -\n", SETTINGS)?;
     are_faulty(&rt, rt.alloc(), "steps\n", STEPS)
