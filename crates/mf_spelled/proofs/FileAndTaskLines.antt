@@ -16,7 +16,6 @@ use Rattle.mf_calls.specs.declared.limits.TheConstants.{UID_MAX}
 use Rattle.mf_words.specs.Words.{Words}
 use Rattle.mf_calls.specs.declared.script.FileLine.{FileLine}
 use Rattle.mf_calls.specs.declared.script.Task.{Task}
-use Rattle.mf_calls.specs.declared.script.StepKind.{StepKind}
 use Rattle.mf_calls.specs.Boots.{is_booted}
 use Rattle.mf_calls.specs.Tunable.{revocation_name, switch}
 use Rattle.mf_item.specs.declared.view.Kind.{Kind}
