@@ -81,6 +81,14 @@ module _ (s : Script) (r : RunState) (t : ℕ) (line : Line) (next : next_line s
         refused_anyhow plan verdict.denied (call_row r.state (name_of s t) line.child line.call).payload p
         (ap is_ok (same_reply (next_reply s r t) (reply_to plan verdict.denied (call_row r.state (name_of s t) line.child line.call).payload) reply (reply_by verdict judged) replies) ∙ refused)
 
+    -- and what is so whatever it would hand back is denied or refused
+    pub refused_for : (verdict : Verdict) → verdict ≡ verdict_of r.state.specs plan → (reply : Reply) → next_reply s r t ≡ Some reply → (p : Payload)
+        → is_ok (reply_to plan verdict.denied p) ≡ false → is_ok reply ≡ false
+    refused_for verdict judged reply replies p refused =
+        let shown : Payload = (call_row r.state (name_of s t) line.child line.call).payload in
+        ap is_ok (same_reply (next_reply s r t) reply (reply_to plan verdict.denied shown) replies (reply_by verdict judged))
+        ∙ refused_anyhow plan verdict.denied p shown refused
+
     -- the plan of a call that is done ends with no refusal
     pub plan_do : (reply : Reply) → next_reply s r t ≡ Some reply → is_ok reply ≡ true → plan.tail ≡ Do
     plan_do reply replies done =
@@ -105,6 +113,13 @@ pub entry_do : (s : Script) (h : History) (r : RunState) (t : ℕ) (plan : Plan)
     → next_plan s r t ≡ Some plan → next_reply s r t ≡ Some reply → is_ok reply ≡ true → plan.tail ≡ Do
 entry_do s h r t plan reply consistent turn planned replies done =
     let line = entered_line s h r consistent t turn in plan_do s r t line.0 line.1 plan planned reply replies done
+
+-- the reply to an entry's call that is denied or refused whatever it would hand back
+pub entry_refused : (s : Script) (h : History) (r : RunState) (t : ℕ) (plan : Plan) (verdict : Verdict) (reply : Reply) (p : Payload) → IsConsistent s h r
+    → turn_of s r.progress t ≡ turns.Entered → next_plan s r t ≡ Some plan → verdict ≡ verdict_of r.state.specs plan → next_reply s r t ≡ Some reply
+    → is_ok (reply_to plan verdict.denied p) ≡ false → is_ok reply ≡ false
+entry_refused s h r t plan verdict reply p consistent turn planned judged replies refused =
+    let line = entered_line s h r consistent t turn in refused_for s r t line.0 line.1 plan planned verdict judged reply replies p refused
 
 -- The change of a line
 

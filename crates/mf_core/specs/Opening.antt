@@ -2,11 +2,16 @@
 use Rattle.std.specs.Option.{option_map_or}
 use Rattle.std.specs.Prelude.{ℕ, false, true, List, [], ◌∷◌, fold, None}
 use Rattle.mf_errno.specs.declared.module.Module.{Module}
+use Rattle.mf_errno.specs.declared.module.Module.TheVariants as modules
 use Rattle.mf_elem.specs.Label.{no_request}
 use Rattle.mf_item.specs.declared.view.Kind.TheVariants as kinds
 use Rattle.mf_policy.specs.declared.registration.Registration.{Registration}
 use Rattle.mf_policy.specs.declared.labels.Origin.TheVariants.{Boot}
 use Rattle.mf_policy.specs.NewLabels.{new_label}
+use Rattle.mf_policy.specs.declared.spec.Spec.{Spec}
+use Rattle.mf_policy.specs.Modules.{fresh_of}
+use Rattle.mf_policy.specs.Settings.{change_in, change_of}
+use Rattle.mf_policy.specs.declared.settings.Change.TheVariants.{Revocation}
 use Rattle.mf_policy.specs.Registration.{Entry, given_after, registration_of, with_registered}
 use Rattle.mf_objects.specs.Live.{Entities}
 use Rattle.mf_objects.specs.Changes as objects
@@ -30,9 +35,13 @@ registrations_from given (m ∷ ms) = registration_of m false given ∷ registra
 abbrev pub boots_of : Script → List Registration
 boots_of s = registrations_from 0 s.boots
 
--- the policies that are listed at the end of boot, in walk order
+-- the policies that are listed at the end of boot, in walk order; mac_biba's tests transfers where the script's tunable says so
 abbrev pub booted_specs : Script → List Entry
-booted_specs s = fold with_registered [] (boots_of s)
+booted_specs s = (change_in modules.Biba (Revocation s.revocation) (fold with_registered [] (boots_of s))).1
+
+-- the spec of a booted module then
+abbrev pub spec_at_boot : Script → Module → Spec
+spec_at_boot s m = (change_of (fresh_of m) (Revocation s.revocation)).1
 
 -- Entities
 

@@ -1,41 +1,52 @@
-//! Registration at boot.
+//! Registration at boot, and the setting that the script's tunable gives.
 ghost use Rattle.std.specs.Prelude.{◌≡◌, ◌++◌, [], false, All, IfOk, fold, map};
+ghost use Rattle.mf_policy.specs.declared.settings.Change.TheVariants.{Revocation};
 ghost use Rattle.mf_policy.specs.Modules.{module_of};
 ghost use Rattle.mf_policy.specs.Registration.{with_registered};
 ghost use Rattle.mf_list.specs.Once.{IsHeldOnce};
 ghost use Rattle.mf_list.specs.Fresh.{IsFresh};
 ghost use Rattle.mf_list.specs.Registration.{Registers, registration_of};
-ghost use Rattle.mf_calls.specs.WellFormed.{AreBoots};
+ghost use Rattle.mf_calls.specs.WellFormed.{AreBoots, IsWellFormed};
 ghost use Rattle.mf_core.specs.Opening as spec;
-ghost use Rattle.mf_core.specs.Policies.{AreOf, CanBoot, static_among};
+ghost use Rattle.mf_core.specs.Opening.{booted_specs, boots_of};
+ghost use Rattle.mf_core.specs.Policies.{AreOf, CanBoot, static_of};
 ghost use Rattle.mf_core.specs.AllModules.{AreAllModules};
 
 use crate::history::BootList;
+use mf_calls::Script;
 use mf_errno::Module;
 use mf_list::{Catalogue, Fixed, PolicyList};
 use mf_names::Listing;
-use mf_policy::{Policy, Registration};
+use mf_policy::{Change, Policy, Registration};
 use mf_slots::SlotNumbers;
 use std::alloc::{AllocError, Global};
 
-/// The registrations of these modules in order, and the lists and the catalogue after them.
+/// The registrations of the modules that the script boots, in its order, and the lists and the catalogue after them.
 pub fn boot<P: Policy>(
     alloc: Global,
-    modules: &Listing<Module>,
+    script: &Script,
     policies: Vec<P>,
 ) -> Result<(BootList, Fixed<P>, PolicyList<P>, Catalogue<P>), AllocError>
-    requires boots { AreBoots modules.now }
+    requires formed { IsWellFormed script.now }
     requires modules { AreAllModules (map (λ p. module_of (P.spec p)) policies.items) }
     requires fresh { All (λ p. IsFresh (P.spec p)) policies.items }
-    ensures boots { IfOk result (λ r. r.0 ≡ spec.registrations_from 0 modules.now) }
-    ensures policies { IfOk result (λ r. AreOf (fold with_registered [] r.0) r.1 r.2 r.3) }
-    ensures fixed { IfOk result (λ r. r.1 ≡ static_among (fold with_registered [] r.0)) }
+    ensures boots { IfOk result (λ r. r.0 ≡ boots_of script.now) }
+    ensures policies { IfOk result (λ r. AreOf (booted_specs script.now) r.1 r.2 r.3) }
+    ensures fixed { IfOk result (λ r. r.1 ≡ static_of script.now) }
 {
     let (mut fixed, mut list, mut catalogue) = unlisted(alloc, policies)?;
-    let boots = register_boots(alloc, modules, &mut fixed, &mut list, &mut catalogue)?;
+    let boots = register_boots(alloc, &script.boots, &mut fixed, &mut list, &mut catalogue)?;
+    let _answer = fixed.set(alloc, Module::Biba, &tunable_of(script))?;
     fixed.are_pinned();
     list.may_leave();
     Ok((boots, fixed, list, catalogue))
+}
+
+/// What the script's tunable changes of mac_biba's policy, where that is booted.
+pub fn tunable_of(script: &Script) -> Change
+    ensures { result ≡ Revocation script.now.revocation }
+{
+    Change::Revocation(script.revocation)
 }
 
 /// Empty lists, and a catalogue of these policies.

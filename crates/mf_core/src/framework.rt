@@ -74,7 +74,7 @@ impl<'s> Core<'s> {
         ensures entries { IfOk result (λ r. open_of r.0 ≡ 0) }
         ensures lines { IfOk result (λ r. done_of r.0 ≡ 0) }
     {
-        let (boots, fixed, list, catalogue) = boot(alloc, &script.boots, modules)?;
+        let (boots, fixed, list, catalogue) = boot(alloc, script, modules)?;
         let core = Core::with_boots(alloc, script, boots)?;
         Ok((core, fixed, list, catalogue))
     }

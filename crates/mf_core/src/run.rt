@@ -1,6 +1,5 @@
 //! A run of a script: the state of the framework, and how far each task is.
 ghost use Rattle.std.specs.Prelude.{◌≡◌, ◌<◌, ◌≤◌, ◌+◌, ◌⊎◌, ◌↔◌, length, fold, true, false, IfOk, IsOk, IfSome, IsSome, OnOk, OnErr, Some};
-ghost use Rattle.mf_list.specs.Once.{IsListedOnce};
 ghost use Rattle.mf_calls.specs.declared.limits.TheConstants.{LINE_LIMIT};
 ghost use Rattle.mf_calls.specs.Tasks.{lines_of};
 ghost use Rattle.mf_calls.specs.WellFormed.{IsFormedLine, IsWellFormed};
@@ -21,10 +20,12 @@ ghost use Rattle.mf_core.specs.Progress.{open_entries, progress_at};
 
 mod changing;
 
+use crate::booting::tunable_of;
 use crate::kept_reply::KeptReply;
 use crate::opening::opening_objects;
 use crate::progress::{Phase, ProgressList, Turn};
 use mf_calls::{Line, Script};
+use mf_errno::Module;
 use mf_perform::{Verdict, complete, load, payload_of, refusal_of};
 use mf_plan::{Found, Plan, Reply, State};
 use mf_policy::SpecList;
@@ -217,17 +218,17 @@ impl<'s> Run<'s> {
     }
 }
 
-/// The policies that the script boots, in walk order, and how many slot numbers they took.
+/// The policies that are listed at the end of boot, in walk order, and how many slot numbers they took.
 fn booted(alloc: Global, script: &Script) -> Result<(SpecList, SlotNumbers), AllocError>
     requires { IsWellFormed script.now }
     ensures specs { IfOk result (λ r. r.0 ≡ booted_specs script.now) }
     ensures numbers { IfOk result (λ r. r.1 ≡ fold given_after 0 script.now.boots) }
-    ensures once { IfOk result (λ r. IsListedOnce r.0) }
 {
     let mut specs = SpecList::new(alloc);
     let mut numbers = SlotNumbers::new();
     for wanted in script.boots.as_slice() {
         load(alloc, &mut specs, &mut numbers, false, *wanted)?;
     }
+    let _answer = specs.change(alloc, Module::Biba, &tunable_of(script))?;
     Ok((specs, numbers))
 }

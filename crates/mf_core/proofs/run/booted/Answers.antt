@@ -4,7 +4,7 @@ use Rattle.std.proofs.lemmas.Option.{slice_get-get_or}
 use Rattle.mf_errno.specs.declared.module.Module.{Module}
 use Rattle.mf_calls.specs.WellFormed.{AreBoots}
 use Rattle.mf_calls.proofs.FewBoots.{slot_left}
-use Rattle.mf_core.proofs.Reached.{loaded_more}
+use Rattle.mf_core.proofs.Booted.{loaded_more}
 use Rattle.mf_core.proofs.run.booted.Goals as goal
 
 pub load-requires : goal.load-requires
@@ -21,6 +21,5 @@ load-requires c =
 pub loop-wanted-preserved : goal.loop-wanted-preserved
 loop-wanted-preserved c =
     let modules = c.as_slice-wanted-items.result.now in
-    let P : List Module → Type 0 = λ ms. AreBoots ms in
-    loaded_more modules c.loop-wanted.wanted-index _ c.loop-wanted.specs c.loop-wanted.numbers (subst P (sym c.as_slice-wanted-items.ensures) c.requires.boots) (omega arith)
-    (get_or_default modules c.loop-wanted.wanted-index _ _ (omega arith)) c.loop-wanted.invariant _ _ c.in_ok-load.ensures.specs c.in_ok-load.ensures.numbers
+    loaded_more modules c.loop-wanted.wanted-index _ c.loop-wanted.specs c.loop-wanted.numbers _ _ (omega arith)
+    (get_or_default modules c.loop-wanted.wanted-index _ _ (omega arith)) c.loop-wanted.invariant c.in_ok-load.ensures.specs c.in_ok-load.ensures.numbers

@@ -1,4 +1,4 @@
-use Rattle.mf_core.proofs.Reached.{AreLoaded}
+use Rattle.mf_core.proofs.Booted.{AreLoaded}
 use Rattle.mf_core.proofs.run.booted.Given as goal
 
 abbrev pub invariant-loop-wanted : goal.invariant-loop-wanted
