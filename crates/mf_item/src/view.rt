@@ -26,7 +26,8 @@ pub struct SubjectView {
     pub label: [LabelValue; SLOTS],
 }
 
-/// The object. The attributes of what isn't a vnode are all zero, and not those of a directory.
+/// The object. As attributes a process has its real uid and its first group; those of a pipe or a socket are all zero, and not
+/// those of a directory.
 #[derive(Clone, Copy, Debug, PartialEq, Eq)]
 pub struct ObjectView {
     pub id: u32,

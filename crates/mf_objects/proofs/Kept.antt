@@ -1,35 +1,35 @@
 -- What each change makes of the live entities, and that it keeps what is true of every population.
-use Rattle.std.proofs.Common.{◌≡◌, ◌≢◌, ◌↔◌, ℕ, ◌<◌, ◌+◌, List, [], ◌∷◌, ◌++◌, Option, Some, None, length, get_or, set, take, drop, map, remove, refl, ap, sym, ◌∙◌, subst, arith, zero, suc, IsSome, nat_eq, nat_lt, true, false, Bool, cond, position, not, Result, Ok, Err, OnOk, OnErr, IsTrue, replicate}
+use Rattle.std.proofs.Common.{◌≡◌, ◌≢◌, ◌↔◌, ℕ, ◌<◌, ◌+◌, List, [], ◌∷◌, ◌++◌, Option, Some, None, length, get_or, set, take, drop, map, remove, refl, ap, sym, ◌∙◌, subst, arith, zero, suc, IsSome, nat_eq, nat_lt, true, false, Bool, cond, position, not, Result, Ok, Err, OnOk, OnErr, IsTrue}
 use Rattle.std.specs.declared.alloc.AllocError.{AllocError}
 use Rattle.std.specs.Prelude.{All, find}
 use Rattle.std.specs.List.{position_or_len}
 use Rattle.std.proofs.lemmas.List.{set-get_or, map-append, set_split, length-set, length-map, length-take-le, length-append, length-drop, get_or-map, take-map, drop-map}
-use Rattle.std.proofs.lemmas.List.Elements.{All-push, All-cons, All-nil}
+use Rattle.std.proofs.lemmas.List.Elements.{All-push}
 use Rattle.std.proofs.lemmas.List.Quantifiers.{position-Some, all_pairs_remove}
 use Rattle.std.proofs.lemmas.Bool.{lt-ltb, false≢true}
 use Rattle.mf_elem.specs.declared.label.LabelValue.{LabelValue}
 use Rattle.mf_elem.specs.declared.label.LabelValue.TheVariants.{Unset, Range, Number}
 use Rattle.mf_slots.specs.Zones.{Contents, Handles, handle, label_values, MakesLabel, GivesUp, Relabels, IsMadeFor, AreMade, value_for, SetsAt, IsMadeAt, Makes, IsHeld, IsHeldAt, NoneUnset, slot_value, value_under}
-use Rattle.mf_slots.proofs.ZonesLaws.{set_none, set_writes, set_makes, set_gives_up, unset_exactly}
+use Rattle.mf_slots.proofs.ZonesLaws.{set_writes, set_makes, set_gives_up, unset_exactly}
 use Rattle.mf_slots.proofs.Relabelling.{set_relabels}
 use Rattle.mf_objects.proofs.Entities.{label_of, changed_at}
 use Rattle.mf_objects.specs.declared.id.Id.{Id}
 use Rattle.mf_objects.specs.declared.entity.Entity.{Entity}
 use Rattle.mf_objects.specs.declared.entity.EntityData.{EntityData}
 use Rattle.mf_objects.specs.Live.{LiveEntity, Entities, has_id, live_at, label_at}
-use Rattle.mf_objects.specs.Lives.{passes, is_directory, HasSlotsFor, value_at as live_value}
+use Rattle.mf_objects.specs.Lives.{passes, HasSlotsFor, value_at as live_value}
 use Rattle.mf_objects.specs.Changes.{with_change, with_what}
 use Rattle.mf_objects.specs.Descriptors.{fds_of}
 use Rattle.mf_objects.specs.Labels.{with_value, with_label}
 use Rattle.mf_objects.specs.Fits.{IsBare}
 use Rattle.mf_objects.specs.Population.{NoBytesIfDirectory, Belongs, AreDescriptors, IsPopulation, is_namesake}
 use Rattle.mf_objects.specs.Sound.{live_entity, labels_of, IsExact, live_of, IsSound, IsPlace}
-use Rattle.mf_objects.proofs.Zoned.{exact_push, live_push, exact_drop, live_drop, is_held, SetsSlot, relabels_set, relabels_make, exact_relabel, live_relabel, split_place, live_split, exact_none}
+use Rattle.mf_objects.proofs.Zoned.{exact_push, live_push, exact_drop, live_drop, is_held, SetsSlot, relabels_set, relabels_make, exact_relabel, live_relabel, split_place, live_split}
 use Rattle.mf_objects.proofs.Relabelled.{exact_whole, live_whole}
 use Rattle.mf_objects.proofs.Rising.{rising_push, rising_remove, rising_mapped, changed_id, root_push, root_remove, root_mapped, set_changed, find_first, id_is}
-use Rattle.mf_objects.proofs.Belonging.{Stays, AllStay, StaysAt, stays_same, changed_stays, all_of_id, directories_mapped, All-remove, belong_one, belong_push, belong_remove, belong_mapped, bare_none, find_own}
-use Rattle.mf_objects.proofs.Names.{changed_name, names_mapped, names_push, names_one}
-use Rattle.mf_objects.proofs.Opened.{described_none, described_push, bare_unopened, described_remove, described_mapped, described_same, fds_changed}
+use Rattle.mf_objects.proofs.Belonging.{Stays, AllStay, StaysAt, stays_same, changed_stays, all_of_id, directories_mapped, All-remove, belong_push, belong_remove, belong_mapped, bare_none, find_own}
+use Rattle.mf_objects.proofs.Names.{changed_name, names_mapped, names_push}
+use Rattle.mf_objects.proofs.Opened.{described_push, bare_unopened, described_remove, described_mapped, described_same, fds_changed}
 
 -- the live entities as contracts see them
 abbrev pub view : ℕ → Contents → List Entity → Entities
@@ -391,23 +391,3 @@ slots_made next zones es id i e values place is has slot four =
 pub on_err : {T E : Type 0} (r : Result T E) (P : Type 0) → P → OnErr r P
 on_err (Ok x) P p = tt
 on_err (Err e) P p = p
-
-pub opened : (zones : Contents) (e : Entity) (values : List LabelValue) → length values ≡ 4 → MakesLabel (replicate 4 []) zones e.label values
-    → e.id.0 ≡ 0 → IsTrue (is_directory e.what) → Belongs (record { id = e.id; name = e.name; label = values; what = e.what } ∷ []) e.id.0 e.what → NoBytesIfDirectory e.what → fds_of e.what ≡ []
-    → Becomes 1 zones ([] ++ e ∷ []) (record { next = 1; live = record { id = e.id; name = e.name; label = values; what = e.what } ∷ [] })
-opened zones e values four makes first directory belongs no_bytes unopened =
-    let x : LiveEntity = record { id = e.id; name = e.name; label = values; what = e.what } in
-    let live : live_of zones ([] ++ e ∷ []) ≡ x ∷ [] = live_push (replicate 4 []) zones [] e values four exact_none makes in
-    let P : LiveEntity → Type 0 = λ l. NoBytesIfDirectory l.what in
-    let D : LiveEntity → Type 0 = λ l. AreDescriptors (x ∷ []) (fds_of l.what) in
-    let alone : IsPopulation (record { next = 1; live = x ∷ [] }) =
-    record { rising = (omega arith, omega (arith, first)); rooted = (first, directory); belong = belong_one x belongs; directories = All-cons P x [] no_bytes (All-nil P); names = names_one x; descriptors = All-cons D x [] (described_none (x ∷ []) (fds_of x.what) unopened) (All-nil D) } in
-    record {
-      sound = record {
-        population = rw live alone;
-        few = omega arith;
-        exact = exact_push (replicate 4 []) zones [] e values exact_none makes;
-        set = set_makes (replicate 4 []) zones e.label values set_none makes;
-      };
-      shows = ap (λ (ls : List LiveEntity). let o : Entities = record { next = 1; live = ls } in o) live;
-    }

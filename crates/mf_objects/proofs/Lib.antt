@@ -10,6 +10,7 @@ pub mod Names
 pub mod Opened
 pub mod Numbers
 pub mod Kept
+pub mod Root
 pub mod ById
 pub mod Indexed
 pub mod Members

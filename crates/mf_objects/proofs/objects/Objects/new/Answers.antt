@@ -6,7 +6,8 @@ use Rattle.mf_objects.specs.declared.entity.EntityData.TheVariants.{Vnode}
 use Rattle.mf_objects.specs.declared.id.Id.{Id}
 use Rattle.mf_objects.specs.Index.{IsIndex}
 use Rattle.mf_objects.specs.Changes.{with_root}
-use Rattle.mf_objects.proofs.Kept.{view, opened}
+use Rattle.mf_objects.proofs.Kept.{view}
+use Rattle.mf_objects.proofs.Root.{opened}
 use Rattle.mf_objects.specs.Sound.{open_count}
 use Rattle.mf_objects.proofs.Counted.{count_push}
 use Rattle.mf_objects.proofs.Indexed.{index_none, index_added}
