@@ -10,13 +10,15 @@ use Rattle.mf_elem.specs.Bounds.{IsRequest}
 use Rattle.mf_elem.specs.Label.{no_request}
 use Rattle.mf_item.specs.declared.view.Kind.{Kind}
 use Rattle.mf_item.specs.declared.view.Kind.TheVariants as kinds
+use Rattle.mf_policy.specs.declared.settings.Change.TheVariants.{Revocation}
 use Rattle.mf_policy.specs.Modules.{may_ask}
 use Rattle.mf_policy.specs.Registration.{Entry, given_after, with_newest, with_registered}
 use Rattle.mf_calls.specs.declared.script.Script.{Script}
 use Rattle.mf_calls.specs.WellFormed.{IsAsked}
 use Rattle.mf_calls.specs.Boots.{names_booted}
-use Rattle.mf_core.specs.Opening.{registrations_from, booted_specs}
+use Rattle.mf_core.specs.Opening.{boots_of, booted_specs, registrations_from}
 use Rattle.mf_lifetimes.proofs.Listing.{newest, all_newest}
+use Rattle.mf_lifetimes.proofs.Settings.{all_changed}
 
 -- each listed policy lets a script ask this for an entity of that kind
 abbrev AllMayAsk : Kind → Request → List Entry → Type 0
@@ -38,7 +40,8 @@ all_let kind request (m ∷ ms) listed given may all =
 pub booted_let : (s : Script) (kind : Kind) (request : Request) → IsAsked kind s.boots request → AllLetAsk kind request (booted_specs s)
 booted_let s kind request asked =
     let may = (and_parts (names_booted s.boots request) (list_all (λ m. may_ask m kind request) s.boots) asked.allowed).1 in
-    (asked.spelled, all_let kind request s.boots [] 0 may tt)
+    let registered = all_let kind request s.boots [] 0 may tt in
+    (asked.spelled, all_changed (λ r. may_ask r.module kind request ≡ true) Biba (Revocation s.revocation) (fold with_registered [] (boots_of s)) registered)
 
 -- any policy lets a script ask nothing for a file
 nothing_asked : (m : Module) → may_ask m kinds.Vnode no_request ≡ true

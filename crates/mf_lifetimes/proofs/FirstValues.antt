@@ -24,7 +24,8 @@ use Rattle.mf_policy.proofs.EachModule.{has_elements}
 use Rattle.mf_lifetimes.specs.Marks.{Mark}
 use Rattle.mf_lifetimes.specs.Marks.Mark.{Made}
 use Rattle.mf_lifetimes.specs.Laws.{AreMarksOf, holds_valid}
-use Rattle.mf_lifetimes.proofs.Listing.{IsLasting, by_holder}
+use Rattle.mf_lifetimes.proofs.Lasting.{IsLasting}
+use Rattle.mf_lifetimes.proofs.Listing.{by_holder}
 use Rattle.mf_lifetimes.proofs.Valid.{IsValidOf, valid_set}
 use Rattle.mf_objects.specs.Live.{is_set}
 

@@ -17,12 +17,11 @@ use Rattle.mf_policy.specs.declared.modules.Labelling.TheVariants.{Nothing, Rang
 use Rattle.mf_policy.specs.declared.registration.Registration.{Registration}
 use Rattle.mf_policy.specs.declared.labels.Origin.TheVariants.{Boot, Maker}
 use Rattle.mf_policy.specs.NewLabels.{new_label, new_value}
-use Rattle.mf_policy.specs.Modules.{facts_of, fresh_of, boot_by, has_partition, inherited_by, inherited_range, labels_by, may_ask, number_asked, partition_of, range_asked}
+use Rattle.mf_policy.specs.Modules.{facts_of, boot_by, has_partition, inherited_by, inherited_range, labels_by, may_ask, number_asked, partition_of, range_asked}
 use Rattle.mf_policy.specs.Registration.{Entry, holds_slot}
 use Rattle.mf_policy.specs.Relabelled.{value_after, relabelled_value, relabelled}
 use Rattle.mf_policy.proofs.ByEntry.{given_by, relabelled_by}
 use Rattle.mf_policy.specs.Answer.{answer}
-use Rattle.mf_policy.specs.declared.spec.Spec.{Spec}
 use Rattle.mf_list.specs.Asked.{slot_of}
 use Rattle.mf_objects.specs.declared.id.Id.{Id}
 use Rattle.mf_objects.specs.Live.{LiveEntity, Entities, kind_of, live_at, value_in, is_set}
@@ -32,7 +31,7 @@ use Rattle.mf_policy.proofs.EachModule.{has_elements}
 use Rattle.mf_lifetimes.specs.Marks.Mark.{Made}
 use Rattle.mf_lifetimes.specs.Laws.{AreMarksOf, holds_valid}
 use Rattle.mf_perform.proofs.StateChange.{Deed, StateChange}
-use Rattle.mf_perform.proofs.StateChange.StateChange.{same, created, changed, relabels, removed, loaded, unloaded, set_to}
+use Rattle.mf_perform.proofs.StateChange.StateChange.{same, created, changed, relabels, removed, unlinked, loaded, unloaded, set_to}
 use Rattle.mf_perform.proofs.EntityChange.{EntityChange, ChangesEntities, changes_entities, stays_rooted}
 use Rattle.mf_perform.proofs.EntityChange.EntityChange.{absent, stays, gets_label, comes, goes}
 use Rattle.mf_perform.proofs.Allowed.{AsksFor, IsAllowed}
@@ -42,7 +41,8 @@ use Rattle.mf_perform.proofs.Rooted.{IsRooted}
 use Rattle.mf_lifetimes.proofs.Valid.{IsValidOf, valid_set, boot_valid, created as created_valid, inherited_valid}
 use Rattle.mf_lifetimes.proofs.Relabelled.{process_relabelled, object_relabelled}
 use Rattle.mf_lifetimes.proofs.Asked.{AllLetAsk}
-use Rattle.mf_lifetimes.proofs.Listing.{all_found, found_passes, IsLasting, no_late, IsPinned, IsPassing, NoneLasting, newest, all_newest, all_without, pinned_newest, pinned_without, passing_found, IsBelow, AllBelow, below_newest, AtMostOne, single_newest, one_without, by_holder}
+use Rattle.mf_lifetimes.proofs.Lasting.{IsLasting, no_late}
+use Rattle.mf_lifetimes.proofs.Listing.{all_found, found_passes, IsPinned, IsPassing, NoneLasting, newest, all_newest, all_without, pinned_newest, pinned_without, passing_found, IsBelow, AllBelow, below_newest, AtMostOne, single_newest, one_without, by_holder}
 use Rattle.mf_lifetimes.proofs.Settings.{all_changed, one_changed, pinned_changed}
 
 -- Labels as they are made
@@ -112,14 +112,14 @@ pub boot_marks : (slot : ℕ) (specs : List Entry) (kind : Kind) (request : Requ
 boot_marks slot specs kind request = found_boot (find (holds_slot slot) specs) kind request slot
 
 -- a policy that stays has put a valid label into the slot of an entity of the opening state
-pub boot_holds : (slot : ℕ) (r : Registration) (specs : List Entry) (given : ℕ) (kind : Kind) (request : Request) → slot < SLOTS
-    → IsPinned slot r specs given → AllLetAsk kind request specs → IsValidOf r.module kind (slice_index_or (new_label specs kind (Boot request)) slot Unset)
-boot_holds slot r specs given kind request within pinned let_ask =
-    let may : may_ask r.module kind request ≡ true =
-    (all_found (λ entry. may_ask entry.0.module kind request ≡ true) (holds_slot slot) specs (r, pinned.meaning) let_ask.1 pinned.found).0 in
-    ap (holds_valid (facts_of r.module).labels kind) (four_values (new_value specs kind (Boot request)) slot within)
-    ∙ ap (λ (found : Option Entry). holds_valid (facts_of r.module).labels kind (given_by found kind (Boot request) slot)) pinned.found
-    ∙ boot_valid r.module kind request pinned.lasting let_ask.0 may
+pub boot_holds : (slot : ℕ) (x : Entry) (specs : List Entry) (given : ℕ) (kind : Kind) (request : Request) → slot < SLOTS
+    → IsPinned slot x specs given → AllLetAsk kind request specs → IsValidOf x.0.module kind (slice_index_or (new_label specs kind (Boot request)) slot Unset)
+boot_holds slot x specs given kind request within pinned let_ask =
+    let may : may_ask x.0.module kind request ≡ true =
+    (all_found (λ entry. may_ask entry.0.module kind request ≡ true) (holds_slot slot) specs x let_ask.1 pinned.found).0 in
+    ap (holds_valid (facts_of x.0.module).labels kind) (four_values (new_value specs kind (Boot request)) slot within)
+    ∙ ap (λ (found : Option Entry). holds_valid (facts_of x.0.module).labels kind (given_by found kind (Boot request) slot)) pinned.found
+    ∙ boot_valid x.0.module kind request pinned.lasting let_ask.0 may
 
 -- What a step keeps
 
@@ -127,12 +127,12 @@ boot_holds slot r specs given kind request within pinned let_ask =
 abbrev pub AllValid : ℕ → Module → Entities → Type 0
 AllValid slot m objects = (id : Id) (e : LiveEntity) → live_at objects id ≡ Some e → IsValidOf m (kind_of e.what) (value_in slot e)
 
-created_holds : (slot : ℕ) (r : Registration) (specs : List Entry) (given : ℕ) (kind : Kind) (maker : List LabelValue) → slot < SLOTS → IsPinned slot r specs given
-    → IsValidOf r.module kinds.Process (slice_index_or maker slot Unset) → IsValidOf r.module kind (slice_index_or (new_label specs kind (Maker maker)) slot Unset)
-created_holds slot r specs given kind maker within pinned valid =
-    ap (holds_valid (facts_of r.module).labels kind) (four_values (new_value specs kind (Maker maker)) slot within)
-    ∙ ap (λ (found : Option Entry). holds_valid (facts_of r.module).labels kind (given_by found kind (Maker maker) slot)) pinned.found
-    ∙ inherited_valid r.module kind (slice_index_or maker slot Unset) pinned.lasting valid
+created_holds : (slot : ℕ) (x : Entry) (specs : List Entry) (given : ℕ) (kind : Kind) (maker : List LabelValue) → slot < SLOTS → IsPinned slot x specs given
+    → IsValidOf x.0.module kinds.Process (slice_index_or maker slot Unset) → IsValidOf x.0.module kind (slice_index_or (new_label specs kind (Maker maker)) slot Unset)
+created_holds slot x specs given kind maker within pinned valid =
+    ap (holds_valid (facts_of x.0.module).labels kind) (four_values (new_value specs kind (Maker maker)) slot within)
+    ∙ ap (λ (found : Option Entry). holds_valid (facts_of x.0.module).labels kind (given_by found kind (Maker maker) slot)) pinned.found
+    ∙ inherited_valid x.0.module kind (slice_index_or maker slot Unset) pinned.lasting valid
 
 -- the value that is read in the slot of a live process
 process_valid : (slot : ℕ) (m : Module) (objects : Entities) (id : Id) (e : LiveEntity) → AllValid slot m objects → live_at objects id ≡ Some e
@@ -148,27 +148,27 @@ held_slot r slot holds = one r.slot holds
     one (Some own) holds = grind (arith, nat_tests)
 
 -- what a policy that stays makes of a valid label, where it allows that
-pub relabel_valid : (slot : ℕ) (r : Registration) (s : State) (e : LiveEntity) (request : Request) → IsPinned slot r s.specs s.numbers → AllValid slot r.module s.objects
-    → IsValidOf r.module (kind_of e.what) (value_in slot e) → IsAllowed s e request → IsValidOf r.module (kind_of e.what) (value_after r.module request (value_in slot e))
-relabel_valid slot r s e request pinned all valid allowed = by_check allowed.asks
+pub relabel_valid : (slot : ℕ) (x : Entry) (s : State) (e : LiveEntity) (request : Request) → IsPinned slot x s.specs s.numbers → AllValid slot x.0.module s.objects
+    → IsValidOf x.0.module (kind_of e.what) (value_in slot e) → IsAllowed s e request → IsValidOf x.0.module (kind_of e.what) (value_after x.0.module request (value_in slot e))
+relabel_valid slot x s e request pinned all valid allowed = by_check allowed.asks
   where
-    holds : holds_slot slot (r, pinned.meaning) ≡ true
-    holds = found_passes (holds_slot slot) s.specs (r, pinned.meaning) pinned.found
+    holds : holds_slot slot x ≡ true
+    holds = found_passes (holds_slot slot) s.specs x pinned.found
 
-    answered : answer (fresh_of r.module) slot allowed.item ≡ Success
+    answered : answer x.1 slot allowed.item ≡ Success
     answered =
-        ap (λ (meaning : Spec). answer meaning slot allowed.item) (sym pinned.fresh)
-        ∙ ap (λ (n : ℕ). answer pinned.meaning n allowed.item) (sym (held_slot r slot holds))
-        ∙ granted_by (holds_slot slot) s.specs (r, pinned.meaning) allowed.item pinned.found allowed.granted
+        ap (λ (n : ℕ). answer x.1 n allowed.item) (sym (held_slot x.0 slot holds))
+        ∙ granted_by (holds_slot slot) s.specs x allowed.item pinned.found allowed.granted
 
-    by_check : AsksFor s (kind_of e.what) e.label request allowed.item → IsValidOf r.module (kind_of e.what) (value_after r.module request (value_in slot e))
+    by_check : AsksFor s (kind_of e.what) e.label request allowed.item → IsValidOf x.0.module (kind_of e.what) (value_after x.0.module request (value_in slot e))
     by_check (of_itself process test own) =
-        subst (λ (kind : Kind). IsValidOf r.module kind (value_after r.module request (value_in slot e))) (sym process)
-        (process_relabelled r.module pinned.lasting slot allowed.item request allowed.spelled allowed.asked answered e.label test own
-        (subst (λ (kind : Kind). IsValidOf r.module kind (value_in slot e)) process valid))
+        subst (λ (kind : Kind). IsValidOf x.0.module kind (value_after x.0.module request (value_in slot e))) (sym process)
+        (process_relabelled x.0.module x.1 pinned.module_is pinned.lasting slot allowed.item request allowed.spelled allowed.asked answered e.label test own
+        (subst (λ (kind : Kind). IsValidOf x.0.module kind (value_in slot e)) process valid))
     by_check (of_object other test from maker live process own object there labelled) =
-        object_relabelled r.module pinned.lasting slot allowed.item request allowed.spelled allowed.asked answered (kind_of e.what) maker.label e.label object other test own there labelled
-        (process_valid slot r.module s.objects from maker all live process) valid
+        object_relabelled x.0.module x.1 pinned.module_is pinned.lasting slot allowed.item request allowed.spelled allowed.asked answered (kind_of e.what) maker.label e.label object other
+        test own there labelled
+        (process_valid slot x.0.module s.objects from maker all live process) valid
 
 -- the value in a slot that a policy holds, after a relabel
 relabelled_slot : (slot : ℕ) (specs : List Entry) (x : Entry) (request : Request) (label : List LabelValue) → slot < SLOTS → find (holds_slot slot) specs ≡ Some x
@@ -183,55 +183,56 @@ as_found slot m new e now valid =
     let same_entity : new ≡ e = cc in
     subst (λ (x : LiveEntity). IsValidOf m (kind_of x.what) (value_in slot x)) same_entity valid
 
-change_valid : {by : Deed} (slot : ℕ) (r : Registration) (s : State) (id : Id) (found found' : Option LiveEntity) (e : LiveEntity) → slot < SLOTS
-    → IsPinned slot r s.specs s.numbers → AllValid slot r.module s.objects → live_at s.objects id ≡ found → EntityChange by s id found found' → found' ≡ Some e
-    → IsValidOf r.module (kind_of e.what) (value_in slot e)
-change_valid slot r s id _ _ e within pinned all is absent now = cc
-change_valid slot r s id _ _ e within pinned all is (stays old new kind label) now =
+change_valid : {by : Deed} (slot : ℕ) (x : Entry) (s : State) (id : Id) (found found' : Option LiveEntity) (e : LiveEntity) → slot < SLOTS
+    → IsPinned slot x s.specs s.numbers → AllValid slot x.0.module s.objects → live_at s.objects id ≡ found → EntityChange by s id found found' → found' ≡ Some e
+    → IsValidOf x.0.module (kind_of e.what) (value_in slot e)
+change_valid slot x s id _ _ e within pinned all is absent now = cc
+change_valid slot x s id _ _ e within pinned all is (stays old new kind label) now =
     let same_value : value_in slot new ≡ value_in slot old = ap (λ (values : List LabelValue). slice_index_or values slot Unset) label in
-    let valid : IsValidOf r.module (kind_of new.what) (value_in slot new) =
-    ap (λ (k : Kind). holds_valid (facts_of r.module).labels k (value_in slot new)) kind
-    ∙ ap (holds_valid (facts_of r.module).labels (kind_of old.what)) same_value ∙ all id old is in
-    as_found slot r.module new e now valid
-change_valid slot r s id _ _ e within pinned all is (gets_label old new request asked allowed what label) now =
-    let value : value_in slot new ≡ value_after r.module request (value_in slot old) =
+    let valid : IsValidOf x.0.module (kind_of new.what) (value_in slot new) =
+    ap (λ (k : Kind). holds_valid (facts_of x.0.module).labels k (value_in slot new)) kind
+    ∙ ap (holds_valid (facts_of x.0.module).labels (kind_of old.what)) same_value ∙ all id old is in
+    as_found slot x.0.module new e now valid
+change_valid slot x s id _ _ e within pinned all is (gets_label old new request asked allowed what label) now =
+    let value : value_in slot new ≡ value_after x.0.module request (value_in slot old) =
     ap (λ (values : List LabelValue). slice_index_or values slot Unset) label
-    ∙ relabelled_slot slot s.specs (r, pinned.meaning) request old.label within pinned.found in
-    let valid : IsValidOf r.module (kind_of new.what) (value_in slot new) =
-    ap (λ (w : EntityData). holds_valid (facts_of r.module).labels (kind_of w) (value_in slot new)) what
-    ∙ ap (holds_valid (facts_of r.module).labels (kind_of old.what)) value
-    ∙ relabel_valid slot r s old request pinned all (all id old is) allowed in
-    as_found slot r.module new e now valid
-change_valid slot r s id _ _ e within pinned all is (comes new maker from own next live process label) now =
-    let valid : IsValidOf r.module (kind_of new.what) (value_in slot new) =
-    ap (λ (values : List LabelValue). holds_valid (facts_of r.module).labels (kind_of new.what) (slice_index_or values slot Unset)) label
-    ∙ created_holds slot r s.specs s.numbers (kind_of new.what) maker.label within pinned (process_valid slot r.module s.objects from maker all live process) in
-    as_found slot r.module new e now valid
-change_valid slot r s id _ _ e within pinned all is (goes old given) now = cc
+    ∙ relabelled_slot slot s.specs x request old.label within pinned.found in
+    let valid : IsValidOf x.0.module (kind_of new.what) (value_in slot new) =
+    ap (λ (w : EntityData). holds_valid (facts_of x.0.module).labels (kind_of w) (value_in slot new)) what
+    ∙ ap (holds_valid (facts_of x.0.module).labels (kind_of old.what)) value
+    ∙ relabel_valid slot x s old request pinned all (all id old is) allowed in
+    as_found slot x.0.module new e now valid
+change_valid slot x s id _ _ e within pinned all is (comes new maker from own next live process label) now =
+    let valid : IsValidOf x.0.module (kind_of new.what) (value_in slot new) =
+    ap (λ (values : List LabelValue). holds_valid (facts_of x.0.module).labels (kind_of new.what) (slice_index_or values slot Unset)) label
+    ∙ created_holds slot x s.specs s.numbers (kind_of new.what) maker.label within pinned (process_valid slot x.0.module s.objects from maker all live process) in
+    as_found slot x.0.module new e now valid
+change_valid slot x s id _ _ e within pinned all is (goes old given) now = cc
 
-pub keeps_valid : {by : Deed} (slot : ℕ) (r : Registration) (s s' : State) → slot < SLOTS → ChangesEntities by s s' → IsPinned slot r s.specs s.numbers → AllValid slot r.module s.objects
-    → AllValid slot r.module s'.objects
-keeps_valid slot r s s' within step pinned all id e found =
-    change_valid slot r s id (live_at s.objects id) (live_at s'.objects id) e within pinned all refl (step.each id) found
+pub keeps_valid : {by : Deed} (slot : ℕ) (x : Entry) (s s' : State) → slot < SLOTS → ChangesEntities by s s' → IsPinned slot x s.specs s.numbers → AllValid slot x.0.module s.objects
+    → AllValid slot x.0.module s'.objects
+keeps_valid slot x s s' within step pinned all id e found =
+    change_valid slot x s id (live_at s.objects id) (live_at s'.objects id) e within pinned all refl (step.each id) found
 
-pub same_policies : (slot : ℕ) (r : Registration) (s s' : State) → s'.specs ≡ s.specs → s'.numbers ≡ s.numbers → IsPinned slot r s.specs s.numbers
-    → IsPinned slot r s'.specs s'.numbers
-same_policies slot r s s' specs numbers pinned =
-    subst (λ (x : List Entry). IsPinned slot r x s'.numbers) (sym specs) (subst (λ (n : ℕ). IsPinned slot r s.specs n) (sym numbers) pinned)
+pub same_policies : (slot : ℕ) (x : Entry) (s s' : State) → s'.specs ≡ s.specs → s'.numbers ≡ s.numbers → IsPinned slot x s.specs s.numbers
+    → IsPinned slot x s'.specs s'.numbers
+same_policies slot x s s' specs numbers pinned =
+    subst (λ (es : List Entry). IsPinned slot x es s'.numbers) (sym specs) (subst (λ (n : ℕ). IsPinned slot x s.specs n) (sym numbers) pinned)
 
-pub keeps_pinned : {by : Deed} (slot : ℕ) (r : Registration) (s s' : State) → StateChange by s s' → IsPinned slot r s.specs s.numbers → IsPinned slot r s'.specs s'.numbers
-keeps_pinned slot r s s' (same is) pinned = same_policies slot r s s' (ap (λ (x : State). x.specs) is) (ap (λ (x : State). x.numbers) is) pinned
-keeps_pinned slot r s s' (created from maker name what own live process is) pinned =
-    same_policies slot r s s' (ap (λ (x : State). x.specs) is) (ap (λ (x : State). x.numbers) is) pinned
-keeps_pinned slot r s s' (changed change id kind is) pinned = same_policies slot r s s' (ap (λ (x : State). x.specs) is) (ap (λ (x : State). x.numbers) is) pinned
-keeps_pinned slot r s s' (relabels id e request asked live allowed is) pinned = same_policies slot r s s' (ap (λ (x : State). x.specs) is) (ap (λ (x : State). x.numbers) is) pinned
-keeps_pinned slot r s s' (removed gone is) pinned = same_policies slot r s s' (ap (λ (x : State). x.specs) is) (ap (λ (x : State). x.numbers) is) pinned
-keeps_pinned slot r s s' (loaded m none is) pinned =
-    subst (λ (x : State). IsPinned slot r x.specs x.numbers) (sym is) (pinned_newest slot r s.specs s.numbers m s.booted pinned)
-keeps_pinned slot r s s' (unloaded m ok is) pinned =
-    subst (λ (x : State). IsPinned slot r x.specs x.numbers) (sym is) (pinned_without slot r s.specs s.numbers m ok pinned)
-keeps_pinned slot r s s' (set_to m change is) pinned =
-    subst (λ (x : State). IsPinned slot r x.specs x.numbers) (sym is) (pinned_changed slot r s.specs s.numbers m change pinned)
+pub keeps_pinned : {by : Deed} (slot : ℕ) (x : Entry) (s s' : State) → StateChange by s s' → IsPinned slot x s.specs s.numbers → IsPinned slot x s'.specs s'.numbers
+keeps_pinned slot x s s' (same is) pinned = same_policies slot x s s' (ap (λ (state : State). state.specs) is) (ap (λ (state : State). state.numbers) is) pinned
+keeps_pinned slot x s s' (created from maker name what own live process is) pinned =
+    same_policies slot x s s' (ap (λ (state : State). state.specs) is) (ap (λ (state : State). state.numbers) is) pinned
+keeps_pinned slot x s s' (changed change id kind is) pinned = same_policies slot x s s' (ap (λ (state : State). state.specs) is) (ap (λ (state : State). state.numbers) is) pinned
+keeps_pinned slot x s s' (relabels id e request asked live allowed is) pinned = same_policies slot x s s' (ap (λ (state : State). state.specs) is) (ap (λ (state : State). state.numbers) is) pinned
+keeps_pinned slot x s s' (removed gone is) pinned = same_policies slot x s s' (ap (λ (state : State). state.specs) is) (ap (λ (state : State). state.numbers) is) pinned
+keeps_pinned slot x s s' (unlinked id is) pinned = same_policies slot x s s' (ap (λ (state : State). state.specs) is) (ap (λ (state : State). state.numbers) is) pinned
+keeps_pinned slot x s s' (loaded m none is) pinned =
+    subst (λ (state : State). IsPinned slot x state.specs state.numbers) (sym is) (pinned_newest slot x s.specs s.numbers m s.booted pinned)
+keeps_pinned slot x s s' (unloaded m ok is) pinned =
+    subst (λ (state : State). IsPinned slot x state.specs state.numbers) (sym is) (pinned_without slot x s.specs s.numbers m ok pinned)
+keeps_pinned slot x s s' (set_to m change ok is) pinned =
+    subst (λ (state : State). IsPinned slot x state.specs state.numbers) (sym is) (pinned_changed slot x s.specs s.numbers m change ok pinned)
 
 keeps_passing : {by : Deed} (slot : ℕ) (s s' : State) → StateChange by s s' → s.booted ≡ true → NoneLasting slot s.specs → NoneLasting slot s'.specs
 keeps_passing slot s s' (same is) booted none = subst (λ (x : State). NoneLasting slot x.specs) (sym is) none
@@ -239,12 +240,13 @@ keeps_passing slot s s' (created from maker name what own live process is) boote
 keeps_passing slot s s' (changed change id kind is) booted none = subst (λ (x : State). NoneLasting slot x.specs) (sym is) none
 keeps_passing slot s s' (relabels id e request asked live allowed is) booted none = subst (λ (x : State). NoneLasting slot x.specs) (sym is) none
 keeps_passing slot s s' (removed gone is) booted none = subst (λ (x : State). NoneLasting slot x.specs) (sym is) none
+keeps_passing slot s s' (unlinked id is) booted none = subst (λ (x : State). NoneLasting slot x.specs) (sym is) none
 keeps_passing slot s s' (loaded m fault is) booted none =
     subst (λ (x : State). NoneLasting slot x.specs) (sym is)
     (all_newest (IsPassing slot) (newest m s.booted s.numbers) s.specs (λ _ lasting. no_late s m booted fault lasting) none)
 keeps_passing slot s s' (unloaded m ok is) booted none =
     subst (λ (x : State). NoneLasting slot x.specs) (sym is) (all_without (IsPassing slot) m s.specs none)
-keeps_passing slot s s' (set_to m change is) booted none =
+keeps_passing slot s s' (set_to m change ok is) booted none =
     subst (λ (x : State). NoneLasting slot x.specs) (sym is)
     (all_changed (λ r. option_eq nat_eq r.slot (Some slot) ≡ true → IsLasting r.module → ⊥) m change s.specs none)
 
@@ -254,13 +256,14 @@ keeps_booted s s' (created from maker name what own live process is) booted = ap
 keeps_booted s s' (changed change id kind is) booted = ap (λ (x : State). x.booted) is ∙ booted
 keeps_booted s s' (relabels id e request asked live allowed is) booted = ap (λ (x : State). x.booted) is ∙ booted
 keeps_booted s s' (removed gone is) booted = ap (λ (x : State). x.booted) is ∙ booted
+keeps_booted s s' (unlinked id is) booted = ap (λ (x : State). x.booted) is ∙ booted
 keeps_booted s s' (loaded m none is) booted = ap (λ (x : State). x.booted) is ∙ booted
 keeps_booted s s' (unloaded m ok is) booted = ap (λ (x : State). x.booted) is ∙ booted
-keeps_booted s s' (set_to m change is) booted = ap (λ (x : State). x.booted) is ∙ booted
+keeps_booted s s' (set_to m change ok is) booted = ap (λ (x : State). x.booted) is ∙ booted
 
 -- a policy that stays holds the slot, and that of each live entity holds a valid label; or none that holds it stays
 abbrev pub Holding : ℕ → State → Type 0
-Holding slot s = ((r : Registration) × IsPinned slot r s.specs s.numbers × AllValid slot r.module s.objects) ⊎ NoneLasting slot s.specs
+Holding slot s = ((x : Entry) × IsPinned slot x s.specs s.numbers × AllValid slot x.0.module s.objects) ⊎ NoneLasting slot s.specs
 
 -- each slot number of a listed policy was given, and at most one policy holds this slot
 pub record AreSlots (slot : ℕ) (s : State) : Type 0 where
@@ -273,6 +276,7 @@ keeps_slots slot s s' (created from maker name what own live process is) slots =
 keeps_slots slot s s' (changed change id kind is) slots = subst (AreSlots slot) (sym is) (record { below = slots.below; single = slots.single })
 keeps_slots slot s s' (relabels id e request asked live allowed is) slots = subst (AreSlots slot) (sym is) (record { below = slots.below; single = slots.single })
 keeps_slots slot s s' (removed gone is) slots = subst (AreSlots slot) (sym is) (record { below = slots.below; single = slots.single })
+keeps_slots slot s s' (unlinked id is) slots = subst (AreSlots slot) (sym is) (record { below = slots.below; single = slots.single })
 keeps_slots slot s s' (loaded m none is) slots =
     subst (AreSlots slot) (sym is)
     (record {
@@ -285,7 +289,7 @@ keeps_slots slot s s' (unloaded m ok is) slots =
       below = all_without (λ entry. IsBelow s.numbers entry.0.slot) m s.specs slots.below;
       single = one_without slot m s.specs slots.single;
     })
-keeps_slots slot s s' (set_to m change is) slots =
+keeps_slots slot s s' (set_to m change ok is) slots =
     subst (AreSlots slot) (sym is)
     (record {
       below = all_changed (λ r. IsBelow s.numbers r.slot) m change s.specs slots.below;
@@ -315,14 +319,14 @@ keeps {by = by} slot s s' within shape kept =
 
 -- who holds the slot and stays gives each live entity a valid label
 pub holder_valid : (slot : ℕ) (s : State) (x : Entry) → IsKept slot s → find (holds_slot slot) s.specs ≡ Some x → IsLasting x.0.module
-    → IsPinned slot x.0 s.specs s.numbers × AllValid slot x.0.module s.objects
+    → IsPinned slot x s.specs s.numbers × AllValid slot x.0.module s.objects
 holder_valid slot s x kept found lasting = one kept.holding
   where
-    one : Holding slot s → IsPinned slot x.0 s.specs s.numbers × AllValid slot x.0.module s.objects
+    one : Holding slot s → IsPinned slot x s.specs s.numbers × AllValid slot x.0.module s.objects
     one (inl held) =
-        let holder : Some (held.0, held.1.meaning) ≡ Some x = sym held.1.found ∙ found in
-        let same : (held.0, held.1.meaning) ≡ x = cc in
-        subst (λ (entry : Entry). IsPinned slot entry.0 s.specs s.numbers × AllValid slot entry.0.module s.objects) same (held.1, held.2)
+        let holder : Some held.0 ≡ Some x = sym held.1.found ∙ found in
+        let same : held.0 ≡ x = cc in
+        subst (λ (entry : Entry). IsPinned slot entry s.specs s.numbers × AllValid slot entry.0.module s.objects) same (held.1, held.2)
     one (inr none) = absurd (passing_found slot s.specs x none found lasting)
 
 -- the maker's slot holds a process's valid label then

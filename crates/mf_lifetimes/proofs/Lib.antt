@@ -1,3 +1,4 @@
+pub mod Lasting
 pub mod Listing
 pub mod Settings
 pub mod Valid

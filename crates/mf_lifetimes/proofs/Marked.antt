@@ -26,7 +26,7 @@ use Rattle.mf_calls.specs.WellFormed.{IsWellFormed}
 use Rattle.mf_plan.specs.declared.state.State.{State}
 use Rattle.mf_core.specs.declared.history.Event.{Event}
 use Rattle.mf_core.specs.declared.history.Event.TheVariants as event
-use Rattle.mf_core.specs.Opening.{opening_state, booted_specs}
+use Rattle.mf_core.specs.Opening.{opening_state, booted_specs, spec_at_boot}
 use Rattle.mf_core.specs.LegalHistory.{RunState, opening_run, next_line, run_after}
 use Rattle.std.specs.List.{filter_map}
 use Rattle.mf_lifetimes.specs.Marks.{Mark, made_marks, end_mark, is_registered, added_marks, marks_across, marks_after, marks_of}
@@ -44,7 +44,8 @@ use Rattle.mf_perform.proofs.EntityChange.{EntityChange, ChangesEntities, change
 use Rattle.mf_perform.proofs.EntityChange.EntityChange.{absent, stays, gets_label, comes, goes}
 use Rattle.mf_perform.proofs.Allowed.{IsAllowed}
 use Rattle.mf_perform.proofs.Rooted.{IsRooted}
-use Rattle.mf_lifetimes.proofs.Listing.{IsLasting, lasting_labels, IsPinned, by_holder, one_labels}
+use Rattle.mf_lifetimes.proofs.Lasting.{IsLasting, lasting_labels}
+use Rattle.mf_lifetimes.proofs.Listing.{IsPinned, by_holder, one_labels}
 use Rattle.mf_lifetimes.proofs.Valid.{IsValidOf}
 use Rattle.mf_lifetimes.proofs.FirstValues.{with_first, unchanged_marks, relabelled_marks}
 use Rattle.mf_lifetimes.proofs.Boots.{Standing, boots_standing, boots_pinned, boots_below, boots_single}
@@ -124,7 +125,7 @@ relabel_marked slot s id old new request marks within kept live allowed what lab
     valid x found lasting =
         let held = holder_valid slot s x kept found lasting in
         let own : IsValidOf x.0.module (kind_of old.what) (value_in slot old) = held.1 id old live in
-        (own, relabel_valid slot x.0 s old request held.0 held.1 own allowed)
+        (own, relabel_valid slot x s old request held.0 held.1 own allowed)
 
 change_marked : {by : Deed} (slot : ℕ) (id : Id) (s : State) (next : ℕ) (found found' : Option LiveEntity) (marks : List Mark) → slot < SLOTS → IsKept slot s
     → live_at s.objects id ≡ found → s.objects.next ≤ next → EntityChange by s id found found' → Agree slot id s.objects.next found marks
@@ -257,12 +258,12 @@ run_marked slot id s r marks (e ∷ es) within marked =
 
 -- The opening state
 
-opening_valid : (slot : ℕ) (s : Script) (r : Registration) → slot < SLOTS → IsWellFormed s → IsPinned slot r (booted_specs s) (fold given_after 0 s.boots)
-    → AllValid slot r.module (opening_state s).objects
-opening_valid slot s r within formed pinned id e found =
+opening_valid : (slot : ℕ) (s : Script) (x : Entry) → slot < SLOTS → IsWellFormed s → IsPinned slot x (booted_specs s) (fold given_after 0 s.boots)
+    → AllValid slot x.0.module (opening_state s).objects
+opening_valid slot s x within formed pinned id e found =
     let booted = (opening_booted s formed).each id e found in
-    ap (λ (values : List LabelValue). holds_valid (facts_of r.module).labels (kind_of e.what) (slice_index_or values slot Unset)) booted.label
-    ∙ boot_holds slot r (booted_specs s) (fold given_after 0 s.boots) (kind_of e.what) booted.request within pinned booted.let_ask
+    ap (λ (values : List LabelValue). holds_valid (facts_of x.0.module).labels (kind_of e.what) (slice_index_or values slot Unset)) booted.label
+    ∙ boot_holds slot x (booted_specs s) (fold given_after 0 s.boots) (kind_of e.what) booted.request within pinned booted.let_ask
 
 opening_holding : (slot : ℕ) (s : Script) → slot < SLOTS → IsWellFormed s → Standing slot (booted_specs s) (fold given_after 0 s.boots) → Holding slot (opening_state s)
 opening_holding slot s within formed (inl pinned) = inl (pinned.0, pinned.1, opening_valid slot s pinned.0 within formed pinned.1)
@@ -279,7 +280,7 @@ opening_marked slot id s within formed =
         rooted = booted.rooted;
         booted = refl;
         slots = record { below = boots_below s; single = boots_single s slot };
-        holding = opening_holding slot s within formed (boots_standing s slot);
+        holding = opening_holding slot s within formed (boots_standing s slot formed);
       };
       agree = one (live_at (opening_state s).objects id) refl;
     }
@@ -333,53 +334,54 @@ gone_have_ended s h id slot r formed legal gone within =
 
 -- Policies that stay
 
--- the registration stays, and its slot of each live entity holds a valid label
-pub record IsHeld (slot : ℕ) (r : Registration) (s : State) : Type 0 where
+-- the entry stays, and its slot of each live entity holds a valid label
+pub record IsHeld (slot : ℕ) (x : Entry) (s : State) : Type 0 where
   pub kept : IsKept slot s
-  pub pinned : IsPinned slot r s.specs s.numbers
-  pub valid : AllValid slot r.module s.objects
+  pub pinned : IsPinned slot x s.specs s.numbers
+  pub valid : AllValid slot x.0.module s.objects
 
-pub opening_held : (slot : ℕ) (r : Registration) (s : Script) → slot < SLOTS → IsWellFormed s → IsPinned slot r (booted_specs s) (fold given_after 0 s.boots)
-    → IsHeld slot r (opening_state s)
-opening_held slot r s within formed pinned =
-    record { kept = (opening_marked slot (record { 0 = 0 }) s within formed).kept; pinned = pinned; valid = opening_valid slot s r within formed pinned }
+pub opening_held : (slot : ℕ) (x : Entry) (s : Script) → slot < SLOTS → IsWellFormed s → IsPinned slot x (booted_specs s) (fold given_after 0 s.boots)
+    → IsHeld slot x (opening_state s)
+opening_held slot x s within formed pinned =
+    record { kept = (opening_marked slot (record { 0 = 0 }) s within formed).kept; pinned = pinned; valid = opening_valid slot s x within formed pinned }
 
-pub step_held : {by : Deed} (slot : ℕ) (r : Registration) (s s' : State) → slot < SLOTS → StateChange by s s' → IsHeld slot r s → IsHeld slot r s'
-step_held {by = by} slot r s s' within shape held =
+pub step_held : {by : Deed} (slot : ℕ) (x : Entry) (s s' : State) → slot < SLOTS → StateChange by s s' → IsHeld slot x s → IsHeld slot x s'
+step_held {by = by} slot x s s' within shape held =
     let step : ChangesEntities by s s' = changes_entities by s s' shape held.kept.rooted.rising in
     record {
       kept = keeps slot s s' within shape held.kept;
-      pinned = keeps_pinned slot r s s' shape held.pinned;
-      valid = keeps_valid slot r s s' within step held.pinned held.valid;
+      pinned = keeps_pinned slot x s s' shape held.pinned;
+      valid = keeps_valid slot x s s' within step held.pinned held.valid;
     }
 
-pub observing_held : {caller : Option Id} {checks : List Item} (slot : ℕ) (r : Registration) (s s1 : State) → Observing caller checks s s1 → IsHeld slot r s → IsHeld slot r s1
-observing_held {caller = caller} {checks = checks} slot r s s1 shape held =
+pub observing_held : {caller : Option Id} {checks : List Item} (slot : ℕ) (x : Entry) (s s1 : State) → Observing caller checks s s1 → IsHeld slot x s → IsHeld slot x s1
+observing_held {caller = caller} {checks = checks} slot x s s1 shape held =
     let keeps : ObservingKeeps caller checks s s1 = observing_keeps s s1 shape held.kept.rooted in
     record {
       kept = observing_kept slot s s1 shape held.kept;
-      pinned = same_policies slot r s s1 keeps.specs keeps.numbers held.pinned;
-      valid = observing_valid slot r s s1 keeps held.kept.slots.single held.pinned held.valid;
+      pinned = same_policies slot x s s1 keeps.specs keeps.numbers held.pinned;
+      valid = observing_valid slot x s s1 keeps held.kept.slots.single held.pinned held.valid;
     }
 
-run_held : (slot : ℕ) (r : Registration) (s : Script) (run : RunState) (es : List Event) → slot < SLOTS → IsHeld slot r run.state
-    → IsHeld slot r (fold (run_after s) run es).state
-run_held slot r s run [] within held = held
-run_held slot r s run (e ∷ es) within held =
-    run_held slot r s (run_after s run e) es within
-    (step_held slot r (seen_by s run e) (run_after s run e).state within (event_change s run e held.kept.rooted)
-    (observing_held slot r run.state (seen_by s run e) (event_observing s run e held.kept.rooted) held))
+run_held : (slot : ℕ) (x : Entry) (s : Script) (run : RunState) (es : List Event) → slot < SLOTS → IsHeld slot x run.state
+    → IsHeld slot x (fold (run_after s) run es).state
+run_held slot x s run [] within held = held
+run_held slot x s run (e ∷ es) within held =
+    run_held slot x s (run_after s run e) es within
+    (step_held slot x (seen_by s run e) (run_after s run e).state within (event_change s run e held.kept.rooted)
+    (observing_held slot x run.state (seen_by s run e) (event_observing s run e held.kept.rooted) held))
 
-labels_all : (slot : ℕ) (r : Registration) (s : State) → IsHeld slot r s → LabelsAll r slot s
-labels_all slot r s held =
+labels_all : (slot : ℕ) (x : Entry) (s : State) → IsHeld slot x s → LabelsAll x.0 slot s
+labels_all slot x s held =
     record {
       listed = λ kind. one_labels slot kind s.specs held.kept.slots.single
           ∙ ap (by_holder kind) held.pinned.found
-          ∙ ap (λ (b : Bool). if b then r ∷ [] else []) (lasting_labels r.module kind held.pinned.lasting);
+          ∙ ap (λ (b : Bool). if b then x.0 ∷ [] else []) (lasting_labels x.0.module kind held.pinned.lasting);
       valid = held.valid;
     }
 
 pub last_and_label : BootedPoliciesLast
 last_and_label s h r slot formed legal there fixed at within =
-    let pinned = boots_pinned s slot r (subst (λ (rs : List Registration). Contains rs r) legal.boots there) fixed at in
-    labels_all slot r (state_of s h) (run_held slot r s (opening_run s) h.events.list within (opening_held slot r s within formed pinned))
+    let x : Entry = (r, spec_at_boot s r.module) in
+    let pinned = boots_pinned s slot r formed (subst (λ (rs : List Registration). Contains rs r) legal.boots there) fixed at in
+    labels_all slot x (state_of s h) (run_held slot x s (opening_run s) h.events.list within (opening_held slot x s within formed pinned))

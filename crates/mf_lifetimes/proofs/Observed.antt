@@ -14,7 +14,6 @@ use Rattle.mf_elem.specs.declared.label.LabelValue.TheVariants.{Unset, Range, Nu
 use Rattle.mf_elem.specs.Elem.{dominates, is_plain}
 use Rattle.mf_item.specs.declared.view.Kind.{Kind}
 use Rattle.mf_item.specs.Item.{Item}
-use Rattle.mf_policy.specs.declared.registration.Registration.{Registration}
 use Rattle.mf_policy.specs.Lowering.{after_checks, lomac_slot, lowered_element, lowered_value}
 use Rattle.mf_policy.specs.Registration.{Entry, holds_slot, is_of}
 use Rattle.mf_objects.specs.declared.id.Id.{Id}
@@ -184,44 +183,44 @@ module _ (slot : ℕ) (o : Entities) (all : AllValid slot Lomac o) (kind : Kind)
   after_valid checks value sees valid = after_checks_keep (IsValidOf Lomac kind) o slot checks value sees by_object (lowered_by_none kind) valid
 
 -- the slot of an entity holds a valid label of the policy that stays
-module _ (slot : ℕ) (r : Registration) (s : State) (single : AtMostOne slot s.specs) (pinned : IsPinned slot r s.specs s.numbers) (all : AllValid slot r.module s.objects) where
+module _ (slot : ℕ) (entry : Entry) (s : State) (single : AtMostOne slot s.specs) (pinned : IsPinned slot entry s.specs s.numbers) (all : AllValid slot entry.0.module s.objects) where
   lowered_holds : (at : ℕ) (e : LiveEntity) (id : Id) (checks : List Item) → live_at s.objects id ≡ Some e → lomac_slot s.specs ≡ Some at → AllByRecursion (Sees s.objects) checks
-      → IsValidOf r.module (kind_of e.what) (value_in slot (with_value at (after_checks at (value_in at e) checks) e))
+      → IsValidOf entry.0.module (kind_of e.what) (value_in slot (with_value at (after_checks at (value_in at e) checks) e))
   lowered_holds at e id checks live listed sees = one (value_now at slot (after_checks at (value_in at e) checks) e)
     where
       value : LabelValue
       value = after_checks at (value_in at e) checks
 
-      valid : IsValidOf r.module (kind_of e.what) (value_in slot e)
+      valid : IsValidOf entry.0.module (kind_of e.what) (value_in slot e)
       valid = all id e live
 
       one : (value_in slot (with_value at value e) ≡ value_in slot e) ⊎ ((at ≡ slot) × (value_in slot (with_value at value e) ≡ value))
-          → IsValidOf r.module (kind_of e.what) (value_in slot (with_value at value e))
-      one (inl same) = subst (IsValidOf r.module (kind_of e.what)) (sym same) valid
+          → IsValidOf entry.0.module (kind_of e.what) (value_in slot (with_value at value e))
+      one (inl same) = subst (IsValidOf entry.0.module (kind_of e.what)) (sym same) valid
       one (inr there) =
-          let is : Lomac ≡ r.module = lomac_holds slot s.specs (r, pinned.meaning) single pinned.found (listed ∙ ap (λ (n : ℕ). Some n) there.0) in
+          let is : Lomac ≡ entry.0.module = lomac_holds slot s.specs entry single pinned.found (listed ∙ ap (λ (n : ℕ). Some n) there.0) in
           let own : IsValidOf Lomac (kind_of e.what) (after_checks slot (value_in slot e) checks) =
           after_valid slot s.objects (subst (λ (m : Module). AllValid slot m s.objects) (sym is) all) (kind_of e.what) checks (value_in slot e) sees
           (subst (λ (m : Module). IsValidOf m (kind_of e.what) (value_in slot e)) (sym is) valid) in
-          subst (IsValidOf r.module (kind_of e.what)) (sym (there.1 ∙ ap (λ (n : ℕ). after_checks n (value_in n e) checks) there.0))
+          subst (IsValidOf entry.0.module (kind_of e.what)) (sym (there.1 ∙ ap (λ (n : ℕ). after_checks n (value_in n e) checks) there.0))
           (subst (λ (m : Module). IsValidOf m (kind_of e.what) (after_checks slot (value_in slot e) checks)) is own)
 
   observed_valid : (caller : Option Id) (checks : List Item) (id : Id) (found found1 : Option LiveEntity) (e : LiveEntity) → live_at s.objects id ≡ found
-      → HasObserved caller checks s id found found1 → found1 ≡ Some e → IsValidOf r.module (kind_of e.what) (value_in slot e)
+      → HasObserved caller checks s id found found1 → found1 ≡ Some e → IsValidOf entry.0.module (kind_of e.what) (value_in slot e)
   observed_valid caller checks id _ _ e was absent now = cc
   observed_valid caller checks id _ _ e was (unlowered x) now = all id e (was ∙ now)
   observed_valid caller checks id _ _ e was (is_lowered at x named listed process sees) now =
       as_now e (with_value at (after_checks at (value_in at x) checks) x) now (lowered_holds at x id checks was listed sees)
     where
-      as_now : (e new : LiveEntity) → Some new ≡ Some e → IsValidOf r.module (kind_of new.what) (value_in slot new) → IsValidOf r.module (kind_of e.what) (value_in slot e)
+      as_now : (e new : LiveEntity) → Some new ≡ Some e → IsValidOf entry.0.module (kind_of new.what) (value_in slot new) → IsValidOf entry.0.module (kind_of e.what) (value_in slot e)
       as_now e new is valid =
           let same : new ≡ e = cc in
-          subst (λ (x : LiveEntity). IsValidOf r.module (kind_of x.what) (value_in slot x)) same valid
+          subst (λ (x : LiveEntity). IsValidOf entry.0.module (kind_of x.what) (value_in slot x)) same valid
 
-pub observing_valid : {caller : Option Id} {checks : List Item} (slot : ℕ) (r : Registration) (s s1 : State) → ObservingKeeps caller checks s s1 → AtMostOne slot s.specs
-    → IsPinned slot r s.specs s.numbers → AllValid slot r.module s.objects → AllValid slot r.module s1.objects
-observing_valid {caller = caller} {checks = checks} slot r s s1 keeps single pinned all id e live =
-    observed_valid slot r s single pinned all caller checks id (live_at s.objects id) (live_at s1.objects id) e refl (keeps.each id) live
+pub observing_valid : {caller : Option Id} {checks : List Item} (slot : ℕ) (entry : Entry) (s s1 : State) → ObservingKeeps caller checks s s1 → AtMostOne slot s.specs
+    → IsPinned slot entry s.specs s.numbers → AllValid slot entry.0.module s.objects → AllValid slot entry.0.module s1.objects
+observing_valid {caller = caller} {checks = checks} slot entry s s1 keeps single pinned all id e live =
+    observed_valid slot entry s single pinned all caller checks id (live_at s.objects id) (live_at s1.objects id) e refl (keeps.each id) live
 
 -- the checks keep what every step keeps
 pub observing_kept : {caller : Option Id} {checks : List Item} (slot : ℕ) (s s1 : State) → Observing caller checks s s1 → IsKept slot s → IsKept slot s1

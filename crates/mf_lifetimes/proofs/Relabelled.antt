@@ -18,19 +18,22 @@ use Rattle.mf_elem.proofs.Valid.{is_valid_for}
 use Rattle.mf_item.specs.declared.view.Kind.{Kind}
 use Rattle.mf_item.specs.declared.view.Kind.TheVariants as kinds
 use Rattle.mf_item.specs.declared.view.ObjectView.{ObjectView}
+use Rattle.mf_item.specs.declared.operation.CheckOp.{CheckOp}
+use Rattle.mf_item.specs.declared.operation.CheckOp.TheVariants as ops
 use Rattle.mf_item.specs.Item.{Item}
 use Rattle.mf_policy.specs.declared.modules.Labelling.{Labelling}
 use Rattle.mf_policy.specs.declared.modules.Labelling.TheVariants.{Ranges, Elements}
 use Rattle.mf_policy.specs.declared.operations.Test.TheVariants.{RelabelObject, RelabelCredential}
-use Rattle.mf_policy.specs.Answer.{LatticePolicy, nothing, range_label, object_slot, labels_answer, lattice_answer, answer}
+use Rattle.mf_policy.specs.declared.spec.Spec.{Spec}
+use Rattle.mf_policy.specs.Answer.{LatticePolicy, nothing, range_label, object_slot, labels_answer, lattice_answer, answer, tests_transfers}
 use Rattle.mf_policy.specs.Laws.{IsOfSubject, SubjectsStayValid, IsOfObject, ObjectsGetNoRange}
-use Rattle.mf_policy.specs.Modules.{facts_of, fresh_of, number_asked, range_asked}
-use Rattle.mf_policy.specs.Operations.{row_of}
+use Rattle.mf_policy.specs.Modules.{facts_of, module_of, number_asked, range_asked}
+use Rattle.mf_policy.specs.Operations.{is_transfer, row_of}
 use Rattle.mf_policy.specs.Relabel.{credential_relabel, object_relabel}
 use Rattle.mf_policy.specs.Relabelled.{after_by, range_after, value_after}
 use Rattle.mf_policy.proofs.EachModule.{AnswersAs, answers_as, has_elements, has_ranges}
 use Rattle.mf_lifetimes.specs.Laws.{holds_valid}
-use Rattle.mf_lifetimes.proofs.Listing.{IsLasting}
+use Rattle.mf_lifetimes.proofs.Lasting.{IsLasting}
 use Rattle.mf_lifetimes.proofs.Valid.{IsValidOf, plain_asked, plain_replaced}
 
 -- The rules for relabels
@@ -171,15 +174,27 @@ other_kind process other kinds.Vnode (Range label) no_process = refl
 other_kind process other kinds.Pipe (Range label) no_process = refl
 other_kind process other kinds.Socket (Range label) no_process = refl
 
+-- No relabel is a transfer
+
+taking_is_none : (op : CheckOp) → (row_of op).test ≡ RelabelCredential → is_transfer op ≡ true → ⊥
+taking_is_none ops.VnodeRead test transfer = cc
+taking_is_none ops.VnodeWrite test transfer = cc
+taking_is_none other test transfer = cc
+
+giving_is_none : (op : CheckOp) → (row_of op).test ≡ RelabelObject → is_transfer op ≡ true → ⊥
+giving_is_none ops.VnodeRead test transfer = cc
+giving_is_none ops.VnodeWrite test transfer = cc
+giving_is_none other test transfer = cc
+
 -- A policy that stays
 
-module _ (m : Module) (lasting : IsLasting m) (slot : ℕ) (item : Item) (request : Request) (spelled : IsRequest request) (asked : item.request ≡ Some request)
-    (success : answer (fresh_of m) slot item ≡ Success) where
+module _ (m : Module) (spec : Spec) (of : module_of spec ≡ m) (lasting : IsLasting m) (slot : ℕ) (item : Item) (request : Request) (spelled : IsRequest request)
+    (asked : item.request ≡ Some request) (success : answer spec slot item ≡ Success) where
   own : AnswersAs m
   own = answers_as m lasting
 
-  allowed : lattice_answer own.policy slot item ≡ Success
-  allowed = sym (own.answers slot item) ∙ success
+  allowed : (is_transfer item.op ≡ true → tests_transfers spec ≡ true) → lattice_answer own.policy slot item ≡ Success
+  allowed tested = sym (own.answers spec slot item of tested) ∙ success
 
   -- what is so of the policy and of what is asked, by the labels of its module
   record FitsLabels (labels : Labelling) : Type 0 where
@@ -199,7 +214,7 @@ module _ (m : Module) (lasting : IsLasting m) (slot : ℕ) (item : Item) (reques
           → holds_valid labels kinds.Process (after_by labels (range_asked m request) (number_asked m request) (slice_index_or label slot Unset)) ≡ true
       by_labels (Ranges process other) elements fit valid =
           subst (λ (part : Option RangeLabel). holds_valid (Ranges process other) kinds.Process (range_after part (slice_index_or label slot Unset)) ≡ true) (own.part request)
-          (item_process process other own.policy (fit.take refl) (fit.give refl) slot item request asked label test is allowed valid)
+          (item_process process other own.policy (fit.take refl) (fit.give refl) slot item request asked label test is (allowed (λ transfer. absurd (taking_is_none item.op test transfer))) valid)
       by_labels (Elements element) elements fit valid =
           plain_after element kinds.Process (range_asked m request) (slice_index_or label slot Unset) (fit.plain element refl) valid
       by_labels other elements fit valid = cc
@@ -216,7 +231,7 @@ module _ (m : Module) (lasting : IsLasting m) (slot : ℕ) (item : Item) (reques
       by_labels (Ranges process other) elements fit subject valid =
           subst (λ (part : Option RangeLabel). holds_valid (Ranges process other) kind (range_after part (slice_index_or label slot Unset)) ≡ true) (own.part request)
           (other_kind process other kind _ no_process
-          ∙ item_object process other own.policy (fit.take refl) (fit.give refl) slot item request asked maker label object test is there labelled allowed subject
+          ∙ item_object process other own.policy (fit.take refl) (fit.give refl) slot item request asked maker label object test is there labelled (allowed (λ transfer. absurd (giving_is_none item.op test transfer))) subject
           (sym (other_kind process other kind _ no_process) ∙ valid))
       by_labels (Elements element) elements fit subject valid =
           plain_after element kind (range_asked m request) (slice_index_or label slot Unset) (fit.plain element refl) valid

@@ -22,7 +22,7 @@ use Rattle.mf_policy.specs.Modules.{facts_of, range_asked, number_asked, labels_
 use Rattle.mf_policy.proofs.ByEntry.{has_no_range}
 use Rattle.mf_policy.proofs.EachModule.{has_elements}
 use Rattle.mf_lifetimes.specs.Laws.{holds_valid, suits_kind}
-use Rattle.mf_lifetimes.proofs.Listing.{IsLasting, SuitKinds, lasting_facts}
+use Rattle.mf_lifetimes.proofs.Lasting.{IsLasting, SuitKinds, lasting_facts}
 use Rattle.mf_objects.specs.Live.{is_set}
 
 -- a valid label of the module, for that kind

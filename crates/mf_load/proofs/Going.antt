@@ -26,7 +26,7 @@ use Rattle.mf_load.specs.Alone.{Own, with_held, with_scratch, without_scratch, i
 use Rattle.mf_objects.proofs.Finding.{find_push_hit, find_beyond}
 use Rattle.mf_load.proofs.Finding.{find_filter_gone, none_passes, all_push, all_from, one_fewer, only_one, names_push, names_push_other, names_filter, names_stay}
 use Rattle.mf_load.proofs.Names.{bytes_same, scratches_differ}
-use Rattle.mf_load.proofs.Known.{biba_alone, at, directory_id, file_id, the_scratch, IsLow, IsScratch, HasScratch}
+use Rattle.mf_load.proofs.Known.{biba_alone, at, directory_id, file_id, the_scratch, FitsLoad, IsScratch, HasScratch}
 use Rattle.mf_load.proofs.Keeping.{pushed, push_fixed, push_scratch, write_fixed, write_scratch, write_names, remove_fixed, remove_scratch, OtherThan, ids_differ}
 use Rattle.mf_load.proofs.Totals.{total, total_same, total_at}
 use Rattle.mf_load.proofs.Standing.{held_count, one_more, one_less, held_at, held_other, Stands, fixed_same, stands_same, few_live, both_ways, and_false, same_scratch}
@@ -146,7 +146,7 @@ module _ (t k : ℕ) (s : State) (own own' : ℕ → Own) (few : t ≤ 16) (with
 
   module _ (j : ℕ) (few_j : j < 4) (absent : find (is_one_named (is_entry (at (directory_id k))) (scratch_name j)) s.objects.live ≡ None) (held_none : (own k).held j ≡ false)
       (step : own' k ≡ with_scratch (own k) j) where
-    new_low : IsLow (2 * t + 1) (the_scratch s.objects.next k j).what
+    new_low : FitsLoad (2 * t + 1) (the_scratch s.objects.next k j).what
     new_low dir same = let is : at (directory_id k) ≡ dir = cc in omega (arith, ap (λ (i : Id). i.0) is)
 
     new_hit : is_one_named (is_entry (at (directory_id k))) (scratch_name j) (the_scratch s.objects.next k j) ≡ true

@@ -1,6 +1,7 @@
 -- What a call of the load leaves as it is.
 use Rattle.std.proofs.Common.{◌≡◌, ◌≢◌, ℕ, ◌<◌, ◌≤◌, ◌+◌, ◌*◌, nat_eq, Bool, true, false, cond, not, ◌&&◌, List, [], ◌∷◌, ◌++◌, Some, map, option_map, refl, ap, sym, ◌∙◌, subst, arith, eq-eqb}
 use Rattle.std.specs.Prelude.{find}
+use Rattle.std.specs.List.{AllByRecursion}
 use Rattle.std.specs.Str.{bytes_eq}
 use Rattle.std.proofs.lemmas.Bool.Decides.{nat_tests}
 use Rattle.mf_objects.proofs.Entities.{changed_at}
@@ -8,13 +9,15 @@ use Rattle.mf_objects.specs.declared.id.Id.{Id}
 use Rattle.mf_objects.specs.declared.entity.EntityData.{EntityData}
 use Rattle.mf_objects.specs.declared.entity.EntityData.TheVariants.{Process, Vnode, Pipe, Socket}
 use Rattle.mf_objects.specs.Live.{LiveEntity, Entities, has_id, is_process, is_entry, is_one_named}
+use Rattle.mf_objects.specs.declared.descriptors.Fd.{Fd}
 use Rattle.mf_objects.specs.Changes.{appended, with_what, with_change, without}
+use Rattle.mf_objects.specs.Descriptors.{closed_on, with_fds, without_vnode}
 use Rattle.mf_objects.specs.Titles.{entry_names}
 use Rattle.mf_objects.proofs.Rising.{rising_push, rising_changed}
 use Rattle.mf_calls.specs.Generated.{task_name, directory_name, file_name, scratch_name}
 use Rattle.mf_objects.proofs.Finding.{find_push_miss, rising_filter}
 use Rattle.mf_load.proofs.Finding.{find_push_found, find_map, find_filter_kept, find_filter_none, all_push, all_map, all_filter, names_map}
-use Rattle.mf_load.proofs.Known.{at, directory_id, file_id, task_id, the_root, the_directory, the_file, the_task, the_scratch, IsFile, IsLow, IsFixed, HasScratch}
+use Rattle.mf_load.proofs.Known.{at, directory_id, file_id, task_id, the_root, the_directory, the_file, the_task, the_scratch, IsFile, FitsLoad, IsFixed, HasScratch}
 
 pub ids_differ : (a b : ℕ) → a ≢ b → nat_eq a b ≡ false
 ids_differ a b other = grind (arith, nat_tests)
@@ -24,9 +27,9 @@ ids_differ a b other = grind (arith, nat_tests)
 abbrev pub pushed : Entities → LiveEntity → Entities
 pushed o x = record { next = o.next + 1; live = o.live ++ x ∷ [] }
 
-pub push_fixed : (t a b : ℕ) (o : Entities) (content : ℕ → List ℕ) (x : LiveEntity) → x.id.0 ≡ o.next → IsLow (2 * t + 1) x.what → IsFixed t a b o content
+pub push_fixed : (t a b : ℕ) (o : Entities) (content : ℕ → List ℕ) (x : LiveEntity) → x.id.0 ≡ o.next → FitsLoad (2 * t + 1) x.what → IsFixed t a b o content
     → IsFixed t a b (pushed o x) content
-push_fixed t a b o content x next low fixed =
+push_fixed t a b o content x next fits fixed =
     record {
       rising = rising_push 0 o.next o.live x next fixed.rising;
       root = find_push_found (has_id (at 0)) o.live x the_root fixed.root;
@@ -48,7 +51,7 @@ push_fixed t a b o content x next low fixed =
             named = find_push_found (is_one_named is_process (task_name u)) o.live x (the_task t u) is.named;
             here = find_push_found (has_id (at (task_id t u))) o.live x (the_task t u) is.here;
           };
-      low = all_push (λ e. IsLow (2 * t + 1) e.what) o.live x fixed.low low;
+      fit = all_push (λ e. FitsLoad (2 * t + 1) e.what) o.live x fixed.fit fits;
     }
 
 -- another file of the load
@@ -81,11 +84,11 @@ appended_process text (Vnode vnode) = refl
 appended_process text (Pipe pipe) = refl
 appended_process text (Socket socket) = refl
 
-appended_low : (text : List ℕ) (n : ℕ) (w : EntityData) → IsLow n w → IsLow n (appended text w)
-appended_low text n (Process process) low = low
-appended_low text n (Vnode vnode) low = low
-appended_low text n (Pipe pipe) low = low
-appended_low text n (Socket socket) low = low
+appended_fits : (text : List ℕ) (n : ℕ) (w : EntityData) → FitsLoad n w → FitsLoad n (appended text w)
+appended_fits text n (Process process) fits = fits
+appended_fits text n (Vnode vnode) fits = fits
+appended_fits text n (Pipe pipe) fits = fits
+appended_fits text n (Socket socket) fits = fits
 
 written_child : (text : List ℕ) (n : ℕ) (dir : Id) (name : List ℕ) (e : LiveEntity) → is_one_named (is_entry dir) name (written text n e) ≡ is_one_named (is_entry dir) name e
 written_child text n dir name e = one (has_id (at n) e)
@@ -122,12 +125,12 @@ written_id text n id e = one (has_id (at n) e)
     one true = refl
     one false = refl
 
-written_low : (text : List ℕ) (n m : ℕ) (e : LiveEntity) → IsLow m e.what → IsLow m (written text n e).what
-written_low text n m e low = one (has_id (at n) e)
+written_fits : (text : List ℕ) (n m : ℕ) (e : LiveEntity) → FitsLoad m e.what → FitsLoad m (written text n e).what
+written_fits text n m e fits = one (has_id (at n) e)
   where
-    one : (b : Bool) → IsLow m (cond b (with_what (appended text) e) e).what
-    one true = appended_low text m e.what low
-    one false = low
+    one : (b : Bool) → FitsLoad m (cond b (with_what (appended text) e) e).what
+    one true = appended_fits text m e.what fits
+    one false = fits
 
 written_same_id : (text : List ℕ) (n : ℕ) (e : LiveEntity) → (written text n e).id ≡ e.id
 written_same_id text n e = one (has_id (at n) e)
@@ -174,7 +177,7 @@ write_fixed t k o content content' text few more others fixed =
             here = written_other text (file_id k) (has_id (at (task_id t u))) o.live (the_task t u)
                 (written_id text (file_id k) (at (task_id t u))) (λ same. omega arith) is.here;
           };
-      low = all_map (λ e. IsLow (2 * t + 1) e.what) (written text (file_id k)) o.live (written_low text (file_id k) (2 * t + 1)) fixed.low;
+      fit = all_map (λ e. FitsLoad (2 * t + 1) e.what) (written text (file_id k)) o.live (written_fits text (file_id k) (2 * t + 1)) fixed.fit;
     }
   where
     file : (u : ℕ) → u < t → (b : Bool) → nat_eq u k ≡ b → IsFile u (content' u) (with_change (with_what (appended text)) o (at (file_id k)))
@@ -228,6 +231,23 @@ write_names k dir o text = names_map dir (written text (file_id k)) o.live (writ
 
 -- A file goes
 
+-- nothing is open on it
+none_open : (file : Id) (n : ℕ) (w : EntityData) → FitsLoad n w → with_fds (closed_on file) w ≡ w
+none_open file n (Process process) none =
+    ap (λ (fds : List Fd). Process (record process { fds = closed_on file fds })) none ∙ sym (ap (λ (fds : List Fd). Process (record process { fds = fds })) none)
+none_open file n (Vnode vnode) fits = refl
+none_open file n (Pipe pipe) fits = refl
+none_open file n (Socket socket) fits = refl
+
+none_closed : (file : Id) (n : ℕ) (es : List LiveEntity) → AllByRecursion (λ e. FitsLoad n e.what) es → map (with_what (with_fds (closed_on file))) es ≡ es
+none_closed file n [] fit = refl
+none_closed file n (e ∷ es) fit =
+    ap (λ (w : EntityData). record e { what = w } ∷ map (with_what (with_fds (closed_on file))) es) (none_open file n e.what fit.0)
+    ∙ ap (λ (xs : List LiveEntity). e ∷ xs) (none_closed file n es fit.1)
+
+pub vnode_goes : (id : Id) (n : ℕ) (o : Entities) → AllByRecursion (λ e. FitsLoad n e.what) o.live → without_vnode id o ≡ without (has_id id) o
+vnode_goes id n o fit = ap (λ (es : List LiveEntity). without (has_id id) (record o { live = es })) (none_closed id n o.live fit)
+
 abbrev stays : ℕ → LiveEntity → Bool
 stays n e = not (has_id (at n) e)
 
@@ -260,7 +280,7 @@ remove_fixed t n o content late fixed =
             named = find_filter_kept (is_one_named is_process (task_name u)) (stays n) o.live (the_task t u) is.named kept;
             here = find_filter_kept (has_id (at (task_id t u))) (stays n) o.live (the_task t u) is.here kept;
           };
-      low = all_filter (λ e. IsLow (2 * t + 1) e.what) (stays n) o.live fixed.low;
+      fit = all_filter (λ e. FitsLoad (2 * t + 1) e.what) (stays n) o.live fixed.fit;
     }
 
 -- the file that goes is another

@@ -24,7 +24,7 @@ use Rattle.mf_load.specs.Alone.{Own, own_after}
 use Rattle.mf_objects.proofs.Finding.{find_push_miss, find_push_hit, find_beyond}
 use Rattle.mf_load.proofs.Finding.{find_push_found, all_push, all_pass, all_from, names_push, names_push_other}
 use Rattle.mf_load.proofs.Names.{bytes_same, tasks_differ, directories_differ, file_no_scratch}
-use Rattle.mf_load.proofs.Known.{biba_alone, at, directory_id, file_id, task_id, the_directory, the_file, the_task, IsDirectory, IsFile, IsTask, IsLow, IsFixed}
+use Rattle.mf_load.proofs.Known.{biba_alone, at, directory_id, file_id, task_id, the_directory, the_file, the_task, IsDirectory, IsFile, IsTask, FitsLoad, IsFixed}
 use Rattle.mf_load.proofs.Keeping.{pushed, push_fixed, ids_differ}
 use Rattle.mf_load.proofs.Calls.{walk_inside}
 use Rattle.mf_load.proofs.Totals.{total, total_same}
@@ -60,7 +60,7 @@ root_filed t =
             directories = λ u within. absurd (omega arith);
             files = λ u within. absurd (omega arith);
             tasks = λ u within. absurd (omega arith);
-            low = (λ dir same. cc, tt);
+            fit = (λ dir same. cc, tt);
           };
       next = refl;
       long = refl;
@@ -81,11 +81,11 @@ module _ (t a : ℕ) (o : Entities) (few : t ≤ 16) (within : a < t) (filed : I
       ap (λ (found : Option LiveEntity). with_file_at biba_alone o (load_directory a) (Name (at 0) (id_of found))) (filed.free a (omega arith) (omega arith))
       ∙ ap (λ m. record { next = o.next + 1; live = o.live ++ record (the_directory a) { id = at m } ∷ [] }) filed.next
 
-  low_directory : IsLow (2 * t + 1) (the_directory a).what
-  low_directory dir same = let is : at 0 ≡ dir = cc in omega (arith, ap (λ (i : Id). i.0) is)
+  directory_fits : FitsLoad (2 * t + 1) (the_directory a).what
+  directory_fits dir same = let is : at 0 ≡ dir = cc in omega (arith, ap (λ (i : Id). i.0) is)
 
   directory_fixed : IsFixed t a 0 (pushed o (the_directory a)) (λ u. [])
-  directory_fixed = push_fixed t a 0 o (λ u. []) (the_directory a) (sym filed.next) low_directory filed.fixed
+  directory_fixed = push_fixed t a 0 o (λ u. []) (the_directory a) (sym filed.next) directory_fits filed.fixed
 
   directory_named : find (is_one_named (is_entry (at 0)) (directory_name a)) (pushed o (the_directory a)).live ≡ Some (the_directory a)
   directory_named =
@@ -120,14 +120,14 @@ module _ (t a : ℕ) (o : Entities) (few : t ≤ 16) (within : a < t) (filed : I
   both_made : fold (with_file biba_alone) o (load_directory a ∷ load_file a ∷ []) ≡ pushed (pushed o (the_directory a)) (the_file a [])
   both_made = ap (λ (x : Entities). with_file biba_alone x (load_file a)) directory_made ∙ file_made
 
-  low_file : IsLow (2 * t + 1) (the_file a []).what
-  low_file dir same = let is : at (directory_id a) ≡ dir = cc in omega (arith, ap (λ (i : Id). i.0) is)
+  file_fits : FitsLoad (2 * t + 1) (the_file a []).what
+  file_fits dir same = let is : at (directory_id a) ≡ dir = cc in omega (arith, ap (λ (i : Id). i.0) is)
 
   file_next : file_id a ≡ o.next + 1
   file_next = omega (arith, filed.next)
 
   both_fixed : IsFixed t a 0 (pushed (pushed o (the_directory a)) (the_file a [])) (λ u. [])
-  both_fixed = push_fixed t a 0 (pushed o (the_directory a)) (λ u. []) (the_file a []) file_next low_file directory_fixed
+  both_fixed = push_fixed t a 0 (pushed o (the_directory a)) (λ u. []) (the_file a []) file_next file_fits directory_fixed
 
   file_elsewhere : (u : ℕ) (name : List ℕ) → u ≢ a → is_one_named (is_entry (at (directory_id u))) name (the_file a []) ≡ false
   file_elsewhere u name other =
@@ -161,7 +161,7 @@ module _ (t a : ℕ) (o : Entities) (few : t ≤ 16) (within : a < t) (filed : I
               directories = λ u below. one_directory u below (nat_eq u a) refl;
               files = λ u below. one_file u below (nat_eq u a) refl;
               tasks = λ u below. absurd (omega arith);
-              low = both_fixed.low;
+              fit = both_fixed.fit;
             };
         next = omega (arith, filed.next);
         long = omega (arith, length-append (pushed o (the_directory a)).live (the_file a [] ∷ []), length-append o.live (the_directory a ∷ []), filed.long);
@@ -272,7 +272,7 @@ module _ (n t b : ℕ) (o : Entities) (few : t ≤ 16) (within : b < t) (tasked 
       ∙ ap (λ m. record { next = o.next + 1; live = o.live ++ record (the_task t b) { id = at m } ∷ [] }) tasked.next
 
   task_fixed : IsFixed t t b (pushed o (the_task t b)) (λ u. [])
-  task_fixed = push_fixed t t b o (λ u. []) (the_task t b) (sym tasked.next) tt tasked.fixed
+  task_fixed = push_fixed t t b o (λ u. []) (the_task t b) (sym tasked.next) refl tasked.fixed
 
   new_task : IsTask t b (pushed o (the_task t b))
   new_task =
@@ -293,7 +293,7 @@ module _ (n t b : ℕ) (o : Entities) (few : t ≤ 16) (within : b < t) (tasked 
               directories = task_fixed.directories;
               files = task_fixed.files;
               tasks = λ u below. one u below (nat_eq u b) refl;
-              low = task_fixed.low;
+              fit = task_fixed.fit;
             };
         next = omega (arith, tasked.next);
         long = omega (arith, length-append o.live (the_task t b ∷ []), tasked.long);

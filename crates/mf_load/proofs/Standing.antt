@@ -70,7 +70,7 @@ fixed_same t o content content' same fixed =
       directories = fixed.directories;
       files = λ u within. subst (λ (bytes : List ℕ). IsFile u bytes o) (sym (same u)) (fixed.files u within);
       tasks = fixed.tasks;
-      low = fixed.low;
+      fit = fixed.fit;
     }
 
 pub stands_same : (t : ℕ) (o : Entities) (own own' : ℕ → Own) → ((u : ℕ) → own' u ≡ own u) → Stands t o own → Stands t o own'
