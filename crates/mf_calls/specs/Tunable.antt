@@ -3,7 +3,7 @@
 use Rattle.std.specs.Prelude.{ℕ, Bool, true, false, if◌then◌else◌, List, Option, Some, None, codes}
 use Rattle.std.specs.Str.{bytes_eq}
 
--- whether mac_biba tests each transfer through a descriptor
+-- the name of the tunable: whether mac_biba tests each transfer through a descriptor
 abbrev pub revocation_name : List ℕ
 revocation_name = codes "security.mac.biba.revocation_enabled"
 

@@ -59,8 +59,8 @@ impl<P: Policy> Fixed<P> {
         self.entries.len()
     }
 
-    /// Changes a setting of the module's policy. The result is ENOENT where the module isn't listed here. If memory runs
-    /// out, the list is unchanged.
+    /// Changes a setting of the module's policy. The result is ENOENT where the module isn't listed here, or its policy has no
+    /// such setting. If memory runs out, the list is unchanged.
     pub fn set(
         &mut self,
         alloc: Global,

@@ -24,7 +24,7 @@ use Rattle.mf_plan.specs.Ways.{At, asked_in, target_in, way_to}
 use Rattle.mf_plan.specs.Found.{IsAbout}
 use Rattle.mf_plan.specs.Effect.Effect.{Open}
 use Rattle.mf_perform.specs.declared.descriptors.Opening.{Opening}
-use Rattle.mf_perform.specs.Found.{effect_found, fd_with, opening_of, opens, payload_found, rule_added, slot}
+use Rattle.mf_perform.specs.Found.{effect_found, fd_with, is_open_call, opening_of, payload_found, rule_added, slot}
 use Rattle.mf_text.specs.Results.{and_then}
 
 module _ (s : State) (task : List ℕ) (me : Id) (c : Call) (found : Found) (is : IsAbout s task me c found) where
@@ -48,7 +48,7 @@ module _ (s : State) (task : List ℕ) (me : Id) (c : Call) (found : Found) (is 
 -- hands back. Of a file that is opened they do so with what mac_biba has in the labels.
 
 effect_row : (s : State) (task : List ℕ) (me : Id) (opening : Opening) (c : Call) (what : At (about_of s task me c).place) → is_change c ≡ false
-    → (opens c ≡ true → opening ≡ opening_of s (Some me) (target_in (about_of s task me c).place what))
+    → (is_open_call c ≡ true → opening ≡ opening_of s (Some me) (target_in (about_of s task me c).place what))
     → effect_found s task me opening c (target_in (about_of s task me c).place what) (asked_in (about_of s task me c).place what) ≡ ((about_of s task me c).row what).effect
 effect_row s task me opening (call.Kldload name) what entry seen = cc
 effect_row s task me opening (call.Kldunload name) what entry seen = cc
@@ -85,7 +85,7 @@ payload_row s task me (call.UgidfwAdd rule) asked there =
 payload_row s task me other what there = refl
 
 module _ (s : State) (task : List ℕ) (me : Id) (c : Call) (found : Found) (is : IsAbout s task me c found) where
-  pub effect_is : (opening : Opening) → is_change c ≡ false → (opens c ≡ true → opening ≡ opening_of s (Some me) found.target)
+  pub effect_is : (opening : Opening) → is_change c ≡ false → (is_open_call c ≡ true → opening ≡ opening_of s (Some me) found.target)
       → effect_found s task me opening c found.target found.request ≡ (row_for s task c me).effect
   effect_is opening entry seen =
       ap (λ (target : Option Id). effect_found s task me opening c target found.request) is.target

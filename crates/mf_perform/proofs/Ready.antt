@@ -31,7 +31,7 @@ use Rattle.mf_plan.proofs.Finding.{row_by}
 use Rattle.mf_perform.specs.declared.verdict.Denial.{Denial}
 use Rattle.mf_perform.specs.Effect.{after, with_objects}
 use Rattle.mf_perform.specs.declared.descriptors.Opening.{Opening}
-use Rattle.mf_perform.specs.Found.{after_found, effect_found, effect_of, opening_of, opens}
+use Rattle.mf_perform.specs.Found.{after_found, effect_found, effect_of, is_open_call, opening_of}
 use Rattle.mf_perform.specs.Held.{lomac_value, with_lomac_value}
 use Rattle.mf_perform.specs.OneCall.{call_reply, observed, performed}
 use Rattle.mf_perform.specs.Passed.{passed}
@@ -156,7 +156,7 @@ pub record Ready (s : State) (task : List ℕ) (child : Option (List ℕ)) (open
   pub back : with_lomac_value (lomac_value s found.caller) (observed s task child c) found.caller ≡ s
 
 pub ready : (s : State) (task : List ℕ) (child : Option (List ℕ)) (opening : Opening) (c : Call) (found : Found) (r : Reply) → IsPopulation s.objects
-    → AreFound s task child c found → is_change c ≡ false → (opens c ≡ true → opening ≡ opening_of s found.caller found.target) → r ≡ call_reply s task child c
+    → AreFound s task child c found → is_change c ≡ false → (is_open_call c ≡ true → opening ≡ opening_of s found.caller found.target) → r ≡ call_reply s task child c
     → is_ok r ≡ true → Ready s task child opening c found
 ready s task child opening c found r population are entry seen replied done =
     record {

@@ -56,10 +56,10 @@ abbrev pub new_channel : Channel → Id → EntityData
 new_channel channel.Pipe maker = new_pipe maker
 new_channel channel.Socket maker = new_socket maker
 
--- a process opens a file
-abbrev pub opens : Call → Bool
-opens (call.OpenFd path read write) = true
-opens other = false
+-- whether the call opens a file
+abbrev pub is_open_call : Call → Bool
+is_open_call (call.OpenFd path read write) = true
+is_open_call other = false
 
 -- what mac_biba has in its slot of a label; Unset where nothing was found
 abbrev pub biba_found : State → Option Id → LabelValue

@@ -24,7 +24,7 @@ pub(crate) struct Opening {
 pub(crate) fn opening_of(state: &State, found: &Found, call: &Call) -> Opening
     requires caller { IfSome found.now.caller (λ id. IsSome (live_at state.now.objects id)) }
     requires file { IfSome found.now.target (λ id. IsSome (live_at state.now.objects id)) }
-    ensures { spec.opens call.now ≡ true
+    ensures { spec.is_open_call call.now ≡ true
         → result ≡ spec.opening_of state.now found.now.caller found.now.target }
 {
     if let Call::OpenFd(..) = call {

@@ -15,7 +15,7 @@ pub data Effect : Type 0 where
   Append Deliver : Id → List ℕ → Effect
   -- a pipe is emptied; a socket's oldest message is taken; a file goes; a process goes, with its pipes and sockets
   Empty Receive Unlink End : Id → Effect
-  -- a process has a descriptor more; it has the one of a number no more
+  -- a process has one descriptor more; it has that of a number no more
   Open : Id → Fd → Effect
   Close : Id → ℕ → Effect
   -- a file has another mode; an entity the label that it is asked to have

@@ -45,7 +45,7 @@ pub data Place : Type 0 where
   -- a module that is listed; one to be loaded; one to be unloaded
   Listed : Module → Place
   Loading Unloading : List ℕ → Place
-  -- a module's setting, and the change that it is to have; a tunable is changed by nobody once the boot is over
+  -- whether it is a tunable of a listed module, which nobody changes; the module whose setting it is, and the change that it is to have
   Setting : Bool → Option Module → Option Change → Place
   -- what a text asks of the label of an entity of that kind
   Asking : Kind → List ℕ → Place → Place

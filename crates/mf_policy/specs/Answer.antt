@@ -156,7 +156,7 @@ rules_answer rules first item =
     option_map_or (λ letters. errno_unless (verdict first rules item.subject.cred (attributes_of item.object) letters) Eacces)
     (row_of item.op).letters Success
 
--- whether a policy of this spec tests each transfer of bytes through an open file, and not its opening alone
+-- whether a policy of this spec goes by the table of operations at transfers too; without revocation mac_biba's lets them all pass
 abbrev pub tests_transfers : Spec → Bool
 tests_transfers (means.Biba revocation) = revocation
 tests_transfers means.Mls = true

@@ -120,7 +120,8 @@ impl Spec {
         }
     }
 
-    /// Whether the policy tests each transfer of bytes through an open file, and not its opening alone.
+    /// Whether the policy goes by the table of operations at transfers too, and not at the opening of a file alone. mac_biba's
+    /// doesn't without revocation.
     pub fn tests_transfers(&self) -> bool
         ensures { result ≡ tests_transfers self.now }
     {
