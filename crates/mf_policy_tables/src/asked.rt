@@ -4,8 +4,14 @@ use mf_cred::{Cred, FileView};
 use mf_elem::{Comps, Elem, LabelValue, RangeLabel, SLOTS};
 use mf_errno::{Errno, Module};
 use mf_item::{CheckOp, Item, Kind, ObjectView, SubjectView};
-use mf_policy::Policy;
+use mf_policy::{Change, Policy};
+use std::alloc::{AllocError, Global};
 use std::process::Abort;
+
+/// Wants what is said of this to hold.
+pub fn wants(rt: &impl Abort, name: &str, holds: bool) {
+    assert!(rt; holds, "{name}");
+}
 
 /// Whether the policy is this module, with a slot or without, which may come late and go or stays from boot on.
 pub fn is_module<P: Policy>(policy: &P, module: Module, slot: bool, comes_and_goes: bool) -> bool {
@@ -36,6 +42,13 @@ pub fn answer<P: Policy>(policy: &P, op: CheckOp, subject: Elem, object: Elem) -
     policy.check(0, &Item::new(op, &subject, Some(&object), None, None))
 }
 
+/// The answers of a policy to a change of mac_bsdextended's setting, and of mac_biba's.
+pub fn settings_of<P: Policy>(alloc: Global, policy: &mut P) -> Result<(Errno, Errno), AllocError> {
+    let first_match = policy.change(alloc, &Change::FirstMatch(true))?;
+    let revocation = policy.change(alloc, &Change::Revocation(true))?;
+    Ok((first_match.errno, revocation.errno))
+}
+
 /// Wants these answers of the policy to operations, by the elements of subject and object.
 pub fn wants_answers<P: Policy>(
     rt: &impl Abort,
@@ -43,7 +56,11 @@ pub fn wants_answers<P: Policy>(
     rows: &[(CheckOp, Elem, Elem, Errno)],
 ) {
     for (op, subject, object, errno) in rows {
-        assert!(rt; answer(policy, *op, *subject, *object) == *errno);
+        wants(
+            rt,
+            op.name(),
+            answer(policy, *op, *subject, *object) == *errno,
+        );
     }
 }
 
@@ -59,7 +76,8 @@ pub fn wants_by_level<P: Policy>(rt: &impl Abort, policy: &P, rows: &[(Errno, Er
         (five, nine),
     ];
     for ((subject, object), (read, write)) in levels.iter().zip(rows) {
-        let reads = answer(policy, CheckOp::VnodeOpenRead, *subject, *object) == *read;
-        assert!(rt; reads && answer(policy, CheckOp::VnodeOpenWrite, *subject, *object) == *write);
+        let reads = answer(policy, CheckOp::VnodeOpenRead, *subject, *object);
+        let writes = answer(policy, CheckOp::VnodeOpenWrite, *subject, *object);
+        wants(rt, "a level", reads == *read && writes == *write);
     }
 }

@@ -2,7 +2,7 @@
 ghost use Rattle.std.specs.Prelude.{IsTrue};
 ghost use Rattle.mf_policy.specs.IsChange.{IsChange};
 
-use crate::asked::is_module;
+use crate::asked::{is_module, settings_of, wants};
 use mf_bsdextended::Bsdextended;
 use mf_cred::{Cred, FileView};
 use mf_elem::{LabelValue, SLOTS};
@@ -63,33 +63,43 @@ fn answer(policy: &Bsdextended, op: CheckOp) -> Errno {
     policy.check(0, &Item::new(op, &subject, Some(&object), None, None))
 }
 
-/// Whether the operation is answered so where the one rule gives these letters.
-fn is_answered(
+/// Wants the operation to be answered so where the one rule gives these letters.
+fn wants_answer(
     rt: &impl Abort,
     alloc: Global,
     letters: &str,
     op: CheckOp,
     errno: Errno,
-) -> Result<bool, AllocError> {
+) -> Result<(), AllocError> {
     let policy = with_rule(alloc, rule(rt, letters))?;
-    Ok(answer(&policy, op) == errno)
+    wants(rt, op.name(), answer(&policy, op) == errno);
+    Ok(())
+}
+
+fn is_firewall(policy: &Bsdextended) -> bool {
+    let granted = policy.grant(&Cred::default(), Priv::SchedRtprio);
+    let is_biba = policy.same(&Spec::Biba { revocation: false });
+    is_module(policy, Module::Bsdextended, false, true) && !is_biba && !granted
 }
 
 #[test]
 fn facts_of_the_module(rt: HostRuntime) -> Result<(), AllocError> {
-    let policy = Bsdextended::new(rt.alloc())?;
-    let granted = policy.grant(&Cred::default(), Priv::SchedRtprio);
-    let is_firewall = is_module(&policy, Module::Bsdextended, false, true)
-        && !policy.same(&Spec::Biba);
-    assert!(rt; is_firewall && !granted);
+    let mut policy = Bsdextended::new(rt.alloc())?;
+    wants(&rt, "mac_bsdextended", is_firewall(&policy));
+    let settings = settings_of(rt.alloc(), &mut policy)?;
+    wants(
+        &rt,
+        "its setting",
+        settings == (Errno::Success, Errno::Enoent),
+    );
     Ok(())
 }
 
 #[test]
 fn letters_of_operations(rt: HostRuntime) -> Result<(), AllocError> {
     for (op, enough, too_few) in LETTERS {
-        assert!(rt; is_answered(&rt, rt.alloc(), enough, op, Errno::Success)?);
-        assert!(rt; is_answered(&rt, rt.alloc(), too_few, op, Errno::Eacces)?);
+        wants_answer(&rt, rt.alloc(), enough, op, Errno::Success)?;
+        wants_answer(&rt, rt.alloc(), too_few, op, Errno::Eacces)?;
     }
     Ok(())
 }
@@ -97,7 +107,7 @@ fn letters_of_operations(rt: HostRuntime) -> Result<(), AllocError> {
 #[test]
 fn operations_that_ask_for_no_letter(rt: HostRuntime) -> Result<(), AllocError> {
     for op in WITHOUT_LETTERS {
-        assert!(rt; is_answered(&rt, rt.alloc(), "n", op, Errno::Success)?);
+        wants_answer(&rt, rt.alloc(), "n", op, Errno::Success)?;
     }
     Ok(())
 }
@@ -135,7 +145,8 @@ fn wants_changes(
     rows: &[(Change, Errno, Option<u32>)],
 ) -> Result<(), AllocError> {
     for (change, errno, number) in rows {
-        assert!(rt; is_changed(alloc, policy, change, *errno, *number)?);
+        let is_changed = is_changed(alloc, policy, change, *errno, *number)?;
+        wants(rt, "a change", is_changed);
     }
     Ok(())
 }
@@ -163,9 +174,11 @@ fn fill(
     add: &Change,
 ) -> Result<(), AllocError> {
     for number in 0..MAX_RULES {
-        assert!(rt; is_changed(alloc, policy, add, Errno::Success, Some(number))?);
+        let is_added = is_changed(alloc, policy, add, Errno::Success, Some(number))?;
+        wants(rt, "a rule more", is_added);
     }
-    assert!(rt; is_changed(alloc, policy, add, Errno::Enobufs, None)?);
+    let is_full = is_changed(alloc, policy, add, Errno::Enobufs, None)?;
+    wants(rt, "no rule more", is_full);
     Ok(())
 }
 
@@ -187,9 +200,11 @@ fn turn_off_and_reset(
     let with_first = answer(policy, CheckOp::VnodeOpenRead);
     policy.change(alloc, &Change::FirstMatch(false))?;
     let with_all = answer(policy, CheckOp::VnodeOpenRead);
-    assert!(rt; with_first == Errno::Success && with_all == Errno::Eacces);
+    let is_turned_off = with_first == Errno::Success && with_all == Errno::Eacces;
+    wants(rt, "first match", is_turned_off);
     policy.reset();
-    assert!(rt; answer(policy, CheckOp::VnodeOpenWrite) == Errno::Success);
+    let is_open = answer(policy, CheckOp::VnodeOpenWrite) == Errno::Success;
+    wants(rt, "put back", is_open);
     Ok(())
 }
 
@@ -200,6 +215,6 @@ fn first_match_turned_off_and_put_back(rt: HostRuntime) -> Result<(), AllocError
     let fresh = Spec::fresh(rt.alloc(), Module::Bsdextended)?;
     let mut policy = with_rule(rt.alloc(), reads)?;
     turn_off_and_reset(&rt, rt.alloc(), &mut policy, blocks)?;
-    assert!(rt; policy.same(&fresh));
+    wants(&rt, "as it was", policy.same(&fresh));
     Ok(())
 }

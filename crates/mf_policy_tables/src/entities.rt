@@ -1,5 +1,6 @@
 //! Files, processes, pipes and sockets through their lives.
 
+use crate::asked::wants;
 use mf_cred::{Cred, FileView};
 use mf_elem::LabelValue;
 use mf_item::Kind;
@@ -42,8 +43,8 @@ pub fn add_process(
     assert!(rt; objects.live() < MOST_ENTITIES && objects.next_id() < ID_LIMIT);
     if objects.process("t").is_none() {
         let t = objects.add_process(alloc, "t", &Cred::default(), &labelled(3))?;
-        assert!(rt; objects.kind(t) == Kind::Process && objects.cred(t).uid == 0);
-        assert!(rt; objects.has_cred(t, &Cred::default()));
+        let is_root = objects.cred(t).uid == 0 && objects.has_cred(t, &Cred::default());
+        wants(rt, "t", is_root && objects.kind(t) == Kind::Process);
     }
     Ok(())
 }
@@ -70,8 +71,9 @@ fn are_listed(
         let _id = add_file(rt, alloc, objects, name)?;
     }
     let root = objects.root();
-    assert!(rt; objects.count(root) as usize == names.len());
-    assert!(rt; listing_of(alloc, objects)?.as_str() == listing);
+    wants(rt, "count", objects.count(root) as usize == names.len());
+    let found = listing_of(alloc, objects)?;
+    wants(rt, "listing", found.as_str() == listing);
     Ok(())
 }
 
@@ -95,10 +97,14 @@ pub fn add_pipe(rt: &impl Abort, alloc: Global, objects: &mut Objects) -> Result
 /// The pipe p has its label and its title.
 fn is_labelled(rt: &impl Abort, alloc: Global, objects: &Objects) -> Result<(), AllocError> {
     if let Some(p) = objects.pipe("p") {
-        assert!(rt; objects.label(p)[0] == LabelValue::Number(3));
+        wants(
+            rt,
+            "its label",
+            objects.label(p)[0] == LabelValue::Number(3),
+        );
         let mut title = String::new(alloc);
         objects.title(p, &mut title)?;
-        assert!(rt; title.as_str() == "pipe:p");
+        wants(rt, "its title", title.as_str() == "pipe:p");
     }
     Ok(())
 }
@@ -136,11 +142,11 @@ fn use_and_exit(rt: &impl Abort, alloc: Global, objects: &mut Objects) -> Result
     add_process(rt, alloc, objects)?;
     add_pipe(rt, alloc, objects)?;
     is_labelled(rt, alloc, objects)?;
-    assert!(rt; objects.live() == 3);
+    wants(rt, "three", objects.live() == 3);
     fill(rt, objects)?;
     empty(rt, objects);
     exit(rt, objects);
-    assert!(rt; objects.live() == 1);
+    wants(rt, "the root", objects.live() == 1);
     Ok(())
 }
 
@@ -209,13 +215,13 @@ fn children_come_and_go(
     add_labelled(rt, alloc, objects, "t", &values)?;
     add_labelled(rt, alloc, objects, "t.c", &values)?;
     add_pipe_of(rt, alloc, objects, "t.c")?;
-    assert!(rt; held(objects) == [4, 0, 2, 0]);
+    wants(rt, "held", held(objects) == [4, 0, 2, 0]);
     exit_of(objects, "t.c");
-    assert!(rt; held(objects) == [2, 0, 1, 0]);
+    wants(rt, "held", held(objects) == [2, 0, 1, 0]);
     add_labelled(rt, alloc, objects, "t.c", &values)?;
-    assert!(rt; held(objects) == [3, 0, 2, 0]);
+    wants(rt, "held", held(objects) == [3, 0, 2, 0]);
     exit_of(objects, "t.c");
-    assert!(rt; held(objects) == [2, 0, 1, 0]);
+    wants(rt, "held", held(objects) == [2, 0, 1, 0]);
     Ok(())
 }
 
@@ -269,7 +275,7 @@ fn send_and_receive(
     add_socket(rt, alloc, objects)?;
     push_message(rt, alloc, objects, b"one")?;
     push_message(rt, alloc, objects, b"three")?;
-    assert!(rt; pop_message(rt, objects) == Some(3));
+    wants(rt, "the first", pop_message(rt, objects) == Some(3));
     Ok(())
 }
 
@@ -288,7 +294,8 @@ fn unset_leaves_a_slot_as_it_is(rt: HostRuntime) -> Result<(), AllocError> {
     objects.relabel(root, &[unset, two, three, unset])?;
     let root = objects.root();
     let after = [LabelValue::Number(7), two, three, unset];
-    assert!(rt; objects.label(root) == after && objects.has_label(root, &after));
+    let is_after = objects.label(root) == after && objects.has_label(root, &after);
+    wants(&rt, "its label", is_after);
     Ok(())
 }
 
@@ -307,7 +314,7 @@ pub fn append(rt: &impl Abort, objects: &mut Objects) -> Result<(), AllocError> 
 fn set_mode(rt: &impl Abort, objects: &mut Objects) {
     let root = objects.root();
     if let Some(f) = objects.child(root, "f") {
-        assert!(rt; objects.head(f).len == 5);
+        wants(rt, "its head", objects.head(f).len == 5);
         objects.set_mode(f, 0o1777);
     }
 }
@@ -316,17 +323,24 @@ fn set_mode(rt: &impl Abort, objects: &mut Objects) {
 fn set_label(rt: &impl Abort, objects: &mut Objects) -> Result<(), AllocError> {
     let root = objects.root();
     if let Some(f) = objects.child(root, "f") {
-        assert!(rt; objects.file(f).mode == 0o1777);
+        wants(rt, "its mode", objects.file(f).mode == 0o1777);
         objects.set_label(f, 1, LabelValue::Number(9))?;
     }
     Ok(())
+}
+
+/// Whether the file f has this second label value.
+fn has_second(objects: &Objects, value: LabelValue) -> bool {
+    match objects.child(objects.root(), "f") {
+        Some(f) => objects.value(f, 1) == value,
+        None => false,
+    }
 }
 
 /// Removes the file f.
 fn unlink(rt: &impl Abort, objects: &mut Objects) {
     let root = objects.root();
     if let Some(f) = objects.child(root, "f") {
-        assert!(rt; objects.value(f, 1) == LabelValue::Number(9));
         assert!(rt; f.number() != 0 && !objects.file(f).dir && objects.count(f) == 0);
         objects.remove_vnode(f);
     }
@@ -342,8 +356,9 @@ fn make_and_unlink(
     append(rt, objects)?;
     set_mode(rt, objects);
     set_label(rt, objects)?;
+    wants(rt, "its label", has_second(objects, LabelValue::Number(9)));
     unlink(rt, objects);
-    assert!(rt; objects.live() == 1);
+    wants(rt, "the root", objects.live() == 1);
     Ok(())
 }
 

@@ -4,6 +4,7 @@
 ghost use Rattle.std.specs.Prelude.{◌≡◌, IsSome};
 ghost use Rattle.mf_objects.specs.Live.{live_at};
 
+use crate::asked::wants;
 use crate::entities;
 use crate::registrations::all_three;
 use mf_elem::LabelValue;
@@ -122,6 +123,18 @@ fn reading_of(alloc: Global, objects: &Objects) -> Result<String, AllocError> {
     Ok(text)
 }
 
+/// Wants this to be read of the entities.
+fn wants_reading(
+    rt: &impl Abort,
+    alloc: Global,
+    objects: &Objects,
+    wanted: &str,
+) -> Result<(), AllocError> {
+    let found = reading_of(alloc, objects)?;
+    wants(rt, "a reading", found.as_str() == wanted);
+    Ok(())
+}
+
 /// Grows by this; where that is refused, all can be read as before, and it is done once more.
 fn grow_or_stay(
     rt: &impl Abort,
@@ -131,8 +144,7 @@ fn grow_or_stay(
 ) -> Result<(), AllocError> {
     let before = reading_of(alloc, objects)?;
     if grow(rt, alloc, objects, growth).is_err() {
-        let after = reading_of(alloc, objects)?;
-        assert!(rt; after.as_str() == before.as_str());
+        wants_reading(rt, alloc, objects, before.as_str())?;
         grow(rt, alloc, objects, growth)?;
     }
     Ok(())
@@ -144,8 +156,7 @@ fn entities_after_refused_growths(rt: HostRuntime) -> Result<(), AllocError> {
     for growth in GROWTHS {
         grow_or_stay(&rt, rt.alloc(), &mut objects, *growth)?;
     }
-    assert!(rt; reading_of(rt.alloc(), &objects)?.as_str() == READING);
-    Ok(())
+    wants_reading(&rt, rt.alloc(), &objects, READING)
 }
 
 /// Modules, each with its registration, in the order in which they are listed.
@@ -173,10 +184,12 @@ fn list_or_stay(
     let count = specs.len();
     let spec = Spec::fresh(alloc, module)?;
     if specs.list(registration, spec).is_err() {
-        assert!(rt; specs.len() == count && !specs.is_listed(module));
+        let is_same = specs.len() == count && !specs.is_listed(module);
+        wants(rt, "as it was", is_same);
         specs.list(registration, Spec::fresh(alloc, module)?)?;
     }
-    assert!(rt; specs.len() == count.saturating_add(1) && specs.is_listed(module));
+    let is_longer = specs.len() == count.saturating_add(1) && specs.is_listed(module);
+    wants(rt, "one more", is_longer);
     Ok(())
 }
 
@@ -187,7 +200,8 @@ fn specs_after_refused_growths(rt: HostRuntime) -> Result<(), AllocError> {
         list_or_stay(&rt, rt.alloc(), &mut specs, *module)?;
     }
     let copy = specs.copy(rt.alloc())?;
-    assert!(rt; copy.len() == specs.len() && copy.is_listed(Module::Partition));
+    let is_copy = copy.len() == specs.len() && copy.is_listed(Module::Partition);
+    wants(&rt, "a copy", is_copy);
     Ok(())
 }
 

@@ -1,5 +1,6 @@
 //! Label texts: their faults, what they ask for, and the texts that are printed.
 
+use crate::asked::wants;
 use mf_elem::{Comps, Elem, LabelValue, RangeLabel, Request};
 use mf_errno::Module;
 use mf_labeltext::{LabelFault, policy_name, print_elem, print_label, read_request};
@@ -58,7 +59,7 @@ const OTHERS: &[&str] = &["foo/x", "foo/", "foo//x", "foo/é"];
 #[test]
 fn faults_and_their_places(rt: HostRuntime) {
     for (text, fault) in FAULTS {
-        assert!(rt; read_request(text) == Err(*fault), "{text}");
+        wants(&rt, text, read_request(text) == Err(*fault));
     }
 }
 
@@ -66,7 +67,8 @@ fn faults_and_their_places(rt: HostRuntime) {
 fn last_element_counts(rt: HostRuntime) {
     let mut wanted = Request::none();
     wanted.biba = Some(RangeLabel::effective(Elem::Equal));
-    assert!(rt; read_request("biba/1(0-9),biba/eq") == Ok(wanted));
+    let found = read_request("biba/1(0-9),biba/eq");
+    wants(&rt, "the last", found == Ok(wanted));
 }
 
 #[test]
@@ -74,7 +76,7 @@ fn other_policies(rt: HostRuntime) {
     let mut wanted = Request::none();
     wanted.other = true;
     for text in OTHERS {
-        assert!(rt; read_request(text) == Ok(wanted), "{text}");
+        wants(&rt, text, read_request(text) == Ok(wanted));
     }
 }
 
@@ -111,7 +113,7 @@ fn canonical_of(alloc: Global, text: &str) -> Result<String, AllocError> {
 fn canonical_labels(rt: HostRuntime) -> Result<(), AllocError> {
     for (text, canonical) in CANONICAL {
         let found = canonical_of(rt.alloc(), text)?;
-        assert_eq!(rt; found.as_str(), *canonical);
+        wants(&rt, text, found.as_str() == *canonical);
     }
     Ok(())
 }
@@ -121,7 +123,8 @@ fn elements_are_appended(rt: HostRuntime) -> Result<(), AllocError> {
     let comps = Comps::empty().with(256).with(2);
     let mut out = String::from_str(rt.alloc(), "low,")?;
     print_elem(&Elem::Grade(10, comps), &mut out)?;
-    assert!(rt; out.as_str() == "low,10:2+256");
-    assert!(rt; policy_name(Module::Mls) == "mls" && policy_name(Module::Lomac) == "lomac");
+    let names = (policy_name(Module::Mls), policy_name(Module::Lomac));
+    let is_named = names == ("mls", "lomac");
+    wants(&rt, "elements", out.as_str() == "low,10:2+256" && is_named);
     Ok(())
 }

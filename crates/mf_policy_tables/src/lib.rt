@@ -8,6 +8,8 @@ mod biba;
 #[cfg(test)]
 mod bsdextended;
 #[cfg(test)]
+mod descriptors;
+#[cfg(test)]
 mod entities;
 #[cfg(test)]
 mod growths;
@@ -29,3 +31,5 @@ mod priority;
 mod registrations;
 #[cfg(test)]
 mod relabels;
+#[cfg(test)]
+mod together;

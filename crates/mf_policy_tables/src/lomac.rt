@@ -1,6 +1,6 @@
 //! LOMAC by itself.
 
-use crate::asked::{grade, is_module, wants_answers, wants_by_level};
+use crate::asked::{grade, is_module, wants, wants_answers, wants_by_level};
 use mf_cred::{Cred, FileView};
 use mf_elem::{Elem, LabelValue, RangeLabel, Request, SLOTS};
 use mf_errno::{Errno, Module, Priv};
@@ -14,7 +14,8 @@ fn facts_of_the_module(rt: HostRuntime) {
     policy.reset();
     let granted = policy.grant(&Cred::default(), Priv::KldLoad);
     let is_lomac = is_module(&policy, Module::Lomac, true, false) && policy.same(&Spec::Lomac);
-    assert!(rt; is_lomac && !granted && !policy.same(&Spec::Biba));
+    let is_biba = policy.same(&Spec::Biba { revocation: false });
+    wants(&rt, "mac_lomac", is_lomac && !granted && !is_biba);
 }
 
 #[test]
@@ -97,7 +98,8 @@ fn gives_what_it_dominates(rt: HostRuntime) {
         (file, nine, five, None, Errno::Success),
     ];
     for (op, subject, old, asked, errno) in rows {
-        assert!(rt; relabel(*op, *subject, *old, *asked) == *errno);
+        let found = relabel(*op, *subject, *old, *asked);
+        wants(&rt, op.name(), found == *errno);
     }
 }
 
@@ -126,7 +128,7 @@ fn what_remains_of_an_element(rt: HostRuntime) {
         (high, equal, high),
     ];
     for (subject, object, remains) in &rows {
-        assert!(rt; lowered(subject, object) == *remains);
+        wants(&rt, "what remains", lowered(subject, object) == *remains);
     }
 }
 
@@ -163,6 +165,6 @@ fn who_learns_is_lowered(rt: HostRuntime) {
         (CheckOp::Priv, Elem::High),
     ];
     for (op, left) in &rows {
-        assert!(rt; left_by(*op) == labelled(*left)[0]);
+        wants(&rt, op.name(), left_by(*op) == labelled(*left)[0]);
     }
 }

@@ -1,6 +1,6 @@
 //! MLS by itself.
 
-use crate::asked::{grade, is_module, wants_answers, wants_by_level};
+use crate::asked::{grade, is_module, wants, wants_answers, wants_by_level};
 use mf_cred::Cred;
 use mf_elem::Elem;
 use mf_errno::{Errno, Module, Priv};
@@ -14,7 +14,7 @@ fn facts_of_the_module(rt: HostRuntime) {
     policy.reset();
     let granted = policy.grant(&Cred::default(), Priv::KldLoad);
     let is_mls = is_module(&policy, Module::Mls, true, false) && policy.same(&Spec::Mls);
-    assert!(rt; is_mls && !granted);
+    wants(&rt, "mac_mls", is_mls && !granted);
 }
 
 /// One sentence of mac_mls(4) forbids the write of the third row, a write up; the kernel's code and this model allow it.

@@ -20,7 +20,7 @@ impl Policy for OneOf {
     ghost use Rattle.mf_policy.specs.declared.spec.Spec.TheVariants as means;
     ghost use Rattle.mf_policy_tables.specs.declared.one_of.OneOf.TheVariants as one;
 
-    ghost spec = { λ policy. elim policy [ one.Biba b ↦ means.Biba | one.Mls m ↦ means.Mls | one.Partition p ↦ means.Partition ] };
+    ghost spec = { λ policy. elim policy [ one.Biba b ↦ means.Biba b.revocation | one.Mls m ↦ means.Mls | one.Partition p ↦ means.Partition ] };
 
     fn module(&self) -> Module {
         match self {

@@ -1,12 +1,12 @@
 //! mac_partition by itself.
 
-use crate::asked::is_module;
+use crate::asked::{is_module, settings_of, wants};
 use mf_cred::{Cred, FileView};
 use mf_elem::{LabelValue, Request, SLOTS};
 use mf_errno::{Errno, Module, Priv};
 use mf_item::{CheckOp, Item, Kind, ObjectView, SubjectView};
 use mf_partition::Partition;
-use mf_policy::{Change, Policy, Spec};
+use mf_policy::{Policy, Spec};
 use std::alloc::AllocError;
 
 #[test]
@@ -16,8 +16,9 @@ fn facts_of_the_module(rt: HostRuntime) -> Result<(), AllocError> {
     let granted = policy.grant(&Cred::default(), Priv::MacPartition);
     let is_partition = is_module(&policy, Module::Partition, true, true)
         && policy.same(&Spec::Partition);
-    let changed = policy.change(rt.alloc(), &Change::FirstMatch(true))?;
-    assert!(rt; is_partition && !granted && changed.errno == Errno::Enoent);
+    let settings = settings_of(rt.alloc(), &mut policy)?;
+    let has_none = settings == (Errno::Enoent, Errno::Enoent);
+    wants(&rt, "mac_partition", is_partition && !granted && has_none);
     Ok(())
 }
 
@@ -67,7 +68,8 @@ const ANSWERS: [(CheckOp, LabelValue, LabelValue, Errno); 8] = [
 #[test]
 fn partitions_agree(rt: HostRuntime) {
     for (op, subject, object, errno) in ANSWERS {
-        assert!(rt; answer(&Partition::new(), op, subject, object) == errno);
+        let found = answer(&Partition::new(), op, subject, object);
+        wants(&rt, op.name(), found == errno);
     }
 }
 
@@ -90,6 +92,6 @@ fn root_alone_joins_a_partition(rt: HostRuntime) {
         (1001, None, Errno::Success),
     ];
     for (uid, partition, errno) in table {
-        assert!(rt; joins(uid, partition) == errno);
+        wants(&rt, "a relabel", joins(uid, partition) == errno);
     }
 }

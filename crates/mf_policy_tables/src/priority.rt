@@ -1,10 +1,10 @@
 //! mac_priority by itself.
 
-use crate::asked::is_module;
+use crate::asked::{is_module, settings_of, wants};
 use mf_cred::{ArrayVec, Cred};
 use mf_errno::{Errno, Module, Priv};
 use mf_item::{CheckOp, Item, SubjectView};
-use mf_policy::{Change, Policy, Spec};
+use mf_policy::{Policy, Spec};
 use mf_priority::Priority;
 use std::alloc::AllocError;
 
@@ -14,8 +14,9 @@ fn facts_of_the_module(rt: HostRuntime) -> Result<(), AllocError> {
     policy.reset();
     let is_alone = policy.same(&Spec::Priority) && !policy.same(&Spec::Partition);
     let is_priority = is_module(&policy, Module::Priority, false, true) && is_alone;
-    let changed = policy.change(rt.alloc(), &Change::FirstMatch(true))?;
-    assert!(rt; is_priority && changed.errno == Errno::Enoent);
+    let settings = settings_of(rt.alloc(), &mut policy)?;
+    let has_none = settings == (Errno::Enoent, Errno::Enoent);
+    wants(&rt, "mac_priority", is_priority && has_none);
     Ok(())
 }
 
@@ -50,7 +51,7 @@ fn realtime_and_idle_users(rt: HostRuntime) {
         (1001, 0, false, false),
     ];
     for (first, second, realtime, idle) in table {
-        assert!(rt; is_granted(first, second, realtime, idle));
+        wants(&rt, "groups", is_granted(first, second, realtime, idle));
     }
 }
 
@@ -60,6 +61,10 @@ fn nothing_is_denied(rt: HostRuntime) {
     subject.cred = user(1001, 1001);
     for op in [CheckOp::KldLoad, CheckOp::Priv] {
         let item = Item::new(op, &subject, None, None, Some(Priv::SchedRtprio));
-        assert!(rt; Priority::new().check(0, &item) == Errno::Success);
+        wants(
+            &rt,
+            op.name(),
+            Priority::new().check(0, &item) == Errno::Success,
+        );
     }
 }

@@ -1,16 +1,16 @@
-//! The lists of policies over Biba, MLS and mac_partition: registration, and what the three answer together.
+//! The lists of policies over Biba, MLS and mac_partition: which are registered, and which go.
 ghost use Rattle.std.specs.Prelude.{◌≡◌, ◌++◌, All, IfOk, IsTrue, map};
 ghost use Rattle.mf_policy.specs.Modules.{module_of};
 ghost use Rattle.mf_list.specs.Fresh.{IsFresh};
 ghost use Rattle.mf_list.specs.Once.{IsHeldOnce, are_distinct};
 
+use crate::asked::wants;
 use crate::one_of::OneOf;
 use mf_biba::Biba;
 use mf_cred::Cred;
-use mf_elem::{Elem, LabelValue, RangeLabel};
 use mf_errno::{Errno, Module, Priv};
-use mf_item::{CheckOp, Item, Kind, ObjectView, SubjectView};
-use mf_list::{Answer, Catalogue, Fixed, Listed, PolicyList, RegisterFault, UnregisterFault};
+use mf_item::Item;
+use mf_list::{Catalogue, Fixed, Listed, PolicyList, RegisterFault, UnregisterFault};
 use mf_mls::Mls;
 use mf_partition::Partition;
 use mf_policy::{Change, Changed, LoadFlags, Policy, Registration, Spec, SpecList};
@@ -22,7 +22,7 @@ use std::sync::atomic::{AtomicU64, Ordering};
 /// The lists, the catalogue, and the slot numbers that are left.
 #[derive(Drop)]
 pub struct Policies<P: Policy> {
-    fixed: Fixed<P>,
+    pub fixed: Fixed<P>,
     list: PolicyList<P>,
     catalogue: Catalogue<P>,
     numbers: SlotNumbers,
@@ -44,7 +44,7 @@ impl<P: Policy> Policies<P> {
         })
     }
 
-    fn walk(&self) -> Listed<'_, P>
+    pub fn walk(&self) -> Listed<'_, P>
         ensures { result ≡ self.now.fixed ++ self.now.list }
     {
         Listed::new(&self.fixed, &self.list)
@@ -90,6 +90,18 @@ pub fn all_three(alloc: Global) -> Result<Policies<OneOf>, AllocError>
     Policies::new(alloc, modules)
 }
 
+/// Whether what was registered is listed at that place.
+fn is_at(
+    listed: &[Registration],
+    place: usize,
+    registered: &Result<Registration, RegisterFault>,
+) -> bool {
+    match (listed.get(place), registered) {
+        (Some(found), Ok(registration)) => *found == *registration,
+        _ => false,
+    }
+}
+
 /// Registers all three at boot, and looks at their places in walk order.
 fn register_three(rt: &impl Abort, policies: &mut Policies<OneOf>)
     requires { IsHeldOnce (policies.old.fixed ++ policies.old.list) policies.old.catalogue }
@@ -98,22 +110,39 @@ fn register_three(rt: &impl Abort, policies: &mut Policies<OneOf>)
     let biba = policies.register("mac_biba", false);
     let mls = policies.register("mac_mls", false);
     let listed = policies.walk().listed();
-    let registrations = listed.as_slice();
-    assert!(rt; registrations.len() == 3);
-    assert!(rt; Some(registrations[0]) == mls.ok());
-    assert!(rt; Some(registrations[1]) == biba.ok());
-    assert!(rt; Some(registrations[2]) == partition.ok());
+    let places = listed.as_slice();
+    let are_first = is_at(places, 0, &mls) && is_at(places, 1, &biba);
+    let are_all = places.len() == 3 && is_at(places, 2, &partition);
+    wants(rt, "three", are_first && are_all);
+    let knows = policies.knows("mac_mls") && !policies.knows("mac_lomac");
+    wants(rt, "their names", knows);
 }
 
 #[test]
 fn registrations_in_walk_order(rt: HostRuntime) -> Result<(), AllocError> {
     let mut policies = all_three(rt.alloc())?;
     register_three(&rt, &mut policies);
-    assert!(rt; policies.knows("mac_mls") && !policies.knows("mac_lomac"));
+    let none = SpecList::new(rt.alloc());
+    wants(&rt, "some", !policies.walk().same_specs(&none));
+    Ok(())
+}
+
+/// The errno of a change in the dynamic list.
+fn errno_of_late(
+    alloc: Global,
+    policies: &mut Policies<OneOf>,
+    module: Module,
+) -> Result<Errno, AllocError> {
     let change = Change::FirstMatch(true);
-    let changed = policies.list.change(rt.alloc(), Module::Mls, &change)?;
-    assert!(rt; changed.errno == Errno::Enoent);
-    assert!(rt; !policies.walk().same_specs(&SpecList::new(rt.alloc())));
+    let changed = policies.list.change(alloc, module, &change)?;
+    Ok(changed.errno)
+}
+
+#[test]
+fn what_is_not_listed_has_no_setting(rt: HostRuntime) -> Result<(), AllocError> {
+    let mut policies = all_three(rt.alloc())?;
+    let errno = errno_of_late(rt.alloc(), &mut policies, Module::Mls)?;
+    wants(&rt, "mac_mls", errno == Errno::Enoent);
     Ok(())
 }
 
@@ -125,15 +154,21 @@ fn of_partition(slot: u8) -> Registration {
     }
 }
 
+/// A policy that goes gets a new slot when it comes back.
+fn go_and_come_back(rt: &impl Abort, policies: &mut Policies<OneOf>)
+    requires { IsHeldOnce (policies.old.fixed ++ policies.old.list) policies.old.catalogue }
+{
+    let booted = policies.register("mac_partition", false);
+    let left = policies.unregister("mac_partition");
+    let late = policies.register("mac_partition", true);
+    let went = booted == Ok(of_partition(0)) && left == Ok(of_partition(0));
+    wants(rt, "mac_partition", went && late == Ok(of_partition(1)));
+}
+
 #[test]
 fn a_partition_goes_and_comes_back(rt: HostRuntime) -> Result<(), AllocError> {
     let mut policies = all_three(rt.alloc())?;
-    let booted = policies.register("mac_partition", false);
-    assert!(rt; booted == Ok(of_partition(0)));
-    let left = policies.unregister("mac_partition");
-    assert!(rt; left == Ok(of_partition(0)));
-    let late = policies.register("mac_partition", true);
-    assert!(rt; late == Ok(of_partition(1)));
+    go_and_come_back(&rt, &mut policies);
     Ok(())
 }
 
@@ -149,31 +184,32 @@ fn wants_refusal(
     ensures { IsHeldOnce (policies.new.fixed ++ policies.new.list) policies.new.catalogue }
 {
     let (counts, known) = (policies.counts(), policies.knows(name));
-    let refused = policies.register(name, booted);
-    assert!(rt; refused == Err(fault));
-    assert!(rt; policies.counts() == counts && policies.knows(name) == known);
+    let is_refused = policies.register(name, booted) == Err(fault);
+    let is_same = policies.counts() == counts && policies.knows(name) == known;
+    wants(rt, name, is_refused && is_same);
+}
+
+/// Where Biba alone is booted, these are refused, and neither Biba goes nor MLS.
+fn refuse_all(rt: &impl Abort, policies: &mut Policies<OneOf>)
+    requires { IsHeldOnce (policies.old.fixed ++ policies.old.list) policies.old.catalogue }
+{
+    wants_refusal(rt, policies, "mac_ifoff", true, RegisterFault::Unknown);
+    wants_refusal(rt, policies, "mac_mls", true, RegisterFault::NotLate);
+    wants_refusal(rt, policies, "mac_biba", true, RegisterFault::NotLate);
+    wants_refusal(rt, policies, "mac_biba", false, RegisterFault::Exists);
+    let pinned = policies.unregister("mac_biba") == Err(UnregisterFault::Pinned);
+    let absent = policies.unregister("mac_mls") == Err(UnregisterFault::NotLoaded);
+    wants(rt, "neither goes", pinned && absent);
 }
 
 #[test]
 fn registration_is_refused(rt: HostRuntime) -> Result<(), AllocError> {
     let mut policies = all_three(rt.alloc())?;
-    let first = policies.register("mac_biba", false);
-    assert!(rt; first.is_ok());
-    wants_refusal(
-        &rt,
-        &mut policies,
-        "mac_ifoff",
-        true,
-        RegisterFault::Unknown,
-    );
-    wants_refusal(&rt, &mut policies, "mac_mls", true, RegisterFault::NotLate);
-    wants_refusal(&rt, &mut policies, "mac_biba", true, RegisterFault::NotLate);
-    wants_refusal(&rt, &mut policies, "mac_biba", false, RegisterFault::Exists);
-    assert!(rt; RegisterFault::Exists.errno() == Errno::Eexist);
-    let pinned = policies.unregister("mac_biba");
-    assert!(rt; pinned == Err(UnregisterFault::Pinned));
-    let absent = policies.unregister("mac_mls");
-    assert!(rt; absent == Err(UnregisterFault::NotLoaded));
+    let is_booted = policies.register("mac_biba", false).is_ok();
+    wants(&rt, "mac_biba", is_booted);
+    refuse_all(&rt, &mut policies);
+    let errno = RegisterFault::Exists.errno();
+    wants(&rt, "its errno", errno == Errno::Eexist);
     Ok(())
 }
 
@@ -183,155 +219,20 @@ fn take_three(numbers: &mut SlotNumbers) {
     }
 }
 
+/// The last slot is taken, and then there is none.
+fn run_out(rt: &impl Abort, policies: &mut Policies<OneOf>)
+    requires { IsHeldOnce (policies.old.fixed ++ policies.old.list) policies.old.catalogue }
+{
+    take_three(&mut policies.numbers);
+    let last = policies.register("mac_mls", false).is_ok();
+    let none = policies.register("mac_biba", false) == Err(RegisterFault::NoSlot);
+    wants(rt, "slots", last && none && policies.numbers.given() == 4);
+}
+
 #[test]
 fn slots_run_out(rt: HostRuntime) -> Result<(), AllocError> {
     let mut policies = all_three(rt.alloc())?;
-    take_three(&mut policies.numbers);
-    let last = policies.register("mac_mls", false);
-    assert!(rt; last.is_ok());
-    let none = policies.register("mac_biba", false);
-    assert!(rt; none == Err(RegisterFault::NoSlot));
-    assert!(rt; policies.numbers.given() == 4);
-    Ok(())
-}
-
-fn labelled(element: Elem) -> [LabelValue; 4] {
-    let value = LabelValue::Range(RangeLabel {
-        effective: Some(element),
-        range: None,
-    });
-    [value, value, LabelValue::Unset, LabelValue::Unset]
-}
-
-fn subject(label: [LabelValue; 4]) -> SubjectView {
-    SubjectView {
-        id: 1,
-        cred: Cred::default(),
-        label,
-    }
-}
-
-fn process(label: [LabelValue; 4]) -> ObjectView {
-    ObjectView {
-        id: 2,
-        kind: Kind::Process,
-        file: Default::default(),
-        label,
-    }
-}
-
-/// All three, of which Biba is registered first and then another.
-fn biba_and(rt: &impl Abort, alloc: Global, name: &str) -> Result<Policies<OneOf>, AllocError> {
-    let mut policies = all_three(alloc)?;
-    let biba = policies.register("mac_biba", false);
-    let other = policies.register(name, false);
-    assert!(rt; biba.is_ok() && other.is_ok());
-    Ok(policies)
-}
-
-/// The answer to a process with this label that does so to a process with that one.
-fn answer_of(
-    list: &Listed<'_, OneOf>,
-    op: CheckOp,
-    of_subject: [LabelValue; 4],
-    of_object: [LabelValue; 4],
-) -> Answer {
-    let (subject, object) = (subject(of_subject), process(of_object));
-    let item = Item::new(op, &subject, Some(&object), None, None);
-    list.ask(&item)
-}
-
-#[test]
-fn precedence_against_walk_order(rt: HostRuntime) -> Result<(), AllocError> {
-    let policies = biba_and(&rt, rt.alloc(), "mac_mls")?;
-    let (low, high) = (labelled(Elem::Low), labelled(Elem::High));
-    let answer = answer_of(&policies.walk(), CheckOp::ProcSignal, high, low);
-    let by = Some(Module::Biba);
-    assert!(rt;
-        answer
-            == Answer {
-                errno: Errno::Esrch,
-                by
-            }
-    );
-    let answer = answer_of(&policies.walk(), CheckOp::ProcVisible, low, low);
-    assert!(rt;
-        answer
-            == Answer {
-                errno: Errno::Success,
-                by: None
-            }
-    );
-    Ok(())
-}
-
-#[test]
-fn partition_against_biba(rt: HostRuntime) -> Result<(), AllocError> {
-    let policies = biba_and(&rt, rt.alloc(), "mac_partition")?;
-    let mut low = labelled(Elem::Low);
-    low[1] = LabelValue::Number(1);
-    let mut high = labelled(Elem::High);
-    high[1] = LabelValue::Number(2);
-    let answer = answer_of(&policies.walk(), CheckOp::ProcSignal, low, high);
-    let by = Some(Module::Partition);
-    assert!(rt;
-        answer
-            == Answer {
-                errno: Errno::Esrch,
-                by
-            }
-    );
-    Ok(())
-}
-
-/// Both policies hide the process; Biba decides, though mac_partition is the newer one.
-#[test]
-fn a_static_policy_is_asked_first(rt: HostRuntime) -> Result<(), AllocError> {
-    let policies = biba_and(&rt, rt.alloc(), "mac_partition")?;
-    let mut high = labelled(Elem::High);
-    high[1] = LabelValue::Number(1);
-    let mut low = labelled(Elem::Low);
-    low[1] = LabelValue::Number(2);
-    let answer = answer_of(&policies.walk(), CheckOp::ProcVisible, high, low);
-    let by = Some(Module::Biba);
-    assert!(rt;
-        answer
-            == Answer {
-                errno: Errno::Esrch,
-                by
-            }
-    );
-    Ok(())
-}
-
-/// The answer to a subject with this uid that asks for a privilege.
-fn answer_to(list: &Listed<'_, OneOf>, uid: u32) -> Answer {
-    let mut subject = SubjectView::default();
-    subject.cred.uid = uid;
-    let item = Item::new(CheckOp::Priv, &subject, None, None, Some(Priv::SchedRtprio));
-    list.ask(&item)
-}
-
-#[test]
-fn root_has_every_privilege(rt: HostRuntime) -> Result<(), AllocError> {
-    let mut policies = all_three(rt.alloc())?;
-    let biba = policies.register("mac_biba", false);
-    assert!(rt; biba.is_ok());
-    let root = answer_to(&policies.walk(), 0);
-    assert!(rt;
-        root == Answer {
-            errno: Errno::Success,
-            by: None
-        }
-    );
-    let other = answer_to(&policies.walk(), 1001);
-    assert!(rt;
-        other
-            == Answer {
-                errno: Errno::Eperm,
-                by: None
-            }
-    );
+    run_out(&rt, &mut policies);
     Ok(())
 }
 
@@ -381,7 +282,19 @@ impl<'a> Policy for Counted<'a> {
     }
 }
 
-/// No module has a setting yet, so no contract tells a policy that is reset from one that isn't.
+/// Registers the only policy and takes it away. It is reset as it goes, and not before.
+fn load_and_unload(rt: &impl Abort, policies: &mut Policies<Counted<'_>>, resets: &AtomicU64)
+    requires { IsHeldOnce (policies.old.fixed ++ policies.old.list) policies.old.catalogue }
+{
+    let loaded = policies.register("mac_partition", true);
+    let never = resets.load(Ordering::SeqCst) == 0;
+    let left = policies.unregister("mac_partition");
+    let once = resets.load(Ordering::SeqCst) == 1;
+    let goes = loaded == Ok(of_partition(0)) && left == Ok(of_partition(0));
+    wants(rt, "mac_partition", goes && never && once);
+}
+
+/// mac_partition has no setting, so no contract tells a policy of it that is reset from one that isn't.
 #[test]
 fn a_policy_that_goes_back_is_reset(rt: HostRuntime) -> Result<(), AllocError> {
     let resets = AtomicU64::new(0);
@@ -391,11 +304,6 @@ fn a_policy_that_goes_back_is_reset(rt: HostRuntime) -> Result<(), AllocError> {
     };
     let modules = vec![in rt.alloc(); policy]?;
     let mut policies = Policies::new(rt.alloc(), modules)?;
-    let loaded = policies.register("mac_partition", true);
-    assert!(rt; loaded == Ok(of_partition(0)));
-    assert!(rt; resets.load(Ordering::SeqCst) == 0);
-    let left = policies.unregister("mac_partition");
-    assert!(rt; left == Ok(of_partition(0)));
-    assert!(rt; resets.load(Ordering::SeqCst) == 1);
+    load_and_unload(&rt, &mut policies, &resets);
     Ok(())
 }

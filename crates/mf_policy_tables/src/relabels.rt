@@ -1,5 +1,6 @@
 //! Requests to change labels: which of them are claimed, and the labels after them.
 
+use crate::asked::wants;
 use mf_elem::{Comps, Elem, LabelValue, RangeLabel, Request, SLOTS};
 use mf_errno::Module;
 use mf_item::Kind;
@@ -15,7 +16,7 @@ fn biba_alone(alloc: Global) -> Result<SpecList, AllocError> {
         slot: Some(0),
         fixed: true,
     };
-    listed.list(biba, Spec::Biba)?;
+    listed.list(biba, Spec::Biba { revocation: false })?;
     Ok(listed)
 }
 
@@ -68,7 +69,7 @@ fn claims(listed: &SpecList, text: &str, kind: Kind) -> Option<bool> {
 fn claims_of_biba_and_partition(rt: HostRuntime) -> Result<(), AllocError> {
     let listed = biba_and_partition(rt.alloc())?;
     for (text, kind, claimed) in CLAIMS {
-        assert!(rt; claims(&listed, text, *kind) == Some(*claimed), "{text}");
+        wants(&rt, text, claims(&listed, text, *kind) == Some(*claimed));
     }
     Ok(())
 }
@@ -77,8 +78,9 @@ fn claims_of_biba_and_partition(rt: HostRuntime) -> Result<(), AllocError> {
 fn lomac_takes_requests_for_every_kind(rt: HostRuntime) -> Result<(), AllocError> {
     let listed = biba_and_lomac(rt.alloc())?;
     for kind in [Kind::Process, Kind::Vnode, Kind::Pipe, Kind::Socket] {
-        assert!(rt; claims(&listed, "lomac/5,biba/7", kind) == Some(true));
-        assert!(rt; claims(&listed, "lomac/5,mls/7", kind) == Some(false));
+        let both = claims(&listed, "lomac/5,biba/7", kind);
+        let unlisted = claims(&listed, "lomac/5,mls/7", kind);
+        wants(&rt, "claims", both == Some(true) && unlisted == Some(false));
     }
     Ok(())
 }
@@ -86,8 +88,13 @@ fn lomac_takes_requests_for_every_kind(rt: HostRuntime) -> Result<(), AllocError
 #[test]
 fn an_unlisted_partition_is_not_claimed(rt: HostRuntime) -> Result<(), AllocError> {
     let listed = biba_alone(rt.alloc())?;
-    assert!(rt; claims(&listed, "partition/none", Kind::Process) == Some(false));
-    assert!(rt; claims(&listed, "biba/5", Kind::Process) == Some(true));
+    let unlisted = claims(&listed, "partition/none", Kind::Process);
+    let listed = claims(&listed, "biba/5", Kind::Process);
+    wants(
+        &rt,
+        "claims",
+        unlisted == Some(false) && listed == Some(true),
+    );
     Ok(())
 }
 
@@ -152,10 +159,8 @@ fn what_is_not_asked_stays(rt: HostRuntime) -> Result<(), AllocError> {
     ];
     for (text, of_biba, of_partition) in rows {
         let after = labelled(*of_biba, *of_partition);
-        assert!(rt;
-            becomes(&listed, text, &labelled(biba, three), &after),
-            "{text}"
-        );
+        let becomes = becomes(&listed, text, &labelled(biba, three), &after);
+        wants(&rt, text, becomes);
     }
     Ok(())
 }
@@ -173,10 +178,8 @@ fn values_that_are_unset(rt: HostRuntime) -> Result<(), AllocError> {
     ];
     for (text, of_biba, of_partition) in rows {
         let after = labelled(*of_biba, *of_partition);
-        assert!(rt;
-            becomes(&listed, text, &labelled(unset, unset), &after),
-            "{text}"
-        );
+        let becomes = becomes(&listed, text, &labelled(unset, unset), &after);
+        wants(&rt, text, becomes);
     }
     Ok(())
 }
@@ -193,10 +196,8 @@ fn lomac_has_an_element_alone(rt: HostRuntime) -> Result<(), AllocError> {
     ];
     for (text, before, of_biba, of_lomac) in rows {
         let after = labelled(*of_biba, *of_lomac);
-        assert!(rt;
-            becomes(&listed, text, &labelled(biba, *before), &after),
-            "{text}"
-        );
+        let becomes = becomes(&listed, text, &labelled(biba, *before), &after);
+        wants(&rt, text, becomes);
     }
     Ok(())
 }
