@@ -54,8 +54,8 @@ impl<'s> Model for Core<'s> {
 
 impl<'s> Core<'s> {
     /// The core before the first event of the script, and the static list, which nothing changes from then on. `modules` has
-    /// a policy of each module, once, in its initial state. Those that the script boots are registered in its order; the
-    /// others stay in the catalogue.
+    /// a policy of each module, once, in its initial state. Those that the script boots are registered in its order, and then
+    /// mac_biba's is set as the script's tunable says; the others stay in the catalogue.
     pub fn new<P: Policy>(
         alloc: Global,
         script: &'s Script,
