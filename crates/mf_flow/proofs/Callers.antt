@@ -9,7 +9,7 @@ use Rattle.mf_errno.specs.declared.errno.Errno.TheVariants as errno
 use Rattle.mf_errno.specs.declared.module.Module.{Module}
 use Rattle.mf_item.specs.declared.operation.CheckOp.TheVariants as op
 use Rattle.mf_item.specs.declared.view.Kind.TheVariants as kinds
-use Rattle.mf_names.specs.declared.limits.TheConstants.{CONTENT_LIMIT}
+use Rattle.mf_names.specs.declared.limits.TheConstants.{CONTENT_LIMIT, MOST_DESCRIPTORS}
 use Rattle.mf_policy.specs.Loading.{load_errno, load_fault, unload_errno, unload_fault}
 use Rattle.mf_policy.specs.Lowering.{observes}
 use Rattle.mf_policy.specs.Operations.{row_of}
@@ -17,6 +17,7 @@ use Rattle.mf_policy.specs.Settings.{change_in}
 use Rattle.mf_policy.specs.declared.settings.Change.{Change}
 use Rattle.mf_objects.specs.declared.id.Id.{Id}
 use Rattle.mf_objects.specs.declared.limits.TheConstants.{MOST_ENTITIES, MOST_MESSAGES, PIPE_LIMIT}
+use Rattle.mf_objects.specs.Descriptors.{fds_at}
 use Rattle.mf_objects.specs.Live.{content_at, count_at}
 use Rattle.mf_calls.specs.declared.script.Call.{Call}
 use Rattle.mf_calls.specs.declared.script.Call.TheVariants as call
@@ -28,11 +29,11 @@ use Rattle.mf_plan.specs.Path.{lookup_along}
 use Rattle.mf_plan.specs.Plan.{row_for}
 use Rattle.mf_plan.specs.Relabels.{claimed_in}
 use Rattle.mf_plan.specs.Row.{Row, if_there, through}
-use Rattle.mf_plan.specs.Rows.{about_of}
+use Rattle.mf_plan.specs.Rows.{about_of, opens}
 use Rattle.mf_plan.specs.Settings.{unless_success}
 use Rattle.mf_plan.specs.Views.{entity_named, is_dir, overfills}
 use Rattle.mf_plan.specs.Ways.{At, Place, Way, asking, carrying, straight, then_way, way_to}
-use Rattle.mf_plan.specs.Ways.Place.{Nothing, Caller, Named, Unused, File, Free, Entry, Sockets, Listed, Loading, Unloading, Setting, Asking}
+use Rattle.mf_plan.specs.Ways.Place.{Nothing, Caller, Named, Unused, File, Free, Entry, Opened, Sockets, Listed, Loading, Unloading, Setting, Asking}
 
 -- the subject of the check is this process
 abbrev pub IsBy : Id → Check → Type 0
@@ -75,6 +76,11 @@ none_by : (P : Check → Type 0) (fault : Option Errno) → AllByRecursion P (op
 none_by P None = tt
 none_by P (Some e) = tt
 
+-- a check that is asked where a test says so
+where_asked : (P : Check → Type 0) (b : Bool) (check : Check) (checks : List Check) → P check → AllByRecursion P checks → AllByRecursion P (cond b (check ∷ checks) checks)
+where_asked P true check checks here all = (here, all)
+where_asked P false check checks here all = all
+
 -- The way to what a call is about
 
 all_then : {A B : Type 0} (P : Check → Type 0) (there : Result A Errno) (rest : A → Way B) → ((found : A) → AllByRecursion P (rest found).checks)
@@ -105,7 +111,8 @@ module _ (s : State) (me : Id) where
   way_by (Listed m) = tt
   way_by (Loading name) = (refl, tt)
   way_by (Unloading name) = (refl, (refl, tt))
-  way_by (Setting m change) = tt
+  way_by (Opened access n) = tt
+  way_by (Setting tunable m change) = tt
   way_by (Asking kind text place) =
       all_then (IsBy me) (ok_or (claimed_in s.specs kind text) errno.Einval) (λ request. carrying request (way_to s me place)) (λ request. way_by place)
 
@@ -175,6 +182,15 @@ module _ (s : State) (me : Id) where
         whole_by (call.Readdir path) (λ id. unless_refused (IsBy me) (not (is_dir s.objects id)) (on me op.VnodeReaddir id ∷ []) (refl, tt))
     row_by (call.Chmod path mode) = whole_by (call.Chmod path mode) (λ id. (refl, tt))
     row_by (call.Unlink path) = whole_by (call.Unlink path) (λ entry. (refl, (refl, none_after (IsBy me) (nat_lt 0 (count_at s.objects entry.1)))))
+    row_by (call.OpenFd path read write) =
+        whole_by (call.OpenFd path read write) (λ id.
+        let last : List Check = (opens s me read write id).checks in
+        unless_refused (IsBy me) (is_dir s.objects id) (cond read (on me op.VnodeOpenRead id ∷ cond write (on me op.VnodeOpenWrite id ∷ last) last) (cond write (on me op.VnodeOpenWrite id ∷ last) last))
+        (where_asked (IsBy me) read (on me op.VnodeOpenRead id) (cond write (on me op.VnodeOpenWrite id ∷ last) last) refl
+        (where_asked (IsBy me) write (on me op.VnodeOpenWrite id) last refl (none_after (IsBy me) (nat_le MOST_DESCRIPTORS (length (fds_at s.objects me)))))))
+    row_by (call.Fread n) = whole_by (call.Fread n) (λ id. (refl, tt))
+    row_by (call.Fwrite n text) = whole_by (call.Fwrite n text) (λ id. (refl, none_after (IsBy me) (overfills CONTENT_LIMIT s.objects text id)))
+    row_by (call.Close n) = whole_by (call.Close n) (λ id. tt)
     row_by (call.Pipe name) = whole_by (call.Pipe name) (λ free. room)
     row_by (call.Socket name) = whole_by (call.Socket name) (λ free. room)
     row_by (call.Pread name) = whole_by (call.Pread name) (λ id. (refl, none_after (IsBy me) (length (content_at s.objects id) == 0)))

@@ -1,11 +1,15 @@
 -- What the code does for a call, as the history goes on.
 use Rattle.std.proofs.Common.{◌≡◌, ℕ, ◌-◌, ◌==◌, Bool, true, false, cond, slice_get, List, [], ◌∷◌, Option, Some, None, refl, ap, sym, ◌∙◌, subst, arith}
-use Rattle.std.specs.Prelude.{fold, map}
+use Rattle.std.specs.Prelude.{filter, fold, map, option_and_then}
 use Rattle.std.proofs.lemmas.List.{take-map}
 use Rattle.mf_item.specs.Item.{Item}
+use Rattle.mf_item.specs.declared.operation.CheckOp.{CheckOp}
+use Rattle.mf_item.specs.declared.operation.CheckOp.TheVariants as op
+use Rattle.mf_policy.specs.declared.registration.Registration.{Registration}
 use Rattle.mf_list.specs.Asked.{slot_of}
+use Rattle.mf_objects.specs.declared.descriptors.Fd.{Fd}
 use Rattle.mf_objects.specs.declared.id.Id.{Id}
-use Rattle.mf_objects.specs.Live.{Entities}
+use Rattle.mf_objects.specs.Live.{Entities, label_at}
 use Rattle.mf_calls.specs.declared.script.Line.{Line}
 use Rattle.mf_calls.specs.declared.script.Script.{Script}
 use Rattle.mf_calls.specs.Tasks.{lines_of, name_of}
@@ -14,13 +18,19 @@ use Rattle.mf_plan.specs.declared.reply.Reply.{Reply}
 use Rattle.mf_plan.specs.declared.reply.Reply.TheVariants as reply
 use Rattle.mf_plan.specs.declared.found.Found.{Found}
 use Rattle.mf_plan.specs.declared.plan.Tail.TheVariants.{Do}
-use Rattle.mf_plan.specs.Found.{AreFound}
+use Rattle.mf_plan.specs.Checks.{on}
+use Rattle.mf_plan.specs.Found.{AreFound, descriptor_at}
 use Rattle.mf_elem.specs.declared.label.LabelValue.{LabelValue}
+use Rattle.mf_elem.specs.declared.label.LabelValue.TheVariants.{Unset}
 use Rattle.mf_policy.specs.Lowering.{after_check, lomac_slot}
 use Rattle.mf_objects.specs.Lives.{value_at}
 use Rattle.mf_plan.specs.Lowering.{each_lowered, lowering, while_lowered, with_slot}
-use Rattle.mf_plan.specs.Plan.{call_row, plan_in, plan_of}
-use Rattle.mf_plan.proofs.LoweredChecks.{lowering_taken}
+use Rattle.mf_plan.specs.Plan.{call_row, plan_in, plan_of, row_for}
+use Rattle.mf_plan.specs.Rows.{about_of}
+use Rattle.mf_plan.proofs.Finding.{asked_of as asked_in_effect, row_by}
+use Rattle.mf_plan.proofs.LoweredChecks.{lowering_taken, put_back}
+use Rattle.mf_plan.proofs.Transfers.{AreThrough, through_descriptor}
+use Rattle.mf_plan.proofs.Transfers.AreThrough.{asks_none, asks_read, asks_write}
 use Rattle.mf_perform.specs.Refused.{is_ok}
 use Rattle.mf_perform.specs.OneCall.{call_reply}
 use Rattle.mf_core.specs.declared.history.Event.{Event}
@@ -31,7 +41,9 @@ use Rattle.mf_core.specs.NextFound.{FoundAt, IsNextFound}
 use Rattle.mf_core.proofs.SameLists.{done_tail}
 use Rattle.mf_perform.specs.Passed.{passed}
 use Rattle.mf_flow.specs.declared.following.Flow.{Flow}
-use Rattle.mf_flow.specs.Rows.{Rows, rows_moved, rows_after_line, flow_moved, flow_settled, flow_after_event, asked_of, rows_by, caller_of}
+use Rattle.mf_flow.specs.Rows.{Rows, rows_moved, rows_after_line, flow_moved, flow_settled, flow_after_event, asked_of, rows_by}
+use Rattle.mf_flow.specs.Transfers.{caller_of, counts, descriptor_of}
+use Rattle.mf_flow.proofs.Counted.{all_pass}
 use Rattle.std.specs.Option.{option_map_or, option_zip}
 use Rattle.mf_core.proofs.LookedUp.{reply_at}
 use Rattle.mf_elem.specs.declared.label.Request.{Request}
@@ -42,19 +54,19 @@ use Rattle.mf_plan.specs.Outline.{item_asking, item_of}
 
 abbrev flow_after_line : State → State → List ℕ → Option Line → Reply → Flow → Flow
 flow_after_line s s' task found said f =
-    record f { sets = rows_after_line (slot_of f.registration) f.registration.module s s' task found said f.sets }
+    record f { sets = rows_after_line f.registration s s' task found said f.sets }
 
-line_flow : (s s' : State) (task : List ℕ) (found : Option Line) (line : Line) (said : Reply) (f : Flow) (items : List Item) (next : ℕ) (o : Entities) (caller : Option Id)
-    (asked : Option (Id × Request)) → found ≡ Some line → flow_moved s.objects items f ≡ flow_moved s.objects (passed said (plan_of s task line.child line.call).items) f
+line_flow : (s s' : State) (task : List ℕ) (found : Option Line) (line : Line) (said : Reply) (f moved : Flow) (next : ℕ) (o : Entities) (caller : Option Id)
+    (asked : Option (Id × Request)) → found ≡ Some line → moved ≡ flow_moved s (descriptor_of s task line) (passed said (plan_of s task line.child line.call).items) f
     → next ≡ s.objects.next → o ≡ s'.objects → caller ≡ caller_of s task line → asked ≡ asked_of s task line said
-    → flow_settled next o caller asked (flow_moved s.objects items f) ≡ flow_after_line s s' task found said f
-line_flow s s' task found line said f items next o caller asked found_is moved_is next_is o_is caller_is asked_is =
-    let moved : Flow = flow_moved s.objects (passed said (plan_of s task line.child line.call).items) f in
+    → flow_settled next o caller asked moved ≡ flow_after_line s s' task found said f
+line_flow s s' task found line said f moved next o caller asked found_is moved_is next_is o_is caller_is asked_is =
+    let then : Flow = flow_moved s (descriptor_of s task line) (passed said (plan_of s task line.child line.call).items) f in
     ap (flow_settled next o caller asked) moved_is
-    ∙ ap (λ (k : ℕ). flow_settled k o caller asked moved) next_is
-    ∙ ap (λ (x : Entities). flow_settled s.objects.next x caller asked moved) o_is
-    ∙ ap (λ (x : Option Id). flow_settled s.objects.next s'.objects x asked moved) caller_is
-    ∙ ap (λ (x : Option (Id × Request)). flow_settled s.objects.next s'.objects (caller_of s task line) x moved) asked_is
+    ∙ ap (λ (k : ℕ). flow_settled k o caller asked then) next_is
+    ∙ ap (λ (x : Entities). flow_settled s.objects.next x caller asked then) o_is
+    ∙ ap (λ (x : Option Id). flow_settled s.objects.next s'.objects x asked then) caller_is
+    ∙ ap (λ (x : Option (Id × Request)). flow_settled s.objects.next s'.objects (caller_of s task line) x then) asked_is
     ∙ sym (ap (λ (x : Option Line). flow_after_line s s' task x said f) found_is)
 
 -- what the checks that passed are seen as
@@ -63,17 +75,42 @@ passed_map (reply.Ok payload) f checks = refl
 passed_map (reply.Denied errno op item by) f checks = take-map f (item - 1) checks
 passed_map (reply.Refused errno) f checks = refl
 
--- a check moves the same whatever its request
+-- a check counts and moves the same whatever its request
 
-same_fold : (slot : ℕ) (o : Entities) (asked : Option Request) (rows : Rows) (checks : List Check)
-    → fold (rows_moved slot o) rows (map (item_asking o asked) checks) ≡ fold (rows_moved slot o) rows (map (item_of o) checks)
-unfolding item_asking
-same_fold slot o asked rows [] = refl
-same_fold slot o asked rows (check ∷ checks) = same_fold slot o asked (rows_by slot o rows check) checks
+module _ (s : State) (r : Registration) (fd : Option Fd) (asked : Option Request) where
+  abbrev test : Item → Bool
+  test = counts r s.specs fd
 
-same_flow : (o : Entities) (asked : Option Request) (checks : List Check) (f : Flow)
-    → flow_moved o (map (item_asking o asked) checks) f ≡ flow_moved o (map (item_of o) checks) f
-same_flow o asked checks f = ap (λ (rows : Rows). record f { sets = rows }) (same_fold (slot_of f.registration) o asked f.sets checks)
+  same_test : (check : Check) → test (item_asking s.objects asked check) ≡ test (item_of s.objects check)
+  unfolding item_asking
+  same_test check = one fd
+    where
+      one : (x : Option Fd) → counts r s.specs x (item_asking s.objects asked check) ≡ counts r s.specs x (item_of s.objects check)
+      one None = refl
+      one (Some x) = refl
+
+  abbrev some_asking : List Check → List Item
+  some_asking checks = filter test (map (item_asking s.objects asked) checks)
+
+  abbrev some_of : List Check → List Item
+  some_of checks = filter test (map (item_of s.objects) checks)
+
+  same_fold : (rows : Rows) (checks : List Check) → fold (rows_moved (slot_of r) s.objects) rows (some_asking checks) ≡ fold (rows_moved (slot_of r) s.objects) rows (some_of checks)
+  unfolding item_asking
+  same_fold rows [] = refl
+  same_fold rows (check ∷ checks) =
+      ap (λ (b : Bool). fold (rows_moved (slot_of r) s.objects) rows (cond b (item_asking s.objects asked check ∷ some_asking checks) (some_asking checks))) (same_test check)
+      ∙ one (test (item_of s.objects check)) (λ after. same_fold after checks)
+    where
+      one : (b : Bool) → ((after : Rows) → fold (rows_moved (slot_of r) s.objects) after (some_asking checks) ≡ fold (rows_moved (slot_of r) s.objects) after (some_of checks))
+          → fold (rows_moved (slot_of r) s.objects) rows (cond b (item_asking s.objects asked check ∷ some_asking checks) (some_asking checks))
+          ≡ fold (rows_moved (slot_of r) s.objects) rows (cond b (item_of s.objects check ∷ some_of checks) (some_of checks))
+      one true rest = rest (rows_by (slot_of r) s.objects rows check)
+      one false rest = rest rows
+
+same_flow : (s : State) (fd : Option Fd) (asked : Option Request) (checks : List Check) (f : Flow)
+    → flow_moved s fd (map (item_asking s.objects asked) checks) f ≡ flow_moved s fd (map (item_of s.objects) checks) f
+same_flow s fd asked checks f = ap (λ (rows : Rows). record f { sets = rows }) (same_fold s f.registration fd asked f.sets checks)
 
 -- A check moves the same whether or not its caller is lowered
 
@@ -104,39 +141,91 @@ passed_lowering s me (reply.Ok payload) items = refl
 passed_lowering s me (reply.Denied errno op item by) items = lowering_taken s me (item - 1) items
 passed_lowering s me (reply.Refused errno) items = refl
 
+-- and the first check of a caller finds it as it is
+own_lowered : (s : State) (me : Id) (asked : Option Request) (k : CheckOp) (file : Id)
+    → lowering s me (item_asking s.objects asked (on me k file) ∷ []) ≡ item_asking s.objects asked (on me k file) ∷ []
+unfolding item_asking
+own_lowered s me asked k file = one (lomac_slot s.specs)
+  where
+    item : Item
+    item = item_asking s.objects asked (on me k file)
+
+    one : (slot : Option ℕ) → option_map_or (λ slot. each_lowered slot me.0 (value_at s.objects me slot) (item ∷ [])) slot (item ∷ []) ≡ item ∷ []
+    one None = refl
+    one (Some slot) = two (me.0 == me.0)
+      where
+        two : (b : Bool) → cond b (record item { subject = with_slot slot (value_at s.objects me slot) item.subject }) item ∷ [] ≡ item ∷ []
+        two true =
+            ap (λ (label : List LabelValue). let lowered : Item = record item { subject = record item.subject { label = label } } in lowered ∷ [])
+            (put_back (label_at s.objects me) slot Unset)
+        two false = refl
+
+through_lowered : (s : State) (me : Id) (asked : Option Request) (fd : Fd) (checks : List Check) → AreThrough me fd checks
+    → lowering s me (map (item_asking s.objects asked) checks) ≡ map (item_asking s.objects asked) checks
+through_lowered s me asked fd _ asks_none = one (lomac_slot s.specs)
+  where
+    one : (slot : Option ℕ) → option_map_or (λ slot. each_lowered slot me.0 (value_at s.objects me slot) []) slot [] ≡ []
+    one None = refl
+    one (Some slot) = refl
+through_lowered s me asked fd _ (asks_read is) = own_lowered s me asked op.VnodeRead fd.file
+through_lowered s me asked fd _ (asks_write is) = own_lowered s me asked op.VnodeWrite fd.file
+
 -- the checks of the row of a call move what those of its plan do
 plan_moves : (s : State) (task : List ℕ) (line : Line) (said : Reply) (f : Flow)
-    → flow_moved s.objects (passed said (plan_in s (call_row s task line.child line.call)).items) f ≡ flow_moved s.objects (passed said (plan_of s task line.child line.call).items) f
+    → flow_moved s (descriptor_of s task line) (passed said (plan_in s (call_row s task line.child line.call)).items) f
+    ≡ flow_moved s (descriptor_of s task line) (passed said (plan_of s task line.child line.call).items) f
 plan_moves s task line said f = one (caller_of s task line)
   where
-    raw : List Item
-    raw = (plan_in s (call_row s task line.child line.call)).items
+    r : Registration
+    r = f.registration
+
+    asked_by : Option Id → Option Request
+    asked_by caller = asked_in_effect (row_by s task line.call caller).effect
+
+    raw : Option Id → List Item
+    raw caller = map (item_asking s.objects (asked_by caller)) (row_by s task line.call caller).checks
+
+    -- all checks count where none goes through a descriptor
+    without : (me : Id) → flow_moved s None (passed said (raw (Some me))) f ≡ flow_moved s None (passed said (lowering s me (raw (Some me)))) f
+    without me =
+        let items : List Item = passed said (raw (Some me)) in
+        let move : List Item → Rows = fold (rows_moved (slot_of r) s.objects) f.sets in
+        ap (λ (rows : Rows). record f { sets = rows })
+        (ap move (all_pass (counts r s.specs None) items (λ item. refl))
+        ∙ sym (lowering_moves s (slot_of r) me f.sets items) ∙ sym (ap move (passed_lowering s me said (raw (Some me))))
+        ∙ sym (ap move (all_pass (counts r s.specs None) (passed said (lowering s me (raw (Some me)))) (λ item. refl))))
+
+    through : (me : Id) (found : Option Fd) → descriptor_at s me (about_of s task me line.call).place ≡ found
+        → flow_moved s found (passed said (raw (Some me))) f ≡ flow_moved s found (passed said (lowering s me (raw (Some me)))) f
+    through me None is = without me
+    through me (Some fd) is =
+        sym (ap (λ (xs : List Item). flow_moved s (Some fd) (passed said xs) f)
+        (through_lowered s me (asked_by (Some me)) fd (row_for s task line.call me).checks (through_descriptor s task me line.call fd is)))
 
     one : (caller : Option Id)
-        → flow_moved s.objects (passed said raw) f ≡ flow_moved s.objects (passed said (option_map_or (λ me. lowering s me raw) caller raw)) f
+        → flow_moved s (option_and_then (λ me. descriptor_at s me (about_of s task me line.call).place) caller) (passed said (raw caller)) f
+        ≡ flow_moved s (option_and_then (λ me. descriptor_at s me (about_of s task me line.call).place) caller)
+        (passed said (option_map_or (λ me. lowering s me (raw caller)) caller (raw caller))) f
     one None = refl
-    one (Some me) =
-        ap (λ (rows : Rows). record f { sets = rows })
-        (sym (lowering_moves s (slot_of f.registration) me f.sets (passed said raw)) ∙ sym (ap (fold (rows_moved (slot_of f.registration) s.objects) f.sets) (passed_lowering s me said raw)))
+    one (Some me) = through me (descriptor_at s me (about_of s task me line.call).place) refl
 
 -- The call of an event that may come, whose line is the task's next one in this state
 
-pub done_flow : (s : Script) (run : RunState) (e : Event) (t number : ℕ) (said : Reply) (state state' : State) (task : List ℕ) (line : Line) (f moved : Flow)
+pub done_flow : (s : Script) (run : RunState) (e : Event) (t number : ℕ) (said : Reply) (state state' : State) (task : List ℕ) (line : Line) (f moved : Flow) (fd : Option Fd)
     (request : Option Request) (checks : List Check) (next : ℕ) (caller : Option Id) (asked : Option (Id × Request)) → e ≡ event.Done t number said
     → state ≡ run.state → state' ≡ (run_after s run e).state → task ≡ name_of s t → next_line s run.progress t ≡ Some line
     → map (item_asking state.objects request) checks ≡ passed said (plan_in state (call_row state task line.child line.call)).items
-    → moved ≡ flow_moved state.objects (map (item_of state.objects) checks) f → next ≡ state.objects.next
+    → moved ≡ flow_moved state fd (map (item_of state.objects) checks) f → fd ≡ descriptor_of state task line → next ≡ state.objects.next
     → caller ≡ caller_of state task line → asked ≡ asked_of state task line said
     → flow_settled next state'.objects caller asked moved ≡ flow_after_event s run e f
-done_flow s run e t number said state state' task line f moved request checks next caller asked is here after_is task_is line_is items_are moved_is next_is caller_is asked_is =
-    let items : List Item = map (item_asking state.objects request) checks in
-    ap (flow_settled next state'.objects caller asked) (moved_is ∙ sym (same_flow state.objects request checks f)
-    ∙ ap (λ (x : State). flow_moved x.objects items f) here)
-    ∙ line_flow run.state (run_after s run (event.Done t number said)).state (name_of s t) (next_line s run.progress t) line said f items next state'.objects caller asked line_is
-    (ap (λ (xs : List Item). flow_moved run.state.objects xs f)
-    (items_are ∙ ap (λ (x : State). passed said (plan_in x (call_row x task line.child line.call)).items) here
-    ∙ ap (λ (x : List ℕ). passed said (plan_in run.state (call_row run.state x line.child line.call)).items) task_is)
-    ∙ plan_moves run.state (name_of s t) line said f)
+done_flow s run e t number said state state' task line f moved fd request checks next caller asked is here after_is task_is line_is items_are moved_is fd_is next_is caller_is asked_is =
+    line_flow run.state (run_after s run (event.Done t number said)).state (name_of s t) (next_line s run.progress t) line said f moved next state'.objects caller asked line_is
+    (moved_is ∙ sym (same_flow state fd request checks f)
+    ∙ ap (λ (xs : List Item). flow_moved state fd xs f) items_are
+    ∙ ap (λ (x : Option Fd). flow_moved state x (passed said (plan_in state (call_row state task line.child line.call)).items) f) fd_is
+    ∙ plan_moves state task line said f
+    ∙ ap (λ (x : State). flow_moved x (descriptor_of x task line) (passed said (plan_of x task line.child line.call).items) f) here
+    ∙ ap (λ (x : List ℕ). flow_moved run.state (descriptor_of run.state x line) (passed said (plan_of run.state x line.child line.call).items) f) task_is)
     (next_is ∙ ap (λ (x : State). x.objects.next) here)
     (ap (λ (x : State). x.objects) after_is ∙ ap (λ (x : Event). (run_after s run x).state.objects) is)
     (caller_is ∙ ap (λ (x : State). caller_of x task line) here ∙ ap (λ (x : List ℕ). caller_of run.state x line) task_is)

@@ -19,6 +19,7 @@ use Rattle.mf_policy.specs.declared.modules.Labelling.{Labelling}
 use Rattle.mf_policy.specs.declared.modules.Labelling.TheVariants.{Ranges, Elements}
 use Rattle.mf_policy.proofs.EachModule.{has_elements}
 use Rattle.mf_policy.specs.declared.registration.Registration.{Registration}
+use Rattle.mf_policy.specs.declared.spec.Spec.{Spec}
 use Rattle.mf_policy.specs.Answer.{range_label}
 use Rattle.mf_policy.specs.Modules.{facts_of, inherited, inherited_by, inherited_range, labels_by, number_asked, range_asked}
 use Rattle.mf_policy.specs.declared.labels.Origin.TheVariants.{Maker}
@@ -30,7 +31,8 @@ use Rattle.mf_list.specs.Asked.{slot_of}
 use Rattle.mf_objects.specs.declared.id.Id.{Id}
 use Rattle.mf_objects.specs.Live.{LiveEntity, kind_of, live_at, value_in}
 use Rattle.mf_plan.specs.declared.state.State.{State}
-use Rattle.mf_lifetimes.proofs.Listing.{IsLasting, IsPinned}
+use Rattle.mf_lifetimes.proofs.Lasting.{IsLasting}
+use Rattle.mf_lifetimes.proofs.Listing.{IsPinned}
 use Rattle.mf_lifetimes.specs.Laws.{holds_valid, suits_kind}
 use Rattle.mf_lifetimes.proofs.Kept.{four_values}
 use Rattle.mf_lifetimes.proofs.Marked.{IsHeld}
@@ -60,9 +62,9 @@ inherits m kind value lasting = by_labels (facts_of m).labels lasting
     by_labels other elements = cc
 
 -- a new entity has its maker's element
-pub created_element : (r : Registration) (specs : List Entry) (given : ℕ) (kind : Kind) (maker : List LabelValue) → slot_of r < SLOTS → IsPinned (slot_of r) r specs given
+pub created_element : (r : Registration) (spec : Spec) (specs : List Entry) (given : ℕ) (kind : Kind) (maker : List LabelValue) → slot_of r < SLOTS → IsPinned (slot_of r) (r, spec) specs given
     → element_by r (new_label specs kind (Maker maker)) ≡ element_by r maker
-created_element r specs given kind maker within pinned =
+created_element r spec specs given kind maker within pinned =
     let slot : ℕ = slot_of r in
     let there : slice_index_or (new_label specs kind (Maker maker)) slot Unset ≡ new_value specs kind (Maker maker) slot = four_values (new_value specs kind (Maker maker)) slot within in
     let by : new_value specs kind (Maker maker) slot ≡ inherited r.module kind (slice_index_or maker slot Unset) =
@@ -102,8 +104,8 @@ valid_some (Elements element) kind (Number n) elements valid = cc
 valid_some labels kind value elements valid = cc
 
 -- each live entity has an element
-pub all_labelled : (r : Registration) (s : State) → IsHeld (slot_of r) r s → (id : Id) (e : LiveEntity) → live_at s.objects id ≡ Some e → HasElement (element_by r e.label)
-all_labelled r s held id e live = valid_some (facts_of r.module).labels (kind_of e.what) (value_in (slot_of r) e) held.pinned.lasting (held.valid id e live)
+pub all_labelled : (r : Registration) (spec : Spec) (s : State) → IsHeld (slot_of r) (r, spec) s → (id : Id) (e : LiveEntity) → live_at s.objects id ≡ Some e → HasElement (element_by r e.label)
+all_labelled r spec s held id e live = valid_some (facts_of r.module).labels (kind_of e.what) (value_in (slot_of r) e) held.pinned.lasting (held.valid id e live)
 
 -- Elements as they are asked
 
@@ -128,9 +130,10 @@ keeps_element m request value lasting none = by_labels (facts_of m).labels lasti
     by_labels other elements = cc
 
 -- a relabel that asks for no element leaves it
-pub relabelled_element : (r : Registration) (specs : List Entry) (given : ℕ) (request : Request) (label : List LabelValue) → slot_of r < SLOTS → IsPinned (slot_of r) r specs given
+pub relabelled_element : (r : Registration) (spec : Spec) (specs : List Entry) (given : ℕ) (request : Request) (label : List LabelValue) → slot_of r < SLOTS
+    → IsPinned (slot_of r) (r, spec) specs given
     → has_element r.module request ≡ false → element_by r (relabelled specs request label) ≡ element_by r label
-relabelled_element r specs given request label within pinned none =
+relabelled_element r spec specs given request label within pinned none =
     let slot : ℕ = slot_of r in
     let there : slice_index_or (relabelled specs request label) slot Unset ≡ relabelled_value specs request label slot =
     four_values (relabelled_value specs request label) slot within in

@@ -7,6 +7,7 @@ use Rattle.mf_core.proofs.LookedUp.{reply_at, state_at}
 use Rattle.mf_elem.specs.declared.label.TheConstants.{SLOTS}
 use Rattle.mf_item.specs.Item.{Item}
 use Rattle.mf_policy.specs.declared.registration.Registration.{Registration}
+use Rattle.mf_policy.specs.declared.spec.Spec.{Spec}
 use Rattle.mf_list.specs.Asked.{slot_of}
 use Rattle.mf_objects.proofs.Entities.{label_of as values_of}
 use Rattle.mf_objects.specs.declared.id.Id.{Id}
@@ -18,7 +19,6 @@ use Rattle.mf_calls.specs.WellFormed.{IsWellFormed}
 use Rattle.mf_plan.specs.declared.state.State.{State}
 use Rattle.mf_plan.specs.declared.reply.Reply.{Reply}
 use Rattle.mf_plan.specs.Names.{caller_name}
-use Rattle.mf_plan.specs.Plan.{plan_of}
 use Rattle.mf_plan.specs.Views.{process_named}
 use Rattle.mf_perform.specs.OneCall.{call_reply, call_state, observed}
 use Rattle.mf_perform.proofs.Observing.{HasObserved, ObservingKeeps, checks_passed, observing, observing_keeps}
@@ -26,21 +26,21 @@ use Rattle.mf_perform.proofs.Observing.HasObserved.{absent, unlowered, lowered}
 use Rattle.mf_core.specs.declared.history.Event.{Event}
 use Rattle.mf_core.specs.declared.history.Event.TheVariants as event
 use Rattle.mf_core.specs.declared.history.History.{History}
-use Rattle.mf_core.specs.Opening.{opening_state}
+use Rattle.mf_core.specs.Opening.{opening_state, spec_at_boot}
 use Rattle.mf_core.specs.Progress.{progress_at}
 use Rattle.mf_core.specs.LegalHistory.{RunState, opening_run, next_line, MayCome, run_after, AllMayCome, run_state_of, IsLegal}
 use Rattle.mf_core.specs.RunView.{RunView}
 use Rattle.mf_perform.proofs.StateChange.{Deed, StateChange}
 use Rattle.mf_perform.proofs.EntityChange.{ChangesEntities, changes_entities}
-use Rattle.mf_perform.specs.Passed.{passed}
 use Rattle.mf_flow.specs.declared.following.Flow.{Flow}
 use Rattle.mf_flow.specs.Rows.{AreKept, AreOwnRows, AreRows, EachBecomes, HasSlot, IsFlowOf, IsKept, IsOpening, Rows, rows_moved, rows_created, rows_after_line, rows_after_event, flow_after_event}
-use Rattle.mf_flow.specs.Sources.{Sets, own_source, element_by, sets_after_line, sets_after_event, sets_after, sources_of}
+use Rattle.mf_flow.specs.Sources.{Sets, own_source, element_by, moving, sets_after_line, sets_after_event, sets_after, sources_of}
 use Rattle.mf_flow.proofs.Across.{gives_element, moved_by_all, opening_sets, set_of, sets_across}
 use Rattle.mf_flow.proofs.Elements.{all_labelled}
 use Rattle.mf_flow.proofs.Relabels.{relabel_state}
 use Rattle.mf_flow.proofs.Orders.{FlowPolicy}
-use Rattle.mf_flow.proofs.Flowing.{IsFlowing, IsOf, deed_of, line_change, line_objects, event_flowing, opening_flowing, same_before}
+use Rattle.mf_flow.proofs.Answering.{IsOf}
+use Rattle.mf_flow.proofs.Flowing.{IsFlowing, deed_of, line_change, line_objects, event_flowing, opening_flowing, same_before}
 use Rattle.mf_flow.proofs.RowsKept.{fit_held, items_rows, kept_itself}
 use Rattle.mf_flow.proofs.RowsAfter.{change_next, created_rows, given_rows}
 use Rattle.mf_flow.specs.Table.{sourced}
@@ -59,13 +59,13 @@ was_live s id _ _ e absent is = cc
 was_live s id _ _ e (unlowered old) is = (old, refl)
 was_live s id _ _ e (lowered slot old mine at process sees) is = (old, refl)
 
-call_rows : (p : FlowPolicy) (r : Registration) (s s' : State) (task : List ℕ) (line : Line) (said : Reply) (sets : Sets) (rows : Rows)
+call_rows : (p : FlowPolicy) (r : Registration) (spec : Spec) (s s' : State) (task : List ℕ) (line : Line) (said : Reply) (sets : Sets) (rows : Rows)
     → call_reply s task line.child line.call ≡ said → s' ≡ call_state s task line.child line.call
-    → StateChange (deed_of s task line said) (observed s task line.child line.call) s' → IsFlowing p r s sets → AreRows s.objects sets rows
-    → AreRows s'.objects (sets_after_line r s s' task (Some line) said sets) (rows_after_line (slot_of r) r.module s s' task (Some line) said rows)
-call_rows p r s s' task line said sets rows is after_is shape flowing are =
+    → StateChange (deed_of s task line said) (observed s task line.child line.call) s' → IsFlowing p r spec s sets → AreRows s.objects sets rows
+    → AreRows s'.objects (sets_after_line r s s' task (Some line) said sets) (rows_after_line r s s' task (Some line) said rows)
+call_rows p r spec s s' task line said sets rows is after_is shape flowing are =
     same_sets s'.objects (sets_across r s1 s' by.caller (gives_element r by.asked) moved) (sets_after_line r s s' task (Some line) said sets)
-    (rows_after_line (slot_of r) r.module s s' task (Some line) said rows)
+    (rows_after_line r s s' task (Some line) said rows)
     (λ id. same_before r s id (live_at s.objects id) (live_at s1.objects id) (live_at s'.objects id) (gives_element r by.asked id) (moved id) (set_of by.caller moved) (keeps.each id))
     (given_rows r by s1 s' keeps.rooted.rising step moved by.asked (rows_created (slot_of r) s.objects.next s'.objects by.caller moved_rows)
     (λ asked one. ap (λ (x : State). x.objects.next) (after_is ∙ relabel_state s task line.child line.call said asked is one))
@@ -76,7 +76,7 @@ call_rows p r s s' task line said sets rows is after_is shape flowing are =
     by = deed_of s task line said
 
     items : List Item
-    items = passed said (plan_of s task line.child line.call).items
+    items = moving r s task line said
 
     s1 : State
     s1 = observed s task line.child line.call
@@ -95,7 +95,7 @@ call_rows p r s s' task line said sets rows is after_is shape flowing are =
 
     after_checks : AreRows s.objects moved moved_rows
     after_checks =
-        items_rows r s.objects flowing.held.kept.rooted.rising (all_labelled r s flowing.held) sets rows items (fit_held p r s.objects sets flowing.fit) are
+        items_rows r s.objects flowing.held.kept.rooted.rising (all_labelled r spec s flowing.held) sets rows items (fit_held p r s.objects sets flowing.fit) are
 
     -- so they are in the state after the checks
     seen : AreRows s1.objects moved moved_rows
@@ -107,22 +107,22 @@ call_rows p r s s' task line said sets rows is after_is shape flowing are =
               after_checks.each id was.0 was.1;
         }
 
-done_rows : (p : FlowPolicy) (r : Registration) (s : Script) (run : RunState) (t : ℕ) (next : Option Line) (said : Reply) (sets : Sets) (rows : Rows)
-    → reply_at s run t next ≡ Some said → IsFlowing p r run.state sets → AreRows run.state.objects sets rows
+done_rows : (p : FlowPolicy) (r : Registration) (spec : Spec) (s : Script) (run : RunState) (t : ℕ) (next : Option Line) (said : Reply) (sets : Sets) (rows : Rows)
+    → reply_at s run t next ≡ Some said → IsFlowing p r spec run.state sets → AreRows run.state.objects sets rows
     → AreRows (state_at s run t next).objects (sets_after_line r run.state (state_at s run t next) (name_of s t) next said sets)
-    (rows_after_line (slot_of r) r.module run.state (state_at s run t next) (name_of s t) next said rows)
-done_rows p r s run t None said sets rows is flowing are = cc
-done_rows p r s run t (Some line) said sets rows is flowing are =
+    (rows_after_line r run.state (state_at s run t next) (name_of s t) next said rows)
+done_rows p r spec s run t None said sets rows is flowing are = cc
+done_rows p r spec s run t (Some line) said sets rows is flowing are =
     let same : call_reply run.state (name_of s t) line.child line.call ≡ said = cc in
-    call_rows p r run.state (state_at s run t (Some line)) (name_of s t) line said sets rows same refl (line_change s run t line said same flowing.held.kept.rooted) flowing are
+    call_rows p r spec run.state (state_at s run t (Some line)) (name_of s t) line said sets rows same refl (line_change s run t line said same flowing.held.kept.rooted) flowing are
 
-event_rows : (p : FlowPolicy) (r : Registration) (s : Script) (run : RunState) (e : Event) (sets : Sets) (rows : Rows) → MayCome s run e
-    → IsFlowing p r run.state sets → AreRows run.state.objects sets rows
-    → AreRows (run_after s run e).state.objects (sets_after_event s r run e sets) (rows_after_event s (slot_of r) r.module run e rows)
-event_rows p r s run (event.Enter t) sets rows may flowing are = are
-event_rows p r s run (event.Done t line said) sets rows may flowing are = done_rows p r s run t (next_line s run.progress t) said sets rows may.2 flowing are
-event_rows p r s run (event.Leave t) sets rows may flowing are = are
-event_rows p r s run (event.Changed t line said) sets rows may flowing are =
+event_rows : (p : FlowPolicy) (r : Registration) (spec : Spec) (s : Script) (run : RunState) (e : Event) (sets : Sets) (rows : Rows) → MayCome s run e
+    → IsFlowing p r spec run.state sets → AreRows run.state.objects sets rows
+    → AreRows (run_after s run e).state.objects (sets_after_event s r run e sets) (rows_after_event s r run e rows)
+event_rows p r spec s run (event.Enter t) sets rows may flowing are = are
+event_rows p r spec s run (event.Done t line said) sets rows may flowing are = done_rows p r spec s run t (next_line s run.progress t) said sets rows may.2 flowing are
+event_rows p r spec s run (event.Leave t) sets rows may flowing are = are
+event_rows p r spec s run (event.Changed t line said) sets rows may flowing are =
     subst (λ (o : Entities). AreRows o sets rows) (sym (line_objects s run t (progress_at run.progress t).phase (next_line s run.progress t) may.1)) are
 
 -- Entities that are gone
@@ -142,9 +142,10 @@ pub record IsReplayed (s : Script) (es : List Event) (n : ℕ) (replay : RunView
 
 -- the sources so far, and how the rest leads to those of the history
 pub record Followed (p : FlowPolicy) (s : Script) (r : Registration) (es : List Event) (n : ℕ) (replay : RunView) (rows : Rows) : Type 0 where
+  spec : Spec
   sets : Sets
   flows : sets_after s r replay.run sets (drop n es) ≡ sources_of s r es
-  flowing : IsFlowing p r replay.run.state sets
+  flowing : IsFlowing p r spec replay.run.state sets
   kept : AreRows replay.run.state.objects sets rows
 
 -- the same for the policy that is booted so
@@ -165,7 +166,13 @@ opening_for p s h r rows formed booted are =
     record {
       policy = p;
       of = booted.of;
-      followed = record { sets = opening_sets s r; flows = refl; flowing = opening_flowing p r s formed booted.of booted.pinned; kept = are };
+      followed = record {
+        spec = spec_at_boot s r.module;
+        sets = opening_sets s r;
+        flows = refl;
+        flowing = opening_flowing p r (spec_at_boot s r.module) s formed booted.of booted.pinned;
+        kept = are;
+      };
     }
 
 opening_followed : (p : FlowPolicy) (s : Script) (h : History) (r : Registration) (es : List Event) (replay : RunView) (rows : Rows) → IsBootedFor p s r → es ≡ h.events.list → IsWellFormed s
@@ -227,7 +234,7 @@ replayed_more s es n replay replay' e d within so_far is next =
 
 followed_more : (s : Script) (r : Registration) (es : List Event) (n : ℕ) (replay replay' : RunView) (rows rows' rows'' : Rows) (e d : Event) → n < length es
     → IsReplayed s es n replay → IsFollowed s r es n replay rows → e ≡ get_or es n d → replay' ≡ record { script = s; run = run_after s replay.run e }
-    → rows' ≡ rows_after_event s (slot_of r) r.module replay.run e rows → AreKept (run_after s replay.run e).state.objects rows' rows'' → IsFollowed s r es (n + 1) replay' rows''
+    → rows' ≡ rows_after_event s r replay.run e rows → AreKept (run_after s replay.run e).state.objects rows' rows'' → IsFollowed s r es (n + 1) replay' rows''
 followed_more s r es n replay replay' rows rows' rows'' e d within replayed followed is next rows_are kept =
     let so_far = followed.followed in
     let p : FlowPolicy = followed.policy in
@@ -236,16 +243,17 @@ followed_more s r es n replay replay' rows rows' rows'' e d within replayed foll
     let place : suc n ≡ n + 1 = omega arith in
     let sets : Sets = sets_after_event s r replay.run e so_far.sets in
     let after_event : AreRows (run_after s replay.run e).state.objects sets rows' =
-    subst (AreRows (run_after s replay.run e).state.objects sets) (sym rows_are) (event_rows p r s replay.run e so_far.sets rows may.0 so_far.flowing so_far.kept) in
+    subst (AreRows (run_after s replay.run e).state.objects sets) (sym rows_are) (event_rows p r so_far.spec s replay.run e so_far.sets rows may.0 so_far.flowing so_far.kept) in
     subst (λ (k : ℕ). IsFollowed s r es k replay' rows'') place
     (subst (λ (x : RunView). IsFollowed s r es (suc n) x rows'') (sym next)
     (record {
       policy = p;
       of = followed.of;
       followed = record {
+        spec = so_far.spec;
         sets = sets;
         flows = sym (ap (sets_after s r replay.run so_far.sets) rest) ∙ so_far.flows;
-        flowing = event_flowing p r s replay.run e so_far.sets followed.of may.0 so_far.flowing;
+        flowing = event_flowing p r so_far.spec s replay.run e so_far.sets followed.of may.0 so_far.flowing;
         kept = kept_rows (run_after s replay.run e).state.objects sets rows' rows'' kept after_event;
       };
     }))

@@ -43,9 +43,13 @@ is_itself id = one id.0
 abbrev pub element_now : Registration → Entities → Id → Option Elem → Id → Option Elem
 element_now r o me now id = cond (is_id id me) now (element_at r o id)
 
+-- the element that a check tells of its object
+abbrev pub object_element : Registration → Item → Option Elem
+object_element r item = (range_label (object_slot item.object (slot_of r))).effective
+
 -- the caller's element after a check that passed
 abbrev pub element_then : FlowPolicy → Registration → Option Elem → Item → Option Elem
-element_then p r now item = cond (observes (row_of item.op).movement) (remaining p now (range_label (object_slot item.object (slot_of r))).effective) now
+element_then p r now item = cond (observes (row_of item.op).movement) (remaining p now (object_element r item)) now
 
 its_own : (r : Registration) (o : Entities) (me : Id) (now : Option Elem) → element_now r o me now me ≡ now
 its_own r o me now = ap (λ (b : Bool). cond b now (element_at r o me)) (is_itself me)
@@ -86,6 +90,12 @@ pub record IsSeen (r : Registration) (o : Entities) (me : Id) (now : Option Elem
   pub subject : element_by r item.subject.label ≡ element_now r o me now (record { 0 = item.subject.id })
   pub object : IsObject o item.object
   pub by : ((let id : Id = record { 0 = item.subject.id } in id) ≡ me) ⊎ ((now ≡ element_at r o me) × (observes (row_of item.op).movement ≡ false))
+
+-- what the check moves is allowed, by the elements that it tells, where the policy's labels have them
+abbrev pub IsAllowed : FlowPolicy → Registration → Item → Type 0
+IsAllowed p r item =
+    Has p (element_by r item.subject.label) → Has p (object_element r item)
+    → AllowedBy p (row_of item.op).movement (element_by r item.subject.label) (object_element r item)
 
 -- so it is of checks one after another
 abbrev pub AllSeen : FlowPolicy → Registration → Entities → Id → Option Elem → List Item → Type 0
@@ -201,16 +211,20 @@ module _ (p : FlowPolicy) (flows : IsFlowPolicy p) (r : Registration) (o : Entit
   object_has None theirs have = tt
   object_has (Some object) theirs have = subst (λ (label : List LabelValue). Has p (element_by r label)) (sym theirs) (have (record { 0 = object.id }))
 
-  -- a check that the policy passes moves sources only to where they are fit
-  pub item_now : (now : Option Elem) (sets : Sets) (item : Item) → lattice_answer p.lattice (slot_of r) item ≡ Success → IsSeen r o me now item → AllHave p r o
+  -- what the policy passes is allowed
+  pub passed_allowed : (item : Item) → lattice_answer p.lattice (slot_of r) item ≡ Success → IsAllowed p r item
+  passed_allowed item success own theirs =
+      allows p flows (range_label (slice_index_or item.subject.label (slot_of r) Unset)) (part_of p.lattice item.request) (element_by r item.subject.label) (object_element r item)
+      own theirs item.op success
+
+  -- a check that is allowed moves sources only to where they are fit
+  pub item_now : (now : Option Elem) (sets : Sets) (item : Item) → IsAllowed p r item → IsSeen r o me now item → AllHave p r o
       → IsReady p r o me now → AllFitNow p r o me now sets → AllFitNow p r o me (element_then p r now item) (moved_by r o sets item)
-  item_now now sets item success seen have ready all =
+  item_now now sets item allowed seen have ready all =
       let subject : Id = record { 0 = item.subject.id } in
       with_now now subject item.object sets (row_of item.op).movement seen.by seen.object
-      (subst (λ (e : Option Elem). AllowedBy p (row_of item.op).movement e (range_label (object_slot item.object (slot_of r))).effective) seen.subject
-      (allows p flows (range_label (slice_index_or item.subject.label (slot_of r) Unset)) (part_of p.lattice item.request) (element_by r item.subject.label)
-      (range_label (object_slot item.object (slot_of r))).effective
-      (subst (Has p) (sym seen.subject) (its_has (is_id subject me) subject)) (object_has item.object seen.object have) item.op success))
+      (subst (λ (e : Option Elem). AllowedBy p (row_of item.op).movement e (object_element r item)) seen.subject
+      (allowed (subst (Has p) (sym seen.subject) (its_has (is_id subject me) subject)) (object_has item.object seen.object have)))
       ready all
     where
       its_has : (b : Bool) (id : Id) → Has p (cond b now (element_at r o id))
@@ -221,7 +235,7 @@ module _ (p : FlowPolicy) (flows : IsFlowPolicy p) (r : Registration) (o : Entit
   ready_then now item theirs have ready = one (observes (row_of item.op).movement)
     where
       object : Option Elem
-      object = (range_label (object_slot item.object (slot_of r))).effective
+      object = object_element r item
 
       one : (b : Bool) → IsReady p r o me (cond b (remaining p now object) now)
       one true =
@@ -231,10 +245,10 @@ module _ (p : FlowPolicy) (flows : IsFlowPolicy p) (r : Registration) (o : Entit
           }
       one false = ready
 
-  pub items_now : (now : Option Elem) (sets : Sets) (items : List Item) → AllByRecursion (λ item. lattice_answer p.lattice (slot_of r) item ≡ Success) items
+  pub items_now : (now : Option Elem) (sets : Sets) (items : List Item) → AllByRecursion (IsAllowed p r) items
       → AllSeen p r o me now items → AllHave p r o → IsReady p r o me now → AllFitNow p r o me now sets
       → AllFitNow p r o me (fold (element_then p r) now items) (moved_by_all r o sets items)
-  items_now now sets [] success seen have ready all = all
-  items_now now sets (item ∷ items) success seen have ready all =
-      items_now (element_then p r now item) (moved_by r o sets item) items success.1 seen.1 have (ready_then now item seen.0.object have ready)
-      (item_now now sets item success.0 seen.0 have ready all)
+  items_now now sets [] allowed seen have ready all = all
+  items_now now sets (item ∷ items) allowed seen have ready all =
+      items_now (element_then p r now item) (moved_by r o sets item) items allowed.1 seen.1 have (ready_then now item seen.0.object have ready)
+      (item_now now sets item allowed.0 seen.0 have ready all)

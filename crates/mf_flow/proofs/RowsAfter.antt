@@ -16,7 +16,7 @@ use Rattle.mf_objects.proofs.Finding.{find_given}
 use Rattle.mf_perform.proofs.EntityChange.{EntityChange, ChangesEntities}
 use Rattle.mf_perform.proofs.EntityChange.EntityChange.{absent, stays, gets_label, comes, goes}
 use Rattle.mf_perform.proofs.StateChange.{Deed, StateChange}
-use Rattle.mf_perform.proofs.StateChange.StateChange.{same as still, created, changed, relabels, removed, loaded, unloaded, set_to}
+use Rattle.mf_perform.proofs.StateChange.StateChange.{same as still, created, changed, relabels, removed, unlinked, loaded, unloaded, set_to}
 use Rattle.mf_flow.specs.Order.{union}
 use Rattle.mf_flow.specs.Rows.{AreRows, Rows, set_at, element_of, element_numbered, new_row, maker_row, rows_created, rows_given}
 use Rattle.mf_flow.specs.Sources.{Sets, element_by, held_by, own_source, has_element, set_after}
@@ -31,9 +31,10 @@ change_next by s s' (created from maker name what own live process is) = omega (
 change_next by s s' (changed change id kind is) = omega (arith, ap (λ (x : State). x.objects.next) is)
 change_next by s s' (relabels id e request asked live allowed is) = omega (arith, ap (λ (x : State). x.objects.next) is)
 change_next by s s' (removed gone is) = omega (arith, ap (λ (x : State). x.objects.next) is)
+change_next by s s' (unlinked id is) = omega (arith, ap (λ (x : State). x.objects.next) is)
 change_next by s s' (loaded m none is) = omega (arith, ap (λ (x : State). x.objects.next) is)
 change_next by s s' (unloaded m ok is) = omega (arith, ap (λ (x : State). x.objects.next) is)
-change_next by s s' (set_to m change is) = omega (arith, ap (λ (x : State). x.objects.next) is)
+change_next by s s' (set_to m change leaving is) = omega (arith, ap (λ (x : State). x.objects.next) is)
 
 module _ (r : Registration) (by : Deed) (s s' : State) (rising : IsRising 0 s.objects.next s.objects.live) (step : ChangesEntities by s s') (sets : Sets) where
   -- the sources after a step that relabels what this says

@@ -54,19 +54,19 @@ pub data IsLowering (p : FlowPolicy) (r : Registration) (specs : List Entry) : T
 -- Elements that remain
 
 module _ (p : FlowPolicy) (r : Registration) (keeps : (subject object : Elem) → p.remains subject object ≡ subject) where
-  remaining_same : (now object : Option Elem) → remaining p now object ≡ now
+  pub remaining_same : (now object : Option Elem) → remaining p now object ≡ now
   remaining_same None object = refl
   remaining_same (Some subject) None = refl
   remaining_same (Some subject) (Some object) = ap Some (keeps subject object)
 
-  then_same : (now : Option Elem) (item : Item) → element_then p r now item ≡ now
+  pub then_same : (now : Option Elem) (item : Item) → element_then p r now item ≡ now
   then_same now item = one (observes (row_of item.op).movement)
     where
       one : (b : Bool) → cond b (remaining p now (range_label (object_slot item.object (slot_of r))).effective) now ≡ now
       one true = remaining_same now (range_label (object_slot item.object (slot_of r))).effective
       one false = refl
 
-  fold_same : (now : Option Elem) (items : List Item) → fold (element_then p r) now items ≡ now
+  pub fold_same : (now : Option Elem) (items : List Item) → fold (element_then p r) now items ≡ now
   fold_same now [] = refl
   fold_same now (item ∷ items) = fold_same (element_then p r now item) items ∙ then_same now item
 

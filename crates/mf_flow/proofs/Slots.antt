@@ -1,26 +1,22 @@
--- Which slot mac_lomac has among the listed policies, by one that holds a slot there; that no module is listed twice after boot.
-use Rattle.std.proofs.Common.{◌≡◌, ◌≢◌, ℕ, ◌<◌, ◌≤◌, ◌+◌, suc, Bool, true, false, cond, nat_eq, List, [], ◌∷◌, length, get_or, Option, Some, None, refl, ap, sym, ◌∙◌, subst, arith}
+-- A policy that holds a slot is listed as its module's, with that slot; which slot mac_lomac then has.
+use Rattle.std.proofs.Common.{◌≡◌, ◌≢◌, ℕ, ◌≤◌, ◌+◌, Bool, true, false, cond, nat_eq, List, [], ◌∷◌, Option, Some, None, refl, ap, sym, ◌∙◌, subst, arith}
 use Rattle.std.specs.Option.{option_eq}
-use Rattle.std.specs.Prelude.{find, fold, AllPairs, option_and_then}
+use Rattle.std.specs.Prelude.{find, option_and_then}
 use Rattle.std.proofs.lemmas.Bool.Decides.{nat_tests}
 use Rattle.mf_errno.specs.declared.module.Module.{Module}
 use Rattle.mf_errno.specs.declared.module.Module.TheVariants.{Lomac}
 use Rattle.mf_errno.specs.Same.{same_module}
-use Rattle.mf_errno.proofs.Modules.{same_module-is}
+use Rattle.mf_errno.proofs.Modules.{same_module-is, same_module-self}
 use Rattle.mf_elem.specs.declared.elem.Elem.{Elem}
 use Rattle.mf_policy.specs.declared.registration.Registration.{Registration}
 use Rattle.mf_policy.specs.Lowering.{lowered}
-use Rattle.mf_policy.specs.Modules.{fresh_of}
-use Rattle.mf_policy.specs.Registration.{Entry, given_after, holds_slot, is_of, registration_of, with_registered}
+use Rattle.mf_policy.specs.declared.spec.Spec.{Spec}
+use Rattle.mf_policy.specs.Registration.{Entry, holds_slot, is_of, slot_in}
 use Rattle.mf_list.specs.Asked.{slot_of}
 use Rattle.mf_list.specs.Held.{how_many}
 use Rattle.mf_list.specs.Once.{IsListedOnce}
-use Rattle.mf_list.proofs.Counts.{how_many-newest}
-use Rattle.mf_calls.specs.declared.script.Script.{Script}
-use Rattle.mf_calls.specs.WellFormed.{IsWellFormed}
 use Rattle.mf_plan.specs.declared.state.State.{State}
-use Rattle.mf_core.specs.Opening.{booted_specs, registrations_from}
-use Rattle.mf_lifetimes.proofs.Listing.{AtMostOne, IsPinned, found_passes}
+use Rattle.mf_lifetimes.proofs.Listing.{AtMostOne, found_passes}
 use Rattle.mf_lifetimes.proofs.Marked.{IsHeld}
 use Rattle.mf_flow.proofs.Orders.{FlowPolicy}
 use Rattle.mf_flow.proofs.Seen.{IsLowering}
@@ -83,7 +79,7 @@ find_once m test (e ∷ es) x once found of = one (is_of m e) (test e) refl once
         cc
     one false false is once found rest = rest (omega (arith, once)) found of
 
--- The slot of mac_lomac
+-- Policies by their slots
 
 holds_it : (own : Option ℕ) (slot : ℕ) → option_eq nat_eq own (Some slot) ≡ true → own ≡ Some slot
 holds_it None slot holds = cc
@@ -97,24 +93,29 @@ is_held own slot is = ap (λ (x : Option ℕ). option_eq nat_eq x (Some slot)) i
     itself : (n : ℕ) → nat_eq n n ≡ true
     itself n = grind (arith, nat_tests)
 
-pub is_lowering : (p : FlowPolicy) (r : Registration) (s : State) → Remains p r.module → IsHeld (slot_of r) r s → IsListedOnce s.specs → IsLowering p r s.specs
-is_lowering p r s (lowers of sinks) held once =
-    let pinned : IsPinned (slot_of r) r s.specs s.numbers = held.pinned in
-    let mine : is_of Lomac (r, pinned.meaning) ≡ true = ap (same_module Lomac) of in
-    let found = find_once Lomac (holds_slot (slot_of r)) s.specs (r, pinned.meaning) (once Lomac) pinned.found mine in
-    let holds : holds_slot (slot_of r) (r, pinned.meaning) ≡ true = found_passes (holds_slot (slot_of r)) s.specs (r, pinned.meaning) pinned.found in
-    its_slot (ap (λ (x : Option Entry). option_and_then (λ entry. entry.0.slot) x) found ∙ holds_it r.slot (slot_of r) holds) sinks
-is_lowering p r s (keeps apart same) held once = by_found (find (is_of Lomac) s.specs) refl
-  where
-    pinned : IsPinned (slot_of r) r s.specs s.numbers
-    pinned = held.pinned
+-- a policy that holds a slot is listed as the one of its module
+pub its_own : (r : Registration) (spec : Spec) (s : State) → IsHeld (slot_of r) (r, spec) s → IsListedOnce s.specs → find (is_of r.module) s.specs ≡ Some (r, spec)
+its_own r spec s held once =
+    find_once r.module (holds_slot (slot_of r)) s.specs (r, spec) (once r.module) held.pinned.found (same_module-self r.module)
 
+pub its_own_slot : (r : Registration) (spec : Spec) (s : State) → IsHeld (slot_of r) (r, spec) s → IsListedOnce s.specs → slot_in r.module s.specs ≡ Some (slot_of r)
+its_own_slot r spec s held once =
+    let holds : holds_slot (slot_of r) (r, spec) ≡ true = found_passes (holds_slot (slot_of r)) s.specs (r, spec) held.pinned.found in
+    ap (λ (x : Option Entry). option_and_then (λ entry. entry.0.slot) x) (its_own r spec s held once) ∙ holds_it r.slot (slot_of r) holds
+
+-- what lowering has to do with such a policy
+pub is_lowering : (p : FlowPolicy) (r : Registration) (spec : Spec) (s : State) → Remains p r.module → IsHeld (slot_of r) (r, spec) s → IsListedOnce s.specs
+    → IsLowering p r s.specs
+is_lowering p r spec s (lowers of sinks) held once =
+    its_slot (subst (λ (m : Module). slot_in m s.specs ≡ Some (slot_of r)) of (its_own_slot r spec s held once)) sinks
+is_lowering p r spec s (keeps apart same) held once = by_found (find (is_of Lomac) s.specs) refl
+  where
     -- it isn't mac_lomac's
     differs : (x : Entry) (n : ℕ) → find (is_of Lomac) s.specs ≡ Some x → x.0.slot ≡ Some n → slot_of r ≢ n
     differs x n found at same_slot =
         let holds : holds_slot (slot_of r) x ≡ true = is_held x.0.slot (slot_of r) (at ∙ ap (λ (k : ℕ). Some k) (sym same_slot)) in
         let held_by : find (holds_slot (slot_of r)) s.specs ≡ Some x = find_single (slot_of r) (is_of Lomac) s.specs x held.kept.slots.single found holds in
-        let same_entry : x ≡ (r, pinned.meaning) = inside x (r, pinned.meaning) (sym held_by ∙ pinned.found) in
+        let same_entry : x ≡ (r, spec) = inside x (r, spec) (sym held_by ∙ held.pinned.found) in
         let of : same_module Lomac r.module ≡ true = sym (ap (is_of Lomac) same_entry) ∙ found_passes (is_of Lomac) s.specs x found in
         apart (sym (same_module-is Lomac r.module of))
 
@@ -125,36 +126,3 @@ is_lowering p r s (keeps apart same) held once = by_found (find (is_of Lomac) s.
     by_found : (found : Option Entry) → find (is_of Lomac) s.specs ≡ found → IsLowering p r s.specs
     by_found None is = unlisted (ap (λ (y : Option Entry). option_and_then (λ entry. entry.0.slot) y) is) same
     by_found (Some x) is = by_slot x x.0.slot is refl
-
--- Boot
-
-counted : (m : Module) (es : List Entry) (given : ℕ) (ms : List Module)
-    → how_many (is_of m) (fold with_registered es (registrations_from given ms)) ≡ how_many (is_of m) es + how_many (same_module m) ms
-counted m es given [] = omega arith
-counted m es given (x ∷ ms) =
-    let r : Registration = registration_of x false given in
-    omega (arith, counted m (with_registered es r) (given_after given x) ms, how_many-newest (is_of m) (r, fresh_of x) es)
-
-absent : (m : Module) (ms : List Module) → ((j : ℕ) (d : Module) → j < length ms → m ≢ get_or ms j d) → how_many (same_module m) ms ≡ 0
-absent m [] differ = refl
-absent m (x ∷ ms) differ = one (same_module m x) refl (absent m ms (λ j d within. differ (suc j) d (omega (arith, within))))
-  where
-    one : (b : Bool) → same_module m x ≡ b → how_many (same_module m) ms ≡ 0 → cond b 1 0 + how_many (same_module m) ms ≡ 0
-    one true same rest = absurd (differ 0 x (omega arith) (same_module-is m x same))
-    one false other rest = omega (arith, rest)
-
-distinct_once : (m : Module) (ms : List Module) → AllPairs (λ m n. m ≢ n) ms → how_many (same_module m) ms ≤ 1
-distinct_once m [] differ = omega arith
-distinct_once m (x ∷ ms) differ =
-    one (same_module m x) refl (distinct_once m ms (λ i j d before within. differ (suc i) (suc j) d (omega (arith, before)) (omega (arith, within))))
-  where
-    one : (b : Bool) → same_module m x ≡ b → how_many (same_module m) ms ≤ 1 → cond b 1 0 + how_many (same_module m) ms ≤ 1
-    one true same rest =
-        let is : m ≡ x = same_module-is m x same in
-        let none : how_many (same_module m) ms ≡ 0 =
-        absent m ms (λ j d within. subst (λ (y : Module). y ≢ get_or ms j d) (sym is) (differ 0 (suc j) d (omega arith) (omega (arith, within)))) in
-        omega (arith, none)
-    one false other rest = omega (arith, rest)
-
-pub opening_once : (s : Script) → IsWellFormed s → IsListedOnce (booted_specs s)
-opening_once s formed m = omega (arith, counted m [] 0 s.boots, distinct_once m s.boots formed.boots)

@@ -21,18 +21,16 @@ use Rattle.mf_calls.specs.declared.script.Script.{Script}
 use Rattle.mf_calls.specs.Tasks.{name_of}
 use Rattle.mf_plan.specs.declared.reply.Reply.{Reply}
 use Rattle.mf_plan.specs.declared.state.State.{State}
-use Rattle.mf_plan.specs.Plan.{plan_of}
 use Rattle.mf_core.specs.declared.history.Event.{Event}
 use Rattle.mf_core.specs.declared.history.Event.TheVariants as event
 use Rattle.mf_core.specs.Opening.{opening_state}
 use Rattle.mf_core.specs.LegalHistory.{RunState, opening_run, next_line, run_after}
 use Rattle.mf_flow.specs.Order.{place_of, elem_cmp, union}
-use Rattle.mf_perform.specs.Passed.{passed}
-use Rattle.mf_flow.specs.Sources.{Sets, element_by, held_by, own_source, received, moved, moved_by, relabels, set_after, sets_after_line, sets_after_event, sets_after, sources_of, moves_between}
+use Rattle.mf_flow.specs.Transfers.{caller_of}
+use Rattle.mf_flow.specs.Sources.{Sets, element_by, held_by, moving, own_source, received, moved, moved_by, relabels, set_after, sets_after_line, sets_after_event, sets_after, sources_of, moves_between}
 use Rattle.mf_flow.proofs.Across.{moved_with, moved_by_all, set_of, element_at, is_id, opening_sets}
 use Rattle.mf_flow.specs.Dominated.{SourcesAreSorted}
 use Rattle.mf_flow.proofs.Bounds.{all_union}
-use Rattle.mf_flow.specs.Rows.{caller_of}
 
 -- each element comes before those behind it
 abbrev Ordered : List Elem → Type 0
@@ -131,7 +129,7 @@ line_ordered : (r : Registration) (s s' : State) (task : List ℕ) (line : Optio
     → AllOrdered (sets_after_line r s s' task line said sets)
 line_ordered r s s' task None said sets all id = all id
 line_ordered r s s' task (Some line) said sets all id =
-    let items : List Item = passed said (plan_of s task line.child line.call).items in
+    let items : List Item = moving r s task line said in
     let by : Option Id = caller_of s task line in
     after_ordered r (live_at s.objects id) (live_at s'.objects id) (relabels r s task line said id) (moved_by_all r s.objects sets items id)
     (set_of by (moved_by_all r s.objects sets items)) (items_ordered r s.objects sets items all id)

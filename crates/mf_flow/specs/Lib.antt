@@ -6,3 +6,4 @@ pub mod Rows
 pub mod Sources
 pub mod SourcesText
 pub mod Table
+pub mod Transfers

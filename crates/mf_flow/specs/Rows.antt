@@ -1,5 +1,5 @@
 -- The sources as a list by the numbers of ids, as they are kept while a history is gone through.
-use Rattle.std.specs.Prelude.{◌≡◌, ◌<◌, ℕ, Bool, false, not, nat_lt, List, [], ◌∷◌, ◌++◌, Option, Some, None, find, fold, length, slice_index_or, slice_set, if◌then◌else◌}
+use Rattle.std.specs.Prelude.{◌≡◌, ◌<◌, ℕ, Bool, false, not, nat_lt, List, [], ◌∷◌, ◌++◌, Option, Some, None, filter, find, fold, length, slice_index_or, slice_set, if◌then◌else◌}
 use Rattle.mf_errno.specs.declared.module.Module.{Module}
 use Rattle.mf_elem.specs.declared.elem.Elem.{Elem}
 use Rattle.mf_elem.specs.declared.label.TheConstants.{SLOTS}
@@ -13,7 +13,9 @@ use Rattle.mf_policy.specs.Answer.{range_label}
 use Rattle.mf_policy.specs.Operations.{row_of}
 use Rattle.mf_policy.specs.declared.operations.Movement.{Movement}
 use Rattle.mf_policy.specs.declared.operations.Movement.TheVariants.{Still, ToSubject, ToObject, BothWays}
+use Rattle.mf_policy.specs.declared.registration.Registration.{Registration}
 use Rattle.mf_list.specs.Asked.{slot_of}
+use Rattle.mf_objects.specs.declared.descriptors.Fd.{Fd}
 use Rattle.mf_objects.specs.declared.id.Id.{Id}
 use Rattle.mf_objects.specs.Live.{LiveEntity, Entities, label_at, live_at}
 use Rattle.mf_objects.specs.Lives.{is_from}
@@ -23,19 +25,17 @@ use Rattle.mf_calls.specs.Tasks.{name_of}
 use Rattle.mf_plan.specs.declared.outline.Check.{Check}
 use Rattle.mf_plan.specs.declared.reply.Reply.{Reply}
 use Rattle.mf_plan.specs.declared.state.State.{State}
-use Rattle.mf_plan.specs.Names.{caller_name}
 use Rattle.mf_plan.specs.Outline.{item_of}
-use Rattle.mf_plan.specs.Plan.{plan_of, call_row}
+use Rattle.mf_plan.specs.Plan.{call_row}
 use Rattle.mf_plan.specs.Effect.{relabelled_by}
-use Rattle.mf_plan.specs.Views.{process_named}
 use Rattle.mf_perform.specs.OneCall.{after_reply}
 use Rattle.mf_core.specs.declared.history.Event.{Event}
 use Rattle.mf_core.specs.declared.history.Event.TheVariants as event
 use Rattle.mf_core.specs.declared.history.History.{History}
 use Rattle.mf_core.specs.LegalHistory.{RunState, next_line, run_after, run_state_of}
 use Rattle.mf_flow.specs.Order.{union}
-use Rattle.mf_perform.specs.Passed.{passed}
-use Rattle.mf_flow.specs.Sources.{Sets, own_source, held_by, has_element, sources_of}
+use Rattle.mf_flow.specs.Sources.{Sets, own_source, held_by, has_element, moving, sources_of}
+use Rattle.mf_flow.specs.Transfers.{caller_of, counts}
 use Rattle.mf_flow.specs.declared.following.Flow.{Flow}
 
 abbrev pub Rows : Type 0
@@ -89,6 +89,10 @@ rows_moved slot objects rows item = rows_with slot objects rows (row_of item.op)
 abbrev pub rows_by : ℕ → Entities → Rows → Check → Rows
 rows_by slot objects rows check = rows_moved slot objects rows (item_of objects check)
 
+-- and of a call that goes through this descriptor, or through none, where the check counts for the policy that is registered so
+abbrev pub rows_counted : Registration → State → Option Fd → Rows → Check → Rows
+rows_counted r s fd rows check = if counts r s.specs fd (item_of s.objects check) then rows_by (slot_of r) s.objects rows check else rows
+
 -- the row of an entity that comes, made by a process with these sources
 abbrev pub new_row : ℕ → Option LiveEntity → List Elem → List Elem
 new_row slot None maker = []
@@ -113,21 +117,17 @@ rows_given slot m objects (Some asked) rows =
 abbrev pub asked_of : State → List ℕ → Line → Reply → Option (Id × Request)
 asked_of s task line reply = after_reply reply None (relabelled_by (call_row s task line.child line.call).effect)
 
--- the process that makes the call of a line of the task
-abbrev pub caller_of : State → List ℕ → Line → Option Id
-caller_of s task line = process_named s.objects (caller_name task line.child)
+abbrev pub rows_after_line : Registration → State → State → List ℕ → Option Line → Reply → Rows → Rows
+rows_after_line r s s' task None reply rows = rows
+rows_after_line r s s' task (Some line) reply rows =
+    rows_given (slot_of r) r.module s'.objects (asked_of s task line reply)
+    (rows_created (slot_of r) s.objects.next s'.objects (caller_of s task line)
+    (fold (rows_moved (slot_of r) s.objects) rows (moving r s task line reply)))
 
-abbrev pub rows_after_line : ℕ → Module → State → State → List ℕ → Option Line → Reply → Rows → Rows
-rows_after_line slot m s s' task None reply rows = rows
-rows_after_line slot m s s' task (Some line) reply rows =
-    rows_given slot m s'.objects (asked_of s task line reply)
-    (rows_created slot s.objects.next s'.objects (caller_of s task line)
-    (fold (rows_moved slot s.objects) rows (passed reply (plan_of s task line.child line.call).items)))
-
-abbrev pub rows_after_event : Script → ℕ → Module → RunState → Event → Rows → Rows
-rows_after_event s slot m run (event.Done t line reply) rows =
-    rows_after_line slot m run.state (run_after s run (event.Done t line reply)).state (name_of s t) (next_line s run.progress t) reply rows
-rows_after_event s slot m run other rows = rows
+abbrev pub rows_after_event : Script → Registration → RunState → Event → Rows → Rows
+rows_after_event s r run (event.Done t line reply) rows =
+    rows_after_line r run.state (run_after s run (event.Done t line reply)).state (name_of s t) (next_line s run.progress t) reply rows
+rows_after_event s r run other rows = rows
 
 -- Each policy
 
@@ -135,9 +135,10 @@ rows_after_event s slot m run other rows = rows
 abbrev pub HasSlot : Flow → Type 0
 HasSlot f = slot_of f.registration < SLOTS
 
--- the sources by the policy after checks that passed
-abbrev pub flow_moved : Entities → List Item → Flow → Flow
-flow_moved objects items f = record f { sets = fold (rows_moved (slot_of f.registration) objects) f.sets items }
+-- the sources by the policy after checks that passed, of a call that goes through this descriptor, or through none
+abbrev pub flow_moved : State → Option Fd → List Item → Flow → Flow
+flow_moved s fd items f =
+    record f { sets = fold (rows_moved (slot_of f.registration) s.objects) f.sets (filter (counts f.registration s.specs fd) items) }
 
 -- and then after a call, where an entity may have come or been relabelled
 abbrev pub flow_settled : ℕ → Entities → Option Id → Option (Id × Request) → Flow → Flow
@@ -146,7 +147,7 @@ flow_settled next objects caller asked f =
     record f { sets = rows_given slot f.registration.module objects asked (rows_created slot next objects caller f.sets) }
 
 abbrev pub flow_after_event : Script → RunState → Event → Flow → Flow
-flow_after_event s run e f = record f { sets = rows_after_event s (slot_of f.registration) f.registration.module run e f.sets }
+flow_after_event s run e f = record f { sets = rows_after_event s f.registration run e f.sets }
 
 -- Rows and sources
 

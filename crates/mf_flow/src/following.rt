@@ -15,12 +15,13 @@ use crate::elem_set::ElemSet;
 use crate::moving::move_all;
 use crate::relabelling::{asked_of, give};
 use crate::set_list::{SetList, sweep};
+use crate::transfers::descriptor_of;
 use mf_calls::Script;
 use mf_core::{Event, Run};
 use mf_elem::{Elem, Request};
-use mf_objects::{Id, Objects};
+use mf_objects::{Fd, Id, Objects};
 use mf_perform::passed;
-use mf_plan::{Check, LastLabel, outline_of};
+use mf_plan::{Check, LastLabel, State, outline_of};
 use mf_policy::{Registration, slot_label};
 use std::alloc::{AllocError, Global};
 
@@ -67,11 +68,13 @@ pub fn follow(
             let state = run.state();
             let next = state.objects.next_id();
             last.keep(&line.call);
-            let outline = outline_of(state, name, line.child_name(), &line.call, last);
+            let child = line.child_name();
+            let outline = outline_of(state, name, child, &line.call, last);
             let lent = reply.lend();
             let said = lent.get();
             let checks = passed(said, outline.checks.as_slice());
-            move_in_each(alloc, &state.objects, checks, flows)?;
+            let fd = descriptor_of(state, name, child, &line.call);
+            move_in_each(alloc, state, &fd, checks, flows)?;
             let asked = asked_of(said, &outline);
             run.commit(alloc, *task, *number, &outline.found, reply)?;
             let objects = &run.state().objects;
@@ -89,34 +92,36 @@ pub fn follow(
     }
 }
 
-/// What checks that passed move, by each policy.
+/// What checks that passed move, by each policy, of a call that goes through this descriptor, or through none.
 fn move_in_each(
     alloc: Global,
-    objects: &Objects,
+    state: &State,
+    fd: &Option<Fd>,
     checks: &[Check],
     flows: &mut Vec<Flow>,
 ) -> Result<(), AllocError>
     requires { AllByRecursion spec.HasSlot flows.old.items }
-    ensures { OnOk result (spec.EachBecomes (λ f new. new ≡ spec.flow_moved objects.now
-        (map (item_of objects.now) checks.now) f) flows.old.items flows.new.items) }
+    ensures { OnOk result (spec.EachBecomes (λ f new. new ≡ spec.flow_moved state.now fd.now
+        (map (item_of state.now.objects) checks.now) f) flows.old.items flows.new.items) }
 {
     for place in 0..flows.len() {
-        move_in(alloc, objects, checks, &mut flows[place])?;
+        move_in(alloc, state, fd, checks, &mut flows[place])?;
     }
     Ok(())
 }
 
 fn move_in(
     alloc: Global,
-    objects: &Objects,
+    state: &State,
+    fd: &Option<Fd>,
     checks: &[Check],
     flow: &mut Flow,
 ) -> Result<(), AllocError>
     requires { spec.HasSlot flow.old }
-    ensures { OnOk result (flow.new ≡ spec.flow_moved objects.now
-        (map (item_of objects.now) checks.now) flow.old) }
+    ensures { OnOk result (flow.new ≡ spec.flow_moved state.now fd.now
+        (map (item_of state.now.objects) checks.now) flow.old) }
 {
-    move_all(alloc, flow.slot(), objects, &mut flow.sets, checks)
+    move_all(alloc, &flow.registration, state, fd, &mut flow.sets, checks)
 }
 
 /// What is left of a call, by each policy: the sources of an entity that came under this number, and of one that was relabelled.

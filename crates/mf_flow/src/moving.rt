@@ -1,30 +1,22 @@
 //! What the checks of a call move.
-ghost use Rattle.std.specs.Prelude.{◌≡◌, ◌<◌, fold, map, unwrap_or, IfOk, OnOk};
+ghost use Rattle.std.specs.Prelude.{◌≡◌, ◌<◌, filter, fold, map, unwrap_or, IfOk, OnOk};
 ghost use Rattle.mf_elem.specs.declared.label.TheConstants.{SLOTS};
 ghost use Rattle.mf_plan.specs.Outline.{item_of};
 ghost use Rattle.mf_policy.specs.Operations.{row_of};
+ghost use Rattle.mf_list.specs.Asked.{slot_of};
 ghost use Rattle.mf_flow.specs.Rows as rows;
+ghost use Rattle.mf_flow.specs.Transfers.{counts};
 
+use crate::effective::element_at;
 use crate::elem_set::{ElemSet, has_all};
 use crate::set_list::SetList;
+use crate::transfers::counts;
 use mf_elem::Elem;
 use mf_item::CheckOp;
-use mf_objects::Objects;
-use mf_plan::Check;
-use mf_policy::{Movement, row_of, slot_label};
+use mf_objects::{Fd, Objects};
+use mf_plan::{Check, State};
+use mf_policy::{Movement, Registration, row_of};
 use std::alloc::{AllocError, Global};
-
-/// The effective element that the live entity of that number has in the slot; none where no such entity lives.
-pub fn element_at(objects: &Objects, slot: u8, number: u32) -> Option<Elem>
-    requires { slot < SLOTS }
-    ensures { result ≡ rows.element_numbered slot objects.now number }
-{
-    let _live = objects.live();
-    match objects.least_from(number) {
-        Some(id) if id.number() == number => slot_label(&objects.value(id, slot)).effective,
-        _ => None,
-    }
-}
 
 /// Whether something can come to the one party from the other. One labelled equal has no sources.
 fn may_come(objects: &Objects, slot: u8, to: u32, from: u32) -> bool
@@ -152,20 +144,43 @@ fn move_by(
     }
 }
 
-/// What checks that passed move, one after another.
+/// What a check that passed moves by a policy, where it counts.
+fn move_counted(
+    alloc: Global,
+    registration: &Registration,
+    state: &State,
+    fd: &Option<Fd>,
+    sets: &mut SetList,
+    check: &Check,
+) -> Result<(), AllocError>
+    requires { slot_of registration.now < SLOTS }
+    ensures { OnOk result (sets.new
+        ≡ rows.rows_counted registration.now state.now fd.now sets.old check.now) }
+{
+    if !counts(registration, state, fd, check) {
+        return Ok(());
+    }
+    let slot = registration.slot.unwrap_or(0);
+    move_by(alloc, slot, &state.objects, sets, check)
+}
+
+/// What checks that passed move by a policy, one after another: those that count, of a call that goes through this
+/// descriptor, or through none.
 pub fn move_all(
     alloc: Global,
-    slot: u8,
-    objects: &Objects,
+    registration: &Registration,
+    state: &State,
+    fd: &Option<Fd>,
     sets: &mut SetList,
     checks: &[Check],
 ) -> Result<(), AllocError>
-    requires { slot < SLOTS }
-    ensures { OnOk result (sets.new ≡ fold (rows.rows_moved slot objects.now) sets.old
-        (map (item_of objects.now) checks.now)) }
+    requires { slot_of registration.now < SLOTS }
+    ensures { OnOk result (sets.new ≡ fold (rows.rows_moved (slot_of registration.now)
+        state.now.objects) sets.old (filter (counts registration.now state.now.specs fd.now)
+        (map (item_of state.now.objects) checks.now))) }
 {
     for check in checks {
-        move_by(alloc, slot, objects, sets, check)?;
+        move_counted(alloc, registration, state, fd, sets, check)?;
     }
     Ok(())
 }

@@ -6,8 +6,8 @@ ghost use Rattle.mf_perform.specs.OneCall.{after_reply};
 ghost use Rattle.mf_flow.specs.Rows.{rows_given};
 ghost use Rattle.mf_flow.specs.Sources.{own_source, has_element as has_element_for};
 
+use crate::effective::element_at;
 use crate::elem_set::ElemSet;
-use crate::moving::element_at;
 use crate::set_list::SetList;
 use mf_elem::{Elem, Request};
 use mf_errno::Module;

@@ -5,4 +5,4 @@ use Rattle.mf_flow.proofs.Becoming.{SoFar}
 use Rattle.mf_flow.proofs.following.move_in_each.Given as goal
 
 abbrev pub invariant-loop-place : goal.invariant-loop-place
-invariant-loop-place l = SoFar (λ f new. new ≡ flow_moved l.objects (map (item_of l.objects) l.checks) f) l.initial.flows.items l.flows.items l.place
+invariant-loop-place l = SoFar (λ f new. new ≡ flow_moved l.state l.fd (map (item_of l.state.objects) l.checks) f) l.initial.flows.items l.flows.items l.place

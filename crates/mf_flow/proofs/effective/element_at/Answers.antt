@@ -1,5 +1,5 @@
 use Rattle.mf_flow.proofs.RowsKept.{absent_at, other_found, none_found}
-use Rattle.mf_flow.proofs.moving.element_at.Goals as goal
+use Rattle.mf_flow.proofs.effective.element_at.Goals as goal
 
 pub returns-in_default : goal.returns-in_default
 returns-in_default c =
