@@ -1,5 +1,6 @@
 -- Which transfers through descriptors count as movements: this model's own (docs/MANUAL.md, SOURCES). A policy that tests the opening of a file
--- alone doesn't see what goes through the descriptor afterwards: for it nothing does, once the process or the file has another element.
+-- alone makes no test at what goes through the descriptor afterwards: for it that doesn't count while the process or the file has another element
+-- than then.
 use Rattle.std.specs.Option.{option_eq, option_map_or}
 use Rattle.std.specs.Prelude.{ℕ, Bool, true, ◌&&◌, ◌||◌, List, Option, Some, None, option_and_then, slice_index_or}
 use Rattle.mf_errno.specs.declared.module.Module.{Module}
