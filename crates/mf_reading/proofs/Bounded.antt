@@ -18,11 +18,12 @@ use Rattle.mf_policy.specs.declared.spec.Spec.TheVariants as means
 use Rattle.mf_policy.specs.Modules.{facts_of, wants_slot}
 use Rattle.mf_policy.specs.Registration.{Entry}
 use Rattle.mf_list.specs.Once.{IsListedOnce}
+use Rattle.mf_cred.specs.declared.cred.Cred.{Cred}
 use Rattle.mf_names.specs.declared.limits.TheConstants.{CONTENT_LIMIT, SCRIPT_LIMIT}
 use Rattle.mf_objects.specs.declared.limits.TheConstants.{MOST_ENTITIES}
 use Rattle.mf_objects.specs.declared.id.Id.{Id}
 use Rattle.mf_objects.specs.declared.entity.EntityData.{EntityData}
-use Rattle.mf_objects.specs.Live.{LiveEntity, Entities, content_of, cred_of, file_of, is_entry, kind_of, messages_of}
+use Rattle.mf_objects.specs.Live.{LiveEntity, Entities, content_of, cred_of, file_of, is_entry, kind_of, messages_of, process_file}
 use Rattle.mf_objects.specs.Population.{IsRising}
 use Rattle.mf_calls.specs.Names.{is_component}
 use Rattle.mf_calls.specs.WellFormed.{IsText}
@@ -32,12 +33,17 @@ use Rattle.mf_lifetimes.proofs.Listing.{AllBelow, AtMostOne}
 
 -- Entities
 
+-- the uids and the groups that are told of a process fit their types: its effective uid, which its files get, and how it is seen as an object
+pub record IsBoundedCred (cred : Cred) : Type 0 where
+  pub uid : cred.uid < 2 ^ 32
+  pub seen : IsFile (process_file cred)
+
 -- what an entity holds is within the limits, and its numbers fit their types
 pub record IsBoundedData (what : EntityData) : Type 0 where
   pub content : IsText CONTENT_LIMIT (content_of what)
   pub messages : AllByRecursion (IsText SCRIPT_LIMIT) (messages_of what)
   pub file : IsFile (file_of what)
-  pub uid : (cred_of what).uid < 2 ^ 32
+  pub cred : IsBoundedCred (cred_of what)
 
 -- an entry of a directory has the name of a component of a path
 abbrev pub IsNamed : List ℕ → EntityData → Type 0

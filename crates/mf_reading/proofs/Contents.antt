@@ -11,15 +11,23 @@ use Rattle.mf_names.specs.declared.limits.TheConstants.{CONTENT_LIMIT, SCRIPT_LI
 use Rattle.mf_objects.specs.declared.limits.TheConstants.{HEAD_BYTES, MOST_NAMES}
 use Rattle.mf_objects.specs.declared.id.Id.{Id}
 use Rattle.mf_objects.specs.Head.{head_of}
-use Rattle.mf_objects.specs.Live.{LiveEntity, Entities, content_at, count_at, cred_at, entry_count, file_at, is_entry, live_at, messages_at, messages_of, has_id}
+use Rattle.mf_objects.specs.Live.{LiveEntity, Entities, content_at, count_at, cred_at, entry_count, file_at, is_entry, live_at, messages_at, messages_of, no_cred, no_file, has_id}
 use Rattle.mf_objects.specs.Titles.{entry_names, in_byte_order, names_at}
 use Rattle.mf_objects.proofs.ByteOrder.{byte_order_permutation, first_are_first}
 use Rattle.mf_objects.proofs.Laws.{directory_vnode, live_directory, vnode_count}
 use Rattle.mf_calls.specs.Names.{is_component}
 use Rattle.mf_calls.specs.WellFormed.{IsText}
 use Rattle.mf_hist.specs.Lines.{AreNames, IsFile, IsHead}
-use Rattle.mf_reading.proofs.Bounded.{AreBounded, IsBounded}
+use Rattle.mf_reading.proofs.Bounded.{AreBounded, IsBounded, IsBoundedCred}
 use Rattle.mf_reading.proofs.Lists.{all_found, all_taken}
+
+-- Nothing
+
+pub no_file_fits : IsFile no_file
+no_file_fits = record { uid = omega arith; gid = omega arith; mode = omega arith }
+
+pub no_cred_fits : IsBoundedCred no_cred
+no_cred_fits = record { uid = omega arith; seen = no_file_fits }
 
 -- Bytes
 
@@ -51,15 +59,15 @@ module _ (o : Entities) (id : Id) (bounded : AreBounded o) where
   file_fits = one (live_at o id) refl
     where
       one : (found : Option LiveEntity) → live_at o id ≡ found → IsFile (file_at o id)
-      one None is = rw is (record { uid = omega arith; gid = omega arith; mode = omega arith })
+      one None is = rw is no_file_fits
       one (Some e) is = rw is (bounded_at e is).held.file
 
-  pub uid_fits : (cred_at o id).uid < 2 ^ 32
-  uid_fits = one (live_at o id) refl
+  pub cred_fits : IsBoundedCred (cred_at o id)
+  cred_fits = one (live_at o id) refl
     where
-      one : (found : Option LiveEntity) → live_at o id ≡ found → (cred_at o id).uid < 2 ^ 32
-      one None is = rw is (omega arith)
-      one (Some e) is = rw is (bounded_at e is).held.uid
+      one : (found : Option LiveEntity) → live_at o id ≡ found → IsBoundedCred (cred_at o id)
+      one None is = rw is no_cred_fits
+      one (Some e) is = rw is (bounded_at e is).held.cred
 
   first_fits : (messages : List (List ℕ)) → AllByRecursion (IsText SCRIPT_LIMIT) messages → IsText SCRIPT_LIMIT (slice_index_or messages 0 [])
   first_fits [] all = no_text SCRIPT_LIMIT

@@ -1,6 +1,6 @@
 -- What a call changes, where it is done, stays within the bounds: by the effect, and by the call what the effect needs.
 use Rattle.std.proofs.Common.{◌≡◌, ℕ, ◌+◌, ◌<◌, ◌≤◌, ◌^◌, Bool, true, false, List, [], ◌∷◌, length, drop, Option, Some, None, Result, Ok, Err, refl, ap, sym, subst, arith}
-use Rattle.std.specs.Prelude.{All, IfSome, if◌then◌else◌, nat_eq, nat_le, not, option_map, slice_set}
+use Rattle.std.specs.Prelude.{All, IfSome, ◌||◌, if◌then◌else◌, nat_eq, nat_le, not, option_map, slice_set}
 use Rattle.std.specs.List.{AllByRecursion}
 use Rattle.std.proofs.lemmas.List.{length-map}
 use Rattle.std.proofs.lemmas.Bool.{leb-false, ltb-false}
@@ -28,6 +28,7 @@ use Rattle.mf_objects.specs.Live.{LiveEntity, Entities, content_at, content_of, 
 use Rattle.mf_objects.proofs.Entities.{changed_at}
 use Rattle.mf_objects.proofs.Shorthands.{reading}
 use Rattle.mf_objects.specs.Changes.{appended, cleared, goes_with, new_pipe, new_process, new_socket, new_vnode, with_change, with_message, with_messages, with_mode, with_what, without}
+use Rattle.mf_objects.specs.Descriptors.{closed, opened, with_fds}
 use Rattle.mf_objects.specs.Labels.{with_value}
 use Rattle.mf_calls.specs.declared.script.Call.{Call}
 use Rattle.mf_calls.specs.declared.script.Call.TheVariants as call
@@ -41,11 +42,12 @@ use Rattle.mf_plan.specs.declared.target.Target.{Target}
 use Rattle.mf_plan.specs.declared.target.Target.TheVariants.{Root, Name, Nowhere}
 use Rattle.mf_plan.specs.Path.{entry_at, free_at, last_name, lookup_along, lookup_from, root}
 use Rattle.mf_plan.specs.Effect.{Effect}
-use Rattle.mf_plan.specs.Effect.Effect.{Unchanged, Make, Append, Deliver, Empty, Receive, SetMode, Unlink, End, Relabel, Load, Unload, Set}
+use Rattle.mf_plan.specs.Effect.Effect.{Unchanged, Make, Append, Deliver, Empty, Receive, SetMode, Open, Close, Unlink, End, Relabel, Load, Unload, Set}
 use Rattle.mf_plan.specs.Plan.{row_for}
 use Rattle.mf_plan.specs.Row.{Row, through}
 use Rattle.mf_plan.specs.Rows.{about_of, new_file}
-use Rattle.mf_plan.specs.Settings.{switch, sysctl_module}
+use Rattle.mf_calls.specs.Tunable.{switch}
+use Rattle.mf_plan.specs.Settings.{is_tunable, sysctl_module}
 use Rattle.mf_plan.specs.Ways.{At, way_to}
 use Rattle.mf_plan.specs.Views.{is_dir, overfills, process_named}
 use Rattle.mf_plan.proofs.LookingUp.{last_entry}
@@ -56,8 +58,8 @@ use Rattle.mf_perform.proofs.Observing.Observing.{kept, lowers}
 use Rattle.mf_perform.proofs.StateChange.{performed_by}
 use Rattle.mf_lifetimes.proofs.Listing.{all_newest, all_without}
 use Rattle.mf_reading.proofs.Bounded.{AreBounded, HoldsBounded, IsBoundedData, IsBoundedSpec, IsNamed}
-use Rattle.mf_reading.proofs.Contents.{file_fits, no_text, uid_fits}
-use Rattle.mf_reading.proofs.Holding.{HasRoom, Keeps, KeepsFirst, added_bounded, appending, changed_bounded, clearing, entry_goes, first_lowered, held_lowered, moding, process_goes, receiving, relabelling, removed_bounded, sending}
+use Rattle.mf_reading.proofs.Contents.{cred_fits, file_fits, no_cred_fits, no_file_fits, no_text}
+use Rattle.mf_reading.proofs.Holding.{HasRoom, Keeps, KeepsFirst, added_bounded, appending, changed_bounded, clearing, describing, entry_goes, first_lowered, held_lowered, moding, process_goes, receiving, relabelling, removed_bounded, sending, unlinked_bounded}
 use Rattle.mf_reading.proofs.Lists.{by_place}
 use Rattle.mf_reading.proofs.Rules.{IsFormedChange, fresh_bounded, specs_changed}
 use Rattle.mf_text.specs.Results.{and_then}
@@ -79,24 +81,23 @@ last_component o (name ∷ names) dir is all = last_of name names (by_place (λ 
 
 process_data : (o : Entities) (id : Id) → AreBounded o → IsBoundedData (new_process (cred_at o id))
 process_data o id bounded =
-    record { content = no_text CONTENT_LIMIT; messages = tt; file = record { uid = omega arith; gid = omega arith; mode = omega arith }; uid = uid_fits o id bounded }
+    let cred = cred_fits o id bounded in
+    record { content = no_text CONTENT_LIMIT; messages = tt; file = cred.seen; cred = cred }
 
 file_data : (o : Entities) (maker dir : Id) (mode : ℕ) (is_dir : Bool) → mode < 2 ^ 16 → AreBounded o → IsBoundedData (new_vnode dir (new_file o maker dir mode is_dir) [])
 file_data o maker dir mode is_dir fits bounded =
     record {
       content = no_text CONTENT_LIMIT;
       messages = tt;
-      file = record { uid = uid_fits o maker bounded; gid = (file_fits o dir bounded).gid; mode = fits };
-      uid = omega arith;
+      file = record { uid = (cred_fits o maker bounded).uid; gid = (file_fits o dir bounded).gid; mode = fits };
+      cred = no_cred_fits;
     }
 
 pipe_data : (maker : Id) → IsBoundedData (new_pipe maker)
-pipe_data maker =
-    record { content = no_text CONTENT_LIMIT; messages = tt; file = record { uid = omega arith; gid = omega arith; mode = omega arith }; uid = omega arith }
+pipe_data maker = record { content = no_text CONTENT_LIMIT; messages = tt; file = no_file_fits; cred = no_cred_fits }
 
 socket_data : (maker : Id) → IsBoundedData (new_socket maker)
-socket_data maker =
-    record { content = no_text CONTENT_LIMIT; messages = tt; file = record { uid = omega arith; gid = omega arith; mode = omega arith }; uid = omega arith }
+socket_data maker = record { content = no_text CONTENT_LIMIT; messages = tt; file = no_file_fits; cred = no_cred_fits }
 
 -- What a path leads to
 
@@ -168,7 +169,9 @@ module _ (s : State) (holds : HoldsBounded s) where
   effect_holds me (Empty id) fits = changed_holds cleared (λ w. Unit {0}) id clearing (λ e live. tt)
   effect_holds me (Receive id) fits = changed_holds (with_messages (drop 1)) (λ w. Unit {0}) id receiving (λ e live. tt)
   effect_holds me (SetMode id mode) fits = changed_holds (with_mode mode) (λ w. Unit {0}) id (moding mode fits) (λ e live. tt)
-  effect_holds me (Unlink id) fits = removed_holds (has_id id) fits
+  effect_holds me (Open id fd) fits = changed_holds (with_fds (opened fd)) (λ w. Unit {0}) id (describing (opened fd)) (λ e live. tt)
+  effect_holds me (Close id n) fits = changed_holds (with_fds (closed n)) (λ w. Unit {0}) id (describing (closed n)) (λ e live. tt)
+  effect_holds me (Unlink id) fits = record { objects = unlinked_bounded s.objects id fits holds.objects; specs = holds.specs }
   effect_holds me (End id) fits = removed_holds (goes_with id) fits
   effect_holds me (Relabel id request) fits =
       let label : List LabelValue = relabelled s.specs request (label_at s.objects id) in
@@ -209,8 +212,8 @@ module _ (s : State) (holds : HoldsBounded s) where
   few_live tail done = leb-false 1024 (length s.objects.live) (passed (nat_le MOST_ENTITIES (length s.objects.live)) errno.Enfile tail done).0
 
   -- the change that a setting is to have
-  change_formed : (root : Bool) (m : Option Module) (change : Option Change) (asked : Module × Change)
-      → (if root then Err errno.Eperm else
+  change_formed : (refused : Bool) (m : Option Module) (change : Option Change) (asked : Module × Change)
+      → (if refused then Err errno.Eperm else
       and_then (ok_or m errno.Enoent) (λ m. if not (is_listed m s.specs) then Err errno.Enoent else and_then (ok_or change errno.Einval) (λ change. Ok (m, change)))) ≡ Ok asked
       → IfSome change IsFormedChange → IsFormedChange asked.1
   change_formed true m change asked is formed = cc
@@ -228,8 +231,9 @@ module _ (s : State) (holds : HoldsBounded s) where
   switch_formed (Some enabled) = tt
 
   module _ (task name : List ℕ) (me : Id) (named : process_named s.objects name ≡ Some me) where
-    abbrev not_root : Bool
-    not_root = not (nat_eq (cred_at s.objects me).uid 0)
+    -- a setting is changed by root alone, and a tunable by nobody
+    abbrev is_kept : Bool → Bool
+    is_kept tunable = not (nat_eq (cred_at s.objects me).uid 0) || tunable
 
     -- By call: what is found, and the tests that were passed, fit the effect.
     row_fits : (c : Call) (what : At (about_of s task me c).place) → (way_to s me (about_of s task me c).place).there ≡ Ok what → ((about_of s task me c).row what).tail ≡ Do
@@ -251,6 +255,9 @@ module _ (s : State) (holds : HoldsBounded s) where
         let regular = passed (is_dir s.objects id) errno.Eisdir _ done in
         let room = passed (overfills CONTENT_LIMIT s.objects text id) errno.Efbig Do regular.1 in
         (formed.1, λ e live. room_at CONTENT_LIMIT text id e (omega arith) room.0 live)
+    row_fits (call.Fwrite n text) id there done formed =
+        let room = passed (overfills CONTENT_LIMIT s.objects text id) errno.Efbig Do done in
+        (formed.1, λ e live. room_at CONTENT_LIMIT text id e (omega arith) room.0 live)
     row_fits (call.Pwrite pipe text) id there done formed =
         let room = passed (overfills PIPE_LIMIT s.objects text id) errno.Eagain Do done in
         (formed.1, λ e live. room_at PIPE_LIMIT text id e (omega arith) room.0 live)
@@ -261,10 +268,14 @@ module _ (s : State) (holds : HoldsBounded s) where
     row_fits call.Exit none there done formed = process_goes me name s.objects.next s.objects.live holds.objects.rising holds.objects.rooted named
     row_fits (call.Send from to text) ends there done formed = formed.2
     row_fits (call.Sysctl word value) asked there done formed =
-        change_formed not_root (sysctl_module word) (option_map FirstMatch (switch value)) asked there (switch_formed (switch value))
-    row_fits (call.UgidfwAdd rule) asked there done formed = change_formed not_root (Some modules.Bsdextended) (Some (RuleAdd rule)) asked there formed
-    row_fits (call.UgidfwSet n rule) asked there done formed = change_formed not_root (Some modules.Bsdextended) (Some (RuleSet n rule)) asked there formed.1
-    row_fits (call.UgidfwRemove n) asked there done formed = change_formed not_root (Some modules.Bsdextended) (Some (RuleRemove n)) asked there tt
+        let change = option_map FirstMatch (switch value) in
+        change_formed (is_kept (is_tunable s.specs word)) (sysctl_module word) change asked there (switch_formed (switch value))
+    row_fits (call.UgidfwAdd rule) asked there done formed =
+        change_formed (is_kept false) (Some modules.Bsdextended) (Some (RuleAdd rule)) asked there formed
+    row_fits (call.UgidfwSet n rule) asked there done formed =
+        change_formed (is_kept false) (Some modules.Bsdextended) (Some (RuleSet n rule)) asked there formed.1
+    row_fits (call.UgidfwRemove n) asked there done formed =
+        change_formed (is_kept false) (Some modules.Bsdextended) (Some (RuleRemove n)) asked there tt
     row_fits other what there done formed = tt
 
     call_fits : (c : Call) → IsFormedCall c → (row_for s task c me).tail ≡ Do → Fits s.objects (row_for s task c me).effect

@@ -1,6 +1,6 @@
 -- What entities hold stays within the bounds as they come, change and go.
 use Rattle.std.proofs.Common.{◌≡◌, ℕ, ◌+◌, ◌<◌, ◌≤◌, Bool, true, false, cond, not, ◌&&◌, List, [], ◌∷◌, ◌++◌, length, drop, map, Option, Some, None, option_map, refl, ap, sym, ◌∙◌, subst, arith}
-use Rattle.std.specs.Prelude.{filter, find}
+use Rattle.std.specs.Prelude.{filter, find, nat_eq}
 use Rattle.std.specs.List.{AllByRecursion}
 use Rattle.std.specs.Str.{bytes_eq}
 use Rattle.std.proofs.lemmas.List.{length-append, length-map}
@@ -15,15 +15,18 @@ use Rattle.mf_objects.specs.declared.entity.EntityData.{EntityData}
 use Rattle.mf_objects.specs.declared.entity.EntityData.TheVariants.{Process, Vnode, Pipe, Socket}
 use Rattle.mf_objects.specs.Live.{LiveEntity, Entities, content_of, has_id, id_of, is_one_named, is_entry, is_made_by, is_process, kind_of, live_at}
 use Rattle.mf_objects.specs.Changes.{appended, cleared, goes_with, made, with_change, with_entity, with_message, with_messages, with_mode, with_what, without}
+use Rattle.mf_objects.specs.declared.descriptors.Fd.{Fd}
+use Rattle.mf_objects.specs.Descriptors.{closed_on, with_closed_on, with_fds, without_vnode}
 use Rattle.mf_objects.specs.Labels.{with_value}
 use Rattle.mf_objects.specs.Population.{IsRising}
 use Rattle.mf_objects.proofs.Belonging.{same_id}
 use Rattle.mf_objects.proofs.Finding.{rising_filter}
-use Rattle.mf_objects.proofs.Rising.{id_is, rising_changed, rising_push}
+use Rattle.mf_objects.proofs.Rising.{id_is, rising_changed, rising_mapped, rising_push}
 use Rattle.mf_calls.specs.declared.limits.TheConstants.{MODE_LIMIT}
 use Rattle.mf_calls.specs.Names.{is_component}
 use Rattle.mf_calls.specs.WellFormed.{IsText}
 use Rattle.mf_perform.proofs.Observing.{find_valued}
+use Rattle.mf_perform.proofs.Unlinking.{without_open}
 use Rattle.mf_reading.proofs.Bounded.{AreBounded, IsAlone, IsBounded, IsBoundedData, IsNamed, RootIsFirst}
 use Rattle.mf_reading.proofs.Contents.{no_text}
 use Rattle.mf_reading.proofs.Finding.{all_own, found_with, later, other_id}
@@ -72,8 +75,8 @@ module _ (text : List ℕ) (is : IsText SCRIPT_LIMIT text) where
 
   appended_data : (w : EntityData) → HasRoom text w → IsBoundedData w → IsBoundedData (appended text w)
   appended_data (Process process) room held = held
-  appended_data (Vnode vnode) room held = record { content = more_text vnode.content room held.content; messages = held.messages; file = held.file; uid = held.uid }
-  appended_data (Pipe pipe) room held = record { content = more_text pipe.bytes room held.content; messages = held.messages; file = held.file; uid = held.uid }
+  appended_data (Vnode vnode) room held = record { content = more_text vnode.content room held.content; messages = held.messages; file = held.file; cred = held.cred }
+  appended_data (Pipe pipe) room held = record { content = more_text pipe.bytes room held.content; messages = held.messages; file = held.file; cred = held.cred }
   appended_data (Socket socket) room held = held
 
   pub appending : Keeps (with_what (appended text)) (HasRoom text)
@@ -91,7 +94,7 @@ messages_data : (change : List (List ℕ) → List (List ℕ))
 messages_data change kept (Process process) any held = held
 messages_data change kept (Vnode vnode) any held = held
 messages_data change kept (Pipe pipe) any held = held
-messages_data change kept (Socket socket) any held = record { content = held.content; messages = kept socket.messages held.messages; file = held.file; uid = held.uid }
+messages_data change kept (Socket socket) any held = record { content = held.content; messages = kept socket.messages held.messages; file = held.file; cred = held.cred }
 
 pub sending : (text : List ℕ) → IsText SCRIPT_LIMIT text → Keeps (with_what (with_messages (with_message text))) (λ w. Unit {0})
 sending text is =
@@ -114,7 +117,7 @@ cleared_like (Socket socket) = record { entry = λ dir. refl; kind = refl }
 cleared_data : (w : EntityData) → Unit {0} → IsBoundedData w → IsBoundedData (cleared w)
 cleared_data (Process process) any held = held
 cleared_data (Vnode vnode) any held = held
-cleared_data (Pipe pipe) any held = record { content = no_text CONTENT_LIMIT; messages = held.messages; file = held.file; uid = held.uid }
+cleared_data (Pipe pipe) any held = record { content = no_text CONTENT_LIMIT; messages = held.messages; file = held.file; cred = held.cred }
 cleared_data (Socket socket) any held = held
 
 pub clearing : Keeps (with_what cleared) (λ w. Unit {0})
@@ -133,13 +136,29 @@ mode_data mode fits (Vnode vnode) any held =
       content = held.content;
       messages = held.messages;
       file = record { uid = held.file.uid; gid = held.file.gid; mode = omega (arith, fits) };
-      uid = held.uid;
+      cred = held.cred;
     }
 mode_data mode fits (Pipe pipe) any held = held
 mode_data mode fits (Socket socket) any held = held
 
 pub moding : (mode : ℕ) → mode ≤ MODE_LIMIT → Keeps (with_what (with_mode mode)) (λ w. Unit {0})
 moding mode fits = keeping (with_mode mode) (λ w. Unit {0}) (mode_like mode) (mode_data mode fits)
+
+fds_like : (change : List Fd → List Fd) (w : EntityData) → IsLike w (with_fds change w)
+fds_like change (Process process) = record { entry = λ dir. refl; kind = refl }
+fds_like change (Vnode vnode) = record { entry = λ dir. refl; kind = refl }
+fds_like change (Pipe pipe) = record { entry = λ dir. refl; kind = refl }
+fds_like change (Socket socket) = record { entry = λ dir. refl; kind = refl }
+
+fds_data : (change : List Fd → List Fd) (w : EntityData) → Unit {0} → IsBoundedData w → IsBoundedData (with_fds change w)
+fds_data change (Process process) any held = record { content = held.content; messages = held.messages; file = held.file; cred = held.cred }
+fds_data change (Vnode vnode) any held = held
+fds_data change (Pipe pipe) any held = held
+fds_data change (Socket socket) any held = held
+
+-- other descriptors keep them
+pub describing : (change : List Fd → List Fd) → Keeps (with_what (with_fds change)) (λ w. Unit {0})
+describing change = keeping (with_fds change) (λ w. Unit {0}) (fds_like change) (fds_data change)
 
 -- One entity is changed
 
@@ -216,6 +235,40 @@ removed_bounded o gone keeps bounded =
       few = omega (arith, few_kept stays o.live, bounded.few);
       each = all_kept IsBounded stays o.live bounded.each;
     }
+
+-- All descriptors on a file are closed, and it goes
+
+module _ (change : LiveEntity → LiveEntity) (keeps : Keeps change (λ w. Unit {0})) where
+  root_everywhere : (live : List LiveEntity) → RootIsFirst live → RootIsFirst (map change live)
+  root_everywhere [] rooted = absurd rooted
+  root_everywhere (e ∷ live) rooted =
+      let like : IsLike e.what (change e).what = keeps.like e in (
+        ap (λ (i : Id). i.0) (keeps.id e) ∙ rooted.0,
+        record { entry = λ dir. like.entry dir ∙ rooted.1.entry dir; kind = like.kind ∙ rooted.1.kind },
+      )
+
+  one_of_all : (e : LiveEntity) → IsBounded e → IsBounded (change e)
+  one_of_all e bounded = record {
+    held = keeps.held e tt bounded.held;
+    named = λ dir entry. ap is_component (keeps.name e) ∙ bounded.named dir (sym ((keeps.like e).entry dir) ∙ entry);
+  }
+
+  all_changed : (o : Entities) → AreBounded o → AreBounded (record o { live = map change o.live })
+  all_changed o bounded = record {
+    rising = rising_mapped change 0 o.next o.live keeps.id bounded.rising;
+    rooted = root_everywhere o.live bounded.rooted;
+    few = omega (arith, length-map o.live change, bounded.few);
+    each = all_mapped IsBounded IsBounded change o.live one_of_all bounded.each;
+  }
+
+  first_kept : (id : Id) (live : List LiveEntity) → KeepsFirst (has_id id) live → KeepsFirst (has_id id) (map change live)
+  first_kept id [] first = tt
+  first_kept id (e ∷ live) first = ap (λ (i : Id). nat_eq i.0 id.0) (keeps.id e) ∙ first
+
+pub unlinked_bounded : (o : Entities) (id : Id) → KeepsFirst (has_id id) o.live → AreBounded o → AreBounded (without_vnode id o)
+unlinked_bounded o id keeps bounded =
+    let closes = describing (closed_on id) in
+    removed_bounded (with_closed_on id o) (has_id id) (first_kept (without_open id) closes id o.live keeps) (all_changed (without_open id) closes o bounded)
 
 -- One entity has another value in a label slot
 

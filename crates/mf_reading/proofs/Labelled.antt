@@ -1,7 +1,7 @@
 -- The labels of live entities keep values of the listed policies in their slots, by how a step changes the state.
 use Rattle.std.specs.Option.{option_eq}
 use Rattle.std.proofs.Common.{◌≡◌, ℕ, ◌+◌, ◌≤◌, zero, suc, Bool, true, false, cond, not, nat_eq, eq-eqb, List, [], ◌∷◌, map, Option, Some, None, slice_index_or, refl, ap, sym, ◌∙◌, subst, arith}
-use Rattle.std.specs.Prelude.{find}
+use Rattle.std.specs.Prelude.{filter, find}
 use Rattle.std.specs.List.{AllByRecursion}
 use Rattle.std.proofs.lemmas.Bool.Decides.{nat_tests}
 use Rattle.mf_errno.specs.declared.module.Module.{Module}
@@ -30,9 +30,11 @@ use Rattle.mf_objects.specs.Changes.{made, with_change, with_what}
 use Rattle.mf_plan.specs.declared.state.State.{State}
 use Rattle.mf_perform.specs.Effect.{with_created, with_objects}
 use Rattle.mf_perform.proofs.StateChange.{Deed, StateChange}
-use Rattle.mf_perform.proofs.StateChange.StateChange.{same, created, changed, relabels, removed, loaded, unloaded, set_to}
+use Rattle.mf_perform.proofs.Unlinking.{without_open}
+use Rattle.mf_perform.proofs.StateChange.StateChange.{same, created, changed, relabels, removed, unlinked, loaded, unloaded, set_to}
 use Rattle.mf_lifetimes.proofs.Kept.{four_values}
-use Rattle.mf_lifetimes.proofs.Listing.{AllBelow, AtMostOne, IsBelow, IsLasting, all_newest, all_without, newest, no_late}
+use Rattle.mf_lifetimes.proofs.Lasting.{IsLasting, no_late}
+use Rattle.mf_lifetimes.proofs.Listing.{AllBelow, AtMostOne, IsBelow, all_newest, all_without, newest}
 use Rattle.mf_lifetimes.proofs.Settings.{all_changed}
 use Rattle.mf_reading.proofs.Bounded.{AllFit, AreLabelled, AreListed, Fits, FitsLabelling, FitsSlot, IsUnsetFrom}
 use Rattle.mf_lifetimes.proofs.Files.{all_both, all_from, all_push}
@@ -180,6 +182,13 @@ pub labels_changed : (P : List LabelValue → Type 0) (change : EntityData → E
 labels_changed P change id live all =
     all_mapped (λ e. P e.label) (λ e. P e.label) (changed_at (with_what change) id) live (λ e here. subst P (sym (same_label change id e)) here) all
 
+-- the labels of what stays where one goes, and all descriptors on it
+labels_unlinked : (P : List LabelValue → Type 0) (id : Id) (live : List LiveEntity) → AllByRecursion (λ e. P e.label) live
+    → AllByRecursion (λ e. P e.label) (filter (λ e. not (has_id id e)) (map (without_open id) live))
+labels_unlinked P id live all =
+    all_kept (λ (e : LiveEntity). P e.label) (λ e. not (has_id id e)) (map (without_open id) live)
+    (all_mapped (λ e. P e.label) (λ e. P e.label) (without_open id) live (λ e here. here) all)
+
 -- a new label of one entity meets what the others meet
 labels_given : (P : List LabelValue → Type 0) (new : List LabelValue) (id : Id) (live : List LiveEntity) → P new → AllByRecursion (λ e. P e.label) live
     → AllByRecursion (λ e. P e.label) (map (changed_at (λ e. record e { label = new }) id) live)
@@ -251,6 +260,12 @@ keeps_labelled s s' (removed gone is) listed labelled =
       fit = all_kept (λ (e : LiveEntity). AllFit s.specs e.label) (λ e. not (gone e)) s.objects.live labelled.fit;
       unset = all_kept (λ (e : LiveEntity). IsUnsetFrom s.numbers e.label) (λ e. not (gone e)) s.objects.live labelled.unset;
     })
+keeps_labelled s s' (unlinked id is) listed labelled =
+    subst AreLabelled (sym is)
+    (record {
+      fit = labels_unlinked (AllFit s.specs) id s.objects.live labelled.fit;
+      unset = labels_unlinked (IsUnsetFrom s.numbers) id s.objects.live labelled.unset;
+    })
 keeps_labelled s s' (loaded m none is) listed labelled =
     subst AreLabelled (sym is) (loaded_labelled s m (no_late s m listed.booted none) labelled)
 keeps_labelled s s' (unloaded m ok is) listed labelled =
@@ -260,7 +275,7 @@ keeps_labelled s s' (unloaded m ok is) listed labelled =
           (λ e fits. all_without (λ x. Fits e.label x.0) m s.specs fits) labelled.fit;
       unset = labelled.unset;
     })
-keeps_labelled s s' (set_to m change is) listed labelled =
+keeps_labelled s s' (set_to m change leaves is) listed labelled =
     subst AreLabelled (sym is)
     (record {
       fit = all_from (λ (e : LiveEntity). AllFit s.specs e.label) (λ (e : LiveEntity). AllFit (change_in m change s.specs).1 e.label) s.objects.live

@@ -14,7 +14,7 @@ use Rattle.mf_plan.specs.declared.state.State.{State}
 use Rattle.mf_perform.proofs.Observing.{Observing}
 use Rattle.mf_perform.proofs.Observing.Observing.{kept, lowers}
 use Rattle.mf_perform.proofs.StateChange.{Deed, StateChange}
-use Rattle.mf_perform.proofs.StateChange.StateChange.{same, created, changed, relabels, removed, loaded, unloaded, set_to}
+use Rattle.mf_perform.proofs.StateChange.StateChange.{same, created, changed, relabels, removed, unlinked, loaded, unloaded, set_to}
 use Rattle.mf_lifetimes.proofs.Listing.{AtMostOne, IsBelow, all_newest, all_without, below_newest, newest, one_without, single_newest}
 use Rattle.mf_lifetimes.proofs.Settings.{all_changed, one_changed}
 use Rattle.mf_reading.proofs.Bounded.{AreListed, IsSlotted}
@@ -62,6 +62,8 @@ keeps_listed s s' (relabels id e request asked live allowed is) listed =
     same_listed s s' (ap (λ (x : State). x.specs) is) (ap (λ (x : State). x.numbers) is) (ap (λ (x : State). x.booted) is) listed
 keeps_listed s s' (removed gone is) listed =
     same_listed s s' (ap (λ (x : State). x.specs) is) (ap (λ (x : State). x.numbers) is) (ap (λ (x : State). x.booted) is) listed
+keeps_listed s s' (unlinked id is) listed =
+    same_listed s s' (ap (λ (x : State). x.specs) is) (ap (λ (x : State). x.numbers) is) (ap (λ (x : State). x.booted) is) listed
 keeps_listed s s' (loaded m none is) listed =
     subst AreListed (sym is)
     (record {
@@ -80,7 +82,7 @@ keeps_listed s s' (unloaded m ok is) listed =
       single = λ slot. one_without slot m s.specs (listed.single slot);
       slotted = all_without (λ entry. IsSlotted entry.0) m s.specs listed.slotted;
     })
-keeps_listed s s' (set_to m change is) listed =
+keeps_listed s s' (set_to m change leaves is) listed =
     subst AreListed (sym is)
     (record {
       booted = listed.booted;

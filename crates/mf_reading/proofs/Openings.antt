@@ -1,8 +1,8 @@
 -- The opening state of a well-formed script is within the bounds.
-use Rattle.std.proofs.Common.{◌≡◌, ℕ, zero, suc, ◌+◌, ◌<◌, ◌≤◌, false, List, [], ◌∷◌, length, take, get_or, Option, Some, None, refl, ap, ◌∙◌, subst, arith}
-use Rattle.std.specs.Prelude.{fold}
+use Rattle.std.proofs.Common.{◌≡◌, ℕ, ◌+◌, ◌<◌, ◌≤◌, ◌^◌, false, List, [], ◌∷◌, length, take, Option, Some, None, slice_index_or, refl, ap, arith}
+use Rattle.std.specs.Prelude.{All, fold}
 use Rattle.std.specs.List.{AllByRecursion}
-use Rattle.std.proofs.lemmas.List.{get_or_default, length-append, take_all}
+use Rattle.std.proofs.lemmas.List.{length-append, take_all}
 use Rattle.mf_core.proofs.LookedUp.{root_alone, with_task_at}
 use Rattle.mf_errno.specs.declared.module.Module.{Module}
 use Rattle.mf_errno.specs.declared.module.Module.TheVariants as modules
@@ -14,8 +14,8 @@ use Rattle.mf_elem.specs.declared.label.TheConstants.{SLOTS}
 use Rattle.mf_item.specs.declared.view.Kind.TheVariants as kinds
 use Rattle.mf_policy.specs.declared.labels.Origin.TheVariants.{Boot}
 use Rattle.mf_policy.specs.NewLabels.{new_label}
-use Rattle.mf_policy.specs.Registration.{Entry, given_after, registration_of, with_newest, with_registered}
-use Rattle.mf_list.specs.Once.{IsListedOnce}
+use Rattle.mf_policy.specs.Registration.{Entry, given_after, with_newest, with_registered}
+use Rattle.mf_policy.specs.declared.settings.Change.TheVariants.{Revocation}
 use Rattle.mf_names.specs.declared.limits.TheConstants.{CONTENT_LIMIT}
 use Rattle.mf_objects.specs.declared.limits.TheConstants.{MOST_ENTITIES}
 use Rattle.mf_objects.specs.declared.id.Id.{Id}
@@ -23,7 +23,9 @@ use Rattle.mf_objects.specs.declared.entity.EntityData.{EntityData}
 use Rattle.mf_objects.specs.Live.{LiveEntity, Entities, kind_of}
 use Rattle.mf_objects.specs.Changes.{made, new_process, new_vnode, with_entity}
 use Rattle.mf_objects.proofs.Shorthands.{root_entity}
-use Rattle.mf_calls.specs.WellFormed.{AreBoots, IsFormedFile, IsFormedTask, IsWellFormed}
+use Rattle.mf_cred.specs.declared.cred.Cred.{Cred}
+use Rattle.mf_calls.specs.declared.limits.TheConstants.{UID_MAX}
+use Rattle.mf_calls.specs.WellFormed.{IsFormedCred, IsFormedFile, IsFormedTask, IsWellFormed}
 use Rattle.mf_calls.specs.declared.script.FileLine.{FileLine}
 use Rattle.mf_calls.specs.declared.script.Script.{Script}
 use Rattle.mf_calls.specs.declared.script.Task.{Task}
@@ -32,19 +34,20 @@ use Rattle.mf_plan.specs.declared.target.Target.{Target}
 use Rattle.mf_plan.specs.declared.target.Target.TheVariants.{Root, Name, Nowhere}
 use Rattle.mf_plan.specs.Path.{last_name, lookup_along}
 use Rattle.mf_plan.specs.Views.{process_named}
-use Rattle.mf_core.specs.Opening.{booted_specs, opening_objects, opening_state, registrations_from, with_file, with_file_at, with_task}
-use Rattle.mf_core.proofs.Reached.{AreLoaded, loaded_more, loaded_none}
+use Rattle.mf_core.specs.Opening.{booted_specs, boots_of, opening_objects, opening_state, registrations_from, with_file, with_file_at, with_task}
+use Rattle.mf_core.proofs.Booted.{booted_once}
 use Rattle.mf_lifetimes.proofs.Boots.{boots_below, boots_single}
 use Rattle.mf_lifetimes.proofs.Listing.{AllBelow, AtMostOne, all_newest, newest}
-use Rattle.mf_reading.proofs.Bounded.{AllFit, AreBounded, AreListed, IsBoundedData, IsBoundedSpec, IsBoundedState, IsNamed, IsSlotted, IsUnsetFrom}
-use Rattle.mf_reading.proofs.Contents.{no_text}
+use Rattle.mf_reading.proofs.Bounded.{AllFit, AreBounded, AreListed, IsBoundedCred, IsBoundedData, IsBoundedSpec, IsBoundedState, IsNamed, IsSlotted, IsUnsetFrom}
+use Rattle.mf_reading.proofs.Contents.{no_cred_fits, no_text}
 use Rattle.mf_reading.proofs.Effects.{last_component}
 use Rattle.mf_reading.proofs.Holding.{added_bounded}
 use Rattle.mf_reading.proofs.Labelled.{booted_fit, new_unset}
 use Rattle.mf_reading.proofs.Listed.{new_slotted}
 use Rattle.mf_lifetimes.proofs.Files.{all_push}
+use Rattle.mf_lifetimes.proofs.Settings.{all_changed}
 use Rattle.mf_reading.proofs.Lists.{by_place}
-use Rattle.mf_reading.proofs.Rules.{fresh_bounded}
+use Rattle.mf_reading.proofs.Rules.{fresh_bounded, specs_changed}
 
 -- Policies
 
@@ -55,35 +58,12 @@ all_booted P each [] specs given all = all
 all_booted P each (m ∷ ms) specs given all =
     all_booted P each ms (with_newest (newest m false given) specs) (given_after given m) (all_newest P (newest m false given) specs (each m given) all)
 
--- so many modules are registered
-record HasLoaded (boots : List Module) (n : ℕ) : Type 0 where
-  specs : List Entry
-  given : ℕ
-  are : AreLoaded boots n specs given
-
-loaded_first : (boots : List Module) → AreBoots boots → (n : ℕ) → n ≤ length boots → HasLoaded boots n
-loaded_first boots may zero few = record { specs = []; given = 0; are = loaded_none boots }
-loaded_first boots may (suc n) few =
-    let before = loaded_first boots may n (omega (arith, few)) in
-    let m : Module = get_or boots n modules.Biba in
-    let specs : List Entry = with_registered before.specs (registration_of m false before.given) in
-    let given : ℕ = given_after before.given m in
-    let here : m ≡ get_or boots n m = get_or_default boots n modules.Biba m (omega (arith, few)) in
-    let next : n + 1 ≡ suc n = omega arith in
-    record {
-      specs = specs;
-      given = given;
-      are = subst (λ (k : ℕ). AreLoaded boots k specs given) next
-          (loaded_more boots n m before.specs before.given may (omega (arith, few)) here before.are specs given refl refl);
-    }
+-- the policies as their modules bring them, before the tunable is set
+abbrev registered : Script → List Entry
+registered s = fold with_registered [] (boots_of s)
 
 whole : (boots : List Module) → take (length boots) boots ≡ boots
 whole boots = take_all (length boots) boots (omega arith)
-
-booted_once : (s : Script) → IsWellFormed s → IsListedOnce (booted_specs s)
-booted_once s formed =
-    let loaded = loaded_first s.boots formed.boots (length s.boots) (omega arith) in
-    subst IsListedOnce (loaded.are.specs_are ∙ ap (λ (ms : List Module). fold with_registered [] (registrations_from 0 ms)) (whole s.boots)) loaded.are.once
 
 few_numbers : (s : Script) → IsWellFormed s → fold given_after 0 s.boots ≤ SLOTS
 few_numbers s formed =
@@ -96,10 +76,21 @@ opening_listed s formed = record {
   given = few_numbers s formed;
   below = boots_below s;
   single = boots_single s;
-  slotted = all_booted (λ entry. IsSlotted entry.0) (λ m given. new_slotted m false given) s.boots [] 0 tt;
+  slotted = all_changed IsSlotted modules.Biba (Revocation s.revocation) (registered s)
+      (all_booted (λ entry. IsSlotted entry.0) (λ m given. new_slotted m false given) s.boots [] 0 tt);
 }
 
 -- Entities
+
+first_group : (groups : List ℕ) → All (λ group. group ≤ UID_MAX) groups → slice_index_or groups 0 0 < 2 ^ 32
+first_group [] each = omega arith
+first_group (group ∷ groups) each = omega (arith, each 0 group (omega arith))
+
+formed_cred : (cred : Cred) → IsFormedCred cred → IsBoundedCred cred
+formed_cred cred formed = record {
+  uid = omega (arith, formed.fits);
+  seen = record { uid = omega (arith, formed.real, formed.fits); gid = first_group cred.groups formed.each; mode = omega arith };
+}
 
 module _ (listed : List Entry) (given : ℕ) (few : given ≤ SLOTS) (below : AllBelow given listed) (single : (slot : ℕ) → AtMostOne slot listed) where
   -- what is made so far: so many entities at most
@@ -129,7 +120,7 @@ module _ (listed : List Entry) (given : ℕ) (few : given ≤ SLOTS) (below : Al
     content = no_text CONTENT_LIMIT;
     messages = tt;
     file = record { uid = omega arith; gid = omega arith; mode = omega arith };
-    uid = omega arith;
+    cred = no_cred_fits;
   }
 
   root_opened : IsOpened 1 (root_alone listed)
@@ -153,7 +144,7 @@ module _ (listed : List Entry) (given : ℕ) (few : given ≤ SLOTS) (below : Al
         content = formed.text;
         messages = tt;
         file = record { uid = omega (arith, formed.uid); gid = omega (arith, formed.gid); mode = omega (arith, formed.mode) };
-        uid = omega arith;
+        cred = no_cred_fits;
       })
       (λ at entry. last_component o f.path dir is formed.path.each) opened
   file_opened boots n o f (Name dir (Some id)) is formed room opened = weaker n (n + 1) o (omega arith) opened
@@ -172,12 +163,7 @@ module _ (listed : List Entry) (given : ℕ) (few : given ≤ SLOTS) (below : Al
       → IsOpened n o → IsOpened (n + 1) (with_task_at listed o t found)
   task_opened boots n o t None formed room opened =
       opened_more n o t.name t.label (new_process t.cred) room formed.label.spelled
-      (record {
-        content = no_text CONTENT_LIMIT;
-        messages = tt;
-        file = record { uid = omega arith; gid = omega arith; mode = omega arith };
-        uid = omega (arith, formed.cred.fits);
-      })
+      (let cred = formed_cred t.cred formed.cred in record { content = no_text CONTENT_LIMIT; messages = tt; file = cred.seen; cred = cred })
       (λ dir entry. cc) opened
   task_opened boots n o t (Some id) formed room opened = weaker n (n + 1) o (omega arith) opened
 
@@ -202,7 +188,8 @@ opening_bounded s formed =
     record {
       holds = record {
         objects = opened.bounded;
-        specs = all_booted (λ entry. IsBoundedSpec entry.1) (λ m given. fresh_bounded m) s.boots [] 0 tt;
+        specs = specs_changed modules.Biba (Revocation s.revocation) (registered s) tt
+            (all_booted (λ entry. IsBoundedSpec entry.1) (λ m given. fresh_bounded m) s.boots [] 0 tt);
       };
       listed = listed;
       once = booted_once s formed;

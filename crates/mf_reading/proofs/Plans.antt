@@ -12,9 +12,10 @@ use Rattle.mf_item.specs.declared.view.Kind.TheVariants as kinds
 use Rattle.mf_policy.specs.Registration as listing
 use Rattle.mf_policy.specs.Settings.{change_in}
 use Rattle.mf_policy.specs.declared.settings.Change.{Change}
-use Rattle.mf_names.specs.declared.limits.TheConstants.{CONTENT_LIMIT}
+use Rattle.mf_names.specs.declared.limits.TheConstants.{CONTENT_LIMIT, MOST_DESCRIPTORS}
 use Rattle.mf_objects.specs.declared.limits.TheConstants.{MOST_ENTITIES, MOST_MESSAGES, PIPE_LIMIT}
 use Rattle.mf_objects.specs.declared.id.Id.{Id}
+use Rattle.mf_objects.specs.Descriptors.{fds_at}
 use Rattle.mf_objects.specs.Live.{Entities, content_at, count_at}
 use Rattle.mf_calls.specs.declared.script.Call.{Call}
 use Rattle.mf_calls.specs.declared.script.Call.TheVariants as call
@@ -46,6 +47,11 @@ use Rattle.mf_text.specs.Results.{and_then}
 few_if : (n : ℕ) (test : Bool) (rest : List Check) → length rest ≤ n → length (if test then [] else rest) ≤ n
 few_if n true rest few = omega arith
 few_if n false rest few = few
+
+-- a check that is made where the test holds is one more at most
+one_more : (n : ℕ) (test : Bool) (check : Check) (rest : List Check) → length rest ≤ n → length (if test then check ∷ rest else rest) ≤ n + 1
+one_more n true check rest few = omega (arith, few)
+one_more n false check rest few = omega (arith, few)
 
 few_by : (n : ℕ) (e : Option Errno) (rest : List Check) → length rest ≤ n → length (option_map_or (λ e. []) e rest) ≤ n
 few_by n None rest few = few
@@ -115,6 +121,7 @@ module _ (s : State) (me : Id) where
     formed_place (call.Readdir path) formed = formed
     formed_place (call.Chmod path mode) formed = formed.0
     formed_place (call.Unlink path) formed = formed
+    formed_place (call.OpenFd path read write) formed = formed.0
     formed_place other formed = tt
 
     abbrev nothing : List Check
@@ -135,6 +142,14 @@ module _ (s : State) (me : Id) where
         let over : Bool = overfills CONTENT_LIMIT s.objects text id in
         let rest : List Check = if over then [] else [] in
         few_if 2 (is_dir s.objects id) (on me op.VnodeOpenWrite id ∷ on me op.VnodeWrite id ∷ rest) (omega (arith, few_if 0 over [] (omega arith)))
+    few_row (call.OpenFd path read write) id =
+        let full : List Check = if nat_le MOST_DESCRIPTORS (length (fds_at s.objects me)) then [] else [] in
+        let writes : List Check = if write then on me op.VnodeOpenWrite id ∷ full else full in
+        let reads : List Check = if read then on me op.VnodeOpenRead id ∷ writes else writes in
+        let none : length full ≤ 0 = few_if 0 (nat_le MOST_DESCRIPTORS (length (fds_at s.objects me))) [] (omega arith) in
+        let few : length writes ≤ 1 = one_more 0 write (on me op.VnodeOpenWrite id) full none in
+        few_if 2 (is_dir s.objects id) reads (one_more 1 read (on me op.VnodeOpenRead id) writes few)
+    few_row (call.Fwrite n text) id = omega (arith, few_if 0 (overfills CONTENT_LIMIT s.objects text id) [] (omega arith))
     few_row (call.Readdir path) id = few_if 2 (not (is_dir s.objects id)) (on me op.VnodeReaddir id ∷ []) (omega arith)
     few_row (call.Unlink path) entry = omega (arith, few_if 0 (nat_lt 0 (count_at s.objects entry.1)) [] (omega arith))
     few_row (call.Pread name) id = omega (arith, few_if 0 (length (content_at s.objects id) == 0) [] (omega arith))

@@ -1,15 +1,18 @@
 -- The reply to a call fits its fields, where the state is within the bounds.
 use Rattle.std.proofs.Common.{◌≡◌, ℕ, ◌<◌, ◌≤◌, ◌^◌, Bool, true, false, List, [], length, map, Option, Some, None, Result, Ok, Err, refl, ap, sym, subst, arith}
 use Rattle.std.specs.Option.{is_none, option_map_or}
-use Rattle.std.specs.Prelude.{if◌then◌else◌, find, position, option_and_then, slice_index_or, slice_set, IfSome}
+use Rattle.std.specs.Prelude.{if◌then◌else◌, not, find, position, option_and_then, slice_index_or, slice_set, IfSome}
+use Rattle.std.specs.List.{range_with_len}
 use Rattle.std.specs.Result.{result_ok}
 use Rattle.std.proofs.lemmas.List.{length-map}
+use Rattle.std.proofs.lemmas.List.FromFn.{length-range_with_len}
 use Rattle.std.proofs.lemmas.List.Quantifiers.{position-Some}
+use Rattle.std.proofs.lemmas.List.Sums.{prefix_len-le-length}
 use Rattle.mf_errno.specs.declared.errno.Errno.{Errno}
 use Rattle.mf_errno.specs.declared.module.Module.{Module}
 use Rattle.mf_errno.specs.declared.module.Module.TheVariants as modules
 use Rattle.mf_policy.specs.declared.settings.Change.{Change}
-use Rattle.mf_policy.specs.declared.settings.Change.TheVariants.{FirstMatch, RuleAdd, RuleSet, RuleRemove}
+use Rattle.mf_policy.specs.declared.settings.Change.TheVariants.{Revocation, FirstMatch, RuleAdd, RuleSet, RuleRemove}
 use Rattle.mf_policy.specs.declared.settings.Changed.{Changed}
 use Rattle.mf_policy.specs.declared.spec.Spec.{Spec}
 use Rattle.mf_policy.specs.declared.spec.Spec.TheVariants as means
@@ -19,9 +22,11 @@ use Rattle.mf_policy.specs.Settings.{change_in, change_of, done, file_rules, lis
 use Rattle.mf_policy.proofs.ByEntry.{change_at}
 use Rattle.mf_rule.specs.RuleList.{Slots}
 use Rattle.mf_list.proofs.Counts.{listed_few}
-use Rattle.mf_names.specs.declared.limits.TheConstants.{CONTENT_LIMIT, SCRIPT_LIMIT}
+use Rattle.mf_names.specs.declared.limits.TheConstants.{CONTENT_LIMIT, MOST_DESCRIPTORS, SCRIPT_LIMIT}
 use Rattle.mf_objects.proofs.Entities.{label_of}
 use Rattle.mf_objects.specs.declared.id.Id.{Id}
+use Rattle.mf_objects.specs.declared.descriptors.Fd.{Fd}
+use Rattle.mf_objects.specs.Descriptors.{fd_in, fds_at, lowest_free}
 use Rattle.mf_objects.specs.Live.{LiveEntity, Entities, content_at, count_at, has_id, is_one_named, is_process, kind_at, label_at, live_at, messages_at}
 use Rattle.mf_objects.specs.Titles.{names_at}
 use Rattle.mf_objects.proofs.Finding.{found_live}
@@ -100,6 +105,11 @@ change_number (means.Bsdextended slots first) (RuleSet n rule) fits = tt
 change_number (means.Bsdextended slots first) (RuleRemove n) fits =
     either_way (λ (c : Changed × Spec). IfSome c.0.number (λ n. n < 2 ^ 32)) (is_none (slice_index_or slots n None)) (no_setting, means.Bsdextended slots first)
     (done, means.Bsdextended (slice_set slots n None) first) tt tt
+change_number (means.Biba revocation) (Revocation enabled) fits = tt
+change_number (means.Biba revocation) (FirstMatch enabled) fits = tt
+change_number (means.Biba revocation) (RuleAdd rule) fits = tt
+change_number (means.Biba revocation) (RuleSet n rule) fits = tt
+change_number (means.Biba revocation) (RuleRemove n) fits = tt
 change_number other change fits = tt
 
 number_fits : (m : Module) (change : Change) (specs : List Entry) → AreBoundedSpecs specs → IfSome (change_in m change specs).0.number (λ n. n < 2 ^ 32)
@@ -112,6 +122,13 @@ number_fits m change specs bounded = one (find (is_of m) specs) refl
 numbered_fit : (number : Option ℕ) → IfSome number (λ n. n < 2 ^ 32) → IsPayload (option_map_or payload.Rule number payload.None)
 numbered_fit None fits = tt
 numbered_fit (Some n) fits = fits
+
+-- a number of a descriptor
+free_fits : (fds : List Fd) → lowest_free fds < 2 ^ 32
+unfolding lowest_free
+free_fits fds =
+    let numbers = length-range_with_len 0 MOST_DESCRIPTORS in
+    omega (arith, numbers, prefix_len-le-length (λ n. not (is_none (fd_in fds n))) (range_with_len 0 MOST_DESCRIPTORS))
 
 -- The table: what a call hands back.
 
@@ -150,6 +167,8 @@ module _ (s : State) (bounded : IsBoundedState s) where
         → IsPayload ((about_of s task me c).row what).payload
     payload_row call.Getpmac id there = let same : me ≡ id = cc in subst (λ (x : Id). IsPayload (label s x)) same (caller_label name me named)
     payload_row (call.Read path) id there = head_at id
+    payload_row (call.OpenFd path read write) id there = free_fits (fds_at s.objects me)
+    payload_row (call.Fread n) id there = head_at id
     payload_row (call.Stat path) id there = (file_fits s.objects id bounded.holds.objects, size_at id)
     payload_row (call.Getfmac path) id there = file_label path id (ap result_ok there)
     payload_row (call.Readdir path) id there = names_of s.objects id bounded.holds.objects

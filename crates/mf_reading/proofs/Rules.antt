@@ -7,7 +7,7 @@ use Rattle.std.proofs.lemmas.List.Elements.{All-from_recursion, All-replicate, A
 use Rattle.mf_errno.specs.declared.module.Module.{Module}
 use Rattle.mf_errno.specs.declared.module.Module.TheVariants.{Bsdextended}
 use Rattle.mf_policy.specs.declared.settings.Change.{Change}
-use Rattle.mf_policy.specs.declared.settings.Change.TheVariants.{FirstMatch, RuleAdd, RuleSet, RuleRemove}
+use Rattle.mf_policy.specs.declared.settings.Change.TheVariants.{Revocation, FirstMatch, RuleAdd, RuleSet, RuleRemove}
 use Rattle.mf_policy.specs.declared.settings.Changed.{Changed}
 use Rattle.mf_policy.specs.declared.spec.Spec.{Spec}
 use Rattle.mf_policy.specs.declared.spec.Spec.TheVariants as means
@@ -57,10 +57,16 @@ rule_removed rules first n fits =
     (done, means.Bsdextended (slice_set rules n None) first) fits (slot_set rules n None tt fits)
 
 change_bounded : (spec : Spec) (change : Change) → IsFormedChange change → IsBoundedSpec spec → IsBoundedSpec (change_of spec change).1
+change_bounded (means.Bsdextended rules first) (Revocation enabled) formed fits = fits
 change_bounded (means.Bsdextended rules first) (FirstMatch enabled) formed fits = fits
 change_bounded (means.Bsdextended rules first) (RuleAdd rule) formed fits = rule_added rules first rule (position is_none rules) formed fits
 change_bounded (means.Bsdextended rules first) (RuleSet n rule) formed fits = slot_set rules n (Some rule) formed fits
 change_bounded (means.Bsdextended rules first) (RuleRemove n) formed fits = rule_removed rules first n fits
+change_bounded (means.Biba revocation) (Revocation enabled) formed fits = tt
+change_bounded (means.Biba revocation) (FirstMatch enabled) formed fits = tt
+change_bounded (means.Biba revocation) (RuleAdd rule) formed fits = tt
+change_bounded (means.Biba revocation) (RuleSet n rule) formed fits = tt
+change_bounded (means.Biba revocation) (RuleRemove n) formed fits = tt
 change_bounded other change formed fits = tt
 
 spec_set : (m : Module) (spec : Spec) (specs : List Entry) → IsBoundedSpec spec → AreBoundedSpecs specs → AreBoundedSpecs (with_spec m spec specs)

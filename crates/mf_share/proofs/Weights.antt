@@ -132,6 +132,10 @@ some_open s run some = positive (open_of run) (λ none. absurd (omega (arith, so
 pub ticket_open : (s : Script) (run : CoreView) (t : ℕ) (committed : Bool) → entry_weight t committed ≤ open_weight s run → 0 < open_of run
 ticket_open s run t committed part = some_open s run (omega (arith, weighs t committed, part))
 
+-- the same, said of the book of open entries: the entry is in its total
+pub counted_open : (s : Script) (run : CoreView) (t : ℕ) (committed : Bool) (amount total : ℕ) → amount ≤ total → amount ≡ entry_weight t committed → total ≡ open_weight s run → 0 < open_of run
+counted_open s run t committed amount total within weighed counted = ticket_open s run t committed (omega (arith, within, weighed, counted))
+
 pub weighs_nothing : (s : Script) (run : CoreView) → open_of run ≡ 0 → open_weight s run ≡ 0
 weighs_nothing s run none = weightless (progress_of run) (length s.tasks) none
 

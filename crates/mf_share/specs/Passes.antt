@@ -16,7 +16,7 @@ use Rattle.mf_share.specs.Weights.{entry_weight}
 
 -- the script without lines
 abbrev pub no_script : Script
-no_script = record { boots = []; files = []; tasks = []; steps = [] }
+no_script = record { boots = []; revocation = false; files = []; tasks = []; steps = [] }
 
 pub record PassView : Type 0 where
   pub task : ℕ

@@ -1,17 +1,19 @@
-use Rattle.std.proofs.Common.{◌≡◌, ◌≤◌, ap, sym, ◌∙◌, arith, rules}
+use Rattle.std.proofs.Common.{◌≡◌, ap, sym, ◌∙◌, arith, rules}
 use Rattle.mf_core.specs.declared.progress.Commit.TheVariants as commit
 use Rattle.mf_core.specs.declared.progress.Turn.TheVariants as turn
 use Rattle.mf_core.specs.CoreView.{open_of, turn_at}
-use Rattle.mf_share.specs.Weights.{entry_weight, open_weight}
-use Rattle.mf_share.proofs.Weights.{committed, risen, ticket_open}
+use Rattle.mf_share.proofs.Weights.{committed, counted_open, risen}
 use Rattle.mf_share.proofs.desk.Desk.commit.Goals as goal
 
 pub returns-then-ne-clause-entries : goal.returns-then-ne-clause-entries
 returns-then-ne-clause-entries g c =
-    let t = c.ticket.inside.task in
-    let part : entry_weight t c.ticket.inside.committed ≤ open_weight g.J.Job.script c.self.inside.core =
-    omega (arith, c.audit.ensures.bound, c.ticket.invariant.weighed, c.self.invariant.2) in
-    omega (arith, ticket_open g.J.Job.script c.self.inside.core t c.ticket.inside.committed part, ap open_of c.self.view_is)
+    let counted = counted_open g.J.Job.script c.self.inside.core c.ticket.inside.task _ _ _ c.audit.ensures.bound c.ticket.invariant.weighed c.self.invariant.2 in
+    omega (arith, counted, ap open_of c.self.view_is)
+
+pub returns-then-eq-clause-entries : goal.returns-then-eq-clause-entries
+returns-then-eq-clause-entries g c =
+    let counted = counted_open g.J.Job.script c.self.inside.core c.ticket.inside.task _ _ _ c.audit.ensures.bound c.ticket.invariant.weighed c.self.invariant.2 in
+    omega (arith, counted, ap open_of c.self.view_is)
 
 pub invariant_of-self-then-eq : goal.invariant_of-self-then-eq
 invariant_of-self-then-eq g c =
