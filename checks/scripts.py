@@ -33,14 +33,15 @@ WORKED = {
             "boot mac_biba",
             "boot mac_lomac",
             TUNABLE,
-            "file /notes reg uid 0 gid 0 mode 644 label biba/5,lomac/5 text old",
+            "file /d dir uid 0 gid 0 mode 755 label biba/5,lomac/5",
+            "file /d/notes reg uid 0 gid 0 mode 644 label biba/5,lomac/5 text old",
         ],
         (
             "t uid 0 gid 0 label biba/5(low-high),lomac/high",
-            ["open /notes rw", "fwrite 0 new", "fread 0", "setfmac biba/low /notes", "fread 0"]
-            + ["fork c", "@c fread 0", *["open /notes w"] * 16, "close 3", "open /notes w"]
-            + ["setfmac biba/5 /notes", "fread 0", "@c setpmac biba/5", "@c open /notes r"]
-            + ["unlink /notes", "fread 0", "@c close 0", "exit"],
+            ["open /d/notes rw", "fwrite 0 new", "fread 0", "setfmac biba/low /d/notes"]
+            + ["fread 0", "fork c", "@c fread 0", *["open /d/notes w"] * 16, "close 3"]
+            + ["open /d/notes w", "setfmac biba/5 /d/notes", "fread 0", "@c setpmac biba/5"]
+            + ["@c open /d/notes r", "unlink /d/notes", "fread 0", "@c close 0", "exit"],
         ),
     ),
     "an ordinary machine": script_of(
@@ -115,14 +116,14 @@ def sinking(lines):
 
 def openers(lines):
     """Sixteen tasks that have the same files open, relabel them, and remove them from each other."""
-    kinds = ["open /f{file} rw", "fread {number}", "fwrite {number} x", "setfmac biba/{grade} /f{file}"]
-    kinds += ["open /f{file} r", "close {number}", "unlink /f{file}", "create /f{file}"]
+    kinds = ["open /d/f{file} rw", "fread {number}", "fwrite {number} x"]
+    kinds += ["setfmac biba/{grade} /d/f{file}", "open /d/f{file} r", "close {number}"]
+    kinds += ["unlink /d/f{file}", "create /d/f{file}"]
     call = lambda task, place: kinds[(3 * task + place) % len(kinds)].format(
         file=(task + place // len(kinds)) % 4, number=place % 3, grade=10 + task % 3
     )
-    files = [f"file /f{file} reg uid 0 gid 0 mode 644 label biba/10 text hi" for file in range(4)]
-    tasks = [
-        (f"t{task} uid 0 gid 0 label biba/{10 + task % 3}", [call(task, place) for place in range(lines)])
-        for task in range(TASKS)
-    ]
+    files = ["file /d dir uid 0 gid 0 mode 755 label biba/equal"]
+    files += [f"file /d/f{n} reg uid 0 gid 0 mode 644 label biba/10 text hi" for n in range(4)]
+    own = lambda task: f"t{task} uid 0 gid 0 label biba/{10 + task % 3}"
+    tasks = [(own(task), [call(task, place) for place in range(lines)]) for task in range(TASKS)]
     return script_of(["boot mac_biba", "boot mac_lomac", *files], *tasks)
