@@ -15,9 +15,10 @@ LABELLING = (*LATTICES, PARTITION)
 # The step of a line whose first word is another.
 STEPS = {"stale": "done", "changed": "change", "waits": "change"}
 
-# A check with its subject and object, and with their labels and attributes as they were then. The object may be None. Whether it is stale: made
-# through a descriptor, without revocation, where the process or the file has another element of mac_biba than at the opening.
-Check = namedtuple("Check", "operation subject object subject_label object_label file is_stale")
+# A check with its subject and object, and with their labels and attributes as they were then. The object may be None. It is uncounted
+# where it isn't one of mac_biba's movements: made through a descriptor, without revocation, while the process or the file has another element of
+# mac_biba than at the opening.
+Check = namedtuple("Check", "operation subject object subject_label object_label file is_uncounted")
 # What a line of a history tells: its event; the number of the line of the script that it is about, or None; the call, or None; the process
 # that made the call, or None; its checks, up to the one that was denied; the denial, or None; the label slots, by module, as they were
 # then; what the call made; and what it relabelled, with what was asked.
@@ -95,7 +96,7 @@ class Replay:
         observes = operation in TO_SUBJECT or operation in BOTH_WAYS
         return lowered(self.slots, label, found.label) if observes else label
 
-    def is_stale(self, call, caller):
+    def is_uncounted(self, call, caller):
         """Whether the transfer of a call isn't counted for mac_biba."""
         if call.words[0] not in THROUGH or self.script.revocation:
             return False
@@ -108,7 +109,7 @@ class Replay:
         for operation, subject, found in checks_of(self.things, caller, call.words, reply):
             file = found.facts if found is not None and found.kind == "vnode" else None
             own = label if subject is caller else subject.label
-            checks.append(Check(operation, subject, found, own, found and found.label, file, self.is_stale(call, caller)))
+            checks.append(Check(operation, subject, found, own, found and found.label, file, self.is_uncounted(call, caller)))
             label = self.after_check(label, operation, found)
         return checks
 
