@@ -1,7 +1,7 @@
 #!/bin/sh
 # Runs each script of examples/, and holds tools/flows to what is printed: the sources that its flows come to are the lines of sources. Then
-# the same of a script in which each operation that moves information is told by the sources alone, and of one in which so is each that lowers
-# under mac_lomac; what it draws and tells of one example; and that it says what is wrong with an input, and prints nothing of it. A line for
+# the same of a script in which each operation that moves information is told by the sources alone, of one in which so is each that lowers
+# under mac_lomac, and of those that move through descriptors, with revocation and without; what it draws and tells of one example; and that it says what is wrong with an input, and prints nothing of it. A line for
 # each failure, then a count.
 . "$(dirname "$0")/counting"
 
@@ -150,6 +150,70 @@ end
 END
 has_its_sources "$folder/lowered.macsim"
 count $? "the flows of processes that are lowered come to other sources than are printed"
+
+# Through descriptors that outlive a relabel of the file, of the process, of both, and one that is taken back; each file has a grade of its own,
+# and so has what is written to. Under mac_mls each transfer that passes counts; under mac_biba with revocation some are denied.
+cat >"$folder/outlived.macsim" <<'END'
+boot mac_biba
+boot mac_mls
+file /file reg uid 0 gid 0 mode 644 label biba/11,mls/11
+file /own reg uid 0 gid 0 mode 644 label biba/12,mls/12
+file /both reg uid 0 gid 0 mode 644 label biba/13,mls/13
+file /back reg uid 0 gid 0 mode 644 label biba/14,mls/14
+file /kept reg uid 0 gid 0 mode 644 label biba/15,mls/15
+file /written reg uid 0 gid 0 mode 644 label biba/2,mls/31
+file /lower reg uid 0 gid 0 mode 644 label biba/3,mls/32
+file /d dir uid 0 gid 0 mode 755 label biba/9,mls/30
+file /d/gone reg uid 0 gid 0 mode 644 label biba/9,mls/30
+task t uid 0 gid 0 label biba/9,mls/30
+fork a
+@a open /file r
+setfmac biba/10 /file
+@a fread 0
+@a pipe file
+fork b
+@b open /own r
+@b setpmac biba/8
+@b fread 0
+@b pipe own
+fork c
+@c open /both r
+@c setpmac mls/29
+setfmac biba/7 /both
+@c fread 0
+@c pipe both
+fork d
+@d open /back r
+setfmac biba/9 /back
+@d setpmac biba/7
+setfmac biba/14 /back
+@d setpmac biba/9
+@d fread 0
+@d pipe back
+fork e
+@e open /kept r
+@e open /written w
+@e open /lower w
+@e fread 0
+setfmac biba/1 /written
+@e fwrite 1 x
+@e fwrite 2 x
+@e close 2
+@e fwrite 2 x
+@e pipe kept
+fork f
+@f open /d/gone r
+unlink /d/gone
+@f fread 0
+@f open /kept r
+@f exit
+end
+END
+has_its_sources "$folder/outlived.macsim"
+count $? "the flows through descriptors come to other sources than are printed"
+sed 's/^boot mac_mls/&\ntunable security.mac.biba.revocation_enabled=1/' "$folder/outlived.macsim" >"$folder/revoked.macsim"
+has_its_sources "$folder/revoked.macsim"
+count $? "the flows through descriptors, with revocation, come to other sources than are printed"
 
 script=examples/19-through-a-process.macsim
 run "$script"

@@ -1,7 +1,8 @@
 #!/usr/bin/env python3
 """That docs/MANUAL.md says of each line and each call what words it has, as the pieces of mf_spelling do.
 
-The first column of the tables of calls is compared with `call_pieces`, and the grammar of boot, file, task and step lines with their pieces.
+The first column of the tables of calls is compared with `call_pieces`, and the grammar of boot, tunable, file, task and step lines with their
+pieces.
 What a word of a call may be is taken from `IsFormedCall` of mf_calls: the manual has another name for each.
 """
 import re
@@ -19,8 +20,10 @@ PIECES = [
     (r"Word \(if .*\)", "KIND"),
     (r"Word \(module_text .*\)", "MODULE"),
     (r"Word \(privilege_text .*\)", "PRIVILEGE"),
+    (r"Word \(open_mode .*\)", "MODE"),
     (r"Word \w\.(?:name|task)", "NAME"),
     (r"path .*", "PATH"),
+    (r"Decimal \(MOST_DESCRIPTORS - 1\) .*", "FD"),
     (r"Decimal .*", "N"),
     (r"Octal .*", "OCTAL"),
     (r"Groups .*", "GROUPS"),
@@ -52,7 +55,7 @@ def lines():
     """Each kind of line, as the grammar of the manual has it."""
     kinds = re.findall(r'(?m)^step_word step\.\w+ = codes "(\w+)"', SPELLING)
     step = "( " + " | ".join(f'"{kind}"' for kind in kinds) + " )"
-    for kind in ("boot", "file", "task", "step"):
+    for kind in ("boot", "tunable", "file", "task", "step"):
         words = [named(piece) for piece in pieces_of(f"{kind}_pieces") if piece != "[]"]
         yield kind, " ".join(step if "step_word" in word else word for word in words)
 

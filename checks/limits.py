@@ -2,6 +2,8 @@
 says: nothing, or the fault.
 """
 
+from scripts import TUNABLE
+
 TASK = "task t uid 0 gid 0 label -\n"
 
 
@@ -62,7 +64,9 @@ NUMBERS = [
     ("grades of mac_lomac", lambda n: labelled("lomac", n), 65535, "2 fault 6 BadLabel"),
     ("compartments", lambda n: labelled("mls", f"1:{n}"), 256, "2 fault 6 BadLabel"),
     ("partitions", lambda n: labelled("partition", n), 2**31 - 1, "2 fault 6 BadLabel"),
+    ("numbers of descriptors", lambda n: in_task(f"close {n}"), 15, "2 fault 5 BadNumber"),
     ("boot lines", lambda n: "boot mac_biba\n" * n, 1, "2 fault 12 BootRefused EEXIST"),
+    ("tunable lines", lambda n: "boot mac_biba\n" + f"{TUNABLE}\n" * n, 1, "3 fault 9 Duplicate"),
 ]
 # Bytes that a script may hold, and next to each one that it may not.
 BYTES = [

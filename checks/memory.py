@@ -1,4 +1,4 @@
-"""Refuses the program one allocation after another, in a run of its own each: over three worked
+"""Refuses the program one allocation after another, in a run of its own each: over four worked
 scripts, a load and the examples. A run that is refused an allocation ends with 0 and what is right
 for its script, or with 9 and no part of a history; the first thirteen, in which `main` makes the words
 and the modules, end with 9. The tests of refused growths are run so too, with each refused: they

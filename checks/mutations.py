@@ -14,7 +14,7 @@ from collections import Counter
 from judging import ROOT, told_of
 from limits import limits
 from running import Program
-from scripts import WORKED
+from scripts import TUNABLE, WORKED
 from smallest import smallest
 
 SEED = 37
@@ -37,6 +37,8 @@ WORDS = [
     *(b"/" + b"c" * 32, b"/" + b"c" * 33, b"/c" * 8, b"/c" * 9, b"other/x", b"biba/low,", b"mls/"),
     *(b"biba/65535", b"biba/65536", b"biba/5:256", b"biba/5:257", b"biba/5:0", b"biba/(1-2"),
     *(b"partition/2147483647", b"partition/2147483648"),
+    *(b"open /notes rw", b"fread 0", b"fwrite 0 x", b"close 0", b"r", b"rw", b"wr", b"15", b"16"),
+    *(b"tunable", TUNABLE.encode(), b"security.mac.biba.revocation_enabled=2"),
     *(b"mac_lomac", b"lomac/5", b"lomac/5:1", b"lomac/(1-2)", b"lomac/"),
 ]
 

@@ -1,5 +1,5 @@
 """Scripts that several checks run: worked ones, by name, and loads of tasks that change the list of
-policies or a setting, or that mac_lomac lowers."""
+policies or a setting, that mac_lomac lowers, or that have files open."""
 
 
 def script_of(front, *tasks):
@@ -12,6 +12,7 @@ def script_of(front, *tasks):
 
 ADD = "ugidfw add subject uid 5 object mode n"
 REMOVE = "ugidfw remove 0"
+TUNABLE = "tunable security.mac.biba.revocation_enabled=1"
 WORKED = {
     "a late partition": script_of(
         ["boot mac_biba"],
@@ -26,6 +27,22 @@ WORKED = {
     "a full rule list": script_of(
         ["boot mac_bsdextended"],
         ("t uid 0 gid 0 label -", [*[ADD] * 251, REMOVE, REMOVE, ADD]),
+    ),
+    "open files": script_of(
+        [
+            "boot mac_biba",
+            "boot mac_lomac",
+            TUNABLE,
+            "file /d dir uid 0 gid 0 mode 755 label biba/5,lomac/5",
+            "file /d/notes reg uid 0 gid 0 mode 644 label biba/5,lomac/5 text old",
+        ],
+        (
+            "t uid 0 gid 0 label biba/5(low-high),lomac/high",
+            ["open /d/notes rw", "fwrite 0 new", "fread 0", "setfmac biba/low /d/notes"]
+            + ["fread 0", "fork c", "@c fread 0", *["open /d/notes w"] * 16, "close 3"]
+            + ["open /d/notes w", "setfmac biba/5 /d/notes", "fread 0", "@c setpmac biba/5"]
+            + ["@c open /d/notes r", "unlink /d/notes", "fread 0", "@c close 0", "exit"],
+        ),
     ),
     "an ordinary machine": script_of(
         [
@@ -95,3 +112,18 @@ def sinking(lines):
         for task in range(TASKS)
     ]
     return script_of(["boot mac_lomac", *files], *tasks)
+
+
+def openers(lines):
+    """Sixteen tasks that have the same files open, relabel them, and remove them from each other."""
+    kinds = ["open /d/f{file} rw", "fread {number}", "fwrite {number} x"]
+    kinds += ["setfmac biba/{grade} /d/f{file}", "open /d/f{file} r", "close {number}"]
+    kinds += ["unlink /d/f{file}", "create /d/f{file}"]
+    call = lambda task, place: kinds[(3 * task + place) % len(kinds)].format(
+        file=(task + place // len(kinds)) % 4, number=place % 3, grade=10 + task % 3
+    )
+    files = ["file /d dir uid 0 gid 0 mode 755 label biba/equal"]
+    files += [f"file /d/f{n} reg uid 0 gid 0 mode 644 label biba/10 text hi" for n in range(4)]
+    own = lambda task: f"t{task} uid 0 gid 0 label biba/{10 + task % 3}"
+    tasks = [(own(task), [call(task, place) for place in range(lines)]) for task in range(TASKS)]
+    return script_of(["boot mac_biba", "boot mac_lomac", *files], *tasks)

@@ -1,7 +1,7 @@
-"""Runs scripts of sixteen tasks that load, unload and change, or that mac_lomac lowers, on one, two
-and four processors, where some or all threads can't be made, and where memory is refused.
-Each history is followed by the tools and made again by its steps, and no label slot is given twice.
-A line for each kind of run, then a count.
+"""Runs scripts of sixteen tasks that load, unload and change, that mac_lomac lowers, or that have
+files open, on one, two and four processors, where some or all threads can't be made, and where
+memory is refused. Each history is followed by the tools and made again by its steps, and no label
+slot is given twice. A line for each kind of run, then a count.
 
     checks/threads.sh [--every N] [--from K] [--all]
 """
@@ -19,6 +19,7 @@ RUNS = 3
 CHANGES = 200
 MIXED_LINES = 40
 SINKING_LINES = 12
+OPENING_LINES = 16
 # The module that comes late finds these slots: mac_biba has 0.
 LATE_SLOTS = ["1", "2", "3"]
 
@@ -45,6 +46,7 @@ class Runs:
             Work("changing", program, scripts.changers(CHANGES).encode()),
             Work("waiting", program, scripts.mixed(MIXED_LINES).encode()),
             Work("sinking", program, scripts.sinking(SINKING_LINES).encode()),
+            Work("opening", program, scripts.openers(OPENING_LINES).encode()),
         ]
         self.passed = self.failed = 0
 

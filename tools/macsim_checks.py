@@ -2,8 +2,11 @@
 check that passes, by the table of operations (POLICIES). Nothing of it is proved.
 
 Each check is its operation, its subject and its object, which may be None. The framework's tests end a call between two checks only where
-something isn't there or isn't a directory, and where a label text or a module isn't known, which the reply tells.
+something isn't there or isn't a directory, where a descriptor isn't open for what the call does, and where a label text or a module isn't
+known, which the reply tells.
 """
+from macsim_text import number_of
+
 TO_SUBJECT = set("vnode_lookup vnode_readdir vnode_open_read vnode_read vnode_exec vnode_stat pipe_read pipe_stat socket_receive".split())
 TO_OBJECT = set(
     "vnode_open_write vnode_write vnode_create vnode_unlink_dir vnode_unlink vnode_setmode pipe_write socket_send socket_deliver"
@@ -29,6 +32,7 @@ PLACED = {
     "exec": (1, False, ["vnode_exec"]),
     "read": (1, False, ["vnode_open_read", "vnode_read"]),
     "write": (1, False, ["vnode_open_write", "vnode_write"]),
+    "open": (1, False, ["vnode_open_read", "vnode_open_write"]),
     "stat": (1, None, ["vnode_stat"]),
     "getfmac": (1, None, ["vnode_stat"]),
     "setfmac": (2, None, ["vnode_relabel"]),
@@ -36,12 +40,17 @@ PLACED = {
     "chmod": (1, None, ["vnode_setmode"]),
 }
 CREATING = ("create", "mkdir")
+# The letter of its last word by which `open` asks an operation; and what calls ask through a descriptor, with the letter that it must have been
+# opened by.
+OPENING = {"vnode_open_read": "r", "vnode_open_write": "w"}
+THROUGH = {"fread": ("r", "vnode_read"), "fwrite": ("w", "vnode_write")}
 WITHOUT_OBJECT = {"setpmac": ["cred_relabel"], "priv": ["priv"], "kldload": ["priv", "kld_load"], "kldunload": ["priv", "kld_unload"]}
 # The place of the label text among the words.
 RELABELS = {"setpmac": 1, "setfmac": 1, "setpipemac": 1, "setsockmac": 1}
 # What the reply to a call begins with that is done, where it isn't `ok` alone.
 PAYLOADS = {
-    **dict.fromkeys(("read", "pread", "recv"), "ok bytes"),
+    **dict.fromkeys(("read", "fread", "pread", "recv"), "ok bytes"),
+    "open": "ok fd",
     **dict.fromkeys(("getpmac", "getfmac"), "ok label"),
     "stat": "ok stat",
     "pstat": "ok size",
@@ -74,13 +83,19 @@ def asked_at_end(walk, words):
     _, wants_directory, operations = PLACED[words[0]]
     if walk.found is None or wants_directory not in (None, walk.found.facts.is_directory):
         return []
-    return [(operation, walk.found) for operation in operations]
+    return [(operation, walk.found) for operation in operations if words[0] != "open" or OPENING[operation] in words[2]]
 
 
 def checks_along(things, caller, words):
     walk = things.walk(words[PLACED[words[0]][0] if words[0] in PLACED else 1])
     asked = [("vnode_lookup", directory) for directory in walk.lookups] + asked_at_end(walk, words)
     return [(operation, caller, found) for operation, found in asked]
+
+
+def checks_through_descriptor(caller, words):
+    letter, operation = THROUGH[words[0]]
+    descriptor = caller.descriptors.get(number_of(words[1]))
+    return [] if descriptor is None or letter not in descriptor.mode else [(operation, caller, descriptor.file)]
 
 
 def checks_of_send(things, caller, words):
@@ -108,6 +123,8 @@ def checks_of(things, caller, words, reply):
         return []
     if words[0] == "send":
         return checks_of_send(things, caller, words)
+    if words[0] in THROUGH:
+        return checks_through_descriptor(caller, words)
     if words[0] in PLACED or words[0] in CREATING or words[0] == "unlink":
         return checks_along(things, caller, words)
     if words[0] in NAMED:

@@ -79,6 +79,12 @@ def replaced(old, asked):
     return Levels(asked.effective or old.effective, asked.range or old.range)
 
 
+def element_in(label, slot):
+    """The effective element in a slot, or None."""
+    value = label.get(slot)
+    return value and value.effective
+
+
 def labels_kind(module, kind):
     return module in LATTICES or (module == PARTITION and kind in ("proc", "socket"))
 

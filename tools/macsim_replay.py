@@ -3,19 +3,22 @@ things. Nothing of it is proved. A history that doesn't fit the script is BadInp
 """
 from collections import namedtuple
 
-from macsim_checks import BOTH_WAYS, CREATING, RELABELS, TO_SUBJECT, checks_of, is_change, is_reply_to
+from macsim_checks import BOTH_WAYS, CREATING, RELABELS, THROUGH, TO_SUBJECT, checks_of, is_change, is_reply_to
 from macsim_kernel import Kernel
-from macsim_labels import LATTICES, PARTITION, WITH_SOURCES, boot_label, lowered, new_label, relabelled, request_of
-from macsim_text import BadInput, denial_of
-from macsim_things import Credential, FileFacts, Thing, Things
+from macsim_labels import BIBA, LATTICES, PARTITION, WITH_SOURCES, boot_label, element_in, lowered, new_label, relabelled, request_of
+from macsim_text import BadInput, denial_of, number_of
+from macsim_things import Credential, Descriptor, FileFacts, Thing, Things
 
+MOST_DESCRIPTORS = 16
 MODES = {"create": 0o644, "mkdir": 0o755}
 LABELLING = (*LATTICES, PARTITION)
 # The step of a line whose first word is another.
 STEPS = {"stale": "done", "changed": "change", "waits": "change"}
 
-# A check with its subject and object, and with their labels and attributes as they were then. The object may be None.
-Check = namedtuple("Check", "operation subject object subject_label object_label file")
+# A check with its subject and object, and with their labels and attributes as they were then. The object may be None. It is uncounted
+# where it isn't one of mac_biba's movements: made through a descriptor, without revocation, while the process or the file has another element of
+# mac_biba than at the opening.
+Check = namedtuple("Check", "operation subject object subject_label object_label file is_uncounted")
 # What a line of a history tells: its event; the number of the line of the script that it is about, or None; the call, or None; the process
 # that made the call, or None; its checks, up to the one that was denied; the denial, or None; the label slots, by module, as they were
 # then; what the call made; and what it relabelled, with what was asked.
@@ -93,13 +96,20 @@ class Replay:
         observes = operation in TO_SUBJECT or operation in BOTH_WAYS
         return lowered(self.slots, label, found.label) if observes else label
 
+    def is_uncounted(self, call, caller):
+        """Whether the transfer of a call isn't counted for mac_biba."""
+        if call.words[0] not in THROUGH or self.script.revocation:
+            return False
+        opened, slot = caller.descriptors[number_of(call.words[1])], self.slots.get(BIBA)
+        return (element_in(caller.label, slot), element_in(opened.file.label, slot)) != (opened.subject, opened.object)
+
     def checks_in_turn(self, call, caller, reply):
         """The checks of a call, each with the process that calls as those before it lower it. What they are about is as it was."""
         checks, label = [], caller and caller.label
         for operation, subject, found in checks_of(self.things, caller, call.words, reply):
             file = found.facts if found is not None and found.kind == "vnode" else None
             own = label if subject is caller else subject.label
-            checks.append(Check(operation, subject, found, own, found and found.label, file))
+            checks.append(Check(operation, subject, found, own, found and found.label, file, self.is_uncounted(call, caller)))
             label = self.after_check(label, operation, found)
         return checks
 
@@ -140,6 +150,10 @@ class Replay:
             return self.make(event, call, caller), None
         if name in ("exit", "unlink"):
             self.remove(call, caller)
+        if name == "open":
+            self.open_descriptor(event, call, caller)
+        if name == "close":
+            self.close_descriptor(call, caller)
         if name == "chmod":
             file = self.found(call, self.things.walk(call.words[1]).found)
             file.facts = file.facts._replace(mode=int(call.words[2], 8))
@@ -188,6 +202,17 @@ class Replay:
             raise Mismatch(f"line {call.number} `{call.text}`: {thing.title} is there already")
         self.things.add(thing)
         return thing
+
+    def open_descriptor(self, event, call, caller):
+        file, slot = self.found(call, self.things.walk(call.words[1]).found), self.slots.get(BIBA)
+        number = next((number for number in range(MOST_DESCRIPTORS) if number not in caller.descriptors), None)
+        if number is None or event.reply != f"ok fd {number}":
+            raise Mismatch(f"line {call.number} `{call.text}` gets another descriptor")
+        caller.descriptors[number] = Descriptor(file, call.words[2], element_in(caller.label, slot), element_in(file.label, slot))
+
+    def close_descriptor(self, call, caller):
+        if caller.descriptors.pop(number_of(call.words[1]), None) is None:
+            raise Mismatch(f"line {call.number} `{call.text}` is about what isn't open")
 
     def remove(self, call, caller):
         if call.words[0] == "exit":

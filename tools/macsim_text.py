@@ -7,8 +7,8 @@ import re
 from collections import namedtuple
 
 # A script. Each of its parts has the number of its line, from 1; `lines` are all lines as they stand there, comments too. `steps` is None
-# where the script has no such part, `files` and `tasks` are by path and by name.
-Script = namedtuple("Script", "name lines boots files tasks steps")
+# where the script has no such part, `files` and `tasks` are by path and by name. `revocation` is the value of the tunable, None without its line.
+Script = namedtuple("Script", "name lines boots revocation files tasks steps")
 Boot = namedtuple("Boot", "number module")
 File = namedtuple("File", "number path is_directory uid gid mode label")
 Task = namedtuple("Task", "number name uid groups label calls")
@@ -69,6 +69,8 @@ WORDS = {
     "MODULE": "mac_biba|mac_mls|mac_lomac|mac_partition|mac_bsdextended|mac_priority",
     "PRIVILEGE": "KLD_LOAD|KLD_UNLOAD|MAC_PARTITION|SCHED_RTPRIO|SCHED_IDPRIO",
     "NAME=VALUE": "[^=]*=.*",
+    "MODE": "r|w|rw",
+    "FD": "0*(?:[0-9]|1[0-5])",
     "TEXT": r"(?:[^\\]|\\[0-9A-Fa-f]{2})+",
 }
 CALLS = {
@@ -80,6 +82,10 @@ CALLS = {
     "priv": "PRIVILEGE",
     "setpmac": "LABEL",
     "write": "PATH TEXT",
+    "open": "PATH MODE",
+    "fread": "FD",
+    "fwrite": "FD TEXT",
+    "close": "FD",
     "setfmac": "LABEL PATH",
     "chmod": "PATH OCTAL",
     "pwrite": "NAME TEXT",
@@ -90,6 +96,9 @@ CALLS = {
 }
 UGIDFW = {"list": "", "add": "", "set": "N", "remove": "N"}
 STEPS = ("enter", "plan", "done", "leave", "change")
+# The only tunable, the module that has it, and its values.
+TUNABLE, TUNED = "security.mac.biba.revocation_enabled", "mac_biba"
+SWITCH = {"0": False, "1": True}
 
 
 def is_word(word, want):
@@ -136,7 +145,7 @@ class ScriptReader:
     """Reads the lines of a script one after another."""
 
     def __init__(self, name, lines):
-        self.script = Script(name, lines, [], {}, {}, None)
+        self.script = Script(name, lines, [], None, {}, {}, None)
         # The part that is read, and the task whose lines are.
         self.part, self.task = "boot", None
 
@@ -145,6 +154,17 @@ class ScriptReader:
         if words[1] in (boot.module for boot in self.script.boots):
             raise Fault(f"{words[1]} is booted already")
         self.script.boots.append(Boot(number, words[1]))
+
+    def read_tunable(self, number, words):
+        match_words(words[1:], "NAME=VALUE")
+        name, _, value = words[1].partition("=")
+        if name != TUNABLE or TUNED not in (boot.module for boot in self.script.boots):
+            raise Fault(f"there is no tunable {name} of a module that is booted")
+        if value not in SWITCH:
+            raise Fault(f"`{value}` is neither 0 nor 1")
+        if self.script.revocation is not None:
+            raise Fault(f"{name} is set already")
+        self.script = self.script._replace(revocation=SWITCH[value])
 
     def read_file(self, number, words):
         has_text = len(words) > 11 and words[2] == "reg"
@@ -187,7 +207,7 @@ class ScriptReader:
 
     def read_part(self, number, words):
         """Reads a line outside tasks and steps. The parts stand in this order."""
-        parts = ("boot", "file", "task", "steps")
+        parts = ("boot", "tunable", "file", "task", "steps")
         if words[0] not in parts or self.part not in parts[: parts.index(words[0]) + 1]:
             raise Fault(f"`{words[0]}` may not stand here")
         self.part = words[0]
@@ -195,7 +215,8 @@ class ScriptReader:
             match_words(words[1:], "")
             self.script = self.script._replace(steps=[])
         else:
-            {"boot": self.read_boot, "file": self.read_file, "task": self.read_task}[words[0]](number, words)
+            readers = {"boot": self.read_boot, "tunable": self.read_tunable, "file": self.read_file, "task": self.read_task}
+            readers[words[0]](number, words)
 
     def read_line(self, number, line):
         if re.search(r"[^\t -~]", line):

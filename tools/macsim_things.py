@@ -1,6 +1,8 @@
 """Processes, files, directories, pipes and sockets, and how names and paths lead to them, by docs/MANUAL.md (CALLS). Nothing of it is proved."""
 from collections import namedtuple
 
+# An open file of a process: the word by which it was opened, and the elements that the process and the file had then by mac_biba, or None.
+Descriptor = namedtuple("Descriptor", "file mode subject object")
 FileFacts = namedtuple("FileFacts", "uid gid mode is_directory")
 Credential = namedtuple("Credential", "uid groups")
 # Where a path leads: the directories in which its components are looked up, the last of them, and what is there. The directory is None for
@@ -19,6 +21,8 @@ class Thing:
         self.holder = holder
         # FileFacts of a file or directory, the Credential of a process.
         self.facts = facts
+        # The descriptors of a process, by number.
+        self.descriptors = {}
         self.title = f"{kind}:{name if kind != 'vnode' else self.path() or '/'}"
 
     def path(self):
@@ -42,7 +46,10 @@ class Things:
         self.by_key[thing.key()] = thing
 
     def remove(self, thing):
+        """Removes a thing, and closes all descriptors on it."""
         del self.by_key[thing.key()]
+        for other in self:
+            other.descriptors = {number: opened for number, opened in other.descriptors.items() if opened.file is not thing}
 
     def named(self, kind, name):
         return self.by_key.get((kind, None, name))
