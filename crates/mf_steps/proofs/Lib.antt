@@ -4,3 +4,4 @@ pub mod Loop
 pub mod Legality
 pub mod OneWay
 pub mod Left
+pub mod Doing

@@ -1,5 +1,5 @@
 //! A core with the plans that its steps keep.
-ghost use Rattle.std.specs.Prelude.{◌≡◌, ◌<◌, [], All, length, map, IfOk, OnOk, IsTrue, ◌↔◌, string_bytes};
+ghost use Rattle.std.specs.Prelude.{◌≡◌, ◌<◌, ◌++◌, [], All, length, map, IfOk, OnOk, IsTrue, ◌↔◌, string_bytes};
 ghost use Rattle.mf_policy.specs.Modules.{module_of};
 ghost use Rattle.mf_list.specs.Fresh.{IsFresh};
 ghost use Rattle.mf_calls.specs.declared.script.StepKind.TheVariants as step;
@@ -7,7 +7,7 @@ ghost use Rattle.mf_calls.specs.WellFormed.{IsWellFormed};
 ghost use Rattle.mf_core.specs.AllModules.{AreAllModules};
 ghost use Rattle.mf_steps.specs.Answers.{DoesStep, PrintsLast, StepsOrNot};
 ghost use Rattle.mf_steps.specs.StepRun.{step_opening};
-ghost use Rattle.mf_steps.specs.Steps.{Does, IsInTurn};
+ghost use Rattle.mf_steps.specs.Steps.{Does, IsInTurn, stale_text, waits_text};
 
 use crate::kept::{KeptPlan, KeptPlans};
 use mf_calls::{Script, Step, StepKind};
@@ -186,10 +186,7 @@ impl<'s, P: Policy> Stepper<'s, P> {
                 let events = self.core.history().events.as_slice();
                 print_last(self.script, events, out)
             }
-            Commit::Stale => {
-                let name = self.script.name_of(task);
-                write!(out, "stale {name}\n")
-            }
+            Commit::Stale => print_stale(self.script, task, out),
         }
     }
 
@@ -222,10 +219,7 @@ impl<'s, P: Policy> Stepper<'s, P> {
                 let events = self.core.history().events.as_slice();
                 print_last(self.script, events, out)
             }
-            ChangeOutcome::Waits(entries) => {
-                let name = self.script.name_of(task);
-                write!(out, "waits {name} {entries}\n")
-            }
+            ChangeOutcome::Waits(entries) => print_waits(self.script, task, entries, out),
         }
     }
 }
@@ -239,4 +233,22 @@ fn print_last(script: &Script, events: &[Event], out: &mut String) -> Result<(),
         None => Ok(()),
         Some(event) => print_event(script, event, out),
     }
+}
+
+/// Appends the line of a call that can't be done by the plan that was kept.
+fn print_stale(script: &Script, task: u32, out: &mut String) -> Result<(), AllocError>
+    ensures { OnOk result (string_bytes out.new
+        ≡ string_bytes out.old ++ stale_text script.now task) }
+{
+    let name = script.name_of(task);
+    write!(out, "stale {name}\n")
+}
+
+/// Appends the line of a change that waits for that many entries.
+fn print_waits(script: &Script, task: u32, entries: u32, out: &mut String) -> Result<(), AllocError>
+    ensures { OnOk result (string_bytes out.new
+        ≡ string_bytes out.old ++ waits_text script.now task entries) }
+{
+    let name = script.name_of(task);
+    write!(out, "waits {name} {entries}\n")
 }
