@@ -10,7 +10,7 @@ ghost use Rattle.mf_perform.specs.OneCall.{call_reply};
 ghost use Rattle.mf_perform.specs.Refused.{is_ok};
 ghost use Rattle.mf_perform.specs.Verdict.{verdict_of};
 
-use crate::scripts::{only_line, script_of};
+use crate::scripts::{only_line, script_of, wants};
 use mf_biba::Biba;
 use mf_calls::Line;
 use mf_cred::Cred;
@@ -20,8 +20,8 @@ use mf_item::Kind;
 use mf_list::{Catalogue, Fixed, Listed, PolicyList};
 use mf_objects::Objects;
 use mf_perform::{Verdict, complete, payload_of, refusal_of, verdict_of};
-use mf_plan::{Found, Plan, Reply, State};
-use mf_policy::{Origin, Policy, Registration, Spec, SpecList, new_label};
+use mf_plan::{Found, Payload, Plan, Reply, State};
+use mf_policy::{Change, Origin, Policy, Registration, Spec, SpecList, new_label};
 use mf_slots::SlotNumbers;
 use std::alloc::{AllocError, Global};
 use std::process::Abort;
@@ -58,7 +58,7 @@ pub fn add_process(
     Ok(())
 }
 
-/// The static list with Biba, and a dynamic one with nothing.
+/// The static list with Biba, fresh, and a dynamic one with nothing.
 #[tactic(auto, using(mf_list::proofs::Counts::once_if_distinct))]
 fn lists_of_biba(alloc: Global) -> Result<(Fixed<Biba>, PolicyList<Biba>), AllocError> {
     let mut fixed = Fixed::new(alloc)?;
@@ -82,8 +82,8 @@ pub fn with_module(alloc: Global, module: Module, spec: Spec) -> Result<SpecList
 }
 
 /// The specs where Biba is listed.
-fn with_biba(alloc: Global) -> Result<SpecList, AllocError> {
-    with_module(alloc, Module::Biba, Spec::Biba)
+fn with_biba(alloc: Global, revocation: bool) -> Result<SpecList, AllocError> {
+    with_module(alloc, Module::Biba, Spec::Biba { revocation })
 }
 
 /// The processes t and u, with these elements.
@@ -101,12 +101,21 @@ fn booted(rt: &impl Abort, alloc: Global, t: Elem, u: Elem) -> Result<Machine<Bi
     let _number = numbers.take();
     let state = State {
         objects: population(rt, alloc, t, u)?,
-        specs: with_biba(alloc)?,
+        specs: with_biba(alloc, false)?,
         numbers,
         booted: true,
     };
     let (fixed, list) = lists_of_biba(alloc)?;
     Ok(Machine { state, fixed, list })
+}
+
+/// Turns revocation on, in the list and in the state.
+fn revoke(alloc: Global, machine: &mut Machine<Biba>) -> Result<(), AllocError> {
+    let _changed = machine
+        .fixed
+        .set(alloc, Module::Biba, &Change::Revocation(true))?;
+    machine.state.specs = with_biba(alloc, true)?;
+    Ok(())
 }
 
 /// The reply to the call of a line, by its plan and the verdict on it.
@@ -162,6 +171,7 @@ fn reply_of<P: Policy>(
 
 fn reply_text(alloc: Global, reply: &Reply) -> Result<String, AllocError> {
     match reply {
+        Reply::Ok(Payload::Fd(number)) => format!(in alloc; "ok fd {number}"),
         Reply::Ok(_) => String::from_str(alloc, "ok"),
         Reply::Refused(errno) => String::from_str(alloc, errno.name()),
         Reply::Denied {
@@ -173,8 +183,23 @@ fn reply_text(alloc: Global, reply: &Reply) -> Result<String, AllocError> {
     }
 }
 
-/// The reply to a call that is written as a script's line.
+/// The text of the reply to the call of the line.
 fn said<P: Policy>(
+    rt: &impl Abort,
+    alloc: Global,
+    machine: &mut Machine<P>,
+    task: &str,
+    line: &Line,
+) -> Result<String, AllocError>
+    requires task { IsName task.now }
+    requires line { IsFormedLine line.now }
+{
+    let reply = reply_of(rt, alloc, machine, task, line)?;
+    reply_text(alloc, &reply)
+}
+
+/// The text of the reply to a call that is written as a script's line.
+fn said_to<P: Policy>(
     rt: &impl Abort,
     alloc: Global,
     machine: &mut Machine<P>,
@@ -182,8 +207,7 @@ fn said<P: Policy>(
 ) -> Result<String, AllocError> {
     let script = script_of(rt, alloc, text)?;
     let (task, line) = only_line(rt, &script);
-    let reply = reply_of(rt, alloc, machine, task, line)?;
-    reply_text(alloc, &reply)
+    said(rt, alloc, machine, task, line)
 }
 
 /// Does the calls, each with its reply.
@@ -194,26 +218,19 @@ pub fn run<P: Policy>(
     rows: &[(&str, &str)],
 ) -> Result<(), AllocError> {
     for (line, wanted) in rows {
-        let reply = said(rt, alloc, machine, line)?;
-        assert_eq!(rt; reply.as_str(), *wanted, "{line}");
+        let reply = said_to(rt, alloc, machine, line)?;
+        wants(rt, line, reply.as_str() == *wanted);
     }
     Ok(())
 }
 
-/// The child and its pipe have these labels.
-fn are_labelled(
-    rt: &impl Abort,
-    objects: &Objects,
-    of_child: &[LabelValue; 4],
-    of_pipe: &[LabelValue; 4],
-) {
-    match objects.process("t.c") {
-        Some(child) => assert!(rt; objects.label(child) == *of_child),
-        None => panic!(rt; "the child lives"),
-    }
-    match objects.pipe("p") {
-        Some(pipe) => assert!(rt; objects.label(pipe) == *of_pipe),
-        None => panic!(rt; "the pipe lives"),
+/// Whether the child and its pipe live and have these labels.
+fn are_labelled(objects: &Objects, of_child: &[LabelValue; 4], of_pipe: &[LabelValue; 4]) -> bool {
+    match (objects.process("t.c"), objects.pipe("p")) {
+        (Some(child), Some(pipe)) => {
+            objects.label(child) == *of_child && objects.label(pipe) == *of_pipe
+        }
+        _ => false,
     }
 }
 
@@ -224,13 +241,14 @@ fn labels_of_a_child_and_of_its_pipe(rt: HostRuntime) -> Result<(), AllocError> 
     run(&rt, rt.alloc(), &mut machine, rows)?;
     let low = labelled(Elem::Low, None);
     let wide = labelled(Elem::Low, Some((Elem::Low, Elem::High)));
-    are_labelled(&rt, &machine.state.objects, &wide, &low);
+    let are_labelled = are_labelled(&machine.state.objects, &wide, &low);
+    wants(&rt, "labels", are_labelled);
     Ok(())
 }
 
 #[test]
 fn a_child_of_a_process_older_than_mac_partition(rt: HostRuntime) -> Result<(), AllocError> {
-    let mut specs = with_biba(rt.alloc())?;
+    let mut specs = with_biba(rt.alloc(), false)?;
     let registration = Registration {
         module: Module::Partition,
         slot: Some(1),
@@ -240,7 +258,8 @@ fn a_child_of_a_process_older_than_mac_partition(rt: HostRuntime) -> Result<(), 
     let maker = labelled(Elem::Low, None);
     let child = new_label(&specs, Kind::Process, &Origin::Maker(maker));
     let unset = LabelValue::Unset;
-    assert!(rt; child == [maker[0], LabelValue::Number(0), unset, unset]);
+    let wanted = [maker[0], LabelValue::Number(0), unset, unset];
+    wants(&rt, "its label", child == wanted);
     Ok(())
 }
 
@@ -311,10 +330,78 @@ const ABOVE: &[(&str, &str)] = &[
     ("getfmac /", "ok"),
 ];
 
+/// Does the calls of t where t and u have these elements.
+fn does(
+    rt: &impl Abort,
+    alloc: Global,
+    t: Elem,
+    u: Elem,
+    rows: &[(&str, &str)],
+) -> Result<(), AllocError> {
+    let mut machine = booted(rt, alloc, t, u)?;
+    run(rt, alloc, &mut machine, rows)
+}
+
 #[test]
 fn who_may_see_and_debug(rt: HostRuntime) -> Result<(), AllocError> {
-    let mut below = booted(&rt, rt.alloc(), Elem::Low, Elem::High)?;
-    run(&rt, rt.alloc(), &mut below, BELOW)?;
-    let mut above = booted(&rt, rt.alloc(), Elem::High, Elem::Low)?;
-    run(&rt, rt.alloc(), &mut above, ABOVE)
+    does(&rt, rt.alloc(), Elem::Low, Elem::High, BELOW)?;
+    does(&rt, rt.alloc(), Elem::High, Elem::Low, ABOVE)
+}
+
+/// Calls of a process that is high, with open files; the file of the last four is no longer high.
+const OPEN: &[(&str, &str)] = &[
+    ("create /f", "ok"),
+    ("open /f rw", "ok fd 0"),
+    ("open /f r", "ok fd 1"),
+    ("close 0", "ok"),
+    ("close 0", "EBADF"),
+    ("fwrite 1 x", "EBADF"),
+    ("open /f w", "ok fd 0"),
+    ("fread 0", "EBADF"),
+    ("fwrite 0 x", "ok"),
+    ("fread 1", "ok"),
+    ("open / r", "EISDIR"),
+    ("fork c", "ok"),
+    ("@c fread 1", "EBADF"),
+    ("@c close 0", "EBADF"),
+    ("setfmac biba/5 /f", "ok"),
+    ("read /f", "EACCES vnode_open_read 2"),
+    ("open /f rw", "EACCES vnode_open_read 2"),
+    ("fwrite 0 x", "ok"),
+];
+
+/// The file is high again, and goes.
+const CLOSED: &[(&str, &str)] = &[
+    ("setfmac biba/high /f", "ok"),
+    ("fread 1", "ok"),
+    ("@c open /f r", "ok fd 0"),
+    ("unlink /f", "ok"),
+    ("fread 1", "EBADF"),
+    ("close 0", "EBADF"),
+    ("@c fread 0", "EBADF"),
+];
+
+/// Does the calls; where the file is no longer high, a read through a descriptor is answered so.
+fn keep_open(
+    rt: &impl Abort,
+    alloc: Global,
+    machine: &mut Machine<Biba>,
+    read: &str,
+) -> Result<(), AllocError> {
+    run(rt, alloc, machine, OPEN)?;
+    run(rt, alloc, machine, &[("fread 1", read)])?;
+    run(rt, alloc, machine, CLOSED)
+}
+
+#[test]
+fn an_open_file_is_read_on(rt: HostRuntime) -> Result<(), AllocError> {
+    let mut machine = booted(&rt, rt.alloc(), Elem::High, Elem::Low)?;
+    keep_open(&rt, rt.alloc(), &mut machine, "ok")
+}
+
+#[test]
+fn an_open_file_is_not_read_on_with_revocation(rt: HostRuntime) -> Result<(), AllocError> {
+    let mut machine = booted(&rt, rt.alloc(), Elem::High, Elem::Low)?;
+    revoke(rt.alloc(), &mut machine)?;
+    keep_open(&rt, rt.alloc(), &mut machine, "EACCES vnode_read 1")
 }

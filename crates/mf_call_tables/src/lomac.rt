@@ -1,6 +1,7 @@
 //! Calls of t where mac_lomac is listed. There is nothing but the root and the process t, which are high.
 
 use crate::calls::{Machine, add_process, labelled, run, with_module};
+use crate::scripts::wants;
 use mf_elem::{Comps, Elem};
 use mf_errno::Module;
 use mf_list::{Catalogue, Fixed, PolicyList};
@@ -87,12 +88,26 @@ const REFUSED: &[(&str, &str)] = &[
     ("@c setpmac lomac/4", "EPERM cred_relabel 1"),
 ];
 
+/// By what is read through an open file too; and what is written through one is tested each time.
+const OPEN: &[(&str, &str)] = &[
+    ("create /lo", "ok"),
+    ("create /hi", "ok"),
+    ("open /lo r", "ok fd 0"),
+    ("open /hi w", "ok fd 1"),
+    ("setfmac lomac/2 /lo", "ok"),
+    ("fwrite 1 x", "ok"),
+    ("fread 0", "ok"),
+    ("fwrite 1 x", "EACCES vnode_write 1"),
+    ("open /lo rw", "ok fd 2"),
+];
+
 /// Calls, and the grade to which they lower t.
 const CALLS: &[(&[(&str, &str)], u16)] = &[
     (LOWERED, 4),
     (READS_DOWN, 5),
     (DENIED, 6),
     (REFUSED, 3),
+    (OPEN, 2),
 ];
 
 /// Whether t has this grade after the calls.
@@ -114,7 +129,8 @@ fn sinks_to(
 #[test]
 fn who_is_lowered(rt: HostRuntime) -> Result<(), AllocError> {
     for (calls, grade) in CALLS {
-        assert!(rt; sinks_to(&rt, rt.alloc(), calls, *grade)?);
+        let sinks = sinks_to(&rt, rt.alloc(), calls, *grade)?;
+        wants(&rt, "its grade", sinks);
     }
     Ok(())
 }

@@ -1,13 +1,16 @@
 //! Plans of calls by t and its child c. There is /d with a regular file f, and a regular file /e; t has the empty socket a and the
-//! empty pipe p; the process u has nothing.
+//! empty pipe p, and has /e open for reading as 0 and /d/f for writing as 1; the process u has nothing.
 ghost use Rattle.mf_objects.specs.Live.{is_process};
 ghost use Rattle.mf_objects.specs.Lives.{IsLive, is_directory};
 ghost use Rattle.mf_calls.specs.WellFormed.{IsFormedLine, IsName};
 
-use crate::scripts::{only_line, script_of};
+use crate::calls::{Machine, run};
+use crate::scripts::{only_line, script_of, wants};
+use mf_biba::Biba;
 use mf_calls::Line;
 use mf_cred::{Cred, FileView};
 use mf_elem::LabelValue;
+use mf_list::{Fixed, PolicyList};
 use mf_objects::{Id, Objects};
 use mf_plan::{Plan, State, Tail, plan_of};
 use mf_policy::SpecList;
@@ -57,6 +60,24 @@ const ROWS: &[(&str, &str)] = &[
         "vnode_lookup vnode_unlink_dir vnode_unlink ENOTEMPTY",
     ),
     ("unlink /", "EINVAL"),
+    ("open /e r", "vnode_lookup vnode_open_read ok"),
+    ("open /e w", "vnode_lookup vnode_open_write ok"),
+    (
+        "open /d/f rw",
+        "vnode_lookup vnode_lookup vnode_open_read vnode_open_write ok",
+    ),
+    ("open /d r", "vnode_lookup EISDIR"),
+    ("open /x w", "vnode_lookup ENOENT"),
+    ("fread 0", "vnode_read ok"),
+    ("fread 1", "EBADF"),
+    ("fread 2", "EBADF"),
+    ("@c fread 0", "EBADF"),
+    ("@d fread 0", "ESRCH"),
+    ("fwrite 0 x", "EBADF"),
+    ("fwrite 1 x", "vnode_write ok"),
+    ("close 1", "ok"),
+    ("close 15", "EBADF"),
+    ("@c close 0", "EBADF"),
     ("pipe p", "EEXIST"),
     ("socket p", "ok"),
     ("pread p", "pipe_read EAGAIN"),
@@ -72,6 +93,8 @@ const ROWS: &[(&str, &str)] = &[
     ("kldload mac_biba", "priv kld_load EBUSY"),
     ("kldload partition", "priv ENOENT"),
     ("kldunload partition", "priv kld_unload ENOENT"),
+    ("sysctl security.mac.biba.revocation_enabled=1", "ENOENT"),
+    ("sysctl security.mac.biba.revocation_enabled=2", "ENOENT"),
 ];
 
 fn add_file(
@@ -164,6 +187,20 @@ fn state_of(rt: &impl Abort, alloc: Global) -> Result<State, AllocError> {
     })
 }
 
+/// The calls that open the two files.
+const OPENING: &[(&str, &str)] = &[("open /e r", "ok fd 0"), ("open /d/f w", "ok fd 1")];
+
+/// A machine without policies.
+fn machine_of(rt: &impl Abort, alloc: Global) -> Result<Machine<Biba>, AllocError> {
+    let mut machine = Machine {
+        state: state_of(rt, alloc)?,
+        fixed: Fixed::new(alloc)?,
+        list: PolicyList::new(alloc)?,
+    };
+    run(rt, alloc, &mut machine, OPENING)?;
+    Ok(machine)
+}
+
 fn plan_of_line(state: &State, task: &str, line: &Line) -> Plan
     requires task { IsName task.now }
     requires line { IsFormedLine line.now }
@@ -219,6 +256,31 @@ fn is_of_text(
     Ok(is_of_line(plan, state, task, line))
 }
 
+/// The text of the line's plan, where it is told to be that.
+fn text_of_line(alloc: Global, state: &State, task: &str, line: &Line) -> Result<String, AllocError>
+    requires task { IsName task.now }
+    requires line { IsFormedLine line.now }
+{
+    let plan = plan_of_line(state, task, line);
+    if is_of_line(&plan, state, task, line) {
+        spelled(alloc, &plan)
+    } else {
+        String::from_str(alloc, "another plan")
+    }
+}
+
+/// The text of the plan of a call that is written as a script's line.
+fn text_of_plan(
+    rt: &impl Abort,
+    alloc: Global,
+    state: &State,
+    text: &str,
+) -> Result<String, AllocError> {
+    let script = script_of(rt, alloc, text)?;
+    let (task, line) = only_line(rt, &script);
+    text_of_line(alloc, state, task, line)
+}
+
 /// Each call has its plan.
 fn are_planned(
     rt: &impl Abort,
@@ -227,17 +289,16 @@ fn are_planned(
     rows: &[(&str, &str)],
 ) -> Result<(), AllocError> {
     for (text, wanted) in rows {
-        let plan = plan_of_text(rt, alloc, state, text)?;
-        assert_eq!(rt; spelled(alloc, &plan)?.as_str(), *wanted, "{text}");
-        assert!(rt; is_of_text(rt, alloc, &plan, state, text)?, "{text}");
+        let found = text_of_plan(rt, alloc, state, text)?;
+        wants(rt, text, found.as_str() == *wanted);
     }
     Ok(())
 }
 
 #[test]
 fn checks_and_ends_of_every_call(rt: HostRuntime) -> Result<(), AllocError> {
-    let state = state_of(&rt, rt.alloc())?;
-    are_planned(&rt, rt.alloc(), &state, ROWS)
+    let machine = machine_of(&rt, rt.alloc())?;
+    are_planned(&rt, rt.alloc(), &machine.state, ROWS)
 }
 
 /// Makes as many entities as there may be.
@@ -266,15 +327,59 @@ fn a_full_population_is_told_last(rt: HostRuntime) -> Result<(), AllocError> {
     are_planned(&rt, rt.alloc(), &state, FULL)
 }
 
+/// Opens files until the process has as many descriptors as it may have.
+fn open_all(rt: &impl Abort, alloc: Global, machine: &mut Machine<Biba>) -> Result<(), AllocError> {
+    for number in 2..16 {
+        let opened = format!(in alloc; "ok fd {number}")?;
+        run(rt, alloc, machine, &[("open /e r", opened.as_str())])?;
+    }
+    Ok(())
+}
+
+/// Calls where t has no descriptor free, and their plans.
+const ALL_OPEN: &[(&str, &str)] = &[
+    (
+        "open /e rw",
+        "vnode_lookup vnode_open_read vnode_open_write EMFILE",
+    ),
+    (
+        "open /d/f w",
+        "vnode_lookup vnode_lookup vnode_open_write EMFILE",
+    ),
+    ("open /d r", "vnode_lookup EISDIR"),
+    ("open /x r", "vnode_lookup ENOENT"),
+    ("@c open /e r", "vnode_lookup vnode_open_read ok"),
+    ("fread 15", "vnode_read ok"),
+    ("close 15", "ok"),
+];
+
+#[test]
+fn that_no_descriptor_is_free_is_told_last(rt: HostRuntime) -> Result<(), AllocError> {
+    let mut machine = machine_of(&rt, rt.alloc())?;
+    open_all(&rt, rt.alloc(), &mut machine)?;
+    are_planned(&rt, rt.alloc(), &machine.state, ALL_OPEN)
+}
+
+/// Whether the second check's subject is the socket a, with the credential of the first one's.
+fn is_sent_by_the_socket(objects: &Objects, plan: &Plan) -> bool {
+    if plan.len() != 2 {
+        return false;
+    }
+    let (first, second) = (plan.item(0), plan.item(1));
+    let (caller, sender) = (first.subject(), second.subject());
+    let is_socket = match objects.socket("a") {
+        Some(id) => id.number() == sender.id,
+        None => false,
+    };
+    is_socket && sender.cred.same(&caller.cred)
+}
+
 #[test]
 fn the_sender_is_a_socket_with_the_callers_credential(rt: HostRuntime) -> Result<(), AllocError> {
     let state = state_of(&rt, rt.alloc())?;
     let plan = plan_of_text(&rt, rt.alloc(), &state, "send a a x")?;
-    assert!(rt; plan.len() == 2);
-    let sender = plan.item(1).subject();
-    let socket = state.objects.socket("a");
-    assert!(rt; socket.is_some_and(|id| id.number() == sender.id));
-    assert!(rt; sender.cred.same(&plan.item(0).subject().cred));
+    let is_socket = is_sent_by_the_socket(&state.objects, &plan);
+    wants(&rt, "the sender", is_socket);
     Ok(())
 }
 
@@ -287,20 +392,48 @@ fn differ(
     other: &str,
 ) -> Result<(), AllocError> {
     let plan = plan_of_text(rt, alloc, state, one)?;
-    assert!(rt;
-        !is_of_text(rt, alloc, &plan, state, other)?,
-        "{one} {other}"
-    );
+    let is_same = is_of_text(rt, alloc, &plan, state, other)?;
+    wants(rt, other, !is_same);
+    Ok(())
+}
+
+/// The plan of a call isn't that of the same call where this one was done before it.
+fn differ_after(
+    rt: &impl Abort,
+    alloc: Global,
+    machine: &mut Machine<Biba>,
+    done: &str,
+    call: &str,
+) -> Result<(), AllocError> {
+    let plan = plan_of_text(rt, alloc, &machine.state, call)?;
+    run(rt, alloc, machine, &[(done, "ok")])?;
+    let is_same = is_of_text(rt, alloc, &plan, &machine.state, call)?;
+    wants(rt, call, !is_same);
+    Ok(())
+}
+
+/// Two calls each, whose plans differ.
+const DIFFER: &[(&str, &str)] = &[
+    ("see u", "signal u"),
+    ("see u", "see t.c"),
+    ("open /e r", "open /e rw"),
+];
+
+/// A call that is done, and one whose plan it changes.
+const DIFFER_AFTER: &[(&str, &str)] = &[("fork e", "fork e"), ("unlink /e", "fread 0")];
+
+fn are_told(rt: &impl Abort, alloc: Global, machine: &mut Machine<Biba>) -> Result<(), AllocError> {
+    for (one, other) in DIFFER {
+        differ(rt, alloc, &machine.state, one, other)?;
+    }
+    for (done, call) in DIFFER_AFTER {
+        differ_after(rt, alloc, machine, done, call)?;
+    }
     Ok(())
 }
 
 #[test]
 fn a_plan_of_another_call_or_state_is_told(rt: HostRuntime) -> Result<(), AllocError> {
-    let mut state = state_of(&rt, rt.alloc())?;
-    differ(&rt, rt.alloc(), &state, "see u", "signal u")?;
-    differ(&rt, rt.alloc(), &state, "see u", "see t.c")?;
-    let plan = plan_of_text(&rt, rt.alloc(), &state, "fork e")?;
-    add_process(&rt, rt.alloc(), &mut state.objects, "t.e")?;
-    assert!(rt; !is_of_text(&rt, rt.alloc(), &plan, &state, "fork e")?);
-    Ok(())
+    let mut machine = machine_of(&rt, rt.alloc())?;
+    are_told(&rt, rt.alloc(), &mut machine)
 }

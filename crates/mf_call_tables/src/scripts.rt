@@ -7,6 +7,11 @@ use mf_script::{ScriptError, read_script};
 use std::alloc::{AllocError, Global};
 use std::process::Abort;
 
+/// Wants what is said of this to hold.
+pub fn wants(rt: &impl Abort, name: &str, holds: bool) {
+    assert!(rt; holds, "{name}");
+}
+
 /// Reads the script in which this line is all that the task t does.
 pub fn script_of(rt: &impl Abort, alloc: Global, line: &str) -> Result<Script, AllocError>
     ensures { IfOk result (λ script. IsWellFormed script) }
