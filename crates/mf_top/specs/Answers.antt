@@ -28,8 +28,8 @@ use Rattle.mf_top.specs.Slots.{AreMarked}
 use Rattle.mf_top.specs.Steps.{IsStepText, RefusesStep}
 
 -- The text is that of a history and of its sources, and nothing else. The history is legal and complete for the script; in it each label
--- slot is made and ended at most once, and is set where it was made and hasn't ended; and under mac_biba each source of a party dominates the
--- party's element, as under mac_mls the element dominates each.
+-- slot is made and ended at most once, and is set where it was made and hasn't ended; and under mac_biba and mac_lomac each source of a party
+-- dominates the party's element, as under mac_mls the element dominates each.
 abbrev pub IsRunOf : Script → List ℕ → Type 0
 IsRunOf s text =
     (h : History) × IsLegal s h × IsComplete s h × AreMadeOnce s h × AreMarked s h × AreInOrder s h × (text ≡ history_text s h ++ sources_text s h)
@@ -105,7 +105,7 @@ refusal_status refusal.TooLong = 6
 refusal_status (refusal.Step number) = 7
 refusal_status refusal.Memory = 9
 
--- behind the name of a fault: the errno of a module that can't be booted
+-- behind the name of a fault: the errno of a module that can't be booted, or of a tunable that can't be set
 abbrev pub errno_text : Option Errno → List ℕ
 errno_text None = []
 errno_text (Some errno) = codes " " ++ error_text errno

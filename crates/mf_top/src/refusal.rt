@@ -22,7 +22,7 @@ pub enum Refusal {
     /// The words are none of the program's.
     Usage,
     /// The source's bytes are no script: the first faulty line, counted from 1, and its first fault, with an errno where a
-    /// module can't be booted.
+    /// module can't be booted or a tunable can't be set.
     Script {
         line: u32,
         fault: ScriptFault,
