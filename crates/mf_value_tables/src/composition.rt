@@ -1,5 +1,6 @@
 //! Answers of several policies, and what they are together.
 
+use crate::asked::wants;
 use mf_compose::{decider, fold, granted};
 use mf_errno::Errno;
 
@@ -30,11 +31,19 @@ const ANSWERS: [(&[Errno], Errno, Option<usize>); 8] = [
 #[test]
 fn precedence_against_walk_order(rt: HostRuntime) {
     for (answers, errno, place) in ANSWERS {
-        assert!(rt; fold(answers) == errno && decider(answers) == place);
+        wants(
+            &rt,
+            "precedence against walk order",
+            fold(answers) == errno && decider(answers) == place,
+        );
     }
 }
 
 #[test]
 fn one_grant_is_enough(rt: HostRuntime) {
-    assert!(rt; granted(&[false, true]) && !granted(&[]));
+    wants(
+        &rt,
+        "one grant is enough",
+        granted(&[false, true]) && !granted(&[]),
+    );
 }

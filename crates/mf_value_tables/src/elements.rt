@@ -1,5 +1,6 @@
 //! Compartments, elements of labels, and labels of Biba, MLS and LOMAC.
 
+use crate::asked::wants;
 use mf_elem::{
     Comps, Elem, LAST_COMPARTMENT, RangeLabel, Request, dominates, has_equal, in_range, is_plain,
     is_valid, privileged, range_in_range, same_level,
@@ -11,7 +12,11 @@ fn first_and_last_compartment(rt: HostRuntime) {
     let ends = none.with(256).with(1);
     let has_both = ends.has(1) && ends.has(256) && !ends.has(2);
     let is_greater = ends.contains(&none) && !none.contains(&ends);
-    assert!(rt; has_both && is_greater && ends == none.with(1).with(256));
+    wants(
+        &rt,
+        "first and last compartment",
+        has_both && is_greater && ends == none.with(1).with(256),
+    );
 }
 
 fn grade(grade: u16, comps: &[u16]) -> Elem {
@@ -37,7 +42,7 @@ fn dominance_cell_by_cell(rt: HostRuntime) {
         (grade(5, &[256]), grade(5, &[1, 256]), false),
     ];
     for (a, b, answer) in table.iter() {
-        assert!(rt; dominates(a, b) == *answer);
+        wants(&rt, "dominance cell by cell", dominates(a, b) == *answer);
     }
 }
 
@@ -45,7 +50,11 @@ fn dominance_cell_by_cell(rt: HostRuntime) {
 fn incomparable_elements(rt: HostRuntime) {
     let (five, nine) = (grade(5, &[1]), grade(9, &[2]));
     let none_dominates = !dominates(&five, &nine) && !dominates(&nine, &five);
-    assert!(rt; none_dominates && !same_level(&five, &nine));
+    wants(
+        &rt,
+        "incomparable elements",
+        none_dominates && !same_level(&five, &nine),
+    );
 }
 
 #[test]
@@ -60,7 +69,11 @@ fn elements_without_compartments(rt: HostRuntime) {
         (grade(5, &[256]), false),
     ];
     for (element, plain) in table.iter() {
-        assert!(rt; is_plain(element) == *plain);
+        wants(
+            &rt,
+            "elements without compartments",
+            is_plain(element) == *plain,
+        );
     }
 }
 
@@ -70,7 +83,11 @@ fn requests_that_differ_in_lomac(rt: HostRuntime) {
     five.lomac = Some(grade(5, &[]));
     let mut nine = five;
     nine.lomac = Some(grade(9, &[]));
-    assert!(rt; five.same(&five) && !five.same(&nine) && !five.same(&Request::none()));
+    wants(
+        &rt,
+        "requests that differ in lomac",
+        five.same(&five) && !five.same(&nine) && !five.same(&Request::none()),
+    );
 }
 
 #[test]
@@ -80,7 +97,11 @@ fn label_of_mac_biba_4(rt: HostRuntime) {
     let label = RangeLabel::ranged(grade(10, &[2, 3, 6]), low, high);
     let is_ranged = range_in_range(&low, &high, &Elem::Low, &Elem::High)
         && !in_range(&grade(10, &[2, 7]), &low, &high);
-    assert!(rt; is_valid(&label) && !privileged(&label) && is_ranged);
+    wants(
+        &rt,
+        "label of mac biba 4",
+        is_valid(&label) && !privileged(&label) && is_ranged,
+    );
 }
 
 #[test]
@@ -88,6 +109,14 @@ fn exempt_labels(rt: HostRuntime) {
     let whole = RangeLabel::ranged(Elem::High, Elem::Low, Elem::High);
     let equal = RangeLabel::effective(Elem::Equal);
     let exempts = has_equal(&equal) && same_level(&Elem::Equal, &Elem::Low);
-    assert!(rt; privileged(&whole) && !has_equal(&whole) && exempts);
-    assert!(rt; whole.replaced_by(&Some(equal)).range == whole.range);
+    wants(
+        &rt,
+        "exempt labels",
+        privileged(&whole) && !has_equal(&whole) && exempts,
+    );
+    wants(
+        &rt,
+        "exempt labels",
+        whole.replaced_by(&Some(equal)).range == whole.range,
+    );
 }

@@ -1,12 +1,15 @@
 //! Errors, modules and privileges by number and by name, and which of two answers counts.
 
+use crate::asked::wants;
 use mf_errno::{Errno, Module, Priv, select};
 use std::alloc::AllocError;
 
 /// Errors with their numbers and names in errno(2).
-const ERRORS: [(Errno, u32, &str); 5] = [
+const ERRORS: [(Errno, u32, &str); 7] = [
     (Errno::Success, 0, "ok"),
+    (Errno::Ebadf, 9, "EBADF"),
     (Errno::Edeadlk, 11, "EDEADLK"),
+    (Errno::Emfile, 24, "EMFILE"),
     (Errno::Eagain, 35, "EAGAIN"),
     (Errno::Enobufs, 55, "ENOBUFS"),
     (Errno::Enotempty, 66, "ENOTEMPTY"),
@@ -15,7 +18,7 @@ const ERRORS: [(Errno, u32, &str); 5] = [
 #[test]
 fn numbers_of_errno_2(rt: HostRuntime) {
     for (errno, number, name) in ERRORS {
-        assert!(rt; errno.number() == number && errno.name() == name, "{name}");
+        wants(&rt, name, errno.number() == number && errno.name() == name);
     }
 }
 
@@ -27,20 +30,32 @@ fn names_lead_back(rt: HostRuntime) {
         && Module::from_name("mac_lomac") == Some(Module::Lomac)
         && Module::from_name("biba").is_none();
     let privilege = Priv::from_name(Priv::KldUnload.name());
-    assert!(rt; errors && modules && privilege == Some(Priv::KldUnload));
+    wants(
+        &rt,
+        "names lead back",
+        errors && modules && privilege == Some(Priv::KldUnload),
+    );
 }
 
 #[test]
 fn names_are_shown(rt: HostRuntime) -> Result<(), AllocError> {
     let shown = format!(in rt.alloc(); "{} {} {}", Errno::Success, Module::Mls, Priv::KldLoad)?;
-    assert!(rt; shown.as_str() == "ok mac_mls KLD_LOAD");
+    wants(
+        &rt,
+        "names are shown",
+        shown.as_str() == "ok mac_mls KLD_LOAD",
+    );
     Ok(())
 }
 
 #[test]
 fn every_error_by_its_name(rt: HostRuntime) {
     for errno in Errno::all() {
-        assert!(rt; Errno::from_name(errno.name()) == Some(*errno));
+        wants(
+            &rt,
+            "every error by its name",
+            Errno::from_name(errno.name()) == Some(*errno),
+        );
     }
 }
 
@@ -57,6 +72,10 @@ const ANSWERS: [(Errno, Errno, Errno); 6] = [
 #[test]
 fn precedence_of_two_answers(rt: HostRuntime) {
     for (newer, older, selected) in ANSWERS {
-        assert!(rt; select(newer, older) == selected);
+        wants(
+            &rt,
+            "precedence of two answers",
+            select(newer, older) == selected,
+        );
     }
 }

@@ -1,16 +1,29 @@
 //! Names, paths, texts of a limited length, and lists.
 
+use crate::asked::wants;
 use mf_names::{Bytes, Components, Listing, Name, NameList, Path, Word};
 use std::alloc::{AllocError, Global};
 
 #[test]
 fn a_text_grows_and_is_emptied(rt: HostRuntime) -> Result<(), AllocError> {
     let mut text: Bytes<4> = Bytes::copy_of(rt.alloc(), b"ab")?;
-    assert!(rt; text.as_slice() == b"ab".as_slice());
+    wants(
+        &rt,
+        "a text grows and is emptied",
+        text.as_slice() == b"ab".as_slice(),
+    );
     text.clear();
-    assert!(rt; text.as_slice().is_empty());
+    wants(
+        &rt,
+        "a text grows and is emptied",
+        text.as_slice().is_empty(),
+    );
     text.append(b"cd")?;
-    assert!(rt; text.as_slice() == b"cd".as_slice());
+    wants(
+        &rt,
+        "a text grows and is emptied",
+        text.as_slice() == b"cd".as_slice(),
+    );
     Ok(())
 }
 
@@ -19,14 +32,18 @@ fn items_stay_in_order(rt: HostRuntime) -> Result<(), AllocError> {
     let mut numbers = Listing::new(rt.alloc());
     numbers.push(2u32)?;
     numbers.push(1)?;
-    assert!(rt; numbers.len() == 2 && numbers.as_slice() == [2, 1].as_slice());
+    wants(
+        &rt,
+        "items stay in order",
+        numbers.len() == 2 && numbers.as_slice() == [2, 1].as_slice(),
+    );
     Ok(())
 }
 
 #[test]
 fn words_keep_their_text(rt: HostRuntime) -> Result<(), AllocError> {
     let word = Word::from_string(String::from_str(rt.alloc(), "mac_biba")?);
-    assert!(rt; word.as_str() == "mac_biba");
+    wants(&rt, "words keep their text", word.as_str() == "mac_biba");
     Ok(())
 }
 
@@ -40,9 +57,9 @@ fn list_two(alloc: Global, names: &mut NameList) -> Result<(), AllocError> {
 fn names_keep_their_text(rt: HostRuntime) -> Result<(), AllocError> {
     let mut names = NameList::new(rt.alloc());
     list_two(rt.alloc(), &mut names)?;
-    assert!(rt; names.len() == 2);
+    wants(&rt, "names keep their text", names.len() == 2);
     for name in names.as_slice() {
-        assert!(rt; name.as_str().len() == 2);
+        wants(&rt, "names keep their text", name.as_str().len() == 2);
     }
     Ok(())
 }
@@ -50,7 +67,7 @@ fn names_keep_their_text(rt: HostRuntime) -> Result<(), AllocError> {
 #[test]
 fn a_list_of_no_names(rt: HostRuntime) {
     let listed = NameList::from_vec(Vec::new(rt.alloc()));
-    assert!(rt; listed.len() == 0);
+    wants(&rt, "a list of no names", listed.len() == 0);
 }
 
 /// The path /etc/motd.
@@ -63,11 +80,19 @@ fn motd(alloc: Global) -> Result<Path, AllocError> {
 
 #[test]
 fn a_path_grows(rt: HostRuntime) -> Result<(), AllocError> {
-    assert!(rt; Path::root(rt.alloc()).components().is_empty());
+    wants(
+        &rt,
+        "a path grows",
+        Path::root(rt.alloc()).components().is_empty(),
+    );
     let path = motd(rt.alloc())?;
     let mut components = path.components();
     let named = components.next() == Some("etc") && components.next() == Some("motd");
-    assert!(rt; path.depth() == 2 && named && components.next().is_none());
+    wants(
+        &rt,
+        "a path grows",
+        path.depth() == 2 && named && components.next().is_none(),
+    );
     Ok(())
 }
 
@@ -82,11 +107,23 @@ fn ends_in_motd(components: &Components<'_>, directory: &Components<'_>) -> bool
 #[test]
 fn a_path_ends_in_its_directory(rt: HostRuntime) -> Result<(), AllocError> {
     let mut directory = Path::with_room(rt.alloc(), 4)?;
-    assert!(rt; directory.components().split_last().is_none());
+    wants(
+        &rt,
+        "a path ends in its directory",
+        directory.components().split_last().is_none(),
+    );
     directory.push("etc")?;
     let path = motd(rt.alloc())?;
     let (components, of_directory) = (path.components(), directory.components());
-    assert!(rt; !components.is_same(&of_directory));
-    assert!(rt; ends_in_motd(&components, &of_directory));
+    wants(
+        &rt,
+        "a path ends in its directory",
+        !components.is_same(&of_directory),
+    );
+    wants(
+        &rt,
+        "a path ends in its directory",
+        ends_in_motd(&components, &of_directory),
+    );
     Ok(())
 }

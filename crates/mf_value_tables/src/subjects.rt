@@ -1,5 +1,6 @@
 //! Credentials, and what policies are asked.
 
+use crate::asked::wants;
 use mf_cred::{Cred, Duplicate};
 use mf_elem::Request;
 use mf_item::{CheckOp, Item, SubjectView};
@@ -11,8 +12,12 @@ fn groups_of_a_credential(rt: HostRuntime) {
     cred.groups.push(47);
     let copy = cred.copy();
     let in_both = copy.in_group(0) && copy.in_group(47) && !copy.in_group(48);
-    assert!(rt; copy.is_root() && in_both);
-    assert!(rt; copy.same(&cred) && !copy.same(&Cred::default()));
+    wants(&rt, "groups of a credential", copy.is_root() && in_both);
+    wants(
+        &rt,
+        "groups of a credential",
+        copy.same(&cred) && !copy.same(&Cred::default()),
+    );
 }
 
 #[test]
@@ -20,14 +25,26 @@ fn an_item_has_its_parts(rt: HostRuntime) {
     let (subject, request) = (SubjectView::default(), Request::none());
     let item = Item::new(CheckOp::CredRelabel, &subject, None, Some(&request), None);
     let is_asked = item.request().is_some() && item.privilege().is_none();
-    assert!(rt; item.subject().same(&subject) && item.object().is_none() && is_asked);
-    assert!(rt; item.op().name() == "cred_relabel");
+    wants(
+        &rt,
+        "an item has its parts",
+        item.subject().same(&subject) && item.object().is_none() && is_asked,
+    );
+    wants(
+        &rt,
+        "an item has its parts",
+        item.op().name() == "cred_relabel",
+    );
 }
 
 #[test]
 fn operations_by_name(rt: HostRuntime) -> Result<(), AllocError> {
-    assert!(rt; CheckOp::from_name("cred_relabel") == Some(CheckOp::CredRelabel));
+    wants(
+        &rt,
+        "operations by name",
+        CheckOp::from_name("cred_relabel") == Some(CheckOp::CredRelabel),
+    );
     let shown = format!(in rt.alloc(); "{}", CheckOp::KldLoad)?;
-    assert!(rt; shown.as_str() == "kld_load");
+    wants(&rt, "operations by name", shown.as_str() == "kld_load");
     Ok(())
 }

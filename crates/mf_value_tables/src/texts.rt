@@ -1,5 +1,6 @@
 //! Texts of numbers, and of bytes with escapes.
 
+use crate::asked::wants;
 use mf_text::{
     NumberFault, TextFault, escape, print_number, read_number, read_octal, unescape, unescape_bytes,
 };
@@ -10,7 +11,11 @@ fn bytes_and_their_escaped_text(rt: HostRuntime) -> Result<(), TextFault> {
     let bytes = [97, 32, 92, 0, 255];
     let mut text = String::from_str(rt.alloc(), "text ")?;
     escape(&bytes, &mut text)?;
-    assert!(rt; text.as_str() == "text a\\20\\5c\\00\\ff");
+    wants(
+        &rt,
+        "bytes and their escaped text",
+        text.as_str() == "text a\\20\\5c\\00\\ff",
+    );
     Ok(())
 }
 
@@ -18,7 +23,11 @@ fn bytes_and_their_escaped_text(rt: HostRuntime) -> Result<(), TextFault> {
 fn escapes_of_either_case(rt: HostRuntime) -> Result<(), TextFault> {
     let bytes = [97, 32, 92, 0, 255];
     let read = unescape(rt.alloc(), "a\\20\\5C\\00\\fF")?;
-    assert!(rt; read.as_slice() == bytes.as_slice());
+    wants(
+        &rt,
+        "escapes of either case",
+        read.as_slice() == bytes.as_slice(),
+    );
     Ok(())
 }
 
@@ -33,7 +42,7 @@ fn bad_escape(alloc: Global, text: &str) -> Option<usize> {
 #[test]
 fn bad_escapes(rt: HostRuntime) {
     for (text, place) in [("a\\2", 1), ("\\", 0), ("\\5c\\5g", 3), ("é\\", 2)] {
-        assert!(rt; bad_escape(rt.alloc(), text) == Some(place), "{text}");
+        wants(&rt, text, bad_escape(rt.alloc(), text) == Some(place));
     }
 }
 
@@ -59,7 +68,7 @@ const NUMBERS: [(&str, u32, u32, Result<u32, NumberFault>); 10] = [
 #[test]
 fn numbers_and_their_faults(rt: HostRuntime) {
     for (text, least, greatest, read) in NUMBERS {
-        assert!(rt; read_number(text, least, greatest) == read, "{text}");
+        wants(&rt, text, read_number(text, least, greatest) == read);
     }
 }
 
@@ -67,7 +76,11 @@ fn numbers_and_their_faults(rt: HostRuntime) {
 fn numbers_in_decimal_digits(rt: HostRuntime) -> Result<(), AllocError> {
     let mut out = String::from_str(rt.alloc(), "uid ")?;
     print_number(4294967295, &mut out)?;
-    assert!(rt; out.as_str() == "uid 4294967295");
+    wants(
+        &rt,
+        "numbers in decimal digits",
+        out.as_str() == "uid 4294967295",
+    );
     Ok(())
 }
 
@@ -81,6 +94,6 @@ const MODES: [(&str, Result<u32, NumberFault>); 3] = [
 #[test]
 fn octal_numbers(rt: HostRuntime) {
     for (text, read) in MODES {
-        assert!(rt; read_octal(text, 4095) == read, "{text}");
+        wants(&rt, text, read_octal(text, 4095) == read);
     }
 }
