@@ -1,20 +1,16 @@
-//! The texts of replies, and the lines of a history.
+//! The lines of a history.
 
+use crate::replies::wants;
 use mf_calls::Script;
 use mf_core::{Event, EventList, History, KeptReply};
-use mf_cred::{ArrayVec, FileView};
-use mf_elem::{Elem, LabelValue, RangeLabel};
 use mf_errno::{Errno, Module};
 use mf_hist::{
-    HistError, legal_histories_are_readable, print_event, print_history, print_reply, read_history,
+    HistError, legal_histories_are_readable, print_event, print_history, read_history,
     text_tells_history,
 };
-use mf_item::CheckOp;
-use mf_names::{Listing, NameList, SCRIPT_LIMIT};
-use mf_objects::Head;
-use mf_plan::{LabelPart, Loaded, Payload, Reply};
+use mf_names::{Listing, SCRIPT_LIMIT};
+use mf_plan::{Payload, Reply};
 use mf_policy::Registration;
-use mf_rule::{RuleList, read_rule};
 use mf_script::read_script;
 use std::alloc::{AllocError, Global};
 use std::process::Abort;
@@ -22,168 +18,6 @@ use std::test::Fail;
 
 /// A script of one task without lines.
 const EMPTY_TASK: &str = "task t uid 0 gid 0 label -\nend\n";
-
-const DIRECTORY: FileView = FileView {
-    uid: 0,
-    gid: 5,
-    mode: 493,
-    dir: true,
-};
-
-const FILE: FileView = FileView {
-    uid: 80,
-    gid: 0,
-    mode: 0,
-    dir: false,
-};
-
-const BIBA: Loaded = Loaded {
-    module: Module::Biba,
-    slot: Some(0),
-};
-
-const BSDEXTENDED: Loaded = Loaded {
-    module: Module::Bsdextended,
-    slot: None,
-};
-
-fn two_rules(alloc: Global) -> Result<RuleList, AllocError> {
-    let mut rules = RuleList::new(alloc)?;
-    if let Ok(rule) = read_rule(&["subject", "object", "mode", "n"]) {
-        rules.set(249, rule)?;
-    }
-    if let Ok(rule) = read_rule(&["subject", "uid", "5:5", "object", "mode", "r"]) {
-        rules.set(3, rule)?;
-    }
-    Ok(rules)
-}
-
-/// A reply, and its text.
-type Row = (Reply, &'static str);
-
-/// The replies have these texts.
-fn are_printed(rt: &impl Abort, alloc: Global, rows: &[Row]) -> Result<(), AllocError> {
-    for (reply, text) in rows {
-        let mut out = String::new(alloc);
-        print_reply(reply, &mut out)?;
-        assert_eq!(rt; out.as_str(), *text);
-    }
-    Ok(())
-}
-
-/// What calls of files, pipes and sockets hand back.
-fn read_and_listed(rt: &impl Abort, alloc: Global) -> Result<(), AllocError> {
-    let head = Head {
-        len: 70,
-        first: ArrayVec::one(b' '),
-    };
-    let names = Payload::Names {
-        count: 0,
-        first: NameList::new(alloc),
-    };
-    let rows = [
-        (Reply::Ok(Payload::None), "ok"),
-        (Reply::Ok(Payload::Head(head)), "ok bytes 70 =\\20"),
-        (Reply::Ok(Payload::Size(4096)), "ok size 4096"),
-        (
-            Reply::Ok(Payload::Stat(DIRECTORY, 0)),
-            "ok stat dir uid 0 gid 5 mode 755 size 0",
-        ),
-        (
-            Reply::Ok(Payload::Stat(FILE, 9)),
-            "ok stat reg uid 80 gid 0 mode 0 size 9",
-        ),
-        (Reply::Ok(names), "ok names 0 -"),
-    ];
-    are_printed(rt, alloc, &rows)
-}
-
-/// What calls of modules hand back.
-fn loaded(rt: &impl Abort, alloc: Global) -> Result<(), AllocError> {
-    let mut modules = ArrayVec::one(BIBA);
-    modules.push(BSDEXTENDED);
-    let rows = [
-        (
-            Reply::Ok(Payload::Modules(modules)),
-            "ok modules mac_biba:0,mac_bsdextended:-",
-        ),
-        (Reply::Ok(Payload::Modules(ArrayVec::new())), "ok modules -"),
-        (Reply::Ok(Payload::Slot(Some(2))), "ok slot 2"),
-        (Reply::Ok(Payload::Slot(None)), "ok slot -"),
-    ];
-    are_printed(rt, alloc, &rows)
-}
-
-/// What calls of labels hand back.
-fn shown(rt: &impl Abort, alloc: Global) -> Result<(), AllocError> {
-    let parts = [
-        LabelPart {
-            module: Module::Mls,
-            value: LabelValue::Range(RangeLabel::ranged(Elem::Low, Elem::Low, Elem::High)),
-        },
-        LabelPart {
-            module: Module::Lomac,
-            value: LabelValue::Range(RangeLabel::effective(Elem::High)),
-        },
-        LabelPart {
-            module: Module::Partition,
-            value: LabelValue::Number(0),
-        },
-    ];
-    let rows = [
-        (
-            Reply::Ok(Payload::label(alloc, &parts)?),
-            "ok label mls/low(low-high),lomac/high,partition/none",
-        ),
-        (Reply::Ok(Payload::label(alloc, &[])?), "ok label -"),
-    ];
-    are_printed(rt, alloc, &rows)
-}
-
-/// What calls of rules hand back.
-fn listed_and_added(rt: &impl Abort, alloc: Global) -> Result<(), AllocError> {
-    let (two, none) = (two_rules(alloc)?, RuleList::new(alloc)?);
-    let rows = [
-        (
-            Reply::Ok(Payload::Rules(two)),
-            "ok rules 2 ; 3 subject uid 5 object mode r ; 249 subject object mode n",
-        ),
-        (Reply::Ok(Payload::Rules(none)), "ok rules 0"),
-        (Reply::Ok(Payload::Rule(0)), "ok rule 0"),
-    ];
-    are_printed(rt, alloc, &rows)
-}
-
-/// Calls that are denied by a policy, by none, and refused by the framework.
-fn denied(rt: &impl Abort, alloc: Global) -> Result<(), AllocError> {
-    let by_biba = Reply::Denied {
-        errno: Errno::Eacces,
-        op: CheckOp::VnodeOpenRead,
-        item: 2,
-        by: Some(Module::Biba),
-    };
-    let by_none = Reply::Denied {
-        errno: Errno::Eperm,
-        op: CheckOp::Priv,
-        item: 1,
-        by: None,
-    };
-    let rows = [
-        (by_biba, "no EACCES vnode_open_read mac_biba 2"),
-        (by_none, "no EPERM priv - 1"),
-        (Reply::Refused(Errno::Enotdir), "no ENOTDIR - -"),
-    ];
-    are_printed(rt, alloc, &rows)
-}
-
-#[test]
-fn replies_and_their_texts(rt: HostRuntime) -> Result<(), AllocError> {
-    read_and_listed(&rt, rt.alloc())?;
-    shown(&rt, rt.alloc())?;
-    loaded(&rt, rt.alloc())?;
-    listed_and_added(&rt, rt.alloc())?;
-    denied(&rt, rt.alloc())
-}
 
 fn empty_task(rt: &impl Abort, alloc: Global) -> Result<Script, AllocError> {
     assert!(rt; EMPTY_TASK.len() <= SCRIPT_LIMIT);
@@ -211,18 +45,16 @@ fn some_history(alloc: Global) -> Result<History, AllocError> {
     Ok(History { boots, events })
 }
 
-#[test]
-fn lines_of_a_history(rt: HostRuntime) -> Result<(), AllocError> {
-    let script = empty_task(&rt, rt.alloc())?;
-    let history = some_history(rt.alloc())?;
-    let mut out = String::new(rt.alloc());
-    print_history(&script, &history, &mut out)?;
-    print_event(&script, &Event::Enter(0), &mut out)?;
-    assert_eq!(rt;
-        out.as_str(),
-        "boot mac_biba 0\nenter t\ndone t 1 ok\nleave t\nchanged t 2 no EEXIST - -\nenter t\n"
-    );
-    text_tells_history();
+/// The text of that history, and of an event more.
+const TEXT: &str =
+    "boot mac_biba 0\nenter t\ndone t 1 ok\nleave t\nchanged t 2 no EEXIST - -\nenter t\n";
+
+/// It has this text.
+fn is_printed(rt: &impl Abort, alloc: Global, script: &Script) -> Result<(), HistError> {
+    let history = some_history(alloc)?;
+    let mut out = text_of(alloc, script, &history)?;
+    print_event(script, &Event::Enter(0), &mut out)?;
+    wants(rt, TEXT, out.as_str() == TEXT);
     Ok(())
 }
 
@@ -240,6 +72,9 @@ const LINES: &[&str] = &[
     "done t 1 ok bytes 2 =hi",
     "done t 1 ok bytes 3 =\\00\\ff\\5c",
     "done t 1 ok bytes 0 =",
+    "done t 1 ok fd 0",
+    "done t 1 ok fd 15",
+    "done t 1 ok fd 4294967295",
     "done t 1 ok size 4294967295",
     "done t 1 ok stat dir uid 0 gid 0 mode 177777 size 9",
     "done t 1 ok stat reg uid 4294967295 gid 0 mode 0 size 0",
@@ -265,6 +100,8 @@ const LINES: &[&str] = &[
     "done t 1 no ok priv - 0",
     "done t 1 no EACCES vnode_read mac_mls 255",
     "done t 1 no ENOENT - -",
+    "done t 1 no EBADF - -",
+    "done t 1 no EMFILE - -",
     "changed t 1 no EBUSY - -",
 ];
 
@@ -283,6 +120,12 @@ const NO_LINES: &[&str] = &[
     "done t 01 ok",
     "done t 4294967296 ok",
     "done t 1 ok ",
+    "done t 1 ok fd",
+    "done t 1 ok fd 00",
+    "done t 1 ok fd r",
+    "done t 1 ok fd 0 r",
+    "done t 1 ok fd 4294967296",
+    "done t 1 ok foo 0",
     "done t 1 ok size 01",
     "done t 1 ok bytes 3 =ab",
     "done t 1 ok bytes 2 =\\41b",
@@ -352,6 +195,24 @@ fn read(rt: &impl Abort, alloc: Global, script: &Script, text: &str) -> Result<H
     read_history(alloc, script, text.as_bytes())
 }
 
+/// The text of a history.
+fn text_of(alloc: Global, script: &Script, history: &History) -> Result<String, HistError> {
+    let mut out = String::new(alloc);
+    print_history(script, history, &mut out)?;
+    Ok(out)
+}
+
+/// The text of what is read of a short text.
+fn read_and_printed(
+    rt: &impl Abort,
+    alloc: Global,
+    script: &Script,
+    text: &str,
+) -> Result<String, HistError> {
+    let history = read(rt, alloc, script, text)?;
+    text_of(alloc, script, &history)
+}
+
 /// The line is read, and what is read has the line for its text.
 fn is_read_back(
     rt: &impl Abort,
@@ -360,46 +221,61 @@ fn is_read_back(
     line: &str,
 ) -> Result<(), HistError> {
     let text = format!(in alloc; "{line}\n")?;
-    let history = read(rt, alloc, script, text.as_str())?;
-    let mut out = String::new(alloc);
-    print_history(script, &history, &mut out)?;
-    assert_eq!(rt; out.as_str(), text.as_str());
+    let out = read_and_printed(rt, alloc, script, text.as_str())?;
+    wants(rt, line, out.as_str() == text.as_str());
     Ok(())
 }
 
-#[test]
-fn lines_are_read_back(rt: HostRuntime) -> Result<(), Fail> {
-    let script = empty_task(&rt, rt.alloc())?;
+/// Each line is read back, and so is a text without any.
+fn are_read_back(rt: &impl Abort, alloc: Global, script: &Script) -> Result<(), HistError> {
     for line in LINES {
-        is_read_back(&rt, rt.alloc(), &script, line)?;
+        is_read_back(rt, alloc, script, line)?;
     }
+    let none = read_and_printed(rt, alloc, script, "")?;
+    wants(rt, "no line", none.as_str().is_empty());
     Ok(())
 }
 
 /// The line of that number is the first that is none.
 fn is_refused(rt: &impl Abort, alloc: Global, script: &Script, text: &str, number: u32) {
     let error = read(rt, alloc, script, text).err();
-    assert!(rt; error == Some(HistError::Line(number)), "{text}");
+    wants(rt, text, error == Some(HistError::Line(number)));
 }
 
-#[test]
-fn other_lines_are_refused(rt: HostRuntime) -> Result<(), AllocError> {
-    let script = empty_task(&rt, rt.alloc())?;
+/// The line is none.
+fn is_no_line(
+    rt: &impl Abort,
+    alloc: Global,
+    script: &Script,
+    line: &str,
+) -> Result<(), HistError> {
+    let text = format!(in alloc; "boot mac_biba 0\nenter t\n{line}\nleave t\n")?;
+    is_refused(rt, alloc, script, text.as_str(), 3);
+    Ok(())
+}
+
+fn others_are_refused(rt: &impl Abort, alloc: Global, script: &Script) -> Result<(), HistError> {
     for line in NO_LINES {
-        let text = format!(in rt.alloc(); "boot mac_biba 0\nenter t\n{line}\nleave t\n")?;
-        is_refused(&rt, rt.alloc(), &script, text.as_str(), 3);
+        is_no_line(rt, alloc, script, line)?;
     }
     for (text, number) in NO_HISTORIES {
-        is_refused(&rt, rt.alloc(), &script, text, *number);
+        is_refused(rt, alloc, script, text, *number);
     }
     Ok(())
 }
 
+fn are_told(rt: &impl Abort, alloc: Global, script: &Script) -> Result<(), HistError> {
+    is_printed(rt, alloc, script)?;
+    are_read_back(rt, alloc, script)?;
+    others_are_refused(rt, alloc, script)
+}
+
+/// The texts of histories of one script are read back, and no others.
 #[test]
-fn an_empty_text_is_a_history(rt: HostRuntime) -> Result<(), Fail> {
+fn histories_and_their_texts(rt: HostRuntime) -> Result<(), Fail> {
     let script = empty_task(&rt, rt.alloc())?;
-    let empty = read(&rt, rt.alloc(), &script, "")?;
-    assert!(rt; empty.events.as_slice().is_empty());
+    are_told(&rt, rt.alloc(), &script)?;
+    text_tells_history();
     legal_histories_are_readable();
     Ok(())
 }

@@ -1,6 +1,7 @@
 //! Runs of the program over the modules that are built in.
 
 mod cases;
+mod descriptors;
 mod failures;
 mod gates;
 mod grants;
@@ -19,13 +20,13 @@ mod watermark;
 
 use mf_biba::Biba;
 use mf_bsdextended::Bsdextended;
-use mf_io::{Gate, MemSink, MemSource, Sink, Source};
+use mf_io::{Gate, MemSink, MemSource, OpenGate, Sink, Source};
 use mf_lomac::Lomac;
 use mf_mls::Mls;
 use mf_partition::Partition;
 use mf_policy::Policy;
 use mf_priority::Priority;
-use mf_top::macsim;
+use mf_top::{macsim, run_steps};
 use std::alloc::{AllocError, Global};
 use std::process::Abort;
 use std::sync::Wait;
@@ -55,14 +56,25 @@ fn run_with<S: Source, K: Sink, G: Gate, R: Threads + Wait + Sync>(
     gate: &G,
 ) -> Result<u8, AllocError> {
     let words = words_of(alloc, words)?;
-    run_words(rt, alloc, words.as_slice(), source, sink, gate)
+    run_over(rt, alloc, Some(words.as_slice()), source, sink, gate)
 }
 
-/// The same with words that the caller keeps: while the modules are made nothing else is owned.
-fn run_words<S: Source, K: Sink, G: Gate, R: Threads + Wait + Sync>(
+/// Takes the steps of a script over those modules, and returns the exit status. No thread is needed for that.
+fn step_with<S: Source, K: Sink, R: Threads + Wait + Sync>(
     rt: &R,
     alloc: Global,
-    words: &[String],
+    source: &mut S,
+    sink: &mut K,
+) -> Result<u8, AllocError> {
+    run_over(rt, alloc, None, source, sink, &OpenGate)
+}
+
+/// Runs the program with these words, or takes the steps where there are none. While the modules are made nothing else is
+/// owned.
+fn run_over<S: Source, K: Sink, G: Gate, R: Threads + Wait + Sync>(
+    rt: &R,
+    alloc: Global,
+    words: Option<&[String]>,
     source: &mut S,
     sink: &mut K,
     gate: &G,
@@ -74,12 +86,20 @@ fn run_words<S: Source, K: Sink, G: Gate, R: Threads + Wait + Sync>(
     modules.push(Box::new(alloc, Partition::new())?)?;
     modules.push(Box::new(alloc, Bsdextended::new(alloc)?)?)?;
     modules.push(Box::new(alloc, Priority::new())?)?;
-    Ok(macsim(rt, alloc, words, source, sink, gate, modules))
+    Ok(match words {
+        Some(words) => macsim(rt, alloc, words, source, sink, gate, modules),
+        None => run_steps(alloc, source, sink, modules),
+    })
+}
+
+/// Wants what is said of this to hold.
+fn wants_that<R: Abort>(rt: &R, name: &str, holds: bool) {
+    assert!(rt; holds, "{name}");
 }
 
 /// Wants this exit status, and that the sink took this text.
 fn wants<R: Abort>(rt: &R, name: &str, status: u8, wanted: u8, sink: &MemSink, text: &[u8]) {
-    assert!(rt; status == wanted && sink.taken() == text, "{name}");
+    wants_that(rt, name, status == wanted && sink.taken() == text);
 }
 
 /// Runs the script with this gate, and returns the exit status.
@@ -93,6 +113,32 @@ fn run_script<G: Gate, R: Threads + Wait + Sync>(
     let bytes = script.as_bytes().to_vec(alloc)?;
     let mut source = MemSource::new(bytes, 65_536, Vec::new(alloc));
     run_with(rt, alloc, &["run"], &mut source, sink, gate)
+}
+
+/// The text of a run of the script with this gate, whose exit status is 0.
+fn text_of_run<G: Gate, R: Abort + Threads + Wait + Sync>(
+    rt: &R,
+    alloc: Global,
+    script: &str,
+    gate: &G,
+) -> Result<String, AllocError> {
+    let mut sink = MemSink::new(alloc, 100_000, 100_000, Vec::new(alloc))?;
+    let status = run_script(rt, alloc, script, &mut sink, gate)?;
+    wants_that(rt, "exit status", status == 0);
+    String::from_utf8_lossy(alloc, sink.taken())
+}
+
+/// The summary of a generated load of these words with this gate, whose exit status is 0.
+fn summary_of<G: Gate, R: Abort + Threads + Wait + Sync>(
+    rt: &R,
+    alloc: Global,
+    words: &[&str],
+    gate: &G,
+) -> Result<String, AllocError> {
+    let mut sink = MemSink::new(alloc, 1000, 7, Vec::new(alloc))?;
+    let status = run_load(rt, alloc, words, &mut sink, gate)?;
+    wants_that(rt, "exit status", status == 0);
+    String::from_utf8_lossy(alloc, sink.taken())
 }
 
 /// Runs the generated load of these words with this gate, and returns the exit status. Each read of the source would fail.

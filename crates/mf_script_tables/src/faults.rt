@@ -37,6 +37,7 @@ const LINES: &[Row] = &[
     ("boot mac_biba\nx", "2 2 UnknownWord"),
     ("boot mac_biba\nx\n", "2 2 UnknownWord"),
     ("# a comment\n\n \t\nx", "4 2 UnknownWord"),
+    ("\n# a fault\nboot mac_foo", "3 12 BootRefused ENOENT"),
     (
         "\n#x\nboot mac_biba\n\n#\nboot mac_biba",
         "6 12 BootRefused EEXIST",

@@ -1,9 +1,8 @@
 //! Small scripts, and what is read of them.
 
 use mf_calls::{FileLine, Line, Script, Task};
-use mf_errno::Errno;
 use mf_names::SCRIPT_LIMIT;
-use mf_script::{Call, ScriptError, ScriptFault, Step, StepKind, generate, read_script};
+use mf_script::{Call, ScriptError, Step, StepKind, generate, read_script};
 use std::alloc::{AllocError, Global};
 use std::process::Abort;
 
@@ -142,15 +141,6 @@ fn is_www(tasks: &[Task]) -> bool {
     is_named && has_groups && reads_and_writes(www.lines.as_slice())
 }
 
-#[test]
-fn reads_what_the_lines_say(rt: HostRuntime) -> Result<(), ScriptError> {
-    let script = script_of(&rt, rt.alloc(), MAIL)?;
-    wants(&rt, "files", is_the_mail(script.files.as_slice()));
-    wants(&rt, "tasks", is_www(script.tasks.as_slice()));
-    wants(&rt, "no tunable", !script.revocation);
-    Ok(())
-}
-
 /// The two steps begin an entry of a, and plan a call of b.
 fn enters_and_plans(steps: &[Step]) -> bool {
     let [enters, plans] = steps else {
@@ -160,52 +150,12 @@ fn enters_and_plans(steps: &[Step]) -> bool {
     kinds && plans.task.as_str() == "b"
 }
 
-#[test]
-fn reads_the_steps(rt: HostRuntime) -> Result<(), ScriptError> {
-    let script = script_of(&rt, rt.alloc(), "steps\nenter a\nplan b\nend")?;
-    wants(&rt, "steps", enters_and_plans(script.steps.as_slice()));
-    Ok(())
-}
-
-#[test]
-fn finds_the_fault_of_a_line(rt: HostRuntime) {
-    let found = script_of(&rt, rt.alloc(), "\n# a fault\nboot mac_foo").err();
-    let fault = ScriptFault::BootRefused;
-    let wanted = ScriptError::Fault {
-        line: 3,
-        fault,
-        errno: Some(Errno::Enoent),
-    };
-    wants(&rt, "a fault", found == Some(wanted));
-    wants(
-        &rt,
-        "its name",
-        fault.number() == 12 && fault.name() == "BootRefused",
-    );
-}
-
 /// The lines of the only task.
 fn only_lines(script: &Script) -> &[Line] {
     match script.tasks.as_slice() {
         [task] => task.lines.as_slice(),
         _ => &[],
     }
-}
-
-/// The call may be one of the task's and one of its child's.
-fn reads_call(rt: &impl Abort, alloc: Global, call: &str) -> Result<(), ScriptError> {
-    let text = format!(in alloc; "task t uid 0 gid 0 label -\n{call}\n@c {call}\nend")?;
-    let script = script_of(rt, alloc, text.as_str())?;
-    wants(rt, call, only_lines(&script).len() == 2);
-    Ok(())
-}
-
-#[test]
-fn reads_every_call(rt: HostRuntime) -> Result<(), ScriptError> {
-    for call in CALLS {
-        reads_call(&rt, rt.alloc(), call)?;
-    }
-    Ok(())
 }
 
 /// Whether the line gives this setting this value.
@@ -222,15 +172,6 @@ fn set_two(lines: &[Line], first: (&str, &str), second: (&str, &str)) -> bool {
         [one, other] => sets(one, first.0, first.1) && sets(other, second.0, second.1),
         _ => false,
     }
-}
-
-#[test]
-fn a_setting_is_parted_at_its_first_equals_sign(rt: HostRuntime) -> Result<(), ScriptError> {
-    let text = "task t uid 0 gid 0 label -\nsysctl a=b=c\nsysctl =\nend";
-    let script = script_of(&rt, rt.alloc(), text)?;
-    let is_parted = set_two(only_lines(&script), ("a", "b=c"), ("", ""));
-    wants(&rt, "settings", is_parted);
-    Ok(())
 }
 
 /// Whether the line opens a file in this mode.
@@ -255,19 +196,82 @@ fn open_and_write(lines: &[Line]) -> bool {
     is_written && opens(read, true, false) && opens(write, false, true) && opens(both, true, true)
 }
 
+/// What is read of a script.
+#[derive(Clone, Copy)]
+enum Read {
+    /// Some script.
+    Any,
+    /// The files and the task of the mail.
+    Mail,
+    /// Two steps.
+    Steps,
+    /// Two settings, each parted at its first equals sign.
+    Settings,
+    /// The tunable, and the modes of four calls.
+    Modes,
+    /// The two lines of the only task.
+    TwoLines,
+}
+
+fn is_of(script: &Script, read: Read) -> bool {
+    match read {
+        Read::Any => true,
+        Read::Mail => {
+            let has_files = is_the_mail(script.files.as_slice());
+            has_files && is_www(script.tasks.as_slice()) && !script.revocation
+        }
+        Read::Steps => enters_and_plans(script.steps.as_slice()),
+        Read::Settings => set_two(only_lines(script), ("a", "b=c"), ("", "")),
+        Read::Modes => script.revocation && open_and_write(only_lines(script)),
+        Read::TwoLines => only_lines(script).len() == 2,
+    }
+}
+
+/// That is read of a short script.
+fn is_read(rt: &impl Abort, alloc: Global, text: &str, read: Read) -> Result<(), ScriptError> {
+    let script = script_of(rt, alloc, text)?;
+    wants(rt, text, is_of(&script, read));
+    Ok(())
+}
+
+const READ: &[(&str, Read)] = &[
+    (MAIL, Read::Mail),
+    ("steps\nenter a\nplan b\nend", Read::Steps),
+    (
+        "task t uid 0 gid 0 label -\nsysctl a=b=c\nsysctl =\nend",
+        Read::Settings,
+    ),
+    (MODES, Read::Modes),
+];
+
 #[test]
-fn reads_the_modes_and_the_tunable(rt: HostRuntime) -> Result<(), ScriptError> {
-    let script = script_of(&rt, rt.alloc(), MODES)?;
-    wants(&rt, "the tunable", script.revocation);
-    wants(&rt, "modes", open_and_write(only_lines(&script)));
+fn reads_what_the_lines_say(rt: HostRuntime) -> Result<(), ScriptError> {
+    for (text, read) in READ {
+        is_read(&rt, rt.alloc(), text, *read)?;
+    }
     Ok(())
 }
 
 #[test]
-fn takes_good_scripts(rt: HostRuntime) {
-    for script in GOOD_SCRIPTS {
-        wants(&rt, script, script_of(&rt, rt.alloc(), script).is_ok());
+fn takes_good_scripts(rt: HostRuntime) -> Result<(), ScriptError> {
+    for text in GOOD_SCRIPTS {
+        is_read(&rt, rt.alloc(), text, Read::Any)?;
     }
+    Ok(())
+}
+
+/// The call may be one of the task's and one of its child's.
+fn reads_call(rt: &impl Abort, alloc: Global, call: &str) -> Result<(), ScriptError> {
+    let text = format!(in alloc; "task t uid 0 gid 0 label -\n{call}\n@c {call}\nend")?;
+    is_read(rt, alloc, text.as_str(), Read::TwoLines)
+}
+
+#[test]
+fn reads_every_call(rt: HostRuntime) -> Result<(), ScriptError> {
+    for call in CALLS {
+        reads_call(&rt, rt.alloc(), call)?;
+    }
+    Ok(())
 }
 
 #[test]

@@ -1,4 +1,5 @@
 use Rattle.std.proofs.Common.{◌≡◌, refl, ap, ◌∙◌}
+use Rattle.mf_biba.specs.declared.biba.Biba.{Biba}
 use Rattle.mf_bsdextended.specs.declared.bsdextended.Bsdextended.{Bsdextended}
 use Rattle.mf_policy.specs.declared.spec.Spec.TheVariants as means
 use denote.Param.Object.{read_made, Made}
@@ -16,7 +17,7 @@ macsim-requires-clause-modules g c κs within =
     are_all _ _
     (one_of_each (λ p. (own-1.entry p.vtable).1.spec p.value) _ _ _ _ _ _ _ _ _ _ _ _ _
     c.new-modules.ensures.items c.in_ok-push.ensures.items c.in_ok-push-2.ensures.items c.in_ok-push-3.ensures.items c.in_ok-push-4.ensures.items c.in_ok-push-5.ensures.items c.in_ok-push-6.ensures.items
-    (behind (λ v. (own-1.entry v).0.Denot) (λ v x. (own-1.entry v).1.spec x) _ _ c.into_dyn_box.result.value _ c.into_dyn_box.ensures.0 (λ y. refl))
+    (made_spec c.into_dyn_box.ensures.0 c.into_dyn_box.ensures.1 ∙ (ap (λ (p : Biba). means.Biba p.revocation) c.in_ok-new.ensures.ok ∙ c.new.ensures))
     (behind (λ v. (own-1.entry v).0.Denot) (λ v x. (own-1.entry v).1.spec x) _ _ c.into_dyn_box-in_ok-new-2.result.value _ c.into_dyn_box-in_ok-new-2.ensures.0 (λ y. refl))
     (behind (λ v. (own-1.entry v).0.Denot) (λ v x. (own-1.entry v).1.spec x) _ _ c.into_dyn_box-in_ok-new-3.result.value _ c.into_dyn_box-in_ok-new-3.ensures.0 (λ y. refl))
     (behind (λ v. (own-1.entry v).0.Denot) (λ v x. (own-1.entry v).1.spec x) _ _ c.into_dyn_box-in_ok-new-4.result.value _ c.into_dyn_box-in_ok-new-4.ensures.0 (λ y. refl))
@@ -27,7 +28,7 @@ pub macsim-requires-clause-fresh : goal.macsim-requires-clause-fresh
 macsim-requires-clause-fresh g c κs within =
     (one_of_each (λ p. (own-1.entry p.vtable).1.spec p.value) _ _ _ _ _ _ _ _ _ _ _ _ _
     c.new-modules.ensures.items c.in_ok-push.ensures.items c.in_ok-push-2.ensures.items c.in_ok-push-3.ensures.items c.in_ok-push-4.ensures.items c.in_ok-push-5.ensures.items c.in_ok-push-6.ensures.items
-    (behind (λ v. (own-1.entry v).0.Denot) (λ v x. (own-1.entry v).1.spec x) _ _ c.into_dyn_box.result.value _ c.into_dyn_box.ensures.0 (λ y. refl))
+    (made_spec c.into_dyn_box.ensures.0 c.into_dyn_box.ensures.1 ∙ (ap (λ (p : Biba). means.Biba p.revocation) c.in_ok-new.ensures.ok ∙ c.new.ensures))
     (behind (λ v. (own-1.entry v).0.Denot) (λ v x. (own-1.entry v).1.spec x) _ _ c.into_dyn_box-in_ok-new-2.result.value _ c.into_dyn_box-in_ok-new-2.ensures.0 (λ y. refl))
     (behind (λ v. (own-1.entry v).0.Denot) (λ v x. (own-1.entry v).1.spec x) _ _ c.into_dyn_box-in_ok-new-3.result.value _ c.into_dyn_box-in_ok-new-3.ensures.0 (λ y. refl))
     (behind (λ v. (own-1.entry v).0.Denot) (λ v x. (own-1.entry v).1.spec x) _ _ c.into_dyn_box-in_ok-new-4.result.value _ c.into_dyn_box-in_ok-new-4.ensures.0 (λ y. refl))

@@ -9,22 +9,16 @@ ghost use Rattle.mf_core.specs.AllModules.{AreAllModules};
 ghost use Rattle.mf_core.specs.CoreView.{specs_of};
 ghost use Rattle.mf_core.specs.Policies.{AreOf};
 
-use mf_biba::Biba;
-use mf_bsdextended::Bsdextended;
+use crate::tests::{Scenario, history_over_modules, wants};
 use mf_calls::Script;
 use mf_core::{ChangeOutcome, Commit, Core, Turn};
 use mf_hist::print_history;
 use mf_list::{Catalogue, Fixed, Listed, PolicyList};
-use mf_lomac::Lomac;
-use mf_mls::Mls;
-use mf_names::SCRIPT_LIMIT;
-use mf_partition::Partition;
 use mf_plan::Plan;
 use mf_policy::Policy;
-use mf_priority::Priority;
-use mf_script::read_script;
 use std::alloc::{AllocError, Global};
 use std::process::Abort;
+use std::sync::Wait;
 use std::test::Fail;
 
 /// The lines of a task that take memory: for an entity, for what it holds or hands back, for a
@@ -104,6 +98,37 @@ const LOWERED: &[&str] = &[
     "done t 5 ok label lomac/5",
 ];
 
+/// A file that is read and written through descriptors, with revocation, and goes.
+const OPENING: &str = "boot mac_biba
+tunable security.mac.biba.revocation_enabled=1
+file /f reg uid 0 gid 0 mode 644 label biba/high text hi
+task t uid 0 gid 0 label biba/high
+open /f r
+open /f w
+fwrite 1 !
+setfmac biba/5 /f
+fread 0
+fwrite 1 !
+setfmac biba/high /f
+fread 0
+unlink /f
+fread 0
+end
+";
+
+const OPENED: &[&str] = &[
+    "done t 1 ok fd 0",
+    "done t 2 ok fd 1",
+    "done t 3 ok",
+    "done t 4 ok",
+    "done t 5 no EACCES vnode_read mac_biba 1",
+    "done t 6 ok",
+    "done t 7 ok",
+    "done t 8 ok bytes 4 =hi!!",
+    "done t 9 ok",
+    "done t 10 no EBADF - -",
+];
+
 /// A core of a script with a task, with its policies.
 #[derive(Drop)]
 struct Machine<'s, P: Policy> {
@@ -151,9 +176,9 @@ fn wants_reading<P: Policy>(
     before: &str,
 ) -> Result<(), AllocError> {
     let after = reading_of(alloc, script, machine)?;
-    assert!(rt; after.as_str() == before);
     let listed = Listed::new(&machine.fixed, &machine.list);
-    assert!(rt; listed.same_specs(&machine.core.state().specs));
+    let has_specs = listed.same_specs(&machine.core.state().specs);
+    wants(rt, before, after.as_str() == before && has_specs);
     Ok(())
 }
 
@@ -187,7 +212,7 @@ fn commit_or_stay<P: Policy>(
             commit(rt, alloc, machine)?
         }
     };
-    assert!(rt; done == Commit::Done);
+    wants(rt, "done", done == Commit::Done);
     Ok(())
 }
 
@@ -223,7 +248,7 @@ fn change_or_stay<P: Policy>(
             change(rt, alloc, machine)?
         }
     };
-    assert!(rt; outcome == ChangeOutcome::Done);
+    wants(rt, "changed", outcome == ChangeOutcome::Done);
     Ok(())
 }
 
@@ -256,18 +281,18 @@ fn do_line<P: Policy>(
     }
 }
 
-/// The history of the task's lines, one after another.
-fn history_over<P: Policy>(
+/// The history of the only task's lines, one after another.
+pub fn history_over<P: Policy>(
     rt: &impl Abort,
     alloc: Global,
     script: &Script,
     modules: Vec<P>,
 ) -> Result<String, AllocError>
     requires formed { IsWellFormed script.now }
-    requires tasks { 0 < length script.now.tasks }
     requires modules { AreAllModules (map (λ p. module_of (P.spec p)) modules.items) }
     requires fresh { All (λ p. IsFresh (P.spec p)) modules.items }
 {
+    assert!(rt; script.tasks.len() == 1);
     let (core, fixed, list, catalogue) = Core::new(alloc, script, modules)?;
     let mut machine = Machine {
         core,
@@ -275,55 +300,46 @@ fn history_over<P: Policy>(
         list,
         catalogue,
     };
-    for _ in 0..MANY {
-        do_line(rt, alloc, script, &mut machine)?;
-    }
+    do_lines(rt, alloc, script, &mut machine)?;
     history_of(alloc, script, &machine)
 }
 
-/// The history over the modules that are built in.
-fn over_modules(rt: &impl Abort, alloc: Global, script: &Script) -> Result<String, AllocError>
-    requires formed { IsWellFormed script.now }
-    requires tasks { 0 < length script.now.tasks }
-{
-    let mut modules: Vec<Box<dyn Policy + Send + Sync>> = Vec::new(alloc);
-    modules.push(Box::new(alloc, Biba::new())?)?;
-    modules.push(Box::new(alloc, Mls::new())?)?;
-    modules.push(Box::new(alloc, Lomac::new())?)?;
-    modules.push(Box::new(alloc, Partition::new())?)?;
-    modules.push(Box::new(alloc, Bsdextended::new(alloc)?)?)?;
-    modules.push(Box::new(alloc, Priority::new())?)?;
-    history_over(rt, alloc, script, modules)
-}
-
-/// Wants the replies in a history to be these.
-fn wants_replies(
+/// Does the task's lines.
+fn do_lines<P: Policy>(
     rt: &impl Abort,
     alloc: Global,
-    text: &str,
-    replies: &[&str],
+    script: &Script,
+    machine: &mut Machine<P>,
 ) -> Result<(), AllocError> {
-    let mut wanted = String::new(alloc);
-    for reply in replies {
-        write!(wanted, "{reply}\n")?;
+    for _ in 0..MANY {
+        do_line(rt, alloc, script, machine)?;
     }
-    let mut found = String::new(alloc);
-    for line in text.lines() {
-        if line.starts_with("done ") || line.starts_with("changed ") {
-            write!(found, "{line}\n")?;
-        }
-    }
-    assert!(rt; found.as_str() == wanted.as_str());
     Ok(())
 }
 
+/// Whether the replies in a history are these.
+fn has_replies(text: &str, replies: &[&str]) -> bool {
+    let mut place = 0;
+    for line in text.lines() {
+        if line.starts_with("done ") || line.starts_with("changed ") {
+            match replies.get(place) {
+                Some(reply) if *reply == line => place = place.saturating_add(1),
+                _ => return false,
+            }
+        }
+    }
+    place == replies.len()
+}
+
 /// Wants the task's lines of this script to be replied to so.
-fn wants_lines(rt: &impl Abort, alloc: Global, text: &str, replies: &[&str]) -> Result<(), Fail> {
-    assert!(rt; text.len() <= SCRIPT_LIMIT);
-    let script = read_script(alloc, text.as_bytes())?;
-    assert!(rt; script.tasks.len() == 1);
-    let history = over_modules(rt, alloc, &script)?;
-    wants_replies(rt, alloc, history.as_str(), replies)?;
+fn wants_lines<R: Wait + Abort>(
+    rt: &R,
+    alloc: Global,
+    script: &str,
+    replies: &[&str],
+) -> Result<(), Fail> {
+    let history = history_over_modules(rt, alloc, script, Scenario::Growths)?;
+    wants(rt, script, has_replies(history.as_str(), replies));
     Ok(())
 }
 
@@ -335,4 +351,9 @@ fn a_core_after_refused_growths(rt: HostRuntime) -> Result<(), Fail> {
 #[test]
 fn a_process_that_lowers_itself(rt: HostRuntime) -> Result<(), Fail> {
     wants_lines(&rt, rt.alloc(), LOWERING, LOWERED)
+}
+
+#[test]
+fn a_file_that_stays_open(rt: HostRuntime) -> Result<(), Fail> {
+    wants_lines(&rt, rt.alloc(), OPENING, OPENED)
 }

@@ -7,24 +7,16 @@ ghost use Rattle.mf_perform.specs.Verdict.{verdict_of};
 ghost use Rattle.mf_core.specs.AllModules.{AreAllModules};
 ghost use Rattle.mf_top.specs.Passes.{IsSameTicket};
 
-use mf_biba::Biba;
-use mf_bsdextended::Bsdextended;
+use crate::tests::{Scenario, history_over_modules, wants};
 use mf_calls::Script;
 use mf_core::{Commit, Turn};
 use mf_hist::print_history;
 use mf_list::Listed;
-use mf_lomac::Lomac;
-use mf_mls::Mls;
-use mf_names::SCRIPT_LIMIT;
-use mf_partition::Partition;
 use mf_perform::Verdict;
 use mf_plan::Plan;
 use mf_policy::Policy;
-use mf_priority::Priority;
-use mf_script::read_script;
 use mf_share::{Job, Kernel, Ticket};
 use std::alloc::{AllocError, Global};
-use std::marker::Brand;
 use std::process::Abort;
 use std::sync::Wait;
 use std::sync::ledger::{Blank, Ledger};
@@ -70,14 +62,33 @@ done a 1 ok
 leave a
 ";
 
+/// Two tasks, of which the second takes away the file that the first opens.
+const UNLINKED: &str = "file /f reg uid 0 gid 0 mode 644 label - text hi
+task a uid 0 gid 0 label -
+open /f r
+end
+task b uid 0 gid 0 label -
+unlink /f
+end
+";
+
+const NO_FILE_IS_OPENED: &str = "enter a
+enter b
+done b 1 ok
+leave b
+done a 1 no ENOENT - -
+leave a
+";
+
 /// Each script, and its history.
 const CHANGED_DURING_A_CALL: &[(&str, &str)] = &[
     (RELABELLED, DENIED_BY_THE_NEW_LABEL),
     (SUNK, ALLOWED_BY_THE_LOWER_LABEL),
+    (UNLINKED, NO_FILE_IS_OPENED),
 ];
 
 /// The history of the two tasks: after the second one's call the view of the object in the first one's plan is out of date.
-fn changed_during_a_call<P: Policy, J: Job, B: Ledger, R: Wait + Abort>(
+pub fn changed_during_a_call<P: Policy, J: Job, B: Ledger, R: Wait + Abort>(
     rt: &R,
     alloc: Global,
     script: &Script,
@@ -157,37 +168,10 @@ fn commit_twice<P: Policy, J: Job, B: Ledger, R: Wait>(
 
 #[test]
 fn a_plan_goes_stale(rt: HostRuntime) -> Result<(), Fail> {
-    let alloc = rt.alloc();
-    for (text, history) in CHANGED_DURING_A_CALL {
-        assert!(rt; text.len() <= SCRIPT_LIMIT);
-        let script = read_script(alloc, text.as_bytes())?;
-        assert!(rt; over_modules(&rt, alloc, &script)?.as_str() == *history);
+    for (script, wanted) in CHANGED_DURING_A_CALL {
+        let scenario = Scenario::ChangedDuringACall;
+        let history = history_over_modules(&rt, rt.alloc(), script, scenario)?;
+        wants(&rt, script, history.as_str() == *wanted);
     }
     Ok(())
-}
-
-/// The history over the modules that are built in.
-fn over_modules<R: Wait + Abort>(
-    rt: &R,
-    alloc: Global,
-    script: &Script,
-) -> Result<String, AllocError>
-    requires formed { IsWellFormed script.now }
-{
-    let parts = script.tasks.len() as u64 + 1;
-    let mut modules: Vec<Box<dyn Policy + Send + Sync>> = Vec::new(alloc);
-    modules.push(Box::new(alloc, Biba::new())?)?;
-    modules.push(Box::new(alloc, Mls::new())?)?;
-    modules.push(Box::new(alloc, Lomac::new())?)?;
-    modules.push(Box::new(alloc, Partition::new())?)?;
-    modules.push(Box::new(alloc, Bsdextended::new(alloc)?)?)?;
-    modules.push(Box::new(alloc, Priority::new())?)?;
-    changed_during_a_call::<Box<dyn Policy + Send + Sync>, Brand, Brand, R>(
-        rt,
-        alloc,
-        script,
-        modules,
-        Blank::new(parts),
-        Blank::new(parts),
-    )
 }

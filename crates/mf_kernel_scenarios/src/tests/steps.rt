@@ -7,19 +7,13 @@ ghost use Rattle.mf_core.specs.Policies.{AreOf};
 ghost use Rattle.mf_core.specs.AllModules.{AreAllModules};
 ghost use Rattle.mf_core.specs.CoreView.{specs_of};
 
-use mf_biba::Biba;
-use mf_bsdextended::Bsdextended;
+use crate::tests::{Scenario, history_over_modules, wants};
 use mf_calls::Script;
 use mf_core::{ChangeOutcome, Commit, Core, Turn};
+use mf_hist::print_history;
 use mf_list::{Catalogue, Fixed, Listed, PolicyList};
-use mf_lomac::Lomac;
-use mf_mls::Mls;
-use mf_names::SCRIPT_LIMIT;
-use mf_partition::Partition;
 use mf_plan::Plan;
 use mf_policy::Policy;
-use mf_priority::Priority;
-use mf_script::read_script;
 use std::alloc::{AllocError, Global};
 use std::process::Abort;
 use std::test::Fail;
@@ -32,6 +26,13 @@ end
 task b uid 0 gid 0 label -
 kldunload mac_partition
 end
+";
+
+const UNLOADED_AFTER_THE_READ: &str = "boot mac_partition 0
+enter a
+done a 1 ok bytes 2 =hi
+leave a
+changed b 1 ok
 ";
 
 /// Task 0 begins its entry.
@@ -95,53 +96,42 @@ fn wait_and_change<P: Policy, R: Abort>(
 ) -> Result<(), AllocError>
     requires tasks { length core.old.script.tasks ≡ 2 }
     requires policies { AreOf (specs_of core.old) fixed.now list.old catalogue.old }
+    ensures { OnOk result (core.new.script ≡ core.old.script) }
 {
     begin_entry(rt, core);
     let early = try_change(rt, alloc, core, fixed, list, catalogue)?;
-    assert!(rt; early == ChangeOutcome::Waits(1));
+    wants(rt, "early", early == ChangeOutcome::Waits(1));
     finish_entry(rt, alloc, core, &Listed::new(fixed, list))?;
     let late = try_change(rt, alloc, core, fixed, list, catalogue)?;
-    assert!(rt; late == ChangeOutcome::Done && Listed::new(fixed, list).listed().len() == 0);
+    let is_empty = Listed::new(fixed, list).listed().len() == 0;
+    wants(rt, "late", late == ChangeOutcome::Done && is_empty);
     Ok(())
 }
 
-/// The same from the beginning.
-fn change_during_entry<P: Policy, R: Abort>(
+/// The history of that, from the beginning.
+pub fn change_during_entry<P: Policy, R: Abort>(
     rt: &R,
     alloc: Global,
     script: &Script,
     modules: Vec<P>,
-) -> Result<(), AllocError>
+) -> Result<String, AllocError>
     requires formed { IsWellFormed script.now }
-    requires tasks { length script.now.tasks ≡ 2 }
     requires modules { AreAllModules (map (λ p. module_of (P.spec p)) modules.items) }
     requires fresh { All (λ p. IsFresh (P.spec p)) modules.items }
 {
+    assert!(rt; script.tasks.len() == 2);
     let (mut core, fixed, mut list, mut catalogue) = Core::new(alloc, script, modules)?;
-    wait_and_change(rt, alloc, &mut core, &fixed, &mut list, &mut catalogue)
+    wait_and_change(rt, alloc, &mut core, &fixed, &mut list, &mut catalogue)?;
+    let mut text = String::new(alloc);
+    print_history(script, core.history(), &mut text)?;
+    Ok(text)
 }
 
 #[test]
 fn a_change_waits_while_an_entry_is_open(rt: HostRuntime) -> Result<(), Fail> {
-    let alloc = rt.alloc();
-    assert!(rt; UNLOADED_DURING_A_READ.len() <= SCRIPT_LIMIT);
-    let script = read_script(alloc, UNLOADED_DURING_A_READ.as_bytes())?;
-    assert!(rt; script.tasks.len() == 2);
-    over_modules(&rt, alloc, &script)?;
+    let scenario = Scenario::ChangeDuringEntry;
+    let history = history_over_modules(&rt, rt.alloc(), UNLOADED_DURING_A_READ, scenario)?;
+    let is_later = history.as_str() == UNLOADED_AFTER_THE_READ;
+    wants(&rt, "a change", is_later);
     Ok(())
-}
-
-/// The change over the modules that are built in.
-fn over_modules<R: Abort>(rt: &R, alloc: Global, script: &Script) -> Result<(), AllocError>
-    requires formed { IsWellFormed script.now }
-    requires tasks { length script.now.tasks ≡ 2 }
-{
-    let mut modules: Vec<Box<dyn Policy + Send + Sync>> = Vec::new(alloc);
-    modules.push(Box::new(alloc, Biba::new())?)?;
-    modules.push(Box::new(alloc, Mls::new())?)?;
-    modules.push(Box::new(alloc, Lomac::new())?)?;
-    modules.push(Box::new(alloc, Partition::new())?)?;
-    modules.push(Box::new(alloc, Bsdextended::new(alloc)?)?)?;
-    modules.push(Box::new(alloc, Priority::new())?)?;
-    change_during_entry(rt, alloc, script, modules)
 }

@@ -102,6 +102,27 @@ const REFUSALS: &[Case] = &[
         ..PLAIN
     },
     Case {
+        name: "a tunable's value that is none",
+        script: "boot mac_biba\ntunable security.mac.biba.revocation_enabled=2\n",
+        status: 3,
+        text: "macsim: script line 2 fault 12 BootRefused EINVAL\n",
+        ..PLAIN
+    },
+    Case {
+        name: "a tunable of a module that isn't booted",
+        script: "boot mac_mls\ntunable security.mac.biba.revocation_enabled=2\n",
+        status: 3,
+        text: "macsim: script line 2 fault 12 BootRefused ENOENT\n",
+        ..PLAIN
+    },
+    Case {
+        name: "a tunable that is set twice",
+        script: "boot mac_biba\ntunable security.mac.biba.revocation_enabled=0\ntunable security.mac.biba.revocation_enabled=1\n",
+        status: 3,
+        text: "macsim: script line 3 fault 9 Duplicate\n",
+        ..PLAIN
+    },
+    Case {
         name: "a task without its end",
         script: "task t uid 0 gid 0 label -\nread /a\n",
         status: 3,

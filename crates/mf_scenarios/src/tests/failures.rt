@@ -2,7 +2,7 @@
 ghost use Rattle.std.specs.Prelude.{◌≡◌};
 
 use crate::tests::tasks::SCRIPT;
-use crate::tests::{DENIAL, run_with, wants};
+use crate::tests::{DENIAL, run_with, wants_that};
 use mf_io::{Failed, MemSink, MemSource, OpenGate, Sink, Source};
 use std::alloc::{AllocError, Global};
 use std::process::Abort;
@@ -29,11 +29,6 @@ impl<T: Drop> Watched<T> {
             has_failed: false,
             calls_after: 0,
         }
-    }
-
-    /// Wants so many calls, and none after the first that failed.
-    fn wants_calls<R: Abort>(&self, rt: &R, calls: u64) {
-        assert!(rt; self.calls == calls && self.calls_after == 0);
     }
 
     /// Counts the next call.
@@ -77,38 +72,83 @@ impl<K: Sink + Drop> Sink for Watched<K> {
     }
 }
 
+/// What was seen of a run: the exit status, how often it read and wrote, and what the sink took.
+#[derive(Drop)]
+struct Seen {
+    status: u8,
+    reads: u64,
+    writes: u64,
+    taken: Vec<u8>,
+}
+
+impl Seen {
+    /// Whether the run ended with this status, and after so many reads where nothing could be read.
+    fn has_read_fault(&self, reads: u64) -> bool {
+        let has_text = self.taken.as_slice() == b"macsim: read fault\n".as_slice();
+        self.status == 4 && self.reads == reads && has_text
+    }
+}
+
+/// How many bytes a call of the source gives at most, and how many one of the sink takes.
+type Most = (usize, usize);
+
+/// Runs the program over this source and this sink, and wants no call of either after one that failed.
+fn seen_of<R: Abort + Threads + Wait + Sync>(
+    rt: &R,
+    alloc: Global,
+    words: &[&str],
+    source: &mut Watched<MemSource>,
+    sink: &mut Watched<MemSink>,
+) -> Result<Seen, AllocError> {
+    let status = run_with(rt, alloc, words, source, sink, &OpenGate)?;
+    let is_left_alone = source.calls_after == 0 && sink.calls_after == 0;
+    wants_that(rt, "no call follows", is_left_alone);
+    Ok(Seen {
+        status,
+        reads: source.calls,
+        writes: sink.calls,
+        taken: sink.inner.taken().to_vec(alloc)?,
+    })
+}
+
+/// Runs the program over a source and a sink with so many bytes a call, which fail at these calls.
+fn watched_run<R: Abort + Threads + Wait + Sync>(
+    rt: &R,
+    alloc: Global,
+    (words, script): (&[&str], &str),
+    (given, taken): Most,
+    reads: &[u64],
+    writes: &[u64],
+) -> Result<Seen, AllocError> {
+    assert!(rt; given > 0 && taken > 0);
+    let bytes = script.as_bytes().to_vec(alloc)?;
+    let mut source = Watched::new(MemSource::new(bytes, given, reads.to_vec(alloc)?));
+    let mut sink = Watched::new(MemSink::new(alloc, 100_000, taken, writes.to_vec(alloc)?)?);
+    seen_of(rt, alloc, words, &mut source, &mut sink)
+}
+
 /// The source fails at its second read, in the middle of the script.
 #[test]
 fn a_source_that_fails_is_left_alone(rt: HostRuntime) -> Result<(), Fail> {
-    let alloc = rt.alloc();
-    let bytes = DENIAL.as_bytes().to_vec(alloc)?;
-    let mut source = Watched::new(MemSource::new(bytes, 40, vec![in alloc; 2]?));
-    let mut sink = MemSink::new(alloc, 1000, 1000, Vec::new(alloc))?;
-    let status = run_with(&rt, alloc, &["run"], &mut source, &mut sink, &OpenGate)?;
-    wants(
-        &rt,
-        "a read fails",
-        status,
-        4,
-        &sink,
-        b"macsim: read fault\n".as_slice(),
-    );
-    source.wants_calls(&rt, 2);
+    let seen = watched_run(&rt, rt.alloc(), (&["run"], DENIAL), (40, 1000), &[2], &[])?;
+    wants_that(&rt, "a read fails", seen.has_read_fault(2));
     Ok(())
 }
 
 /// The sink fails at its first write, or at its third.
 #[test]
 fn a_sink_that_fails_is_left_alone(rt: HostRuntime) -> Result<(), Fail> {
-    let alloc = rt.alloc();
     for failing in [1, 3] {
-        let bytes = DENIAL.as_bytes().to_vec(alloc)?;
-        let mut source = Watched::new(MemSource::new(bytes, 1000, Vec::new(alloc)));
-        let mut sink = Watched::new(MemSink::new(alloc, 1000, 10, vec![in alloc; failing]?)?);
-        let status = run_with(&rt, alloc, &["run"], &mut source, &mut sink, &OpenGate)?;
-        assert!(rt; status == 5);
-        source.wants_calls(&rt, 2);
-        sink.wants_calls(&rt, failing);
+        let seen = watched_run(
+            &rt,
+            rt.alloc(),
+            (&["run"], DENIAL),
+            (1000, 10),
+            &[],
+            &[failing],
+        )?;
+        let is_ended = seen.status == 5 && seen.reads == 2 && seen.writes == failing;
+        wants_that(&rt, "a write fails", is_ended);
     }
     Ok(())
 }
@@ -154,26 +194,8 @@ leave a
 end
 ";
 
-/// How many bytes a call of the source gives at most, and how many one of the sink takes: some,
-/// one, and the whole at once.
+/// Some bytes a call, one, and the whole at once.
 const MOST: &[usize] = &[64, 1, 100_000];
-
-/// Runs the program over a source and a sink with so many bytes a call, which fail at these calls.
-fn watched_run<R: Abort + Threads + Wait + Sync>(
-    rt: &R,
-    alloc: Global,
-    (words, script): (&[&str], &str),
-    most: usize,
-    reads: &[u64],
-    writes: &[u64],
-) -> Result<(u8, Watched<MemSource>, Watched<MemSink>), AllocError> {
-    assert!(rt; most > 0);
-    let bytes = script.as_bytes().to_vec(alloc)?;
-    let mut source = Watched::new(MemSource::new(bytes, most, reads.to_vec(alloc)?));
-    let mut sink = Watched::new(MemSink::new(alloc, 100_000, most, writes.to_vec(alloc)?)?);
-    let status = run_with(rt, alloc, words, &mut source, &mut sink, &OpenGate)?;
-    Ok((status, source, sink))
-}
 
 /// The source fails at each of the calls that the program makes, in turn.
 fn fails_at_each_read<R: Abort + Threads + Wait + Sync>(
@@ -182,13 +204,13 @@ fn fails_at_each_read<R: Abort + Threads + Wait + Sync>(
     script: &str,
     most: usize,
 ) -> Result<(), AllocError> {
-    let run: (&[&str], &str) = (&["run"], script);
-    let (status, whole, _) = watched_run(rt, alloc, run, most, &[], &[])?;
-    assert!(rt; status == 0 && whole.calls > 1);
-    for failing in 1..=whole.calls {
-        let (status, source, sink) = watched_run(rt, alloc, run, most, &[failing], &[])?;
-        assert!(rt; status == 4 && sink.inner.taken() == b"macsim: read fault\n".as_slice());
-        source.wants_calls(rt, failing);
+    let (run, most): ((&[&str], &str), Most) = ((&["run"], script), (most, most));
+    let whole = watched_run(rt, alloc, run, most, &[], &[])?;
+    let reads = whole.reads;
+    wants_that(rt, "no call fails", whole.status == 0 && reads > 1);
+    for failing in 1..=reads {
+        let seen = watched_run(rt, alloc, run, most, &[failing], &[])?;
+        wants_that(rt, "a read fails", seen.has_read_fault(failing));
     }
     Ok(())
 }
@@ -200,12 +222,14 @@ fn fails_at_each_write<R: Abort + Threads + Wait + Sync>(
     run: (&[&str], &str),
     most: usize,
 ) -> Result<(), AllocError> {
-    let (status, _, whole) = watched_run(rt, alloc, run, most, &[], &[])?;
-    assert!(rt; status == 0 && whole.calls > 0);
-    for failing in 1..=whole.calls {
-        let (status, _, sink) = watched_run(rt, alloc, run, most, &[], &[failing])?;
-        assert!(rt; status == 5 && whole.inner.taken().starts_with(sink.inner.taken()));
-        sink.wants_calls(rt, failing);
+    let whole = watched_run(rt, alloc, run, (most, most), &[], &[])?;
+    let has_written = whole.status == 0 && whole.writes > 0;
+    wants_that(rt, "no call fails", has_written);
+    for failing in 1..=whole.writes {
+        let seen = watched_run(rt, alloc, run, (most, most), &[], &[failing])?;
+        let is_ended = seen.status == 5 && seen.writes == failing;
+        let is_front = whole.taken.as_slice().starts_with(seen.taken.as_slice());
+        wants_that(rt, "a write fails", is_ended && is_front);
     }
     Ok(())
 }

@@ -1,8 +1,7 @@
 //! Runs whose gate counts the calls, and runs whose tasks wait for each other in it.
 
-use crate::tests::{DENIAL, DENIED, run_load, run_script, wants};
-use mf_io::{Gate, MemSink};
-use std::alloc::{AllocError, Global};
+use crate::tests::{DENIAL, DENIED, summary_of, text_of_run, wants_that};
+use mf_io::Gate;
 use std::process::Abort;
 use std::sync::Wait;
 use std::sync::atomic::{AtomicU64, Ordering};
@@ -52,7 +51,7 @@ const MOST_TURNS: u64 = 1_000_000_000;
 
 /// Wants this count.
 pub fn wants_count<R: Abort>(rt: &R, count: &AtomicU64, wanted: u64) {
-    assert!(rt; count.load(Ordering::SeqCst) == wanted);
+    wants_that(rt, "a count", count.load(Ordering::SeqCst) == wanted);
 }
 
 /// Two tasks that meet between walk and commit; the first one waits there until the second has left.
@@ -95,7 +94,8 @@ impl Meeting {
     /// Wants that both tasks came between walk and commit, and that no wait ran out.
     fn wants_both<R: Abort>(&self, rt: &R) {
         wants_count(rt, &self.waits_that_ran_out, 0);
-        assert!(rt; self.calls_between.load(Ordering::SeqCst) >= 2);
+        let calls = self.calls_between.load(Ordering::SeqCst);
+        wants_that(rt, "both tasks", calls >= 2);
     }
 }
 
@@ -121,11 +121,9 @@ impl Gate for Meeting {
 
 #[test]
 fn each_line_calls_the_gate_once(rt: HostRuntime) -> Result<(), Fail> {
-    let alloc = rt.alloc();
     let counts = Counts::new();
-    let mut sink = MemSink::new(alloc, 1000, 1000, Vec::new(alloc))?;
-    let status = run_script(&rt, alloc, DENIAL, &mut sink, &counts)?;
-    wants(&rt, "one line", status, 0, &sink, DENIED.as_bytes());
+    let text = text_of_run(&rt, rt.alloc(), DENIAL, &counts)?;
+    wants_that(&rt, "one line", text.as_str() == DENIED);
     wants_count(&rt, &counts.between, 1);
     wants_count(&rt, &counts.after, 1);
     wants_count(&rt, &counts.others, 0);
@@ -141,42 +139,19 @@ read /f
 end
 ";
 
-/// The meeting of the script's two tasks, whose history the sink takes.
-fn meeting_of<R: Abort + Threads + Wait + Sync>(
-    rt: &R,
-    alloc: Global,
-    script: &str,
-    sink: &mut MemSink,
-) -> Result<Meeting, AllocError> {
-    let meeting = Meeting::new();
-    let status = run_script(rt, alloc, script, sink, &meeting)?;
-    assert!(rt; status == 0);
-    Ok(meeting)
-}
-
 #[test]
 fn one_task_commits_while_another_is_between(rt: HostRuntime) -> Result<(), Fail> {
-    let alloc = rt.alloc();
-    let mut sink = MemSink::new(alloc, 1000, 1000, Vec::new(alloc))?;
-    let meeting = meeting_of(&rt, alloc, TWO_READERS, &mut sink)?;
+    let meeting = Meeting::new();
+    let _text = text_of_run(&rt, rt.alloc(), TWO_READERS, &meeting)?;
     meeting.wants_both(&rt);
     Ok(())
 }
 
 #[test]
 fn so_do_the_tasks_of_a_load(rt: HostRuntime) -> Result<(), Fail> {
-    let alloc = rt.alloc();
     let meeting = Meeting::new();
-    let mut sink = MemSink::new(alloc, 1000, 1000, Vec::new(alloc))?;
-    let status = run_load(&rt, alloc, &["gen", "1", "2"], &mut sink, &meeting)?;
-    wants(
-        &rt,
-        "a load",
-        status,
-        0,
-        &sink,
-        b"gen 1 2\nok 1\nEACCES 1\n".as_slice(),
-    );
+    let text = summary_of(&rt, rt.alloc(), &["gen", "1", "2"], &meeting)?;
+    wants_that(&rt, "a load", text.as_str() == "gen 1 2\nok 1\nEACCES 1\n");
     meeting.wants_both(&rt);
     Ok(())
 }
@@ -199,10 +174,10 @@ leave a
 /// The first task's plan is out of date when it commits: it plans and walks again, and calls the gate once more.
 #[test]
 fn a_stale_commit_is_tried_again(rt: HostRuntime) -> Result<(), Fail> {
-    let alloc = rt.alloc();
-    let mut sink = MemSink::new(alloc, 1000, 1000, Vec::new(alloc))?;
-    let meeting = meeting_of(&rt, alloc, READER_AND_REMOVER, &mut sink)?;
-    assert!(rt; sink.taken().ends_with(REMOVED_BEFORE_THE_COMMIT.as_bytes()));
+    let meeting = Meeting::new();
+    let text = text_of_run(&rt, rt.alloc(), READER_AND_REMOVER, &meeting)?;
+    let is_removed = text.as_str().ends_with(REMOVED_BEFORE_THE_COMMIT);
+    wants_that(&rt, "the file is gone", is_removed);
     wants_count(&rt, &meeting.waits_that_ran_out, 0);
     wants_count(&rt, &meeting.calls_between, 3);
     Ok(())

@@ -1,10 +1,10 @@
 //! Privileges that mac_priority grants, and a run in which it comes and goes.
 
 use crate::tests::gates::{is_raised, wants_count};
-use crate::tests::run_script;
 use crate::tests::tasks::wants_replies;
+use crate::tests::text_of_run;
 use crate::tests::transcript::{PLAIN, Rows, run_rows};
-use mf_io::{Gate, MemSink};
+use mf_io::Gate;
 use std::sync::Wait;
 use std::sync::atomic::{AtomicU64, Ordering};
 use std::test::Fail;
@@ -129,13 +129,9 @@ impl Gate for Turns {
 
 #[test]
 fn a_grant_comes_and_goes_with_its_module(rt: HostRuntime) -> Result<(), Fail> {
-    let alloc = rt.alloc();
     let turns = Turns::new();
-    let mut sink = MemSink::new(alloc, 10_000, 10_000, Vec::new(alloc))?;
-    let status = run_script(&rt, alloc, COMES_AND_GOES, &mut sink, &turns)?;
-    assert!(rt; status == 0);
+    let text = text_of_run(&rt, rt.alloc(), COMES_AND_GOES, &turns)?;
     wants_count(&rt, &turns.waits_that_ran_out, 0);
-    let text = String::from_utf8_lossy(alloc, sink.taken())?;
-    wants_replies(&rt, alloc, text.as_str(), "u", REPLIES)?;
+    wants_replies(&rt, rt.alloc(), text.as_str(), "u", REPLIES)?;
     Ok(())
 }

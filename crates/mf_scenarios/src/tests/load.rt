@@ -1,24 +1,8 @@
 //! Generated loads.
 
-use crate::tests::run_load;
-use mf_io::{MemSink, OpenGate};
-use std::alloc::{AllocError, Global};
-use std::process::Abort;
-use std::sync::Wait;
+use crate::tests::{summary_of, wants_that};
+use mf_io::OpenGate;
 use std::test::Fail;
-use std::thread::Threads;
-
-/// Runs the load of these words, and returns its summary.
-fn summary_of<R: Abort + Threads + Wait + Sync>(
-    rt: &R,
-    alloc: Global,
-    words: &[&str],
-) -> Result<String, AllocError> {
-    let mut sink = MemSink::new(alloc, 1000, 7, Vec::new(alloc))?;
-    let status = run_load(rt, alloc, words, &mut sink, &OpenGate)?;
-    assert!(rt; status == 0);
-    String::from_utf8_lossy(alloc, sink.taken())
-}
 
 /// Words of loads, and their summaries.
 const SMALL: &[(&[&str], &str)] = &[
@@ -29,8 +13,8 @@ const SMALL: &[(&[&str], &str)] = &[
 #[test]
 fn small_loads(rt: HostRuntime) -> Result<(), Fail> {
     for (words, wanted) in SMALL {
-        let summary = summary_of(&rt, rt.alloc(), words)?;
-        assert!(rt; summary.as_str() == *wanted);
+        let summary = summary_of(&rt, rt.alloc(), words, &OpenGate)?;
+        wants_that(&rt, "a summary", summary.as_str() == *wanted);
     }
     Ok(())
 }
@@ -48,11 +32,17 @@ fn sum_of_counts(text: &str) -> u64 {
     sum
 }
 
+const LARGEST: &[&str] = &["gen", "4096", "16"];
+
 #[test]
 fn largest_load(rt: HostRuntime) -> Result<(), Fail> {
-    let first = summary_of(&rt, rt.alloc(), &["gen", "4096", "16"])?;
-    let second = summary_of(&rt, rt.alloc(), &["gen", "4096", "16"])?;
-    assert!(rt; first.as_str() == second.as_str());
-    assert!(rt; sum_of_counts(first.as_str()) == 65_536);
+    let first = summary_of(&rt, rt.alloc(), LARGEST, &OpenGate)?;
+    let second = summary_of(&rt, rt.alloc(), LARGEST, &OpenGate)?;
+    let is_same = first.as_str() == second.as_str();
+    wants_that(
+        &rt,
+        "twice",
+        is_same && sum_of_counts(first.as_str()) == 65_536,
+    );
     Ok(())
 }

@@ -1,12 +1,9 @@
 //! Modules that come and go while other tasks go on, or load and unload them too.
 
-use crate::tests::run_script;
-use mf_io::{MemSink, OpenGate};
+use crate::tests::{text_of_run, wants_that};
+use mf_io::OpenGate;
 use std::alloc::{AllocError, Global};
-use std::process::Abort;
-use std::sync::Wait;
 use std::test::Fail;
-use std::thread::Threads;
 
 /// How often each other task reads.
 const READS: usize = 20;
@@ -58,18 +55,6 @@ fn lines_from(alloc: Global, text: &str, front: &str) -> Result<String, AllocErr
     Ok(found)
 }
 
-/// The text of a run of the sixteen tasks.
-fn text_of_sixteen<R: Abort + Threads + Wait + Sync>(
-    rt: &R,
-    alloc: Global,
-) -> Result<String, AllocError> {
-    let script = sixteen_tasks(alloc)?;
-    let mut sink = MemSink::new(alloc, 100_000, 100_000, Vec::new(alloc))?;
-    let status = run_script(rt, alloc, script.as_str(), &mut sink, &OpenGate)?;
-    assert!(rt; status == 0);
-    String::from_utf8_lossy(alloc, sink.taken())
-}
-
 /// How many lines of the text are of a read that gave the file's two bytes.
 fn count_reads(text: &str) -> usize {
     let mut count: usize = 0;
@@ -83,10 +68,11 @@ fn count_reads(text: &str) -> usize {
 
 #[test]
 fn a_module_comes_and_goes(rt: HostRuntime) -> Result<(), Fail> {
-    let text = text_of_sixteen(&rt, rt.alloc())?;
+    let script = sixteen_tasks(rt.alloc())?;
+    let text = text_of_run(&rt, rt.alloc(), script.as_str(), &OpenGate)?;
     let changes = lines_from(rt.alloc(), text.as_str(), "changed ")?;
-    assert!(rt; changes.as_str() == CHANGES);
-    assert!(rt; count_reads(text.as_str()) == 15 * READS);
+    wants_that(&rt, "changes", changes.as_str() == CHANGES);
+    wants_that(&rt, "reads", count_reads(text.as_str()) == 15 * READS);
     Ok(())
 }
 
@@ -128,13 +114,9 @@ fn slots_given(alloc: Global, text: &str) -> Result<String, AllocError> {
 /// Whoever comes first, a slot is given once.
 #[test]
 fn sixteen_tasks_load_and_unload(rt: HostRuntime) -> Result<(), Fail> {
-    let alloc = rt.alloc();
-    let script = sixteen_loaders(alloc)?;
-    let mut sink = MemSink::new(alloc, 100_000, 100_000, Vec::new(alloc))?;
-    let status = run_script(&rt, alloc, script.as_str(), &mut sink, &OpenGate)?;
-    assert!(rt; status == 0);
-    let text = String::from_utf8_lossy(alloc, sink.taken())?;
-    let slots = slots_given(alloc, text.as_str())?;
-    assert!(rt; slots.as_str() == "1 2 3 ");
+    let script = sixteen_loaders(rt.alloc())?;
+    let text = text_of_run(&rt, rt.alloc(), script.as_str(), &OpenGate)?;
+    let slots = slots_given(rt.alloc(), text.as_str())?;
+    wants_that(&rt, "slots", slots.as_str() == "1 2 3 ");
     Ok(())
 }

@@ -169,11 +169,18 @@ fn loads(rt: HostRuntime) -> Result<(), Fail> {
     Ok(())
 }
 
-/// The call that writes so many letters.
-fn letters(alloc: Global, call: &str, count: usize) -> Result<String, AllocError> {
-    let bytes = vec![in alloc; b'a'; count]?;
-    let text = String::from_utf8_lossy(alloc, &bytes)?;
-    format!(in alloc; "{call} {text}")
+/// Adds the call that writes so many letters.
+fn add_letters(
+    alloc: Global,
+    transcript: &mut Transcript,
+    call: &str,
+    count: usize,
+) -> Result<(), AllocError> {
+    let mut line = String::from_str(alloc, call)?;
+    for _letter in 0..count {
+        line.push_str("a")?;
+    }
+    transcript.add(line.as_str(), "ok")
 }
 
 const LIMITS: Rows = Rows {
@@ -182,33 +189,42 @@ const LIMITS: Rows = Rows {
     ..PLAIN
 };
 
-#[test]
-fn limits_of_objects(rt: HostRuntime) -> Result<(), Fail> {
-    let alloc = rt.alloc();
-    let mut transcript = Transcript::new(alloc, &LIMITS)?;
-    transcript.add(letters(alloc, "write /f", 65_536)?.as_str(), "ok")?;
+/// Fills a file, a pipe and a socket.
+fn fill_objects(alloc: Global, transcript: &mut Transcript) -> Result<(), AllocError> {
+    add_letters(alloc, transcript, "write /f ", 65_536)?;
     transcript.add("write /f a", "no EFBIG - -")?;
     transcript.add("pipe p", "ok")?;
-    transcript.add(letters(alloc, "pwrite p", 16_384)?.as_str(), "ok")?;
+    add_letters(alloc, transcript, "pwrite p ", 16_384)?;
     transcript.add("pwrite p a", "no EAGAIN - -")?;
     transcript.add("socket s", "ok")?;
     for _message in 0..16 {
         transcript.add("send s s x", "ok")?;
     }
-    transcript.add("send s s x", "no ENOBUFS - -")?;
-    transcript.end(&rt, alloc, &LIMITS)?;
+    transcript.add("send s s x", "no ENOBUFS - -")
+}
+
+#[test]
+fn limits_of_objects(rt: HostRuntime) -> Result<(), Fail> {
+    let mut transcript = Transcript::new(rt.alloc(), &LIMITS)?;
+    fill_objects(rt.alloc(), &mut transcript)?;
+    transcript.end(&rt, rt.alloc(), &LIMITS)?;
     Ok(())
+}
+
+/// Makes as many pipes as there may be beside the root and the task.
+fn add_pipes(alloc: Global, transcript: &mut Transcript) -> Result<(), AllocError> {
+    for number in 1..1023 {
+        let line = format!(in alloc; "pipe p{number}")?;
+        transcript.add(line.as_str(), "ok")?;
+    }
+    transcript.add("pipe p1023", "no ENFILE - -")?;
+    transcript.add("pipe p1", "no EEXIST - -")
 }
 
 #[test]
 fn table_of_entities_full(rt: HostRuntime) -> Result<(), Fail> {
-    let alloc = rt.alloc();
-    let mut transcript = Transcript::new(alloc, &PLAIN)?;
-    for number in 1..1023 {
-        transcript.add(format!(in alloc; "pipe p{number}")?.as_str(), "ok")?;
-    }
-    transcript.add("pipe p1023", "no ENFILE - -")?;
-    transcript.add("pipe p1", "no EEXIST - -")?;
-    transcript.end(&rt, alloc, &PLAIN)?;
+    let mut transcript = Transcript::new(rt.alloc(), &PLAIN)?;
+    add_pipes(rt.alloc(), &mut transcript)?;
+    transcript.end(&rt, rt.alloc(), &PLAIN)?;
     Ok(())
 }

@@ -1,6 +1,7 @@
 //! Rules about files, and their settings.
 
 use crate::tests::transcript::{PLAIN, Rows, Transcript, run_rows};
+use std::alloc::{AllocError, Global};
 use std::test::Fail;
 
 const FIREWALL: Rows = Rows {
@@ -103,6 +104,63 @@ const SETTINGS: &[Rows] = &[
         ],
         ..FIREWALL
     },
+    Rows {
+        name: "nobody changes a tunable whose module is listed",
+        before: "boot mac_biba\ntunable security.mac.biba.revocation_enabled=1\nfile /f reg uid 0 gid 0 mode 644 label biba/high text hi\n",
+        task: "uid 0 gid 0 label biba/high",
+        boots: "boot mac_biba 0\n",
+        rows: &[
+            (
+                "sysctl security.mac.biba.revocation_enabled=0",
+                "no EPERM - -",
+            ),
+            (
+                "sysctl security.mac.biba.revocation_enabled=x",
+                "no EPERM - -",
+            ),
+            ("sysctl security.mac.biba.enabled=0", "no ENOENT - -"),
+            ("open /f r", "ok fd 0"),
+            ("setfmac biba/low /f", "ok"),
+            ("fread 0", "no EACCES vnode_read mac_biba 1"),
+        ],
+        sources: "source biba vnode:/ high\nsource biba vnode:/f low\nsource biba proc:t high\n",
+        ..PLAIN
+    },
+    Rows {
+        name: "nor does who isn't root",
+        before: "boot mac_biba\n",
+        task: "uid 1001 gid 1001 label biba/high",
+        boots: "boot mac_biba 0\n",
+        sources: "source biba vnode:/ high\nsource biba proc:t high\n",
+        rows: &[(
+            "sysctl security.mac.biba.revocation_enabled=1",
+            "no EPERM - -",
+        )],
+        ..PLAIN
+    },
+    Rows {
+        name: "there is none where mac_biba isn't listed",
+        rows: &[
+            (
+                "sysctl security.mac.biba.revocation_enabled=1",
+                "no ENOENT - -",
+            ),
+            (
+                "sysctl security.mac.biba.revocation_enabled=x",
+                "no ENOENT - -",
+            ),
+        ],
+        ..PLAIN
+    },
+    Rows {
+        name: "which who isn't root doesn't learn",
+        task: "uid 1001 gid 1001 label -",
+        rows: &[(
+            "sysctl security.mac.biba.revocation_enabled=1",
+            "no EPERM - -",
+        )],
+        ..PLAIN
+    },
 ];
 
 #[test]
@@ -121,18 +179,28 @@ fn settings(rt: HostRuntime) -> Result<(), Fail> {
     Ok(())
 }
 
+/// Adds as many rules as there may be.
+fn fill(alloc: Global, transcript: &mut Transcript) -> Result<(), AllocError> {
+    for number in 0..250 {
+        let reply = format!(in alloc; "ok rule {number}")?;
+        transcript.add("ugidfw add subject uid 5 object mode n", reply.as_str())?;
+    }
+    Ok(())
+}
+
+/// There is no room, and then for one.
+const FULL: &[(&str, &str)] = &[
+    ("ugidfw add subject uid 5 object mode n", "no ENOBUFS - -"),
+    ("ugidfw remove 0", "ok"),
+    ("ugidfw remove 0", "no ENOENT - -"),
+    ("ugidfw add subject uid 5 object mode n", "ok rule 0"),
+];
+
 #[test]
 fn a_full_rule_list(rt: HostRuntime) -> Result<(), Fail> {
-    let alloc = rt.alloc();
-    let mut transcript = Transcript::new(alloc, &FIREWALL)?;
-    let add = "ugidfw add subject uid 5 object mode n";
-    for number in 0..250 {
-        transcript.add(add, format!(in alloc; "ok rule {number}")?.as_str())?;
-    }
-    transcript.add(add, "no ENOBUFS - -")?;
-    transcript.add("ugidfw remove 0", "ok")?;
-    transcript.add("ugidfw remove 0", "no ENOENT - -")?;
-    transcript.add(add, "ok rule 0")?;
-    transcript.end(&rt, alloc, &FIREWALL)?;
+    let mut transcript = Transcript::new(rt.alloc(), &FIREWALL)?;
+    fill(rt.alloc(), &mut transcript)?;
+    transcript.add_all(FULL)?;
+    transcript.end(&rt, rt.alloc(), &FIREWALL)?;
     Ok(())
 }

@@ -1,17 +1,8 @@
 //! The steps of a script, taken one after another.
 
 use crate::tests::cases::{Case, PLAIN, run_case};
-use crate::tests::wants;
-use mf_biba::Biba;
-use mf_bsdextended::Bsdextended;
-use mf_io::{MemSink, MemSource, Sink, Source};
-use mf_lomac::Lomac;
-use mf_mls::Mls;
-use mf_partition::Partition;
-use mf_policy::Policy;
-use mf_priority::Priority;
-use mf_top::run_steps;
-use std::alloc::{AllocError, Global};
+use crate::tests::{step_with, wants};
+use mf_io::{MemSink, MemSource};
 use std::test::Fail;
 
 /// Each step of which is in turn.
@@ -49,6 +40,12 @@ const TAKEN: &[Case] = &[
         name: "a stale commit lowers nobody",
         script: "boot mac_lomac\nfile /lo reg uid 0 gid 0 mode 644 label lomac/9 text hi\ntask a uid 0 gid 0 label -\nread /lo\nend\ntask b uid 0 gid 0 label lomac/9\nsetfmac lomac/5 /lo\nsignal a\nend\nsteps\nenter a\nplan a\nenter b\nplan b\ndone b\nleave b\ndone a\nenter b\nplan b\ndone b\nend\n",
         text: "boot mac_lomac 0\nenter a\nenter b\ndone b 1 ok\nleave b\nstale a\nenter b\ndone b 2 no EACCES proc_signal mac_lomac 1\nsource lomac vnode:/ high\nsource lomac vnode:/lo 5\nsource lomac proc:a high\nsource lomac proc:b 9,high\n",
+        ..STEPPED
+    },
+    Case {
+        name: "a file that is open goes between the walk and the commit",
+        script: "file /f reg uid 0 gid 0 mode 644 label - text hi\ntask a uid 0 gid 0 label -\nopen /f r\nfread 0\nend\ntask b uid 0 gid 0 label -\nunlink /f\nend\nsteps\nenter a\nplan a\ndone a\nleave a\nenter a\nplan a\nenter b\nplan b\ndone b\nleave b\ndone a\nplan a\ndone a\nleave a\nend\n",
+        text: "enter a\ndone a 1 ok fd 0\nleave a\nenter a\nenter b\ndone b 1 ok\nleave b\nstale a\ndone a 2 no EBADF - -\nleave a\n",
         ..STEPPED
     },
     Case {
@@ -147,29 +144,13 @@ const REFUSED: &[Case] = &[
     },
 ];
 
-/// Takes the steps over the policy modules that are built in, and returns the exit status. It is given no runtime.
-fn step_with<S: Source, K: Sink>(
-    alloc: Global,
-    source: &mut S,
-    sink: &mut K,
-) -> Result<u8, AllocError> {
-    let mut modules: Vec<Box<dyn Policy + Send + Sync>> = Vec::new(alloc);
-    modules.push(Box::new(alloc, Biba::new())?)?;
-    modules.push(Box::new(alloc, Mls::new())?)?;
-    modules.push(Box::new(alloc, Lomac::new())?)?;
-    modules.push(Box::new(alloc, Partition::new())?)?;
-    modules.push(Box::new(alloc, Bsdextended::new(alloc)?)?)?;
-    modules.push(Box::new(alloc, Priority::new())?)?;
-    Ok(run_steps(alloc, source, sink, modules))
-}
-
 #[test]
 fn no_thread_is_needed(rt: HostRuntime) -> Result<(), Fail> {
     let taken = &TAKEN[0];
     let bytes = taken.script.as_bytes().to_vec(rt.alloc())?;
     let mut source = MemSource::new(bytes, 64, Vec::new(rt.alloc()));
     let mut sink = MemSink::new(rt.alloc(), 1000, 10, Vec::new(rt.alloc()))?;
-    let status = step_with(rt.alloc(), &mut source, &mut sink)?;
+    let status = step_with(&rt, rt.alloc(), &mut source, &mut sink)?;
     wants(
         &rt,
         taken.name,

@@ -1,6 +1,6 @@
 //! Runs over a source and a sink that never fail, and over a reader and a writer.
 
-use crate::tests::{DENIAL, DENIED, run_with, words_of};
+use crate::tests::{DENIAL, DENIED, run_with, wants_that, words_of};
 use mf_biba::Biba;
 use mf_bsdextended::Bsdextended;
 use mf_io::{KnownSink, OpenGate, StdSource, SureSink, SureSource};
@@ -38,7 +38,7 @@ fn over_memory_that_never_fails(rt: HostRuntime) -> Result<(), Fail> {
     let mut source = SureSource::new(DENIAL.as_bytes().to_vec(rt.alloc())?);
     let mut sink = SureSink::new(rt.alloc(), 40)?;
     let status = run_over_sure(&rt, rt.alloc(), &mut source, &mut sink, words.as_slice())?;
-    assert!(rt; status == 0);
+    wants_that(&rt, "exit status", status == 0);
     Ok(())
 }
 
@@ -48,6 +48,7 @@ fn over_a_reader_and_a_writer(rt: HostRuntime) -> Result<(), Fail> {
     let mut source = StdSource::new(DENIAL.as_bytes());
     let mut sink = KnownSink::new(&mut written);
     let status = run_with(&rt, rt.alloc(), &["run"], &mut source, &mut sink, &OpenGate)?;
-    assert!(rt; status == 0 && written.as_slice() == DENIED.as_bytes());
+    let is_written = written.as_slice() == DENIED.as_bytes();
+    wants_that(&rt, "a writer", status == 0 && is_written);
     Ok(())
 }

@@ -1,7 +1,7 @@
 //! Two tasks side by side, whose replies are the same in whatever order their events come.
 
-use crate::tests::run_script;
-use mf_io::{MemSink, OpenGate};
+use crate::tests::{text_of_run, wants_that};
+use mf_io::OpenGate;
 use std::alloc::{AllocError, Global};
 use std::process::Abort;
 use std::test::Fail;
@@ -74,18 +74,14 @@ pub fn wants_replies<R: Abort>(
     wanted: &str,
 ) -> Result<(), AllocError> {
     let replies = replies_of(alloc, text, task)?;
-    assert!(rt; replies.as_str() == wanted);
+    wants_that(rt, task, replies.as_str() == wanted);
     Ok(())
 }
 
 #[test]
 fn replies_in_any_order_of_events(rt: HostRuntime) -> Result<(), Fail> {
-    let alloc = rt.alloc();
-    let mut sink = MemSink::new(alloc, 10_000, 10_000, Vec::new(alloc))?;
-    let status = run_script(&rt, alloc, SCRIPT, &mut sink, &OpenGate)?;
-    assert!(rt; status == 0);
-    let text = String::from_utf8_lossy(alloc, sink.taken())?;
-    wants_replies(&rt, alloc, text.as_str(), "alice", ALICE)?;
-    wants_replies(&rt, alloc, text.as_str(), "www", WWW)?;
+    let text = text_of_run(&rt, rt.alloc(), SCRIPT, &OpenGate)?;
+    wants_replies(&rt, rt.alloc(), text.as_str(), "alice", ALICE)?;
+    wants_replies(&rt, rt.alloc(), text.as_str(), "www", WWW)?;
     Ok(())
 }

@@ -1,7 +1,7 @@
 //! The lines of a task, each with its reply.
 
-use crate::tests::{run_script, wants};
-use mf_io::{MemSink, OpenGate};
+use crate::tests::{text_of_run, wants_that};
+use mf_io::OpenGate;
 use std::alloc::{AllocError, Global};
 use std::process::Abort;
 use std::sync::Wait;
@@ -67,6 +67,33 @@ impl Transcript {
         }
     }
 
+    /// More lines, each with its reply.
+    pub fn add_all(&mut self, rows: &[(&str, &str)]) -> Result<(), AllocError> {
+        for (line, reply) in rows {
+            self.add(line, reply)?;
+        }
+        Ok(())
+    }
+
+    /// Ends the task, and the history with its sources.
+    fn close(&mut self, rows: &Rows) -> Result<(), AllocError> {
+        let behind = rows.behind;
+        write!(self.script, "end\n{behind}")?;
+        self.text.push_str(rows.sources)
+    }
+
+    /// Runs the script, and compares the texts.
+    fn run<R: Abort + Threads + Wait + Sync>(
+        &self,
+        rt: &R,
+        alloc: Global,
+        name: &str,
+    ) -> Result<(), AllocError> {
+        let text = text_of_run(rt, alloc, self.script.as_str(), &OpenGate)?;
+        wants_that(rt, name, text.as_str() == self.text.as_str());
+        Ok(())
+    }
+
     /// Ends the task, runs the script, and compares the texts.
     pub fn end<R: Abort + Threads + Wait + Sync>(
         mut self,
@@ -74,13 +101,8 @@ impl Transcript {
         alloc: Global,
         rows: &Rows,
     ) -> Result<(), AllocError> {
-        let behind = rows.behind;
-        write!(self.script, "end\n{behind}")?;
-        self.text.push_str(rows.sources)?;
-        let mut sink = MemSink::new(alloc, 100_000, 100_000, Vec::new(alloc))?;
-        let status = run_script(rt, alloc, self.script.as_str(), &mut sink, &OpenGate)?;
-        wants(rt, rows.name, status, 0, &sink, self.text.as_bytes());
-        Ok(())
+        self.close(rows)?;
+        self.run(rt, alloc, rows.name)
     }
 }
 
@@ -99,8 +121,6 @@ pub fn run_rows<R: Abort + Threads + Wait + Sync>(
     rows: &Rows,
 ) -> Result<(), AllocError> {
     let mut transcript = Transcript::new(alloc, rows)?;
-    for (line, reply) in rows.rows {
-        transcript.add(line, reply)?;
-    }
+    transcript.add_all(rows.rows)?;
     transcript.end(rt, alloc, rows)
 }

@@ -1,8 +1,8 @@
 //! What mac_lomac answers, which labels it takes, whom it lowers, and what moves under it.
 
-use crate::tests::run_script;
 use crate::tests::transcript::{PLAIN, Rows, run_rows};
-use mf_io::{MemSink, OpenGate};
+use crate::tests::{text_of_run, wants_that};
+use mf_io::OpenGate;
 use std::alloc::{AllocError, Global};
 use std::test::Fail;
 
@@ -329,21 +329,28 @@ const ANSWERED: &[&str] = &[
     " 3 no EACCES vnode_open_write mac_lomac 2",
 ];
 
-/// The script of the sixteen tasks, and the text of its sources.
-fn sixteen_tasks(alloc: Global) -> Result<(String, String), AllocError> {
+/// The script of the sixteen tasks.
+fn sixteen_tasks(alloc: Global) -> Result<String, AllocError> {
     let mut script = String::from_str(alloc, TWO_FILES)?;
-    let mut sources = String::from_str(
-        alloc,
-        "source lomac vnode:/ high\nsource lomac vnode:/lo 5\nsource lomac vnode:/hi high\n",
-    )?;
     for number in 0..16 {
         write!(
             script,
             "task t{number} uid 0 gid 0 label -\n{READS_AND_WRITES}"
         )?;
+    }
+    Ok(script)
+}
+
+const SOURCES_OF_FILES: &str =
+    "source lomac vnode:/ high\nsource lomac vnode:/lo 5\nsource lomac vnode:/hi high\n";
+
+/// The text of their sources.
+fn sources_of_sixteen(alloc: Global) -> Result<String, AllocError> {
+    let mut sources = String::from_str(alloc, SOURCES_OF_FILES)?;
+    for number in 0..16 {
         write!(sources, "source lomac proc:t{number} 5,high\n")?;
     }
-    Ok((script, sources))
+    Ok(sources)
 }
 
 /// How many calls are answered so.
@@ -359,14 +366,13 @@ fn count_answers(text: &str, answer: &str) -> usize {
 
 #[test]
 fn sixteen_tasks_sink(rt: HostRuntime) -> Result<(), Fail> {
-    let alloc = rt.alloc();
-    let (script, sources) = sixteen_tasks(alloc)?;
-    let mut sink = MemSink::new(alloc, 100_000, 100_000, Vec::new(alloc))?;
-    let status = run_script(&rt, alloc, script.as_str(), &mut sink, &OpenGate)?;
-    let text = String::from_utf8_lossy(alloc, sink.taken())?;
-    assert!(rt; status == 0 && text.as_str().ends_with(sources.as_str()));
+    let script = sixteen_tasks(rt.alloc())?;
+    let text = text_of_run(&rt, rt.alloc(), script.as_str(), &OpenGate)?;
+    let sources = sources_of_sixteen(rt.alloc())?;
+    let has_sources = text.as_str().ends_with(sources.as_str());
+    wants_that(&rt, "their sources", has_sources);
     for answer in ANSWERED {
-        assert!(rt; count_answers(text.as_str(), answer) == 16);
+        wants_that(&rt, answer, count_answers(text.as_str(), answer) == 16);
     }
     Ok(())
 }
