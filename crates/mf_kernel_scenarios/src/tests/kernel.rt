@@ -1,10 +1,11 @@
 //! Two tasks on one kernel, in one thread: between the first one's walk and commit the second changes what its plan holds.
-ghost use Rattle.std.specs.Prelude.{◌≡◌, ◌+◌, false, All, length, map};
+ghost use Rattle.std.specs.Prelude.{◌≡◌, ◌+◌, false, true, All, length, map};
 ghost use Rattle.mf_policy.specs.Modules.{module_of};
 ghost use Rattle.mf_list.specs.Fresh.{IsFresh};
 ghost use Rattle.mf_calls.specs.WellFormed.{IsWellFormed};
 ghost use Rattle.mf_perform.specs.Verdict.{verdict_of};
 ghost use Rattle.mf_core.specs.AllModules.{AreAllModules};
+ghost use Rattle.mf_share.specs.Passes.{ticket_for};
 ghost use Rattle.mf_top.specs.Passes.{IsSameTicket};
 
 use crate::tests::{Scenario, history_over_modules, wants};
@@ -15,7 +16,7 @@ use mf_list::Listed;
 use mf_perform::Verdict;
 use mf_plan::Plan;
 use mf_policy::Policy;
-use mf_share::{Job, Kernel, Ticket};
+use mf_share::{Job, Kernel, Pass, Ticket};
 use std::alloc::{AllocError, Global};
 use std::process::Abort;
 use std::sync::Wait;
@@ -109,10 +110,8 @@ pub fn changed_during_a_call<P: Policy, J: Job, B: Ledger, R: Wait + Abort>(
     assert!(rt; passes.len() == 2);
     let policies = kernel.policies(rt);
     let list = &Listed::new(kernel.fixed(), policies.list());
-    assert!(rt; kernel.turn(&passes[0]) == Turn::Entry);
-    let mut first = kernel.enter(rt, &mut passes[0]);
-    assert!(rt; kernel.turn(&passes[1]) == Turn::Entry);
-    let mut second = kernel.enter(rt, &mut passes[1]);
+    let mut first = enter(rt, &kernel, &mut passes[0]);
+    let mut second = enter(rt, &kernel, &mut passes[1]);
     let mut early = Plan::new();
     kernel.plan(rt, &first, &mut early);
     let early_verdict = Kernel::walk(list, &first, &early);
@@ -126,6 +125,20 @@ pub fn changed_during_a_call<P: Policy, J: Job, B: Ledger, R: Wait + Abort>(
     let mut text = String::new(alloc);
     print_history(script, core.history(), &mut text)?;
     Ok(text)
+}
+
+/// Enters for the pass, whose next line must be an entry.
+fn enter<P: Policy, J: Job, B: Ledger, R: Wait + Abort>(
+    rt: &R,
+    kernel: &Kernel<P, J, B>,
+    pass: &mut Pass<J, B>,
+) -> Ticket<J, B>
+    requires { pass.old.out ≡ false }
+    ensures ticket { result ≡ ticket_for pass.old }
+    ensures pass { pass.new ≡ record pass.old { out = true } }
+{
+    assert!(rt; kernel.turn(pass) == Turn::Entry);
+    kernel.enter(rt, pass)
 }
 
 /// Plans the ticket's call, asks the policies, and commits it.
