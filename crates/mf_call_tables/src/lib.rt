@@ -6,6 +6,10 @@ mod calls;
 #[cfg(test)]
 mod lomac;
 #[cfg(test)]
+mod open_files;
+#[cfg(test)]
 mod plans;
+#[cfg(test)]
+mod population;
 #[cfg(test)]
 mod scripts;

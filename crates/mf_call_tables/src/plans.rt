@@ -1,24 +1,18 @@
 //! Plans of calls by t and its child c. There is /d with a regular file f, and a regular file /e; t has the empty socket a and the
 //! empty pipe p, and has /e open for reading as 0 and /d/f for writing as 1; the process u has nothing.
 ghost use Rattle.mf_objects.specs.Live.{is_process};
-ghost use Rattle.mf_objects.specs.Lives.{IsLive, is_directory};
 ghost use Rattle.mf_calls.specs.WellFormed.{IsFormedLine, IsName};
 
 use crate::calls::{Machine, run};
+use crate::population::{add_process, state_of};
 use crate::scripts::{only_line, script_of, wants};
 use mf_biba::Biba;
 use mf_calls::Line;
-use mf_cred::{Cred, FileView};
-use mf_elem::LabelValue;
 use mf_list::{Fixed, PolicyList};
-use mf_objects::{Id, Objects};
+use mf_objects::Objects;
 use mf_plan::{Plan, State, Tail, plan_of};
-use mf_policy::SpecList;
-use mf_slots::SlotNumbers;
 use std::alloc::{AllocError, Global};
 use std::process::Abort;
-
-const UNSET: [LabelValue; 4] = [LabelValue::Unset; 4];
 
 /// Each call, and its plan: the checks, and `ok` or the errno at the end.
 const ROWS: &[(&str, &str)] = &[
@@ -96,96 +90,6 @@ const ROWS: &[(&str, &str)] = &[
     ("sysctl security.mac.biba.revocation_enabled=1", "ENOENT"),
     ("sysctl security.mac.biba.revocation_enabled=2", "ENOENT"),
 ];
-
-fn add_file(
-    rt: &impl Abort,
-    alloc: Global,
-    objects: &mut Objects,
-    parent: Id,
-    name: &str,
-    dir: bool,
-) -> Result<(), AllocError>
-    requires { IsLive is_directory objects.old parent }
-{
-    let file = FileView {
-        uid: 0,
-        gid: 0,
-        mode: 0o755,
-        dir,
-    };
-    assert!(rt; objects.live() < 1024 && objects.next_id() < u32::MAX);
-    if objects.child(parent, name).is_none() {
-        let _id = objects.add_vnode(alloc, parent, name, &file, &[], &UNSET)?;
-    }
-    Ok(())
-}
-
-fn add_process(
-    rt: &impl Abort,
-    alloc: Global,
-    objects: &mut Objects,
-    name: &str,
-) -> Result<(), AllocError> {
-    assert!(rt; objects.live() < 1024 && objects.next_id() < u32::MAX);
-    if objects.process(name).is_none() {
-        let _id = objects.add_process(alloc, name, &Cred::default(), &UNSET)?;
-    }
-    Ok(())
-}
-
-fn add_files(rt: &impl Abort, alloc: Global, objects: &mut Objects) -> Result<(), AllocError> {
-    let root = objects.root();
-    add_file(rt, alloc, objects, root, "d", true)?;
-    let root = objects.root();
-    add_file(rt, alloc, objects, root, "e", false)?;
-    let root = objects.root();
-    if let Some(dir) = objects.child(root, "d") {
-        assert!(rt; objects.file(dir).dir);
-        add_file(rt, alloc, objects, dir, "f", false)?;
-    }
-    Ok(())
-}
-
-fn add_pipe(rt: &impl Abort, alloc: Global, objects: &mut Objects) -> Result<(), AllocError> {
-    assert!(rt; objects.live() < 1024 && objects.next_id() < u32::MAX);
-    if let Some(t) = objects.process("t") {
-        if objects.pipe("p").is_none() {
-            let _id = objects.add_pipe(alloc, "p", t, &UNSET)?;
-        }
-    }
-    Ok(())
-}
-
-fn add_socket(rt: &impl Abort, alloc: Global, objects: &mut Objects) -> Result<(), AllocError> {
-    assert!(rt; objects.live() < 1024 && objects.next_id() < u32::MAX);
-    if let Some(t) = objects.process("t") {
-        if objects.socket("a").is_none() {
-            let _id = objects.add_socket(alloc, "a", t, &UNSET)?;
-        }
-    }
-    Ok(())
-}
-
-/// All that there is before the calls.
-fn populate(rt: &impl Abort, alloc: Global, objects: &mut Objects) -> Result<(), AllocError> {
-    add_files(rt, alloc, objects)?;
-    add_process(rt, alloc, objects, "t")?;
-    add_process(rt, alloc, objects, "t.c")?;
-    add_process(rt, alloc, objects, "u")?;
-    add_pipe(rt, alloc, objects)?;
-    add_socket(rt, alloc, objects)
-}
-
-fn state_of(rt: &impl Abort, alloc: Global) -> Result<State, AllocError> {
-    let mut objects = Objects::new(alloc, &UNSET)?;
-    populate(rt, alloc, &mut objects)?;
-    Ok(State {
-        objects,
-        specs: SpecList::new(alloc),
-        numbers: SlotNumbers::new(),
-        booted: true,
-    })
-}
 
 /// The calls that open the two files.
 const OPENING: &[(&str, &str)] = &[("open /e r", "ok fd 0"), ("open /d/f w", "ok fd 1")];
