@@ -5,7 +5,7 @@ use Rattle.std.specs.Str.{bytes_eq}
 use Rattle.mf_errno.specs.declared.errno.Errno.{Errno}
 use Rattle.mf_errno.specs.declared.errno.Errno.TheVariants.{Success, Eperm, Enoent, Esrch, Ebadf, Edeadlk, Enomem, Eacces, Ebusy, Eexist, Enotdir, Eisdir, Einval, Enfile, Emfile, Efbig, Eagain, Enobufs, Enotempty}
 use Rattle.mf_errno.specs.declared.module.Module.{Module}
-use Rattle.mf_errno.specs.declared.module.Module.TheVariants.{Biba, Mls, Lomac, Partition, Bsdextended, Priority}
+use Rattle.mf_errno.specs.declared.module.Module.TheVariants.{Biba, Mls, Lomac, Partition, Bsdextended, Priority, Seeotheruids, Portacl}
 
 abbrev pub error_text : Errno → List ℕ
 error_text Success = codes "ok"
@@ -40,12 +40,14 @@ policy_text Lomac = codes "lomac"
 policy_text Partition = codes "partition"
 policy_text Bsdextended = codes "bsdextended"
 policy_text Priority = codes "priority"
+policy_text Seeotheruids = codes "seeotheruids"
+policy_text Portacl = codes "portacl"
 
 abbrev pub module_text : Module → List ℕ
 module_text m = codes "mac_" ++ policy_text m
 
 abbrev pub all_modules : List Module
-all_modules = Biba ∷ Mls ∷ Lomac ∷ Partition ∷ Bsdextended ∷ Priority ∷ []
+all_modules = Biba ∷ Mls ∷ Lomac ∷ Partition ∷ Bsdextended ∷ Priority ∷ Seeotheruids ∷ Portacl ∷ []
 
 unfoldable pub module_named : List ℕ → Option Module
 module_named name = find (λ m. bytes_eq (module_text m) name) all_modules

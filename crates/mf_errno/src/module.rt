@@ -14,11 +14,13 @@ pub enum Module {
     Partition,
     Bsdextended,
     Priority,
+    Seeotheruids,
+    Portacl,
 }
 
 impl Module {
     /// Every module.
-    pub fn all() -> [Module; 6]
+    pub fn all() -> [Module; 8]
         ensures { result ≡ all_modules }
     {
         [
@@ -28,6 +30,8 @@ impl Module {
             Module::Partition,
             Module::Bsdextended,
             Module::Priority,
+            Module::Seeotheruids,
+            Module::Portacl,
         ]
     }
 
@@ -42,6 +46,8 @@ impl Module {
             Module::Partition => "mac_partition",
             Module::Bsdextended => "mac_bsdextended",
             Module::Priority => "mac_priority",
+            Module::Seeotheruids => "mac_seeotheruids",
+            Module::Portacl => "mac_portacl",
         }
     }
 
@@ -57,6 +63,8 @@ impl Module {
             "mac_partition" => Some(Module::Partition),
             "mac_bsdextended" => Some(Module::Bsdextended),
             "mac_priority" => Some(Module::Priority),
+            "mac_seeotheruids" => Some(Module::Seeotheruids),
+            "mac_portacl" => Some(Module::Portacl),
             _ => None,
         }
     }

@@ -33,6 +33,7 @@ own_name op.SocketDeliver = refl
 own_name op.SocketReceive = refl
 own_name op.SocketVisible = refl
 own_name op.SocketRelabel = refl
+own_name op.SocketBind = refl
 own_name op.CredRelabel = refl
 own_name op.ProcVisible = refl
 own_name op.ProcSignal = refl

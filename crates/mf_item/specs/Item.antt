@@ -1,6 +1,6 @@
 -- A check that the policies are asked for: one call of an entry point of mac(9), with what policies look at, the labels that a relabel asks
--- for and the privilege that is asked for among it.
-use Rattle.std.specs.Prelude.{Option}
+-- for, the privilege that is asked for and the port that a socket is bound to among it.
+use Rattle.std.specs.Prelude.{ℕ, Bool, Option}
 use Rattle.mf_errno.specs.declared.privilege.Priv.{Priv}
 use Rattle.mf_elem.specs.declared.label.Request.{Request}
 use Rattle.mf_item.specs.declared.operation.CheckOp.{CheckOp}
@@ -13,3 +13,5 @@ pub record Item : Type 0 where
   pub object : Option ObjectView
   pub request : Option Request
   pub privilege : Option Priv
+  -- of a binding whether it is of TCP, and not of UDP, and the port
+  pub port : Option (Bool × ℕ)

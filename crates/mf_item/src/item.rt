@@ -7,8 +7,8 @@ use mf_errno::Priv;
 use std::marker::Model;
 
 /// One check: whether the subject may do the operation on the object. A request is there exactly for relabels, a
-/// privilege exactly for `Priv`; an object for all operations but `CredRelabel`, `KldLoad`, `KldUnload` and `Priv`.
-/// Subject, object and request stay with the caller, since policies only look at them.
+/// privilege exactly for `Priv`, a port exactly for `SocketBind`, and an object for all operations but `CredRelabel`,
+/// `KldLoad`, `KldUnload` and `Priv`. Subject, object and request stay with the caller, since policies only look at them.
 #[derive(Drop)]
 pub struct Item<'a> {
     op: CheckOp,
@@ -16,6 +16,7 @@ pub struct Item<'a> {
     object: Option<&'a ObjectView>,
     request: Option<&'a Request>,
     privilege: Option<Priv>,
+    port: Option<(bool, u16)>,
 }
 
 impl<'a> Model for Item<'a> {
@@ -30,6 +31,7 @@ impl<'a> Model for Item<'a> {
       object = option_copied i.object;
       request = option_copied i.request;
       privilege = i.privilege;
+      port = i.port;
     } };
 }
 
@@ -41,6 +43,7 @@ impl<'a> Item<'a> {
         object: Option<&'a ObjectView>,
         request: Option<&'a Request>,
         privilege: Option<Priv>,
+        port: Option<(bool, u16)>,
     ) -> Item<'a>
         ensures { result ≡ record {
           op = op;
@@ -48,6 +51,7 @@ impl<'a> Item<'a> {
           object = option_copied object.entry;
           request = option_copied request.entry;
           privilege = privilege;
+          port = port;
         } }
     {
         Item {
@@ -56,6 +60,7 @@ impl<'a> Item<'a> {
             object,
             request,
             privilege,
+            port,
         }
     }
 
@@ -92,5 +97,12 @@ impl<'a> Item<'a> {
         ensures { result ≡ self.now.privilege }
     {
         self.privilege
+    }
+
+    /// Of a binding whether it is of TCP, and not of UDP, and the port; port 0 leaves the choice to the kernel, as bind(2) has it.
+    pub fn port(&self) -> Option<(bool, u16)>
+        ensures { result ≡ self.now.port }
+    {
+        self.port
     }
 }

@@ -159,6 +159,8 @@ pub fn policy_name(policy: Module) -> &'static str
         Module::Partition => "partition",
         Module::Bsdextended => "bsdextended",
         Module::Priority => "priority",
+        Module::Seeotheruids => "seeotheruids",
+        Module::Portacl => "portacl",
     }
 }
 

@@ -23,8 +23,15 @@ fn groups_of_a_credential(rt: HostRuntime) {
 #[test]
 fn an_item_has_its_parts(rt: HostRuntime) {
     let (subject, request) = (SubjectView::default(), Request::none());
-    let item = Item::new(CheckOp::CredRelabel, &subject, None, Some(&request), None);
-    let is_asked = item.request().is_some() && item.privilege().is_none();
+    let item = Item::new(
+        CheckOp::CredRelabel,
+        &subject,
+        None,
+        Some(&request),
+        None,
+        None,
+    );
+    let is_asked = item.request().is_some() && item.privilege().is_none() && item.port().is_none();
     wants(
         &rt,
         "an item has its parts",

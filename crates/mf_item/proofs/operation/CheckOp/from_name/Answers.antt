@@ -33,6 +33,7 @@ returns-in_default c =
       | op.SocketReceive ↦ other.not-socket_receive
       | op.SocketVisible ↦ other.not-socket_visible
       | op.SocketRelabel ↦ other.not-socket_relabel
+      | op.SocketBind ↦ other.not-socket_bind
       | op.CredRelabel ↦ other.not-cred_relabel
       | op.ProcVisible ↦ other.not-proc_visible
       | op.ProcSignal ↦ other.not-proc_signal
