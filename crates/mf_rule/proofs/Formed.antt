@@ -17,7 +17,7 @@ use Rattle.mf_rule.specs.declared.rule.Rule.{Rule}
 use Rattle.mf_rule.specs.declared.rule.TheConstants.{ANY_TYPE}
 use Rattle.mf_rule.specs.Words.{id, id_range_in, with_letters, letters_in, mode_in, types_in}
 use Rattle.mf_rule.specs.Words.{mode_letters, type_letters}
-use Rattle.mf_rule.specs.RuleGrammar.{SpellsIdTest, SpellsFileTest, SpellsObjectTest, SpellTests, SpellsRule, IsRule}
+use Rattle.mf_rule.specs.RuleGrammar.{SpellsIdTest, SpellsFileTest, SpellsObjectTest, SpellTests, IsRule}
 use Rattle.mf_rule.specs.Parts.{Words, no_tests, no_object_tests}
 use Rattle.mf_rule.specs.Reading.{OrFault, rule_in}
 use Rattle.mf_rule.specs.RoundTrip.{AreRanges, IsInBounds, WhatIsReadIsARule}

@@ -2,6 +2,7 @@ pub mod Parts
 pub mod ReadingWords
 pub mod Ranges
 pub mod Pieces
+pub mod PortRules
 pub mod Letters
 pub mod FilePieces
 pub mod Candidates

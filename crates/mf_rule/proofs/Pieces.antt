@@ -1,5 +1,5 @@
 -- The words of the canonical text of a rule are read back: piece by piece, whatever comes behind.
-use Rattle.std.proofs.Common.{◌≡◌, ℕ, ◌+◌, ◌≤◌, Bool, true, false, cond, eqb, List, [], ◌∷◌, ◌++◌, Option, Some, None, IfSome, codes, refl, ap, ◌∙◌, append-nil, append_assoc}
+use Rattle.std.proofs.Common.{◌≡◌, ℕ, ◌+◌, Bool, true, false, cond, eqb, List, [], ◌∷◌, ◌++◌, Option, Some, None, IfSome, codes, refl, ap, ◌∙◌, append-nil, append_assoc}
 use Rattle.mf_labeltext.specs.Reading.{parts}
 use Rattle.mf_labeltext.proofs.Cutting.{IsFree, cut_free, cut_free_none, parts_none, parts_some}
 use Rattle.std.proofs.lemmas.Bool.{eqb-false}

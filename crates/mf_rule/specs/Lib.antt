@@ -3,6 +3,7 @@ pub mod Canonical
 pub mod Flags
 pub mod Match
 pub mod Parts
+pub mod PortRules
 pub mod Reading
 pub mod RoundTrip
 pub mod RuleBits

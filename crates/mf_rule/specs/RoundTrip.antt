@@ -1,5 +1,5 @@
 -- Rules and their texts: the words of the canonical text of a rule stand for just this rule, and what is read is a rule, within these bounds.
-use Rattle.std.specs.Prelude.{◌≡◌, ◌≤◌, ◌<◌, ℕ, IfSome, Ok}
+use Rattle.std.specs.Prelude.{◌≡◌, ◌≤◌, ◌<◌, IfSome, Ok}
 use Rattle.std.specs.Int.{IsInRange}
 use Rattle.std.specs.Str.{byte}
 use Rattle.mf_labeltext.specs.Reading.{parts}

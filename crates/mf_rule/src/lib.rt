@@ -1,10 +1,11 @@
 //! Rules about files of mac_bsdextended(4): their texts as ugidfw(8) has them, lists of rules, and what a list says of an
-//! access.
+//! access. Rules about ports of mac_portacl(4), and their text.
 #![tactic(auto)]
 
 mod begun;
 mod fault;
 mod law;
+mod ports;
 mod printing;
 mod reading;
 mod rule;
@@ -15,6 +16,7 @@ mod values;
 
 pub use fault::RuleFault;
 pub use law::{canonical_text_stands_for_its_rule, what_is_read_is_a_rule};
+pub use ports::{LAST_PORT, MOST_PORT_RULES, PortRule, PortRules, read_ports, same_port_rules};
 pub use printing::print_rule;
 pub use reading::read_rule;
 pub use rule::{

@@ -9,7 +9,7 @@ ghost use Rattle.mf_rule.specs.declared.fault.RuleFault.TheVariants.{UnknownWord
 
 use crate::begun::{Begun, Next, Part};
 use crate::fault::RuleFault;
-use crate::rule::{IdTest, Rule, TypeTest};
+use crate::rule::{IdTest, Rule, Side, TypeTest};
 use crate::values::{read_mode, read_range, read_types};
 
 fn reads_on(next: Next, rule: Rule) -> Result<Begun, RuleFault>
@@ -61,8 +61,8 @@ fn with_word(place: usize, begun: &Begun, word: &str) -> Result<Begun, RuleFault
         Next::First(part) => first(place, part, begun.rule, word),
         Next::Test(part) => tested(place, part, begun.rule, word),
         Next::Name(part) => test_named(place, part, true, begun.rule, word),
-        Next::Uid(part, not) => with_uid(place, part, not, begun.rule, word),
-        Next::Gid(part, not) => with_gid(place, part, not, begun.rule, word),
+        Next::Uid(part, not) => with_ids(place, part, false, not, begun.rule, word),
+        Next::Gid(part, not) => with_ids(place, part, true, not, begun.rule, word),
         Next::Types(not) => with_types(place, not, begun.rule, word),
         Next::Letters => with_letters(place, begun.rule, word),
         Next::End => Err(RuleFault::UnknownWord(place)),
@@ -87,11 +87,9 @@ fn first(place: usize, part: Part, rule: Rule, word: &str) -> Result<Begun, Rule
     if word != "not" {
         return tested(place, part, rule, word);
     }
-    let mut turned = rule;
-    let mut side = turned.side(part);
+    let mut side = rule.side(part);
     side.not = true;
-    turned.set_side(part, side);
-    reads_on(Next::Test(part), turned)
+    with_side(part, rule, side)
 }
 
 fn closing_word(part: Part) -> &'static str
@@ -182,40 +180,43 @@ fn file_test(place: usize, not: bool, rule: Rule, word: &str) -> Result<Begun, R
     }
 }
 
-#[tactic(auto, unfolding(crate::specs::Reading::fitted))]
-fn with_uid(place: usize, part: Part, not: bool, rule: Rule, word: &str) -> Result<Begun, RuleFault>
-    ensures { result ≡ spec.fitted place (next.Uid part not) rule word.now }
+/// The rule so far with this side in place of the part's.
+fn with_side(part: Part, rule: Rule, side: Side) -> Result<Begun, RuleFault>
+    ensures { result ≡ spec.reads_on (next.Test part) (spec.with_side part rule side) }
 {
-    let Some((least, greatest)) = read_range(word) else {
-        return Err(RuleFault::BadRange(place));
-    };
     let mut more = rule;
-    let mut side = more.side(part);
-    side.uid = Some(IdTest {
-        not,
-        least,
-        greatest,
-    });
     more.set_side(part, side);
     reads_on(Next::Test(part), more)
 }
 
+/// The rule so far with the value of a test, of gids or of uids.
 #[tactic(auto, unfolding(crate::specs::Reading::fitted))]
-fn with_gid(place: usize, part: Part, not: bool, rule: Rule, word: &str) -> Result<Begun, RuleFault>
-    ensures { result ≡ spec.fitted place (next.Gid part not) rule word.now }
+fn with_ids(
+    place: usize,
+    part: Part,
+    gids: bool,
+    not: bool,
+    rule: Rule,
+    word: &str,
+) -> Result<Begun, RuleFault>
+    ensures { result
+        ≡ spec.fitted place (if gids then next.Gid part not else next.Uid part not) rule word.now }
 {
     let Some((least, greatest)) = read_range(word) else {
         return Err(RuleFault::BadRange(place));
     };
-    let mut more = rule;
-    let mut side = more.side(part);
-    side.gid = Some(IdTest {
+    let mut side = rule.side(part);
+    let test = IdTest {
         not,
         least,
         greatest,
-    });
-    more.set_side(part, side);
-    reads_on(Next::Test(part), more)
+    };
+    if gids {
+        side.gid = Some(test);
+    } else {
+        side.uid = Some(test);
+    }
+    with_side(part, rule, side)
 }
 
 #[tactic(auto, unfolding(crate::specs::Reading::fitted))]

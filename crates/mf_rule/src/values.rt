@@ -1,8 +1,8 @@
 //! The words of a rule that stand for numbers and for sets of letters.
 ghost use Rattle.std.specs.Prelude.{◌≡◌};
 ghost use Rattle.mf_rule.specs.Words as spec;
-ghost use Rattle.mf_labeltext.specs.Reading.{cut};
-ghost use Rattle.std.specs.Prelude.{◌<◌, ◌==◌, None, Some, MatchOption, find, if◌then◌else◌, nat_le, option_map};
+ghost use Rattle.mf_labeltext.specs.Reading.{cut, parts};
+ghost use Rattle.std.specs.Prelude.{◌<◌, ◌==◌, [], ◌∷◌, length, None, Some, IfSome, MatchOption, find, if◌then◌else◌, nat_le, option_map};
 
 use crate::rule::{
     ADMINISTER, ANY_TYPE, BLOCK, CHARACTER, DIRECTORY, EXECUTE, FIFO, LAST_ID, LINK, READ, REGULAR,
@@ -11,16 +11,20 @@ use crate::rule::{
 use mf_text::read_number;
 
 /// The text before the first separator, and the text after it.
-fn split_once(text: &str, separator: char) -> Option<(&str, &str)>
+pub fn split_once(text: &str, separator: char) -> Option<(&str, &str)>
     requires { separator < 128 }
-    ensures { MatchOption result (cut separator text.now ≡ None)
+    ensures cut { MatchOption result (cut separator text.now ≡ None)
         (λ halves. cut separator text.now ≡ Some (halves.0.now, halves.1.now)) }
+    ensures parted { MatchOption result (parts separator text.now ≡ text.now ∷ [])
+        (λ halves. parts separator text.now ≡ halves.0.now ∷ parts separator halves.1.now) }
+    ensures less { IfSome result (λ halves. length halves.1.now < length text.now) }
 {
     text.split_once(separator)
 }
 
+/// A uid or gid.
 #[tactic(auto, unfolding(mf_labeltext::specs::Reading::number))]
-fn read_id(word: &str) -> Option<u32>
+pub fn read_id(word: &str) -> Option<u32>
     ensures { result ≡ spec.id word.now }
 {
     read_number(word, 0, LAST_ID).ok()

@@ -1,5 +1,5 @@
-//! Rules about files, as tables: their texts, what they match, lists of them, and which of a list may match: tests, and nothing
-//! else.
+//! Rules about files, as tables: their texts, what they match, lists of them, and which of a list may match. Texts of rules about
+//! ports. Tests, and nothing else.
 #![tactic(auto)]
 
 #[cfg(test)]
@@ -8,5 +8,7 @@ mod candidates;
 mod lists;
 #[cfg(test)]
 mod matches;
+#[cfg(test)]
+mod ports;
 #[cfg(test)]
 mod texts;
