@@ -1,5 +1,5 @@
 -- What a policy answers to an item, by its spec and the table of operations: mac_biba(4), mac_mls(4), mac_lomac(4), mac_partition(4),
--- mac_bsdextended(4) and mac_priority(4), with the errnos of docs/MANUAL.md (POLICIES).
+-- mac_bsdextended(4), mac_priority(4), mac_seeotheruids(4) and mac_portacl(4), with the errnos of docs/MANUAL.md (POLICIES).
 use Rattle.std.specs.Option.{option_map_or}
 use Rattle.std.specs.Prelude.{ℕ, Bool, true, false, if◌then◌else◌, not, ◌&&◌, ◌||◌, ◌==◌, Option, Some, None, unwrap_or, slice_index_or, option_and_then}
 use Rattle.mf_errno.specs.declared.errno.Errno.{Errno}
@@ -28,6 +28,7 @@ use Rattle.mf_policy.specs.declared.operations.PartitionTest.{PartitionTest}
 use Rattle.mf_policy.specs.declared.operations.PartitionTest.TheVariants.{Agree, Join, Ignore}
 use Rattle.mf_policy.specs.Modules.{range_asked, number_asked, partition_of}
 use Rattle.mf_policy.specs.Operations.{is_transfer, row_of}
+use Rattle.mf_policy.specs.Ports.{binding_answer, is_on_process, may_bind, may_see}
 use Rattle.mf_policy.specs.Relabel.{credential_relabel, object_relabel}
 
 -- A policy whose labels have elements: whether a subject of one element may observe and may modify an object of another, and which part of a
@@ -159,11 +160,7 @@ rules_answer rules first item =
 -- whether a policy of this spec goes by the table of operations at transfers too; without revocation mac_biba's lets them all pass
 abbrev pub tests_transfers : Spec → Bool
 tests_transfers (means.Biba revocation) = revocation
-tests_transfers means.Mls = true
-tests_transfers means.Lomac = true
-tests_transfers means.Partition = true
-tests_transfers (means.Bsdextended rules first) = true
-tests_transfers means.Priority = true
+tests_transfers other = true
 
 -- what a policy of this spec, which holds this slot, answers to an item
 abbrev pub answer : Spec → ℕ → Item → Errno
@@ -173,6 +170,10 @@ answer means.Lomac slot item = lattice_answer lomac slot item
 answer means.Partition slot item = partition_answer slot item
 answer (means.Bsdextended rules first) slot item = rules_answer rules first item
 answer means.Priority slot item = Success
+answer (means.Seeotheruids primarygroup specific gid suser) slot item =
+    errno_unless (not (is_on_process item.op) || may_see primarygroup specific gid suser item.subject.cred (attributes_of item.object)) Esrch
+answer (means.Portacl rules port_high suser autoport) slot item =
+    binding_answer (may_bind rules port_high suser autoport item.subject.cred) item.op item.port
 
 -- the group whose members mac_priority grants the privilege
 abbrev pub granted_group : Priv → Option ℕ

@@ -9,7 +9,9 @@ pub mod Lowering
 pub mod Modules
 pub mod NewLabels
 pub mod Operations
+pub mod Ports
 pub mod Registration
 pub mod Relabel
 pub mod Relabelled
 pub mod Settings
+pub mod Sysctls

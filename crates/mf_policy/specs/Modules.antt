@@ -1,8 +1,9 @@
 -- What is true of each module whatever its settings, and its spec in its initial state. When a module may be loaded is mac(4)'s table, and the
 -- labels at boot are those of mac_biba(4), mac_mls(4) and mac_lomac(4). That mac_biba begins without
--- revocation is mac_biba(4)'s, and that mac_bsdextended begins with first match is mac_bsdextended(4)'s.
+-- revocation is mac_biba(4)'s, and that mac_bsdextended begins with first match is mac_bsdextended(4)'s; so with mac_seeotheruids(4) and
+-- mac_portacl(4).
 use Rattle.std.specs.Option.{option_map_or}
-use Rattle.std.specs.Prelude.{ℕ, Bool, true, false, not, ◌&&◌, ◌||◌, if◌then◌else◌, Option, Some, None, is_none, is_some, option_map, replicate, unwrap_or}
+use Rattle.std.specs.Prelude.{ℕ, Bool, true, false, not, ◌&&◌, ◌||◌, if◌then◌else◌, [], Option, Some, None, is_none, is_some, option_map, replicate, unwrap_or}
 use Rattle.mf_errno.specs.declared.module.Module.{Module}
 use Rattle.mf_errno.specs.declared.module.Module.TheVariants as modules
 use Rattle.mf_elem.specs.declared.elem.Elem.{Elem}
@@ -37,6 +38,8 @@ facts_of modules.Lomac = record { not_late = true; unload_ok = false; labels = E
 facts_of modules.Partition = record { not_late = false; unload_ok = true; labels = Partitions }
 facts_of modules.Bsdextended = record { not_late = false; unload_ok = true; labels = Nothing }
 facts_of modules.Priority = record { not_late = false; unload_ok = true; labels = Nothing }
+facts_of modules.Seeotheruids = record { not_late = false; unload_ok = true; labels = Nothing }
+facts_of modules.Portacl = record { not_late = false; unload_ok = true; labels = Nothing }
 
 -- the label that a request asks of a module whose labels have elements
 abbrev pub range_asked : Module → Request → Option RangeLabel
@@ -58,8 +61,10 @@ module_of means.Lomac = modules.Lomac
 module_of means.Partition = modules.Partition
 module_of (means.Bsdextended rules first) = modules.Bsdextended
 module_of means.Priority = modules.Priority
+module_of (means.Seeotheruids primarygroup specific gid suser) = modules.Seeotheruids
+module_of (means.Portacl rules port_high suser autoport) = modules.Portacl
 
--- the spec of a module in its initial state; mac_biba begins without revocation, mac_bsdextended with no rules and with first match
+-- the spec of a module in its initial state
 abbrev pub fresh_of : Module → Spec
 fresh_of modules.Biba = means.Biba false
 fresh_of modules.Mls = means.Mls
@@ -67,6 +72,8 @@ fresh_of modules.Lomac = means.Lomac
 fresh_of modules.Partition = means.Partition
 fresh_of modules.Bsdextended = means.Bsdextended (replicate MAX_RULES None) true
 fresh_of modules.Priority = means.Priority
+fresh_of modules.Seeotheruids = means.Seeotheruids false false 0 true
+fresh_of modules.Portacl = means.Portacl [] 1023 true true
 
 -- What follows from it
 

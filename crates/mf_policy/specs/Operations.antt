@@ -50,6 +50,7 @@ row_of op.SocketDeliver = row SameLevel Ignore None ToObject
 row_of op.SocketReceive = row (Observe Eacces) Ignore None ToSubject
 row_of op.SocketVisible = row (Observe Enoent) (Agree Enoent) None Still
 row_of op.SocketRelabel = row RelabelObject Ignore None Still
+row_of op.SocketBind = row Pass Ignore None Still
 row_of op.CredRelabel = row RelabelCredential Join None Still
 row_of op.ProcVisible = row (Observe Esrch) (Agree Esrch) None Still
 row_of op.ProcSignal = row ObserveAndModify (Agree Esrch) None ToObject

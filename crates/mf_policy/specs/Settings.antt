@@ -1,5 +1,6 @@
 -- What a change of a setting does. mac_biba's policy has a setting, revocation, a tunable of mac_biba(4), and so has mac_bsdextended's: its rules,
--- which ugidfw(8) changes, and first match, a sysctl of mac_bsdextended(4). The others have none. That a new rule gets the lowest free number, and
+-- which ugidfw(8) changes, and first match, a sysctl of mac_bsdextended(4). Those of mac_seeotheruids(4) and mac_portacl(4) are sysctls,
+-- and a change has all of them; the other policies have none. That a new rule gets the lowest free number, and
 -- the errnos, are this model's own choice.
 use Rattle.std.specs.Option.{is_none, option_map_or}
 use Rattle.std.specs.Prelude.{ℕ, Bool, if◌then◌else◌, List, [], ◌∷◌, Option, Some, None, find, option_and_then, position, slice_index_or, slice_set}
@@ -9,7 +10,7 @@ use Rattle.mf_errno.specs.declared.module.Module.TheVariants as modules
 use Rattle.mf_rule.specs.RuleList.{Slots}
 use Rattle.mf_rule.specs.declared.rule.Rule.{Rule}
 use Rattle.mf_policy.specs.declared.settings.Change.{Change}
-use Rattle.mf_policy.specs.declared.settings.Change.TheVariants.{Revocation, FirstMatch, RuleAdd, RuleSet, RuleRemove}
+use Rattle.mf_policy.specs.declared.settings.Change.TheVariants.{Revocation, FirstMatch, RuleAdd, RuleSet, RuleRemove, See, Port}
 use Rattle.mf_policy.specs.declared.settings.Changed.{Changed}
 use Rattle.mf_policy.specs.declared.spec.Spec.{Spec}
 use Rattle.mf_policy.specs.declared.spec.Spec.TheVariants as means
@@ -42,6 +43,8 @@ change_of (means.Bsdextended rules first) (FirstMatch enabled) = (done, means.Bs
 change_of (means.Bsdextended rules first) (RuleAdd rule) = with_new_rule rules first rule (position is_none rules)
 change_of (means.Bsdextended rules first) (RuleSet n rule) = (done, means.Bsdextended (slice_set rules n (Some rule)) first)
 change_of (means.Bsdextended rules first) (RuleRemove n) = without_rule rules first n
+change_of (means.Seeotheruids _ _ _ _) (See (means.Seeotheruids primarygroup specific gid suser)) = (done, means.Seeotheruids primarygroup specific gid suser)
+change_of (means.Portacl _ _ _ _) (Port (means.Portacl rules port_high suser autoport)) = (done, means.Portacl rules port_high suser autoport)
 change_of spec change = (no_setting, spec)
 
 -- Of the listed policies

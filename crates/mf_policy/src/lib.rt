@@ -17,6 +17,7 @@ mod relabel;
 mod settings;
 mod spec;
 mod spec_list;
+mod sysctl;
 
 pub use labels::{Origin, new_label, relabelled, sets_value, value_after};
 pub use lattice::{Lattice, errno_unless, lattice_answer, slot_label};
@@ -32,6 +33,7 @@ pub use operations::{Movement, PartitionTest, Row, Test, is_transfer, row_of};
 pub use policy::Policy;
 pub use registration::{MOST_LISTED, Registration};
 pub use relabel::{credential_relabel, object_relabel};
-pub use settings::{Change, Changed, change_revocation, change_rules};
+pub use settings::{Change, Changed, change_acl, change_revocation, change_rules, change_see};
 pub use spec::Spec;
 pub use spec_list::SpecList;
+pub use sysctl::{Sysctl, switch};

@@ -57,12 +57,7 @@ pub fn facts_of(module: Module) -> Facts
             unload_ok: true,
             labels: Labelling::Partitions,
         },
-        Module::Bsdextended => Facts {
-            not_late: false,
-            unload_ok: true,
-            labels: Labelling::Nothing,
-        },
-        Module::Priority => Facts {
+        Module::Bsdextended | Module::Priority | Module::Seeotheruids | Module::Portacl => Facts {
             not_late: false,
             unload_ok: true,
             labels: Labelling::Nothing,
@@ -88,7 +83,11 @@ pub fn range_asked(module: Module, request: &Request) -> Option<RangeLabel>
         Module::Biba => request.biba,
         Module::Mls => request.mls,
         Module::Lomac => request.lomac.map(RangeLabel::effective),
-        Module::Partition | Module::Bsdextended | Module::Priority => None,
+        Module::Partition
+        | Module::Bsdextended
+        | Module::Priority
+        | Module::Seeotheruids
+        | Module::Portacl => None,
     }
 }
 
@@ -98,7 +97,13 @@ pub fn number_asked(module: Module, request: &Request) -> Option<u32>
 {
     match module {
         Module::Partition => request.partition,
-        Module::Biba | Module::Mls | Module::Lomac | Module::Bsdextended | Module::Priority => None,
+        Module::Biba
+        | Module::Mls
+        | Module::Lomac
+        | Module::Bsdextended
+        | Module::Priority
+        | Module::Seeotheruids
+        | Module::Portacl => None,
     }
 }
 

@@ -116,6 +116,7 @@ pub fn row_of(op: CheckOp) -> Row
         CheckOp::SocketReceive => Row::of(Observe(Eacces), Ignore, None, ToSubject),
         CheckOp::SocketVisible => Row::of(Observe(Enoent), Agree(Enoent), None, Still),
         CheckOp::SocketRelabel => Row::of(RelabelObject, Ignore, None, Still),
+        CheckOp::SocketBind => Row::of(Pass, Ignore, None, Still),
         CheckOp::CredRelabel => Row::of(RelabelCredential, Join, None, Still),
         CheckOp::ProcVisible => Row::of(Observe(Esrch), Agree(Esrch), None, Still),
         CheckOp::ProcSignal => Row::of(ObserveAndModify, Agree(Esrch), None, ToObject),

@@ -1,15 +1,17 @@
-//! The settings of policies, and changes of them: revocation of mac_biba(4), and rules and first match of mac_bsdextended(4).
+//! The settings of policies, and changes of them: revocation of mac_biba(4), rules and first match of mac_bsdextended(4), and
+//! those of mac_seeotheruids(4) and mac_portacl(4).
 ghost use Rattle.std.specs.Prelude.{◌≡◌, IfOk, OnErr};
 ghost use Rattle.mf_policy.specs.Settings as spec;
 ghost use Rattle.mf_policy.specs.IsChange.{IsChange};
 ghost use Rattle.mf_policy.specs.declared.spec.Spec.TheVariants as means;
 
+use crate::Spec;
 use mf_errno::Errno;
-use mf_rule::{Rule, RuleList};
+use mf_rule::{PortRules, Rule, RuleList};
 use std::alloc::AllocError;
 
 /// A change of a setting.
-#[derive(Clone, Copy)]
+#[derive(Drop)]
 pub enum Change {
     /// Whether mac_biba's policy tests each transfer of bytes through an open file, as the tunable
     /// `security.mac.biba.revocation_enabled` of mac_biba(4) has it.
@@ -23,6 +25,10 @@ pub enum Change {
     RuleSet(u32, Rule),
     /// No rule of that number any more, as by `ugidfw remove`.
     RuleRemove(u32),
+    /// These settings of mac_seeotheruids(4) in the place of all that there are.
+    See(Spec),
+    /// These settings of mac_portacl(4) in the place of all that there are.
+    Port(Spec),
 }
 
 /// The answer to a change: its errno, and for a rule that was added its number.
@@ -60,8 +66,12 @@ pub(crate) fn answer_of_revocation(change: &Change) -> Changed
 {
     match change {
         Change::Revocation(_) => Changed::done(),
-        Change::FirstMatch(_) | Change::RuleAdd(_) | Change::RuleSet(..) | Change::RuleRemove(_) =>
-            Changed::no_setting(),
+        Change::FirstMatch(_)
+        | Change::RuleAdd(_)
+        | Change::RuleSet(..)
+        | Change::RuleRemove(_)
+        | Change::See(_)
+        | Change::Port(_) => Changed::no_setting(),
     }
 }
 
@@ -89,7 +99,7 @@ pub(crate) fn answer_of_rules(rules: &RuleList, change: &Change) -> Changed
             Some(_) => Changed::done(),
             None => Changed::with(Errno::Enoent, None),
         },
-        Change::Revocation(_) => Changed::no_setting(),
+        Change::Revocation(_) | Change::See(_) | Change::Port(_) => Changed::no_setting(),
     }
 }
 
@@ -121,6 +131,80 @@ pub fn change_rules(
             Ok(()) => Ok(Changed::done()),
             Err(_) => Ok(Changed::with(Errno::Enoent, None)),
         },
-        Change::Revocation(_) => Ok(Changed::no_setting()),
+        Change::Revocation(_) | Change::See(_) | Change::Port(_) => Ok(Changed::no_setting()),
+    }
+}
+
+/// Changes a setting of mac_seeotheruids's policy.
+pub fn change_see(
+    primarygroup: &mut bool,
+    specific: &mut bool,
+    gid: &mut u32,
+    suser: &mut bool,
+    change: &Change,
+) -> Changed
+    ensures { (result, means.Seeotheruids primarygroup.new specific.new gid.new suser.new) ≡ spec.change_of (means.Seeotheruids primarygroup.old specific.old gid.old suser.old) change.now }
+{
+    if let Change::See(
+        Spec::Seeotheruids {
+            primarygroup: new_primarygroup,
+            specific: new_specific,
+            gid: new_gid,
+            suser: new_suser,
+        },
+    ) = change
+    {
+        *primarygroup = *new_primarygroup;
+        *specific = *new_specific;
+        *gid = *new_gid;
+        *suser = *new_suser;
+    }
+    answer_of_see(change)
+}
+
+/// What mac_seeotheruids's policy would answer to a change.
+pub(crate) fn answer_of_see(change: &Change) -> Changed
+    ensures { (primarygroup specific gid suser : _) → result ≡ (spec.change_of (means.Seeotheruids primarygroup specific gid suser) change.now).0 }
+{
+    match change {
+        Change::See(Spec::Seeotheruids { .. }) => Changed::done(),
+        _ => Changed::no_setting(),
+    }
+}
+
+/// Changes a setting of mac_portacl's policy.
+pub fn change_acl(
+    rules: &mut PortRules,
+    port_high: &mut u32,
+    suser: &mut bool,
+    autoport: &mut bool,
+    change: &Change,
+) -> Changed
+    ensures { (result, means.Portacl rules.new port_high.new suser.new autoport.new) ≡ spec.change_of (means.Portacl rules.old port_high.old suser.old autoport.old) change.now }
+{
+    if let Change::Port(
+        Spec::Portacl {
+            rules: new_rules,
+            port_high: new_port_high,
+            suser: new_suser,
+            autoport: new_autoport,
+        },
+    ) = change
+    {
+        *rules = new_rules.copy();
+        *port_high = *new_port_high;
+        *suser = *new_suser;
+        *autoport = *new_autoport;
+    }
+    answer_of_acl(change)
+}
+
+/// What mac_portacl's policy would answer to a change.
+pub(crate) fn answer_of_acl(change: &Change) -> Changed
+    ensures { (rules port_high suser autoport : _) → result ≡ (spec.change_of (means.Portacl rules port_high suser autoport) change.now).0 }
+{
+    match change {
+        Change::Port(Spec::Portacl { .. }) => Changed::done(),
+        _ => Changed::no_setting(),
     }
 }

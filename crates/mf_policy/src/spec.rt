@@ -7,23 +7,45 @@ ghost use Rattle.mf_policy.specs.IsChange.{IsChange};
 ghost use Rattle.std.specs.Option.{option_copied};
 
 use crate::settings::{
-    Change, Changed, answer_of_revocation, answer_of_rules, change_revocation, change_rules,
+    Change, Changed, answer_of_acl, answer_of_revocation, answer_of_rules, answer_of_see,
+    change_acl, change_revocation, change_rules, change_see,
 };
 use mf_errno::Module;
-use mf_rule::RuleList;
+use mf_rule::{PortRules, RuleList, same_port_rules};
 use std::alloc::{AllocError, Global};
 
 /// What determines a policy's answers: its module, with the values of its settings.
 #[derive(Drop)]
 pub enum Spec {
     /// Whether it tests each transfer of bytes through an open file.
-    Biba { revocation: bool },
+    Biba {
+        revocation: bool,
+    },
     Mls,
     Lomac,
     Partition,
     /// Its rules about files, and whether the first of them that matches decides.
-    Bsdextended { rules: RuleList, first_match: bool },
+    Bsdextended {
+        rules: RuleList,
+        first_match: bool,
+    },
     Priority,
+    /// Whether a subject sees the processes of its own primary group, whether all where it is in the group of that gid, and whether
+    /// all where it is root.
+    Seeotheruids {
+        primarygroup: bool,
+        specific: bool,
+        gid: u32,
+        suser: bool,
+    },
+    /// Its rules about ports, the greatest port that it guards, whether root may bind them all, and whether everybody may bind
+    /// port 0, for which the kernel chooses another.
+    Portacl {
+        rules: PortRules,
+        port_high: u32,
+        suser: bool,
+        autoport: bool,
+    },
 }
 
 impl Spec {
@@ -41,6 +63,18 @@ impl Spec {
                 first_match: true,
             }),
             Module::Priority => Ok(Spec::Priority),
+            Module::Seeotheruids => Ok(Spec::Seeotheruids {
+                primarygroup: false,
+                specific: false,
+                gid: 0,
+                suser: true,
+            }),
+            Module::Portacl => Ok(Spec::Portacl {
+                rules: PortRules::new(),
+                port_high: 1023,
+                suser: true,
+                autoport: true,
+            }),
         }
     }
 
@@ -60,6 +94,28 @@ impl Spec {
                 first_match: *first_match,
             }),
             Spec::Priority => Ok(Spec::Priority),
+            Spec::Seeotheruids {
+                primarygroup,
+                specific,
+                gid,
+                suser,
+            } => Ok(Spec::Seeotheruids {
+                primarygroup: *primarygroup,
+                specific: *specific,
+                gid: *gid,
+                suser: *suser,
+            }),
+            Spec::Portacl {
+                rules,
+                port_high,
+                suser,
+                autoport,
+            } => Ok(Spec::Portacl {
+                rules: rules.copy(),
+                port_high: *port_high,
+                suser: *suser,
+                autoport: *autoport,
+            }),
         }
     }
 
@@ -83,6 +139,44 @@ impl Spec {
                 _ => false,
             },
             Spec::Priority => matches!(other, Spec::Priority),
+            Spec::Seeotheruids {
+                primarygroup,
+                specific,
+                gid,
+                suser,
+            } => match other {
+                Spec::Seeotheruids {
+                    primarygroup: other_primarygroup,
+                    specific: other_specific,
+                    gid: other_gid,
+                    suser: other_suser,
+                } => {
+                    *primarygroup == *other_primarygroup
+                        && *specific == *other_specific
+                        && *gid == *other_gid
+                        && *suser == *other_suser
+                }
+                _ => false,
+            },
+            Spec::Portacl {
+                rules,
+                port_high,
+                suser,
+                autoport,
+            } => match other {
+                Spec::Portacl {
+                    rules: other_rules,
+                    port_high: other_port_high,
+                    suser: other_suser,
+                    autoport: other_autoport,
+                } => {
+                    *port_high == *other_port_high
+                        && *suser == *other_suser
+                        && *autoport == *other_autoport
+                        && same_port_rules(rules, other_rules)
+                }
+                _ => false,
+            },
         }
     }
 
@@ -93,6 +187,8 @@ impl Spec {
         match self {
             Spec::Bsdextended { rules, .. } => answer_of_rules(rules, change),
             Spec::Biba { .. } => answer_of_revocation(change),
+            Spec::Seeotheruids { .. } => answer_of_see(change),
+            Spec::Portacl { .. } => answer_of_acl(change),
             Spec::Mls | Spec::Lomac | Spec::Partition | Spec::Priority => Changed::no_setting(),
         }
     }
@@ -106,6 +202,18 @@ impl Spec {
         match self {
             Spec::Bsdextended { rules, first_match } => change_rules(rules, first_match, change),
             Spec::Biba { revocation } => Ok(change_revocation(revocation, change)),
+            Spec::Seeotheruids {
+                primarygroup,
+                specific,
+                gid,
+                suser,
+            } => Ok(change_see(primarygroup, specific, gid, suser, change)),
+            Spec::Portacl {
+                rules,
+                port_high,
+                suser,
+                autoport,
+            } => Ok(change_acl(rules, port_high, suser, autoport, change)),
             Spec::Mls | Spec::Lomac | Spec::Partition | Spec::Priority => Ok(Changed::no_setting()),
         }
     }
@@ -116,7 +224,13 @@ impl Spec {
     {
         match self {
             Spec::Bsdextended { rules, .. } => Some(rules),
-            Spec::Biba { .. } | Spec::Mls | Spec::Lomac | Spec::Partition | Spec::Priority => None,
+            Spec::Biba { .. }
+            | Spec::Mls
+            | Spec::Lomac
+            | Spec::Partition
+            | Spec::Priority
+            | Spec::Seeotheruids { .. }
+            | Spec::Portacl { .. } => None,
         }
     }
 
@@ -127,8 +241,13 @@ impl Spec {
     {
         match self {
             Spec::Biba { revocation } => *revocation,
-            Spec::Mls | Spec::Lomac | Spec::Partition | Spec::Bsdextended { .. } | Spec::Priority =>
-                true,
+            Spec::Mls
+            | Spec::Lomac
+            | Spec::Partition
+            | Spec::Bsdextended { .. }
+            | Spec::Priority
+            | Spec::Seeotheruids { .. }
+            | Spec::Portacl { .. } => true,
         }
     }
 }

@@ -39,7 +39,7 @@ pub fn answer<P: Policy>(policy: &P, op: CheckOp, subject: Elem, object: Elem) -
         file: FileView::default(),
         label: [other; SLOTS],
     };
-    policy.check(0, &Item::new(op, &subject, Some(&object), None, None))
+    policy.check(0, &Item::new(op, &subject, Some(&object), None, None, None))
 }
 
 /// The answers of a policy to a change of mac_bsdextended's setting, and of mac_biba's.

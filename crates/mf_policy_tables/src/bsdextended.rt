@@ -60,7 +60,7 @@ fn answer(policy: &Bsdextended, op: CheckOp) -> Errno {
         label: [LabelValue::Unset; SLOTS],
     };
     let subject = SubjectView::default();
-    policy.check(0, &Item::new(op, &subject, Some(&object), None, None))
+    policy.check(0, &Item::new(op, &subject, Some(&object), None, None, None))
 }
 
 /// Wants the operation to be answered so where the one rule gives these letters.

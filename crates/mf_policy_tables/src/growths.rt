@@ -166,6 +166,8 @@ const LISTED: &[Module] = &[
     Module::Mls,
     Module::Partition,
     Module::Priority,
+    Module::Seeotheruids,
+    Module::Portacl,
 ];
 
 /// Lists the module; where that is refused, the specs are those of the copy, and it is done once

@@ -26,10 +26,14 @@ mod partition;
 #[cfg(test)]
 mod policies;
 #[cfg(test)]
+mod ports;
+#[cfg(test)]
 mod priority;
 #[cfg(test)]
 mod registrations;
 #[cfg(test)]
 mod relabels;
+#[cfg(test)]
+mod sysctls;
 #[cfg(test)]
 mod together;

@@ -76,7 +76,7 @@ fn relabel(op: CheckOp, subject: Elem, old: Elem, asked: Option<Elem>) -> Errno 
     request.lomac = asked;
     Lomac::new().check(
         0,
-        &Item::new(op, &subject, Some(&object), Some(&request), None),
+        &Item::new(op, &subject, Some(&object), Some(&request), None, None),
     )
 }
 
@@ -136,7 +136,7 @@ fn what_remains_of_an_element(rt: HostRuntime) {
 fn left_by(op: CheckOp) -> LabelValue {
     let (subject, object) = (subject_of(Elem::High), file_of(Elem::Low));
     let own = subject.label[0];
-    let item = Item::new(op, &subject, Some(&object), None, None);
+    let item = Item::new(op, &subject, Some(&object), None, None, None);
     after_check(0, &own, &item)
 }
 

@@ -1,4 +1,4 @@
-//! Biba, MLS and mac_partition as one type, for a list of policies without boxes.
+//! Biba, MLS, mac_partition, mac_seeotheruids and mac_portacl as one type, for a list of policies without boxes.
 use mf_biba::Biba;
 use mf_cred::Cred;
 use mf_errno::{Errno, Module, Priv};
@@ -6,6 +6,7 @@ use mf_item::Item;
 use mf_mls::Mls;
 use mf_partition::Partition;
 use mf_policy::{Change, Changed, LoadFlags, Policy, Spec};
+use mf_ports::{Portacl, Seeotheruids};
 use std::alloc::{AllocError, Global};
 
 /// One of the policies, without a box.
@@ -14,19 +15,23 @@ pub enum OneOf {
     Biba(Biba),
     Mls(Mls),
     Partition(Partition),
+    Seeotheruids(Seeotheruids),
+    Portacl(Portacl),
 }
 
 impl Policy for OneOf {
     ghost use Rattle.mf_policy.specs.declared.spec.Spec.TheVariants as means;
     ghost use Rattle.mf_policy_tables.specs.declared.one_of.OneOf.TheVariants as one;
 
-    ghost spec = { λ policy. elim policy [ one.Biba b ↦ means.Biba b.revocation | one.Mls m ↦ means.Mls | one.Partition p ↦ means.Partition ] };
+    ghost spec = { λ policy. elim policy [ one.Biba b ↦ means.Biba b.revocation | one.Mls m ↦ means.Mls | one.Partition p ↦ means.Partition | one.Seeotheruids s ↦ means.Seeotheruids s.primarygroup s.specific s.gid s.suser | one.Portacl p ↦ means.Portacl p.rules p.port_high p.suser p.autoport ] };
 
     fn module(&self) -> Module {
         match self {
             OneOf::Biba(policy) => policy.module(),
             OneOf::Mls(policy) => policy.module(),
             OneOf::Partition(policy) => policy.module(),
+            OneOf::Seeotheruids(policy) => policy.module(),
+            OneOf::Portacl(policy) => policy.module(),
         }
     }
 
@@ -35,6 +40,8 @@ impl Policy for OneOf {
             OneOf::Biba(policy) => policy.flags(),
             OneOf::Mls(policy) => policy.flags(),
             OneOf::Partition(policy) => policy.flags(),
+            OneOf::Seeotheruids(policy) => policy.flags(),
+            OneOf::Portacl(policy) => policy.flags(),
         }
     }
 
@@ -43,6 +50,8 @@ impl Policy for OneOf {
             OneOf::Biba(policy) => policy.wants_slot(),
             OneOf::Mls(policy) => policy.wants_slot(),
             OneOf::Partition(policy) => policy.wants_slot(),
+            OneOf::Seeotheruids(policy) => policy.wants_slot(),
+            OneOf::Portacl(policy) => policy.wants_slot(),
         }
     }
 
@@ -51,6 +60,8 @@ impl Policy for OneOf {
             OneOf::Biba(policy) => policy.same(other),
             OneOf::Mls(policy) => policy.same(other),
             OneOf::Partition(policy) => policy.same(other),
+            OneOf::Seeotheruids(policy) => policy.same(other),
+            OneOf::Portacl(policy) => policy.same(other),
         }
     }
 
@@ -59,6 +70,8 @@ impl Policy for OneOf {
             OneOf::Biba(policy) => policy.check(slot, item),
             OneOf::Mls(policy) => policy.check(slot, item),
             OneOf::Partition(policy) => policy.check(slot, item),
+            OneOf::Seeotheruids(policy) => policy.check(slot, item),
+            OneOf::Portacl(policy) => policy.check(slot, item),
         }
     }
 
@@ -67,6 +80,8 @@ impl Policy for OneOf {
             OneOf::Biba(policy) => policy.grant(cred, privilege),
             OneOf::Mls(policy) => policy.grant(cred, privilege),
             OneOf::Partition(policy) => policy.grant(cred, privilege),
+            OneOf::Seeotheruids(policy) => policy.grant(cred, privilege),
+            OneOf::Portacl(policy) => policy.grant(cred, privilege),
         }
     }
 
@@ -75,6 +90,8 @@ impl Policy for OneOf {
             OneOf::Biba(policy) => policy.change(alloc, change),
             OneOf::Mls(policy) => policy.change(alloc, change),
             OneOf::Partition(policy) => policy.change(alloc, change),
+            OneOf::Seeotheruids(policy) => policy.change(alloc, change),
+            OneOf::Portacl(policy) => policy.change(alloc, change),
         }
     }
 
@@ -83,6 +100,8 @@ impl Policy for OneOf {
             OneOf::Biba(policy) => policy.reset(),
             OneOf::Mls(policy) => policy.reset(),
             OneOf::Partition(policy) => policy.reset(),
+            OneOf::Seeotheruids(policy) => policy.reset(),
+            OneOf::Portacl(policy) => policy.reset(),
         }
     }
 }

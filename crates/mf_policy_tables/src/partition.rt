@@ -41,7 +41,7 @@ fn answer(policy: &Partition, op: CheckOp, subject: LabelValue, object: LabelVal
         file: FileView::default(),
         label: labelled(object),
     };
-    policy.check(1, &Item::new(op, &subject, Some(&object), None, None))
+    policy.check(1, &Item::new(op, &subject, Some(&object), None, None, None))
 }
 
 const SEVEN: LabelValue = LabelValue::Number(7);
@@ -79,7 +79,14 @@ fn joins(uid: u32, partition: Option<u32>) -> Errno {
     request.partition = partition;
     let mut subject = SubjectView::default();
     subject.cred.uid = uid;
-    let relabel = Item::new(CheckOp::CredRelabel, &subject, None, Some(&request), None);
+    let relabel = Item::new(
+        CheckOp::CredRelabel,
+        &subject,
+        None,
+        Some(&request),
+        None,
+        None,
+    );
     Partition::new().check(1, &relabel)
 }
 

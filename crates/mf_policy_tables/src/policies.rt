@@ -114,13 +114,15 @@ fn relabels_of_an_object(rt: HostRuntime) {
 
 /// Each module, with the answers to a change of mac_bsdextended's setting and of mac_biba's, and whether it tests transfers
 /// after that; at first all do but mac_biba.
-const SETTINGS: [(Module, Errno, Errno, bool); 6] = [
+const SETTINGS: [(Module, Errno, Errno, bool); 8] = [
     (Module::Biba, Errno::Enoent, Errno::Success, true),
     (Module::Mls, Errno::Enoent, Errno::Enoent, true),
     (Module::Lomac, Errno::Enoent, Errno::Enoent, true),
     (Module::Partition, Errno::Enoent, Errno::Enoent, true),
     (Module::Bsdextended, Errno::Success, Errno::Enoent, true),
     (Module::Priority, Errno::Enoent, Errno::Enoent, true),
+    (Module::Seeotheruids, Errno::Enoent, Errno::Enoent, true),
+    (Module::Portacl, Errno::Enoent, Errno::Enoent, true),
 ];
 
 /// The answer to a change, which gives no number.

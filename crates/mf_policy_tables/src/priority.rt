@@ -60,7 +60,7 @@ fn nothing_is_denied(rt: HostRuntime) {
     let mut subject = SubjectView::default();
     subject.cred = user(1001, 1001);
     for op in [CheckOp::KldLoad, CheckOp::Priv] {
-        let item = Item::new(op, &subject, None, None, Some(Priv::SchedRtprio));
+        let item = Item::new(op, &subject, None, None, Some(Priv::SchedRtprio), None);
         wants(
             &rt,
             op.name(),

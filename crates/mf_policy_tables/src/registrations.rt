@@ -1,4 +1,4 @@
-//! The lists of policies over Biba, MLS and mac_partition: which are registered, and which go.
+//! The lists of policies: which are registered, and which go.
 ghost use Rattle.std.specs.Prelude.{◌≡◌, ◌++◌, All, IfOk, IsTrue, map};
 ghost use Rattle.mf_policy.specs.Modules.{module_of};
 ghost use Rattle.mf_list.specs.Fresh.{IsFresh};
@@ -14,6 +14,7 @@ use mf_list::{Catalogue, Fixed, Listed, PolicyList, RegisterFault, UnregisterFau
 use mf_mls::Mls;
 use mf_partition::Partition;
 use mf_policy::{Change, Changed, LoadFlags, Policy, Registration, Spec, SpecList};
+use mf_ports::{Portacl, Seeotheruids};
 use mf_slots::SlotNumbers;
 use std::alloc::{AllocError, Global};
 use std::process::Abort;
@@ -23,7 +24,7 @@ use std::sync::atomic::{AtomicU64, Ordering};
 #[derive(Drop)]
 pub struct Policies<P: Policy> {
     pub fixed: Fixed<P>,
-    list: PolicyList<P>,
+    pub list: PolicyList<P>,
     catalogue: Catalogue<P>,
     numbers: SlotNumbers,
 }
@@ -79,7 +80,7 @@ impl<P: Policy> Policies<P> {
     }
 }
 
-/// All three, none of them listed.
+/// Biba, MLS and mac_partition, none of them listed.
 pub fn all_three(alloc: Global) -> Result<Policies<OneOf>, AllocError>
     ensures { IfOk result (λ policies. IsHeldOnce (policies.fixed ++ policies.list) policies.catalogue) }
 {
@@ -87,6 +88,17 @@ pub fn all_three(alloc: Global) -> Result<Policies<OneOf>, AllocError>
     let mls = OneOf::Mls(Mls::new());
     let partition = OneOf::Partition(Partition::new());
     let modules = vec![in alloc; biba, mls, partition]?;
+    Policies::new(alloc, modules)
+}
+
+/// The three that come and go, none of them listed.
+pub fn late_three(alloc: Global) -> Result<Policies<OneOf>, AllocError>
+    ensures { IfOk result (λ policies. IsHeldOnce (policies.fixed ++ policies.list) policies.catalogue) }
+{
+    let partition = OneOf::Partition(Partition::new());
+    let seeotheruids = OneOf::Seeotheruids(Seeotheruids::new());
+    let portacl = OneOf::Portacl(Portacl::new());
+    let modules = vec![in alloc; partition, seeotheruids, portacl]?;
     Policies::new(alloc, modules)
 }
 

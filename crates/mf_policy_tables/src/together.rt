@@ -1,8 +1,9 @@
-//! What Biba, MLS and mac_partition answer together, and what Biba answers where its setting is changed at boot.
+//! What policies answer together, and what they answer where their settings are changed in a list.
 
 use crate::asked::wants;
 use crate::one_of::OneOf;
-use crate::registrations::{Policies, all_three};
+use crate::ports::acl;
+use crate::registrations::{Policies, all_three, late_three};
 use mf_cred::Cred;
 use mf_elem::{Elem, LabelValue, RangeLabel};
 use mf_errno::{Errno, Module, Priv};
@@ -62,7 +63,7 @@ fn answer_of(
     of_object: [LabelValue; 4],
 ) -> Answer {
     let (subject, object) = (subject(of_subject), object(kind, of_object));
-    let item = Item::new(op, &subject, Some(&object), None, None);
+    let item = Item::new(op, &subject, Some(&object), None, None, None);
     list.ask(&item)
 }
 
@@ -114,7 +115,14 @@ fn partition_against_biba(rt: HostRuntime) -> Result<(), AllocError> {
 fn answer_to(list: &Listed<'_, OneOf>, uid: u32) -> Answer {
     let mut subject = SubjectView::default();
     subject.cred.uid = uid;
-    let item = Item::new(CheckOp::Priv, &subject, None, None, Some(Priv::SchedRtprio));
+    let item = Item::new(
+        CheckOp::Priv,
+        &subject,
+        None,
+        None,
+        Some(Priv::SchedRtprio),
+        None,
+    );
     list.ask(&item)
 }
 
@@ -159,5 +167,72 @@ fn a_policy_of_the_static_list_is_set(rt: HostRuntime) -> Result<(), AllocError>
         let found = set_and_read(rt.alloc(), &mut policies, module, revocation)?;
         wants(&rt, module.name(), found == (set, read));
     }
+    Ok(())
+}
+
+/// A process's real uid and partition, its errno and who decides, where a user of uid 1 in partition 1 looks at it.
+const SIGHTS: [(u32, u32, Errno, Option<Module>); 4] = [
+    (1, 1, Errno::Success, None),
+    (1, 2, Errno::Esrch, Some(Module::Partition)),
+    (2, 1, Errno::Esrch, Some(Module::Seeotheruids)),
+    (2, 2, Errno::Esrch, Some(Module::Seeotheruids)),
+];
+
+/// The answer to the user who looks at the process.
+fn seen(list: &Listed<'_, OneOf>, uid: u32, partition: u32) -> Answer {
+    let mut subject = subject([LabelValue::Number(1); 4]);
+    subject.cred.uid = 1;
+    subject.cred.ruid = 1;
+    let mut object = object(Kind::Process, [LabelValue::Number(partition); 4]);
+    object.file.uid = uid;
+    let op = CheckOp::ProcVisible;
+    let item = Item::new(op, &subject, Some(&object), None, None, None);
+    list.ask(&item)
+}
+
+/// Where both hide the process, the newer one decides.
+#[test]
+fn seeotheruids_before_partition(rt: HostRuntime) -> Result<(), AllocError> {
+    let mut policies = late_three(rt.alloc())?;
+    let partition = policies.register("mac_partition", true).is_ok();
+    let seeotheruids = policies.register("mac_seeotheruids", true).is_ok();
+    wants(&rt, "both", partition && seeotheruids);
+    for (uid, partition, errno, by) in SIGHTS {
+        let answer = seen(&policies.walk(), uid, partition);
+        wants(&rt, "a process", answer.errno == errno && answer.by == by);
+    }
+    Ok(())
+}
+
+/// The answer to uid 80, which binds a socket to TCP port 80.
+fn bound(list: &Listed<'_, OneOf>) -> Answer {
+    let mut subject = SubjectView::default();
+    subject.cred.uid = 80;
+    let object = object(Kind::Socket, [LabelValue::Unset; 4]);
+    let (op, port) = (CheckOp::SocketBind, Some((true, 80)));
+    let item = Item::new(op, &subject, Some(&object), None, None, port);
+    list.ask(&item)
+}
+
+/// Whether a rule that is set in the dynamic list lets uid 80 bind the port, which it may not before.
+fn is_let_through(
+    rt: &impl Abort,
+    alloc: Global,
+    policies: &mut Policies<OneOf>,
+) -> Result<bool, AllocError> {
+    let before = bound(&policies.walk());
+    let change = Change::Port(acl(rt, ("uid:80:tcp:80", 1023, true, true)));
+    let changed = policies.list.change(alloc, Module::Portacl, &change)?;
+    let after = bound(&policies.walk());
+    let is_denied = before.errno == Errno::Eperm && before.by == Some(Module::Portacl);
+    Ok(is_denied && changed.errno == Errno::Success && after.errno == Errno::Success)
+}
+
+#[test]
+fn a_policy_of_the_dynamic_list_is_set(rt: HostRuntime) -> Result<(), AllocError> {
+    let mut policies = late_three(rt.alloc())?;
+    let loaded = policies.register("mac_portacl", true).is_ok();
+    let is_set = is_let_through(&rt, rt.alloc(), &mut policies)?;
+    wants(&rt, "mac_portacl", loaded && is_set);
     Ok(())
 }
