@@ -56,7 +56,13 @@ impl Policy for Bsdextended {
             Spec::Bsdextended { rules, first_match } => {
                 self.first_match == *first_match && self.rules.same(rules)
             }
-            Spec::Biba { .. } | Spec::Mls | Spec::Lomac | Spec::Partition | Spec::Priority => false,
+            Spec::Biba { .. }
+            | Spec::Mls
+            | Spec::Lomac
+            | Spec::Partition
+            | Spec::Priority
+            | Spec::Seeotheruids { .. }
+            | Spec::Portacl { .. } => false,
         }
     }
 
