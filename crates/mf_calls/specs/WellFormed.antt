@@ -9,6 +9,7 @@ use Rattle.mf_item.specs.declared.view.Kind.{Kind}
 use Rattle.mf_item.specs.declared.view.Kind.TheVariants as kinds
 use Rattle.mf_rule.specs.RuleGrammar.{IsRule}
 use Rattle.mf_rule.specs.declared.rule_list.TheConstants.{MAX_RULES}
+use Rattle.mf_rule.specs.declared.ports.TheConstants.{LAST_PORT}
 use Rattle.mf_cred.specs.declared.cred.Cred.{Cred}
 use Rattle.mf_calls.specs.declared.script.Call.{Call}
 use Rattle.mf_calls.specs.declared.script.Call.TheVariants as call
@@ -124,6 +125,7 @@ IsFormedCall (call.Send from to text) = IsName from × IsName to × IsText SCRIP
 IsFormedCall (call.Recv name) = IsName name
 IsFormedCall (call.Seesock name) = IsName name
 IsFormedCall (call.Setsockmac label name) = IsWord label × IsName name
+IsFormedCall (call.Bind name tcp port) = IsName name × (port ≤ LAST_PORT)
 IsFormedCall call.Kldstat = Unit {0}
 IsFormedCall (call.Kldload word) = IsWord word
 IsFormedCall (call.Kldunload word) = IsWord word

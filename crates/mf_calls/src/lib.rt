@@ -12,8 +12,8 @@ mod tunable;
 pub use boots::{is_booted, may_ask_for};
 pub use generated::generate;
 pub use limits::{
-    ALL_LINES_LIMIT, FILE_LIMIT, LINE_LIMIT, MODE_LIMIT, RULE_LIST_LIMIT, STEP_LIMIT, TASK_LIMIT,
-    UID_MAX,
+    ALL_LINES_LIMIT, BOOT_LIMIT, FILE_LIMIT, LINE_LIMIT, MODE_LIMIT, RULE_LIST_LIMIT, STEP_LIMIT,
+    TASK_LIMIT, UID_MAX,
 };
 pub use mf_cred::{DIRECTORY_MODE, FILE_MODE};
 pub use mf_names::{
@@ -23,4 +23,4 @@ pub use mf_names::{
 pub use names::{is_component, is_name};
 pub use paths::{directory_of, is_same_path};
 pub use script::{Call, FileLine, Line, Script, Step, StepKind, Task};
-pub use tunable::{revocation_name, switch};
+pub use tunable::revocation_name;

@@ -1,5 +1,10 @@
 //! The limits of a script.
 
+use mf_policy::MOST_LISTED;
+
+/// The most boot lines of a script: as many as policies can be listed.
+pub const BOOT_LIMIT: usize = MOST_LISTED;
+
 /// The most file lines of a script.
 pub const FILE_LIMIT: usize = 256;
 

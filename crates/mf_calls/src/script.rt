@@ -82,6 +82,8 @@ pub enum Call {
     Seesock(Name),
     /// Gives the socket what the label text says, as mac_set_fd(3) does.
     Setsockmac(Word, Name),
+    /// Asks whether the socket may be bound to the port: of TCP, or else of UDP. The binding isn't kept.
+    Bind(Name, bool, u16),
     /// Lists the loaded modules, as kldstat(8) does.
     Kldstat,
     /// Loads the module of that name, as kldload(8) does.

@@ -8,16 +8,17 @@ use Rattle.mf_calls.specs.declared.script.Call.TheVariants as call
 use Rattle.mf_names.specs.declared.limits.TheConstants.{MOST_DESCRIPTORS}
 use Rattle.mf_calls.specs.declared.limits.TheConstants.{MODE_LIMIT}
 use Rattle.mf_rule.specs.declared.rule_list.TheConstants.{MAX_RULES}
+use Rattle.mf_rule.specs.declared.ports.TheConstants.{LAST_PORT}
 use Rattle.mf_calls.specs.Names.{is_process_name}
 use Rattle.mf_calls.specs.WellFormed.{IsWord, IsName, IsPath, IsFormedCall, IsFormedLine}
 use Rattle.mf_script.specs.Readers.{Read, fails, by_option}
 use Rattle.mf_words.specs.Words.{Words}
-use Rattle.mf_script.specs.Parts.{entry_named, simple_name_of, process_of, path_of, mode_of, open_mode_of, text_of, privilege_of, rule_number_of, descriptor_of}
+use Rattle.mf_script.specs.Parts.{entry_named, simple_name_of, process_of, path_of, mode_of, open_mode_of, protocol_of, port_of, privilege_of, rule_number_of, descriptor_of}
 use Rattle.mf_script.specs.Calls.{Arguments, bare, one, two, three, add_rule, set_rule, ugidfw_calls, ugidfw, calls, call_in, call_named, call_words}
 use Rattle.mf_script.specs.Lines.{behind_at, line_words}
 use Rattle.mf_script.proofs.ScriptWords.{AreWords, by_word}
 use Rattle.mf_script.proofs.Yields.{Yields, done, refused, chain, skip, chosen}
-use Rattle.mf_script.proofs.FormedParts.{name_formed, process_formed, path_formed, mode_formed, open_mode_formed, bytes_formed, word_formed, sides_formed, rule_number_formed, descriptor_formed, rule_formed}
+use Rattle.mf_script.proofs.FormedParts.{name_formed, process_formed, path_formed, mode_formed, open_mode_formed, port_formed, bytes_formed, word_formed, sides_formed, rule_number_formed, descriptor_formed, rule_formed}
 
 -- a reader of well formed calls
 abbrev AreFormed : Arguments → Type 0
@@ -38,6 +39,13 @@ two_formed : {A B : Type 0} (P : A → Type 0) (Q : B → Type 0) (first : List 
     → Reads P first → Reads Q second → ((x : A) (y : B) → P x → Q y → IsFormedCall (call x y)) → AreFormed (two first second call)
 two_formed P Q first second call each each_second so ws are =
     chain _ _ (by_word first each ws are) (λ x x_ok. chain _ _ (by_word second each_second x.1 x_ok.1) (λ y y_ok. done (so x.0 y.0 x_ok.0 y_ok.0)))
+
+three_formed : {A B C : Type 0} (P : A → Type 0) (Q : B → Type 0) (R : C → Type 0) (first : List ℕ → Read A) (second : List ℕ → Read B) (third : List ℕ → Read C) (call : A → B → C → Call)
+    → Reads P first → Reads Q second → Reads R third → ((x : A) (y : B) (z : C) → P x → Q y → R z → IsFormedCall (call x y z)) → AreFormed (three first second third call)
+three_formed P Q R first second third call each each_second each_third so ws are =
+    chain _ _ (by_word first each ws are) (λ x x_ok.
+    chain _ _ (by_word second each_second x.1 x_ok.1) (λ y y_ok.
+    chain _ _ (by_word third each_third y.1 y_ok.1) (λ z z_ok. done (so x.0 y.0 z.0 x_ok.0 y_ok.0 z_ok.0))))
 
 name_read : Reads IsName simple_name_of
 name_read w word = name_formed w
@@ -61,11 +69,11 @@ privilege_read : Reads (λ privilege. Unit {0}) privilege_of
 unfolding privilege_of
 privilege_read w word = chosen (privilege_named w) _ _ refused (λ privilege. done tt)
 
-send_formed : AreFormed (three simple_name_of simple_name_of text_of call.Send)
-send_formed ws are =
-    chain _ _ (by_word simple_name_of name_read ws are) (λ from from_ok.
-    chain _ _ (by_word simple_name_of name_read from.1 from_ok.1) (λ to to_ok.
-    chain _ _ (by_word text_of bytes_formed to.1 to_ok.1) (λ text text_ok. done (from_ok.0, to_ok.0, text_ok.0))))
+protocol_read : Reads (λ tcp. Unit {0}) protocol_of
+protocol_read w word = record { of = λ tcp e. tt }
+
+port_read : Reads (λ port. port ≤ LAST_PORT) port_of
+port_read w word = port_formed w
 
 -- a table of readers of well formed calls
 EachFormed : List (List ℕ × Arguments) → Type 0
@@ -150,10 +158,11 @@ all_formed =
     & two_formed _ _ _ _ call.Pwrite name_read bytes_formed (λ name text name_ok text_ok. (name_ok, text_ok))
     & one_formed _ _ call.Pstat name_read (λ x ok. ok)
     & two_formed _ _ _ _ call.Setpipemac word_formed name_read (λ label name label_ok name_ok. (label_ok, name_ok))
-    & send_formed
+    & three_formed _ _ _ _ _ _ call.Send name_read name_read bytes_formed (λ from to text from_ok to_ok text_ok. (from_ok, to_ok, text_ok))
     & one_formed _ _ call.Recv name_read (λ x ok. ok)
     & one_formed _ _ call.Seesock name_read (λ x ok. ok)
     & two_formed _ _ _ _ call.Setsockmac word_formed name_read (λ label name label_ok name_ok. (label_ok, name_ok))
+    & three_formed _ _ _ _ _ _ call.Bind name_read protocol_read port_read (λ name tcp port name_ok tcp_ok port_ok. (name_ok, port_ok))
     & bare_formed call.Kldstat tt
     & one_formed _ _ call.Kldload word_formed (λ x ok. ok)
     & one_formed _ _ call.Kldunload word_formed (λ x ok. ok)

@@ -26,6 +26,7 @@ use Rattle.mf_item.specs.declared.view.Kind.{Kind}
 use Rattle.mf_rule.specs.declared.fault.RuleFault.{RuleFault}
 use Rattle.mf_rule.specs.declared.rule.Rule.{Rule}
 use Rattle.mf_rule.specs.declared.rule_list.TheConstants.{MAX_RULES}
+use Rattle.mf_rule.specs.declared.ports.TheConstants.{LAST_PORT}
 use Rattle.mf_rule.specs.Reading.{rule_in}
 use Rattle.mf_rule.specs.RuleGrammar.{IsRule}
 use Rattle.mf_rule.proofs.Formed.{read_is_rule}
@@ -36,7 +37,7 @@ use Rattle.mf_calls.specs.Names.{is_name, is_process_name, is_component}
 use Rattle.mf_calls.specs.WellFormed.{IsWord, IsPrintable, IsAsked, IsPath, IsText}
 use Rattle.mf_script.specs.declared.error.ScriptFault.TheVariants.{UnknownWord, Missing, BadNumber, BadLabel, BadRule, BadText}
 use Rattle.mf_script.specs.Readers.{Read, fails, or_fault, by_option}
-use Rattle.mf_script.specs.Parts.{all_added, number_to, number_of, descriptor_of, open_mode_of, with_group, groups_of, simple_name_of, process_of, mode_of, with_component, components_of, behind_root, path_of, any_word, text_of, sides_of, rule_number_of, rule_of}
+use Rattle.mf_script.specs.Parts.{all_added, number_to, number_of, descriptor_of, open_mode_of, port_of, with_group, groups_of, simple_name_of, process_of, mode_of, with_component, components_of, behind_root, path_of, any_word, text_of, sides_of, rule_number_of, rule_of}
 use Rattle.mf_script.specs.Grammar.{requested, judged_request}
 use Rattle.mf_script.proofs.EscapedBytes.{escaped_short, escaped_fit}
 use Rattle.mf_script.proofs.Numbers.{number_most}
@@ -62,6 +63,9 @@ rule_number_formed w = widened (number_fits 249 w) (λ n most. omega (arith, mos
 
 pub descriptor_formed : (w : List ℕ) → Yields (λ n. n < MOST_DESCRIPTORS) (descriptor_of w)
 descriptor_formed w = widened (number_fits 15 w) (λ n most. omega (arith, most))
+
+pub port_formed : (w : List ℕ) → Yields (λ port. port ≤ LAST_PORT) (port_of w)
+port_formed w = number_fits LAST_PORT w
 
 pub mode_formed : (w : List ℕ) → Yields (λ mode. mode ≤ MODE_LIMIT) (mode_of w)
 unfolding mode_of

@@ -5,7 +5,7 @@ use Rattle.mf_calls.specs.declared.script.Call.{Call}
 use Rattle.mf_calls.specs.declared.script.Call.TheVariants as call
 use Rattle.mf_script.specs.declared.error.ScriptFault.TheVariants.{Missing}
 use Rattle.mf_script.specs.Readers.{Read, ◌>>=◌, fails}
-use Rattle.mf_script.specs.Parts.{word_by, no_more, one_of, any_word, mode_of, rule_number_of, descriptor_of, open_mode_of, simple_name_of, process_of, path_of, text_of, privilege_of, sides_of, rule_of}
+use Rattle.mf_script.specs.Parts.{word_by, no_more, one_of, any_word, mode_of, rule_number_of, descriptor_of, open_mode_of, protocol_of, port_of, simple_name_of, process_of, path_of, text_of, privilege_of, sides_of, rule_of}
 
 -- a reader of the arguments behind a call's name, which returns the words after them too
 abbrev pub Arguments : Type 0
@@ -116,6 +116,7 @@ channel_calls =
     ∷ (codes "recv", one simple_name_of call.Recv)
     ∷ (codes "seesock", one simple_name_of call.Seesock)
     ∷ (codes "setsockmac", two any_word simple_name_of call.Setsockmac)
+    ∷ (codes "bind", three simple_name_of protocol_of port_of call.Bind)
     ∷ []
 
 abbrev pub module_calls : Table

@@ -15,8 +15,9 @@ use Rattle.mf_labeltext.specs.Reading.{request_in}
 use Rattle.mf_item.specs.declared.view.Kind.{Kind}
 use Rattle.mf_item.specs.declared.view.Kind.TheVariants as kinds
 use Rattle.mf_names.specs.declared.limits.TheConstants.{CONTENT_LIMIT}
+use Rattle.mf_policy.specs.Sysctls.{switch}
 use Rattle.mf_words.specs.Words.{Words, lines_in, words_in, is_comment}
-use Rattle.mf_calls.specs.declared.limits.TheConstants.{FILE_LIMIT, TASK_LIMIT, LINE_LIMIT, RULE_LIST_LIMIT, STEP_LIMIT}
+use Rattle.mf_calls.specs.declared.limits.TheConstants.{BOOT_LIMIT, FILE_LIMIT, TASK_LIMIT, LINE_LIMIT, RULE_LIST_LIMIT, STEP_LIMIT}
 use Rattle.mf_calls.specs.declared.script.Call.{Call}
 use Rattle.mf_calls.specs.declared.script.Task.{Task}
 use Rattle.mf_calls.specs.declared.script.FileLine.{FileLine}
@@ -24,7 +25,7 @@ use Rattle.mf_calls.specs.declared.script.Script.{Script}
 use Rattle.mf_calls.specs.Paths.{directory_of, has_directory}
 use Rattle.mf_calls.specs.Boots.{is_booted, may_ask_for}
 use Rattle.mf_calls.specs.Tasks.{lists_rules}
-use Rattle.mf_calls.specs.Tunable.{revocation_name, switch}
+use Rattle.mf_calls.specs.Tunable.{revocation_name}
 use Rattle.mf_spelling.specs.Spelling.{is_line_byte}
 use Rattle.mf_script.specs.declared.error.ScriptFault.TheVariants.{NotText, UnknownWord, BadLabel, BadPath, Duplicate, NoEnd, TooMany}
 use Rattle.mf_script.specs.declared.error.ScriptError.{ScriptError}
@@ -44,9 +45,11 @@ use Rattle.mf_script.specs.Lines.{boot_words, tunable_words, file_words, task_wo
 unfoldable pub judged_module : List Module → Module → Read Module
 judged_module boots m = if is_booted boots m then boot_refused Eexist else Ok m
 
--- the module of that name after these
+-- the module of that name after these, where there is room for one more
 unfoldable pub judged_boot : List Module → List ℕ → Read Module
-judged_boot boots name = by_option (module_named name) (boot_refused Enoent) (judged_module boots)
+judged_boot boots name = do
+  u ← unless TooMany (nat_lt (length boots) BOOT_LIMIT)
+  by_option (module_named name) (boot_refused Enoent) (judged_module boots)
 
 -- what the tunable of that name is set to; `again` where an earlier line has set it
 unfoldable pub judged_tunable : List Module → Bool → (List ℕ × List ℕ) → Read Bool

@@ -12,11 +12,12 @@ use Rattle.mf_names.specs.declared.limits.TheConstants.{MOST_DESCRIPTORS, PATH_L
 use Rattle.mf_cred.specs.declared.cred.TheConstants.{MOST_GROUPS}
 use Rattle.mf_rule.specs.declared.rule.Rule.{Rule}
 use Rattle.mf_rule.specs.declared.rule_list.TheConstants.{MAX_RULES}
+use Rattle.mf_rule.specs.declared.ports.TheConstants.{LAST_PORT}
 use Rattle.mf_rule.specs.Reading.{rule_in}
 use Rattle.mf_words.specs.Words.{Words}
 use Rattle.mf_calls.specs.declared.limits.TheConstants.{UID_MAX, MODE_LIMIT}
 use Rattle.mf_calls.specs.Names.{is_name, is_process_name, is_component}
-use Rattle.mf_spelling.specs.Spelling.{open_mode}
+use Rattle.mf_spelling.specs.Spelling.{open_mode, protocol}
 use Rattle.mf_script.specs.declared.error.ScriptFault.TheVariants.{UnknownWord, Missing, Extra, BadNumber, BadRule, BadPath, BadText}
 use Rattle.mf_script.specs.Readers.{Read, ◌>>=◌, fails, unless, or_fault, by_option}
 
@@ -96,6 +97,17 @@ open_modes = map (λ mode. (open_mode mode.0 mode.1, mode)) ((true, false) ∷ (
 -- how a file is opened: whether for reading, and whether for writing
 unfoldable pub open_mode_of : List ℕ → Read (Bool × Bool)
 open_mode_of w = one_of open_modes w Ok
+
+abbrev pub protocols : List (List ℕ × Bool)
+protocols = map (λ tcp. (protocol tcp, tcp)) (true ∷ false ∷ [])
+
+-- the protocol of a port: whether it is TCP
+unfoldable pub protocol_of : List ℕ → Read Bool
+protocol_of w = one_of protocols w Ok
+
+-- a port
+abbrev pub port_of : List ℕ → Read ℕ
+port_of = number_to LAST_PORT
 
 -- the bytes that a text with escapes stands for
 unfoldable pub text_of : List ℕ → Read (List ℕ)

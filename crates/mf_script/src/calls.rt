@@ -1,10 +1,10 @@
 //! The calls of a task's lines.
 #![tactic(auto, unfolding(crate::specs::Readers::and_then))]
 
-ghost use Rattle.std.specs.Prelude.{◌≡◌, ◌++◌};
+ghost use Rattle.std.specs.Prelude.{◌≡◌, ◌++◌, if◌then◌else◌};
 ghost use Rattle.mf_script.specs.Gives.{Gives};
 ghost use Rattle.mf_calls.specs.declared.script.Call.TheVariants as call;
-ghost use Rattle.mf_script.specs.Parts.{any_word, simple_name_of, path_of, mode_of, open_mode_of, descriptor_of, text_of, sides_of};
+ghost use Rattle.mf_script.specs.Parts.{any_word, simple_name_of, path_of, mode_of, open_mode_of, descriptor_of, text_of, sides_of, protocol_of, port_of};
 ghost use Rattle.mf_script.specs.Calls.{call_in, call_named, call_words, calls, file_calls, descriptor_calls, channel_calls, module_calls, setting_calls, add_rule, set_rule, ugidfw_calls, ugidfw, one, two, three};
 
 use crate::error::ScriptFault;
@@ -29,22 +29,19 @@ fn setfmac(alloc: Global, words: &mut Words) -> Result<Call, Refusal>
     Ok(Call::Setfmac(label, path))
 }
 
-fn setpipemac(alloc: Global, words: &mut Words) -> Result<Call, Refusal>
+/// The call that relabels a socket, or else a pipe.
+fn relabel(alloc: Global, socket: bool, words: &mut Words) -> Result<Call, Refusal>
     ensures { Gives (λ c. (c, words.new)) result
-        (two any_word simple_name_of call.Setpipemac words.old) }
+        (two any_word simple_name_of (if socket then call.Setsockmac else call.Setpipemac)
+        words.old) }
 {
     let label = parts::word(alloc, words)?;
     let name = names::name(alloc, words)?;
-    Ok(Call::Setpipemac(label, name))
-}
-
-fn setsockmac(alloc: Global, words: &mut Words) -> Result<Call, Refusal>
-    ensures { Gives (λ c. (c, words.new)) result
-        (two any_word simple_name_of call.Setsockmac words.old) }
-{
-    let label = parts::word(alloc, words)?;
-    let name = names::name(alloc, words)?;
-    Ok(Call::Setsockmac(label, name))
+    Ok(if socket {
+        Call::Setsockmac(label, name)
+    } else {
+        Call::Setpipemac(label, name)
+    })
 }
 
 fn chmod(alloc: Global, words: &mut Words) -> Result<Call, Refusal>
@@ -90,6 +87,16 @@ fn send(alloc: Global, words: &mut Words) -> Result<Call, Refusal>
     let to = names::name(alloc, words)?;
     let text = parts::text(alloc, words)?;
     Ok(Call::Send(from, to, text))
+}
+
+fn bind(alloc: Global, words: &mut Words) -> Result<Call, Refusal>
+    ensures { Gives (λ c. (c, words.new)) result
+        (three simple_name_of protocol_of port_of call.Bind words.old) }
+{
+    let name = names::name(alloc, words)?;
+    let tcp = parts::protocol(words)?;
+    let port = parts::port(words)?;
+    Ok(Call::Bind(name, tcp, port))
 }
 
 fn sysctl(alloc: Global, words: &mut Words) -> Result<Call, Refusal>
@@ -212,11 +219,12 @@ fn channel_call(alloc: Global, name: &str, words: &mut Words) -> Result<Call, Re
         "pread" => Ok(Call::Pread(names::name(alloc, words)?)),
         "pwrite" => pwrite(alloc, words),
         "pstat" => Ok(Call::Pstat(names::name(alloc, words)?)),
-        "setpipemac" => setpipemac(alloc, words),
+        "setpipemac" => relabel(alloc, false, words),
         "send" => send(alloc, words),
         "recv" => Ok(Call::Recv(names::name(alloc, words)?)),
         "seesock" => Ok(Call::Seesock(names::name(alloc, words)?)),
-        "setsockmac" => setsockmac(alloc, words),
+        "setsockmac" => relabel(alloc, true, words),
+        "bind" => bind(alloc, words),
         _ => module_call(alloc, name, words),
     }
 }

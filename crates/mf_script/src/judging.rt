@@ -12,13 +12,15 @@ use crate::error::ScriptFault;
 use crate::lines::{FileWords, TaskWords};
 use crate::refusal::{Refusal, boot_refused, faulty};
 use mf_calls::{
-    Bytes, CONTENT_LIMIT, Call, Components, FILE_LIMIT, FileLine, Listing, Name, RULE_LIST_LIMIT,
-    TASK_LIMIT, Task, directory_of, is_booted, is_same_path, may_ask_for, revocation_name, switch,
+    BOOT_LIMIT, Bytes, CONTENT_LIMIT, Call, Components, FILE_LIMIT, FileLine, Listing, Name,
+    RULE_LIST_LIMIT, TASK_LIMIT, Task, directory_of, is_booted, is_same_path, may_ask_for,
+    revocation_name,
 };
 use mf_elem::Request;
 use mf_errno::{Errno, Module};
 use mf_item::Kind;
 use mf_labeltext::read_request;
+use mf_policy::switch;
 use std::alloc::Global;
 
 /// The module, where it may be booted after these.
@@ -34,10 +36,13 @@ fn judged_module(boots: &[Module], named: Module) -> Result<Module, Refusal>
 }
 
 /// The module of that name, where it may be booted after these.
-#[tactic(auto, unfolding(crate::specs::Grammar::judged_boot))]
+#[tactic(auto, unfolding(crate::specs::Grammar::judged_boot, crate::specs::Readers::and_then))]
 pub fn judged_boot(boots: &[Module], name: &str) -> Result<Module, Refusal>
     ensures { Gives (λ m. m) result (judged_boot boots.now name.now) }
 {
+    if boots.len() >= BOOT_LIMIT {
+        return Err(faulty(ScriptFault::TooMany));
+    }
     match Module::from_name(name) {
         None => Err(boot_refused(Errno::Enoent)),
         Some(named) => judged_module(boots, named),

@@ -66,6 +66,10 @@ const CANONICAL: &[(&str, &str)] = &[
         "task t uid 0 gid 0 label -\nopen / rw\nfread 007\nfwrite 00 \\41\n@c close 015\nend",
         "task t uid 0 gid 0 label -\nopen / rw\nfread 7\nfwrite 0 A\n@c close 15\nend\n",
     ),
+    (
+        "task t uid 0 gid 0 label -\n bind  s tcp 00\nbind s\tudp 065535\n@c bind s tcp 0080\nend",
+        "task t uid 0 gid 0 label -\nbind s tcp 0\nbind s udp 65535\n@c bind s tcp 80\nend\n",
+    ),
 ];
 
 fn text_of(alloc: Global, script: &Script) -> Result<String, ScriptError> {

@@ -44,6 +44,9 @@ pub const CALLS: &[&str] = &[
     "recv d",
     "seesock s",
     "setsockmac - s",
+    "bind s tcp 80",
+    "bind s_-9 udp 0",
+    "bind s tcp 65535",
     "kldstat",
     "kldload mac_partition",
     "kldunload any:word",
@@ -71,6 +74,7 @@ pub const GOOD_SCRIPTS: &[&str] = &[
     "boot mac_partition\ntask t uid 0 gid 0 label partition/none\nend",
     "boot mac_lomac\nfile /a dir uid 0 gid 0 mode 0 label lomac/low\nfile /a/b reg uid 0 gid 0 mode 0 label -\ntask t uid 0 gid 0 label lomac/65535\nend\ntask u uid 0 gid 0 label -\nend",
     "boot mac_biba\nboot mac_lomac\ntask t uid 0 gid 0 label lomac/low,biba/5(1-9),lomac/high\nend",
+    "boot mac_portacl\nboot mac_seeotheruids\nboot mac_priority\nboot mac_bsdextended\nboot mac_partition\nboot mac_lomac\nboot mac_mls\nboot mac_biba\nsteps\nend",
     "steps\nend",
     "boot mac_biba\nsteps\nenter t\nend\n# the end",
     "boot mac_biba\nboot mac_mls\n#\ntunable security.mac.biba.revocation_enabled=0\n\n#\nfile /a dir uid 0 gid 0 mode 0 label -\nsteps\nend",
@@ -174,6 +178,22 @@ fn set_two(lines: &[Line], first: (&str, &str), second: (&str, &str)) -> bool {
     }
 }
 
+/// Whether the line binds the socket s to this port.
+fn binds(line: &Line, is_tcp: bool, wanted: u16) -> bool {
+    match &line.call {
+        Call::Bind(name, tcp, port) => name.as_str() == "s" && *tcp == is_tcp && *port == wanted,
+        _ => false,
+    }
+}
+
+/// Whether two lines bind the socket s, to a port of TCP and to one of UDP.
+fn bind_two(lines: &[Line]) -> bool {
+    match lines {
+        [one, other] => binds(one, true, 80) && binds(other, false, 65_535),
+        _ => false,
+    }
+}
+
 /// Whether the line opens a file in this mode.
 fn opens(line: &Line, read: bool, write: bool) -> bool {
     match &line.call {
@@ -207,6 +227,8 @@ enum Read {
     Steps,
     /// Two settings, each parted at its first equals sign.
     Settings,
+    /// A port of TCP, and one of UDP.
+    Ports,
     /// The tunable, and the modes of four calls.
     Modes,
     /// The two lines of the only task.
@@ -222,6 +244,7 @@ fn is_of(script: &Script, read: Read) -> bool {
         }
         Read::Steps => enters_and_plans(script.steps.as_slice()),
         Read::Settings => set_two(only_lines(script), ("a", "b=c"), ("", "")),
+        Read::Ports => bind_two(only_lines(script)),
         Read::Modes => script.revocation && open_and_write(only_lines(script)),
         Read::TwoLines => only_lines(script).len() == 2,
     }
@@ -240,6 +263,10 @@ const READ: &[(&str, Read)] = &[
     (
         "task t uid 0 gid 0 label -\nsysctl a=b=c\nsysctl =\nend",
         Read::Settings,
+    ),
+    (
+        "task t uid 0 gid 0 label -\nbind s tcp 080\n@c bind\ts udp 65535\nend",
+        Read::Ports,
     ),
     (MODES, Read::Modes),
 ];

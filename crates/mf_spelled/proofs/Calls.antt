@@ -12,13 +12,13 @@ use Rattle.mf_calls.specs.declared.script.Call.{Call}
 use Rattle.mf_calls.specs.declared.script.Call.TheVariants as call
 use Rattle.mf_script.specs.declared.error.ScriptFault.TheVariants.{UnknownWord, BadRule}
 use Rattle.mf_script.specs.Readers.{Read, fails, by_option}
-use Rattle.mf_script.specs.Parts.{entry_named, any_word, simple_name_of, process_of, path_of, mode_of, open_mode_of, text_of, privilege_of, rule_number_of, descriptor_of, rule_of, sides_of}
+use Rattle.mf_script.specs.Parts.{entry_named, any_word, simple_name_of, process_of, path_of, mode_of, open_mode_of, protocol_of, port_of, text_of, privilege_of, rule_number_of, descriptor_of, rule_of, sides_of}
 use Rattle.mf_script.specs.Calls.{Arguments, bare, one, two, three, add_rule, set_rule, ugidfw_calls, ugidfw, calls, call_in, call_named, call_words}
 use Rattle.mf_script.specs.Lines.{behind_at, line_words}
 use Rattle.mf_script.proofs.Yields.{Yields, done, refused, chain}
-use Rattle.mf_spelling.specs.Spelling.{Piece, Word, Decimal, Octal, Text, Setting, Rules, Pieces, path, SpellLine, open_mode, call_pieces, line_pieces}
+use Rattle.mf_spelling.specs.Spelling.{Piece, Word, Decimal, Octal, Text, Setting, Rules, Pieces, path, SpellLine, open_mode, protocol, call_pieces, line_pieces}
 use Rattle.mf_spelled.proofs.Lines.{Reads, headed, before, at_end, by_word, nothing_left, if_ok, if_some}
-use Rattle.mf_spelled.proofs.Words.{any_spells, name_spells, process_spells, number_spells, open_mode_spells, mode_spells, text_spells, sides_spell, privilege_spells, path_spells}
+use Rattle.mf_spelled.proofs.Words.{any_spells, name_spells, process_spells, number_spells, open_mode_spells, protocol_spells, mode_spells, text_spells, sides_spell, privilege_spells, path_spells}
 
 -- the words of a line in front, and the arguments, where nothing is left behind them, spell the call
 abbrev SpellCall : Words → (Call × Words) → Type 0
@@ -50,14 +50,16 @@ two_spelled names piece other first second c each each_other is = record {
       by_pieces names ws (c x.0 y.0) (piece x.0 ∷ other y.0 ∷ []) (is x.0 y.0) (before (piece x.0) ws x.1 (other y.0 ∷ []) at (before (other y.0) x.1 y.1 [] next (at_end y.1 none))))));
 }
 
-send_spelled : IsSpelled (codes "send" ∷ []) (three simple_name_of simple_name_of text_of call.Send)
-send_spelled = record {
+three_spelled : {A B C : Type 0} (names : Words) (piece : A → Piece) (other : B → Piece) (last : C → Piece)
+    (first : List ℕ → Read A) (second : List ℕ → Read B) (third : List ℕ → Read C) (c : A → B → C → Call) → Reads piece first → Reads other second → Reads last third
+    → ((x : A) (y : B) (z : C) → call_pieces (c x y z) ≡ map Word names ++ piece x ∷ other y ∷ last z ∷ []) → IsSpelled names (three first second third c)
+three_spelled names piece other last first second third c each each_other each_last is = record {
   of = λ ws.
-      chain _ _ (by_word Word simple_name_of name_spells ws) (λ from at.
-      chain _ _ (by_word Word simple_name_of name_spells from.1) (λ to next.
-      chain _ _ (by_word Text text_of text_spells to.1) (λ text last. done (λ none.
-      by_pieces (codes "send" ∷ []) ws (call.Send from.0 to.0 text.0) (Word from.0 ∷ Word to.0 ∷ Text text.0 ∷ []) refl
-      (before (Word from.0) ws from.1 (Word to.0 ∷ Text text.0 ∷ []) at (before (Word to.0) from.1 to.1 (Text text.0 ∷ []) next (before (Text text.0) to.1 text.1 [] last (at_end text.1 none))))))));
+      chain _ _ (by_word piece first each ws) (λ x at.
+      chain _ _ (by_word other second each_other x.1) (λ y next.
+      chain _ _ (by_word last third each_last y.1) (λ z behind. done (λ none.
+      by_pieces names ws (c x.0 y.0 z.0) (piece x.0 ∷ other y.0 ∷ last z.0 ∷ []) (is x.0 y.0 z.0)
+      (before (piece x.0) ws x.1 (other y.0 ∷ last z.0 ∷ []) at (before (other y.0) x.1 y.1 (last z.0 ∷ []) next (before (last z.0) y.1 z.1 [] behind (at_end z.1 none))))))));
 }
 
 -- Rules
@@ -156,10 +158,11 @@ all_spelled =
     & two_spelled _ Word Text simple_name_of text_of call.Pwrite name_spells text_spells (λ x y. refl)
     & one_spelled _ Word simple_name_of call.Pstat name_spells (λ x. refl)
     & two_spelled _ Word Word any_word simple_name_of call.Setpipemac any_spells name_spells (λ x y. refl)
-    & send_spelled
+    & three_spelled _ Word Word Text simple_name_of simple_name_of text_of call.Send name_spells name_spells text_spells (λ x y z. refl)
     & one_spelled _ Word simple_name_of call.Recv name_spells (λ x. refl)
     & one_spelled _ Word simple_name_of call.Seesock name_spells (λ x. refl)
     & two_spelled _ Word Word any_word simple_name_of call.Setsockmac any_spells name_spells (λ x y. refl)
+    & three_spelled _ Word (λ tcp. Word (protocol tcp)) (Decimal 65535) simple_name_of protocol_of port_of call.Bind name_spells protocol_spells (number_spells 65535) (λ x y z. refl)
     & bare_spelled _ call.Kldstat refl
     & one_spelled _ Word any_word call.Kldload any_spells (λ x. refl)
     & one_spelled _ Word any_word call.Kldunload any_spells (λ x. refl)

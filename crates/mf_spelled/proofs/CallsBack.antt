@@ -13,12 +13,12 @@ use Rattle.mf_calls.specs.declared.script.Call.TheVariants as call
 use Rattle.mf_calls.specs.declared.script.Line.{Line}
 use Rattle.mf_script.specs.declared.error.ScriptFault.TheVariants.{UnknownWord}
 use Rattle.mf_script.specs.Readers.{Read, and_then, by_option, fails}
-use Rattle.mf_script.specs.Parts.{entry_named, word_by, no_more, any_word, simple_name_of, process_of, path_of, mode_of, open_mode_of, text_of, privilege_of, rule_number_of, descriptor_of, rule_of, sides_of}
+use Rattle.mf_script.specs.Parts.{entry_named, word_by, no_more, any_word, simple_name_of, process_of, path_of, mode_of, open_mode_of, protocol_of, port_of, text_of, privilege_of, rule_number_of, descriptor_of, rule_of, sides_of}
 use Rattle.mf_script.specs.Calls.{Arguments, bare, one, two, three, add_rule, set_rule, ugidfw_calls, ugidfw, calls, call_in, call_named, call_words}
 use Rattle.mf_script.specs.Lines.{behind_at, line_words}
 use Rattle.mf_script.proofs.ScriptWords.{both}
-use Rattle.mf_spelling.specs.Spelling.{Piece, Word, Decimal, Octal, Groups, Text, Setting, Label, Rules, Pieces, path, Spells, SpellLine, open_mode, call_pieces, line_pieces}
-use Rattle.mf_spelled.proofs.WordsBack.{IsRead, any_back, name_back, process_back, number_back, open_mode_back, mode_back, text_back, sides_back, privilege_back, path_back, rule_back}
+use Rattle.mf_spelling.specs.Spelling.{Piece, Word, Decimal, Octal, Groups, Text, Setting, Label, Rules, Pieces, path, Spells, SpellLine, open_mode, protocol, call_pieces, line_pieces}
+use Rattle.mf_spelled.proofs.WordsBack.{IsRead, any_back, name_back, process_back, number_back, open_mode_back, protocol_back, mode_back, text_back, sides_back, privilege_back, path_back, rule_back}
 
 -- Words that spell a row that begins with a piece
 
@@ -89,6 +89,16 @@ two_back first second c piece other x y single single_other back back_other ws s
     let next = word_read second other y single_other back_other got.rest [] got.spelled in
     rw (got.is, next.is) (ends_call (c x y) next.rest next.spelled)
 
+three_back : {A B C : Type 0} (first : List ℕ → Read A) (second : List ℕ → Read B) (third : List ℕ → Read C) (c : A → B → C → Call) (piece other last : Piece) (x : A) (y : B) (z : C)
+    → IsSingle piece → IsSingle other → IsSingle last → IsRead first piece x → IsRead second other y → IsRead third last z
+    → (ws : Words) → SpellLine ws (piece ∷ other ∷ last ∷ []) → AreRead (three first second third c) ws (c x y z)
+unfolding and_then
+three_back first second third c piece other last x y z single single_other single_last back back_other back_last ws spelled =
+    let got = word_read first piece x single back ws (other ∷ last ∷ []) spelled in
+    let next = word_read second other y single_other back_other got.rest (last ∷ []) got.spelled in
+    let behind = word_read third last z single_last back_last next.rest [] next.spelled in
+    rw (got.is, next.is, behind.is) (ends_call (c x y z) behind.rest behind.spelled)
+
 -- A call by its name
 
 -- the word of the name in front, and then the arguments
@@ -110,13 +120,12 @@ named_two : {A B : Type 0} (name : List ℕ) (first : List ℕ → Read A) (seco
 named_two name first second c piece other x y found single single_other back back_other =
     named_back name (two first second c) (piece ∷ other ∷ []) (c x y) found (two_back first second c piece other x y single single_other back back_other)
 
-send_back : (from to text : List ℕ) → IsName from → IsName to → (ws : Words) → SpellLine ws (Word from ∷ Word to ∷ Text text ∷ []) → AreRead (three simple_name_of simple_name_of text_of call.Send) ws (call.Send from to text)
-unfolding and_then
-send_back from to text is_from is_to ws spelled =
-    let first = word_read simple_name_of (Word from) from tt (name_back from is_from) ws (Word to ∷ Text text ∷ []) spelled in
-    let second = word_read simple_name_of (Word to) to tt (name_back to is_to) first.rest (Text text ∷ []) first.spelled in
-    let third = word_read text_of (Text text) text tt (text_back text) second.rest [] second.spelled in
-    rw (first.is, second.is, third.is) (ends_call (call.Send from to text) third.rest third.spelled)
+named_three : {A B C : Type 0} (name : List ℕ) (first : List ℕ → Read A) (second : List ℕ → Read B) (third : List ℕ → Read C) (c : A → B → C → Call) (piece other last : Piece) (x : A) (y : B) (z : C)
+    → entry_named name calls ≡ Some (three first second third c) → IsSingle piece → IsSingle other → IsSingle last → IsRead first piece x → IsRead second other y → IsRead third last z
+    → (ws : Words) → SpellLine ws (Word name ∷ piece ∷ other ∷ last ∷ []) → call_words ws ≡ Ok (c x y z)
+named_three name first second third c piece other last x y z found single single_other single_last back back_other back_last =
+    named_back name (three first second third c) (piece ∷ other ∷ last ∷ []) (c x y z) found
+    (three_back first second third c piece other last x y z single single_other single_last back back_other back_last)
 
 -- Rules
 
@@ -183,10 +192,14 @@ call_back (call.Pwrite name text) formed = named_two (codes "pwrite") simple_nam
 call_back (call.Pstat name) formed = named_one (codes "pstat") simple_name_of call.Pstat (Word name) name refl tt (name_back name formed)
 call_back (call.Setpipemac label name) formed = named_two (codes "setpipemac") any_word simple_name_of call.Setpipemac (Word label) (Word name) label name refl tt tt (any_back label) (name_back name formed.1)
 call_back (call.Send from to text) formed =
-    named_back (codes "send") (three simple_name_of simple_name_of text_of call.Send) (Word from ∷ Word to ∷ Text text ∷ []) (call.Send from to text) refl (send_back from to text formed.0 formed.1)
+    named_three (codes "send") simple_name_of simple_name_of text_of call.Send (Word from) (Word to) (Text text) from to text refl tt tt tt
+    (name_back from formed.0) (name_back to formed.1) (text_back text)
 call_back (call.Recv name) formed = named_one (codes "recv") simple_name_of call.Recv (Word name) name refl tt (name_back name formed)
 call_back (call.Seesock name) formed = named_one (codes "seesock") simple_name_of call.Seesock (Word name) name refl tt (name_back name formed)
 call_back (call.Setsockmac label name) formed = named_two (codes "setsockmac") any_word simple_name_of call.Setsockmac (Word label) (Word name) label name refl tt tt (any_back label) (name_back name formed.1)
+call_back (call.Bind name tcp port) formed =
+    named_three (codes "bind") simple_name_of protocol_of port_of call.Bind (Word name) (Word (protocol tcp)) (Decimal 65535 port) name tcp port refl tt tt tt
+    (name_back name formed.0) (protocol_back tcp) (number_back 65535 port)
 call_back call.Kldstat formed = named_back (codes "kldstat") (bare call.Kldstat) [] call.Kldstat refl (bare_back call.Kldstat)
 call_back (call.Kldload name) formed = named_one (codes "kldload") any_word call.Kldload (Word name) name refl tt (any_back name)
 call_back (call.Kldunload name) formed = named_one (codes "kldunload") any_word call.Kldunload (Word name) name refl tt (any_back name)
@@ -245,6 +258,7 @@ opens_line (call.Send from to text) = refl
 opens_line (call.Recv name) = refl
 opens_line (call.Seesock name) = refl
 opens_line (call.Setsockmac label name) = refl
+opens_line (call.Bind name tcp port) = refl
 opens_line call.Kldstat = refl
 opens_line (call.Kldload name) = refl
 opens_line (call.Kldunload name) = refl

@@ -17,7 +17,8 @@ use Rattle.mf_words.specs.Words.{Words}
 use Rattle.mf_calls.specs.declared.script.FileLine.{FileLine}
 use Rattle.mf_calls.specs.declared.script.Task.{Task}
 use Rattle.mf_calls.specs.Boots.{is_booted}
-use Rattle.mf_calls.specs.Tunable.{revocation_name, switch}
+use Rattle.mf_calls.specs.Tunable.{revocation_name}
+use Rattle.mf_policy.specs.Sysctls.{switch}
 use Rattle.mf_item.specs.declared.view.Kind.{Kind}
 use Rattle.mf_item.specs.declared.view.Kind.TheVariants as kinds
 use Rattle.mf_cred.specs.declared.cred.Cred.{Cred}
@@ -197,8 +198,8 @@ module_judged boots m = either (is_booted boots m) _ _ refused (done refl)
 
 boot_judged : (boots : List Module) (name : List ℕ) → Yields (λ m. SpellLine (codes "boot" ∷ name ∷ []) (boot_pieces m)) (judged_boot boots name)
 unfolding judged_boot
-boot_judged boots name = if_some (module_named name) _ _ refused (λ m e. widened (module_judged boots m) (λ booted is.
-    (refl, (subst (λ (m : Module). Spells name (Word (module_text m))) (sym is) (module_spells name m e), tt))))
+boot_judged boots name = checked _ _ _ (λ room. if_some (module_named name) _ _ refused (λ m e. widened (module_judged boots m) (λ booted is.
+    (refl, (subst (λ (m : Module). Spells name (Word (module_text m))) (sym is) (module_spells name m e), tt)))))
 
 boot_name : (ws : Words) → Yields (λ name. ws ≡ name ∷ []) (boot_words ws)
 unfolding boot_words

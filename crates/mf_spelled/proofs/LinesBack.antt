@@ -14,7 +14,7 @@ use Rattle.mf_item.specs.declared.view.Kind.{Kind}
 use Rattle.mf_item.specs.declared.view.Kind.TheVariants as kinds
 use Rattle.mf_names.specs.declared.limits.TheConstants.{CONTENT_LIMIT}
 use Rattle.mf_words.specs.Words.{Words}
-use Rattle.mf_calls.specs.declared.limits.TheConstants.{UID_MAX, FILE_LIMIT}
+use Rattle.mf_calls.specs.declared.limits.TheConstants.{UID_MAX, BOOT_LIMIT, FILE_LIMIT}
 use Rattle.mf_calls.specs.declared.script.FileLine.{FileLine}
 use Rattle.mf_calls.specs.declared.script.Task.{Task}
 use Rattle.mf_calls.specs.declared.script.Script.{Script}
@@ -22,7 +22,8 @@ use Rattle.mf_calls.specs.declared.script.Step.{Step}
 use Rattle.mf_calls.specs.declared.script.StepKind.{StepKind}
 use Rattle.mf_calls.specs.declared.script.StepKind.TheVariants as step
 use Rattle.mf_calls.specs.Boots.{is_booted, may_ask_for}
-use Rattle.mf_calls.specs.Tunable.{revocation_name, switch}
+use Rattle.mf_calls.specs.Tunable.{revocation_name}
+use Rattle.mf_policy.specs.Sysctls.{switch}
 use Rattle.mf_calls.specs.Paths.{directory_of, has_directory}
 use Rattle.mf_calls.specs.WellFormed.{IsAsked, IsFormedFile, IsFormedTask, IsName}
 use Rattle.mf_script.specs.declared.error.ScriptFault.TheVariants as fault
@@ -162,11 +163,11 @@ pub request_judged : (kind : Kind) (boots : List Module) (request : Request) (w 
 unfolding judged_request and_then
 request_judged kind boots request w asked asks = rw (request_back request w asks) (passes fault.BadLabel (may_ask_for kind boots request) (λ u. Ok request) asked.allowed)
 
-pub boot_back : (boots : List Module) (m : Module) → is_booted boots m ≡ false → (w : List ℕ) (ws : Words) → SpellLine (w ∷ ws) (boot_pieces m) → booted_after boots ws ≡ Ok m
+pub boot_back : (boots : List Module) (m : Module) → length boots < BOOT_LIMIT → is_booted boots m ≡ false → (w : List ℕ) (ws : Words) → SpellLine (w ∷ ws) (boot_pieces m) → booted_after boots ws ≡ Ok m
 unfolding booted_after boot_words judged_boot judged_module and_then
-boot_back boots m new w ws spelled =
+boot_back boots m room new w ws spelled =
     let name = word_read any_word (Word (module_text m)) (module_text m) tt (any_back (module_text m)) ws [] spelled.1 in
-    rw (name.is, no_more_left name.rest name.spelled, own_name m, new) refl
+    rw (name.is, no_more_left name.rest name.spelled, lt-ltb (length boots) BOOT_LIMIT room, own_name m, new) refl
 
 pub tunable_back : (s : Script) (revocation : Bool) → is_booted s.boots Biba ≡ true → (ws : Words) → SpellLine ws (Setting revocation_name (switch_word revocation) ∷ [])
     → tunable_in s false ws ≡ Ok (record s { revocation = revocation }, place.Tunable)

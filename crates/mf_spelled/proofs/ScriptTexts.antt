@@ -29,7 +29,7 @@ use Rattle.mf_calls.specs.declared.script.StepKind.{StepKind}
 use Rattle.mf_calls.specs.declared.script.StepKind.TheVariants as steps
 use Rattle.mf_calls.specs.declared.script.Task.{Task}
 use Rattle.mf_calls.specs.declared.script.Script.{Script}
-use Rattle.mf_spelling.specs.Spelling.{Pieces, IsTextOf, sayings, is_line_byte, call_pieces, line_pieces, boot_pieces, tunable_pieces, open_mode, file_pieces, text_pieces, task_pieces, step_pieces, task_rows, step_rows, SayTunable, SaySteps, front_rows, SpellLine, Word}
+use Rattle.mf_spelling.specs.Spelling.{Pieces, IsTextOf, sayings, is_line_byte, call_pieces, line_pieces, boot_pieces, tunable_pieces, open_mode, protocol, file_pieces, text_pieces, task_pieces, step_pieces, task_rows, step_rows, SayTunable, SaySteps, front_rows, SpellLine, Word}
 use Rattle.mf_spelling.specs.Canonical.{line_text, lines_text, tunable_text, task_text, steps_text, script_text, IsSpellableCall, IsSpellable}
 use Rattle.mf_spelled.proofs.WordTexts.{is_word, both}
 use Rattle.mf_spelled.proofs.NameTexts.{name_word, path_word, process_word, any_word}
@@ -52,6 +52,10 @@ open_mode_word true true some = refl
 open_mode_word true false some = refl
 open_mode_word false true some = refl
 open_mode_word false false some = absurd cc
+
+protocol_word : (tcp : Bool) → is_word (protocol tcp) ≡ true
+protocol_word true = refl
+protocol_word false = refl
 
 call_row : (c : Call) → IsFormedCall c → IsSpellableCall c → IsRow (call_pieces c)
 call_row (call.Fork child) formed spellable = (refl, refl, (name_word child formed, tt))
@@ -88,6 +92,7 @@ call_row (call.Send from to text) formed spellable = (refl, refl, (name_word fro
 call_row (call.Recv name) formed spellable = (refl, refl, (name_word name formed, tt))
 call_row (call.Seesock name) formed spellable = (refl, refl, (name_word name formed, tt))
 call_row (call.Setsockmac label name) formed spellable = (refl, refl, (any_word label formed.0, (name_word name formed.1, tt)))
+call_row (call.Bind name tcp port) formed spellable = (refl, refl, (name_word name formed.0, (protocol_word tcp, ((lit< tt, formed.1), tt))))
 call_row call.Kldstat formed spellable = (refl, refl, tt)
 call_row (call.Kldload word) formed spellable = (refl, refl, (any_word word formed, tt))
 call_row (call.Kldunload word) formed spellable = (refl, refl, (any_word word formed, tt))
@@ -134,6 +139,7 @@ call_behind (call.Send from to text) row = (row.0, row.2)
 call_behind (call.Recv name) row = (row.0, row.2)
 call_behind (call.Seesock name) row = (row.0, row.2)
 call_behind (call.Setsockmac label name) row = (row.0, row.2)
+call_behind (call.Bind name tcp port) row = (row.0, row.2)
 call_behind call.Kldstat row = (row.0, row.2)
 call_behind (call.Kldload word) row = (row.0, row.2)
 call_behind (call.Kldunload word) row = (row.0, row.2)

@@ -28,6 +28,7 @@ use Rattle.mf_calls.specs.Paths.{directory_of, has_directory}
 use Rattle.mf_calls.specs.Tasks.{lists_rules}
 use Rattle.mf_calls.specs.WellFormed.{AreBoots, AreInDirectories, IsFormedFile, IsFormedLine, IsFormedTask, IsWellFormed, rule_list_count, IsName}
 use Rattle.mf_calls.proofs.Directories.{same_path_decides}
+use Rattle.mf_calls.proofs.FewBoots.{few_boots}
 use Rattle.mf_script.specs.declared.error.ScriptFault.TheVariants as fault
 use Rattle.mf_script.specs.declared.rows.Place.{Place}
 use Rattle.mf_script.specs.declared.rows.Place.TheVariants as place
@@ -61,7 +62,8 @@ boots_back : (boots : List Module) → AreBoots boots → Reaches (map boot_piec
 unfolding row_in behind_boots boot_in
 boots_back boots are = each_row boot_pieces (λ done. script done false [] [] []) (λ done. place.Boots) boots (λ done m rest e.
     by_first (codes "boot") _ (script done false [] [] []) place.Boots (script (done ++ m ∷ []) false [] [] [], place.Boots) refl (λ ws spelled.
-    and_booted done m (grammar.booted_after done ws) (boot_back done m (not_booted done m rest boots e are) (codes "boot") ws spelled)))
+    and_booted done m (grammar.booted_after done ws)
+    (boot_back done m (omega (arith, few_boots boots are, longer done m rest boots e)) (not_booted done m rest boots e are) (codes "boot") ws spelled)))
 
 -- The tunable
 

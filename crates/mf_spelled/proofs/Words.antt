@@ -19,10 +19,10 @@ use Rattle.mf_labeltext.specs.Reading.{parts, cut, request_in}
 use Rattle.mf_calls.specs.declared.limits.TheConstants.{UID_MAX, MODE_LIMIT}
 use Rattle.mf_script.specs.declared.error.ScriptFault.TheVariants as fault
 use Rattle.mf_script.specs.Readers.{or_fault}
-use Rattle.mf_script.specs.Parts.{entry_named, any_word, number_to, open_modes, open_mode_of, mode_of, simple_name_of, process_of, privilege_of, text_of, sides_of, all_added, with_group, groups_of, with_component, components_of, behind_root, path_of}
+use Rattle.mf_script.specs.Parts.{entry_named, any_word, number_to, open_modes, open_mode_of, protocols, protocol_of, mode_of, simple_name_of, process_of, privilege_of, text_of, sides_of, all_added, with_group, groups_of, with_component, components_of, behind_root, path_of}
 use Rattle.mf_script.specs.Grammar.{requested}
 use Rattle.mf_script.proofs.Yields.{Yields, done, refused, chain, checked, widened}
-use Rattle.mf_spelling.specs.Spelling.{Word, Decimal, Octal, Groups, Text, Setting, Label, path, open_mode, Spells}
+use Rattle.mf_spelling.specs.Spelling.{Word, Decimal, Octal, Groups, Text, Setting, Label, path, open_mode, protocol, Spells}
 use Rattle.mf_spelled.proofs.Lines.{Reads, if_ok, if_some}
 
 pub any_spells : Reads Word any_word
@@ -67,6 +67,10 @@ pub open_mode_spells : Reads (λ mode. Word (open_mode mode.0 mode.1)) open_mode
 unfolding open_mode_of
 open_mode_spells w =
     if_some (entry_named w open_modes) _ _ refused (λ mode e. done (named_under (λ mode. open_mode mode.0 mode.1) w mode open_modes (refl, (refl, (refl, tt))) e))
+
+pub protocol_spells : Reads (λ tcp. Word (protocol tcp)) protocol_of
+unfolding protocol_of
+protocol_spells w = if_some (entry_named w protocols) _ _ refused (λ tcp e. done (named_under protocol w tcp protocols (refl, (refl, tt)) e))
 
 -- the word of what a look-up by words finds
 found_by : {A : Type 0} (text : A → List ℕ) (xs : List A) (w : List ℕ) (x : A) → find (λ x. bytes_eq (text x) w) xs ≡ Some x → w ≡ text x

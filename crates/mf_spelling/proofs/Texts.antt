@@ -1,10 +1,13 @@
 -- The texts that a line's printer puts together.
-use Rattle.std.proofs.Common.{◌≡◌, ℕ, ◌≤◌, false, eqb, Result, Ok, Err, OnOk, List, [], ◌∷◌, ◌++◌, length, take, sym, ap, ◌∙◌, append-nil, append_assoc, arith}
+use Rattle.std.proofs.Common.{◌≡◌, ℕ, ◌≤◌, false, eqb, Result, Ok, Err, OnOk, List, [], ◌∷◌, ◌++◌, length, take, refl, sym, ap, ◌∙◌, append-nil, append_assoc, arith}
 use Rattle.std.proofs.lemmas.List.{length-take, take-take}
 use Rattle.std.proofs.lemmas.List.Concat.{flat_map-cons}
 use Rattle.std.specs.List.{flat_map, join_with_byte}
 use Rattle.mf_text.specs.Appending.{Extends}
 use Rattle.mf_labeltext.specs.Bytes.{slash}
+use Rattle.mf_spelling.specs.Spelling.{Pieces}
+use Rattle.mf_spelling.specs.Canonical.{piece_text, words_behind}
+use Rattle.mf_spelling.specs.Printed.{behind_first, first_alone}
 
 components_joined : (name : List ℕ) (names : List (List ℕ)) → flat_map (λ name. slash ∷ name) (name ∷ names) ≡ slash ∷ join_with_byte slash (name ∷ names)
 components_joined name [] = ap (λ more. slash ∷ more) (append-nil name)
@@ -26,3 +29,15 @@ pub path_pushed : {A E : Type 0} (pushed : Result A E) (front middle text : List
 path_pushed (Ok x) front middle text names some space is =
     is ∙ ap (λ front. front ++ flat_map (λ name. slash ∷ name) names) space ∙ append_assoc front (32 ∷ []) _ ∙ ap (λ path. front ++ 32 ∷ path) (path_joined names some)
 path_pushed (Err e) front middle text names some space is = tt
+
+-- the words of a call, parted behind the first of them
+
+words_parted : (pieces : Pieces) → words_behind (first_alone pieces) ++ words_behind (behind_first pieces) ≡ words_behind pieces
+words_parted [] = refl
+words_parted (piece ∷ pieces) = ap (λ text. 32 ∷ (text ++ words_behind pieces)) (append-nil (piece_text piece))
+
+pub words_pushed : {A E : Type 0} (pushed : Result A E) (front middle text : List ℕ) (pieces : Pieces) → middle ≡ front ++ words_behind (first_alone pieces)
+    → OnOk pushed (text ≡ middle ++ words_behind (behind_first pieces)) → OnOk pushed (text ≡ front ++ words_behind pieces)
+words_pushed (Ok x) front middle text pieces first is =
+    is ∙ ap (λ front. front ++ words_behind (behind_first pieces)) first ∙ append_assoc front (words_behind (first_alone pieces)) _ ∙ ap (λ more. front ++ more) (words_parted pieces)
+words_pushed (Err e) front middle text pieces first is = tt

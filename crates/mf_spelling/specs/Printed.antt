@@ -16,6 +16,11 @@ abbrev pub first_word : Pieces → List ℕ
 first_word [] = []
 first_word (piece ∷ pieces) = piece_text piece
 
+-- the first piece alone
+abbrev pub first_alone : Pieces → Pieces
+first_alone [] = []
+first_alone (piece ∷ pieces) = piece ∷ []
+
 abbrev pub behind_first : Pieces → Pieces
 behind_first [] = []
 behind_first (piece ∷ pieces) = pieces

@@ -15,6 +15,7 @@ use Rattle.mf_text.specs.Escape.{bytes_of}
 use Rattle.mf_labeltext.specs.Reading.{parts, cut, request_in}
 use Rattle.mf_rule.specs.declared.rule.Rule.{Rule}
 use Rattle.mf_rule.specs.declared.rule_list.TheConstants.{MAX_RULES}
+use Rattle.mf_rule.specs.declared.ports.TheConstants.{LAST_PORT}
 use Rattle.mf_rule.specs.RuleGrammar as rule
 use Rattle.mf_words.specs.Words.{Words, words_in, lines_in, is_blank, is_comment}
 use Rattle.mf_names.specs.declared.limits.TheConstants.{MOST_DESCRIPTORS}
@@ -77,6 +78,10 @@ SpellLine ws pieces = ⊥
 abbrev pub open_mode : Bool → Bool → List ℕ
 open_mode read write = (if read then codes "r" else []) ++ (if write then codes "w" else [])
 
+-- the protocol of a port
+abbrev pub protocol : Bool → List ℕ
+protocol tcp = if tcp then codes "tcp" else codes "udp"
+
 abbrev pub call_pieces : Call → Pieces
 call_pieces (call.Fork child) = Word (codes "fork") ∷ Word child ∷ []
 call_pieces call.Exit = Word (codes "exit") ∷ []
@@ -112,6 +117,7 @@ call_pieces (call.Send from to text) = Word (codes "send") ∷ Word from ∷ Wor
 call_pieces (call.Recv name) = Word (codes "recv") ∷ Word name ∷ []
 call_pieces (call.Seesock name) = Word (codes "seesock") ∷ Word name ∷ []
 call_pieces (call.Setsockmac label name) = Word (codes "setsockmac") ∷ Word label ∷ Word name ∷ []
+call_pieces (call.Bind name tcp port) = Word (codes "bind") ∷ Word name ∷ Word (protocol tcp) ∷ Decimal LAST_PORT port ∷ []
 call_pieces call.Kldstat = Word (codes "kldstat") ∷ []
 call_pieces (call.Kldload name) = Word (codes "kldload") ∷ Word name ∷ []
 call_pieces (call.Kldunload name) = Word (codes "kldunload") ∷ Word name ∷ []

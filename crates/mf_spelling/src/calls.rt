@@ -1,9 +1,9 @@
 //! The line of a call.
 ghost use Rattle.std.specs.Prelude.{◌≡◌, ◌++◌, OnOk, OnErr, string_bytes};
 ghost use Rattle.mf_text.specs.Appending.{Extends};
-ghost use Rattle.mf_spelling.specs.Spelling.{call_pieces, open_mode};
+ghost use Rattle.mf_spelling.specs.Spelling.{call_pieces, open_mode, protocol};
 ghost use Rattle.mf_spelling.specs.Canonical.{words_behind, words_text};
-ghost use Rattle.mf_spelling.specs.Printed.{Adds, behind_first, first_word};
+ghost use Rattle.mf_spelling.specs.Printed.{Adds, behind_first, first_alone, first_word};
 
 use crate::words::{
     push_mode, push_number, push_path, push_rule, push_setting, push_text, push_word,
@@ -59,6 +59,7 @@ fn call_name(call: &Call) -> &'static str
         Call::Recv(_) => "recv",
         Call::Seesock(_) => "seesock",
         Call::Setsockmac(..) => "setsockmac",
+        Call::Bind(..) => "bind",
         Call::Kldstat => "kldstat",
         Call::Kldload(_) => "kldload",
         Call::Kldunload(_) => "kldunload",
@@ -75,6 +76,16 @@ fn push_arguments(call: &Call, out: &mut String) -> Result<(), AllocError>
         (Adds out.old out.new (words_behind (behind_first (call_pieces call.now)))) }
     ensures err { OnErr result (Extends (string_bytes out.old) (string_bytes out.new)) }
 {
+    push_second(call, out)?;
+    push_further(call, out)
+}
+
+/// The word behind the first.
+fn push_second(call: &Call, out: &mut String) -> Result<(), AllocError>
+    ensures ok { OnOk result (Adds out.old out.new
+        (words_behind (first_alone (behind_first (call_pieces call.now))))) }
+    ensures err { OnErr result (Extends (string_bytes out.old) (string_bytes out.new)) }
+{
     match call {
         Call::Exit | Call::Getpmac | Call::Kldstat => Ok(()),
         Call::Fork(name)
@@ -85,70 +96,70 @@ fn push_arguments(call: &Call, out: &mut String) -> Result<(), AllocError>
         | Call::Pipe(name)
         | Call::Socket(name)
         | Call::Pread(name)
+        | Call::Pwrite(name, _)
         | Call::Pstat(name)
+        | Call::Send(name, ..)
         | Call::Recv(name)
-        | Call::Seesock(name) => push_word(name.as_str(), out),
-        Call::Setpmac(word) | Call::Kldload(word) | Call::Kldunload(word) => {
-            push_word(word.as_str(), out)
-        }
+        | Call::Seesock(name)
+        | Call::Bind(name, ..) => push_word(name.as_str(), out),
+        Call::Setpmac(word)
+        | Call::Setfmac(word, _)
+        | Call::Setpipemac(word, _)
+        | Call::Setsockmac(word, _)
+        | Call::Kldload(word)
+        | Call::Kldunload(word) => push_word(word.as_str(), out),
         Call::Exec(path)
         | Call::Create(path)
         | Call::Mkdir(path)
         | Call::Read(path)
+        | Call::Write(path, _)
         | Call::Stat(path)
         | Call::Getfmac(path)
         | Call::Readdir(path)
-        | Call::Unlink(path) => push_path(path, out),
+        | Call::Chmod(path, _)
+        | Call::Unlink(path)
+        | Call::OpenFd(path, ..) => push_path(path, out),
         Call::Priv(privilege) => push_word(privilege.name(), out),
-        Call::Write(path, text) => {
-            push_path(path, out)?;
-            push_text(text.as_slice(), out)
-        }
-        Call::Setfmac(label, path) => {
-            push_word(label.as_str(), out)?;
-            push_path(path, out)
-        }
-        Call::Chmod(path, mode) => {
-            push_path(path, out)?;
-            push_mode(*mode, out)
-        }
-        Call::OpenFd(path, read, write) => {
-            push_path(path, out)?;
-            push_word(open_mode(*read, *write), out)
-        }
-        Call::Fread(number) | Call::Close(number) => push_number(*number, out),
-        Call::Fwrite(number, text) => {
-            push_number(*number, out)?;
-            push_text(text.as_slice(), out)
-        }
-        Call::Pwrite(name, text) => {
-            push_word(name.as_str(), out)?;
-            push_text(text.as_slice(), out)
-        }
-        Call::Setpipemac(label, name) | Call::Setsockmac(label, name) => {
-            push_word(label.as_str(), out)?;
-            push_word(name.as_str(), out)
-        }
-        Call::Send(from, to, text) => {
-            push_word(from.as_str(), out)?;
-            push_word(to.as_str(), out)?;
-            push_text(text.as_slice(), out)
+        Call::Fread(number) | Call::Fwrite(number, _) | Call::Close(number) => {
+            push_number(*number, out)
         }
         Call::Sysctl(name, value) => push_setting(name.as_str(), value.as_str(), out),
         Call::UgidfwList => push_word("list", out),
-        Call::UgidfwAdd(rule) => {
-            push_word("add", out)?;
-            push_rule(rule, out)
+        Call::UgidfwAdd(_) => push_word("add", out),
+        Call::UgidfwSet(..) => push_word("set", out),
+        Call::UgidfwRemove(_) => push_word("remove", out),
+    }
+}
+
+/// The words behind the second, where there are some.
+fn push_further(call: &Call, out: &mut String) -> Result<(), AllocError>
+    ensures ok { OnOk result (Adds out.old out.new
+        (words_behind (behind_first (behind_first (call_pieces call.now))))) }
+    ensures err { OnErr result (Extends (string_bytes out.old) (string_bytes out.new)) }
+{
+    match call {
+        Call::Write(_, text) | Call::Fwrite(_, text) | Call::Pwrite(_, text) => {
+            push_text(text.as_slice(), out)
         }
+        Call::Setfmac(_, path) => push_path(path, out),
+        Call::Chmod(_, mode) => push_mode(*mode, out),
+        Call::OpenFd(_, read, write) => push_word(open_mode(*read, *write), out),
+        Call::Setpipemac(_, name) | Call::Setsockmac(_, name) => push_word(name.as_str(), out),
+        Call::Send(_, to, text) => {
+            push_word(to.as_str(), out)?;
+            push_text(text.as_slice(), out)
+        }
+        Call::Bind(_, tcp, port) => {
+            push_word(protocol(*tcp), out)?;
+            push_number(u32::from(*port), out)
+        }
+        Call::UgidfwAdd(rule) => push_rule(rule, out),
         Call::UgidfwSet(number, rule) => {
-            push_word("set", out)?;
             push_number(*number, out)?;
             push_rule(rule, out)
         }
-        Call::UgidfwRemove(number) => {
-            push_word("remove", out)?;
-            push_number(*number, out)
-        }
+        Call::UgidfwRemove(number) => push_number(*number, out),
+        _ => Ok(()),
     }
 }
 
@@ -162,4 +173,11 @@ fn open_mode(read: bool, write: bool) -> &'static str
         (false, true) => "w",
         (false, false) => "",
     }
+}
+
+/// The protocol of a port: TCP, or else UDP.
+fn protocol(tcp: bool) -> &'static str
+    ensures { result.now ≡ protocol tcp }
+{
+    if tcp { "tcp" } else { "udp" }
 }

@@ -5,10 +5,6 @@ use std::alloc::AllocError;
 
 /// A boot line for each errno.
 const BOOTS: &[Row] = &[
-    (
-        "boot mac_priority\nboot mac_bsdextended\nboot mac_partition\nboot mac_lomac\nboot mac_mls\nboot mac_biba",
-        NONE,
-    ),
     ("boot mac_foo", "1 12 BootRefused ENOENT"),
     ("boot lomac", "1 12 BootRefused ENOENT"),
     ("boot biba", "1 12 BootRefused ENOENT"),
@@ -17,6 +13,28 @@ const BOOTS: &[Row] = &[
         "boot mac_mls\nboot mac_biba\nboot mac_mls",
         "3 12 BootRefused EEXIST",
     ),
+];
+
+/// As many boot lines as there may be.
+const MOST_BOOTS: &str = "boot mac_portacl
+boot mac_seeotheruids
+boot mac_priority
+boot mac_bsdextended
+boot mac_partition
+boot mac_lomac
+boot mac_mls
+boot mac_biba
+";
+
+/// What may follow them. A further boot line is too many before its module is looked for.
+const BEHIND_BOOTS: &[Row] = &[
+    ("", NONE),
+    ("boot mac_foo", "9 11 TooMany"),
+    ("boot mac_biba", "9 11 TooMany"),
+    ("\n# boot\nboot x", "11 11 TooMany"),
+    ("boot", "9 3 Missing"),
+    ("boot mac_foo x", "9 4 Extra"),
+    ("task t uid 0 gid 0 label -\nend", NONE),
 ];
 
 /// Which line may stand where.
@@ -197,6 +215,19 @@ const CALLS: &[Row] = &[
     ("setfmac biba/5", "2 3 Missing"),
     ("setfmac /a biba/5", "2 8 BadPath"),
     ("setsockmac biba/5 s d", "2 4 Extra"),
+    ("bind", "2 3 Missing"),
+    ("bind s", "2 3 Missing"),
+    ("bind s tcp", "2 3 Missing"),
+    ("bind s.c x x", "2 8 BadPath"),
+    ("bind s sctp 80", "2 2 UnknownWord"),
+    ("bind s TCP 80", "2 2 UnknownWord"),
+    ("bind s 80 tcp", "2 2 UnknownWord"),
+    ("bind s tcp 65536", "2 5 BadNumber"),
+    ("bind s tcp x", "2 5 BadNumber"),
+    ("bind s udp -1", "2 5 BadNumber"),
+    ("bind s udp 65536 x", "2 5 BadNumber"),
+    ("bind s udp 80 x", "2 4 Extra"),
+    ("bind s udp 065535", "3 10 NoEnd"),
     ("exec sh", "2 8 BadPath"),
     ("create //", "2 8 BadPath"),
     ("mkdir /a//b", "2 8 BadPath"),
@@ -305,6 +336,7 @@ fn each_line_has_its_place(rt: HostRuntime) -> Result<(), AllocError> {
 #[test]
 fn lines_of_boots_files_and_tasks(rt: HostRuntime) -> Result<(), AllocError> {
     are_faulty(&rt, rt.alloc(), "", BOOTS)?;
+    are_faulty(&rt, rt.alloc(), MOST_BOOTS, BEHIND_BOOTS)?;
     are_faulty(&rt, rt.alloc(), "", FILES)?;
     are_faulty(&rt, rt.alloc(), "boot mac_lomac\n", LOMAC)?;
     are_faulty(&rt, rt.alloc(), "", TASK_LINES)?;
