@@ -2,6 +2,8 @@
 #![tactic(auto)]
 
 #[cfg(test)]
+mod bindings;
+#[cfg(test)]
 mod calls;
 #[cfg(test)]
 mod lomac;
@@ -13,3 +15,5 @@ mod plans;
 mod population;
 #[cfg(test)]
 mod scripts;
+#[cfg(test)]
+mod settings;

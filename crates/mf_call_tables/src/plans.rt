@@ -1,5 +1,5 @@
 //! Plans of calls by t and its child c. There is /d with a regular file f, and a regular file /e; t has the empty socket a and the
-//! empty pipe p, and has /e open for reading as 0 and /d/f for writing as 1; the process u has nothing.
+//! empty pipe p, and has /e open for reading as 0 and /d/f for writing as 1; the process u has nothing. All are root's but c.
 ghost use Rattle.mf_objects.specs.Live.{is_process};
 ghost use Rattle.mf_calls.specs.WellFormed.{IsFormedLine, IsName};
 
@@ -82,6 +82,11 @@ const ROWS: &[(&str, &str)] = &[
     ("send a a x", "socket_send socket_deliver ok"),
     ("recv a", "socket_receive EAGAIN"),
     ("@c seesock a", "socket_visible ok"),
+    ("bind a tcp 80", "socket_bind ok"),
+    ("@c bind a udp 0", "socket_bind ok"),
+    ("bind b tcp 80", "ENOENT"),
+    ("bind p tcp 80", "ENOENT"),
+    ("@d bind a tcp 80", "ESRCH"),
     ("@d kldstat", "ESRCH"),
     ("kldload mac_partition", "priv kld_load ok"),
     ("kldload mac_biba", "priv kld_load EBUSY"),
@@ -136,7 +141,7 @@ fn is_of_line(plan: &Plan, state: &State, task: &str, line: &Line) -> bool
 }
 
 /// The plan of a call that is written as a script's line.
-fn plan_of_text(
+pub fn plan_of_text(
     rt: &impl Abort,
     alloc: Global,
     state: &State,
@@ -186,7 +191,7 @@ fn text_of_plan(
 }
 
 /// Each call has its plan.
-fn are_planned(
+pub fn are_planned(
     rt: &impl Abort,
     alloc: Global,
     state: &State,
@@ -210,7 +215,7 @@ fn fill(rt: &impl Abort, alloc: Global, objects: &mut Objects) -> Result<(), All
     for n in 0..1024 {
         if objects.live() < 1024 {
             let name = format!(in alloc; "n{n}")?;
-            add_process(rt, alloc, objects, name.as_str())?;
+            add_process(rt, alloc, objects, name.as_str(), 0)?;
         }
     }
     Ok(())
@@ -321,6 +326,8 @@ const DIFFER: &[(&str, &str)] = &[
     ("see u", "signal u"),
     ("see u", "see t.c"),
     ("open /e r", "open /e rw"),
+    ("bind a tcp 80", "bind a udp 80"),
+    ("bind a tcp 80", "bind a tcp 81"),
 ];
 
 /// A call that is done, and one whose plan it changes.

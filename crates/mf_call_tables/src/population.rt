@@ -1,5 +1,5 @@
-//! What there is before the calls whose plans are made: /d with a regular file f, and a regular file /e; the processes t, its child c, and
-//! u; t's empty pipe p and empty socket a.
+//! What there is before the calls whose plans are made: /d with a regular file f, and a regular file /e; the processes t, its child c, which
+//! alone isn't root's, and u; t's empty pipe p and empty socket a.
 ghost use Rattle.mf_objects.specs.Lives.{IsLive, is_directory};
 
 use mf_cred::{Cred, FileView};
@@ -36,15 +36,25 @@ fn add_file(
     Ok(())
 }
 
+/// A credential of that uid alone.
+fn cred_of(uid: u32) -> Cred {
+    let mut cred = Cred::default();
+    cred.uid = uid;
+    cred.ruid = uid;
+    cred.svuid = uid;
+    cred
+}
+
 pub fn add_process(
     rt: &impl Abort,
     alloc: Global,
     objects: &mut Objects,
     name: &str,
+    uid: u32,
 ) -> Result<(), AllocError> {
     assert!(rt; objects.live() < 1024 && objects.next_id() < u32::MAX);
     if objects.process(name).is_none() {
-        let _id = objects.add_process(alloc, name, &Cred::default(), &UNSET)?;
+        let _id = objects.add_process(alloc, name, &cred_of(uid), &UNSET)?;
     }
     Ok(())
 }
@@ -85,9 +95,9 @@ fn add_socket(rt: &impl Abort, alloc: Global, objects: &mut Objects) -> Result<(
 /// All that there is before the calls.
 fn populate(rt: &impl Abort, alloc: Global, objects: &mut Objects) -> Result<(), AllocError> {
     add_files(rt, alloc, objects)?;
-    add_process(rt, alloc, objects, "t")?;
-    add_process(rt, alloc, objects, "t.c")?;
-    add_process(rt, alloc, objects, "u")?;
+    add_process(rt, alloc, objects, "t", 0)?;
+    add_process(rt, alloc, objects, "t.c", 80)?;
+    add_process(rt, alloc, objects, "u", 0)?;
     add_pipe(rt, alloc, objects)?;
     add_socket(rt, alloc, objects)
 }

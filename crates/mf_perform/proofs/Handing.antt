@@ -24,7 +24,7 @@ use Rattle.mf_plan.specs.Ways.{At, asked_in, target_in, way_to}
 use Rattle.mf_plan.specs.Found.{IsAbout}
 use Rattle.mf_plan.specs.Effect.Effect.{Open}
 use Rattle.mf_perform.specs.declared.descriptors.Opening.{Opening}
-use Rattle.mf_perform.specs.Found.{effect_found, fd_with, is_open_call, opening_of, payload_found, rule_added, slot}
+use Rattle.mf_perform.specs.Found.{effect_found, fd_by, is_open_call, opening_of, payload_found, rule_added, slot}
 use Rattle.mf_text.specs.Results.{and_then}
 
 module _ (s : State) (task : List ℕ) (me : Id) (c : Call) (found : Found) (is : IsAbout s task me c found) where
@@ -56,7 +56,7 @@ effect_row s task me opening (call.Sysctl name value) what entry seen = cc
 effect_row s task me opening (call.UgidfwAdd rule) what entry seen = cc
 effect_row s task me opening (call.UgidfwSet n rule) what entry seen = cc
 effect_row s task me opening (call.UgidfwRemove n) what entry seen = cc
-effect_row s task me opening (call.OpenFd path read write) id entry seen = ap (λ (o : Opening). Open me (fd_with s me read write o id)) (seen refl)
+effect_row s task me opening (call.OpenFd path read write) id entry seen = ap (λ (o : Opening). Open me (fd_by s me read write o id)) (seen refl)
 effect_row s task me opening other what entry seen = refl
 
 named_so : {A : Type 0} (e : Errno) (holder : Option A) (a : A) → ok_or holder e ≡ Ok a → holder ≡ Some a

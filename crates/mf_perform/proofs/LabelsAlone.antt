@@ -24,7 +24,7 @@ use Rattle.mf_plan.specs.Effect.{Effect}
 use Rattle.mf_plan.specs.Effect.Effect.{Make, Append, Deliver, Empty, Receive, SetMode, Open, Close, Unlink, Relabel, Load, Unload}
 use Rattle.mf_perform.specs.Effect.{with_objects}
 use Rattle.mf_perform.specs.declared.descriptors.Opening.{Opening}
-use Rattle.mf_perform.specs.Found.{effect_found, fd_with, make_file, where_found}
+use Rattle.mf_perform.specs.Found.{effect_found, fd_by, make_file, where_found}
 use Rattle.mf_perform.specs.Suits.{IsFree, Suits}
 
 -- it keeps all of an entity but its label
@@ -179,7 +179,7 @@ module _ (g : LiveEntity → LiveEntity) (keeps : KeepsRest g) where
     file_same me path mode is_dir (Some dir) = rw (cred_mapped s.objects me, file_mapped s.objects dir) refl
 
     open_same : (opening : Opening) (me : Id) (read write : Bool) (found : Option Id)
-        → where_found (λ id. Open me (fd_with relabelled_alone me read write opening id)) found ≡ where_found (λ id. Open me (fd_with s me read write opening id)) found
+        → where_found (λ id. Open me (fd_by relabelled_alone me read write opening id)) found ≡ where_found (λ id. Open me (fd_by s me read write opening id)) found
     open_same opening me read write None = refl
     open_same opening me read write (Some id) = rw (fds_mapped s.objects me) refl
 

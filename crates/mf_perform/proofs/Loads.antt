@@ -2,8 +2,7 @@
 use Rattle.std.proofs.Common.{◌≡◌, ℕ, ◌<◌, ◌&&◌, ◌||◌, Bool, true, false, not, List, [], Option, Some, None, option_map, Result, Ok, Err, refl, ap, sym, ◌∙◌, subst, if◌then◌else◌}
 use Rattle.std.proofs.lemmas.Bool.{leb-false}
 use Rattle.std.specs.Option.{option_map_or, option_zip, ok_or}
-use Rattle.std.specs.Prelude.{nat_eq, nat_le, codes, IfSome}
-use Rattle.std.specs.Str.{bytes_eq}
+use Rattle.std.specs.Prelude.{nat_eq, nat_le, option_and_then, IfSome}
 use Rattle.mf_errno.specs.Names.{module_named}
 use Rattle.mf_errno.specs.declared.errno.Errno.{Errno}
 use Rattle.mf_errno.specs.declared.errno.Errno.TheVariants as errno
@@ -11,10 +10,13 @@ use Rattle.mf_errno.specs.declared.module.Module.{Module}
 use Rattle.mf_errno.specs.declared.module.Module.TheVariants as modules
 use Rattle.mf_policy.specs.declared.loading.LoadFault.TheVariants.{NotLate, Exists, NoSlot}
 use Rattle.mf_policy.specs.declared.settings.Change.{Change}
-use Rattle.mf_policy.specs.declared.settings.Change.TheVariants.{FirstMatch, RuleAdd, RuleSet, RuleRemove}
+use Rattle.mf_policy.specs.declared.settings.Change.TheVariants.{RuleAdd, RuleSet, RuleRemove}
 use Rattle.mf_policy.specs.Loading.{load_errno, load_fault, unload_errno, unload_fault}
 use Rattle.mf_policy.specs.Modules.{facts_of, wants_slot}
-use Rattle.mf_policy.specs.Registration.{is_listed}
+use Rattle.mf_policy.specs.Registration.{Entry, is_listed}
+use Rattle.mf_policy.specs.Sysctls.{asked_of, sysctl_named, sysctl_row}
+use Rattle.mf_policy.specs.declared.sysctl.Sysctl.{Sysctl}
+use Rattle.mf_policy.specs.declared.sysctl.Sysctl.TheVariants as sysctl
 use Rattle.mf_objects.specs.declared.id.Id.{Id}
 use Rattle.mf_objects.specs.Live.{cred_at}
 use Rattle.mf_calls.specs.declared.script.Call.{Call}
@@ -29,8 +31,7 @@ use Rattle.mf_plan.specs.Plan.{row_for}
 use Rattle.mf_plan.specs.declared.reply.Payload.TheVariants as payload
 use Rattle.mf_plan.specs.Row.{Row, changes, refuse_by, through, returns}
 use Rattle.mf_plan.specs.Rows.{about_of}
-use Rattle.mf_calls.specs.Tunable.{switch}
-use Rattle.mf_plan.specs.Settings.{is_tunable, sysctl_module, unless_success}
+use Rattle.mf_plan.specs.Settings.{asked_named, is_tunable, owner_named, unless_success}
 use Rattle.mf_policy.specs.Settings.{change_in}
 use Rattle.mf_calls.specs.Tasks.{is_change}
 use Rattle.mf_perform.specs.declared.relisting.Relisting.{Relisting}
@@ -130,7 +131,7 @@ relisting_is s task me (call.Kldunload name) change done =
     told_module (module_named name) (λ m. ToUnload m) (λ m. Unload m) (λ m. refl)
     ∙ found_module [] (about_of s task me (call.Kldunload name)).row (λ m. Unload m) (λ m. refl) (module_named name) done
 relisting_is s task me (call.Sysctl name value) change done =
-    set_there s me (λ asked. changes (Set asked.0 asked.1)) (λ asked. refl) (is_tunable s.specs name) (sysctl_module name) (option_map FirstMatch (switch value)) done
+    set_there s me (λ asked. changes (Set asked.0 asked.1)) (λ asked. refl) (is_tunable s.specs name) (owner_named name) (asked_named s.specs name value) done
 relisting_is s task me (call.UgidfwAdd rule) change done =
     set_there s me (λ asked. returns (option_map_or payload.Rule (change_in asked.0 asked.1 s.specs).0.number payload.None) (Set asked.0 asked.1))
     (λ asked. refl) false (Some modules.Bsdextended) (Some (RuleAdd rule)) done
@@ -145,13 +146,9 @@ relisting_is s task me other change done = cc
 abbrev pub MayBeUnloaded : Module → Type 0
 MayBeUnloaded m = (facts_of m).unload_ok ≡ true
 
-of_sysctl : (b : Bool) → IfSome (if b then Some modules.Bsdextended else None) MayBeUnloaded
-of_sysctl true = refl
-of_sysctl false = tt
-
-sysctl_unloadable : (name : List ℕ) → IfSome (sysctl_module name) MayBeUnloaded
-unfolding sysctl_module
-sysctl_unloadable name = of_sysctl (bytes_eq name (codes "security.mac.bsdextended.firstmatch_enabled"))
+sysctl_unloadable : (s : Sysctl) → (sysctl_row s).tunable ≡ false → MayBeUnloaded (sysctl_row s).owner
+sysctl_unloadable sysctl.RevocationEnabled is = cc
+sysctl_unloadable other is = refl
 
 no_setting : (to : Module → Relisting) → ((m : Module) → SetsDynamic (to m)) → (found : Option Module) → IfSome (option_map to found) SetsDynamic
 no_setting to is None = tt
@@ -162,10 +159,21 @@ sets None change may = tt
 sets (Some m) None may = tt
 sets (Some m) (Some change) may = may
 
+sets_named : (listed : List Entry) (value : List ℕ) (named : Option Sysctl)
+    → IfSome (option_map (λ asked. ToSet asked.0 asked.1) (option_zip (option_map (λ s. (sysctl_row s).owner) named)
+    (option_and_then (λ s. if (sysctl_row s).tunable then None else asked_of s listed value) named))) SetsDynamic
+sets_named listed value None = tt
+sets_named listed value (Some s) = one (sysctl_row s).tunable refl
+  where
+    one : (b : Bool) → (sysctl_row s).tunable ≡ b
+        → IfSome (option_map (λ asked. ToSet asked.0 asked.1) (option_zip (Some (sysctl_row s).owner) (if b then None else asked_of s listed value))) SetsDynamic
+    one true is = tt
+    one false is = sets (Some (sysctl_row s).owner) (asked_of s listed value) (sysctl_unloadable s is)
+
 pub sets_dynamic : (s : State) (task : List ℕ) (me : Id) (c : Call) → IfSome (relisting_at (about_of s task me c).place) SetsDynamic
 sets_dynamic s task me (call.Kldload name) = no_setting (λ m. ToLoad m) (λ m. tt) (module_named name)
 sets_dynamic s task me (call.Kldunload name) = no_setting (λ m. ToUnload m) (λ m. tt) (module_named name)
-sets_dynamic s task me (call.Sysctl name value) = sets (sysctl_module name) (option_map FirstMatch (switch value)) (sysctl_unloadable name)
+sets_dynamic s task me (call.Sysctl name value) = sets_named s.specs value (sysctl_named name)
 sets_dynamic s task me (call.UgidfwAdd rule) = refl
 sets_dynamic s task me (call.UgidfwSet n rule) = refl
 sets_dynamic s task me (call.UgidfwRemove n) = refl

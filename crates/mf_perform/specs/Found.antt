@@ -33,7 +33,7 @@ use Rattle.mf_plan.specs.Effect.Effect.{Unchanged, Make, Append, Deliver, Empty,
 use Rattle.mf_plan.specs.Names.{child_name}
 use Rattle.mf_plan.specs.Path.{last_name}
 use Rattle.mf_plan.specs.Payloads.{head, label, label_part, loaded, message, names}
-use Rattle.mf_plan.specs.Rows.{biba_value, new_file}
+use Rattle.mf_plan.specs.Rows.{biba_value, fd_with, new_file}
 use Rattle.mf_perform.specs.declared.channels.Channel.{Channel}
 use Rattle.mf_perform.specs.declared.channels.Channel.TheVariants as channel
 use Rattle.mf_perform.specs.declared.descriptors.Opening.{Opening}
@@ -69,10 +69,9 @@ biba_found s found = option_map_or (biba_value s) found Unset
 abbrev pub opening_of : State → Option Id → Option Id → Opening
 opening_of s caller found = record { subject = biba_found s caller; object = biba_found s found }
 
--- the descriptor that a process gets on a file, with these values
-abbrev pub fd_with : State → Id → Bool → Bool → Opening → Id → Fd
-fd_with s me read write opening file =
-    record { number = lowest_free (fds_at s.objects me); file = file; read = read; write = write; subject = opening.subject; object = opening.object }
+-- the descriptor that the process gets on the file, with these values
+abbrev pub fd_by : State → Id → Bool → Bool → Opening → Id → Fd
+fd_by s me read write opening file = fd_with s me read write opening.subject opening.object file
 
 -- what the call of an entry changes, by the target and the request that were found, and by what mac_biba had as a file was to be opened
 abbrev pub effect_found : State → List ℕ → Id → Opening → Call → Option Id → Option Request → Effect
@@ -85,7 +84,7 @@ effect_found s task me opening (call.Write path text) found asked = where_found 
 effect_found s task me opening (call.Setfmac label path) found asked = relabelling found asked
 effect_found s task me opening (call.Chmod path mode) found asked = where_found (λ id. SetMode id mode) found
 effect_found s task me opening (call.Unlink path) found asked = where_found Unlink found
-effect_found s task me opening (call.OpenFd path read write) found asked = where_found (λ id. Open me (fd_with s me read write opening id)) found
+effect_found s task me opening (call.OpenFd path read write) found asked = where_found (λ id. Open me (fd_by s me read write opening id)) found
 effect_found s task me opening (call.Fwrite n text) found asked = where_found (λ id. Append id text) found
 effect_found s task me opening (call.Close n) found asked = Close me n
 effect_found s task me opening (call.Pipe name) found asked = Make name (new_pipe me)
@@ -110,6 +109,7 @@ effect_found s task me opening (call.Getfmac path) found asked = Unchanged
 effect_found s task me opening (call.Readdir path) found asked = Unchanged
 effect_found s task me opening (call.Pstat name) found asked = Unchanged
 effect_found s task me opening (call.Seesock name) found asked = Unchanged
+effect_found s task me opening (call.Bind name tcp port) found asked = Unchanged
 effect_found s task me opening call.Kldstat found asked = Unchanged
 effect_found s task me opening call.UgidfwList found asked = Unchanged
 -- changes of the policies, whose effect `relisting_at` tells
@@ -186,6 +186,7 @@ payload_found s caller (call.Setpipemac label name) found = payload.None
 payload_found s caller (call.Send from to text) found = payload.None
 payload_found s caller (call.Seesock name) found = payload.None
 payload_found s caller (call.Setsockmac label name) found = payload.None
+payload_found s caller (call.Bind name tcp port) found = payload.None
 payload_found s caller (call.Kldunload name) found = payload.None
 payload_found s caller (call.Sysctl name value) found = payload.None
 payload_found s caller (call.UgidfwSet n rule) found = payload.None

@@ -60,9 +60,9 @@ pub(crate) fn open(
     opening: &Opening,
 )
     requires { Suits state.old (spec.where_found
-        (λ id. Open caller (spec.fd_with state.old caller read write opening.now id)) file) }
+        (λ id. Open caller (spec.fd_by state.old caller read write opening.now id)) file) }
     ensures { (me : Id) → state.new ≡ after state.old me (spec.where_found
-        (λ id. Open caller (spec.fd_with state.old caller read write opening.now id)) file) }
+        (λ id. Open caller (spec.fd_by state.old caller read write opening.now id)) file) }
 {
     if let Some(id) = file {
         let (subject, object) = (opening.subject, opening.object);

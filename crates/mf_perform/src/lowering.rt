@@ -139,6 +139,6 @@ fn after_one(objects: &Objects, slot: u8, value: LabelValue, check: &Check) -> L
     // Who the subject is counts for nothing here.
     let subject = SubjectView::default();
     let object = object_in(objects, check.object);
-    let item = Item::new(check.op, &subject, object.as_ref(), None, None);
+    let item = Item::new(check.op, &subject, object.as_ref(), None, None, None);
     after_check(slot, &value, &item)
 }

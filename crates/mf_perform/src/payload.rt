@@ -52,7 +52,8 @@ pub fn payload_of(
 }
 
 /// What the call hands back, by the caller and the target that were found. The clause says of every
-/// call what the table of `payload_found` has.
+/// call what the table of `payload_found` has, so one that is new and hands something back is refused
+/// here until it has its line.
 fn read_found(
     alloc: Global,
     state: &State,
@@ -82,34 +83,7 @@ fn read_found(
         Call::Kldload(name) => Ok(slot(state, name.as_str())),
         Call::UgidfwList => rules(alloc, &state.specs),
         Call::UgidfwAdd(rule) => Ok(added(&state.specs, *rule)),
-        Call::Fork(_)
-        | Call::Exit
-        | Call::See(_)
-        | Call::Signal(_)
-        | Call::Debug(_)
-        | Call::Sched(_)
-        | Call::Priv(_)
-        | Call::Setpmac(_)
-        | Call::Exec(_)
-        | Call::Create(_)
-        | Call::Mkdir(_)
-        | Call::Write(..)
-        | Call::Setfmac(..)
-        | Call::Chmod(..)
-        | Call::Unlink(_)
-        | Call::Fwrite(..)
-        | Call::Close(_)
-        | Call::Pipe(_)
-        | Call::Socket(_)
-        | Call::Pwrite(..)
-        | Call::Setpipemac(..)
-        | Call::Send(..)
-        | Call::Seesock(_)
-        | Call::Setsockmac(..)
-        | Call::Kldunload(_)
-        | Call::Sysctl(..)
-        | Call::UgidfwSet(..)
-        | Call::UgidfwRemove(_) => Ok(Payload::None),
+        _ => Ok(Payload::None),
     }
 }
 

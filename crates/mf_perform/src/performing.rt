@@ -102,7 +102,7 @@ fn perform_by(
         Call::See(_) | Call::Signal(_) | Call::Debug(_) | Call::Sched(_) | Call::Priv(_) => {}
         Call::Getpmac | Call::Exec(_) | Call::Read(_) | Call::Fread(_) | Call::Stat(_) => {}
         Call::Getfmac(_) | Call::Readdir(_) | Call::Pstat(_) | Call::Seesock(_) => {}
-        Call::Kldstat | Call::UgidfwList => {}
+        Call::Bind(..) | Call::Kldstat | Call::UgidfwList => {}
         // Changes of the policies aren't made here.
         Call::Kldload(_) | Call::Kldunload(_) | Call::Sysctl(..) => {}
         Call::UgidfwAdd(_) | Call::UgidfwSet(..) | Call::UgidfwRemove(_) => {}

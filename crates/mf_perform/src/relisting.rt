@@ -2,7 +2,6 @@
 ghost use Rattle.std.specs.Prelude.{◌≡◌, ℕ, List, IfSome};
 ghost use Rattle.mf_objects.specs.declared.id.Id.{Id};
 ghost use Rattle.mf_calls.specs.WellFormed.{IsFormedCall};
-ghost use Rattle.mf_plan.specs.declared.state.State.{State};
 ghost use Rattle.mf_plan.specs.Rows.{about_of};
 ghost use Rattle.mf_perform.specs.Relisting as spec;
 
@@ -13,7 +12,7 @@ use mf_policy::Change;
 
 /// What a call changes of the policies: a module is registered, is taken off the list, or has
 /// another setting. Dynamic list, catalogue and state follow it one after another.
-#[derive(Clone, Copy)]
+#[derive(Drop)]
 pub enum Relisting {
     Load(Module),
     Unload(Module),
@@ -22,20 +21,21 @@ pub enum Relisting {
 
 /// What the call changes of the policies, where it may be done: then that is the effect of its row,
 /// whoever makes it.
-pub fn relisting_of(_state: &State, call: &Call) -> Option<Relisting>
+pub fn relisting_of(state: &State, call: &Call) -> Option<Relisting>
     requires formed { IsFormedCall call.now }
-    ensures tells { spec.Tells _state.now call.now result }
+    ensures tells { spec.Tells state.now call.now result }
     ensures formed { IfSome result spec.IsFormed }
 {
-    told_by(call)
+    told_by(state, call)
 }
 
-/// The change that the words of the call ask for. The clause says of every call what its place
-/// says, so a call that is new and changes the policies is refused here until it has its line.
-fn told_by(call: &Call) -> Option<Relisting>
+/// The change that the words of the call ask for in this state. The clause says of every call what
+/// its place says, so a call that is new and changes the policies is refused here until it has its
+/// line.
+fn told_by(state: &State, call: &Call) -> Option<Relisting>
     requires formed { IsFormedCall call.now }
-    ensures value { (state : State) → (task : List ℕ) → (me : Id)
-        → result ≡ spec.relisting_at (about_of state task me call.now).place }
+    ensures value { (task : List ℕ) → (me : Id)
+        → result ≡ spec.relisting_at (about_of state.now task me call.now).place }
     ensures formed { IfSome result spec.IsFormed }
 {
     match call {
@@ -48,44 +48,9 @@ fn told_by(call: &Call) -> Option<Relisting>
             Some(Relisting::Unload(wanted))
         }
         Call::Sysctl(..) | Call::UgidfwAdd(_) | Call::UgidfwSet(..) | Call::UgidfwRemove(_) => {
-            let (module, change) = asked_change(call)?;
+            let (module, change) = asked_change(state, call)?;
             Some(Relisting::Set(module, change))
         }
-        Call::Fork(_)
-        | Call::Exit
-        | Call::See(_)
-        | Call::Signal(_)
-        | Call::Debug(_)
-        | Call::Sched(_)
-        | Call::Priv(_)
-        | Call::Getpmac
-        | Call::Setpmac(_)
-        | Call::Exec(_)
-        | Call::Create(_)
-        | Call::Mkdir(_)
-        | Call::Read(_)
-        | Call::Write(..)
-        | Call::Stat(_)
-        | Call::Getfmac(_)
-        | Call::Setfmac(..)
-        | Call::Readdir(_)
-        | Call::Chmod(..)
-        | Call::Unlink(_)
-        | Call::OpenFd(..)
-        | Call::Fread(_)
-        | Call::Fwrite(..)
-        | Call::Close(_)
-        | Call::Pipe(_)
-        | Call::Socket(_)
-        | Call::Pread(_)
-        | Call::Pwrite(..)
-        | Call::Pstat(_)
-        | Call::Setpipemac(..)
-        | Call::Send(..)
-        | Call::Recv(_)
-        | Call::Seesock(_)
-        | Call::Setsockmac(..)
-        | Call::Kldstat
-        | Call::UgidfwList => None,
+        _ => None,
     }
 }

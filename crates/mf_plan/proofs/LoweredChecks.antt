@@ -89,16 +89,17 @@ pub record IsSameCheck (item other : Item) : Type 0 where
   pub object : item.object ≡ other.object
   pub request : item.request ≡ other.request
   pub privilege : item.privilege ≡ other.privilege
+  pub port : item.port ≡ other.port
 
 pub while_same : (slot caller : ℕ) (value : LabelValue) (item : Item) → IsSameCheck (while_lowered slot caller value item) item
 while_same slot caller value item = one (nat_eq item.subject.id caller)
   where
     one : (b : Bool) → IsSameCheck (cond b (record item { subject = with_slot slot value item.subject }) item) item
-    one true = record { op = refl; id = refl; cred = refl; object = refl; request = refl; privilege = refl }
-    one false = record { op = refl; id = refl; cred = refl; object = refl; request = refl; privilege = refl }
+    one true = record { op = refl; id = refl; cred = refl; object = refl; request = refl; privilege = refl; port = refl }
+    one false = record { op = refl; id = refl; cred = refl; object = refl; request = refl; privilege = refl; port = refl }
 
 same_itself : (item : Item) → IsSameCheck item item
-same_itself item = record { op = refl; id = refl; cred = refl; object = refl; request = refl; privilege = refl }
+same_itself item = record { op = refl; id = refl; cred = refl; object = refl; request = refl; privilege = refl; port = refl }
 
 -- the check in each place is the same
 pub each_same : (slot caller : ℕ) (value : LabelValue) (items : List Item) (n : ℕ) (d : Item)

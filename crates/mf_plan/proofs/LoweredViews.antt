@@ -38,7 +38,7 @@ seen slot caller value subjects subjects' check at is = ap by is ∙ one (nat_eq
     s = get_or subjects check.subject nobody
 
     by : SubjectView → Item
-    by subject = record { op = check.op; subject = subject; object = check.object; request = check.request; privilege = check.privilege }
+    by subject = record { op = check.op; subject = subject; object = check.object; request = check.request; privilege = check.privilege; port = check.port }
 
     one : (b : Bool) → by (cond b (with_slot slot value s) s) ≡ cond b (by (with_slot slot value s)) (by s)
     one true = refl

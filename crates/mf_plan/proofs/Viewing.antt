@@ -24,7 +24,7 @@ pub record IsFilled (objects : Entities) (asked : Option Request) (checks : List
 -- a check keeps its subject as subjects are added
 kept : (subjects rest : List SubjectView) (check : CheckView) → check.subject < length subjects → item_with (subjects ++ rest) check ≡ item_with subjects check
 kept subjects rest check within =
-    ap (λ (s : SubjectView). let i : Item = record { op = check.op; subject = s; object = check.object; request = check.request; privilege = check.privilege } in i) at
+    ap (λ (s : SubjectView). let i : Item = record { op = check.op; subject = s; object = check.object; request = check.request; privilege = check.privilege; port = check.port } in i) at
   where
     at : get_or (subjects ++ rest) check.subject nobody ≡ get_or subjects check.subject nobody
     at = grind (arith, places)
@@ -42,7 +42,7 @@ asked_item : (objects : Entities) (asked : Option Request) (check : Check) (subj
     → get_or subjects view.subject nobody ≡ subject_in objects check → item_with subjects view ≡ item_asking objects asked check
 unfolding item_asking
 asked_item objects asked check subjects view is subject =
-    λ k. record { op = is.op k; subject = subject k; object = is.object k; request = is.request k; privilege = is.privilege k }
+    λ k. record { op = is.op k; subject = subject k; object = is.object k; request = is.request k; privilege = is.privilege k; port = is.port k }
 
 pub one_more : (objects : Entities) (asked : Option Request) (checks : List Check) (done : ℕ) (subjects subjects' : List SubjectView) (seen : List CheckView) (last : Option Check)
     (d : Check) (view : CheckView) (place : ℕ)

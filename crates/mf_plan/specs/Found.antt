@@ -3,6 +3,7 @@ use Rattle.std.specs.Option.{option_zip}
 use Rattle.std.specs.Prelude.{◌≡◌, ℕ, Bool, true, false, List, Option, Some, None, Ok}
 use Rattle.mf_errno.specs.declared.module.Module.{Module}
 use Rattle.mf_elem.specs.declared.label.Request.{Request}
+use Rattle.mf_item.specs.declared.view.Kind.{Kind}
 use Rattle.mf_item.specs.declared.view.Kind.TheVariants as kinds
 use Rattle.mf_objects.specs.declared.id.Id.{Id}
 use Rattle.mf_objects.specs.declared.descriptors.Fd.{Fd}
@@ -17,7 +18,7 @@ use Rattle.mf_plan.specs.Relabels.{claimed_in}
 use Rattle.mf_plan.specs.Rows.{about_of}
 use Rattle.mf_plan.specs.Views.{entity_named, process_named}
 use Rattle.mf_plan.specs.Ways.{At, Place, way_to, asked_in, opened_at, opened_file_at, target_in}
-use Rattle.mf_plan.specs.Ways.Place.{Asking, Caller, Entry, File, Free, Named, Opened, Setting, Sockets}
+use Rattle.mf_plan.specs.Ways.Place.{Asking, Caller, Entry, File, Free, Named, Opened, Setting, Sockets, Unused}
 
 -- what a call of this process is about
 pub record IsAbout (s : State) (task : List ℕ) (me : Id) (c : Call) (found : Found) : Type 0 where
@@ -70,6 +71,18 @@ tunable_at other = false
 abbrev pub is_setting : Place → Bool
 is_setting (Setting tunable m change) = true
 is_setting other = false
+
+-- of which kind the entity is that a call is about, which it names
+abbrev pub kind_at : Place → Option Kind
+kind_at (Named kind name) = Some kind
+kind_at (Unused kind name) = Some kind
+kind_at (File path) = Some kinds.Vnode
+kind_at (Free path) = Some kinds.Vnode
+kind_at (Entry path) = Some kinds.Vnode
+kind_at (Opened access n) = Some kinds.Vnode
+kind_at (Sockets from to) = Some kinds.Socket
+kind_at (Asking kind text place) = Some kind
+kind_at other = None
 
 -- the change of a setting, where there is a setting of the name and it has such a value
 abbrev pub asked_change : Place → Option (Module × Change)

@@ -12,7 +12,7 @@ nobody = record { id = 0; cred = no_cred; label = [] }
 -- a check of these subjects, as policies see it
 abbrev pub item_with : List SubjectView → CheckView → Item
 item_with subjects check =
-    record { op = check.op; subject = slice_index_or subjects check.subject nobody; object = check.object; request = check.request; privilege = check.privilege }
+    record { op = check.op; subject = slice_index_or subjects check.subject nobody; object = check.object; request = check.request; privilege = check.privilege; port = check.port }
 
 abbrev pub items_with : List SubjectView → List CheckView → List Item
 items_with subjects checks = map (item_with subjects) checks

@@ -40,6 +40,7 @@ item_asking objects asked check =
       object = option_map (object_of objects) check.object;
       request = request_with asked check.op;
       privilege = check.privilege;
+      port = check.port;
     }
 
 abbrev pub item_of : Entities → Check → Item

@@ -26,7 +26,7 @@ use Rattle.mf_policy.specs.Modules.{wants_slot}
 use Rattle.mf_policy.specs.Registration.{slot_for, slot_in}
 use Rattle.mf_policy.specs.Settings.{change_in, listed_rules}
 use Rattle.mf_policy.specs.declared.settings.Change.{Change}
-use Rattle.mf_policy.specs.declared.settings.Change.TheVariants.{FirstMatch, RuleAdd, RuleSet, RuleRemove}
+use Rattle.mf_policy.specs.declared.settings.Change.TheVariants.{RuleAdd, RuleSet, RuleRemove}
 use Rattle.mf_item.specs.declared.view.Kind.TheVariants as kinds
 use Rattle.mf_errno.specs.declared.module.Module.TheVariants as modules
 use Rattle.mf_calls.specs.declared.script.Call.{Call}
@@ -35,11 +35,10 @@ use Rattle.mf_plan.specs.declared.descriptors.Access.TheVariants.{Reading, Writi
 use Rattle.mf_plan.specs.declared.reply.Payload.{Payload}
 use Rattle.mf_plan.specs.declared.reply.Payload.TheVariants as payload
 use Rattle.mf_plan.specs.declared.state.State.{State}
-use Rattle.mf_plan.specs.Checks.{on, for_privilege, by_itself, by_socket}
+use Rattle.mf_plan.specs.Checks.{binding, on, for_privilege, by_itself, by_socket}
 use Rattle.mf_plan.specs.Names.{child_name}
 use Rattle.mf_plan.specs.Path.{last_name}
-use Rattle.mf_calls.specs.Tunable.{switch}
-use Rattle.mf_plan.specs.Settings.{is_tunable, sysctl_module, unless_success}
+use Rattle.mf_plan.specs.Settings.{asked_named, is_tunable, owner_named, unless_success}
 use Rattle.mf_plan.specs.Views.{is_dir, overfills}
 use Rattle.mf_plan.specs.Payloads.{head, names, message, label, loaded}
 use Rattle.mf_plan.specs.Effect.Effect.{Make, Append, Deliver, Empty, Receive, SetMode, Open, Close, Unlink, End, Load, Unload, Set}
@@ -68,17 +67,14 @@ appends s me text id =
 abbrev pub biba_value : State → Id → LabelValue
 biba_value s id = option_map_or (value_at s.objects id) (slot_in modules.Biba s.specs) Unset
 
--- the descriptor that a process gets on a file: under the lowest free number, with what mac_biba has in their labels
+-- the descriptor that a process gets on a file: under the lowest free number, with these values, which are what mac_biba has in their labels
+
+abbrev pub fd_with : State → Id → Bool → Bool → LabelValue → LabelValue → Id → Fd
+fd_with s me read write subject object file =
+    record { number = lowest_free (fds_at s.objects me); file = file; read = read; write = write; subject = subject; object = object }
+
 abbrev pub new_fd : State → Id → Bool → Bool → Id → Fd
-new_fd s me read write file =
-    record {
-      number = lowest_free (fds_at s.objects me);
-      file = file;
-      read = read;
-      write = write;
-      subject = biba_value s me;
-      object = biba_value s file;
-    }
+new_fd s me read write file = fd_with s me read write (biba_value s me) (biba_value s file) file
 
 -- a file is opened, where the process may have one descriptor more
 abbrev pub opens : State → Id → Bool → Bool → Id → Row
@@ -154,13 +150,14 @@ about_of s task me (call.Recv name) = about s me (Named kinds.Socket name) (λ i
     ask (on me op.SocketReceive id) (refuse_if (count_at s.objects id == 0) errno.Eagain (returns (message s.objects id) (Receive id))))
 about_of s task me (call.Seesock name) = about s me (Named kinds.Socket name) (λ id. ask (on me op.SocketVisible id) does_nothing)
 about_of s task me (call.Setsockmac text name) = about s me (Asking kinds.Socket text (Named kinds.Socket name)) (relabel_by (on me op.SocketRelabel))
+about_of s task me (call.Bind name tcp port) = about s me (Named kinds.Socket name) (λ id. ask (binding me tcp port id) does_nothing)
 about_of s task me call.Kldstat = about s me Nothing (λ none. shows (payload.Modules (map loaded s.specs)))
 about_of s task me (call.Kldload name) = about s me (Loading name) (λ m.
     ask (by_itself me op.KldLoad) (refuse_by (option_map load_errno (load_fault s.booted s.specs s.numbers m))
     (returns (payload.Slot (slot_for (wants_slot m) s.numbers)) (Load m))))
 about_of s task me (call.Kldunload name) = about s me (Unloading name) (λ m. refuse_by (option_map unload_errno (unload_fault s.specs m)) (changes (Unload m)))
 about_of s task me (call.Sysctl name value) =
-    about s me (Setting (is_tunable s.specs name) (sysctl_module name) (option_map FirstMatch (switch value))) (set s payload.None)
+    about s me (Setting (is_tunable s.specs name) (owner_named name) (asked_named s.specs name value)) (set s payload.None)
 about_of s task me call.UgidfwList = about s me (Listed modules.Bsdextended) (λ listed. shows (option_map_or payload.Rules (listed_rules s.specs) payload.None))
 about_of s task me (call.UgidfwAdd rule) = about s me (of_rules (RuleAdd rule)) (λ asked.
     set s (option_map_or payload.Rule (change_in asked.0 asked.1 s.specs).0.number payload.None) asked)

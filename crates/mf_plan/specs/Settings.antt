@@ -1,22 +1,25 @@
--- The words of sysctl(8), by docs/MANUAL.md (CALLS), and when a change of a setting is refused. The name of the sysctl is that of
--- mac_bsdextended(4), and the one of the tunable that of mac_biba(4).
-use Rattle.std.specs.Prelude.{ℕ, Bool, ◌&&◌, if◌then◌else◌, List, Option, Some, None, codes}
-use Rattle.std.specs.Str.{bytes_eq}
+-- The settings of sysctl(8), by docs/MANUAL.md (CALLS), and when a change of one is refused.
+use Rattle.std.specs.Prelude.{ℕ, Bool, false, ◌&&◌, if◌then◌else◌, List, Option, Some, None, option_and_then, option_map}
+use Rattle.std.specs.Option.{option_map_or}
 use Rattle.mf_errno.specs.declared.errno.Errno.{Errno}
 use Rattle.mf_errno.specs.declared.errno.Errno.TheVariants.{Success}
 use Rattle.mf_errno.specs.declared.module.Module.{Module}
-use Rattle.mf_errno.specs.declared.module.Module.TheVariants as modules
 use Rattle.mf_policy.specs.Registration.{Entry, is_listed}
-use Rattle.mf_calls.specs.Tunable.{revocation_name}
+use Rattle.mf_policy.specs.Sysctls.{asked_of, sysctl_named, sysctl_row}
+use Rattle.mf_policy.specs.declared.settings.Change.{Change}
 
--- the module of a sysctl; mac_bsdextended has the only one
-unfoldable pub sysctl_module : List ℕ → Option Module
-sysctl_module name =
-    if bytes_eq name (codes "security.mac.bsdextended.firstmatch_enabled") then Some modules.Bsdextended else None
+-- the module of the setting of a name
+abbrev pub owner_named : List ℕ → Option Module
+owner_named name = option_map (λ s. (sysctl_row s).owner) (sysctl_named name)
 
--- whether the name is that of a tunable of a listed module: mac_biba has the only one
+-- whether the name is that of a tunable of a listed module
 abbrev pub is_tunable : List Entry → List ℕ → Bool
-is_tunable listed name = bytes_eq name revocation_name && is_listed modules.Biba listed
+is_tunable listed name = option_map_or (λ s. (sysctl_row s).tunable && is_listed (sysctl_row s).owner listed) (sysctl_named name) false
+
+-- the change that a value asks of the setting of a name, which is no tunable
+abbrev pub asked_named : List Entry → List ℕ → List ℕ → Option Change
+asked_named listed name value =
+    option_and_then (λ s. if (sysctl_row s).tunable then None else asked_of s listed value) (sysctl_named name)
 
 abbrev pub unless_success : Errno → Option Errno
 unless_success Success = None

@@ -17,6 +17,7 @@ pub record IsViewOf (objects : Entities) (asked : Option Request) (check : Check
   pub object : seen.object ≡ option_map (object_of objects) check.object
   pub request : seen.request ≡ request_with asked check.op
   pub privilege : seen.privilege ≡ check.privilege
+  pub port : seen.port ≡ check.port
 
 -- the check has the subject of the one before
 abbrev pub GoesOn : Option Check → Check → Type 0

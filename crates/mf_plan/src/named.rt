@@ -16,7 +16,7 @@ ghost use Rattle.mf_plan.specs.Ways.{missing, straight, way_to};
 ghost use Rattle.mf_plan.specs.Ways.Place.{Named, Sockets};
 
 use crate::names::child_name;
-use crate::outline::{Checks, ask, ask_delivery};
+use crate::outline::{Checks, ask, ask_binding, ask_delivery};
 use crate::refusing::{is_full, overfills, refused_if};
 use crate::state::State;
 use mf_errno::Errno;
@@ -212,4 +212,26 @@ pub(crate) fn recv(
         checks,
     )?;
     refused_if(state.objects.count(id) == 0, Errno::Eagain, id)
+}
+
+/// The check of `bind`.
+pub(crate) fn bind(
+    state: &State,
+    caller: Id,
+    name: &Name,
+    tcp: bool,
+    port: u16,
+    checks: &mut Checks,
+) -> Result<Option<Id>, Errno>
+    requires empty { checks.old ≡ [] }
+    requires asking { outline.IsAsking state.now.objects caller checks.old }
+    ensures row { ended_by checks.new result
+        ≡ end_for state.now caller (call.Bind name.now tcp port) }
+    ensures target { IfOk result (λ target. target
+        ≡ target_at state.now caller (Named kinds.Socket name.now)) }
+    ensures asking { outline.IsAsking state.now.objects caller checks.new }
+{
+    let id = holder(state, Kind::Socket, name)?;
+    ask_binding(&state.objects, caller, tcp, port, id, checks);
+    Ok(Some(id))
 }

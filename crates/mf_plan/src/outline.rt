@@ -22,6 +22,8 @@ pub struct Check {
     pub subject: Id,
     pub object: Option<Id>,
     pub privilege: Option<Priv>,
+    /// The port that a socket is bound to: of TCP, or else of UDP.
+    pub port: Option<(bool, u16)>,
 }
 
 impl Check {
@@ -42,6 +44,7 @@ impl Default for Check {
             subject: nobody,
             object: None,
             privilege: None,
+            port: None,
         }
     }
 }
@@ -73,6 +76,32 @@ pub(crate) fn ask(_objects: &Objects, caller: Id, op: CheckOp, id: Id, checks: &
         subject: caller,
         object: Some(id),
         privilege: None,
+        port: None,
+    });
+}
+
+/// Adds the check of a binding of the socket to the port: of TCP, or else of UDP.
+pub(crate) fn ask_binding(
+    _objects: &Objects,
+    caller: Id,
+    tcp: bool,
+    port: u16,
+    id: Id,
+    checks: &mut Checks,
+)
+    requires live { IsSome (live_at _objects.now id) }
+    requires few { length checks.old < MOST_CHECKS }
+    requires asking { spec.IsAsking _objects.now caller checks.old }
+    ensures checks { checks.new ≡ checks.old ++ check.binding caller tcp port id ∷ [] }
+    ensures asking { spec.IsAsking _objects.now caller checks.new }
+{
+    checks.push(Check {
+        op: CheckOp::SocketBind,
+        caller,
+        subject: caller,
+        object: Some(id),
+        privilege: None,
+        port: Some((tcp, port)),
     });
 }
 
@@ -92,6 +121,7 @@ pub(crate) fn ask_delivery(_objects: &Objects, caller: Id, from: Id, to: Id, che
         subject: from,
         object: Some(to),
         privilege: None,
+        port: None,
     });
 }
 
@@ -108,6 +138,7 @@ pub(crate) fn ask_privilege(_objects: &Objects, caller: Id, privilege: Priv, che
         subject: caller,
         object: None,
         privilege: Some(privilege),
+        port: None,
     });
 }
 
@@ -124,5 +155,6 @@ pub(crate) fn ask_alone(_objects: &Objects, caller: Id, op: CheckOp, checks: &mu
         subject: caller,
         object: None,
         privilege: None,
+        port: None,
     });
 }

@@ -2,7 +2,7 @@
 ghost use Rattle.std.specs.Prelude.{◌≡◌, ◌↔◌, ◌<◌, length, IsTrue};
 ghost use Rattle.mf_plan.specs.Items.{HaveSubjects, item_with, items_with};
 
-use crate::views::{CheckView, same_privilege};
+use crate::views::{CheckView, same_port, same_privilege};
 use mf_elem::Request;
 use mf_item::{ObjectView, SubjectView};
 
@@ -43,6 +43,7 @@ fn is_same(
         && same_object(&check.object, &other.object)
         && same_request(&check.request, &other.request)
         && same_privilege(check.privilege, other.privilege)
+        && same_port(check.port, other.port)
 }
 
 /// Whether policies see the same checks.

@@ -17,46 +17,65 @@ ghost use Rattle.mf_plan.specs.Ways.Place.{Setting};
 ghost use Rattle.mf_plan.specs.Ways.{way_to};
 
 use crate::state::State;
-use mf_calls::{Call, revocation_name, switch};
+use mf_calls::Call;
 use mf_errno::{Errno, Module};
 use mf_objects::Id;
-use mf_policy::Change;
+use mf_policy::{Change, Sysctl};
 
-/// The change of a setting that the call asks for, and of which module's. None where no module has a setting of that name, where the
-/// setting has no such value, and for a call that changes none. Whether the module is listed, and the change is refused, is the plan's
-/// matter.
-pub fn asked_change(call: &Call) -> Option<(Module, Change)>
-    ensures value { (state : State) → (task : List ℕ) → (me : Id)
-        → result ≡ asked_change (about_of state task me call.now).place }
+/// The change of a setting that the call asks for in this state, and of which module's. None where no module has a setting of that
+/// name, where it is a tunable, where it has no such value, and for a call that changes none. Whether the module is listed, and the
+/// change is refused, is the plan's matter.
+pub fn asked_change(state: &State, call: &Call) -> Option<(Module, Change)>
+    ensures value { (task : List ℕ) → (me : Id)
+        → result ≡ asked_change (about_of state.now task me call.now).place }
     ensures change { IsFormedCall call.now → IfSome result (λ asked. IsChange asked.1) }
 {
-    let (module, change) = setting_of(call);
+    let (module, change) = setting_of(state, call);
     Some((module?, change?))
 }
 
-/// The module of a sysctl.
-#[tactic(auto, unfolding(crate::specs::Settings::sysctl_module))]
-fn sysctl_module(name: &str) -> Option<Module>
-    ensures { result ≡ spec.sysctl_module name.now }
+/// The module of the setting of that name.
+fn owner_named(name: &str) -> Option<Module>
+    ensures { result ≡ spec.owner_named name.now }
 {
-    if name == "security.mac.bsdextended.firstmatch_enabled" {
-        Some(Module::Bsdextended)
-    } else {
-        None
+    match Sysctl::from_name(name) {
+        Some(setting) => Some(setting.owner()),
+        None => None,
+    }
+}
+
+/// Whether the name is that of a tunable of a listed module.
+fn is_tunable_named(state: &State, name: &str) -> bool
+    ensures { result ≡ spec.is_tunable state.now.specs name.now }
+{
+    match Sysctl::from_name(name) {
+        Some(setting) => setting.is_tunable() && state.specs.is_listed(setting.owner()),
+        None => false,
+    }
+}
+
+/// The change that a value asks of the setting of that name, which is no tunable.
+fn asked_named(state: &State, name: &str, value: &str) -> Option<Change>
+    ensures value { result ≡ spec.asked_named state.now.specs name.now value.now }
+    ensures change { IfSome result IsChange }
+{
+    match Sysctl::from_name(name) {
+        Some(setting) if !setting.is_tunable() => setting.asked_of(&state.specs, value),
+        _ => None,
     }
 }
 
 /// The module whose setting the call changes, and the change that it is to have, where they are known. The clause says so of every
 /// call by its place, so a call that is new and changes a setting is refused here until it has its line.
-fn setting_of(call: &Call) -> (Option<Module>, Option<Change>)
-    ensures value { (state : State) → (task : List ℕ) → (me : Id)
-        → result ≡ setting_at (about_of state task me call.now).place }
+fn setting_of(state: &State, call: &Call) -> (Option<Module>, Option<Change>)
+    ensures value { (task : List ℕ) → (me : Id)
+        → result ≡ setting_at (about_of state.now task me call.now).place }
     ensures change { IsFormedCall call.now → IfSome result.1 IsChange }
 {
     match call {
         Call::Sysctl(name, value) => (
-            sysctl_module(name.as_str()),
-            switch(value.as_str()).map(Change::FirstMatch),
+            owner_named(name.as_str()),
+            asked_named(state, name.as_str(), value.as_str()),
         ),
         Call::UgidfwAdd(rule) => of_rules(Change::RuleAdd(*rule)),
         Call::UgidfwSet(number, rule) => of_rules(Change::RuleSet(*number, *rule)),
@@ -71,9 +90,7 @@ fn is_tunable(state: &State, call: &Call) -> bool
         → result ≡ tunable_at (about_of state.now task me call.now).place }
 {
     match call {
-        Call::Sysctl(name, _) => {
-            name.as_str() == revocation_name() && state.specs.is_listed(Module::Biba)
-        }
+        Call::Sysctl(name, _) => is_tunable_named(state, name.as_str()),
         _ => false,
     }
 }
@@ -97,7 +114,7 @@ pub(crate) fn change_setting(
     ensures row { ended_by [] result ≡ end_by state.now _task.now caller call.now }
     ensures target { IfOk result (λ target. target ≡ None) }
 {
-    let (module, change) = setting_of(call);
+    let (module, change) = setting_of(state, call);
     judge(state, caller, is_tunable(state, call), module, change)
 }
 

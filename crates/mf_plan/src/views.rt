@@ -17,7 +17,8 @@ use mf_objects::{Id, Objects};
 /// The subjects of a plan's checks, with room for one that a plan before had.
 pub(crate) type Subjects = ArrayVec<SubjectView, MOST_SUBJECTS>;
 
-/// A check of a plan: the place of its subject among those of the plan, its object, and what a relabel asks for.
+/// A check of a plan: the place of its subject among those of the plan, its object, what a relabel asks for, the privilege that is asked
+/// for, and the port that a socket is bound to.
 #[derive(Clone, Copy)]
 pub struct CheckView {
     pub op: CheckOp,
@@ -25,6 +26,7 @@ pub struct CheckView {
     pub object: Option<ObjectView>,
     pub request: Option<Request>,
     pub privilege: Option<Priv>,
+    pub port: Option<(bool, u16)>,
 }
 
 impl CheckView {
@@ -36,13 +38,14 @@ impl CheckView {
             object: None,
             request: None,
             privilege: None,
+            port: None,
         }
     }
 
     /// The check as policies see it, with its subject.
     pub(crate) fn item<'a>(&'a self, subject: &'a SubjectView) -> Item<'a>
         ensures { result
-            ≡ record { op = self.now.op; subject = subject.now; object = self.now.object; request = self.now.request; privilege = self.now.privilege } }
+            ≡ record { op = self.now.op; subject = subject.now; object = self.now.object; request = self.now.request; privilege = self.now.privilege; port = self.now.port } }
     {
         Item::new(
             self.op,
@@ -50,6 +53,7 @@ impl CheckView {
             self.object.as_ref(),
             self.request.as_ref(),
             self.privilege,
+            self.port,
         )
     }
 }
@@ -121,6 +125,12 @@ pub(crate) fn same_privilege(privilege: Option<Priv>, other: Option<Priv>) -> bo
     privilege == other
 }
 
+pub(crate) fn same_port(port: Option<(bool, u16)>, other: Option<(bool, u16)>) -> bool
+    ensures { IsTrue result ↔ (port ≡ other) }
+{
+    port == other
+}
+
 /// Whether the operation changes a label.
 fn is_relabel(op: CheckOp) -> bool
     ensures { result ≡ outline.is_relabel op }
@@ -159,6 +169,7 @@ fn is_asked(objects: &Objects, asked: &Option<Request>, check: Check, seen: &Che
         && is_object(objects, check.object, &seen.object)
         && is_request(asked, check.op, &seen.request)
         && same_privilege(seen.privilege, check.privilege)
+        && same_port(seen.port, check.port)
 }
 
 /// Whether the check has the subject of the one before.
@@ -234,6 +245,7 @@ fn look_again(
     seen.op = check.op;
     seen.subject = subject;
     seen.privilege = check.privilege;
+    seen.port = check.port;
     if !is_object(objects, check.object, &seen.object) {
         seen.object = object_in(objects, check.object);
     }

@@ -6,5 +6,5 @@ use Rattle.mf_perform.proofs.relisting.relisting_of.Goals as goal
 
 pub returns-clause-tells : goal.returns-clause-tells
 returns-clause-tells c = λ task me.
-    let told = c.told_by.ensures.value c.args._state.now task me in
-    (told, λ change done. ap (option_map effect_in) told ∙ relisting_is c.args._state.now task me c.args.call.now change done)
+    let told = c.told_by.ensures.value task me in
+    (told, λ change done. ap (option_map effect_in) told ∙ relisting_is c.args.state.now task me c.args.call.now change done)

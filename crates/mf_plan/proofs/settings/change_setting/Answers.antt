@@ -6,4 +6,4 @@ pub returns-clause-row : goal.returns-clause-row
 returns-clause-row c =
     c.judge.ensures.row
     ∙ ends c.args.state.now c.args._task.now c.args.caller c.args.call.now c.is_tunable.result c.setting_of-module.result c.requires.setting
-    (c.is_tunable.ensures c.args._task.now c.args.caller) (c.setting_of-module.ensures.value c.args.state.now c.args._task.now c.args.caller)
+    (c.is_tunable.ensures c.args._task.now c.args.caller) (c.setting_of-module.ensures.value c.args._task.now c.args.caller)
