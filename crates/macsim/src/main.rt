@@ -17,6 +17,7 @@ use mf_lomac::Lomac;
 use mf_mls::Mls;
 use mf_partition::Partition;
 use mf_policy::Policy;
+use mf_ports::{Portacl, Seeotheruids};
 use mf_priority::Priority;
 use mf_top::macsim;
 use std::alloc::{AllocError, Global};
@@ -83,6 +84,8 @@ fn run<S: Source, K: Sink, R: Threads + Wait + Sync>(
     modules.push(Box::new(alloc, Partition::new())?)?;
     modules.push(Box::new(alloc, Bsdextended::new(alloc)?)?)?;
     modules.push(Box::new(alloc, Priority::new())?)?;
+    modules.push(Box::new(alloc, Seeotheruids::new())?)?;
+    modules.push(Box::new(alloc, Portacl::new())?)?;
     Ok(macsim(rt, alloc, words, source, sink, &OpenGate, modules))
 }
 

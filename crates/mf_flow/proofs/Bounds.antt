@@ -213,6 +213,7 @@ module _ (p : FlowPolicy) (flows : IsFlowPolicy p) (label asked : RangeLabel) (s
   allows op.SocketReceive success = observes Eacces (λ same. cc) success
   allows op.SocketVisible success = tt
   allows op.SocketRelabel success = tt
+  allows op.SocketBind success = tt
   allows op.CredRelabel success = tt
   allows op.ProcVisible success = tt
   allows op.ProcSignal success = (does_both success).1

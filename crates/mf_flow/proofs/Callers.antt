@@ -203,6 +203,7 @@ module _ (s : State) (me : Id) where
     row_by (call.Recv name) = whole_by (call.Recv name) (λ id. (refl, none_after (IsBy me) (count_at s.objects id == 0)))
     row_by (call.Seesock name) = whole_by (call.Seesock name) (λ id. (refl, tt))
     row_by (call.Setsockmac text name) = whole_by (call.Setsockmac text name) (λ asked. (refl, tt))
+    row_by (call.Bind name tcp port) = whole_by (call.Bind name tcp port) (λ id. (refl, tt))
     row_by call.Kldstat = whole_by call.Kldstat (λ none. tt)
     row_by call.UgidfwList = whole_by call.UgidfwList (λ none. tt)
     row_by (call.Kldload name) = inr (change_away (call.Kldload name) refl)

@@ -169,8 +169,15 @@ fn denied(rt: &impl Abort, alloc: Global) -> Result<(), AllocError> {
         item: 1,
         by: None,
     };
+    let by_portacl = Reply::Denied {
+        errno: Errno::Eperm,
+        op: CheckOp::SocketBind,
+        item: 1,
+        by: Some(Module::Portacl),
+    };
     let rows = [
         (by_biba, "no EACCES vnode_open_read mac_biba 2"),
+        (by_portacl, "no EPERM socket_bind mac_portacl 1"),
         (by_none, "no EPERM priv - 1"),
         (Reply::Refused(Errno::Enotdir), "no ENOTDIR - -"),
     ];

@@ -17,6 +17,7 @@ use mf_mls::Mls;
 use mf_names::SCRIPT_LIMIT;
 use mf_partition::Partition;
 use mf_policy::Policy;
+use mf_ports::{Portacl, Seeotheruids};
 use mf_priority::Priority;
 use mf_script::read_script;
 use mf_share::Job;
@@ -88,6 +89,8 @@ fn over_modules<R: Wait + Abort>(
     modules.push(Box::new(alloc, Partition::new())?)?;
     modules.push(Box::new(alloc, Bsdextended::new(alloc)?)?)?;
     modules.push(Box::new(alloc, Priority::new())?)?;
+    modules.push(Box::new(alloc, Seeotheruids::new())?)?;
+    modules.push(Box::new(alloc, Portacl::new())?)?;
     history_over::<Box<dyn Policy + Send + Sync>, Brand, Brand, R>(
         rt,
         alloc,

@@ -134,3 +134,5 @@ fresh_module modules.Lomac = refl
 fresh_module modules.Partition = refl
 fresh_module modules.Bsdextended = refl
 fresh_module modules.Priority = refl
+fresh_module modules.Seeotheruids = refl
+fresh_module modules.Portacl = refl

@@ -1,6 +1,6 @@
 -- What a call changes, where it is done, stays within the bounds: by the effect, and by the call what the effect needs.
 use Rattle.std.proofs.Common.{◌≡◌, ℕ, ◌+◌, ◌<◌, ◌≤◌, ◌^◌, Bool, true, false, List, [], ◌∷◌, length, drop, Option, Some, None, Result, Ok, Err, refl, ap, sym, subst, arith}
-use Rattle.std.specs.Prelude.{All, IfSome, ◌||◌, if◌then◌else◌, nat_eq, nat_le, not, option_map, slice_set}
+use Rattle.std.specs.Prelude.{All, IfSome, ◌||◌, if◌then◌else◌, nat_eq, nat_le, not, slice_set}
 use Rattle.std.specs.List.{AllByRecursion}
 use Rattle.std.proofs.lemmas.List.{length-map}
 use Rattle.std.proofs.lemmas.Bool.{leb-false, ltb-false}
@@ -15,7 +15,7 @@ use Rattle.mf_item.specs.Item.{Item}
 use Rattle.mf_policy.specs.Lowering.{after_checks}
 use Rattle.mf_policy.specs.declared.labels.Origin.TheVariants.{Maker}
 use Rattle.mf_policy.specs.declared.settings.Change.{Change}
-use Rattle.mf_policy.specs.declared.settings.Change.TheVariants.{FirstMatch, RuleAdd, RuleSet, RuleRemove}
+use Rattle.mf_policy.specs.declared.settings.Change.TheVariants.{RuleAdd, RuleSet, RuleRemove}
 use Rattle.mf_policy.specs.NewLabels.{new_label}
 use Rattle.mf_policy.specs.Modules.{fresh_of}
 use Rattle.mf_policy.specs.Relabelled.{relabelled}
@@ -46,8 +46,7 @@ use Rattle.mf_plan.specs.Effect.Effect.{Unchanged, Make, Append, Deliver, Empty,
 use Rattle.mf_plan.specs.Plan.{row_for}
 use Rattle.mf_plan.specs.Row.{Row, through}
 use Rattle.mf_plan.specs.Rows.{about_of, new_file}
-use Rattle.mf_calls.specs.Tunable.{switch}
-use Rattle.mf_plan.specs.Settings.{is_tunable, sysctl_module}
+use Rattle.mf_plan.specs.Settings.{asked_named, is_tunable, owner_named}
 use Rattle.mf_plan.specs.Ways.{At, way_to}
 use Rattle.mf_plan.specs.Views.{is_dir, overfills, process_named}
 use Rattle.mf_plan.proofs.LookingUp.{last_entry}
@@ -61,7 +60,7 @@ use Rattle.mf_reading.proofs.Bounded.{AreBounded, HoldsBounded, IsBoundedData, I
 use Rattle.mf_reading.proofs.Contents.{cred_fits, file_fits, no_cred_fits, no_file_fits, no_text}
 use Rattle.mf_reading.proofs.Holding.{HasRoom, Keeps, KeepsFirst, added_bounded, appending, changed_bounded, clearing, describing, entry_goes, first_lowered, held_lowered, moding, process_goes, receiving, relabelling, removed_bounded, sending, unlinked_bounded}
 use Rattle.mf_reading.proofs.Lists.{by_place}
-use Rattle.mf_reading.proofs.Rules.{IsFormedChange, fresh_bounded, specs_changed}
+use Rattle.mf_reading.proofs.Rules.{IsFormedChange, asked_formed, fresh_bounded, specs_changed}
 use Rattle.mf_text.specs.Results.{and_then}
 
 -- Names at the end of a path
@@ -226,10 +225,6 @@ module _ (s : State) (holds : HoldsBounded s) where
       one true None is formed = cc
       one false change is formed = cc
 
-  switch_formed : (value : Option Bool) → IfSome (option_map FirstMatch value) IsFormedChange
-  switch_formed None = tt
-  switch_formed (Some enabled) = tt
-
   module _ (task name : List ℕ) (me : Id) (named : process_named s.objects name ≡ Some me) where
     -- a setting is changed by root alone, and a tunable by nobody
     abbrev is_kept : Bool → Bool
@@ -268,8 +263,8 @@ module _ (s : State) (holds : HoldsBounded s) where
     row_fits call.Exit none there done formed = process_goes me name s.objects.next s.objects.live holds.objects.rising holds.objects.rooted named
     row_fits (call.Send from to text) ends there done formed = formed.2
     row_fits (call.Sysctl word value) asked there done formed =
-        let change = option_map FirstMatch (switch value) in
-        change_formed (is_kept (is_tunable s.specs word)) (sysctl_module word) change asked there (switch_formed (switch value))
+        let change = asked_named s.specs word value in
+        change_formed (is_kept (is_tunable s.specs word)) (owner_named word) change asked there (asked_formed s.specs word value)
     row_fits (call.UgidfwAdd rule) asked there done formed =
         change_formed (is_kept false) (Some modules.Bsdextended) (Some (RuleAdd rule)) asked there formed
     row_fits (call.UgidfwSet n rule) asked there done formed =

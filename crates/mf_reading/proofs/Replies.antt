@@ -12,7 +12,7 @@ use Rattle.mf_errno.specs.declared.errno.Errno.{Errno}
 use Rattle.mf_errno.specs.declared.module.Module.{Module}
 use Rattle.mf_errno.specs.declared.module.Module.TheVariants as modules
 use Rattle.mf_policy.specs.declared.settings.Change.{Change}
-use Rattle.mf_policy.specs.declared.settings.Change.TheVariants.{Revocation, FirstMatch, RuleAdd, RuleSet, RuleRemove}
+use Rattle.mf_policy.specs.declared.settings.Change.TheVariants.{Revocation, RuleAdd, RuleRemove, See, Port}
 use Rattle.mf_policy.specs.declared.settings.Changed.{Changed}
 use Rattle.mf_policy.specs.declared.spec.Spec.{Spec}
 use Rattle.mf_policy.specs.declared.spec.Spec.TheVariants as means
@@ -95,21 +95,18 @@ listed_fit (Some slots) fits = fits
 
 -- the number of a rule that is added is one of a rule list
 change_number : (spec : Spec) (change : Change) → IsBoundedSpec spec → IfSome (change_of spec change).0.number (λ n. n < 2 ^ 32)
-change_number (means.Bsdextended slots first) (FirstMatch enabled) fits = tt
 change_number (means.Bsdextended slots first) (RuleAdd rule) fits = one (position is_none slots) refl
   where
     one : (place : Option ℕ) → position is_none slots ≡ place → IfSome (with_new_rule slots first rule place).0.number (λ n. n < 2 ^ 32)
     one None is = tt
     one (Some n) is = omega (arith, (position-Some is_none slots n None is).0, fits.all)
-change_number (means.Bsdextended slots first) (RuleSet n rule) fits = tt
 change_number (means.Bsdextended slots first) (RuleRemove n) fits =
     either_way (λ (c : Changed × Spec). IfSome c.0.number (λ n. n < 2 ^ 32)) (is_none (slice_index_or slots n None)) (no_setting, means.Bsdextended slots first)
     (done, means.Bsdextended (slice_set slots n None) first) tt tt
+change_number (means.Bsdextended slots first) other fits = tt
 change_number (means.Biba revocation) (Revocation enabled) fits = tt
-change_number (means.Biba revocation) (FirstMatch enabled) fits = tt
-change_number (means.Biba revocation) (RuleAdd rule) fits = tt
-change_number (means.Biba revocation) (RuleSet n rule) fits = tt
-change_number (means.Biba revocation) (RuleRemove n) fits = tt
+change_number (means.Seeotheruids _ _ _ _) (See (means.Seeotheruids _ _ _ _)) fits = tt
+change_number (means.Portacl _ _ _ _) (Port (means.Portacl _ _ _ _)) fits = tt
 change_number other change fits = tt
 
 number_fits : (m : Module) (change : Change) (specs : List Entry) → AreBoundedSpecs specs → IfSome (change_in m change specs).0.number (λ n. n < 2 ^ 32)

@@ -1,24 +1,28 @@
 -- The rules of a listed policy stay such as words can stand for.
 use Rattle.std.proofs.Common.{◌≡◌, ℕ, Bool, true, false, cond, List, [], ◌∷◌, Option, Some, None, refl, ◌∙◌}
 use Rattle.std.specs.Option.{is_none}
-use Rattle.std.specs.Prelude.{find, position, replicate, slice_index_or, slice_set, IfSome}
+use Rattle.std.specs.Prelude.{find, if◌then◌else◌, option_and_then, option_map, position, replicate, slice_index_or, slice_set, IfSome}
 use Rattle.std.proofs.lemmas.List.{length-replicate, length-set}
 use Rattle.std.proofs.lemmas.List.Elements.{All-from_recursion, All-replicate, All-set, recursion_from_All}
 use Rattle.mf_errno.specs.declared.module.Module.{Module}
 use Rattle.mf_errno.specs.declared.module.Module.TheVariants.{Bsdextended}
 use Rattle.mf_policy.specs.declared.settings.Change.{Change}
-use Rattle.mf_policy.specs.declared.settings.Change.TheVariants.{Revocation, FirstMatch, RuleAdd, RuleSet, RuleRemove}
+use Rattle.mf_policy.specs.declared.settings.Change.TheVariants.{Revocation, RuleAdd, RuleSet, RuleRemove, See, Port}
 use Rattle.mf_policy.specs.declared.settings.Changed.{Changed}
 use Rattle.mf_policy.specs.declared.spec.Spec.{Spec}
 use Rattle.mf_policy.specs.declared.spec.Spec.TheVariants as means
 use Rattle.mf_policy.specs.Modules.{fresh_of}
 use Rattle.mf_policy.specs.Registration.{Entry, is_of}
 use Rattle.mf_policy.specs.Settings.{change_in, change_of, done, no_setting, with_new_rule, with_spec, without_rule}
+use Rattle.mf_policy.specs.Sysctls.{asked_of, sysctl_row}
+use Rattle.mf_policy.specs.declared.sysctl.Sysctl.{Sysctl}
+use Rattle.mf_policy.specs.declared.sysctl.Sysctl.TheVariants as sysctl
 use Rattle.mf_policy.proofs.ByEntry.{change_at}
 use Rattle.mf_rule.specs.RuleGrammar.{IsRule}
 use Rattle.mf_rule.specs.RuleList.{Slots}
 use Rattle.mf_rule.specs.declared.rule.Rule.{Rule}
 use Rattle.mf_rule.specs.declared.rule_list.TheConstants.{MAX_RULES}
+use Rattle.mf_plan.specs.Settings.{asked_named}
 use Rattle.mf_hist.specs.Lines.{AreRules}
 use Rattle.mf_reading.proofs.Bounded.{AreBoundedSpecs, IsBoundedSpec}
 use Rattle.mf_reading.proofs.Lists.{all_found, either_way}
@@ -40,6 +44,27 @@ IsFormedChange (RuleAdd rule) = IsRule rule
 IsFormedChange (RuleSet n rule) = IsRule rule
 IsFormedChange other = Unit {0}
 
+-- A change that a setting's value asks for has no rule
+
+then_formed : {A : Type 0} (asks : A → Option Change) (found : Option A) → ((x : A) → IfSome (asks x) IsFormedChange) → IfSome (option_and_then asks found) IsFormedChange
+then_formed asks None each = tt
+then_formed asks (Some x) each = each x
+
+read_formed : {A : Type 0} (change : A → Change) (read : Option A) → ((x : A) → IsFormedChange (change x)) → IfSome (option_map change read) IsFormedChange
+read_formed change None each = tt
+read_formed change (Some x) each = each x
+
+row_formed : (s : Sysctl) (value : List ℕ) (spec : Spec) → IfSome ((sysctl_row s).asks value spec) IsFormedChange
+row_formed sysctl.RevocationEnabled value spec = search (then_formed, read_formed)
+row_formed other value spec = search (then_formed, read_formed)
+
+named_formed : (listed : List Entry) (value : List ℕ) (s : Sysctl) → IfSome (if (sysctl_row s).tunable then None else asked_of s listed value) IsFormedChange
+named_formed listed value sysctl.RevocationEnabled = tt
+named_formed listed value other = then_formed _ _ (row_formed other value)
+
+pub asked_formed : (listed : List Entry) (name value : List ℕ) → IfSome (asked_named listed name value) IsFormedChange
+asked_formed listed name value = search (then_formed, named_formed)
+
 slot_set : (rules : Slots) (n : ℕ) (slot : Option Rule) → IfSome slot IsRule → AreRules rules → AreRules (slice_set rules n slot)
 slot_set rules n slot formed fits = record {
   all = length-set rules n slot ∙ fits.all;
@@ -57,16 +82,13 @@ rule_removed rules first n fits =
     (done, means.Bsdextended (slice_set rules n None) first) fits (slot_set rules n None tt fits)
 
 change_bounded : (spec : Spec) (change : Change) → IsFormedChange change → IsBoundedSpec spec → IsBoundedSpec (change_of spec change).1
-change_bounded (means.Bsdextended rules first) (Revocation enabled) formed fits = fits
-change_bounded (means.Bsdextended rules first) (FirstMatch enabled) formed fits = fits
 change_bounded (means.Bsdextended rules first) (RuleAdd rule) formed fits = rule_added rules first rule (position is_none rules) formed fits
 change_bounded (means.Bsdextended rules first) (RuleSet n rule) formed fits = slot_set rules n (Some rule) formed fits
 change_bounded (means.Bsdextended rules first) (RuleRemove n) formed fits = rule_removed rules first n fits
+change_bounded (means.Bsdextended rules first) other formed fits = fits
 change_bounded (means.Biba revocation) (Revocation enabled) formed fits = tt
-change_bounded (means.Biba revocation) (FirstMatch enabled) formed fits = tt
-change_bounded (means.Biba revocation) (RuleAdd rule) formed fits = tt
-change_bounded (means.Biba revocation) (RuleSet n rule) formed fits = tt
-change_bounded (means.Biba revocation) (RuleRemove n) formed fits = tt
+change_bounded (means.Seeotheruids _ _ _ _) (See (means.Seeotheruids _ _ _ _)) formed fits = tt
+change_bounded (means.Portacl _ _ _ _) (Port (means.Portacl _ _ _ _)) formed fits = tt
 change_bounded other change formed fits = tt
 
 spec_set : (m : Module) (spec : Spec) (specs : List Entry) → IsBoundedSpec spec → AreBoundedSpecs specs → AreBoundedSpecs (with_spec m spec specs)

@@ -1,4 +1,8 @@
 //! Runs of the program over the modules that are built in.
+ghost use Rattle.std.specs.Prelude.{All, map};
+ghost use Rattle.mf_policy.specs.Modules.{module_of};
+ghost use Rattle.mf_list.specs.Fresh.{IsFresh};
+ghost use Rattle.mf_core.specs.AllModules.{AreAllModules};
 
 mod cases;
 mod descriptors;
@@ -14,6 +18,7 @@ mod rules;
 mod sources;
 mod stepping;
 mod streams;
+mod sysctls;
 mod tasks;
 mod transcript;
 mod watermark;
@@ -25,6 +30,7 @@ use mf_lomac::Lomac;
 use mf_mls::Mls;
 use mf_partition::Partition;
 use mf_policy::Policy;
+use mf_ports::{Portacl, Seeotheruids};
 use mf_priority::Priority;
 use mf_top::{macsim, run_steps};
 use std::alloc::{AllocError, Global};
@@ -69,8 +75,26 @@ fn step_with<S: Source, K: Sink, R: Threads + Wait + Sync>(
     run_over(rt, alloc, None, source, sink, &OpenGate)
 }
 
-/// Runs the program with these words, or takes the steps where there are none. While the modules are made nothing else is
-/// owned.
+/// Runs the program with these words over any modules, or takes the steps where there are none.
+fn over<S: Source, K: Sink, G: Gate, P: Policy, R: Threads + Wait + Sync>(
+    rt: &R,
+    alloc: Global,
+    words: Option<&[String]>,
+    source: &mut S,
+    sink: &mut K,
+    gate: &G,
+    modules: Vec<P>,
+) -> u8
+    requires modules { AreAllModules (map (λ p. module_of (P.spec p)) modules.items) }
+    requires fresh { All (λ p. IsFresh (P.spec p)) modules.items }
+{
+    match words {
+        Some(words) => macsim(rt, alloc, words, source, sink, gate, modules),
+        None => run_steps(alloc, source, sink, modules),
+    }
+}
+
+/// The same over the modules that are built in. While they are made nothing else is owned.
 fn run_over<S: Source, K: Sink, G: Gate, R: Threads + Wait + Sync>(
     rt: &R,
     alloc: Global,
@@ -86,10 +110,9 @@ fn run_over<S: Source, K: Sink, G: Gate, R: Threads + Wait + Sync>(
     modules.push(Box::new(alloc, Partition::new())?)?;
     modules.push(Box::new(alloc, Bsdextended::new(alloc)?)?)?;
     modules.push(Box::new(alloc, Priority::new())?)?;
-    Ok(match words {
-        Some(words) => macsim(rt, alloc, words, source, sink, gate, modules),
-        None => run_steps(alloc, source, sink, modules),
-    })
+    modules.push(Box::new(alloc, Seeotheruids::new())?)?;
+    modules.push(Box::new(alloc, Portacl::new())?)?;
+    Ok(over(rt, alloc, words, source, sink, gate, modules))
 }
 
 /// Wants what is said of this to hold.

@@ -1,10 +1,10 @@
 -- The modules that there are, and policies of them that are put into a list, one after another.
-use Rattle.std.proofs.Common.{◌≡◌, List, [], ◌∷◌, ◌++◌, map, refl, sym, ◌∙◌, ap, subst}
+use Rattle.std.proofs.Common.{◌≡◌, List, [], ◌∷◌, ◌++◌, map, refl, sym, ◌∙◌, ap, subst, append_assoc, append-nil}
 use Rattle.std.specs.Prelude.{All}
 use Rattle.std.proofs.lemmas.List.{map-append}
 use Rattle.std.proofs.lemmas.List.Elements.{All-nil, All-push}
 use Rattle.mf_errno.specs.declared.module.Module.{Module}
-use Rattle.mf_errno.specs.declared.module.Module.TheVariants.{Biba, Mls, Lomac, Partition, Bsdextended, Priority}
+use Rattle.mf_errno.specs.declared.module.Module.TheVariants.{Biba}
 use Rattle.mf_errno.specs.Names.{all_modules}
 use Rattle.mf_policy.specs.declared.spec.Spec.{Spec}
 use Rattle.mf_policy.specs.Modules.{fresh_of, module_of}
@@ -15,19 +15,11 @@ use Rattle.mf_core.specs.AllModules.{AreAllModules}
 
 all_there : AreAllModules all_modules
 all_there Biba = refl
-all_there Mls = refl
-all_there Lomac = refl
-all_there Partition = refl
-all_there Bsdextended = refl
-all_there Priority = refl
+all_there other = refl
 
 own_module : (m : Module) → module_of (fresh_of m) ≡ m
 own_module Biba = refl
-own_module Mls = refl
-own_module Lomac = refl
-own_module Partition = refl
-own_module Bsdextended = refl
-own_module Priority = refl
+own_module other = refl
 
 -- policies of these modules, each in its initial state
 pub record AreFirst {X : Type 0} (spec : X → Spec) (xs : List X) (ms : List Module) : Type 0 where
@@ -53,18 +45,21 @@ one_more {X} spec m x xs ys ms is fresh before =
       fresh = subst (All (λ x. IsFresh (spec x))) (sym is) (All-push (λ x. IsFresh (spec x)) xs x before.fresh (is_fresh (spec x) m fresh));
     }
 
+-- onto a list policies of these modules are put, one after another, each in its initial state
+abbrev pub IsFilled : {X : Type 0} → (X → Spec) → List Module → List X → List X → Type 0
+IsFilled spec [] before after = before ≡ after
+IsFilled {X} spec (m ∷ ms) before after = (x : X) × (more : List X) × (more ≡ before ++ x ∷ []) × (spec x ≡ fresh_of m) × IsFilled spec ms more after
+
+filled : {X : Type 0} (spec : X → Spec) (ms there : List Module) (before after : List X) → AreFirst spec before there → IsFilled spec ms before after
+    → AreFirst spec after (there ++ ms)
+filled spec [] there before after first is = subst (AreFirst spec after) (sym (append-nil there)) (subst (λ xs. AreFirst spec xs there) is first)
+filled spec (m ∷ ms) there before after first put =
+    let next = one_more spec m put.0 before put.1 there put.2 put.3 first in
+    subst (AreFirst spec after) (append_assoc there (m ∷ []) ms) (filled spec ms (there ++ m ∷ []) put.1 after next put.4)
+
 -- a policy of each module
-pub one_of_each : {X : Type 0} (spec : X → Spec) (a b c d e f : X) (none one two three four five six : List X)
-    → none ≡ [] → one ≡ none ++ a ∷ [] → two ≡ one ++ b ∷ [] → three ≡ two ++ c ∷ [] → four ≡ three ++ d ∷ [] → five ≡ four ++ e ∷ [] → six ≡ five ++ f ∷ []
-    → spec a ≡ fresh_of Biba → spec b ≡ fresh_of Mls → spec c ≡ fresh_of Lomac → spec d ≡ fresh_of Partition → spec e ≡ fresh_of Bsdextended → spec f ≡ fresh_of Priority
-    → AreFirst spec six all_modules
-one_of_each spec a b c d e f none one two three four five six is_none is_one is_two is_three is_four is_five is_six biba mls lomac partition bsdextended priority =
-    one_more spec Priority f five six _ is_six priority
-    (one_more spec Bsdextended e four five _ is_five bsdextended
-    (one_more spec Partition d three four _ is_four partition
-    (one_more spec Lomac c two three _ is_three lomac
-    (one_more spec Mls b one two _ is_two mls
-    (one_more spec Biba a none one _ is_one biba (none_yet spec none is_none))))))
+pub one_of_each : {X : Type 0} (spec : X → Spec) (none all : List X) → none ≡ [] → IsFilled spec all_modules none all → AreFirst spec all all_modules
+one_of_each spec none all is_none put = filled spec all_modules [] none all (none_yet spec none is_none) put
 
 pub are_all : {X : Type 0} (spec : X → Spec) (xs : List X) → AreFirst spec xs all_modules → AreAllModules (map (λ x. module_of (spec x)) xs)
 are_all spec xs first = subst AreAllModules (sym first.modules) all_there

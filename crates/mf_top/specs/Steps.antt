@@ -12,7 +12,7 @@ use Rattle.mf_top.specs.Reading.{Held, AreScript}
 use Rattle.mf_top.specs.Slots.{AreMarked}
 
 -- The text is that of the steps of the script, each of which is taken, and of the sources at their end, and nothing else. Their history is
--- legal; in it each label slot is made and ended at most once, and is set where it was made and hasn't ended; and what flowed into a party is in the
+-- legal; in it each label slot is made and ended at most once, and is set where it was made and hasn't ended; and each source of a party stands in the
 -- order of its policy.
 abbrev pub IsStepsOf : Script → List ℕ → Type 0
 IsStepsOf s text =

@@ -42,7 +42,7 @@ pub fn macsim<S: Source, K: Sink, G: Gate, P: Policy, R: Threads + Wait + Sync>(
 
     // With `run` and 0 the source held a script to its end, and the sink took the text of one history that is legal and
     // complete for it, and of its sources, and nothing else. In it each label slot is made and ended at most once, at its
-    // end a live entity's slot is unset exactly where it has no mark, and what flowed into a party is in the order of its
+    // end a live entity's slot is unset exactly where it has no mark, and each source of a party stands in the order of its
     // policy. Where source or sink doesn't tell its bytes, there are bytes of which this holds.
     ensures headline { command_of (map string_bytes words.now) ≡ Some command.Run → result ≡ 0
         → WroteHistory (seen S.left S.faults source.old source.new)

@@ -47,6 +47,10 @@ kldload mac_bsdextended
 ugidfw add subject uid 5 object mode n
 ugidfw list
 kldunload mac_partition
+kldload mac_portacl
+sysctl security.mac.portacl.rules=uid:0:udp:53
+sysctl security.mac.portacl.suser_exempt=0
+bind s tcp 53
 @c exit
 end
 ";
@@ -75,7 +79,11 @@ const REPLIES: &[&str] = &[
     "changed t 18 ok rule 0",
     "done t 19 ok rules 1 ; 0 subject uid 5 object mode n",
     "changed t 20 ok",
-    "done t 21 ok",
+    "changed t 21 ok slot -",
+    "changed t 22 ok",
+    "changed t 23 ok",
+    "done t 24 no EPERM socket_bind mac_portacl 1",
+    "done t 25 ok",
 ];
 
 /// A process that gives up its element, and doesn't get it back.

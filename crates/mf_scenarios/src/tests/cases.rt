@@ -63,6 +63,12 @@ const RUNS: &[Case] = &[
         text: "boot mac_mls 0\nboot mac_biba 1\nenter t\ndone t 1 no EACCES vnode_open_read mac_biba 2\nleave t\nsource biba vnode:/ high\nsource biba vnode:/m low\nsource biba proc:t high\nsource mls vnode:/ low\nsource mls vnode:/m high\nsource mls proc:t low\n",
         ..PLAIN
     },
+    Case {
+        name: "all modules are booted",
+        script: "boot mac_biba\nboot mac_mls\nboot mac_lomac\nboot mac_partition\nboot mac_bsdextended\nboot mac_priority\nboot mac_seeotheruids\nboot mac_portacl\ntask t uid 0 gid 0 label -\nkldstat\nend\n",
+        text: "boot mac_biba 0\nboot mac_mls 1\nboot mac_lomac 2\nboot mac_partition 3\nboot mac_bsdextended -\nboot mac_priority -\nboot mac_seeotheruids -\nboot mac_portacl -\nenter t\ndone t 1 ok modules mac_lomac:2,mac_mls:1,mac_biba:0,mac_portacl:-,mac_seeotheruids:-,mac_priority:-,mac_bsdextended:-,mac_partition:3\nleave t\nsource biba vnode:/ high\nsource biba proc:t high\nsource mls vnode:/ low\nsource mls proc:t low\nsource lomac vnode:/ high\nsource lomac proc:t high\n",
+        ..PLAIN
+    },
 ];
 
 const REFUSALS: &[Case] = &[
@@ -99,6 +105,13 @@ const REFUSALS: &[Case] = &[
         script: "boot mac_biba\nboot mac_biba\n",
         status: 3,
         text: "macsim: script line 2 fault 12 BootRefused EEXIST\n",
+        ..PLAIN
+    },
+    Case {
+        name: "more boot lines than policies can be listed, of which the last is of no module",
+        script: "boot mac_biba\nboot mac_mls\nboot mac_lomac\nboot mac_partition\nboot mac_bsdextended\nboot mac_priority\nboot mac_seeotheruids\nboot mac_portacl\nboot mac_foo\n",
+        status: 3,
+        text: "macsim: script line 9 fault 11 TooMany\n",
         ..PLAIN
     },
     Case {

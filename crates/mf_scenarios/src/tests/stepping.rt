@@ -61,6 +61,18 @@ const TAKEN: &[Case] = &[
         ..STEPPED
     },
     Case {
+        name: "a port by a rule",
+        script: "boot mac_portacl\ntask w uid 80 gid 80 label -\nsocket s\nbind s tcp 80\nbind s tcp 1024\nbind s udp 0\nbind s tcp 80\nbind s udp 80\nend\ntask r uid 0 gid 0 label -\nsysctl security.mac.portacl.rules=uid:80:tcp:80\nend\nsteps\nenter w\nplan w\ndone w\nleave w\nenter w\nplan w\ndone w\nleave w\nenter w\nplan w\ndone w\nleave w\nenter w\nplan w\ndone w\nleave w\nchange r\nenter w\nplan w\ndone w\nleave w\nenter w\nplan w\ndone w\nleave w\nend\n",
+        text: "boot mac_portacl -\nenter w\ndone w 1 ok\nleave w\nenter w\ndone w 2 no EPERM socket_bind mac_portacl 1\nleave w\nenter w\ndone w 3 ok\nleave w\nenter w\ndone w 4 ok\nleave w\nchanged r 1 ok\nenter w\ndone w 5 ok\nleave w\nenter w\ndone w 6 no EPERM socket_bind mac_portacl 1\nleave w\n",
+        ..STEPPED
+    },
+    Case {
+        name: "a process by its primary group",
+        script: "boot mac_seeotheruids\ntask a uid 1001 gid 1001 label -\nsee b\nsee b\nend\ntask b uid 1002 gid 1001 label -\nend\ntask r uid 0 gid 0 label -\nsee b\nsysctl security.mac.seeotheruids.primarygroup_enabled=1\nsysctl security.mac.seeotheruids.specificgid=x\nend\nsteps\nenter a\nplan a\ndone a\nleave a\nenter r\nplan r\ndone r\nleave r\nchange r\nenter a\nplan a\ndone a\nleave a\nchange r\nend\n",
+        text: "boot mac_seeotheruids -\nenter a\ndone a 1 no ESRCH proc_visible mac_seeotheruids 1\nleave a\nenter r\ndone r 1 ok\nleave r\nchanged r 2 ok\nenter a\ndone a 2 ok\nleave a\nchanged r 3 no EINVAL - -\n",
+        ..STEPPED
+    },
+    Case {
         name: "a sink that fails",
         script: "boot mac_biba\ntask t uid 0 gid 0 label -\nread /\nend\nsteps\nenter t\nend\n",
         sink_fails: &[2],

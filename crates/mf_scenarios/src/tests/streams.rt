@@ -8,6 +8,7 @@ use mf_lomac::Lomac;
 use mf_mls::Mls;
 use mf_partition::Partition;
 use mf_policy::Policy;
+use mf_ports::{Portacl, Seeotheruids};
 use mf_priority::Priority;
 use mf_top::law::macsim_over_sure;
 use std::alloc::{AllocError, Global};
@@ -29,6 +30,8 @@ fn run_over_sure<R: Threads + Wait + Sync>(
     modules.push(Box::new(alloc, Partition::new())?)?;
     modules.push(Box::new(alloc, Bsdextended::new(alloc)?)?)?;
     modules.push(Box::new(alloc, Priority::new())?)?;
+    modules.push(Box::new(alloc, Seeotheruids::new())?)?;
+    modules.push(Box::new(alloc, Portacl::new())?)?;
     Ok(macsim_over_sure(rt, alloc, words, source, sink, &OpenGate, modules))
 }
 
