@@ -7,8 +7,8 @@ ROOT = pathlib.Path(__file__).resolve().parent.parent
 # Those that stand for their kind, as code and definitions name them. Policies name themselves, and tests what they please.
 MODULES = r"\b(Mls|Priority)\b"
 CALLS = r"\b(Call::|call\.)(Seesock|Mkdir|Fread|Pread|Pwrite|Setpipemac|Kldload|UgidfwAdd)\b"
-OWN = r"mf_(biba|mls|lomac|partition|bsdextended|priority)$|.*_tables$|.*scenarios$"
-MENTIONS = {MODULES: r"(?i)biba|mls|lomac|partition|bsdextended|priority", CALLS: r"(?i)seesock|mkdir|openfd|fread|pread|pwrite|pipemac|kldload|ugidfw"}
+OWN = r"mf_(biba|mls|lomac|partition|bsdextended|priority|ports)$|.*_tables$|.*scenarios$"
+MENTIONS = {MODULES: r"(?i)biba|mls|lomac|partition|bsdextended|priority|seeotheruids|portacl", CALLS: r"(?i)seesock|mkdir|openfd|fread|pread|pwrite|pipemac|kldload|ugidfw"}
 
 
 def cells(section: str) -> dict:

@@ -1,8 +1,8 @@
 #!/bin/sh
 # Runs each script of examples/, and holds tools/annotate to what is printed: without what it adds its text is the history, and for each denial
 # the number and the operation of the last of the checks that it derives are those of the reply, and a cause of the manual stands below.
-# Then the whole text of one example, that a subject is shown as it was lowered, and that it says what is wrong with an input, and prints
-# nothing of it. A line for each failure, then a count.
+# Then the whole text of one example, that a subject is shown as it was lowered, and by its ids where the policy goes by these, and that it
+# says what is wrong with an input, and prints nothing of it. A line for each failure, then a count.
 . "$(dirname "$0")/counting"
 
 # Whether below each denial stand its checks, as many as its number says and the last with its operation, and a cause. Prints how many.
@@ -54,17 +54,36 @@ for script in examples/*.macsim; do
     count $? "$script: a line isn't as in the history, or a denial isn't derived"
 done
 
+# Whether the first denial of an example is explained by the lines on the standard input.
+explains_the_first() {
+    run "$1"
+    cat >"$folder/expected"
+    tools/annotate "$1" "$folder/history" | grep -A"$(($(wc -l <"$folder/expected") - 1))" -m1 ' no E' | cmp -s - "$folder/expected"
+}
+
 # The subject is shown as the check found it: lowered by the look-ups before.
-script=examples/45-lowered-and-denied.macsim
-run "$script"
-cat >"$folder/expected" <<'END'
+explains_the_first examples/45-lowered-and-denied.macsim <<'END'
 done t 2 no EACCES vnode_open_write mac_lomac 3    # line 9: write /pub/f x
     checks: 1 vnode_lookup vnode:/, 2 vnode_lookup vnode:/pub, 3 vnode_open_write vnode:/pub/f
     subject: proc:t lomac/5
     object: vnode:/pub/f lomac/9
 END
-tools/annotate "$script" "$folder/history" | grep -A3 ' no EACCES' | cmp -s - "$folder/expected"
-count $? "$script: another text of the denial"
+count $? "another text of a denial after a lowering"
+explains_the_first examples/50-port-80.macsim <<'END'
+done www 2 no EPERM socket_bind mac_portacl 1    # line 13: bind www tcp 80
+    checks: 1 socket_bind socket:www
+    subject: proc:www uid 80 gid 80
+    object: socket:www
+    asked: tcp 80
+END
+count $? "another text of a denied binding"
+explains_the_first examples/51-users-apart.macsim <<'END'
+done alice 3 no ESRCH proc_visible mac_seeotheruids 1    # line 11: see bob
+    checks: 1 proc_visible proc:bob
+    subject: proc:alice uid 1001 gid 1001
+    object: proc:bob uid 1002 gid 1002
+END
+count $? "another text of a user that isn't seen"
 
 script=examples/01-plainest-denial.macsim
 run "$script"
@@ -140,6 +159,8 @@ EACCES mac_bsdextended vnode_lookup vnode_readdir vnode_open_read vnode_open_wri
 EACCES mac_bsdextended vnode_unlink_dir vnode_unlink vnode_setmode
 EACCES mac_mls proc_signal proc_sched proc_debug
 ESRCH mac_partition proc_visible proc_signal proc_sched proc_debug
+ESRCH mac_seeotheruids proc_visible proc_signal proc_sched proc_debug
+EPERM mac_portacl socket_bind
 ENOENT mac_partition socket_visible
 EPERM mac_partition cred_relabel
 EPERM mac_mls cred_relabel vnode_relabel pipe_relabel socket_relabel

@@ -40,6 +40,7 @@ SYNTAX = {
     "mf_labeltext": "labels as texts",
     "mf_item Operation": "the names of operations in a history's text",
     "mf_rule RuleGrammar": "the words of rules",
+    "mf_rule PortRules": "rules about ports as a text",
     "mf_rule Words": "ranges and letters as words",
     "mf_rule Reading": "rules as words",
     "mf_rule Canonical": "rules as texts",

@@ -139,6 +139,7 @@ fork others
 @others sched t.low
 @others see t.low
 @others seesock seven
+@others bind seven tcp 80
 @others pwrite five x
 @others send seven seven x
 @others chmod /seen 600

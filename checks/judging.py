@@ -12,7 +12,7 @@ from macsim_text import BadInput, events_of, script_of
 
 
 # The allocations in which `main` begins; its words come behind them.
-BEGINNING = 13
+BEGINNING = 15
 
 
 class Work:

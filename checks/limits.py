@@ -2,7 +2,7 @@
 says: nothing, or the fault.
 """
 
-from scripts import TUNABLE
+from scripts import MODULES, TUNABLE
 
 TASK = "task t uid 0 gid 0 label -\n"
 
@@ -37,6 +37,11 @@ def tree(components):
     return "".join(of_file("/d" * depth, "dir") for depth in range(1, components + 1))
 
 
+def boots(count):
+    """So many boot lines. That of a module that is booted already stands past the others."""
+    return "".join(f"boot {module}\n" for module in [*MODULES, MODULES[0]][:count])
+
+
 def labelled(module, label):
     return f"boot mac_{module}\n" + of_task("-", f"{module}/{label}")
 
@@ -65,7 +70,9 @@ NUMBERS = [
     ("compartments", lambda n: labelled("mls", f"1:{n}"), 256, "2 fault 6 BadLabel"),
     ("partitions", lambda n: labelled("partition", n), 2**31 - 1, "2 fault 6 BadLabel"),
     ("numbers of descriptors", lambda n: in_task(f"close {n}"), 15, "2 fault 5 BadNumber"),
-    ("boot lines", lambda n: "boot mac_biba\n" * n, 1, "2 fault 12 BootRefused EEXIST"),
+    ("ports", lambda n: in_task(f"bind s tcp {n}"), 65535, "2 fault 5 BadNumber"),
+    ("boot lines of a module", lambda n: "boot mac_biba\n" * n, 1, "2 fault 12 BootRefused EEXIST"),
+    ("boot lines", boots, 8, "9 fault 11 TooMany"),
     ("tunable lines", lambda n: "boot mac_biba\n" + f"{TUNABLE}\n" * n, 1, "3 fault 9 Duplicate"),
 ]
 # Bytes that a script may hold, and next to each one that it may not.

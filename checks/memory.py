@@ -1,6 +1,6 @@
-"""Refuses the program one allocation after another, in a run of its own each: over four worked
+"""Refuses the program one allocation after another, in a run of its own each: over five worked
 scripts, a load and the examples. A run that is refused an allocation ends with 0 and what is right
-for its script, or with 9 and no part of a history; the first thirteen, in which `main` makes the words
+for its script, or with 9 and no part of a history; the first fifteen, in which `main` makes the words
 and the modules, end with 9. The tests of refused growths are run so too, with each refused: they
 hold, or say that memory ran out. A line for each script, with how many allocations it asks for and
 how many were refused, then a count. Of each script every 16th is refused, by the day of the year

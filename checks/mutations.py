@@ -39,6 +39,8 @@ WORDS = [
     *(b"partition/2147483647", b"partition/2147483648"),
     *(b"open /notes rw", b"fread 0", b"fwrite 0 x", b"close 0", b"r", b"rw", b"wr", b"15", b"16"),
     *(b"tunable", TUNABLE.encode(), b"security.mac.biba.revocation_enabled=2"),
+    *(b"bind s tcp 80", b"bind s udp 65536", b"bind s ip 80", b"tcp", b"udp", b"65535", b"65536"),
+    *(b"mac_portacl", b"mac_seeotheruids", b"security.mac.portacl.rules=uid:80:tcp:80"),
     *(b"mac_lomac", b"lomac/5", b"lomac/5:1", b"lomac/(1-2)", b"lomac/"),
 ]
 

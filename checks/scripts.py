@@ -10,8 +10,14 @@ def script_of(front, *tasks):
     return "".join(f"{line}\n" for line in lines)
 
 
+MODULES = [
+    f"mac_{name}"
+    for name in "biba mls lomac partition bsdextended priority seeotheruids portacl".split()
+]
 ADD = "ugidfw add subject uid 5 object mode n"
 REMOVE = "ugidfw remove 0"
+SYSCTL = "sysctl security.mac"
+PORT_RULES = ",".join(f"uid:{uid}:tcp:80,gid:{uid}:udp:{uid}" for uid in range(32))
 TUNABLE = "tunable security.mac.biba.revocation_enabled=1"
 WORKED = {
     "a late partition": script_of(
@@ -43,6 +49,22 @@ WORKED = {
             + ["open /d/notes w", "setfmac biba/5 /d/notes", "fread 0", "@c setpmac biba/5"]
             + ["@c open /d/notes r", "unlink /d/notes", "fread 0", "@c close 0", "exit"],
         ),
+    ),
+    "settings": script_of(
+        [*(f"boot {module}" for module in MODULES)],
+        (
+            "t uid 0 gid 5 label -",
+            ["socket s", "fork c", "@c bind s tcp 80", f"{SYSCTL}.portacl.suser_exempt=0"]
+            + ["bind s tcp 80", f"{SYSCTL}.portacl.rules={PORT_RULES}", "bind s tcp 80"]
+            + ["bind s udp 0", f"{SYSCTL}.portacl.autoport_exempt=0", "bind s udp 0"]
+            + [f"{SYSCTL}.portacl.port_high=79", "bind s udp 80", f"{SYSCTL}.portacl.rules=x"]
+            + [f"{SYSCTL}.seeotheruids.suser_privileged=0", "see u", "signal t.c"]
+            + [f"{SYSCTL}.seeotheruids.specificgid=5"]
+            + [f"{SYSCTL}.seeotheruids.specificgid_enabled=1", "debug u", "sched u"]
+            + ["kldunload mac_seeotheruids", "kldunload mac_portacl", "kldload mac_portacl"]
+            + ["bind s tcp 80", f"{SYSCTL}.seeotheruids.specificgid=5", "kldstat"],
+        ),
+        ("u uid 1001 gid 1001 label -", []),
     ),
     "an ordinary machine": script_of(
         [
@@ -80,8 +102,9 @@ def loaders():
 
 def changers(changes):
     """Sixteen tasks of so many changes each."""
-    first_match = "sysctl security.mac.bsdextended.firstmatch_enabled=0"
-    kinds = [ADD, first_match, "kldload mac_priority", REMOVE, "kldunload mac_priority"]
+    first_match = f"{SYSCTL}.bsdextended.firstmatch_enabled=0"
+    kinds = [ADD, first_match, "kldload mac_portacl", REMOVE]
+    kinds += [f"{SYSCTL}.portacl.rules={PORT_RULES}", "kldunload mac_portacl"]
     calls = lambda task: [kinds[(task + place) % len(kinds)] for place in range(changes)]
     tasks = [(f"t{task} {EQUAL}", calls(task)) for task in range(TASKS)]
     return script_of(["boot mac_biba", "boot mac_bsdextended"], *tasks)

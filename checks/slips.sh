@@ -6,7 +6,7 @@
 # What is printed of a task with the lines of a file.
 replies() {
     {
-        printf 'boot mac_biba\nboot mac_partition\nboot mac_bsdextended\n'
+        printf 'boot mac_biba\nboot mac_partition\nboot mac_bsdextended\nboot mac_portacl\n'
         printf 'file /a reg uid 0 gid 0 mode 644 label -\nfile /d dir uid 0 gid 0 mode 755 label -\ntask t uid 0 gid 0 label -\n'
         cat "$1"
         printf 'end\n'
@@ -15,7 +15,7 @@ replies() {
 
 # Whether one line is printed, which ends with the text.
 has_ending() {
-    [ "$(replies "$1" | sed 's/^macsim: script line 7 //; s/^[a-z]* t 1 //')" = "$2" ]
+    [ "$(replies "$1" | sed 's/^macsim: script line 8 //; s/^[a-z]* t 1 //')" = "$2" ]
 }
 
 are_ok() {

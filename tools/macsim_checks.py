@@ -26,6 +26,7 @@ NAMED = {
     "recv": ("socket", 1, "socket_receive"),
     "seesock": ("socket", 1, "socket_visible"),
     "setsockmac": ("socket", 2, "socket_relabel"),
+    "bind": ("socket", 1, "socket_bind"),
 }
 # What is looked for under a path: the place of the path among the words, whether it must be a directory, and the operations.
 PLACED = {

@@ -66,11 +66,13 @@ WORDS = {
     "L": ".+",
     "LABEL": ".+",
     "WORD": ".+",
-    "MODULE": "mac_biba|mac_mls|mac_lomac|mac_partition|mac_bsdextended|mac_priority",
+    "MODULE": "mac_biba|mac_mls|mac_lomac|mac_partition|mac_bsdextended|mac_priority|mac_seeotheruids|mac_portacl",
     "PRIVILEGE": "KLD_LOAD|KLD_UNLOAD|MAC_PARTITION|SCHED_RTPRIO|SCHED_IDPRIO",
     "NAME=VALUE": "[^=]*=.*",
     "MODE": "r|w|rw",
     "FD": "0*(?:[0-9]|1[0-5])",
+    "PROTOCOL": "tcp|udp",
+    "PORT": "0*[0-9]{1,5}",
     "TEXT": r"(?:[^\\]|\\[0-9A-Fa-f]{2})+",
 }
 CALLS = {
@@ -91,6 +93,7 @@ CALLS = {
     "pwrite": "NAME TEXT",
     "setpipemac": "LABEL NAME",
     "setsockmac": "LABEL NAME",
+    "bind": "NAME PROTOCOL PORT",
     "send": "NAME NAME TEXT",
     "sysctl": "NAME=VALUE",
 }
