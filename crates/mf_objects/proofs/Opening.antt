@@ -1,14 +1,15 @@
 -- One process opens or closes a descriptor.
-use Rattle.std.proofs.Common.{◌≡◌, ℕ, ◌<◌, ◌+◌, ◌-◌, List, [], ◌∷◌, None, length, get_or, set, true, ap, sym, ◌∙◌, subst, arith}
+use Rattle.std.proofs.Common.{◌≡◌, ℕ, ◌<◌, ◌+◌, ◌-◌, List, [], ◌∷◌, Option, Some, None, IsSome, length, get_or, set, true, refl, ap, sym, ◌∙◌, subst, arith}
 use Rattle.std.proofs.lemmas.Bool.{false≢true}
 use Rattle.std.proofs.lemmas.List.{length-append}
+use Rattle.std.specs.Option.{option_map_or}
 use Rattle.mf_slots.specs.Zones.{Contents}
 use Rattle.mf_objects.specs.declared.id.Id.{Id}
 use Rattle.mf_objects.specs.declared.descriptors.Fd.{Fd}
 use Rattle.mf_objects.specs.declared.entity.Entity.{Entity}
 use Rattle.mf_objects.specs.declared.entity.EntityData.{EntityData}
 use Rattle.mf_objects.specs.declared.entity.EntityData.TheVariants.{Process, Vnode, Pipe, Socket}
-use Rattle.mf_objects.specs.Live.{is_process}
+use Rattle.mf_objects.specs.Live.{Entities, LiveEntity, is_process, live_at}
 use Rattle.mf_objects.specs.Lives.{passes, is_regular, IsLive}
 use Rattle.mf_objects.specs.Descriptors.{fds_of, fds_at, fd_in, with_fds, opened, closed, lowest_free}
 use Rattle.mf_objects.specs.Population.{AreDescriptors}
@@ -31,6 +32,14 @@ process_place : (next : ℕ) (zones : Contents) (es : List Entity) (id : Id) (i 
 process_place next zones es id i e place is live = sym (ap (passes is_process) (found_place next zones es id i e place is)) ∙ live
 
 -- Closing
+
+-- what has something open is live
+pub open_live : (objects : Entities) (id : Id) (n : ℕ) → IsSome (fd_in (fds_at objects id) n) → IsSome (live_at objects id)
+open_live objects id n is_open = by_found (live_at objects id) is_open
+  where
+    by_found : (o : Option LiveEntity) → IsSome (fd_in (option_map_or (λ e. fds_of e.what) o []) n) → IsSome o
+    by_found None is_open = absurd (false≢true is_open)
+    by_found (Some e) is_open = refl
 
 pub closed_described : (n next : ℕ) (zones : Contents) (es : List Entity) (id : Id) (i : ℕ) (e : Entity) (w : EntityData) → IsPlace (view next zones es) id i → e ≡ get_or es i e
     → IsSound next zones es → w ≡ with_fds (closed n) e.what → AreDescriptors (live_of zones es) (fds_of w)

@@ -88,8 +88,7 @@ impl Objects {
 
     /// Closes what a process has open under this number.
     pub fn close_fd(&mut self, p: Id, n: u32)
-        requires process { IsLive live.is_process self.old p }
-        requires is_open { IsSome (fds.fd_in (fds.fds_at self.old p) n) }
+        requires { IsSome (fds.fd_in (fds.fds_at self.old p) n) }
         ensures { self.new
             ≡ change.with_change (change.with_what (fds.with_fds (fds.closed n))) self.old p }
     {

@@ -6,8 +6,11 @@ use Rattle.mf_objects.specs.Sound.{IsPlace}
 use Rattle.mf_objects.proofs.Belonging.{fds_stay}
 use Rattle.mf_objects.proofs.Kept.{view, what_changed}
 use Rattle.mf_objects.proofs.Indexed.{index_set}
-use Rattle.mf_objects.proofs.Opening.{closed_described, closed_open}
+use Rattle.mf_objects.proofs.Opening.{closed_described, closed_open, open_live}
 use Rattle.mf_objects.proofs.objects.Objects.close_fd.Goals as goal
+
+pub place-place-requires : goal.place-place-requires
+place-place-requires c = open_live c.args.self.now c.args.p c.args.n c.requires
 
 pub invariant_of-self : goal.invariant_of-self
 invariant_of-self c =
