@@ -1,11 +1,15 @@
 -- Rules about ports that texts add, one after another.
 use Rattle.std.proofs.Common.{◌≡◌, ℕ, ◌≤◌, Bool, true, false, cond, ltb, leb, List, [], ◌∷◌, ◌++◌, length, length-append, append-nil, append_assoc, Option, Some, None, refl, sym, ap, ◌∙◌, arith}
 use Rattle.std.proofs.lemmas.Bool.{ltb-true, ltb-false, lt-leb, le-leb}
-use Rattle.std.specs.Prelude.{option_map}
+use Rattle.std.specs.Prelude.{option_map, nat_le, if◌then◌else◌}
 use Rattle.mf_labeltext.specs.Reading.{◌>>=◌}
 use Rattle.mf_rule.specs.declared.ports.PortRule.{PortRule}
 use Rattle.mf_rule.specs.declared.ports.TheConstants.{MOST_PORT_RULES}
-use Rattle.mf_rule.specs.PortRules.{port_rule_in, each_port_rule, few, with_port_rule}
+use Rattle.mf_rule.specs.PortRules.{port_rule_in, each_port_rule, with_port_rule}
+
+-- the rules, where they are few enough
+abbrev few : List PortRule → Option (List PortRule)
+few rules = if nat_le (length rules) MOST_PORT_RULES then Some rules else None
 
 -- the rules so far and those of the texts, where they are few enough
 abbrev pub with_all : List PortRule → List (List ℕ) → Option (List PortRule)

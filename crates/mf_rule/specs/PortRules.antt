@@ -11,10 +11,6 @@ use Rattle.mf_rule.specs.declared.ports.TheConstants.{LAST_PORT, MOST_PORT_RULES
 unfoldable pub first_of : List ℕ → List ℕ → List ℕ → Option Bool
 first_of first second w = if bytes_eq w first then Some true else if bytes_eq w second then Some false else None
 
--- a port
-unfoldable pub port_in : List ℕ → Option ℕ
-port_in w = number 0 LAST_PORT w
-
 -- `uid` or `gid`, an id, `tcp` or `udp`, and a port, with a colon between each two
 unfoldable pub port_rule_in : List ℕ → Option PortRule
 port_rule_in text = do
@@ -24,7 +20,7 @@ port_rule_in text = do
   id ← id holder.0
   protocol ← cut (byte ":") holder.1
   tcp ← first_of (codes "tcp") (codes "udp") protocol.0
-  port ← port_in protocol.1
+  port ← number 0 LAST_PORT protocol.1
   Some (record { group = group; id = id; tcp = tcp; port = port })
 
 -- the rule of each text, where each is one
@@ -32,18 +28,11 @@ unfoldable pub each_port_rule : List (List ℕ) → Option (List PortRule)
 each_port_rule [] = Some []
 each_port_rule (text ∷ texts) = port_rule_in text >>= λ rule. option_map (λ rules. rule ∷ rules) (each_port_rule texts)
 
--- the rules, where they are few enough
-abbrev pub few : List PortRule → Option (List PortRule)
-few rules = if nat_le (length rules) MOST_PORT_RULES then Some rules else None
-
--- one rule or more, with a comma between each two
-unfoldable pub listed_port_rules : List ℕ → Option (List PortRule)
-listed_port_rules text = each_port_rule (parts (byte ",") text) >>= few
-
--- the rules that the text spells: none, or as many as are listed
+-- the rules that the text spells, where there are at most as many as may be listed: none, or some with a comma between each two
 unfoldable pub port_rules_in : List ℕ → Option (List PortRule)
 port_rules_in [] = Some []
-port_rules_in text = listed_port_rules text
+port_rules_in text =
+    each_port_rule (parts (byte ",") text) >>= λ rules. if nat_le (length rules) MOST_PORT_RULES then Some rules else None
 
 -- the rules with that of a further text, where there is room for one
 unfoldable pub with_port_rule : List PortRule → List ℕ → Option (List PortRule)

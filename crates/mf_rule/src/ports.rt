@@ -1,5 +1,7 @@
 //! Rules about ports of mac_portacl(4), and the text in which a sysctl has them.
-ghost use Rattle.std.specs.Prelude.{◌≡◌, ◌↔◌, if◌then◌else◌, IsTrue, Some, None, length};
+ghost use Rattle.std.specs.Prelude.{◌≡◌, ◌↔◌, if◌then◌else◌, IsTrue, Some, None, length, nat_le, option_and_then};
+ghost use Rattle.std.specs.Str.{byte};
+ghost use Rattle.mf_labeltext.specs.Reading.{number, parts};
 ghost use Rattle.mf_rule.specs.PortRules as spec;
 
 use crate::values::{read_id, split_once};
@@ -66,9 +68,10 @@ pub fn read_ports(text: &str) -> Option<PortRules>
 }
 
 /// The rules of a text, with a comma between each two.
-#[tactic(auto, unfolding(crate::specs::PortRules::listed_port_rules))]
 fn read_listed(text: &str) -> Option<PortRules>
-    ensures { result ≡ spec.listed_port_rules text.now }
+    ensures { result ≡ option_and_then (λ rules.
+        if nat_le (length rules) MOST_PORT_RULES then Some rules else None)
+        (spec.each_port_rule (parts (byte ",") text.now)) }
 {
     let mut rules = PortRules::new();
     let mut rest = text;
@@ -137,9 +140,9 @@ fn first_of(word: &str, first: &str, second: &str) -> Option<bool>
     }
 }
 
-#[tactic(auto, unfolding(crate::specs::PortRules::port_in, mf_labeltext::specs::Reading::number))]
+#[tactic(auto, unfolding(mf_labeltext::specs::Reading::number))]
 fn read_port(word: &str) -> Option<u32>
-    ensures { result ≡ spec.port_in word.now }
+    ensures { result ≡ number 0 LAST_PORT word.now }
 {
     read_number(word, 0, LAST_PORT).ok()
 }

@@ -1,15 +1,14 @@
 use Rattle.mf_labeltext.specs.Bytes.{comma}
 use Rattle.mf_labeltext.specs.Reading.{parts}
-use Rattle.std.proofs.Common.{◌≡◌, length}
+use Rattle.std.proofs.Common.{◌≡◌, [], length}
 use denote.Shadow.{shadow}
 use denote.Text.{Utf8}
-use Rattle.mf_rule.specs.PortRules.{listed_port_rules}
 use Rattle.mf_rule.proofs.PortRules.{with_all}
 use Rattle.mf_rule.proofs.ports.read_listed.Given as goal
 
 abbrev pub invariant-loop-first : goal.invariant-loop-first
 invariant-loop-first l = record {
-  so_far : with_all l.rules (parts comma l.rest) ≡ listed_port_rules l.text;
+  so_far : with_all l.rules (parts comma l.rest) ≡ with_all [] (parts comma l.text);
   text : shadow (Utf8 l.rest);
 }
 
