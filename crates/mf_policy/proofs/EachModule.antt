@@ -53,15 +53,15 @@ module _ (slot : ℕ) (item : Item) where
   unless_passed true true tested = refl
   unless_passed true false tested = let no_test : false ≡ true = tested refl in cc
 
-  biba_answers : (spec : Spec) → module_of spec ≡ Biba → (is_transfer item.op ≡ true → tests_transfers spec ≡ true) → answer spec slot item ≡ lattice_answer biba slot item
+  pub biba_answers : (spec : Spec) → module_of spec ≡ Biba → (is_transfer item.op ≡ true → tests_transfers spec ≡ true) → answer spec slot item ≡ lattice_answer biba slot item
   biba_answers (means.Biba revocation) of tested = unless_passed (is_transfer item.op) revocation tested
   biba_answers other of tested = cc
 
-  mls_answers : (spec : Spec) → module_of spec ≡ Mls → answer spec slot item ≡ lattice_answer mls slot item
+  pub mls_answers : (spec : Spec) → module_of spec ≡ Mls → answer spec slot item ≡ lattice_answer mls slot item
   mls_answers means.Mls of = refl
   mls_answers other of = cc
 
-  lomac_answers : (spec : Spec) → module_of spec ≡ Lomac → answer spec slot item ≡ lattice_answer lomac slot item
+  pub lomac_answers : (spec : Spec) → module_of spec ≡ Lomac → answer spec slot item ≡ lattice_answer lomac slot item
   lomac_answers means.Lomac of = refl
   lomac_answers other of = cc
 

@@ -26,20 +26,12 @@ may_see primarygroup specific gid suser subject process =
     subject.ruid == process.uid || primarygroup && slice_index_or subject.groups 0 0 == process.gid
     || specific && in_group subject gid || suser && subject.uid == 0
 
--- the rule is for the port
-abbrev pub is_for : Bool × ℕ → PortRule → Bool
-is_for port rule = (if rule.tcp then port.0 else not port.0) && rule.port == port.1
-
--- the rule is for the subject, by one of its groups or by its effective uid
-abbrev pub is_held_by : Cred → PortRule → Bool
-is_held_by cred rule = if rule.group then in_group cred rule.id else cred.uid == rule.id
-
 -- Whether a subject may bind a port: one above those that are guarded; with the settings, one that the kernel chooses, and any where it is root;
--- and one that a rule gives it.
+-- and one for which there is a rule, by one of its groups or by its effective uid.
 abbrev pub may_bind : List PortRule → ℕ → Bool → Bool → Cred → Bool × ℕ → Bool
 may_bind rules port_high suser autoport cred port =
     nat_lt port_high port.1 || autoport && port.1 == 0 || suser && cred.uid == 0
-    || list_any (λ rule. is_for port rule && is_held_by cred rule) rules
+    || list_any (λ rule. (if rule.tcp then port.0 else not port.0) && rule.port == port.1 && (if rule.group then in_group cred rule.id else cred.uid == rule.id)) rules
 
 -- the answer to the binding of a port, by whether the subject may; every other check passes
 abbrev pub binding_answer : (Bool × ℕ → Bool) → CheckOp → Option (Bool × ℕ) → Errno

@@ -17,8 +17,8 @@ use Rattle.mf_policy.specs.declared.spec.Spec.TheVariants as means
 use Rattle.mf_policy.specs.Registration.{Entry, is_of}
 
 -- the change was made
-abbrev pub done : Changed
-done = record { errno = Success; number = None }
+abbrev pub change_made : Changed
+change_made = record { errno = Success; number = None }
 
 -- the policy has no such setting, or no rule of that number
 abbrev pub no_setting : Changed
@@ -34,17 +34,17 @@ with_new_rule rules first rule (Some n) =
 abbrev pub without_rule : Slots → Bool → ℕ → Changed × Spec
 without_rule rules first n =
     if is_none (slice_index_or rules n None) then (no_setting, means.Bsdextended rules first)
-    else (done, means.Bsdextended (slice_set rules n None) first)
+    else (change_made, means.Bsdextended (slice_set rules n None) first)
 
 -- the answer to a change, and the spec after it
 abbrev pub change_of : Spec → Change → Changed × Spec
-change_of (means.Biba revocation) (Revocation enabled) = (done, means.Biba enabled)
-change_of (means.Bsdextended rules first) (FirstMatch enabled) = (done, means.Bsdextended rules enabled)
+change_of (means.Biba revocation) (Revocation enabled) = (change_made, means.Biba enabled)
+change_of (means.Bsdextended rules first) (FirstMatch enabled) = (change_made, means.Bsdextended rules enabled)
 change_of (means.Bsdextended rules first) (RuleAdd rule) = with_new_rule rules first rule (position is_none rules)
-change_of (means.Bsdextended rules first) (RuleSet n rule) = (done, means.Bsdextended (slice_set rules n (Some rule)) first)
+change_of (means.Bsdextended rules first) (RuleSet n rule) = (change_made, means.Bsdextended (slice_set rules n (Some rule)) first)
 change_of (means.Bsdextended rules first) (RuleRemove n) = without_rule rules first n
-change_of (means.Seeotheruids _ _ _ _) (See (means.Seeotheruids primarygroup specific gid suser)) = (done, means.Seeotheruids primarygroup specific gid suser)
-change_of (means.Portacl _ _ _ _) (Port (means.Portacl rules port_high suser autoport)) = (done, means.Portacl rules port_high suser autoport)
+change_of (means.Seeotheruids _ _ _ _) (See (means.Seeotheruids primarygroup specific gid suser)) = (change_made, means.Seeotheruids primarygroup specific gid suser)
+change_of (means.Portacl _ _ _ _) (Port (means.Portacl rules port_high suser autoport)) = (change_made, means.Portacl rules port_high suser autoport)
 change_of spec change = (no_setting, spec)
 
 -- Of the listed policies

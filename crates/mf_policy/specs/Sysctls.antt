@@ -26,9 +26,9 @@ pub record SysctlRow : Type 0 where
   pub tunable : Bool
   pub asks : List ℕ → Spec → Option Change
 
--- the row of a setting that is no tunable, by the last part of its name
-abbrev pub row : Module → List ℕ → (List ℕ → Spec → Option Change) → SysctlRow
-row m leaf asks =
+-- a variable of sysctl(8), which is no tunable, by the last part of its name
+abbrev pub variable : Module → List ℕ → (List ℕ → Spec → Option Change) → SysctlRow
+variable m leaf asks =
     record { name = codes "security.mac." ++ policy_text m ++ codes "." ++ leaf; owner = m; tunable = false; asks = asks }
 
 -- off or on
@@ -41,30 +41,30 @@ abbrev pub see_settings : Spec → Option (Bool × Bool × ℕ × Bool)
 see_settings (means.Seeotheruids primarygroup specific gid suser) = Some (primarygroup, specific, gid, suser)
 see_settings other = None
 
-abbrev pub acl_settings : Spec → Option (List PortRule × ℕ × Bool × Bool)
-acl_settings (means.Portacl rules port_high suser autoport) = Some (rules, port_high, suser, autoport)
-acl_settings other = None
+abbrev pub portacl_settings : Spec → Option (List PortRule × ℕ × Bool × Bool)
+portacl_settings (means.Portacl rules port_high suser autoport) = Some (rules, port_high, suser, autoport)
+portacl_settings other = None
 
 -- the change that puts what a value is read as beside the other settings
 
 abbrev pub see : {A : Type 0} → (List ℕ → Option A) → (A → Bool → Bool → ℕ → Bool → Spec) → List ℕ → Spec → Option Change
 see read put value spec = option_and_then (λ s. option_map (λ x. See (put x s.0 s.1 s.2 s.3)) (read value)) (see_settings spec)
 
-abbrev pub acl : {A : Type 0} → (List ℕ → Option A) → (A → List PortRule → ℕ → Bool → Bool → Spec) → List ℕ → Spec → Option Change
-acl read put value spec = option_and_then (λ s. option_map (λ x. Port (put x s.0 s.1 s.2 s.3)) (read value)) (acl_settings spec)
+abbrev pub portacl : {A : Type 0} → (List ℕ → Option A) → (A → List PortRule → ℕ → Bool → Bool → Spec) → List ℕ → Spec → Option Change
+portacl read put value spec = option_and_then (λ s. option_map (λ x. Port (put x s.0 s.1 s.2 s.3)) (read value)) (portacl_settings spec)
 
 -- The table.
 abbrev pub sysctl_row : Sysctl → SysctlRow
-sysctl_row RevocationEnabled = record (row modules.Biba (codes "revocation_enabled") (λ value spec. option_map Revocation (switch value))) { tunable = true }
-sysctl_row FirstmatchEnabled = row modules.Bsdextended (codes "firstmatch_enabled") (λ value spec. option_map FirstMatch (switch value))
-sysctl_row PrimarygroupEnabled = row modules.Seeotheruids (codes "primarygroup_enabled") (see switch (λ on p s g u. means.Seeotheruids on s g u))
-sysctl_row SpecificgidEnabled = row modules.Seeotheruids (codes "specificgid_enabled") (see switch (λ on p s g u. means.Seeotheruids p on g u))
-sysctl_row Specificgid = row modules.Seeotheruids (codes "specificgid") (see (number 0 LAST_ID) (λ gid p s g u. means.Seeotheruids p s gid u))
-sysctl_row SuserPrivileged = row modules.Seeotheruids (codes "suser_privileged") (see switch (λ on p s g u. means.Seeotheruids p s g on))
-sysctl_row PortHigh = row modules.Portacl (codes "port_high") (acl (number 0 LAST_PORT) (λ port r h u a. means.Portacl r port u a))
-sysctl_row SuserExempt = row modules.Portacl (codes "suser_exempt") (acl switch (λ on r h u a. means.Portacl r h on a))
-sysctl_row AutoportExempt = row modules.Portacl (codes "autoport_exempt") (acl switch (λ on r h u a. means.Portacl r h u on))
-sysctl_row Rules = row modules.Portacl (codes "rules") (acl port_rules_in (λ rules r h u a. means.Portacl rules h u a))
+sysctl_row RevocationEnabled = record (variable modules.Biba (codes "revocation_enabled") (λ value spec. option_map Revocation (switch value))) { tunable = true }
+sysctl_row FirstmatchEnabled = variable modules.Bsdextended (codes "firstmatch_enabled") (λ value spec. option_map FirstMatch (switch value))
+sysctl_row PrimarygroupEnabled = variable modules.Seeotheruids (codes "primarygroup_enabled") (see switch (λ on p s g u. means.Seeotheruids on s g u))
+sysctl_row SpecificgidEnabled = variable modules.Seeotheruids (codes "specificgid_enabled") (see switch (λ on p s g u. means.Seeotheruids p on g u))
+sysctl_row Specificgid = variable modules.Seeotheruids (codes "specificgid") (see (number 0 LAST_ID) (λ gid p s g u. means.Seeotheruids p s gid u))
+sysctl_row SuserPrivileged = variable modules.Seeotheruids (codes "suser_privileged") (see switch (λ on p s g u. means.Seeotheruids p s g on))
+sysctl_row PortHigh = variable modules.Portacl (codes "port_high") (portacl (number 0 LAST_PORT) (λ port r h u a. means.Portacl r port u a))
+sysctl_row SuserExempt = variable modules.Portacl (codes "suser_exempt") (portacl switch (λ on r h u a. means.Portacl r h on a))
+sysctl_row AutoportExempt = variable modules.Portacl (codes "autoport_exempt") (portacl switch (λ on r h u a. means.Portacl r h u on))
+sysctl_row Rules = variable modules.Portacl (codes "rules") (portacl port_rules_in (λ rules r h u a. means.Portacl rules h u a))
 
 -- all of them
 abbrev pub all_sysctls : List Sysctl
@@ -75,7 +75,6 @@ all_sysctls =
 unfoldable pub sysctl_named : List ℕ → Option Sysctl
 sysctl_named name = find (λ s. bytes_eq (sysctl_row s).name name) all_sysctls
 
--- the change that a value asks for while these policies are listed; None for a tunable, where the module isn't listed, and for what is no value
+-- the change that a value asks for while these policies are listed; None where the module isn't listed, and for what is no value
 abbrev pub asked_of : Sysctl → List Entry → List ℕ → Option Change
-asked_of s listed value =
-    if (sysctl_row s).tunable then None else option_and_then ((sysctl_row s).asks value) (spec_in (sysctl_row s).owner listed)
+asked_of s listed value = option_and_then ((sysctl_row s).asks value) (spec_in (sysctl_row s).owner listed)

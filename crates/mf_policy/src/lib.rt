@@ -33,7 +33,7 @@ pub use operations::{Movement, PartitionTest, Row, Test, is_transfer, row_of};
 pub use policy::Policy;
 pub use registration::{MOST_LISTED, Registration};
 pub use relabel::{credential_relabel, object_relabel};
-pub use settings::{Change, Changed, change_acl, change_revocation, change_rules, change_see};
+pub use settings::{Change, Changed, change_portacl, change_revocation, change_rules, change_see};
 pub use spec::Spec;
 pub use spec_list::SpecList;
 pub use sysctl::{Sysctl, switch};

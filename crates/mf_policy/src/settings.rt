@@ -41,7 +41,7 @@ pub struct Changed {
 impl Changed {
     /// The change was made.
     pub fn done() -> Changed
-        ensures { result ≡ spec.done }
+        ensures { result ≡ spec.change_made }
     {
         Changed::with(Errno::Success, None)
     }
@@ -173,7 +173,7 @@ pub(crate) fn answer_of_see(change: &Change) -> Changed
 }
 
 /// Changes a setting of mac_portacl's policy.
-pub fn change_acl(
+pub fn change_portacl(
     rules: &mut PortRules,
     port_high: &mut u32,
     suser: &mut bool,
@@ -196,11 +196,11 @@ pub fn change_acl(
         *suser = *new_suser;
         *autoport = *new_autoport;
     }
-    answer_of_acl(change)
+    answer_of_portacl(change)
 }
 
 /// What mac_portacl's policy would answer to a change.
-pub(crate) fn answer_of_acl(change: &Change) -> Changed
+pub(crate) fn answer_of_portacl(change: &Change) -> Changed
     ensures { (rules port_high suser autoport : _) → result ≡ (spec.change_of (means.Portacl rules port_high suser autoport) change.now).0 }
 {
     match change {

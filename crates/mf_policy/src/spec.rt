@@ -7,8 +7,8 @@ ghost use Rattle.mf_policy.specs.IsChange.{IsChange};
 ghost use Rattle.std.specs.Option.{option_copied};
 
 use crate::settings::{
-    Change, Changed, answer_of_acl, answer_of_revocation, answer_of_rules, answer_of_see,
-    change_acl, change_revocation, change_rules, change_see,
+    Change, Changed, answer_of_portacl, answer_of_revocation, answer_of_rules, answer_of_see,
+    change_portacl, change_revocation, change_rules, change_see,
 };
 use mf_errno::Module;
 use mf_rule::{PortRules, RuleList, same_port_rules};
@@ -188,7 +188,7 @@ impl Spec {
             Spec::Bsdextended { rules, .. } => answer_of_rules(rules, change),
             Spec::Biba { .. } => answer_of_revocation(change),
             Spec::Seeotheruids { .. } => answer_of_see(change),
-            Spec::Portacl { .. } => answer_of_acl(change),
+            Spec::Portacl { .. } => answer_of_portacl(change),
             Spec::Mls | Spec::Lomac | Spec::Partition | Spec::Priority => Changed::no_setting(),
         }
     }
@@ -213,7 +213,7 @@ impl Spec {
                 port_high,
                 suser,
                 autoport,
-            } => Ok(change_acl(rules, port_high, suser, autoport, change)),
+            } => Ok(change_portacl(rules, port_high, suser, autoport, change)),
             Spec::Mls | Spec::Lomac | Spec::Partition | Spec::Priority => Ok(Changed::no_setting()),
         }
     }

@@ -98,14 +98,11 @@ impl Sysctl {
         matches!(self, Sysctl::RevocationEnabled)
     }
 
-    /// The change that a value asks for while these policies are listed. None for a tunable, where the setting's module isn't listed,
-    /// and for what is none of its values.
+    /// The change that a value asks for while these policies are listed. None where the setting's module isn't listed, and for what is
+    /// none of its values. It doesn't ask whether the setting is a tunable, which no call changes.
     pub fn asked_of(self, listed: &SpecList, value: &str) -> Option<Change>
         ensures { result ≡ spec.asked_of self listed.now value.now }
     {
-        if self.is_tunable() {
-            return None;
-        }
         match listed.spec_of(self.owner()) {
             Some(present) => self.asks(value, present),
             None => None,
@@ -136,20 +133,20 @@ impl Sysctl {
                 Some(see(primarygroup, specific, gid, switch(value)?))
             }
             Sysctl::PortHigh => {
-                let (rules, _, suser, autoport) = acl_settings(present)?;
-                Some(acl(rules, number(value, LAST_PORT)?, suser, autoport))
+                let (rules, _, suser, autoport) = portacl_settings(present)?;
+                Some(portacl(rules, number(value, LAST_PORT)?, suser, autoport))
             }
             Sysctl::SuserExempt => {
-                let (rules, port_high, _, autoport) = acl_settings(present)?;
-                Some(acl(rules, port_high, switch(value)?, autoport))
+                let (rules, port_high, _, autoport) = portacl_settings(present)?;
+                Some(portacl(rules, port_high, switch(value)?, autoport))
             }
             Sysctl::AutoportExempt => {
-                let (rules, port_high, suser, _) = acl_settings(present)?;
-                Some(acl(rules, port_high, suser, switch(value)?))
+                let (rules, port_high, suser, _) = portacl_settings(present)?;
+                Some(portacl(rules, port_high, suser, switch(value)?))
             }
             Sysctl::Rules => {
-                let (_, port_high, suser, autoport) = acl_settings(present)?;
-                Some(acl(&read_ports(value)?, port_high, suser, autoport))
+                let (_, port_high, suser, autoport) = portacl_settings(present)?;
+                Some(portacl(&read_ports(value)?, port_high, suser, autoport))
             }
         }
     }
@@ -202,9 +199,9 @@ fn see(primarygroup: bool, specific: bool, gid: u32, suser: bool) -> Change
 }
 
 /// The settings of mac_portacl's policy, where the spec is one of its.
-fn acl_settings(present: &Spec) -> Option<(&PortRules, u32, bool, bool)>
-    ensures { MatchOption result (spec.acl_settings present.now ≡ None)
-        (λ acl. spec.acl_settings present.now ≡ Some (acl.0.now, acl.1, acl.2, acl.3)) }
+fn portacl_settings(present: &Spec) -> Option<(&PortRules, u32, bool, bool)>
+    ensures { MatchOption result (spec.portacl_settings present.now ≡ None)
+        (λ s. spec.portacl_settings present.now ≡ Some (s.0.now, s.1, s.2, s.3)) }
 {
     match present {
         Spec::Portacl {
@@ -218,7 +215,7 @@ fn acl_settings(present: &Spec) -> Option<(&PortRules, u32, bool, bool)>
 }
 
 /// The change after which mac_portacl's policy has these settings.
-fn acl(rules: &PortRules, port_high: u32, suser: bool, autoport: bool) -> Change
+fn portacl(rules: &PortRules, port_high: u32, suser: bool, autoport: bool) -> Change
     ensures { result ≡ changes.Port (means.Portacl rules.now port_high suser autoport) }
 {
     Change::Port(Spec::Portacl {

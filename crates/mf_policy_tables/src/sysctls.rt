@@ -2,7 +2,7 @@
 
 use crate::asked::wants;
 use crate::ports::{Acl, See, acl, see};
-use Asked::{FirstMatch, Nothing, Ports, Sights};
+use Asked::{FirstMatch, Nothing, Ports, Revocation, Sights};
 use mf_errno::Module;
 use mf_policy::Sysctl::{
     self, AutoportExempt, FirstmatchEnabled, PortHigh, PrimarygroupEnabled, RevocationEnabled,
@@ -77,19 +77,21 @@ fn names_of_settings(rt: HostRuntime) {
     wants(&rt, "security.mac.portacl.enabled", none.is_none());
 }
 
-/// What a value asks for: nothing, or first match so, or these settings of mac_seeotheruids or of mac_portacl.
+/// What a value asks for: nothing, revocation or first match so, or these settings of mac_seeotheruids or of mac_portacl.
 #[derive(Clone, Copy)]
 enum Asked {
     Nothing,
+    Revocation(bool),
     FirstMatch(bool),
     Sights(See),
     Ports(Acl),
 }
 
 /// Values of settings, each with what it asks for where mac_seeotheruids and mac_portacl have `SEE` and `ACL`: the other
-/// settings stay, and the tunable isn't set any more.
-const VALUES: [(Sysctl, &str, Asked); 31] = [
-    (RevocationEnabled, "1", Nothing),
+/// settings stay.
+const VALUES: [(Sysctl, &str, Asked); 32] = [
+    (RevocationEnabled, "1", Revocation(true)),
+    (RevocationEnabled, "2", Nothing),
     (FirstmatchEnabled, "0", FirstMatch(false)),
     (FirstmatchEnabled, "1", FirstMatch(true)),
     (FirstmatchEnabled, "x", Nothing),
@@ -137,6 +139,7 @@ const ACL: Acl = (WWW, 99, false, true);
 fn is_asked(rt: &impl Abort, found: &Option<Change>, wanted: Asked) -> bool {
     match (found, wanted) {
         (None, Nothing) => true,
+        (Some(Change::Revocation(found)), Revocation(wanted)) => *found == wanted,
         (Some(Change::FirstMatch(found)), FirstMatch(wanted)) => *found == wanted,
         (Some(Change::See(found)), Sights(wanted)) => found.same(&see(wanted)),
         (Some(Change::Port(found)), Ports(wanted)) => found.same(&acl(rt, wanted)),

@@ -1,5 +1,6 @@
 //! Which ports a subject may bind a socket to: those above the guarded ones, and those that rules give it.
-ghost use Rattle.std.specs.Prelude.{◌≡◌, ◌&&◌};
+ghost use Rattle.std.specs.Prelude.{◌≡◌, ◌&&◌, ◌==◌, if◌then◌else◌, not};
+ghost use Rattle.mf_cred.specs.Groups.{in_group};
 ghost use Rattle.std.specs.List.{list_any};
 ghost use Rattle.mf_errno.specs.declared.module.Module.TheVariants as modules;
 ghost use Rattle.mf_policy.specs.Modules.{fresh_of};
@@ -10,12 +11,12 @@ use mf_cred::Cred;
 use mf_errno::{Errno, Module, Priv};
 use mf_item::{CheckOp, Item};
 use mf_policy::{
-    Change, Changed, LoadFlags, Policy, Spec, change_acl, errno_unless, flags_of, wants_slot,
+    Change, Changed, LoadFlags, Policy, Spec, change_portacl, errno_unless, flags_of, wants_slot,
 };
 use mf_rule::{PortRule, PortRules, same_port_rules};
 use std::alloc::{AllocError, Global};
 
-/// The greatest port that is guarded at first: with those up to it, which are the privileged ports of ip(4).
+/// The greatest port that is guarded at first. Those up to it are the privileged ports of ip(4).
 const LAST_GUARDED: u32 = 1023;
 
 /// The policy of mac_portacl(4): rules say which users and groups may bind a socket to which of the guarded ports. It labels
@@ -108,7 +109,7 @@ impl Policy for Portacl {
     }
 
     fn change(&mut self, _alloc: Global, change: &Change) -> Result<Changed, AllocError> {
-        Ok(change_acl(
+        Ok(change_portacl(
             &mut self.rules,
             &mut self.port_high,
             &mut self.suser,
@@ -124,28 +125,30 @@ impl Policy for Portacl {
 
 /// Whether a rule gives the subject the port.
 fn is_given(rules: &[PortRule], cred: &Cred, port: (bool, u16)) -> bool
-    ensures { result ≡ list_any (λ rule. spec.is_for port rule && spec.is_held_by cred.now rule) rules.now }
+    ensures { result ≡ list_any (λ rule. (if rule.tcp then port.0 else not port.0) && rule.port == port.1
+        && (if rule.group then in_group cred.now rule.id else cred.now.uid == rule.id)) rules.now }
 {
     rules.iter().any(|rule| gives(rule, cred, port))
 }
 
 /// Whether the rule gives the subject the port.
 fn gives(rule: &PortRule, cred: &Cred, port: (bool, u16)) -> bool
-    ensures { result ≡ (spec.is_for port rule.now && spec.is_held_by cred.now rule.now) }
+    ensures { result ≡ ((if rule.now.tcp then port.0 else not port.0) && rule.now.port == port.1
+        && (if rule.now.group then in_group cred.now rule.now.id else cred.now.uid == rule.now.id)) }
 {
     is_for(port, rule) && is_held_by(cred, rule)
 }
 
 /// Whether the rule is for the port.
 fn is_for(port: (bool, u16), rule: &PortRule) -> bool
-    ensures { result ≡ spec.is_for port rule.now }
+    ensures { result ≡ ((if rule.now.tcp then port.0 else not port.0) && rule.now.port == port.1) }
 {
     rule.tcp == port.0 && rule.port == port.1 as u32
 }
 
 /// Whether the rule is for the subject, by one of its groups or by its effective uid.
 fn is_held_by(cred: &Cred, rule: &PortRule) -> bool
-    ensures { result ≡ spec.is_held_by cred.now rule.now }
+    ensures { result ≡ (if rule.now.group then in_group cred.now rule.now.id else cred.now.uid == rule.now.id) }
 {
     if rule.group {
         cred.in_group(rule.id)

@@ -126,7 +126,7 @@ fn is_on_process(op: CheckOp) -> bool
     )
 }
 
-/// The primary group.
+/// The primary group; 0 where there is none.
 fn first_group(cred: &Cred) -> u32
     ensures { result ≡ slice_index_or cred.now.groups 0 0 }
 {
