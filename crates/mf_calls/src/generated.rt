@@ -158,7 +158,7 @@ fn load_lines(alloc: Global, task: u32, count: u32) -> Result<Listing<Line>, All
     let mut lines = Listing::new(alloc);
     let mut number = u64::from(task) + 1;
     for _line in 0..count {
-        number = number_after(number);
+        number = next_in_sequence(number);
         let call = load_call(alloc, task, number)?;
         lines.push(Line { child: None, call })?;
     }
@@ -166,7 +166,7 @@ fn load_lines(alloc: Global, task: u32, count: u32) -> Result<Listing<Line>, All
 }
 
 /// The number after this one in the sequence.
-fn number_after(number: u64) -> u64
+fn next_in_sequence(number: u64) -> u64
     requires { number < 2147483648 }
     ensures value { result ≡ next_in_sequence number }
     ensures below { result < 2147483648 }

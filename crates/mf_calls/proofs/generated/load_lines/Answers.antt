@@ -15,8 +15,8 @@ pub loop-line-preserved : goal.loop-line-preserved
 loop-line-preserved c =
     record {
       so_far =
-          line_more c.args.task c.loop-line._line c.loop-line.number c.number_after-number.result c.in_ok-call.call c.loop-line.lines c.push.new.self
-          c.loop-line.invariant.so_far c.loop-line.invariant.number c.number_after-number.ensures.value c.in_ok-call.ensures c.in_ok-push.ensures.ok;
-      number = c.number_after-number.ensures.value ∙ ap next_in_sequence c.loop-line.invariant.number ∙ sym (number_plus c.args.task c.loop-line._line);
-      below = c.number_after-number.ensures.below;
+          line_more c.args.task c.loop-line._line c.loop-line.number c.next_in_sequence-number.result c.in_ok-call.call c.loop-line.lines c.push.new.self
+          c.loop-line.invariant.so_far c.loop-line.invariant.number c.next_in_sequence-number.ensures.value c.in_ok-call.ensures c.in_ok-push.ensures.ok;
+      number = c.next_in_sequence-number.ensures.value ∙ ap next_in_sequence c.loop-line.invariant.number ∙ sym (number_plus c.args.task c.loop-line._line);
+      below = c.next_in_sequence-number.ensures.below;
     }
