@@ -1,5 +1,6 @@
 //! Which ports a subject may bind a socket to by mac_portacl(4).
-ghost use Rattle.std.specs.Prelude.{◌≡◌, ◌&&◌};
+ghost use Rattle.std.specs.Prelude.{◌≡◌, ◌&&◌, ◌==◌, if◌then◌else◌, not};
+ghost use Rattle.mf_cred.specs.Groups.{in_group};
 ghost use Rattle.std.specs.List.{list_any};
 ghost use Rattle.mf_policy.specs.Ports as spec;
 
@@ -51,28 +52,30 @@ fn may_bind(
 
 /// Whether a rule gives the subject the port.
 fn is_given(rules: &[PortRule], cred: &Cred, port: (bool, u16)) -> bool
-    ensures { result ≡ list_any (λ rule. spec.is_for port rule && spec.is_held_by cred.now rule) rules.now }
+    ensures { result ≡ list_any (λ rule. (if rule.tcp then port.0 else not port.0) && rule.port == port.1
+        && (if rule.group then in_group cred.now rule.id else cred.now.uid == rule.id)) rules.now }
 {
     rules.iter().any(|rule| gives(rule, cred, port))
 }
 
 /// Whether the rule gives the subject the port.
 fn gives(rule: &PortRule, cred: &Cred, port: (bool, u16)) -> bool
-    ensures { result ≡ (spec.is_for port rule.now && spec.is_held_by cred.now rule.now) }
+    ensures { result ≡ ((if rule.now.tcp then port.0 else not port.0) && rule.now.port == port.1
+        && (if rule.now.group then in_group cred.now rule.now.id else cred.now.uid == rule.now.id)) }
 {
     is_for(port, rule) && is_held_by(cred, rule)
 }
 
 /// Whether the rule is for the port, of TCP or else of UDP.
 fn is_for(port: (bool, u16), rule: &PortRule) -> bool
-    ensures { result ≡ spec.is_for port rule.now }
+    ensures { result ≡ ((if rule.now.tcp then port.0 else not port.0) && rule.now.port == port.1) }
 {
     rule.tcp == port.0 && rule.port == port.1 as u32
 }
 
 /// Whether the rule is for the subject, by one of its groups or by its effective uid.
 fn is_held_by(cred: &Cred, rule: &PortRule) -> bool
-    ensures { result ≡ spec.is_held_by cred.now rule.now }
+    ensures { result ≡ (if rule.now.group then in_group cred.now rule.now.id else cred.now.uid == rule.now.id) }
 {
     if rule.group {
         cred.in_group(rule.id)
