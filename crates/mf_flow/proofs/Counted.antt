@@ -33,7 +33,7 @@ use Rattle.mf_plan.specs.Lowering.{lowering}
 use Rattle.mf_plan.specs.Outline.{item_asking}
 use Rattle.mf_plan.specs.Plan.{row_for}
 use Rattle.mf_plan.specs.Rows.{about_of}
-use Rattle.mf_plan.proofs.Transfers.{AreThrough, opened_before, opening_of, through_descriptor}
+use Rattle.mf_plan.proofs.Transfers.{AreThrough, opened_before, operation_at_opening, through_descriptor}
 use Rattle.mf_plan.proofs.Transfers.AreThrough.{asks_none, asks_read, asks_write}
 use Rattle.mf_perform.specs.Passed.{passed}
 use Rattle.mf_perform.proofs.Granted.{IsGranted}
@@ -105,7 +105,7 @@ module _ (p : FlowPolicy) (flows : IsFlowPolicy p) (r : Registration) (o : Entit
 -- A transfer right behind its opening
 
 opens_so : (k : CheckOp) → is_transfer k ≡ true
-    → (is_transfer (opening_of k) ≡ false) × ((row_of (opening_of k)).movement ≡ (row_of k).movement)
+    → (is_transfer (operation_at_opening k) ≡ false) × ((row_of (operation_at_opening k)).movement ≡ (row_of k).movement)
 opens_so op.VnodeRead transfer = (refl, refl)
 opens_so op.VnodeWrite transfer = (refl, refl)
 opens_so other transfer = cc

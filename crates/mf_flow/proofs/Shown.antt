@@ -17,7 +17,7 @@ use Rattle.mf_plan.specs.Lowering.{each_lowered, lowering, while_lowered}
 use Rattle.mf_plan.specs.Outline.{item_asking}
 use Rattle.mf_plan.specs.Views.{object_of}
 use Rattle.mf_plan.proofs.LoweredChecks.{IsSameCheck, while_same}
-use Rattle.mf_plan.proofs.Transfers.{AreBehindOpenings, opening_of}
+use Rattle.mf_plan.proofs.Transfers.{AreBehindOpenings, operation_at_opening}
 use Rattle.mf_perform.specs.Passed.{passed}
 use Rattle.std.specs.Option.{option_map_or}
 
@@ -92,7 +92,7 @@ lowering_shown s me asked checks = one (lomac_slot s.specs)
 
 -- the check that opens a file for a transfer
 pub record Opens (opening item : Item) : Type 0 where
-  pub op : opening.op ≡ opening_of item.op
+  pub op : opening.op ≡ operation_at_opening item.op
   pub subject : opening.subject.id ≡ item.subject.id
   pub object : opening.object ≡ item.object
 
@@ -111,7 +111,7 @@ IsShownLast o (Some check) (Some item) = IsShown o check item
 IsShownLast o check item = ⊥
 
 shown_opens : (o : Entities) (check : Check) (item : Item) (last : Option Item) → IsShown o check item
-    → IsShownLast o (Some (record check { op = opening_of check.op })) last
+    → IsShownLast o (Some (record check { op = operation_at_opening check.op })) last
     → (opening : Item) × ((last ≡ Some opening) × Opens opening item)
 shown_opens o check item None shown first = absurd first
 shown_opens o check item (Some opening) shown first = (
@@ -119,7 +119,7 @@ shown_opens o check item (Some opening) shown first = (
   (
     refl,
     record {
-      op = first.op ∙ sym (ap opening_of shown.op);
+      op = first.op ∙ sym (ap operation_at_opening shown.op);
       subject = first.subject ∙ sym shown.subject;
       object = first.object ∙ sym shown.object;
     },

@@ -15,13 +15,12 @@ use crate::elem_set::ElemSet;
 use crate::moving::move_all;
 use crate::relabelling::{asked_of, give};
 use crate::set_list::{SetList, sweep};
-use crate::transfers::descriptor_of;
 use mf_calls::Script;
 use mf_core::{Event, Run};
 use mf_elem::{Elem, Request};
 use mf_objects::{Fd, Id, Objects};
 use mf_perform::passed;
-use mf_plan::{Check, LastLabel, State, outline_of};
+use mf_plan::{Check, LastLabel, State, descriptor_of_call, outline_of};
 use mf_policy::{Registration, slot_label};
 use std::alloc::{AllocError, Global};
 
@@ -73,7 +72,7 @@ pub fn follow(
             let lent = reply.lend();
             let said = lent.get();
             let checks = passed(said, outline.checks.as_slice());
-            let fd = descriptor_of(state, name, child, &line.call);
+            let fd = descriptor_of_call(state, name, child, &line.call);
             move_in_each(alloc, state, &fd, checks, flows)?;
             let asked = asked_of(said, &outline);
             run.commit(alloc, *task, *number, &outline.found, reply)?;

@@ -1,44 +1,20 @@
 //! Which transfers through descriptors count as movements.
-ghost use Rattle.std.specs.Option.{option_copied, option_eq};
-ghost use Rattle.std.specs.Prelude.{◌≡◌, ◌<◌, option_and_then, IfSome};
+ghost use Rattle.std.specs.Option.{option_eq};
+ghost use Rattle.std.specs.Prelude.{◌≡◌, ◌<◌};
 ghost use Rattle.mf_elem.specs.declared.label.TheConstants.{SLOTS};
 ghost use Rattle.mf_policy.specs.Answer.{object_slot, range_label};
 ghost use Rattle.mf_list.specs.Asked.{slot_of};
-ghost use Rattle.mf_calls.specs.WellFormed.{IsName};
-ghost use Rattle.mf_plan.specs.Found.{descriptor_at};
-ghost use Rattle.mf_plan.specs.Names.{caller_name};
 ghost use Rattle.mf_plan.specs.Outline.{item_of};
-ghost use Rattle.mf_plan.specs.Rows.{about_of};
-ghost use Rattle.mf_plan.specs.Views.{process_named};
 ghost use Rattle.mf_flow.specs.Order as order;
 ghost use Rattle.mf_flow.specs.Transfers as spec;
 
 use crate::effective::element_at;
 use crate::order::compare;
-use mf_calls::Call;
 use mf_elem::{Elem, LabelValue};
 use mf_errno::Module;
 use mf_objects::{Fd, Objects};
-use mf_plan::{Check, State, descriptor_of_call};
+use mf_plan::{Check, State};
 use mf_policy::{Registration, SpecList, slot_label};
-
-/// The descriptor that a call of the task's own process, or of its child of that name, goes through. Few calls go through one:
-/// so who calls is looked up for these alone. The clause says so of every call by its place, so a call that is new and goes
-/// through one is refused here until it has its line.
-pub fn descriptor_of(state: &State, task: &str, child: Option<&str>, call: &Call) -> Option<Fd>
-    requires task { IsName task.now }
-    requires child { IfSome (option_copied child) IsName }
-    ensures { result ≡ option_and_then
-        (λ me. descriptor_at state.now me (about_of state.now task.now me call.now).place)
-        (process_named state.now.objects (caller_name task.now (option_copied child.entry))) }
-{
-    match call {
-        Call::Fread(_) | Call::Fwrite(..) | Call::Close(_) => {
-            descriptor_of_call(state, task, child, call)
-        }
-        _ => None,
-    }
-}
 
 /// Whether a check of a call that goes through this descriptor, or through none, counts for the policy.
 pub fn counts(registration: &Registration, state: &State, fd: &Option<Fd>, check: &Check) -> bool

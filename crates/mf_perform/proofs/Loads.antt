@@ -31,7 +31,7 @@ use Rattle.mf_plan.specs.Plan.{row_for}
 use Rattle.mf_plan.specs.declared.reply.Payload.TheVariants as payload
 use Rattle.mf_plan.specs.Row.{Row, changes, refuse_by, through, returns}
 use Rattle.mf_plan.specs.Rows.{about_of}
-use Rattle.mf_plan.specs.Settings.{asked_named, is_tunable, owner_named, unless_success}
+use Rattle.mf_plan.specs.Settings.{is_tunable, owner_named, unless_success}
 use Rattle.mf_policy.specs.Settings.{change_in}
 use Rattle.mf_calls.specs.Tasks.{is_change}
 use Rattle.mf_perform.specs.declared.relisting.Relisting.{Relisting}
@@ -131,7 +131,8 @@ relisting_is s task me (call.Kldunload name) change done =
     told_module (module_named name) (λ m. ToUnload m) (λ m. Unload m) (λ m. refl)
     ∙ found_module [] (about_of s task me (call.Kldunload name)).row (λ m. Unload m) (λ m. refl) (module_named name) done
 relisting_is s task me (call.Sysctl name value) change done =
-    set_there s me (λ asked. changes (Set asked.0 asked.1)) (λ asked. refl) (is_tunable s.specs name) (owner_named name) (asked_named s.specs name value) done
+    set_there s me (λ asked. changes (Set asked.0 asked.1)) (λ asked. refl) (is_tunable s.specs name) (owner_named name)
+    (option_and_then (λ v. if (sysctl_row v).tunable then None else asked_of v s.specs value) (sysctl_named name)) done
 relisting_is s task me (call.UgidfwAdd rule) change done =
     set_there s me (λ asked. returns (option_map_or payload.Rule (change_in asked.0 asked.1 s.specs).0.number payload.None) (Set asked.0 asked.1))
     (λ asked. refl) false (Some modules.Bsdextended) (Some (RuleAdd rule)) done

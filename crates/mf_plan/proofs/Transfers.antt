@@ -33,14 +33,14 @@ use Rattle.mf_plan.specs.Ways.{At, Place, Way, allows, asking, carrying, opened_
 use Rattle.mf_plan.specs.Ways.Place.{File, Free, Entry, Sockets, Asking}
 
 -- the operation that opens a file for this one; itself where it transfers nothing
-abbrev pub opening_of : CheckOp → CheckOp
-opening_of op.VnodeRead = op.VnodeOpenRead
-opening_of op.VnodeWrite = op.VnodeOpenWrite
-opening_of other = other
+abbrev pub operation_at_opening : CheckOp → CheckOp
+operation_at_opening op.VnodeRead = op.VnodeOpenRead
+operation_at_opening op.VnodeWrite = op.VnodeOpenWrite
+operation_at_opening other = other
 
 -- a transfer stands right behind the check that opens the same file for the same subject
 abbrev pub IsBehindOpening : Option Check → Check → Type 0
-IsBehindOpening last check = is_transfer check.op ≡ true → last ≡ Some (record check { op = opening_of check.op })
+IsBehindOpening last check = is_transfer check.op ≡ true → last ≡ Some (record check { op = operation_at_opening check.op })
 
 -- each of the checks does, which come after this one
 abbrev pub AreBehindOpenings : Option Check → List Check → Type 0

@@ -21,6 +21,6 @@ by_itself me op = record { op = op; caller = me; subject = me; object = None; pr
 abbrev pub by_socket : Id → Id → CheckOp → Id → Check
 by_socket me socket op id = record { op = op; caller = me; subject = socket; object = Some id; privilege = None; port = None }
 
--- the check of a binding of a socket of the caller's to a port, of TCP or else of UDP
+-- the check of a binding of a socket to a port, of TCP or else of UDP
 abbrev pub binding : Id → Bool → ℕ → Id → Check
 binding me tcp port id = record (on me op.SocketBind id) { port = Some (tcp, port) }

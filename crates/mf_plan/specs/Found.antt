@@ -73,16 +73,16 @@ is_setting (Setting tunable m change) = true
 is_setting other = false
 
 -- of which kind the entity is that a call is about, which it names
-abbrev pub kind_at : Place → Option Kind
-kind_at (Named kind name) = Some kind
-kind_at (Unused kind name) = Some kind
-kind_at (File path) = Some kinds.Vnode
-kind_at (Free path) = Some kinds.Vnode
-kind_at (Entry path) = Some kinds.Vnode
-kind_at (Opened access n) = Some kinds.Vnode
-kind_at (Sockets from to) = Some kinds.Socket
-kind_at (Asking kind text place) = Some kind
-kind_at other = None
+abbrev pub kind_of_place : Place → Option Kind
+kind_of_place (Named kind name) = Some kind
+kind_of_place (Unused kind name) = Some kind
+kind_of_place (File path) = Some kinds.Vnode
+kind_of_place (Free path) = Some kinds.Vnode
+kind_of_place (Entry path) = Some kinds.Vnode
+kind_of_place (Opened access n) = Some kinds.Vnode
+kind_of_place (Sockets from to) = Some kinds.Socket
+kind_of_place (Asking kind text place) = Some kind
+kind_of_place other = None
 
 -- the change of a setting, where there is a setting of the name and it has such a value
 abbrev pub asked_change : Place → Option (Module × Change)

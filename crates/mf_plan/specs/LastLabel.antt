@@ -9,6 +9,6 @@ abbrev pub kept_with : List ℕ → List ℕ → List ℕ
 kept_with last text = if nat_le (length text) MOST_KEPT then text else last
 
 -- the kept text after a call about this place
-abbrev pub kept_at : List ℕ → Place → List ℕ
-kept_at last (Asking kind text place) = kept_with last text
-kept_at last other = last
+abbrev pub kept_after : List ℕ → Place → List ℕ
+kept_after last (Asking kind text place) = kept_with last text
+kept_after last other = last

@@ -5,7 +5,7 @@
 -- A row is read from the left: `ask` is a check, `refuse_if` and `refuse_by` a test of the framework that ends the call with an errno, and
 -- `returns`, `shows`, `changes` and `does_nothing` the end of a call that may be done.
 use Rattle.std.specs.Option.{option_map_or}
-use Rattle.std.specs.Prelude.{ℕ, ◌==◌, Bool, true, false, nat_le, nat_lt, not, List, [], length, map, option_map, Some}
+use Rattle.std.specs.Prelude.{ℕ, ◌==◌, Bool, true, false, if◌then◌else◌, nat_le, nat_lt, not, List, [], length, map, None, option_and_then, option_map, Some}
 use Rattle.mf_errno.specs.declared.errno.Errno.TheVariants as errno
 use Rattle.mf_errno.specs.declared.module.Module.{Module}
 use Rattle.mf_item.specs.declared.operation.CheckOp.TheVariants as op
@@ -25,6 +25,7 @@ use Rattle.mf_policy.specs.Loading.{load_errno, load_fault, unload_errno, unload
 use Rattle.mf_policy.specs.Modules.{wants_slot}
 use Rattle.mf_policy.specs.Registration.{slot_for, slot_in}
 use Rattle.mf_policy.specs.Settings.{change_in, listed_rules}
+use Rattle.mf_policy.specs.Sysctls.{asked_of, sysctl_named, sysctl_row}
 use Rattle.mf_policy.specs.declared.settings.Change.{Change}
 use Rattle.mf_policy.specs.declared.settings.Change.TheVariants.{RuleAdd, RuleSet, RuleRemove}
 use Rattle.mf_item.specs.declared.view.Kind.TheVariants as kinds
@@ -38,7 +39,7 @@ use Rattle.mf_plan.specs.declared.state.State.{State}
 use Rattle.mf_plan.specs.Checks.{binding, on, for_privilege, by_itself, by_socket}
 use Rattle.mf_plan.specs.Names.{child_name}
 use Rattle.mf_plan.specs.Path.{last_name}
-use Rattle.mf_plan.specs.Settings.{asked_named, is_tunable, owner_named, unless_success}
+use Rattle.mf_plan.specs.Settings.{is_tunable, owner_named, unless_success}
 use Rattle.mf_plan.specs.Views.{is_dir, overfills}
 use Rattle.mf_plan.specs.Payloads.{head, names, message, label, loaded}
 use Rattle.mf_plan.specs.Effect.Effect.{Make, Append, Deliver, Empty, Receive, SetMode, Open, Close, Unlink, End, Load, Unload, Set}
@@ -157,7 +158,8 @@ about_of s task me (call.Kldload name) = about s me (Loading name) (λ m.
     (returns (payload.Slot (slot_for (wants_slot m) s.numbers)) (Load m))))
 about_of s task me (call.Kldunload name) = about s me (Unloading name) (λ m. refuse_by (option_map unload_errno (unload_fault s.specs m)) (changes (Unload m)))
 about_of s task me (call.Sysctl name value) =
-    about s me (Setting (is_tunable s.specs name) (owner_named name) (asked_named s.specs name value)) (set s payload.None)
+    about s me (Setting (is_tunable s.specs name) (owner_named name)
+    (option_and_then (λ v. if (sysctl_row v).tunable then None else asked_of v s.specs value) (sysctl_named name))) (set s payload.None)
 about_of s task me call.UgidfwList = about s me (Listed modules.Bsdextended) (λ listed. shows (option_map_or payload.Rules (listed_rules s.specs) payload.None))
 about_of s task me (call.UgidfwAdd rule) = about s me (of_rules (RuleAdd rule)) (λ asked.
     set s (option_map_or payload.Rule (change_in asked.0 asked.1 s.specs).0.number payload.None) asked)

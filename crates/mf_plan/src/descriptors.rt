@@ -76,7 +76,8 @@ fn descriptor_at(state: &State, caller: Id, call: &Call) -> Option<Fd>
     }
 }
 
-/// The descriptor that a call of the task's own process, or of its child of that name, goes through.
+/// The descriptor that a call of the task's own process, or of its child of that name, goes through. Few calls go through one: so
+/// who calls is looked up for these alone.
 pub fn descriptor_of_call(state: &State, task: &str, child: Option<&str>, call: &Call) -> Option<Fd>
     requires task { IsName task.now }
     requires child { IfSome (option_copied child) IsName }
@@ -85,8 +86,13 @@ pub fn descriptor_of_call(state: &State, task: &str, child: Option<&str>, call: 
         (process_named state.now.objects (caller_name task.now (option_copied child.entry))) }
     ensures file { IfSome result (λ fd. IsLive is_regular state.now.objects fd.file) }
 {
-    let caller = caller_of(&state.objects, task, child)?;
-    descriptor_at(state, caller, call)
+    match call {
+        Call::Fread(_) | Call::Fwrite(..) | Call::Close(_) => {
+            let caller = caller_of(&state.objects, task, child)?;
+            descriptor_at(state, caller, call)
+        }
+        _ => None,
+    }
 }
 
 /// What mac_biba has in its slot of an entity's label.

@@ -50,7 +50,7 @@ impl LastLabel {
     /// Keeps the label text of the call, where it has one. One that is too long isn't kept.
     pub fn keep(&mut self, call: &Call)
         ensures { (state : State) → (task : List ℕ) → (me : Id)
-            → self.new ≡ spec.kept_at self.old (about_of state task me call.now).place }
+            → self.new ≡ spec.kept_after self.old (about_of state task me call.now).place }
     {
         match call {
             Call::Setpmac(label)

@@ -9,7 +9,7 @@ ghost use Rattle.mf_objects.specs.declared.id.Id.{Id};
 ghost use Rattle.mf_objects.specs.Live.{live_at};
 ghost use Rattle.mf_plan.specs.Checks as check;
 ghost use Rattle.mf_plan.specs.Ended.{end_by, ended_by};
-ghost use Rattle.mf_plan.specs.Found.{AreFound, asked_at, kind_at, target_at};
+ghost use Rattle.mf_plan.specs.Found.{AreFound, asked_at, kind_of_place, target_at};
 ghost use Rattle.mf_plan.specs.Outline as outlines;
 ghost use Rattle.mf_plan.specs.Plan as spec;
 ghost use Rattle.mf_plan.specs.Names.{caller_name};
@@ -209,7 +209,7 @@ fn ask_for(
 /// Of which kind the entity is that the call is about, where it names one. The clause says so of every call.
 fn kind_of(call: &Call) -> Option<Kind>
     ensures { (state : State) → (task : List ℕ) → (me : Id)
-        → result ≡ kind_at (about_of state task me call.now).place }
+        → result ≡ kind_of_place (about_of state task me call.now).place }
 {
     match call {
         Call::Fork(_) | Call::Setpmac(_) => Some(Process),
@@ -228,8 +228,8 @@ fn kind_of(call: &Call) -> Option<Kind>
     }
 }
 
-/// The same of a call about a process that it names, or about the caller's own label. By its kind no call comes to the last arm, here and
-/// below.
+/// The checks of a call about a process that it names or makes, or about the caller's own label, and what it finds. By its kind no
+/// call comes to the last arm, here and below.
 fn ask_on_process(
     state: &State,
     task: &str,
@@ -241,7 +241,7 @@ fn ask_on_process(
 ) -> Result<Option<Id>, Errno>
     requires task { IsName task.now }
     requires formed { IsFormedCall call.now }
-    requires kind { kind_at (about_of state.now task.now caller call.now).place ≡ Some kinds.Process }
+    requires kind { kind_of_place (about_of state.now task.now caller call.now).place ≡ Some kinds.Process }
     requires empty { checks.old ≡ [] }
     requires unasked { asked.old ≡ None }
     requires asking { outlines.IsAsking state.now.objects caller checks.old }
@@ -277,7 +277,7 @@ fn ask_on_file(
     asked: &mut Option<Request>,
 ) -> Result<Option<Id>, Errno>
     requires formed { IsFormedCall call.now }
-    requires kind { kind_at (about_of state.now _task.now caller call.now).place ≡ Some kinds.Vnode }
+    requires kind { kind_of_place (about_of state.now _task.now caller call.now).place ≡ Some kinds.Vnode }
     requires empty { checks.old ≡ [] }
     requires unasked { asked.old ≡ None }
     requires asking { outlines.IsAsking state.now.objects caller checks.old }
@@ -323,7 +323,7 @@ fn ask_on_pipe(
     asked: &mut Option<Request>,
 ) -> Result<Option<Id>, Errno>
     requires formed { IsFormedCall call.now }
-    requires kind { kind_at (about_of state.now _task.now caller call.now).place ≡ Some kinds.Pipe }
+    requires kind { kind_of_place (about_of state.now _task.now caller call.now).place ≡ Some kinds.Pipe }
     requires empty { checks.old ≡ [] }
     requires unasked { asked.old ≡ None }
     requires asking { outlines.IsAsking state.now.objects caller checks.old }
@@ -358,7 +358,7 @@ fn ask_on_socket(
     asked: &mut Option<Request>,
 ) -> Result<Option<Id>, Errno>
     requires formed { IsFormedCall call.now }
-    requires kind { kind_at (about_of state.now _task.now caller call.now).place ≡ Some kinds.Socket }
+    requires kind { kind_of_place (about_of state.now _task.now caller call.now).place ≡ Some kinds.Socket }
     requires empty { checks.old ≡ [] }
     requires unasked { asked.old ≡ None }
     requires asking { outlines.IsAsking state.now.objects caller checks.old }
@@ -396,7 +396,7 @@ fn ask_on_none(
 ) -> Result<Option<Id>, Errno>
     requires task { IsName task.now }
     requires formed { IsFormedCall call.now }
-    requires kind { kind_at (about_of state.now task.now caller call.now).place ≡ None }
+    requires kind { kind_of_place (about_of state.now task.now caller call.now).place ≡ None }
     requires empty { checks.old ≡ [] }
     requires asking { outlines.IsAsking state.now.objects caller checks.old }
     ensures row { ended_by checks.new result ≡ end_by state.now task.now caller call.now }

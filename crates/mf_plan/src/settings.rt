@@ -1,5 +1,6 @@
 //! Calls that change a policy's setting.
-ghost use Rattle.std.specs.Prelude.{◌≡◌, ℕ, true, List, [], IfOk, IfSome, IsSome, None, Some};
+ghost use Rattle.std.specs.Prelude.{◌≡◌, ℕ, true, List, [], IfOk, IfSome, IsSome, None, Some, if◌then◌else◌, option_and_then};
+ghost use Rattle.mf_policy.specs.Sysctls.{asked_of, sysctl_named, sysctl_row};
 ghost use Rattle.mf_calls.specs.WellFormed.{IsFormedCall};
 ghost use Rattle.mf_policy.specs.IsChange.{IsChange};
 ghost use Rattle.mf_objects.specs.declared.id.Id.{Id};
@@ -23,8 +24,8 @@ use mf_objects::Id;
 use mf_policy::{Change, Sysctl};
 
 /// The change of a setting that the call asks for in this state, and of which module's. None where no module has a setting of that
-/// name, where it is a tunable, where it has no such value, and for a call that changes none. Whether the module is listed, and the
-/// change is refused, is the plan's matter.
+/// name, where it is a tunable, where its module isn't listed, where it has no such value, and for a call that changes none. Whether
+/// the change is refused is the plan's matter.
 pub fn asked_change(state: &State, call: &Call) -> Option<(Module, Change)>
     ensures value { (task : List ℕ) → (me : Id)
         → result ≡ asked_change (about_of state.now task me call.now).place }
@@ -56,7 +57,8 @@ fn is_tunable_named(state: &State, name: &str) -> bool
 
 /// The change that a value asks of the setting of that name, which is no tunable.
 fn asked_named(state: &State, name: &str, value: &str) -> Option<Change>
-    ensures value { result ≡ spec.asked_named state.now.specs name.now value.now }
+    ensures value { result ≡ option_and_then (λ s. if (sysctl_row s).tunable then None
+        else asked_of s state.now.specs value.now) (sysctl_named name.now) }
     ensures change { IfSome result IsChange }
 {
     match Sysctl::from_name(name) {

@@ -46,7 +46,7 @@ use Rattle.mf_plan.specs.Effect.Effect.{Unchanged, Make, Append, Deliver, Empty,
 use Rattle.mf_plan.specs.Plan.{row_for}
 use Rattle.mf_plan.specs.Row.{Row, through}
 use Rattle.mf_plan.specs.Rows.{about_of, new_file}
-use Rattle.mf_plan.specs.Settings.{asked_named, is_tunable, owner_named}
+use Rattle.mf_plan.specs.Settings.{is_tunable, owner_named}
 use Rattle.mf_plan.specs.Ways.{At, way_to}
 use Rattle.mf_plan.specs.Views.{is_dir, overfills, process_named}
 use Rattle.mf_plan.proofs.LookingUp.{last_entry}
@@ -60,7 +60,7 @@ use Rattle.mf_reading.proofs.Bounded.{AreBounded, HoldsBounded, IsBoundedData, I
 use Rattle.mf_reading.proofs.Contents.{cred_fits, file_fits, no_cred_fits, no_file_fits, no_text}
 use Rattle.mf_reading.proofs.Holding.{HasRoom, Keeps, KeepsFirst, added_bounded, appending, changed_bounded, clearing, describing, entry_goes, first_lowered, held_lowered, moding, process_goes, receiving, relabelling, removed_bounded, sending, unlinked_bounded}
 use Rattle.mf_reading.proofs.Lists.{by_place}
-use Rattle.mf_reading.proofs.Rules.{IsFormedChange, asked_formed, fresh_bounded, specs_changed}
+use Rattle.mf_reading.proofs.Rules.{IsFormedChange, asked_formed, asked_named, fresh_bounded, specs_changed}
 use Rattle.mf_text.specs.Results.{and_then}
 
 -- Names at the end of a path

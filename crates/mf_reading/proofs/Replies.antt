@@ -18,7 +18,7 @@ use Rattle.mf_policy.specs.declared.spec.Spec.{Spec}
 use Rattle.mf_policy.specs.declared.spec.Spec.TheVariants as means
 use Rattle.mf_policy.specs.Modules.{wants_slot}
 use Rattle.mf_policy.specs.Registration.{Entry, is_of}
-use Rattle.mf_policy.specs.Settings.{change_in, change_of, done, file_rules, listed_rules, no_setting, with_new_rule}
+use Rattle.mf_policy.specs.Settings.{change_in, change_of, change_made, file_rules, listed_rules, no_setting, with_new_rule}
 use Rattle.mf_policy.proofs.ByEntry.{change_at}
 use Rattle.mf_rule.specs.RuleList.{Slots}
 use Rattle.mf_list.proofs.Counts.{listed_few}
@@ -102,7 +102,7 @@ change_number (means.Bsdextended slots first) (RuleAdd rule) fits = one (positio
     one (Some n) is = omega (arith, (position-Some is_none slots n None is).0, fits.all)
 change_number (means.Bsdextended slots first) (RuleRemove n) fits =
     either_way (λ (c : Changed × Spec). IfSome c.0.number (λ n. n < 2 ^ 32)) (is_none (slice_index_or slots n None)) (no_setting, means.Bsdextended slots first)
-    (done, means.Bsdextended (slice_set slots n None) first) tt tt
+    (change_made, means.Bsdextended (slice_set slots n None) first) tt tt
 change_number (means.Bsdextended slots first) other fits = tt
 change_number (means.Biba revocation) (Revocation enabled) fits = tt
 change_number (means.Seeotheruids _ _ _ _) (See (means.Seeotheruids _ _ _ _)) fits = tt

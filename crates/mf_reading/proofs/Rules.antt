@@ -13,8 +13,8 @@ use Rattle.mf_policy.specs.declared.spec.Spec.{Spec}
 use Rattle.mf_policy.specs.declared.spec.Spec.TheVariants as means
 use Rattle.mf_policy.specs.Modules.{fresh_of}
 use Rattle.mf_policy.specs.Registration.{Entry, is_of}
-use Rattle.mf_policy.specs.Settings.{change_in, change_of, done, no_setting, with_new_rule, with_spec, without_rule}
-use Rattle.mf_policy.specs.Sysctls.{asked_of, sysctl_row}
+use Rattle.mf_policy.specs.Settings.{change_in, change_of, change_made, no_setting, with_new_rule, with_spec, without_rule}
+use Rattle.mf_policy.specs.Sysctls.{asked_of, sysctl_named, sysctl_row}
 use Rattle.mf_policy.specs.declared.sysctl.Sysctl.{Sysctl}
 use Rattle.mf_policy.specs.declared.sysctl.Sysctl.TheVariants as sysctl
 use Rattle.mf_policy.proofs.ByEntry.{change_at}
@@ -22,7 +22,6 @@ use Rattle.mf_rule.specs.RuleGrammar.{IsRule}
 use Rattle.mf_rule.specs.RuleList.{Slots}
 use Rattle.mf_rule.specs.declared.rule.Rule.{Rule}
 use Rattle.mf_rule.specs.declared.rule_list.TheConstants.{MAX_RULES}
-use Rattle.mf_plan.specs.Settings.{asked_named}
 use Rattle.mf_hist.specs.Lines.{AreRules}
 use Rattle.mf_reading.proofs.Bounded.{AreBoundedSpecs, IsBoundedSpec}
 use Rattle.mf_reading.proofs.Lists.{all_found, either_way}
@@ -62,6 +61,10 @@ named_formed : (listed : List Entry) (value : List ℕ) (s : Sysctl) → IfSome 
 named_formed listed value sysctl.RevocationEnabled = tt
 named_formed listed value other = then_formed _ _ (row_formed other value)
 
+-- the change that a value asks of the setting of a name, which is no tunable
+abbrev pub asked_named : List Entry → List ℕ → List ℕ → Option Change
+asked_named listed name value = option_and_then (λ s. if (sysctl_row s).tunable then None else asked_of s listed value) (sysctl_named name)
+
 pub asked_formed : (listed : List Entry) (name value : List ℕ) → IfSome (asked_named listed name value) IsFormedChange
 asked_formed listed name value = search (then_formed, named_formed)
 
@@ -79,7 +82,7 @@ rule_added rules first rule (Some n) formed fits = slot_set rules n (Some rule) 
 rule_removed : (rules : Slots) (first : Bool) (n : ℕ) → AreRules rules → IsBoundedSpec (without_rule rules first n).1
 rule_removed rules first n fits =
     either_way (λ (c : Changed × Spec). IsBoundedSpec c.1) (is_none (slice_index_or rules n None)) (no_setting, means.Bsdextended rules first)
-    (done, means.Bsdextended (slice_set rules n None) first) fits (slot_set rules n None tt fits)
+    (change_made, means.Bsdextended (slice_set rules n None) first) fits (slot_set rules n None tt fits)
 
 change_bounded : (spec : Spec) (change : Change) → IsFormedChange change → IsBoundedSpec spec → IsBoundedSpec (change_of spec change).1
 change_bounded (means.Bsdextended rules first) (RuleAdd rule) formed fits = rule_added rules first rule (position is_none rules) formed fits

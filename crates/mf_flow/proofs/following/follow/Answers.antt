@@ -41,7 +41,7 @@ returns-in_ok-commit-in-Done-clause-flows c =
     let request = outline.found.request in
     let caller = outline.found.caller in
     let asked = c.asked_of-asked.result in
-    let fd = c.descriptor_of-fd.result in
+    let fd = c.descriptor_of_call-fd.result in
     let next = c.next_id-next.result in
     let next_is = done_line s run e c.in-Done.task c.in-Done.number c.in-Done.reply line c.in-Done.is c.requires.may c.line_at-line.ensures in
     let said_is = c.get-said.ensures ∙ c.lend-lent.ensures in
@@ -58,7 +58,7 @@ returns-in_ok-commit-in-Done-clause-flows c =
     ∙ ap (λ (child : Option (List ℕ)). passed c.in-Done.reply (plan_in state (call_row state task child line.call)).items) c.child_name-child.ensures in
     let caller_is = c.outline_of-outline.ensures.caller ∙ ap (λ (child : Option (List ℕ)). process_named state.objects (caller_name task child)) c.child_name-child.ensures in
     let fd_is : fd ≡ descriptor_of state task line =
-    c.descriptor_of-fd.ensures ∙ ap (λ (child : Option (List ℕ)). descriptor_of state task (record line { child = child })) c.child_name-child.ensures in
+    c.descriptor_of_call-fd.ensures.value ∙ ap (λ (child : Option (List ℕ)). descriptor_of state task (record line { child = child })) c.child_name-child.ensures in
     let asked_is =
     c.asked_of-asked.ensures ∙ ap (λ (said : Reply). after_reply said None (option_zip outline.found.target request)) said_is
     ∙ done_asked s run e c.in-Done.task c.in-Done.number c.in-Done.reply state task line outline.found c.in-Done.is c.requires.may c.state-state.ensures c.name_of-name.ensures next_is
@@ -80,7 +80,7 @@ returns-in_ok-commit-in-Done-clause-flows c =
 pub settle_each-requires : goal.settle_each-requires
 settle_each-requires c =
     let s = c.state-state.result.now in
-    all_becoming (λ (f new : Flow). new ≡ flow_moved s c.descriptor_of-fd.result (map (item_of s.objects) c.passed-checks.result.now) f) HasSlot HasSlot c.args.flows.now.items c.move_in_each.new.flows.items
+    all_becoming (λ (f new : Flow). new ≡ flow_moved s c.descriptor_of_call-fd.result (map (item_of s.objects) c.passed-checks.result.now) f) HasSlot HasSlot c.args.flows.now.items c.move_in_each.new.flows.items
     (λ f new is slot. subst HasSlot (sym is) slot) c.in_ok-move_in_each-in-Done.ensures c.requires.slots
 
 pub returns-in-Enter-clause-flows : goal.returns-in-Enter-clause-flows

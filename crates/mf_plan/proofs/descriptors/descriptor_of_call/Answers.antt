@@ -9,7 +9,7 @@ use Rattle.mf_plan.specs.Names.{caller_name}
 use Rattle.mf_plan.specs.Rows.{about_of}
 use Rattle.mf_plan.specs.Views.{process_named}
 use Rattle.std.specs.Option.{option_copied}
-use Rattle.mf_flow.proofs.transfers.descriptor_of.Goals as goal
+use Rattle.mf_plan.proofs.descriptors.descriptor_of_call.Goals as goal
 
 -- other calls go through none
 none_through : (s : State) (task : List ℕ) (c : Call) → ((n : ℕ) → c ≡ call.Fread n → ⊥) → ((n : ℕ) (text : List ℕ) → c ≡ call.Fwrite n text → ⊥)
@@ -19,8 +19,8 @@ none_through s task (call.Fwrite n text) reads writes closes me = absurd (writes
 none_through s task (call.Close n) reads writes closes me = absurd (closes n refl)
 none_through s task other reads writes closes me = refl
 
-pub returns-in_default : goal.returns-in_default
-returns-in_default c = one (process_named c.args.state.now.objects (caller_name c.args.task.now (option_copied c.args.child)))
+pub returns-in_default-clause-value : goal.returns-in_default-clause-value
+returns-in_default-clause-value c = one (process_named c.args.state.now.objects (caller_name c.args.task.now (option_copied c.args.child)))
   where
     one : (caller : Option Id) → None ≡ option_and_then (λ me. descriptor_at c.args.state.now me (about_of c.args.state.now c.args.task.now me c.args.call.now).place) caller
     one None = refl
