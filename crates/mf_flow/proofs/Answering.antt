@@ -1,9 +1,9 @@
 -- A listed policy that answers as a policy with an order does: what of the checks that passed it allows itself, and what they see.
-use Rattle.std.proofs.Common.{◌≡◌, ℕ, ◌<◌, Bool, true, false, cond, not, ◌&&◌, List, [], ◌∷◌, length, Option, Some, None, slice_index_or, refl, ap, sym, ◌∙◌, subst}
+use Rattle.std.proofs.Common.{◌≡◌, ℕ, ◌<◌, Bool, true, false, List, [], ◌∷◌, length, Option, Some, None, slice_index_or, refl, ap, sym, ◌∙◌, subst}
 use Rattle.std.specs.List.{AllByRecursion}
 use Rattle.mf_errno.specs.declared.errno.Errno.TheVariants.{Success}
 use Rattle.mf_errno.specs.declared.module.Module.{Module}
-use Rattle.mf_errno.specs.declared.module.Module.TheVariants.{Biba, Lomac, Mls}
+use Rattle.mf_errno.specs.declared.module.Module.TheVariants.{Biba}
 use Rattle.mf_elem.specs.declared.label.TheConstants.{SLOTS}
 use Rattle.mf_elem.specs.declared.label.LabelValue.{LabelValue}
 use Rattle.mf_elem.specs.declared.label.LabelValue.TheVariants.{Unset}
@@ -12,7 +12,7 @@ use Rattle.mf_item.specs.declared.view.Kind.{Kind}
 use Rattle.mf_policy.specs.declared.registration.Registration.{Registration}
 use Rattle.mf_policy.specs.declared.spec.Spec.{Spec}
 use Rattle.mf_policy.specs.declared.spec.Spec.TheVariants as means
-use Rattle.mf_policy.specs.Answer.{answer, biba, lattice_answer, lomac, mls, part_of, range_label, tests_transfers}
+use Rattle.mf_policy.specs.Answer.{answer, lattice_answer, part_of, range_label, tests_transfers}
 use Rattle.mf_policy.specs.Modules.{facts_of, module_of}
 use Rattle.mf_policy.specs.Operations.{is_transfer}
 use Rattle.mf_policy.specs.Registration.{Entry, holds_slot}
@@ -57,29 +57,6 @@ untested_biba other passes = cc
 pub biba_keeps : (p : FlowPolicy) (m : Module) → Remains p m → m ≡ Biba → ((subject object : _) → p.remains subject object ≡ subject)
 biba_keeps p m (lowers lomac sinks) biba = cc
 biba_keeps p m (keeps apart same) biba = same
-
--- Answers
-
--- those of each spec of the three modules
-
-pub biba_answers : (spec : Spec) (slot : ℕ) (item : Item) → module_of spec ≡ Biba → IsTested spec item
-    → answer spec slot item ≡ lattice_answer biba slot item
-biba_answers (means.Biba revocation) slot item of tested = one (is_transfer item.op) revocation tested
-  where
-    one : (transfer revocation : Bool) → (transfer ≡ true → revocation ≡ true)
-        → cond (transfer && not revocation) Success (lattice_answer biba slot item) ≡ lattice_answer biba slot item
-    one false revocation tested = refl
-    one true true tested = refl
-    one true false tested = let none : false ≡ true = tested refl in cc
-biba_answers other slot item of tested = cc
-
-pub mls_answers : (spec : Spec) (slot : ℕ) (item : Item) → module_of spec ≡ Mls → answer spec slot item ≡ lattice_answer mls slot item
-mls_answers means.Mls slot item of = refl
-mls_answers other slot item of = cc
-
-pub lomac_answers : (spec : Spec) (slot : ℕ) (item : Item) → module_of spec ≡ Lomac → answer spec slot item ≡ lattice_answer lomac slot item
-lomac_answers means.Lomac slot item of = refl
-lomac_answers other slot item of = cc
 
 passed_allowed : (p : FlowPolicy) → IsFlowPolicy p → (r : Registration) (item : Item) → lattice_answer p.lattice (slot_of r) item ≡ Success
     → IsAllowed p r item

@@ -135,8 +135,8 @@ abbrev pub payload_of_found : {A : Type 0} → (A → Payload) → Option A → 
 payload_of_found read found = option_map_or read found payload.None
 
 -- the parts of a label that are of these modules
-abbrev pub parts_of : List Entry → Kind → List LabelValue → List Module → List LabelPart
-parts_of listed kind label modules = filter_map (label_part listed label) (filter (λ m. labels_kind m kind) modules)
+abbrev pub label_parts_of : List Entry → Kind → List LabelValue → List Module → List LabelPart
+label_parts_of listed kind label modules = filter_map (label_part listed label) (filter (λ m. labels_kind m kind) modules)
 
 -- the slot that a module gets where so many numbers were given
 abbrev pub slot : ℕ → Option Module → Payload

@@ -8,7 +8,7 @@ ghost use Rattle.mf_policy.specs.Relabelled.{relabelled_value};
 ghost use Rattle.mf_plan.specs.Payloads as spec;
 ghost use Rattle.mf_objects.specs.declared.id.Id.{Id};
 ghost use Rattle.mf_perform.specs.Effect.{after, takes_memory};
-ghost use Rattle.mf_perform.specs.Found.{parts_of, relabelling};
+ghost use Rattle.mf_perform.specs.Found.{label_parts_of, relabelling};
 ghost use Rattle.mf_perform.specs.Suits.{Suits};
 
 use mf_cred::ArrayVec;
@@ -47,7 +47,7 @@ fn push_part(
     parts: &mut ArrayVec<LabelPart, SLOTS>,
 )
     requires { length parts.old < SLOTS }
-    ensures parts { parts.new ≡ parts.old ++ parts_of specs.now kind label.now («module» ∷ []) }
+    ensures parts { parts.new ≡ parts.old ++ label_parts_of specs.now kind label.now («module» ∷ []) }
     ensures few { length parts.new ≤ length parts.old + 1 }
 {
     if !labels_kind(module, kind) {
