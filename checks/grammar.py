@@ -93,7 +93,7 @@ VALUES = {
 def settings():
     """The first cells of each row of the table of settings."""
     for body in re.findall(r"(?m)^sysctl_row \w+ = (.*)", SYSCTLS):
-        module, leaf = re.search(r'row modules\.(\w+) \(codes "(\w+)"\)', body).groups()
+        module, leaf = re.search(r'variable modules\.(\w+) \(codes "(\w+)"\)', body).groups()
         values = next(values for read, values in VALUES.items() if re.search(rf"\b{read}\b", body))
         yield [f"`security.mac.{module.lower()}.{leaf}`", f"mac_{module.lower()}", values]
 
