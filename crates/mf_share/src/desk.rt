@@ -1,5 +1,5 @@
 //! The value behind the kernel's lock: the core, with the books of lines done and of open entries.
-ghost use Rattle.std.specs.Prelude.{◌≡◌, ◌<◌, ◌++◌, true, false, IfOk, IsOk, IfErr, IfNone, IfSome, IsTrue, OnErr, Some};
+ghost use Rattle.std.specs.Prelude.{◌≡◌, ◌<◌, ◌++◌, ◌↔◌, true, false, IfOk, IsOk, IfErr, IfNone, IfSome, IsTrue, OnErr, Some};
 ghost use Rattle.mf_calls.specs.declared.limits.TheConstants.{TASK_LIMIT};
 ghost use Rattle.mf_plan.specs.declared.reply.Payload.TheVariants as payload;
 ghost use Rattle.mf_plan.specs.declared.reply.Reply.{Reply};
@@ -226,32 +226,58 @@ impl<'s, J: Job, B: Ledger> Desk<'s, J, B> {
         ensures core { IsCoreOf J.script self.old }
     {
         let _history = self.core.history();
-        let task = pass.task;
-        let lines = pass.lines;
-        if self.core.turn(task) != Turn::Change || self.core.lines(task) != lines {
+        if !self.agrees_with(pass)
+            || !Listed::new(fixed, &policies.list).same_specs(&self.core.state().specs)
+        {
             return Ok(None);
         }
-        if !Listed::new(fixed, &policies.list).same_specs(&self.core.state().specs) {
-            return Ok(None);
-        }
-        match self.core.change(
-            alloc,
-            task,
-            fixed,
-            &mut policies.list,
-            &mut policies.catalogue,
-        ) {
+        Ok(Some(self.make_change(alloc, pass, fixed, policies)?))
+    }
+
+    /// Whether the core agrees with a pass whose next line is a change.
+    fn agrees_with(&self, pass: &Pass<J, B>) -> bool
+        requires turn { pass_turn J.script pass.now ≡ turn.Change }
+        ensures { IsTrue result ↔ AgreesWithPass self.now pass.now }
+    {
+        let _history = self.core.history();
+        self.core.turn(pass.task) == Turn::Change && self.core.lines(pass.task) == pass.lines
+    }
+
+    /// Makes the change, and notes it in the pass and among the lines done.
+    fn make_change<P: Policy>(
+        &mut self,
+        alloc: Global,
+        pass: &mut Pass<J, B>,
+        fixed: &Fixed<P>,
+        policies: &mut Policies<P, J>,
+    ) -> Result<ChangeOutcome, AllocError>
+        requires fixed { fixed.now ≡ static_of J.script }
+        requires out { pass.old.out ≡ false }
+        requires turn { pass_turn J.script pass.old ≡ turn.Change }
+        requires agrees { AgreesWithPass self.old pass.old }
+        requires listed { fixed.now ++ policies.old.list ≡ specs_of self.old }
+        ensures ok { IfOk result (λ outcome. Changes self.old pass.old.task outcome self.new
+            × (fixed.now ++ policies.new.list ≡ specs_of self.new)
+            × StaysWhileWaiting outcome policies.old.list policies.new.list policies.old.catalogue policies.new.catalogue
+            × (pass.new ≡ pass_changed outcome pass.old)) }
+        ensures err { OnErr result ((self.new ≡ self.old) × (policies.new ≡ policies.old)
+            × (pass.new ≡ record pass.old { stopped = true })) }
+        ensures memory { (reply : Reply)
+            → next_reply self.old.script (run_state self.old) pass.old.task ≡ Some reply
+            → is_ok reply ≡ false → IsOk result }
+    {
+        let _history = self.core.history();
+        let (list, catalogue) = (&mut policies.list, &mut policies.catalogue);
+        let outcome = self.core.change(alloc, pass.task, fixed, list, catalogue);
+        match outcome {
             Ok(ChangeOutcome::Done) => {
                 self.done.add(&mut pass.done, 1);
                 pass.lines += 1;
-                Ok(Some(ChangeOutcome::Done))
             }
-            Ok(ChangeOutcome::Waits(open)) => Ok(Some(ChangeOutcome::Waits(open))),
-            Err(error) => {
-                pass.stopped = true;
-                Err(error)
-            }
+            Ok(ChangeOutcome::Waits(_)) => {}
+            Err(_) => pass.stopped = true,
         }
+        outcome
     }
 }
 
