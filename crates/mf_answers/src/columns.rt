@@ -1,5 +1,6 @@
 //! The table of operations, a column a function: what policies test for each.
 ghost use Rattle.std.specs.Prelude.{◌≡◌};
+ghost use Rattle.mf_policy.specs.Lowering.{observes};
 ghost use Rattle.mf_policy.specs.Operations.{is_transfer, row_of};
 ghost use Rattle.mf_policy.specs.Ports.{is_on_process};
 
@@ -133,5 +134,24 @@ pub fn is_on_process(op: CheckOp) -> bool
     matches!(
         op,
         CheckOp::ProcVisible | CheckOp::ProcSignal | CheckOp::ProcDebug | CheckOp::ProcSched
+    )
+}
+
+/// Whether information moves from the object to the subject.
+pub fn moves_to_subject(op: CheckOp) -> bool
+    ensures { result ≡ observes (row_of op).movement }
+{
+    matches!(
+        op,
+        CheckOp::VnodeLookup
+            | CheckOp::VnodeOpenRead
+            | CheckOp::VnodeRead
+            | CheckOp::VnodeExec
+            | CheckOp::VnodeStat
+            | CheckOp::VnodeReaddir
+            | CheckOp::PipeRead
+            | CheckOp::PipeStat
+            | CheckOp::SocketReceive
+            | CheckOp::ProcDebug
     )
 }

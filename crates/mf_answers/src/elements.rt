@@ -172,7 +172,7 @@ fn is_equal(element: &Elem) -> bool
 }
 
 /// The label that a slot's value is read as; without an element it counts as unset.
-fn range_label(value: &LabelValue) -> RangeLabel
+pub fn range_label(value: &LabelValue) -> RangeLabel
     ensures { result ≡ spec.range_label value.now }
 {
     match value {

@@ -6,12 +6,14 @@ mod answering;
 mod binding;
 mod columns;
 mod elements;
+mod granting;
+mod lowering;
 mod partitions;
 mod relabels;
 mod rules;
 mod seeing;
-#[cfg(test)]
-mod tests;
 mod views;
 
 pub use answering::answer;
+pub use granting::grants;
+pub use lowering::lowered_by;
