@@ -1,0 +1,15 @@
+pub mod Answers
+pub mod BootSlots
+pub mod Booting
+pub mod Checks
+pub mod Comparing
+pub mod FewLines
+pub mod Going
+pub mod LastName
+pub mod Lines
+pub mod Playing
+pub mod Replying
+pub mod Slots
+pub mod Through
+pub mod Turns
+pub mod Walks

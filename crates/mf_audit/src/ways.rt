@@ -1,0 +1,243 @@
+//! What a call is about, where it isn't named by a path, and what it asks of a label.
+ghost use Rattle.std.specs.Option.{ok_or};
+ghost use Rattle.std.specs.Prelude.{◌≡◌, ◌<◌, if◌then◌else◌, is_some, IfOk, IfSome, IsSome, Err, Ok, []};
+ghost use Rattle.mf_errno.specs.declared.errno.Errno.TheVariants as errno;
+ghost use Rattle.mf_item.specs.declared.view.Kind.TheVariants as kinds;
+ghost use Rattle.mf_objects.specs.declared.id.Id.{Id};
+ghost use Rattle.mf_objects.specs.Live.{live_at};
+ghost use Rattle.mf_plan.specs.Relabels.{claimed_in};
+ghost use Rattle.mf_plan.specs.Views.{entity_named, process_named};
+ghost use Rattle.mf_plan.specs.Names.{child_name};
+ghost use Rattle.mf_plan.specs.Ways as ways;
+ghost use Rattle.mf_plan.specs.Ways.Place.{Asking, File, Loading, Named, Sockets, Unloading};
+ghost use Rattle.mf_plan.specs.Ways.{way_to};
+ghost use Rattle.mf_plan.specs.declared.descriptors.Access.TheVariants as access;
+ghost use Rattle.mf_policy.specs.Registration.{is_listed};
+ghost use Rattle.mf_policy.specs.IsChange.{IsChange};
+ghost use Rattle.mf_audit.specs.Ends.{Leads};
+
+use crate::kernel::Kernel;
+use crate::paths::file;
+use crate::walk::Walk;
+use mf_elem::Request;
+use mf_errno::{Errno, Module, Priv};
+use mf_item::{CheckOp, Kind};
+use mf_labeltext::read_request;
+use mf_names::{Name, Path, Word};
+use mf_parties::{OpenFile, PartyId};
+use mf_policy::Change;
+
+/// The process, pipe or socket of a name.
+pub(crate) fn named(kernel: &Kernel, kind: Kind, name: &Name) -> Result<PartyId, Errno>
+    ensures there { result ≡ ok_or (entity_named kernel.now.objects kind name.now)
+        (ways.missing kind) }
+    ensures live { IfOk result (λ id. IsSome (live_at kernel.now.objects id)) }
+{
+    let found = kernel.parties.named(kind, name.as_str());
+    found.ok_or(missing(kind))
+}
+
+/// The errno where none has the name.
+fn missing(kind: Kind) -> Errno
+    ensures { result ≡ ways.missing kind }
+{
+    match kind {
+        Kind::Process => Errno::Esrch,
+        Kind::Vnode | Kind::Pipe | Kind::Socket => Errno::Enoent,
+    }
+}
+
+/// Whether no pipe, or no socket, has the name yet.
+pub(crate) fn unused(kernel: &Kernel, kind: Kind, name: &Name) -> Result<(), Errno>
+    ensures { result ≡ (if is_some (entity_named kernel.now.objects kind name.now)
+        then Err errno.Eexist else Ok (tt {0})) }
+{
+    match kernel.parties.named(kind, name.as_str()) {
+        Some(_) => Err(Errno::Eexist),
+        None => Ok(()),
+    }
+}
+
+/// Whether the task has no child of the name yet.
+pub(crate) fn unused_child(kernel: &Kernel, task: &str, child: &Name) -> Result<(), Errno>
+    ensures { result ≡ (if is_some (process_named kernel.now.objects
+        (child_name task.now child.now)) then Err errno.Eexist else Ok (tt {0})) }
+{
+    match kernel.parties.child_named(task, child.as_str()) {
+        Some(_) => Err(Errno::Eexist),
+        None => Ok(()),
+    }
+}
+
+/// Whether a module is listed.
+pub(crate) fn listed(kernel: &Kernel, module: Module) -> Result<(), Errno>
+    ensures { result ≡ (if is_listed «module» kernel.now.specs
+        then Ok (tt {0}) else Err errno.Enoent) }
+{
+    if kernel.listed.is_listed(module) {
+        Ok(())
+    } else {
+        Err(Errno::Enoent)
+    }
+}
+
+/// The file on which the caller has a descriptor of that number, which is open for reading.
+pub(crate) fn opened_for_reading(kernel: &Kernel, me: PartyId, n: u32) -> Result<PartyId, Errno>
+    ensures there { result ≡ ok_or (ways.opened_file_at kernel.now.objects me access.Reading n)
+        errno.Ebadf }
+    ensures live { IfOk result (λ id. IsSome (live_at kernel.now.objects id)) }
+{
+    match kernel.parties.fd(me, n) {
+        Some(fd) if fd.read => Ok(fd.file),
+        _ => Err(Errno::Ebadf),
+    }
+}
+
+/// That on which it has one that is open for writing.
+pub(crate) fn opened_for_writing(kernel: &Kernel, me: PartyId, n: u32) -> Result<PartyId, Errno>
+    ensures there { result ≡ ok_or (ways.opened_file_at kernel.now.objects me access.Writing n)
+        errno.Ebadf }
+    ensures live { IfOk result (λ id. IsSome (live_at kernel.now.objects id)) }
+{
+    match kernel.parties.fd(me, n) {
+        Some(fd) if fd.write => Ok(fd.file),
+        _ => Err(Errno::Ebadf),
+    }
+}
+
+/// That on which it has any.
+pub(crate) fn opened(kernel: &Kernel, me: PartyId, n: u32) -> Result<PartyId, Errno>
+    ensures { result ≡ ok_or (ways.opened_file_at kernel.now.objects me access.Any n) errno.Ebadf }
+{
+    match kernel.parties.fd(me, n) {
+        Some(fd) => Ok(fd.file),
+        None => Err(Errno::Ebadf),
+    }
+}
+
+/// A socket, and another that it reaches. The other is looked up after the check of the sender.
+pub(crate) fn sockets(
+    kernel: &Kernel,
+    walk: &mut Walk,
+    me: PartyId,
+    from: &Name,
+    to: &Name,
+) -> Result<(PartyId, PartyId), Errno>
+    requires few { walk.old.asked < 50 }
+    requires caller { IsSome (live_at kernel.now.objects me) }
+    ensures way { Leads kernel.now me (way_to kernel.now me (Sockets from.now to.now)) walk.old
+        walk.new result }
+    ensures from { IfOk result (λ ends. IsSome (live_at kernel.now.objects ends.0)) }
+    ensures to { IfOk result (λ ends. IsSome (live_at kernel.now.objects ends.1)) }
+    ensures few { walk.new.asked < 100 }
+{
+    let from = named(kernel, Kind::Socket, from)?;
+    walk.on(kernel, me, CheckOp::SocketSend, from);
+    let to = named(kernel, Kind::Socket, to)?;
+    Ok((from, to))
+}
+
+/// The module of a name, to be loaded.
+pub(crate) fn loading(
+    kernel: &Kernel,
+    walk: &mut Walk,
+    me: PartyId,
+    name: &Word,
+) -> Result<Module, Errno>
+    requires few { walk.old.asked < 50 }
+    requires caller { IsSome (live_at kernel.now.objects me) }
+    ensures way { Leads kernel.now me (way_to kernel.now me (Loading name.now)) walk.old walk.new
+        result }
+    ensures few { walk.new.asked < 100 }
+{
+    walk.privilege(kernel, me, Priv::KldLoad);
+    Module::from_name(name.as_str()).ok_or(Errno::Enoent)
+}
+
+/// The module of a name, to be unloaded.
+pub(crate) fn unloading(
+    kernel: &Kernel,
+    walk: &mut Walk,
+    me: PartyId,
+    name: &Word,
+) -> Result<Module, Errno>
+    requires few { walk.old.asked < 50 }
+    requires caller { IsSome (live_at kernel.now.objects me) }
+    ensures way { Leads kernel.now me (way_to kernel.now me (Unloading name.now)) walk.old walk.new
+        result }
+    ensures few { walk.new.asked < 100 }
+{
+    walk.privilege(kernel, me, Priv::KldUnload);
+    walk.by_itself(kernel, me, CheckOp::KldUnload);
+    Module::from_name(name.as_str()).ok_or(Errno::Enoent)
+}
+
+/// The module whose setting is changed, and the change. Root alone changes one, and a tunable nobody.
+pub(crate) fn setting(
+    kernel: &Kernel,
+    me: PartyId,
+    tunable: bool,
+    module: Option<Module>,
+    change: Option<Change>,
+) -> Result<(Module, Change), Errno>
+    ensures there { result ≡ ways.setting_found kernel.now me tunable «module» change }
+    ensures change { IfSome change IsChange → IfOk result (λ asked. IsChange asked.1) }
+{
+    if !kernel.parties.cred(me).is_root() || tunable {
+        return Err(Errno::Eperm);
+    }
+    let module = module.ok_or(Errno::Enoent)?;
+    if !kernel.listed.is_listed(module) {
+        return Err(Errno::Enoent);
+    }
+    let change = change.ok_or(Errno::Einval)?;
+    Ok((module, change))
+}
+
+/// What a label text asks of the label of an entity of that kind.
+pub(crate) fn claimed(kernel: &Kernel, kind: Kind, text: &Word) -> Result<Request, Errno>
+    ensures { result ≡ ok_or (claimed_in kernel.now.specs kind text.now) errno.Einval }
+{
+    match read_request(text.as_str()) {
+        Ok(request) if kernel.listed.claims(kind, &request) => Ok(request),
+        _ => Err(Errno::Einval),
+    }
+}
+
+/// What a label text asks of a file or directory, and that.
+pub(crate) fn asked_file(
+    kernel: &Kernel,
+    walk: &mut Walk,
+    me: PartyId,
+    text: &Word,
+    path: &Path,
+) -> Result<(Request, PartyId), Errno>
+    requires few { walk.old.asked < 50 }
+    requires caller { IsSome (live_at kernel.now.objects me) }
+    ensures way { Leads kernel.now me (way_to kernel.now me
+        (Asking kinds.Vnode text.now (File path.now))) walk.old walk.new result }
+    ensures live { IfOk result (λ asked. IsSome (live_at kernel.now.objects asked.1)) }
+    ensures few { walk.new.asked < 100 }
+{
+    let request = claimed(kernel, Kind::Vnode, text)?;
+    let id = file(kernel, walk, me, path)?;
+    Ok((request, id))
+}
+
+/// What a label text asks of a pipe or a socket, and that.
+pub(crate) fn asked_named(
+    kernel: &Kernel,
+    kind: Kind,
+    text: &Word,
+    name: &Name,
+) -> Result<(Request, PartyId), Errno>
+    ensures there { (me : Id) → result ≡ (way_to kernel.now me
+        (Asking kind text.now (Named kind name.now))).there }
+    ensures none { (me : Id) → (way_to kernel.now me (Asking kind text.now
+        (Named kind name.now))).checks ≡ [] }
+    ensures live { IfOk result (λ asked. IsSome (live_at kernel.now.objects asked.1)) }
+{
+    let request = claimed(kernel, kind, text)?;
+    let id = named(kernel, kind, name)?;
+    Ok((request, id))
+}
