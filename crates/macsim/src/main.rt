@@ -1,5 +1,5 @@
 //! Runs the script on the standard input, by threads or by its steps, or a generated load, and prints the history and its
-//! sources, or the summary, on the standard output.
+//! sources, or the summary, on the standard output; or tells whether what is there is a script and the text of a run of it.
 #![tactic(auto)]
 
 ghost use Rattle.std.specs.Prelude.{◌≡◌, ◌⊎◌, List, ℕ, map, Some, Result, IfOk, OnErr, string_bytes};
@@ -8,6 +8,7 @@ ghost use Rattle.mf_top.specs.declared.refusal.Refusal.{Refusal};
 ghost use Rattle.mf_top.specs.declared.command.Command.TheVariants as command;
 ghost use Rattle.mf_top.specs.Commands.{command_of};
 ghost use Rattle.mf_top.specs.Answers.{WroteHistory, WroteSummary, IsOutcome, IsWritten, IsFaultless};
+ghost use Rattle.mf_top.specs.Check.{WroteYes};
 ghost use Rattle.mf_top.specs.Steps.{WroteSteps};
 
 use mf_biba::Biba;
@@ -63,6 +64,10 @@ fn run<S: Source, K: Sink, R: Threads + Wait + Sync>(
     ensures steps { IfOk result (λ status.
         command_of (map string_bytes words.now) ≡ Some command.Step → status ≡ 0
         → WroteSteps (seen S.left S.faults source.old source.new)
+        (seen K.taken K.faults sink.old sink.new)) }
+    ensures check { IfOk result (λ status.
+        command_of (map string_bytes words.now) ≡ Some command.Check → status ≡ 0
+        → WroteYes (seen S.left S.faults source.old source.new)
         (seen K.taken K.faults sink.old sink.new)) }
     ensures load { IfOk result (λ status. (lines tasks : ℕ)
         → command_of (map string_bytes words.now) ≡ Some (command.Gen lines tasks) → status ≡ 0

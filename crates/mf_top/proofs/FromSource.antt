@@ -8,9 +8,10 @@ use Rattle.mf_script.specs.Outcome.{IsScriptOf}
 use Rattle.mf_spelled.proofs.FirstFault.{scripts_texts}
 use Rattle.mf_names.specs.declared.limits.TheConstants.{SCRIPT_LIMIT}
 use Rattle.mf_io.specs.Outside.{Seen, HadNoFault}
-use Rattle.mf_top.specs.Answers.{IsRunOf, IsRunOutcome, IsSourceRefusal}
+use Rattle.mf_top.specs.Answers.{IsRunOutcome, IsSourceRefusal}
 use Rattle.mf_top.specs.Reading.{IsWhole}
 use Rattle.mf_top.specs.Refusals.{script_refusal}
+use Rattle.mf_top.specs.Runs.{IsRunOf}
 use Rattle.mf_top.specs.Scripts.{IsRead}
 
 module _ (source : Seen) (bytes : List ℕ) (quiet : HadNoFault source) (whole : IsWhole source.before source.after bytes) (few : length bytes ≤ SCRIPT_LIMIT) where

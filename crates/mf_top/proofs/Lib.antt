@@ -1,6 +1,7 @@
 pub mod Pieces
 pub mod Known
 pub mod NoFaults
+mod Checked
 mod Complete
 pub mod Modules
 pub mod Whole

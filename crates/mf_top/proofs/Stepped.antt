@@ -11,6 +11,8 @@ pub step_refusal : (source : Seen) (refused : Refusal) → IsSourceRefusal sourc
 step_refusal source refusal.Usage cause = absurd cause
 step_refusal source (refusal.Script line fault errno) cause = cause
 step_refusal source (refusal.Step number) cause = absurd cause
+step_refusal source (refusal.Fails line) cause = absurd cause
+step_refusal source refusal.Header cause = absurd cause
 step_refusal source refusal.ReadFault cause = cause
 step_refusal source refusal.TooLong cause = cause
 step_refusal source refusal.Memory cause = cause
@@ -21,5 +23,7 @@ stepped source s (Err (refusal.Step number)) read is = (read.0, (read.1.0, read.
 stepped source s (Err refusal.Memory) read is = read.0
 stepped source s (Err refusal.Usage) read is = absurd is
 stepped source s (Err (refusal.Script line fault errno)) read is = absurd is
+stepped source s (Err (refusal.Fails line)) read is = absurd is
+stepped source s (Err refusal.Header) read is = absurd is
 stepped source s (Err refusal.ReadFault) read is = absurd is
 stepped source s (Err refusal.TooLong) read is = absurd is

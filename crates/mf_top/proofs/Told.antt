@@ -5,21 +5,29 @@ use Rattle.mf_top.specs.declared.refusal.Refusal.{Refusal}
 use Rattle.mf_top.specs.declared.refusal.Refusal.TheVariants as refusal
 use Rattle.mf_top.specs.declared.command.Command.{Command}
 use Rattle.mf_top.specs.declared.command.Command.TheVariants as command
-use Rattle.mf_top.specs.Answers.{IsOutcomeOf, TellsOfScript}
+use Rattle.mf_top.specs.Answers.{IsOutcomeOf, HasNumber}
 use Rattle.mf_top.specs.Refusals.{IsTold, IsToldOutcome}
 
-memory_too : (asked : Option Command) (source : Seen) (r : Refusal) → TellsOfScript r → IsOutcomeOf asked source (Err r) → IsOutcomeOf asked source (Err refusal.Memory)
+memory_too : (asked : Option Command) (source : Seen) (r : Refusal) → HasNumber r → IsOutcomeOf asked source (Err r) → IsOutcomeOf asked source (Err refusal.Memory)
 memory_too None source (refusal.Script line fault errno) is cause = absurd cc
 memory_too (Some command.Run) source (refusal.Script line fault errno) is cause = cause.0
 memory_too (Some command.Step) source (refusal.Script line fault errno) is cause = cause.0
+memory_too (Some command.Check) source (refusal.Script line fault errno) is cause = cause.0
 memory_too (Some (command.Gen lines tasks)) source (refusal.Script line fault errno) is cause = absurd cause.0
 memory_too None source (refusal.Step number) is cause = absurd cc
 memory_too (Some command.Run) source (refusal.Step number) is cause = absurd cause
 memory_too (Some command.Step) source (refusal.Step number) is cause = cause.0
+memory_too (Some command.Check) source (refusal.Step number) is cause = cause.0
 memory_too (Some (command.Gen lines tasks)) source (refusal.Step number) is cause = absurd cause.0
+memory_too None source (refusal.Fails line) is cause = absurd cc
+memory_too (Some command.Run) source (refusal.Fails line) is cause = absurd cause
+memory_too (Some command.Step) source (refusal.Fails line) is cause = absurd cause
+memory_too (Some command.Check) source (refusal.Fails line) is cause = cause.0
+memory_too (Some (command.Gen lines tasks)) source (refusal.Fails line) is cause = absurd cause.0
 memory_too asked source refusal.Usage is cause = absurd is
 memory_too asked source refusal.ReadFault is cause = absurd is
 memory_too asked source refusal.TooLong is cause = absurd is
+memory_too asked source refusal.Header is cause = absurd is
 memory_too asked source refusal.Memory is cause = absurd is
 
 told_refusal : (asked : Option Command) (source : Seen) (r told : Refusal) → IsTold r told → IsOutcomeOf asked source (Err r) → IsOutcomeOf asked source (Err told)

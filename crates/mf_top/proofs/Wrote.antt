@@ -5,14 +5,18 @@ use Rattle.mf_top.specs.declared.refusal.Refusal.{Refusal}
 use Rattle.mf_top.specs.declared.refusal.Refusal.TheVariants as refusal
 use Rattle.mf_top.specs.declared.command.Command.{Command}
 use Rattle.mf_top.specs.declared.command.Command.TheVariants as command
-use Rattle.mf_top.specs.Answers.{IsRunText, IsRunOutcome, IsStepOutcome, IsLoaded, IsLoadOutcome, IsOutcomeOf, IsWritten, WroteHistory, WroteSummary, refusal_status}
+use Rattle.mf_top.specs.Answers.{IsCheckOutcome, IsRunOutcome, IsStepOutcome, IsLoaded, IsLoadOutcome, IsOutcomeOf, IsWritten, WroteHistory, WroteSummary, refusal_status}
+use Rattle.mf_top.specs.Check.{HoldsRun, IsVerdict, WroteYes}
 use Rattle.mf_top.specs.Reading.{Held}
+use Rattle.mf_top.specs.Runs.{IsRunText}
 use Rattle.mf_top.specs.Steps.{IsStepText, WroteSteps}
 
 never_zero : (refused : Refusal) → refusal_status refused ≡ 0 → ⊥
 never_zero refusal.Usage e = omega (arith, e)
 never_zero (refusal.Script line fault errno) e = omega (arith, e)
 never_zero (refusal.Step number) e = omega (arith, e)
+never_zero (refusal.Fails line) e = omega (arith, e)
+never_zero refusal.Header e = omega (arith, e)
 never_zero refusal.ReadFault e = omega (arith, e)
 never_zero refusal.TooLong e = omega (arith, e)
 never_zero refusal.Memory e = omega (arith, e)
@@ -39,6 +43,12 @@ module _ (source sink : Seen) (outcome : Result (List ℕ) Refusal) (status : �
       let all = whole_text sink outcome status zero written in
       took_of source sink all.0 IsStepText (subst (IsStepOutcome source) all.1 cause).1 all.2
 
+  pub wrote_yes : IsCheckOutcome source outcome → WroteYes source sink
+  wrote_yes cause =
+      let all = whole_text sink outcome status zero written in
+      let held : Held source (λ bytes. IsVerdict bytes (Ok all.0)) = (subst (IsCheckOutcome source) all.1 cause).1 in
+      ((held.0, held.1, held.2.0), subst (Took sink.before sink.after) held.2.1 all.2)
+
   wrote_summary : (lines tasks : ℕ) → IsLoadOutcome lines tasks source outcome → WroteSummary lines tasks source sink
   wrote_summary lines tasks cause =
       let all = whole_text sink outcome status zero written in
@@ -50,6 +60,9 @@ module _ (source sink : Seen) (outcome : Result (List ℕ) Refusal) (status : �
 
   pub steps_asked : (asked : Option Command) → asked ≡ Some command.Step → IsOutcomeOf asked source outcome → WroteSteps source sink
   steps_asked asked is cause = wrote_steps (subst (λ (a : Option Command). IsOutcomeOf a source outcome) is cause)
+
+  pub check_asked : (asked : Option Command) → asked ≡ Some command.Check → IsOutcomeOf asked source outcome → WroteYes source sink
+  check_asked asked is cause = wrote_yes (subst (λ (a : Option Command). IsOutcomeOf a source outcome) is cause)
 
   pub summary_asked : (asked : Option Command) (lines tasks : ℕ) → asked ≡ Some (command.Gen lines tasks) → IsOutcomeOf asked source outcome → WroteSummary lines tasks source sink
   summary_asked asked lines tasks is cause = wrote_summary lines tasks (subst (λ (a : Option Command). IsOutcomeOf a source outcome) is cause)

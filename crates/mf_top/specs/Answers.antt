@@ -8,11 +8,6 @@ use Rattle.mf_script.specs.declared.error.ScriptFault.{ScriptFault}
 use Rattle.mf_script.specs.declared.error.ScriptError.TheVariants as script_error
 use Rattle.mf_script.specs.Faults.{fault_number, fault_name}
 use Rattle.mf_script.specs.Grammar.{script_of}
-use Rattle.mf_core.specs.declared.history.History.{History}
-use Rattle.mf_core.specs.LegalHistory.{IsLegal, IsComplete}
-use Rattle.mf_flow.specs.Laws.{AreInOrder}
-use Rattle.mf_flow.specs.SourcesText.{sources_text}
-use Rattle.mf_lifetimes.specs.Once.{AreMadeOnce}
 use Rattle.mf_top.specs.declared.refusal.Refusal.{Refusal}
 use Rattle.mf_top.specs.declared.refusal.Refusal.TheVariants as refusal
 use Rattle.mf_top.specs.declared.command.Command.{Command}
@@ -20,23 +15,13 @@ use Rattle.mf_top.specs.declared.command.Command.TheVariants as command
 use Rattle.mf_top.specs.Commands.{command_of}
 use Rattle.mf_io.specs.Outside.{Seen, FaultsRose, HadNoFault, Took, TookPart}
 use Rattle.mf_names.specs.declared.limits.TheConstants.{SCRIPT_LIMIT}
-use Rattle.mf_hist.specs.HistoryText.{history_text}
 use Rattle.mf_load.specs.Summary.{load_summary}
 use Rattle.mf_steps.specs.StepText.{AreAllTaken}
+use Rattle.mf_verdict.specs.declared.limits.TheConstants.{CHECK_LIMIT}
+use Rattle.mf_top.specs.Check.{HoldsRun, IsVerdict}
 use Rattle.mf_top.specs.Reading.{Held, AreScript}
-use Rattle.mf_top.specs.Slots.{AreMarked}
+use Rattle.mf_top.specs.Runs.{IsRunText}
 use Rattle.mf_top.specs.Steps.{IsStepText, RefusesStep}
-
--- The text is that of a history and of its sources, and nothing else. The history is legal and complete for the script; in it each label
--- slot is made and ended at most once, and is set where it was made and hasn't ended; and under mac_biba and mac_lomac each source of a party
--- dominates the party's element, as under mac_mls the element dominates each.
-abbrev pub IsRunOf : Script → List ℕ → Type 0
-IsRunOf s text =
-    (h : History) × IsLegal s h × IsComplete s h × AreMadeOnce s h × AreMarked s h × AreInOrder s h × (text ≡ history_text s h ++ sources_text s h)
-
--- the bytes are a script, and the text is that of a legal and complete history of it
-abbrev pub IsRunText : List ℕ → List ℕ → Type 0
-IsRunText bytes text = (s : Script) × AreScript bytes s × IsRunOf s text
 
 -- The source held a script to its end, and the sink took the text of one history that is legal and complete for it, and nothing else.
 abbrev pub WroteHistory : Seen → Seen → Type 0
@@ -53,16 +38,16 @@ pub record IsUnread (source : Seen) : Type 0 where
 
 -- An outcome before anything is written, and its cause: what the words ask for, and what is seen of the source.
 
--- where the source's bytes are known: they are more than a script may have, and one more than that was taken
-abbrev pub IsTooLong : Option (List ℕ) → Option (List ℕ) → Type 0
-IsTooLong before now = IfSome before (λ all. (SCRIPT_LIMIT < length all) × IsSomeAnd now (λ rest. (taken : List ℕ) × (length taken ≡ SCRIPT_LIMIT + 1) × (all ≡ taken ++ rest)))
+-- where the source's bytes are known: they are more than this limit, and one more than that was taken
+abbrev pub IsTooLong : ℕ → Option (List ℕ) → Option (List ℕ) → Type 0
+IsTooLong limit before now = IfSome before (λ all. (limit < length all) × IsSomeAnd now (λ rest. (taken : List ℕ) × (length taken ≡ limit + 1) × (all ≡ taken ++ rest)))
 
 -- why no script is read of the source, or why memory runs out behind that
 abbrev pub IsSourceRefusal : Seen → Refusal → Type 0
 IsSourceRefusal source (refusal.Script line fault errno) =
     HadNoFault source × Held source (λ bytes. (length bytes ≤ SCRIPT_LIMIT) × (script_of bytes ≡ Err (script_error.Fault line fault errno)))
 IsSourceRefusal source refusal.ReadFault = FaultsRose source
-IsSourceRefusal source refusal.TooLong = HadNoFault source × IsTooLong source.before source.after
+IsSourceRefusal source refusal.TooLong = HadNoFault source × IsTooLong SCRIPT_LIMIT source.before source.after
 IsSourceRefusal source refusal.Memory = HadNoFault source
 IsSourceRefusal source other = ⊥
 
@@ -74,6 +59,12 @@ abbrev pub IsStepOutcome : Seen → Result (List ℕ) Refusal → Type 0
 IsStepOutcome source (Ok text) = HadNoFault source × Held source (λ bytes. IsStepText bytes text)
 IsStepOutcome source (Err (refusal.Step number)) = HadNoFault source × Held source (λ bytes. RefusesStep bytes number)
 IsStepOutcome source (Err refused) = IsSourceRefusal source refused
+
+abbrev pub IsCheckOutcome : Seen → Result (List ℕ) Refusal → Type 0
+IsCheckOutcome source (Err refusal.ReadFault) = FaultsRose source
+IsCheckOutcome source (Err refusal.TooLong) = HadNoFault source × IsTooLong CHECK_LIMIT source.before source.after
+IsCheckOutcome source (Err refusal.Memory) = HadNoFault source
+IsCheckOutcome source outcome = HadNoFault source × Held source (λ bytes. IsVerdict bytes outcome)
 
 -- the summary of the load, or want of memory
 abbrev pub IsLoaded : ℕ → ℕ → Result (List ℕ) Refusal → Type 0
@@ -92,6 +83,7 @@ abbrev pub IsOutcomeOf : Option Command → Seen → Result (List ℕ) Refusal �
 IsOutcomeOf None source outcome = IsUsageOutcome source outcome
 IsOutcomeOf (Some command.Run) source outcome = IsRunOutcome source outcome
 IsOutcomeOf (Some command.Step) source outcome = IsStepOutcome source outcome
+IsOutcomeOf (Some command.Check) source outcome = IsCheckOutcome source outcome
 IsOutcomeOf (Some (command.Gen lines tasks)) source outcome = IsLoadOutcome lines tasks source outcome
 
 abbrev pub IsOutcome : List (List ℕ) → Seen → Result (List ℕ) Refusal → Type 0
@@ -103,7 +95,9 @@ refusal_status (refusal.Script line fault errno) = 3
 refusal_status refusal.ReadFault = 4
 refusal_status refusal.TooLong = 6
 refusal_status (refusal.Step number) = 7
+refusal_status (refusal.Fails line) = 8
 refusal_status refusal.Memory = 9
+refusal_status refusal.Header = 10
 
 -- behind the name of a fault: the errno of a module that can't be booted, or of a tunable that can't be set
 abbrev pub errno_text : Option Errno → List ℕ
@@ -119,15 +113,18 @@ abbrev pub refusal_text : Refusal → List ℕ
 refusal_text refusal.Usage = codes "macsim: usage: run | step | gen N T\n"
 refusal_text (refusal.Script line fault errno) = fault_text line fault errno
 refusal_text (refusal.Step number) = codes "macsim: step " ++ decimal number ++ codes " refused\n"
+refusal_text (refusal.Fails line) = codes "no " ++ decimal line ++ codes "\n"
+refusal_text refusal.Header = codes "macsim: check header\n"
 refusal_text refusal.ReadFault = codes "macsim: read fault\n"
 refusal_text refusal.TooLong = codes "macsim: too long\n"
 refusal_text refusal.Memory = codes "macsim: no memory\n"
 
--- its line tells of a line or of a step of the script
-abbrev pub TellsOfScript : Refusal → Type 0
-TellsOfScript (refusal.Script line fault errno) = Unit {0}
-TellsOfScript (refusal.Step number) = Unit {0}
-TellsOfScript other = ⊥
+-- its line has a number: it tells of a line or of a step
+abbrev pub HasNumber : Refusal → Type 0
+HasNumber (refusal.Script line fault errno) = Unit {0}
+HasNumber (refusal.Step number) = Unit {0}
+HasNumber (refusal.Fails line) = Unit {0}
+HasNumber other = ⊥
 
 abbrev pub status_of : Result (List ℕ) Refusal → ℕ
 status_of (Ok text) = 0
@@ -151,11 +148,16 @@ HoldsScript source = IsSomeAnd source.before (λ bytes. (s : Script) × AreScrip
 abbrev pub HoldsSteps : Seen → Type 0
 HoldsSteps source = IsSomeAnd source.before (λ bytes. (s : Script) × AreScript bytes s × AreAllTaken s)
 
--- what the words ask for can be done: the source holds a script, where one is read
+-- the source holds a script and the text of a run of it
+abbrev pub HoldsAccepted : Seen → Type 0
+HoldsAccepted source = IsSomeAnd source.before HoldsRun
+
+-- what the words ask for can be done: the source holds a script, where one is read, and with `check` a text that is accepted
 abbrev pub CanBeDone : Option Command → Seen → Type 0
 CanBeDone None source = ⊥
 CanBeDone (Some command.Run) source = HoldsScript source
 CanBeDone (Some command.Step) source = HoldsSteps source
+CanBeDone (Some command.Check) source = HoldsAccepted source
 CanBeDone (Some (command.Gen lines tasks)) source = Unit {0}
 
 -- The right words, known bytes of a script where one is read, and no fault of source or sink.
@@ -164,8 +166,14 @@ pub record IsFaultless (words : List (List ℕ)) (source sink : Seen) : Type 0 w
   pub source_stays : ¬ FaultsRose source
   pub sink_stays : ¬ FaultsRose sink
 
--- Known bytes of a script whose steps are all in turn, and no fault of source or sink.
+-- The same of the calls that do what one word asks for.
+
 pub record AreStepsFaultless (source sink : Seen) : Type 0 where
   pub can : HoldsSteps source
+  pub source_stays : ¬ FaultsRose source
+  pub sink_stays : ¬ FaultsRose sink
+
+pub record IsCheckFaultless (source sink : Seen) : Type 0 where
+  pub can : HoldsAccepted source
   pub source_stays : ¬ FaultsRose source
   pub sink_stays : ¬ FaultsRose sink

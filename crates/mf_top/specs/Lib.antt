@@ -3,6 +3,8 @@ pub mod Slots
 pub mod Passes
 pub mod Commands
 pub mod Steps
+pub mod Runs
+pub mod Check
 pub mod Answers
 pub mod Refusals
 pub mod Scripts

@@ -6,7 +6,7 @@ use Rattle.mf_top.specs.declared.read.ReadError.{ReadError}
 use Rattle.mf_top.specs.declared.read.ReadError.TheVariants as read_error
 use Rattle.mf_top.specs.declared.refusal.Refusal.{Refusal}
 use Rattle.mf_top.specs.declared.refusal.Refusal.TheVariants as refusal
-use Rattle.mf_top.specs.Answers.{TellsOfScript}
+use Rattle.mf_top.specs.Answers.{HasNumber}
 
 abbrev pub read_refusal : ReadError → Refusal
 read_refusal read_error.Failed = refusal.ReadFault
@@ -17,9 +17,9 @@ abbrev pub script_refusal : ScriptError → Refusal
 script_refusal (script_error.Fault line fault errno) = refusal.Script line fault errno
 script_refusal script_error.Memory = refusal.Memory
 
--- the refusal itself is told; or memory ran out as the line was built that tells of the script
+-- the refusal itself is told; or memory ran out as the line with its number was built
 abbrev pub IsTold : Refusal → Refusal → Type 0
-IsTold r told = (told ≡ r) ⊎ (TellsOfScript r × (told ≡ refusal.Memory))
+IsTold r told = (told ≡ r) ⊎ (HasNumber r × (told ≡ refusal.Memory))
 
 -- an outcome with a refusal that is told in the place of its own
 abbrev pub IsToldOutcome : Result (List ℕ) Refusal → Result (List ℕ) Refusal → Type 0

@@ -7,7 +7,7 @@ ghost use Rattle.mf_io.specs.Causes.{Gave};
 ghost use Rattle.mf_top.specs.Reading.{IsWhole, GaveOn};
 ghost use Rattle.mf_top.specs.Answers.{IsTooLong};
 ghost use Rattle.mf_top.specs.Scripts.{IsRead};
-ghost use Rattle.mf_names.specs.declared.limits.TheConstants.{SCRIPT_LIMIT};
+ghost use Rattle.mf_verdict.specs.declared.limits.TheConstants.{CHECK_LIMIT};
 
 use crate::refusal::Refusal;
 use mf_calls::Script;
@@ -24,7 +24,7 @@ const PIECE_BYTES: usize = 4096;
 pub enum ReadError {
     /// A read failed.
     Failed,
-    /// The source holds more than a script may have.
+    /// The source holds more than is wanted.
     TooLong,
     /// Memory ran out.
     Memory,
@@ -46,20 +46,25 @@ impl From<Failed> for ReadError {
     }
 }
 
-/// All that the source holds, to its end. It asks for at most one byte more than a script may have.
-pub fn read_all<S: Source>(alloc: Global, source: &mut S) -> Result<Vec<u8>, ReadError>
+/// All that the source holds, to its end, where that is no more bytes than the limit. It asks for at most one byte more.
+pub fn read_all<S: Source>(
+    alloc: Global,
+    source: &mut S,
+    limit: usize,
+) -> Result<Vec<u8>, ReadError>
+    requires { limit ≤ CHECK_LIMIT }
     ensures whole { IfOk result (λ bytes.
         IsWhole (S.left source.old) (S.left source.new) bytes.items) }
-    ensures most { IfOk result (λ bytes. length bytes.items ≤ SCRIPT_LIMIT) }
+    ensures most { IfOk result (λ bytes. length bytes.items ≤ limit) }
     ensures quiet { ¬ IsErrOf result ReadError.Failed → S.faults source.new ≡ S.faults source.old }
     ensures failed { IsErrOf result ReadError.Failed
         → HasRisen (S.faults source.old) (S.faults source.new) }
     ensures too_long { IsErrOf result ReadError.TooLong
-        → IsTooLong (S.left source.old) (S.left source.new) }
+        → IsTooLong limit (S.left source.old) (S.left source.new) }
 {
     let mut bytes = Vec::new(alloc);
-    while bytes.len() <= SCRIPT_LIMIT {
-        let room = SCRIPT_LIMIT + 1 - bytes.len();
+    while bytes.len() <= limit {
+        let room = limit + 1 - bytes.len();
         if read_some(source, &mut bytes, room)? == 0 {
             return Ok(bytes);
         }
@@ -73,7 +78,7 @@ pub fn read_source<S: Source>(alloc: Global, source: &mut S) -> Result<Script, R
     ensures read { IsRead (seen S.left S.faults source.old source.new) result }
     ensures formed { IfOk result IsWellFormed }
 {
-    let bytes = read_all(alloc, source)?;
+    let bytes = read_all(alloc, source, SCRIPT_LIMIT)?;
     let script = read_script(alloc, &bytes)?;
     Ok(script)
 }

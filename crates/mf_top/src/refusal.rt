@@ -1,7 +1,7 @@
-//! Why nothing is told: no history, no steps, no summary of a load.
+//! Why nothing is told: no history, no steps, no summary of a load, no `yes`.
 ghost use Rattle.std.specs.Prelude.{◌≡◌, ◌++◌, IfOk, OnOk, OnErr, string_bytes};
 ghost use Rattle.std.specs.Cow.{cow_str_bytes};
-ghost use Rattle.mf_top.specs.Answers.{errno_text, fault_text, refusal_status, refusal_text, TellsOfScript};
+ghost use Rattle.mf_top.specs.Answers.{errno_text, fault_text, refusal_status, refusal_text, HasNumber};
 ghost use Rattle.mf_top.specs.Outcomes.{bytes_of_outcome};
 ghost use Rattle.mf_top.specs.Refusals.{IsTold, IsToldOutcome};
 ghost use Rattle.mf_top.specs.declared.refusal.Refusal.TheVariants as refusal;
@@ -16,7 +16,7 @@ use std::marker::Model;
 /// The line where memory ran out.
 const NO_MEMORY: &str = "macsim: no memory\n";
 
-/// Why no history, no text of steps and no summary is written.
+/// Why no history, no text of steps, no summary and no `yes` is written.
 #[derive(Clone, Copy, Debug, PartialEq, Eq)]
 pub enum Refusal {
     /// The words are none of the program's.
@@ -30,9 +30,13 @@ pub enum Refusal {
     },
     /// The step of this number, counted from 1, is the first that names no task of the script or isn't in turn.
     Step(u32),
+    /// The text that is checked fails at this line, counted from 1: it isn't that of a run of its script.
+    Fails(u32),
+    /// What is checked doesn't begin with the line `script N` and so many bytes.
+    Header,
     /// A read of the source failed.
     ReadFault,
-    /// The source holds more than a script may have.
+    /// The source holds more than a script, or what is checked, may have.
     TooLong,
     /// Memory ran out.
     Memory,
@@ -49,15 +53,16 @@ impl Refusal {
             Refusal::ReadFault => 4,
             Refusal::TooLong => 6,
             Refusal::Step(_) => 7,
+            Refusal::Fails(_) => 8,
             Refusal::Memory => 9,
+            Refusal::Header => 10,
         }
     }
 
-    /// The line that is written in their place. Only one that tells of a line or of a step of the script takes
-    /// memory.
+    /// The line that is written in their place. Only one with a number, of a line or of a step, takes memory.
     pub fn text(self, alloc: Global) -> Result<CowStr<'static>, AllocError>
         ensures text { IfOk result (λ text. cow_str_bytes text ≡ refusal_text self) }
-        ensures memory { OnErr result (TellsOfScript self) }
+        ensures memory { OnErr result (HasNumber self) }
     {
         let text = match self {
             Refusal::Usage => CowStr::Borrowed("macsim: usage: run | step | gen N T\n"),
@@ -67,6 +72,8 @@ impl Refusal {
             Refusal::Step(number) => {
                 CowStr::Owned(format!(in alloc; "macsim: step {number} refused\n")?)
             }
+            Refusal::Fails(line) => CowStr::Owned(format!(in alloc; "no {line}\n")?),
+            Refusal::Header => CowStr::Borrowed("macsim: check header\n"),
             Refusal::ReadFault => CowStr::Borrowed("macsim: read fault\n"),
             Refusal::TooLong => CowStr::Borrowed("macsim: too long\n"),
             Refusal::Memory => CowStr::Borrowed(NO_MEMORY),

@@ -9,7 +9,7 @@ ghost use Rattle.mf_core.specs.AllModules.{AreAllModules};
 ghost use Rattle.mf_core.specs.CoreView.{all_lines, done_of, open_of};
 ghost use Rattle.mf_share.specs.Passes.{AreOneEach, pass_turn};
 ghost use Rattle.mf_load.specs.Summary.{load_summary};
-ghost use Rattle.mf_top.specs.Answers.{IsRunOf};
+ghost use Rattle.mf_top.specs.Runs.{IsRunOf};
 ghost use Rattle.mf_top.specs.Passes.{HaveAll, IsBack, IsLine, IsSameTicket, WentOn};
 
 use crate::text::whole_text;

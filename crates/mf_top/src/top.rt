@@ -8,10 +8,12 @@ ghost use Rattle.mf_top.specs.declared.refusal.Refusal.{Refusal};
 ghost use Rattle.mf_io.specs.Outside.{seen};
 ghost use Rattle.mf_top.specs.declared.command.Command.TheVariants as command;
 ghost use Rattle.mf_top.specs.Commands.{command_of};
+ghost use Rattle.mf_top.specs.Check.{WroteYes};
 ghost use Rattle.mf_top.specs.Answers.{WroteHistory, WroteSummary, IsRunOutcome, IsLoaded, IsOutcome, IsWritten, IsFaultless};
 ghost use Rattle.mf_top.specs.Steps.{WroteSteps};
 ghost use Rattle.mf_top.specs.Outcomes.{bytes_of_outcome};
 
+use crate::check::check_source;
 use crate::command::Command;
 use crate::refusal::{Refusal, told};
 use crate::steps::step_source;
@@ -24,8 +26,9 @@ use std::thread::Threads;
 
 /// With the word `run` runs the script that the source holds, leaving its steps aside, and writes its history and the
 /// sources at its end to the sink; with `step` takes its steps one after another, and writes what they print and the
-/// sources at their end; with `gen N T` runs the generated load, and writes its summary. Returns the program's exit
-/// status: 0, the status of a `Refusal`, or 5 where a write failed. `words` are those after the program's name. Nothing is
+/// sources at their end; with `check` tells whether the source holds a script and the text of a run of it; with `gen N T`
+/// runs the generated load, and writes its summary. Returns the program's exit status: 0, the status of a `Refusal`, or 5
+/// where a write failed. `words` are those after the program's name. Nothing is
 /// written before the run has ended. `modules` has a policy of each module, once, in its initial state. The tasks of a run
 /// go on side by side, and call `gate`.
 pub fn macsim<S: Source, K: Sink, G: Gate, P: Policy, R: Threads + Wait + Sync>(
@@ -54,6 +57,12 @@ pub fn macsim<S: Source, K: Sink, G: Gate, P: Policy, R: Threads + Wait + Sync>(
         → WroteSteps (seen S.left S.faults source.old source.new)
         (seen K.taken K.faults sink.old sink.new) }
 
+    // With `check` and 0 the source held, to its end, a script and the text of a run of it, as with `run`, and the sink took
+    // `yes`, and nothing else.
+    ensures check { command_of (map string_bytes words.now) ≡ Some command.Check → result ≡ 0
+        → WroteYes (seen S.left S.faults source.old source.new)
+        (seen K.taken K.faults sink.old sink.new) }
+
     // With `gen N T` and 0 nothing was read, and the sink took the summary of the load, and nothing else.
     ensures load { (lines tasks : ℕ)
         → command_of (map string_bytes words.now) ≡ Some (command.Gen lines tasks) → result ≡ 0
@@ -66,8 +75,8 @@ pub fn macsim<S: Source, K: Sink, G: Gate, P: Policy, R: Threads + Wait + Sync>(
         (seen S.left S.faults source.old source.new) outcome
         × IsWritten (seen K.taken K.faults sink.old sink.new) outcome result }
 
-    // The right words, with `run` a script, with `step` one whose steps are all in turn, over a source and a sink that don't
-    // fail, gives 0, or 9 if memory runs out.
+    // The right words, with `run` a script, with `step` one whose steps are all in turn, with `check` a script and the text of
+    // a run of it, over a source and a sink that don't fail, gives 0, or 9 if memory runs out.
     ensures complete { IsFaultless (map string_bytes words.now)
         (seen S.left S.faults source.old source.new) (seen K.taken K.faults sink.old sink.new)
         → (result ≡ 0) ⊎ (result ≡ 9) }
@@ -76,7 +85,7 @@ pub fn macsim<S: Source, K: Sink, G: Gate, P: Policy, R: Threads + Wait + Sync>(
     write::write_outcome(sink, &outcome)
 }
 
-/// The text of the run's history, of the steps or of the load's summary, or why there is none.
+/// The text of the run's history, of the steps, of the load's summary, or `yes`; or why there is none.
 fn outcome_of<S: Source, G: Gate, P: Policy, R: Threads + Wait + Sync>(
     rt: &R,
     alloc: Global,
@@ -94,6 +103,7 @@ fn outcome_of<S: Source, G: Gate, P: Policy, R: Threads + Wait + Sync>(
         None => Err(Refusal::Usage),
         Some(Command::Run) => run_source(rt, alloc, source, gate, modules),
         Some(Command::Step) => step_source(alloc, source, modules),
+        Some(Command::Check) => check_source(alloc, source),
         Some(Command::Gen(lines, tasks)) => run_generated(rt, alloc, lines, tasks, gate, modules),
     }
 }

@@ -3,7 +3,7 @@ use Rattle.mf_top.specs.Commands.{command_of}
 use Rattle.mf_top.specs.Outcomes.{bytes_of_outcome}
 use Rattle.mf_top.proofs.Complete.{complete}
 use Rattle.mf_top.proofs.Told.{told_cause}
-use Rattle.mf_top.proofs.Wrote.{history_asked, steps_asked, summary_asked}
+use Rattle.mf_top.proofs.Wrote.{check_asked, history_asked, steps_asked, summary_asked}
 use Rattle.mf_top.proofs.top.macsim.Goals as goal
 
 pub returns-clause-headline : goal.returns-clause-headline
@@ -15,6 +15,12 @@ returns-clause-headline g c asked zero =
 pub returns-clause-steps : goal.returns-clause-steps
 returns-clause-steps g c asked zero =
     steps_asked _ _ (bytes_of_outcome c.told-outcome.result) c.write_outcome.result zero c.write_outcome.ensures
+    (command_of (map string_bytes c.args.words.now)) asked
+    (told_cause _ _ (bytes_of_outcome c.outcome_of.result) (bytes_of_outcome c.told-outcome.result) c.told-outcome.ensures c.outcome_of.ensures)
+
+pub returns-clause-check : goal.returns-clause-check
+returns-clause-check g c asked zero =
+    check_asked _ _ (bytes_of_outcome c.told-outcome.result) c.write_outcome.result zero c.write_outcome.ensures
     (command_of (map string_bytes c.args.words.now)) asked
     (told_cause _ _ (bytes_of_outcome c.outcome_of.result) (bytes_of_outcome c.told-outcome.result) c.told-outcome.ensures c.outcome_of.ensures)
 
