@@ -51,6 +51,7 @@ SYNTAX = {
     "mf_flow SourcesText": "the sources as a text",
     "mf_load Summary": "the summary of a load as a text",
     "mf_hist": "histories as texts",
+    "mf_verdict Header": "the header of what is checked",
     "mf_top Commands": "the program's words",
 }
 

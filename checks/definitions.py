@@ -127,7 +127,7 @@ def group_at(tokens, at):
 
 # Imports
 
-USE = re.compile(r"Rattle\.(\w+)\.specs\.([\w.]+?)(?:\.\{([^{}]*)\}|\s+as\s+(\S+))?$")
+USE = re.compile(r"Rattle\.(\w+)\.(?:specs|proofs)\.([\w.]+?)(?:\.\{([^{}]*)\}|\s+as\s+(\S+))?$")
 
 
 def meaning_at(crate, path, name):

@@ -1,5 +1,6 @@
-"""Judges what the program printed of a script: by the tools, which follow a history through its
-script, and by the program's own steps, which make the history again. Is no part of the product."""
+"""Judges what the program printed of a script: by the program's auditor, by the tools, which
+follow a history through its script, and by the program's own steps, which make the history again.
+Is no part of the product."""
 import sys
 from pathlib import Path
 
@@ -44,6 +45,12 @@ def lacks_memory(work, number, ended):
     )
 
 
+def verdict_on(program, script, text):
+    """What the program's auditor says of a text of the script."""
+    given = f"script {len(script)}\n{script}{text}".encode("latin-1")
+    return program.run(["check"], given).printed.decode("latin-1").strip()
+
+
 def steps_of(event):
     """The steps that make an event again."""
     kinds = {"enter": "enter", "done": "plan done", "leave": "leave", "changed": "change"}
@@ -58,6 +65,9 @@ def fault_of(work, printed):
             pass
     except BadInput as fault:
         return str(fault)
+    verdict = verdict_on(work.program, work.given.decode("latin-1"), printed)
+    if verdict != "yes":
+        return f"the auditor says {verdict}"
     steps = [step for event in events for step in steps_of(event)]
     again = work.program.run(["step"], with_steps(work.script.lines, steps).encode("latin-1"))
     is_same = again.status == 0 and again.printed.decode("latin-1") == printed

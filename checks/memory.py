@@ -1,10 +1,10 @@
 """Refuses the program one allocation after another, in a run of its own each: over five worked
-scripts, a load and the examples. A run that is refused an allocation ends with 0 and what is right
-for its script, or with 9 and no part of a history; the first fifteen, in which `main` makes the words
-and the modules, end with 9. The tests of refused growths are run so too, with each refused: they
-hold, or say that memory ran out. A line for each script, with how many allocations it asks for and
-how many were refused, then a count. Of each script every 16th is refused, by the day of the year
-from another one on.
+scripts, their texts, which it checks, a load and the examples. A run that is refused an allocation
+ends with 0 and what is right for its script, or with 9 and no part of a history; the first fifteen,
+in which `main` makes the words and the modules, end with 9. The tests of refused growths are run so
+too, with each refused: they hold, or say that memory ran out. A line for each script, with how many
+allocations it asks for and how many were refused, then a count. Of each script every 16th is
+refused, by the day of the year from another one on.
 
     checks/memory.sh [--every N] [--from K] [--all]
 """
@@ -38,6 +38,10 @@ def works(program):
     for name, text in WORKED.items():
         yield Work(name, program, text.encode())
     yield Work("gen 64 4", program, b"", words=["gen", "64", "4"])
+    for name, text in WORKED.items():
+        printed = program.run(["run"], text.encode()).printed
+        given = f"script {len(text)}\n".encode() + text.encode() + printed
+        yield Work(f"check of {name}", program, given, words=["check"])
     for path in sorted(ROOT.glob("examples/*.macsim")):
         yield Work(path.stem, program, path.read_bytes())
 

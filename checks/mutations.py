@@ -11,7 +11,7 @@ import random
 import re
 from collections import Counter
 
-from judging import ROOT, told_of
+from judging import ROOT, told_of, verdict_on
 from limits import limits
 from running import Program
 from scripts import TUNABLE, WORKED
@@ -115,7 +115,15 @@ class Judge:
             ended = self.program.run(["run"], text)
             self.longest = max(self.longest, ended.seconds)
             self.ends[text] = end_told(ended)
+            if ended.status == 0:
+                self.audit(text, ended.printed)
         return self.ends[text]
+
+    def audit(self, text, printed):
+        """The program's auditor takes what was printed for a text of a run."""
+        verdict = verdict_on(self.program, text.decode("latin-1"), printed.decode("latin-1"))
+        if verdict != "yes":
+            self.ends[text] = (None, 0, f"the auditor says {verdict}".encode())
 
     def fault_in(self, text):
         """What is wrong with the answer to the text, or None."""

@@ -82,6 +82,14 @@ printf 'task t uid 0 gid 0 label -\nread /a\n' >"$folder/unended"
 { cat "$script"; printf 'steps\nenter t\nplan t\ndone t\nleave t\nend\n'; } >"$folder/all_stepped"
 { cat "$script"; printf 'steps\nenter t\nenter t\nend\n'; } >"$folder/twice"
 { cat "$script"; printf 'steps\nenter t\nleave u\nend\n'; } >"$folder/no_task"
+text header 'macsim: check header'
+text yes yes
+text no_3 'no 3'
+{ printf 'script %s\n' "$(wc -c <"$script")"; cat "$script" "$history"; } >"$folder/checked"
+{ printf 'script %s\n' "$(wc -c <"$script")"; cat "$script"; head -n 2 "$history"; } >"$folder/checked_in_part"
+{ cat "$folder/checked"; head -c "$((16777216 - $(wc -c <"$folder/checked")))" /dev/zero | tr '\0' '\n'; } >"$folder/longest_checked"
+{ cat "$folder/longest_checked"; echo; } >"$folder/longer_checked"
+text no_8 'no 8'
 script_of "$most" "$folder/longest"
 script_of "$((most + 1))" "$folder/longer"
 
@@ -92,6 +100,7 @@ check_usage Run
 check_usage "$(printf '\377')"
 check_usage run "$script"
 check_usage step "$script"
+check_usage check "$script"
 check_usage gen 2
 check_usage gen 2 2 2
 check_usage gen 0 2
@@ -119,6 +128,13 @@ check 'step: a step of no task' ends 7 "$folder/no_task" "$folder/refused" step
 check 'step: a word that is none' ends 3 "$folder/bad" "$folder/unknown_word" step
 check 'step: one byte more' ends 6 "$folder/longer" "$folder/too_long" step
 check 'step: an input that cannot be read' ends 4 . "$folder/read_fault" step
+
+check 'check: a text of a run' ends 0 "$folder/checked" "$folder/yes" check
+check 'check: a text that is cut' ends 8 "$folder/checked_in_part" "$folder/no_3" check
+check 'check: no header' ends 10 "$script" "$folder/header" check
+check 'check: the longest input' ends 8 "$folder/longest_checked" "$folder/no_8" check
+check 'check: one byte more' ends 6 "$folder/longer_checked" "$folder/too_long" check
+check 'check: an input that cannot be read' ends 4 . "$folder/read_fault" check
 
 check 'run: a closed standard input' over 4 closed_input
 check 'run: an input that is open for writing' over 4 input_for_writing

@@ -1,7 +1,7 @@
 """Runs scripts of sixteen tasks that load, unload and change, that mac_lomac lowers, or that have
 files open, on one, two and four processors, where some or all threads can't be made, and where
-memory is refused. Each history is followed by the tools and made again by its steps, and no label
-slot is given twice. A line for each kind of run, then a count.
+memory is refused. Each history is judged by the auditor, followed by the tools and made again by its steps, and no
+label slot is given twice. A line for each kind of run, then a count.
 
     checks/threads.sh [--every N] [--from K] [--all]
 """
