@@ -19,7 +19,7 @@ use mf_policy::{Movement, Registration, row_of};
 use std::alloc::{AllocError, Global};
 
 /// Whether something can come to the one party from the other. One labelled equal has no sources.
-fn may_come(objects: &Objects, slot: u8, to: u32, from: u32) -> bool
+pub fn may_come(objects: &Objects, slot: u8, to: u32, from: u32) -> bool
     requires { slot < SLOTS }
     ensures { result ≡ rows.may_come (rows.element_numbered slot objects.now to)
         (rows.element_numbered slot objects.now from) }

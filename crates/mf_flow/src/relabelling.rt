@@ -51,7 +51,7 @@ pub fn give(
 }
 
 /// Whether the request has an effective element for the module's policy.
-fn has_element(module: Module, request: &Request) -> bool
+pub fn has_element(module: Module, request: &Request) -> bool
     ensures { result ≡ has_element_for «module» request.now }
 {
     match range_asked(module, request) {

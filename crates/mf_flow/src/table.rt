@@ -58,7 +58,7 @@ pub fn sources(alloc: Global, script: &Script, history: &History) -> Result<Tabl
 }
 
 /// The policies that bound what may move and were booted, in the order of their table.
-fn sourced(alloc: Global, boots: &BootList) -> Result<Vec<Registration>, AllocError>
+pub fn sourced(alloc: Global, boots: &BootList) -> Result<Vec<Registration>, AllocError>
     ensures { IfOk result (λ booted. booted.items ≡ spec.sourced boots.now) }
 {
     let mut booted = Vec::new(alloc);
