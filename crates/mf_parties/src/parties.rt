@@ -49,7 +49,8 @@ impl Parties {
             label: *label,
             what: What::Vnode(None, root_file(), Vec::new(alloc)),
         };
-        let list = Vec::from_array(alloc, [root])?;
+        let mut list = Vec::new(alloc);
+        list.push(root)?;
         Ok(Parties { next: 1, list })
     }
 

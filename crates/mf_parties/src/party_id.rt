@@ -4,7 +4,7 @@ ghost use Rattle.std.specs.Prelude.{◌≡◌, ◌==◌};
 use std::marker::Model;
 
 /// The id of a party: those of the entities that the definitions speak of.
-#[derive(Clone, Copy, Debug)]
+#[derive(Clone, Copy)]
 pub struct PartyId {
     number: u32,
 }

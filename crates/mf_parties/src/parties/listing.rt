@@ -1,5 +1,6 @@
 //! What a directory holds, as it is listed.
 ghost use Rattle.std.specs.Prelude.{◌≡◌, ◌↔◌, IfOk, IsTrue, length, map, take};
+ghost use Rattle.mf_objects.specs.declared.limits.TheConstants.{MOST_NAMES};
 ghost use Rattle.mf_objects.specs.Live as live;
 ghost use Rattle.mf_objects.specs.Titles.{entry_names, in_byte_order, names_at};
 
@@ -7,10 +8,8 @@ use super::Parties;
 use crate::party::Party;
 use crate::party_id::PartyId;
 use mf_names::Name;
+use mf_objects::MOST_NAMES;
 use std::alloc::{AllocError, Global};
-
-/// How many names a listing has at most.
-const MOST_LISTED: usize = 16;
 
 impl Parties {
     /// Whether these are the first names in byte order of the entries of a directory.
@@ -35,11 +34,11 @@ fn are_first(
     first: &[Name],
 ) -> Result<bool, AllocError>
     ensures { IfOk result (λ is. IsTrue is ↔ (first.now
-        ≡ take MOST_LISTED (in_byte_order (entry_names dir list.now)))) }
+        ≡ take MOST_NAMES (in_byte_order (entry_names dir list.now)))) }
 {
     let mut names = entry_names(alloc, list, dir)?;
     names.sort_unstable();
-    names.truncate(MOST_LISTED);
+    names.truncate(MOST_NAMES);
     Ok(are_names(first, &names))
 }
 

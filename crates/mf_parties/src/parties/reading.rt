@@ -114,15 +114,46 @@ impl Parties {
         requires { IsSome (live.live_at self.now id) }
         ensures { result ≡ object_of self.now id }
     {
-        ObjectView {
-            id: id.number(),
-            kind: self.kind(id),
-            file: self.file(id),
-            label: self.label(id),
+        match self.at(id) {
+            None => ObjectView {
+                id: id.number(),
+                kind: Kind::Process,
+                file: no_file(),
+                label: [LabelValue::Unset; SLOTS],
+            },
+            Some(party) => ObjectView {
+                id: id.number(),
+                kind: party.what.kind(),
+                file: party.what.file_view(),
+                label: party.label,
+            },
         }
     }
 
-    /// The caller as the subject of a check, with the id and the label of a party that may be another.
+    /// A process as the subject of a check.
+    pub fn process(&self, id: PartyId) -> SubjectView
+        requires { IsSome (live.live_at self.now id) }
+        ensures { result ≡ record {
+          id = id.0;
+          cred = live.cred_at self.now id;
+          label = live.label_at self.now id;
+        } }
+    {
+        match self.at(id) {
+            None => SubjectView {
+                id: id.number(),
+                cred: Cred::default(),
+                label: [LabelValue::Unset; SLOTS],
+            },
+            Some(party) => SubjectView {
+                id: id.number(),
+                cred: party.what.cred(),
+                label: party.label,
+            },
+        }
+    }
+
+    /// The same, with the id and the label of another party.
     pub fn subject(&self, caller: PartyId, of: PartyId) -> SubjectView
         requires { IsSome (live.live_at self.now of) }
         ensures { result ≡ record {
