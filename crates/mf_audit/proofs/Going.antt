@@ -1,6 +1,8 @@
 -- What a call that was gone through makes of the state: what its checks made of its caller, and then its effect.
 use Rattle.std.proofs.Common.{◌≡◌, ℕ, ◌+◌, ◌≤◌, Bool, true, false, cond, List, Option, Some, None, IsSome, is_some, option_map, Result, Ok, Err, refl, ap, sym, ◌∙◌, arith}
+use Rattle.std.specs.Prelude.{◌↔◌, IsTrue}
 use Rattle.std.specs.Option.{option_map_or}
+use Rattle.std.proofs.lemmas.Bool.{false≢true}
 use Rattle.mf_errno.specs.declared.errno.Errno.{Errno}
 use Rattle.mf_errno.specs.declared.errno.Errno.TheVariants.{Esrch}
 use Rattle.mf_elem.specs.declared.label.LabelValue.{LabelValue}
@@ -36,7 +38,7 @@ use Rattle.mf_audit.specs.declared.walk.Walk.{Walk}
 use Rattle.mf_audit.specs.Asking.{start}
 use Rattle.mf_audit.specs.Ended.{shown_of, shown_reply}
 use Rattle.mf_audit.specs.Ends.{EndsBy, Goes, IsSound, IsSoundEnd, effect_of}
-use Rattle.mf_audit.specs.Taking.{IsSoundEffect, Replies, StaysIfRefused, ended, lowered}
+use Rattle.mf_audit.specs.Taking.{IsSoundEffect, Replies, ended, lowered}
 use Rattle.mf_audit.proofs.Walks.{absent_reply, call_entered, call_replied}
 
 -- Another value in a label slot of the caller: what an effect needs is still there, and the effect is the same
@@ -217,10 +219,10 @@ call_keeps s task child call = by_reply (call_reply s task child call) (observed
 
 -- A caller that doesn't live: the call is refused
 
-pub absent_goes : (s : State) (task : List ℕ) (child : Option (List ℕ)) (call : Call) (given : Reply) (next : Option State)
-    → process_named s.objects (caller_name task child) ≡ None → StaysIfRefused given Esrch s next → Replies s task child call given next
-absent_goes s task child call given (Some next) none stays = (stays.0 ∙ sym (absent_reply s task child call none), stays.1 ∙ sym (absent_state s task child call none))
-absent_goes s task child call given None none other = λ is. other (is ∙ absent_reply s task child call none)
+pub absent_goes : (s : State) (task : List ℕ) (child : Option (List ℕ)) (call : Call) (given : Reply) (next : State) (is : Bool)
+    → process_named s.objects (caller_name task child) ≡ None → next ≡ s → IsTrue is ↔ (given ≡ reply.Refused Esrch) → Replies s task child call given next is
+absent_goes s task child call given next true none same refused = (refused.0 refl ∙ sym (absent_reply s task child call none), same ∙ sym (absent_state s task child call none))
+absent_goes s task child call given next false none same refused = λ is. false≢true (refused.1 (is ∙ absent_reply s task child call none))
 
 -- what lives is there
 pub is_there : (test : EntityData → Bool) (o : Entities) (id : Id) → IsLive test o id → IsSome (live_at o id)

@@ -1,11 +1,10 @@
 -- How a player goes on: by an event where it may come, and by a call where a reply is its reply; inner contracts alone cite this.
-use Rattle.std.specs.Prelude.{◌≡◌, ◌≢◌, ℕ, Bool, if◌then◌else◌, List, Option, Some, None, Result, Ok, Err}
+use Rattle.std.specs.Prelude.{◌≡◌, ◌≢◌, ℕ, Bool, true, false, if◌then◌else◌, List, Option, Some, None, Result, Ok, Err}
 use Rattle.mf_errno.specs.declared.errno.Errno.{Errno}
 use Rattle.mf_elem.specs.declared.label.LabelValue.{LabelValue}
 use Rattle.mf_objects.specs.declared.id.Id.{Id}
 use Rattle.mf_calls.specs.declared.script.Call.{Call}
 use Rattle.mf_plan.specs.declared.reply.Reply.{Reply}
-use Rattle.mf_plan.specs.declared.reply.Reply.TheVariants as replies
 use Rattle.mf_plan.specs.declared.state.State.{State}
 use Rattle.mf_perform.specs.Effect.{after}
 use Rattle.mf_perform.specs.Held.{with_lomac_value}
@@ -22,10 +21,10 @@ abbrev pub Takes : RunView → Event → Option RunView → Type 0
 Takes run e (Some next) = MayCome run.script run.run e × (next ≡ run_on run e)
 Takes run e None = ¬ MayCome run.script run.run e
 
--- the state goes on by a call where this is its reply, and nowhere else
-abbrev pub Replies : State → List ℕ → Option (List ℕ) → Call → Reply → Option State → Type 0
-Replies s task child call reply (Some next) = (reply ≡ call_reply s task child call) × (next ≡ call_state s task child call)
-Replies s task child call reply None = reply ≢ call_reply s task child call
+-- the state goes on to the next by a call where this is its reply, and nowhere else
+abbrev pub Replies : State → List ℕ → Option (List ℕ) → Call → Reply → State → Bool → Type 0
+Replies s task child call reply next true = (reply ≡ call_reply s task child call) × (next ≡ call_state s task child call)
+Replies s task child call reply next false = reply ≢ call_reply s task child call
 
 -- the state after the checks of a call that left this value: a change of the policies lowers nobody
 abbrev pub lowered : Bool → LabelValue → State → Id → State
@@ -44,8 +43,3 @@ undenied s task me (Err errno) = s
 abbrev pub ended : State → List ℕ → Id → Option Denied → Result Done Errno → State
 ended s task me (Some denied) end = s
 ended s task me None end = undenied s task me end
-
--- the state stays as it is where the reply is this refusal, and nobody goes on where it isn't
-abbrev pub StaysIfRefused : Reply → Errno → State → Option State → Type 0
-StaysIfRefused reply errno s (Some next) = (reply ≡ replies.Refused errno) × (next ≡ s)
-StaysIfRefused reply errno s None = reply ≢ replies.Refused errno

@@ -11,7 +11,7 @@ use mf_core::{Event, History};
 use std::alloc::{AllocError, Global};
 
 /// What an audit finds.
-#[derive(Clone, Copy, Debug, PartialEq, Eq)]
+#[derive(Clone, Copy)]
 pub enum Audit {
     /// The history is legal; it is complete where each task has done all its lines.
     Legal { complete: bool },

@@ -1,12 +1,15 @@
 //! A call of a line: whether this is its reply, and what it makes of the kernel.
-ghost use Rattle.std.specs.Prelude.{◌≡◌, ◌<◌, IfOk, IfSome, OnOk, Some, None};
+ghost use Rattle.std.specs.Prelude.{◌≡◌, ◌<◌, IfOk, IfSome, OnOk, Some};
 ghost use Rattle.mf_objects.specs.declared.limits.TheConstants.{ID_LIMIT};
 ghost use Rattle.mf_objects.specs.Live.{is_process};
 ghost use Rattle.mf_objects.specs.Lives.{IsLive};
 ghost use Rattle.mf_calls.specs.Tasks.{is_change};
 ghost use Rattle.mf_calls.specs.WellFormed.{IsFormedLine};
 ghost use Rattle.mf_plan.specs.Names.{caller_name};
+ghost use Rattle.mf_plan.specs.Plan.{row_for};
 ghost use Rattle.mf_plan.specs.Views.{process_named};
+ghost use Rattle.mf_audit.specs.Asking.{start};
+ghost use Rattle.mf_audit.specs.Ends.{Goes};
 ghost use Rattle.mf_audit.specs.Taking as spec;
 
 use crate::done::Done;
@@ -22,22 +25,30 @@ use mf_parties::PartyId;
 use mf_plan::Reply;
 use std::alloc::{AllocError, Global};
 
+/// A call whose checks were gone through, and how it ends where none of them is denied.
+#[derive(Drop)]
+pub struct Attempt<'c> {
+    walk: Walk,
+    end: Result<Done<'c>, Errno>,
+}
+
 impl Kernel {
-    /// Goes on by the call of a line of the task, where this is its reply. Where it isn't, nobody can go on.
+    /// Goes on by the call of a line of the task, and answers whether this is its reply. Where it isn't, nobody can go on.
     pub(crate) fn go_on(
-        self,
+        &mut self,
         alloc: Global,
         task: &str,
         line: &Line,
         given: &Reply,
-    ) -> Result<Option<Kernel>, AllocError>
+    ) -> Result<bool, AllocError>
         requires line { IsFormedLine line.now }
-        requires next { self.objects.next < ID_LIMIT }
-        ensures { IfOk result (spec.Replies self task.now line.now.child line.now.call given.now) }
+        requires next { self.old.objects.next < ID_LIMIT }
+        ensures { IfOk result (spec.Replies self.old task.now line.now.child line.now.call given.now
+            self.new) }
     {
         match self.caller(task, line) {
             Some(me) => self.go_on_by(alloc, task, me, line, given),
-            None => Ok(self.go_on_refused(given, Errno::Esrch)),
+            None => Ok(is_refusal(given, Errno::Esrch)),
         }
     }
 
@@ -53,41 +64,53 @@ impl Kernel {
         }
     }
 
-    /// Goes on where the reply is a refusal with this errno.
-    fn go_on_refused(self, given: &Reply, wanted: Errno) -> Option<Kernel>
-        ensures { spec.StaysIfRefused given.now wanted self result }
-    {
-        if is_refusal(given, wanted) {
-            Some(self)
-        } else {
-            None
-        }
-    }
-
     /// Goes on by the call of this process of the task.
     fn go_on_by(
-        mut self,
+        &mut self,
         alloc: Global,
         task: &str,
         me: PartyId,
         line: &Line,
         given: &Reply,
-    ) -> Result<Option<Kernel>, AllocError>
+    ) -> Result<bool, AllocError>
         requires line { IsFormedLine line.now }
-        requires caller { process_named self.objects (caller_name task.now line.now.child)
+        requires caller { process_named self.old.objects (caller_name task.now line.now.child)
             ≡ Some me }
-        requires live { IsLive is_process self.objects me }
-        requires next { self.objects.next < ID_LIMIT }
-        ensures { IfOk result (spec.Replies self task.now line.now.child line.now.call given.now) }
+        requires live { IsLive is_process self.old.objects me }
+        requires next { self.old.objects.next < ID_LIMIT }
+        ensures { IfOk result (spec.Replies self.old task.now line.now.child line.now.call given.now
+            self.new) }
     {
-        let mut walk = Walk::start(&self, me);
-        let end = row(&self, &mut walk, task, me, &line.call);
-        if !is_reply(alloc, &self, &walk, &end, given)? {
-            return Ok(None);
+        let mut walk = Walk::start(self, me);
+        let end = row(self, &mut walk, task, me, &line.call);
+        self.conclude(alloc, task, me, line, given, &Attempt { walk, end })
+    }
+
+    /// Goes on by a call whose checks were gone through, and that may be done or not. Lent, it isn't freed at each way out.
+    fn conclude(
+        &mut self,
+        alloc: Global,
+        task: &str,
+        me: PartyId,
+        line: &Line,
+        given: &Reply,
+        attempt: &Attempt<'_>,
+    ) -> Result<bool, AllocError>
+        requires caller { process_named self.old.objects (caller_name task.now line.now.child)
+            ≡ Some me }
+        requires live { IsLive is_process self.old.objects me }
+        requires next { self.old.objects.next < ID_LIMIT }
+        requires goes { Goes self.old task.now me (row_for self.old task.now line.now.call me)
+            (start self.old me) attempt.now.walk attempt.now.end }
+        ensures { IfOk result (spec.Replies self.old task.now line.now.child line.now.call given.now
+            self.new) }
+    {
+        if !is_reply(alloc, self, &attempt.walk, &attempt.end, given)? {
+            return Ok(false);
         }
-        self.lower(me, &line.call, &walk.value);
-        self.end(alloc, task, me, &walk, &end)?;
-        Ok(Some(self))
+        self.lower(me, &line.call, &attempt.walk.value);
+        self.end(alloc, task, me, &attempt.walk, &attempt.end)?;
+        Ok(true)
     }
 
     /// What the checks of a call make of its caller. A change of the policies lowers nobody.

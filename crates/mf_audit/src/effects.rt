@@ -1,5 +1,5 @@
 //! What a call makes of the kernel: what its checks that passed make of its caller, and what it changes where it is done.
-ghost use Rattle.std.specs.Prelude.{◌≡◌, ◌<◌, [], IsSome, OnOk, Some, None};
+ghost use Rattle.std.specs.Prelude.{◌≡◌, ◌<◌, [], IfOk, IsSome, OnOk, Some, None, string_bytes};
 ghost use Rattle.mf_objects.specs.declared.id.Id.{Id};
 ghost use Rattle.mf_objects.specs.declared.limits.TheConstants.{ID_LIMIT};
 ghost use Rattle.mf_objects.specs.Changes as change;
@@ -94,10 +94,7 @@ impl Kernel {
             (effect.Make (child_name task.now child.now)
             (change.new_process (cred_at self.old.objects me)))) }
     {
-        let mut name = String::with_capacity(alloc, task.len() + 1 + child.len())?;
-        name.push_str(task)?;
-        name.push_str(".")?;
-        name.push_str(child)?;
+        let name = full_name(alloc, task, child)?;
         let what = What::process(alloc, &self.parties.cred(me));
         let label = self.label_from(me, Kind::Process);
         self.parties.add(alloc, name.as_str(), &label, what)
@@ -196,4 +193,15 @@ impl Kernel {
         let _answer = self.listed.change(alloc, changed, setting)?;
         Ok(())
     }
+}
+
+/// The name of the task's child: that of the task, a dot, and its own.
+fn full_name(alloc: Global, task: &str, child: &str) -> Result<String, AllocError>
+    ensures { IfOk result (λ name. string_bytes name ≡ child_name task.now child.now) }
+{
+    let mut name = String::with_capacity(alloc, task.len() + 1 + child.len())?;
+    name.push_str(task)?;
+    name.push_str(".")?;
+    name.push_str(child)?;
+    Ok(name)
 }

@@ -11,7 +11,8 @@ use crate::kernel::Kernel;
 use crate::opening::opening;
 use crate::progress::{Standings, turn_at};
 use mf_calls::{Line, Script};
-use mf_core::{Event, KeptReply, Phase, Turn};
+use mf_core::{Event, Phase, Turn};
+use mf_plan::Reply;
 use std::alloc::{AllocError, Global};
 use std::marker::Model;
 
@@ -61,8 +62,14 @@ impl<'s> Player<'s> {
         match event {
             Event::Enter(task) => Ok(self.enter(*task)),
             Event::Leave(task) => Ok(self.leave(*task)),
-            Event::Done(task, line, reply) => self.done(alloc, *task, *line, reply),
-            Event::Changed(task, line, reply) => self.changed(alloc, *task, *line, reply),
+            Event::Done(task, line, reply) => {
+                let lent = reply.lend();
+                self.done(alloc, *task, *line, lent.get())
+            }
+            Event::Changed(task, line, reply) => {
+                let lent = reply.lend();
+                self.changed(alloc, *task, *line, lent.get())
+            }
         }
     }
 
@@ -130,32 +137,29 @@ impl<'s> Player<'s> {
         alloc: Global,
         task: u32,
         number: u32,
-        reply: &KeptReply,
+        given: &Reply,
     ) -> Result<Option<Player<'s>>, AllocError>
-        ensures { IfOk result (Takes self.entry (event.Done task number reply.now)) }
+        ensures { IfOk result (Takes self.entry (event.Done task number given.now)) }
     {
         if !self.is_at_call(task, number) {
             return Ok(None);
         }
         let line = self.line(task);
         let name = self.script.name_of(task);
-        let lent = reply.lend();
         let Player {
             script,
-            kernel,
+            mut kernel,
             mut standings,
         } = self;
-        match kernel.go_on(alloc, name, line, lent.get())? {
-            Some(kernel) => {
-                standings.set_phase(task as usize, Phase::Done);
-                Ok(Some(Player {
-                    script,
-                    kernel,
-                    standings,
-                }))
-            }
-            None => Ok(None),
+        if !kernel.go_on(alloc, name, line, given)? {
+            return Ok(None);
         }
+        standings.set_phase(task as usize, Phase::Done);
+        Ok(Some(Player {
+            script,
+            kernel,
+            standings,
+        }))
     }
 
     /// The change of the task's line is made, with this reply.
@@ -164,32 +168,29 @@ impl<'s> Player<'s> {
         alloc: Global,
         task: u32,
         number: u32,
-        reply: &KeptReply,
+        given: &Reply,
     ) -> Result<Option<Player<'s>>, AllocError>
-        ensures { IfOk result (Takes self.entry (event.Changed task number reply.now)) }
+        ensures { IfOk result (Takes self.entry (event.Changed task number given.now)) }
     {
         if !self.is_at_change(task, number) {
             return Ok(None);
         }
         let line = self.line(task);
         let name = self.script.name_of(task);
-        let lent = reply.lend();
         let Player {
             script,
-            kernel,
+            mut kernel,
             mut standings,
         } = self;
-        match kernel.go_on(alloc, name, line, lent.get())? {
-            Some(kernel) => {
-                standings.advance(task as usize);
-                Ok(Some(Player {
-                    script,
-                    kernel,
-                    standings,
-                }))
-            }
-            None => Ok(None),
+        if !kernel.go_on(alloc, name, line, given)? {
+            return Ok(None);
         }
+        standings.advance(task as usize);
+        Ok(Some(Player {
+            script,
+            kernel,
+            standings,
+        }))
     }
 
     /// Whether the call of the task's entry, at the line of that number, may be done.

@@ -71,7 +71,7 @@ impl Walk {
         ensures { self.new ≡ spec.asking kernel.now.specs me self.old
             (item_of kernel.now.objects (check.on me op id)) }
     {
-        let subject = kernel.parties.subject(me, me);
+        let subject = kernel.parties.process(me);
         let object = kernel.parties.object(id);
         let asked = Asked::of(op, Some(object));
         self.ask(&kernel.listed, me, &subject, &asked);
@@ -84,7 +84,7 @@ impl Walk {
         ensures { self.new ≡ spec.asking kernel.now.specs me self.old
             (item_of kernel.now.objects (check.by_itself me op)) }
     {
-        let subject = kernel.parties.subject(me, me);
+        let subject = kernel.parties.process(me);
         let asked = Asked::of(op, None);
         self.ask(&kernel.listed, me, &subject, &asked);
     }
@@ -96,7 +96,7 @@ impl Walk {
         ensures { self.new ≡ spec.asking kernel.now.specs me self.old
             (item_of kernel.now.objects (check.for_privilege me privilege)) }
     {
-        let subject = kernel.parties.subject(me, me);
+        let subject = kernel.parties.process(me);
         let asked = Asked {
             op: CheckOp::Priv,
             object: None,
@@ -144,7 +144,7 @@ impl Walk {
         ensures { self.new ≡ spec.asking kernel.now.specs me self.old
             (item_of kernel.now.objects (check.binding me tcp port id)) }
     {
-        let subject = kernel.parties.subject(me, me);
+        let subject = kernel.parties.process(me);
         let object = kernel.parties.object(id);
         let asked = Asked {
             op: CheckOp::SocketBind,
@@ -179,7 +179,7 @@ impl Walk {
               port = None;
             })) }
     {
-        let subject = kernel.parties.subject(me, me);
+        let subject = kernel.parties.process(me);
         let asked = Asked {
             op,
             object: object_in(&kernel.parties, id),

@@ -7,7 +7,7 @@ use Rattle.mf_audit.proofs.walk.Walk.on.Goals as goal
 
 pub returns : goal.returns
 returns c =
-    asked_so _ c.args.kernel.now c.kernel.view_is c.args.me c.args.self.now _ (item_with c.subject-subject.result c.of-asked.result) None (check.on c.args.me c.args.op c.args.id) c.ask.ensures
-    (ap (item_with c.subject-subject.result) c.of-asked.ensures
-    ∙ is_check c.kernel.inside.parties None (check.on c.args.me c.args.op c.args.id) c.subject-subject.result (Some c.object-object.result) None c.subject-subject.ensures
+    asked_so _ c.args.kernel.now c.kernel.view_is c.args.me c.args.self.now _ (item_with c.process-subject.result c.of-asked.result) None (check.on c.args.me c.args.op c.args.id) c.ask.ensures
+    (ap (item_with c.process-subject.result) c.of-asked.ensures
+    ∙ is_check c.kernel.inside.parties None (check.on c.args.me c.args.op c.args.id) c.process-subject.result (Some c.object-object.result) None c.process-subject.ensures
     (ap (λ (object : ObjectView). Some object) c.object-object.ensures) refl)

@@ -7,5 +7,5 @@ use Rattle.mf_audit.proofs.walk.Walk.privilege.Goals as goal
 
 pub returns : goal.returns
 returns c =
-    asked_so _ c.args.kernel.now c.kernel.view_is c.args.me c.args.self.now _ (item_with c.subject-subject.result (parts op.Priv None None (Some c.args.privilege) None)) None (check.for_privilege c.args.me c.args.privilege) c.ask.ensures
-    (is_check c.kernel.inside.parties None (check.for_privilege c.args.me c.args.privilege) c.subject-subject.result None None c.subject-subject.ensures refl refl)
+    asked_so _ c.args.kernel.now c.kernel.view_is c.args.me c.args.self.now _ (item_with c.process-subject.result (parts op.Priv None None (Some c.args.privilege) None)) None (check.for_privilege c.args.me c.args.privilege) c.ask.ensures
+    (is_check c.kernel.inside.parties None (check.for_privilege c.args.me c.args.privilege) c.process-subject.result None None c.process-subject.ensures refl refl)
