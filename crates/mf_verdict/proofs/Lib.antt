@@ -6,3 +6,4 @@ pub mod HistoryLines
 pub mod Begins
 pub mod Judged
 pub mod NotBoth
+pub mod FirstLines

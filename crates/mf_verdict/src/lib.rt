@@ -1,6 +1,7 @@
 //! The verdict on a text: whether it is that of a run of a script with its sources, and else the line at which it fails.
 #![tactic(auto)]
 
+mod front;
 mod header;
 mod laws;
 mod limits;

@@ -21,7 +21,7 @@ pub(crate) fn split_at_newline(text: &[u8]) -> Option<(&[u8], &[u8])>
 }
 
 /// The first line with its newline, or the whole text where it has none, and the text behind it.
-fn split_line(text: &[u8]) -> (&[u8], &[u8])
+pub(crate) fn split_line(text: &[u8]) -> (&[u8], &[u8])
     ensures first { IsFirstLine text.now result.0.now result.1.now }
     ensures all { length result.0.now + length result.1.now ≡ length text.now }
 {

@@ -9,6 +9,7 @@ ghost use Rattle.mf_verdict.specs.Pieces.{pieces};
 ghost use Rattle.mf_verdict.specs.Verdict.{IsAccepted, FailsAt, IsFirstWrong};
 ghost use Rattle.mf_verdict.specs.Judging.{line_count, AreSources, IsHistoryText, IsJudged};
 
+use crate::front::wrong_in_front;
 use crate::limits::CHECK_LIMIT;
 use crate::lines::{first_difference, first_lines, split_sources};
 use mf_audit::{Audit, audit_history};
@@ -27,6 +28,9 @@ pub fn verdict_on(alloc: Global, script: &Script, text: &[u8]) -> Result<Option<
         (FailsAt script.now text.now)) }
 {
     let (part, rest) = split_sources(text);
+    if let Some(line) = wrong_in_front(alloc, script, part)? {
+        return Ok(Some(line));
+    }
     match read_history(alloc, script, part) {
         Ok(history) => judge(alloc, script, &history, rest),
         Err(HistError::Line(number)) => {
@@ -100,7 +104,12 @@ fn count_lines(history: &History) -> u32
 }
 
 /// The first wrong line of a text, where the line of that number is the first that is none of a history.
-fn first_wrong(alloc: Global, script: &Script, part: &[u8], number: u32) -> Result<u32, AllocError>
+pub(crate) fn first_wrong(
+    alloc: Global,
+    script: &Script,
+    part: &[u8],
+    number: u32,
+) -> Result<u32, AllocError>
     requires formed { IsWellFormed script.now }
     requires within { length part.now ≤ CHECK_LIMIT }
     requires other { IsFirstOtherLine script.now part.now number }
