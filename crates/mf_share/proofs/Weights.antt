@@ -22,7 +22,7 @@ use Rattle.mf_core.specs.LegalHistory.{RunState, run_after, next_line, opening_r
 use Rattle.mf_core.specs.CoreView.{CoreView, open_of, progress_of, turn_at, AdvancesBy, AdvancesOn}
 use Rattle.mf_core.proofs.Consistency.{change_phase, done_phase, entered_phase, entry_phase}
 use Rattle.mf_share.specs.Passes.{ticket_turn}
-use Rattle.mf_share.specs.Weights.{entry_weight, weight_in, weights, open_weight}
+use Rattle.mf_share.specs.Weights.{entry_weight, risen, weight_in, weights, open_weight}
 
 -- a task's entry weighs no more than that of the sixteenth
 pub weight_fits : (t : ℕ) → t < TASK_LIMIT → 3 ^ t ≤ 3 ^ 15
@@ -140,11 +140,6 @@ pub weighs_nothing : (s : Script) (run : CoreView) → open_of run ≡ 0 → ope
 weighs_nothing s run none = weightless (progress_of run) (length s.tasks) none
 
 -- After each call of the core
-
--- how much more the entries weigh after a commit
-abbrev pub risen : Commit → ℕ → ℕ
-risen commit.Done t = entry_weight t false
-risen commit.Stale t = 0
 
 module _ (s : Script) (old new : CoreView) (t : ℕ) (lt : t < length s.tasks) where
   moved : (p : Progress) (before : Phase) → (progress_at (progress_of old) t).phase ≡ before → Advances (progress_of old) (progress_of new) t p

@@ -2,6 +2,8 @@
 -- tells of each task whether an entry of it is open, and whether its call is done (Laws): no events of other tasks balance one's own.
 use Rattle.std.specs.Prelude.{ℕ, zero, suc, ◌+◌, ◌*◌, ◌^◌, Bool, true, false, List, length}
 use Rattle.mf_calls.specs.declared.script.Script.{Script}
+use Rattle.mf_core.specs.declared.progress.Commit.{Commit}
+use Rattle.mf_core.specs.declared.progress.Commit.TheVariants as commit
 use Rattle.mf_core.specs.declared.progress.Phase.{Phase}
 use Rattle.mf_core.specs.declared.progress.Phase.TheVariants as phase
 use Rattle.mf_core.specs.declared.progress.Progress.{Progress}
@@ -12,6 +14,11 @@ use Rattle.mf_core.specs.CoreView.{CoreView, progress_of}
 abbrev pub entry_weight : ℕ → Bool → ℕ
 entry_weight t false = 3 ^ t
 entry_weight t true = 2 * 3 ^ t
+
+-- how much more an entry weighs after a commit of its call
+abbrev pub risen : Commit → ℕ → ℕ
+risen commit.Done t = entry_weight t false
+risen commit.Stale t = 0
 
 -- by the phase of the task: 0 where no entry of it is open
 abbrev pub weight_in : ℕ → Phase → ℕ

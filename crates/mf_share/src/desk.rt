@@ -1,6 +1,6 @@
 //! The value behind the kernel's lock: the core, with the books of lines done and of open entries.
-ghost use Rattle.std.specs.Prelude.{◌≡◌, ◌<◌, ◌++◌, ◌↔◌, true, false, IfOk, IsOk, IfErr, IfNone, IfSome, IsTrue, OnErr, Some};
-ghost use Rattle.mf_calls.specs.declared.limits.TheConstants.{TASK_LIMIT};
+ghost use Rattle.std.specs.Prelude.{◌≡◌, ◌<◌, ◌≤◌, ◌++◌, ◌↔◌, true, false, length, IfOk, IsOk, IfErr, IfNone, IfSome, IsTrue, OnErr, Some};
+ghost use Rattle.mf_calls.specs.declared.limits.TheConstants.{LINE_LIMIT};
 ghost use Rattle.mf_plan.specs.declared.reply.Payload.TheVariants as payload;
 ghost use Rattle.mf_plan.specs.declared.reply.Reply.{Reply};
 ghost use Rattle.mf_perform.specs.Refused.{is_ok};
@@ -13,7 +13,6 @@ ghost use Rattle.mf_core.specs.Next.{next_plan};
 ghost use Rattle.mf_core.specs.Policies.{StaysWhileWaiting, static_of};
 ghost use Rattle.mf_core.specs.CoreView.{with_next, specs_of, run_state, open_of, Changes, Commits};
 ghost use Rattle.mf_share.specs.Passes.{AgreesWithPass, AgreesWithTicket, IsCoreOf, pass_changed, pass_left, pass_turn, ticket_after, ticket_for};
-ghost use Rattle.mf_share.specs.Weights.{entry_weight};
 
 use crate::pass::{Job, Pass, Ticket};
 use crate::policies::Policies;
@@ -23,7 +22,7 @@ use mf_perform::Verdict;
 use mf_plan::Plan;
 use mf_policy::Policy;
 use std::alloc::{AllocError, Global};
-use std::marker::{Model, PhantomData};
+use std::marker::Model;
 use std::sync::ledger::{Book, Ledger};
 
 /// A core of the script that `J` names, with the total of lines done and that of what open entries weigh. Contracts see the
@@ -69,23 +68,11 @@ impl<'s, J: Job, B: Ledger> Desk<'s, J, B> {
             × (pass.new ≡ pass.old)) }
         ensures core { IsCoreOf J.script self.old }
     {
-        let _history = self.core.history();
-        let task = pass.task;
-        let lines = pass.lines;
-        if self.core.turn(task) != Turn::Entry || self.core.lines(task) != lines {
+        if !self.agrees_with(pass, Turn::Entry) {
             return None;
         }
-        self.core.enter(task);
-        let mut busy = pass.busy.split_off(1, 0);
-        self.busy.add(&mut busy, weight_of(task, false));
-        pass.out = true;
-        Some(Ticket {
-            task,
-            lines,
-            committed: false,
-            busy,
-            of: PhantomData,
-        })
+        self.core.enter(pass.task());
+        Some(pass.ticket(&mut self.busy))
     }
 
     /// Makes `plan` that of the ticket's call, from the present state. False where the core doesn't agree with the ticket;
@@ -98,13 +85,10 @@ impl<'s, J: Job, B: Ledger> Desk<'s, J, B> {
             × (plan.new ≡ plan.old) }
         ensures core { IsCoreOf J.script self.now }
     {
-        let _history = self.core.history();
-        let task = ticket.task;
-        let lines = ticket.lines;
-        if self.core.turn(task) != Turn::Entered || self.core.lines(task) != lines {
+        if !self.agrees_with_ticket(ticket) {
             return false;
         }
-        self.core.plan(task, plan);
+        self.core.plan(ticket.task(), plan);
         true
     }
 
@@ -133,18 +117,12 @@ impl<'s, J: Job, B: Ledger> Desk<'s, J, B> {
         ensures memory { is_ok (reply_to plan.now verdict.now.denied payload.None) ≡ false → IsOk result }
         ensures core { IsCoreOf J.script self.old }
     {
-        let _history = self.core.history();
-        self.busy.audit(&mut ticket.busy);
-        let task = ticket.task;
-        let lines = ticket.lines;
-        if self.core.turn(task) != Turn::Entered || self.core.lines(task) != lines {
+        ticket.audit(&mut self.busy);
+        if !self.agrees_with_ticket(ticket) {
             return Ok(None);
         }
-        let commit = self.core.done(alloc, task, list, plan, verdict)?;
-        if commit == Commit::Done {
-            self.busy.add(&mut ticket.busy, weight_of(task, false));
-            ticket.committed = true;
-        }
+        let commit = self.core.done(alloc, ticket.task(), list, plan, verdict)?;
+        ticket.commit(&mut self.busy, &commit);
         Ok(Some(commit))
     }
 
@@ -161,34 +139,11 @@ impl<'s, J: Job, B: Ledger> Desk<'s, J, B> {
             × (self.new ≡ self.old) × (pass.new ≡ pass.old)) }
         ensures core { IsCoreOf J.script self.old }
     {
-        let _history = self.core.history();
-        let task = ticket.task;
-        let lines = ticket.lines;
-        let turn = if ticket.committed {
-            Turn::Done
-        } else {
-            Turn::Entered
-        };
-        if self.core.turn(task) != turn || self.core.lines(task) != lines {
+        if !self.agrees_with_ticket(&ticket) {
             return Err(ticket);
         }
-        self.core.leave(task);
-        let Ticket {
-            task: _,
-            lines: _,
-            committed,
-            mut busy,
-            of: _,
-        } = ticket;
-        self.busy.sub(&mut busy, weight_of(task, committed));
-        pass.busy.merge(busy);
-        pass.out = false;
-        if committed {
-            self.done.add(&mut pass.done, 1);
-            pass.lines += 1;
-        } else {
-            pass.stopped = true;
-        }
+        self.core.leave(ticket.task());
+        pass.spend(ticket, &mut self.done, &mut self.busy);
         Ok(())
     }
 
@@ -225,22 +180,42 @@ impl<'s, J: Job, B: Ledger> Desk<'s, J, B> {
             → is_ok reply ≡ false → IsOk result }
         ensures core { IsCoreOf J.script self.old }
     {
-        let _history = self.core.history();
-        if !self.agrees_with(pass)
-            || !Listed::new(fixed, &policies.list).same_specs(&self.core.state().specs)
+        if !self.agrees_with(pass, Turn::Change)
+            || !Listed::new(fixed, policies.list()).same_specs(&self.core.state().specs)
         {
             return Ok(None);
         }
         Ok(Some(self.make_change(alloc, pass, fixed, policies)?))
     }
 
-    /// Whether the core agrees with a pass whose next line is a change.
-    fn agrees_with(&self, pass: &Pass<J, B>) -> bool
-        requires turn { pass_turn J.script pass.now ≡ turn.Change }
-        ensures { IsTrue result ↔ AgreesWithPass self.now pass.now }
+    /// Whether the core agrees with a pass that says this turn.
+    fn agrees_with(&self, pass: &Pass<J, B>, next: Turn) -> bool
+        requires { pass_turn J.script pass.now ≡ next }
+        ensures agrees { IsTrue result ↔ AgreesWithPass self.now pass.now }
+        ensures task { pass.now.task < length J.script.tasks }
+        ensures few { IsTrue result → pass.now.lines ≤ LINE_LIMIT }
+        ensures core { IsCoreOf J.script self.now }
     {
         let _history = self.core.history();
-        self.core.turn(pass.task) == Turn::Change && self.core.lines(pass.task) == pass.lines
+        let lines = self.core.lines(pass.task);
+        is_at(self.core.turn(pass.task), lines, next, pass.lines)
+    }
+
+    /// Whether the core agrees with a ticket.
+    fn agrees_with_ticket(&self, ticket: &Ticket<J, B>) -> bool
+        ensures agrees { IsTrue result ↔ AgreesWithTicket self.now ticket.now }
+        ensures task { ticket.now.task < length J.script.tasks }
+        ensures few { IsTrue result → ticket.now.lines ≤ LINE_LIMIT }
+        ensures core { IsCoreOf J.script self.now }
+    {
+        let _history = self.core.history();
+        let lines = self.core.lines(ticket.task);
+        is_at(
+            self.core.turn(ticket.task),
+            lines,
+            ticket.its_turn(),
+            ticket.lines,
+        )
     }
 
     /// Makes the change, and notes it in the pass and among the lines done.
@@ -255,6 +230,8 @@ impl<'s, J: Job, B: Ledger> Desk<'s, J, B> {
         requires out { pass.old.out ≡ false }
         requires turn { pass_turn J.script pass.old ≡ turn.Change }
         requires agrees { AgreesWithPass self.old pass.old }
+        requires task { pass.old.task < length J.script.tasks }
+        requires few { pass.old.lines ≤ LINE_LIMIT }
         requires listed { fixed.now ++ policies.old.list ≡ specs_of self.old }
         ensures ok { IfOk result (λ outcome. Changes self.old pass.old.task outcome self.new
             × (fixed.now ++ policies.new.list ≡ specs_of self.new)
@@ -266,26 +243,16 @@ impl<'s, J: Job, B: Ledger> Desk<'s, J, B> {
             → next_reply self.old.script (run_state self.old) pass.old.task ≡ Some reply
             → is_ok reply ≡ false → IsOk result }
     {
-        let _history = self.core.history();
         let (list, catalogue) = (&mut policies.list, &mut policies.catalogue);
-        let outcome = self.core.change(alloc, pass.task, fixed, list, catalogue);
-        match outcome {
-            Ok(ChangeOutcome::Done) => {
-                self.done.add(&mut pass.done, 1);
-                pass.lines += 1;
-            }
-            Ok(ChangeOutcome::Waits(_)) => {}
-            Err(_) => pass.stopped = true,
-        }
+        let outcome = self.core.change(alloc, pass.task(), fixed, list, catalogue);
+        pass.note(&mut self.done, &outcome);
         outcome
     }
 }
 
-/// What an open entry of the task weighs, before its commit or after.
-fn weight_of(task: u32, committed: bool) -> u64
-    requires { task < TASK_LIMIT }
-    ensures { result ≡ entry_weight task committed }
+/// Whether a task is at that turn, with that many lines done.
+fn is_at(at: Turn, lines: u32, its_turn: Turn, its_lines: u32) -> bool
+    ensures { IsTrue result ↔ ((at ≡ its_turn) × (lines ≡ its_lines)) }
 {
-    let entered = 3u64.pow(task);
-    if committed { 2 * entered } else { entered }
+    at == its_turn && lines == its_lines
 }

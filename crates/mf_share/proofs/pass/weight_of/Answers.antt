@@ -1,6 +1,6 @@
 use Rattle.std.proofs.Common.{arith}
 use Rattle.mf_share.proofs.Weights.{weight_fits}
-use Rattle.mf_share.proofs.desk.weight_of.Goals as goal
+use Rattle.mf_share.proofs.pass.weight_of.Goals as goal
 
 pub pow-entered-requires : goal.pow-entered-requires
 pow-entered-requires c = omega (arith, weight_fits c.args.task c.requires)
