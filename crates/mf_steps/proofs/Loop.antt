@@ -1,13 +1,18 @@
 -- Steps one after another.
-use Rattle.std.proofs.Common.{◌≡◌, ℕ, ◌+◌, ◌<◌, ◌≤◌, Bool, true, false, List, [], ◌∷◌, ◌++◌, length, get_or, take, drop, Some, refl, sym, ap, ◌∙◌, subst, arith, append_assoc, append-nil}
+use Rattle.std.proofs.Common.{◌≡◌, ℕ, ◌+◌, ◌<◌, ◌≤◌, Bool, true, false, List, [], ◌∷◌, ◌++◌, length, get_or, take, drop, Option, Some, None, refl, sym, ap, ◌∙◌, subst, arith, append_assoc, append-nil}
 use Rattle.std.proofs.lemmas.List.{length-take-le, take_all, take_more, take-append-drop}
+use Rattle.std.specs.List.{flat_map}
 use Rattle.mf_calls.specs.declared.script.Script.{Script}
 use Rattle.mf_calls.specs.declared.script.Step.{Step}
+use Rattle.mf_core.specs.CoreView.{CoreView}
+use Rattle.mf_core.specs.Opening.{boots_of}
+use Rattle.mf_hist.specs.HistoryText.{boot_text}
 use Rattle.mf_steps.specs.StepRun.{StepRun}
 use Rattle.mf_steps.specs.Stepper.{StepperView, step_run}
 use Rattle.mf_calls.specs.Tasks.{task_named}
 use Rattle.mf_steps.specs.Steps.{AreTaken, IsTaken, IsRefused, IsInTurn}
-use Rattle.mf_steps.specs.Answers.{StepsOrNot}
+use Rattle.mf_steps.specs.Answers.{StepsOrNot, TakesSteps}
+use Rattle.mf_steps.specs.StepText.{IsStepRun}
 
 some_is : {A : Type 0} (x y : A) → Some x ≡ Some y → x ≡ y
 some_is x y e = cc
@@ -57,3 +62,22 @@ steps_before steps i lt = let len : length (take i steps) ≡ i = length-take-le
 
 pub all_steps : (steps : List Step) (i : ℕ) → length steps ≤ i → take i steps ≡ steps
 all_steps steps i all = take_all i steps all
+
+-- The answer of the whole, where all steps are taken
+
+pub all_taken : (s : Script) (old : StepperView) (core : CoreView) (text : List ℕ) (found : Option ℕ) → found ≡ None → TakesSteps s (step_run old) text found → old.core.script ≡ s → core ≡ old.core
+    → core.history.boots ≡ boots_of core.script → IsStepRun s core.history text × (core.script ≡ s)
+all_taken s old core text found is h script same boots =
+    let taken : TakesSteps s (step_run old) text None = subst (TakesSteps s (step_run old) text) is h in
+    let script_is : core.script ≡ s = ap (λ (core : CoreView). core.script) same ∙ script in
+    let boots_are : core.history.boots ≡ boots_of s = boots ∙ ap boots_of script_is in (
+      record {
+        last = step_run old;
+        printed = taken.0;
+        taken = taken.1;
+        boots = boots_are;
+        events = ap (λ (core : CoreView). core.history.events.list) same;
+        whole = taken.2 ∙ ap (λ boots. flat_map boot_text boots ++ taken.0) (sym boots_are);
+      },
+      script_is,
+    )

@@ -56,8 +56,8 @@ impl<'s, P: Policy> Stepper<'s, P> {
         ensures script { IfOk result (λ f. f.core.script ≡ script.now) }
         ensures opening { IfOk result (λ f. step_run f ≡ step_opening script.now) }
     {
-        let (core, fixed, list, catalogue) = Core::new(alloc, script, modules)?;
         let kept = KeptPlans::for_tasks(alloc, &script.tasks)?;
+        let (core, fixed, list, catalogue) = Core::new(alloc, script, modules)?;
         Ok(Stepper {
             script,
             core,

@@ -1,51 +1,8 @@
-use Rattle.std.proofs.Common.{◌≡◌, ◌+◌, ◌++◌, take, drop, sym, ap, ◌∙◌, subst}
-use Rattle.std.specs.List.{flat_map}
-use Rattle.mf_core.specs.CoreView.{CoreView}
-use Rattle.mf_core.specs.Opening.{boots_of}
-use Rattle.mf_hist.specs.HistoryText.{boot_text}
-use Rattle.mf_steps.specs.StepRun.{step_opening}
-use Rattle.mf_steps.specs.Stepper.{step_run}
-use Rattle.mf_steps.specs.Steps.{AreTaken, IsRefused}
-use Rattle.mf_steps.proofs.Loop.{next_taken, step_refused, split_steps, steps_before, all_steps}
+use Rattle.std.proofs.Common.{string_bytes}
+use Rattle.mf_steps.proofs.Loop.{all_taken}
 use Rattle.mf_steps.proofs.stepping.run_steps.Goals as goal
-
-pub loop-i-preserved : goal.loop-i-preserved
-loop-i-preserved g c =
-    let so_far = c.loop-i.invariant in
-    let next = next_taken c.args.script.now (step_opening c.args.script.now) c.loop-i.stepper c.step.new.self c.as_slice-steps.result.now c.loop-i.i c.index-steps-i.result c.in_ok-step.field-0 so_far.0 _ _
-    (flat_map boot_text (boots_of c.args.script.now)) c.loop-i-test.true c.index-steps-i.is so_far.1 so_far.2 so_far.3 c.if-not-branch.false c.in_ok-step.ensures.step in
-    (next.0, next.1, c.in_ok-step.ensures.script ∙ so_far.2, next.2)
-
-pub returns-then-not-branch : goal.returns-then-not-branch
-returns-then-not-branch g c =
-    let so_far = c.loop-i.invariant in
-    let steps = c.as_slice-steps.result.now in
-    record {
-      last = step_run c.loop-i.stepper;
-      printed = so_far.0;
-      before = take c.loop-i.i steps;
-      refused = c.index-steps-i.result;
-      behind = drop (c.loop-i.i + 1) steps;
-      steps = sym c.as_slice-steps.ensures ∙ split_steps steps c.loop-i.i c.index-steps-i.result c.loop-i-test.true c.index-steps-i.is;
-      taken = so_far.1;
-      refuses = subst (λ s. IsRefused s (step_run c.loop-i.stepper) c.index-steps-i.result) so_far.2
-          (step_refused c.in_ok-step.field-0 c.loop-i.stepper c.index-steps-i.result c.step.new.self _ _ c.if-not-branch.true c.in_ok-step.ensures.step);
-      is_next = steps_before steps c.loop-i.i c.loop-i-test.true;
-    }
 
 pub returns : goal.returns
 returns g c =
-    let so_far = c.loop-i.invariant in
-    let script_is : c.into_core-core.result.script ≡ c.args.script.now = ap (λ (core : CoreView). core.script) c.into_core-core.ensures.core ∙ so_far.2 in
-    let boots_are : c.into_core-core.result.history.boots ≡ boots_of c.args.script.now = c.into_core-core.ensures.boots ∙ ap boots_of script_is in (
-      record {
-        last = step_run c.loop-i.stepper;
-        printed = so_far.0;
-        taken = subst (λ steps. AreTaken c.args.script.now (step_opening c.args.script.now) steps so_far.0 (step_run c.loop-i.stepper))
-            (all_steps c.as_slice-steps.result.now c.loop-i.i c.loop-i-test.false ∙ c.as_slice-steps.ensures) so_far.1;
-        boots = boots_are;
-        events = ap (λ (core : CoreView). core.history.events.list) c.into_core-core.ensures.core;
-        whole = so_far.3 ∙ ap (λ boots. flat_map boot_text boots ++ so_far.0) (sym boots_are);
-      },
-      script_is,
-    )
+    all_taken c.args.script.now c.take_steps.new.stepper c.into_core-core.result (string_bytes c.take_steps.new.text) c.in_ok-number.field-0 c.in_default.is c.in_ok-number.ensures.steps
+    c.take_steps.ensures.script c.into_core-core.ensures.core c.into_core-core.ensures.boots

@@ -5,7 +5,7 @@ use Rattle.mf_hist.specs.HistoryText.{boot_text}
 use Rattle.mf_steps.specs.StepRun.{step_opening}
 use Rattle.mf_steps.specs.Stepper.{step_run}
 use Rattle.mf_steps.specs.Steps.{AreTaken}
-use Rattle.mf_steps.proofs.stepping.run_steps.Given as goal
+use Rattle.mf_steps.proofs.stepping.take_steps.Given as goal
 
 abbrev pub invariant-loop-i : goal.invariant-loop-i
 invariant-loop-i g l =
