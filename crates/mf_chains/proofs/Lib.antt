@@ -1,0 +1,14 @@
+mod Apart
+mod Elements
+mod FewEvents
+mod Joining
+mod Lacking
+mod Judging
+mod Leading
+mod Linking
+mod Listing
+mod Receiving
+mod Sourcing
+mod Telling
+mod Told
+mod Traced

@@ -1,0 +1,11 @@
+pub mod Chains
+pub mod ChainsText
+pub mod Happenings
+pub mod Histories
+pub mod Keepers
+pub mod Kept
+pub mod Laws
+pub mod Links
+pub mod Marks
+pub mod Table
+pub mod Tracing
