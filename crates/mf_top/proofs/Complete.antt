@@ -20,7 +20,7 @@ use Rattle.mf_verdict.specs.Verdict.{FailsAt, IsAccepted}
 use Rattle.mf_verdict.specs.declared.limits.TheConstants.{CHECK_LIMIT}
 use Rattle.mf_verdict.proofs.Split.{one_split}
 use Rattle.mf_verdict.proofs.NotBoth.{accepted_never_fails}
-use Rattle.mf_top.specs.Answers.{CanBeDone, HoldsAccepted, HoldsScript, HoldsSteps, IsCheckOutcome, IsOutcomeOf, IsSourceRefusal, IsStepOutcome, IsTooLong, IsWritten, status_of}
+use Rattle.mf_top.specs.Answers.{CanBeDone, HoldsAccepted, HoldsScript, HoldsSteps, IsChainsOutcome, IsCheckOutcome, IsDone, IsOutcomeOf, IsSourceRefusal, IsStepOutcome, IsTooLong, IsWritten, status_of}
 use Rattle.mf_top.specs.Check.{FailsAtLine, HasFault, HasNoHeader, HoldsRun, IsInput}
 use Rattle.mf_top.specs.Steps.{RefusesStep}
 use Rattle.mf_top.specs.Reading.{AreScript, Held}
@@ -78,6 +78,24 @@ source_done source refusal.ReadFault holds quiet cause = absurd (quiet cause)
 source_done source refusal.TooLong holds quiet cause =
     absurd (fits SCRIPT_LIMIT source.before source.after (some_and source.before (λ bytes. (s : Script) × AreScript bytes s) _ (λ bytes is. is.1.0) holds) cause.1)
 source_done source refusal.Memory holds quiet cause = inr refl
+source_done source (refusal.TooManyChains text) holds quiet cause = absurd cause
+
+-- but for its chains
+
+or_too_many : (status : ℕ) → IsDoneOrNot status → IsDone (Some command.Chains) status
+or_too_many status (inl done) = inl done
+or_too_many status (inr lacks) = inr (inl lacks)
+
+chains_done : (source : Seen) (refused : Refusal) → HoldsScript source → ¬ FaultsRose source → IsChainsOutcome source (Err refused) → IsDone (Some command.Chains) (status_of (Err refused))
+chains_done source (refusal.TooManyChains text) holds quiet cause = inr (inr refl)
+chains_done source (refusal.Script line fault errno) holds quiet cause = or_too_many _ (source_done source (refusal.Script line fault errno) holds quiet cause)
+chains_done source refusal.TooLong holds quiet cause = or_too_many _ (source_done source refusal.TooLong holds quiet cause)
+chains_done source refusal.Memory holds quiet cause = inr (inl refl)
+chains_done source refusal.Usage holds quiet cause = absurd cause
+chains_done source (refusal.Step number) holds quiet cause = absurd cause
+chains_done source (refusal.Fails line) holds quiet cause = absurd cause
+chains_done source refusal.Header holds quiet cause = absurd cause
+chains_done source refusal.ReadFault holds quiet cause = absurd (quiet cause)
 
 -- and no step of one whose steps are all taken
 
@@ -100,6 +118,7 @@ step_done source refused holds quiet cause = by_refusal refused cause
     by_refusal refusal.ReadFault cause = source_done source refusal.ReadFault script quiet cause
     by_refusal refusal.TooLong cause = source_done source refusal.TooLong script quiet cause
     by_refusal refusal.Memory cause = inr refl
+    by_refusal (refusal.TooManyChains text) cause = absurd cause
 
 -- nor the text of a run of it, where it is checked
 
@@ -131,12 +150,17 @@ check_done source refusal.ReadFault holds quiet cause = absurd (quiet cause)
 check_done source refusal.TooLong holds quiet cause =
     absurd (fits CHECK_LIMIT source.before source.after (some_and source.before HoldsRun _ (λ bytes is. is.2.few) holds) cause.1)
 check_done source refusal.Memory holds quiet cause = inr refl
+check_done source (refusal.TooManyChains text) holds quiet cause = absurd cause.1.2
 
 outcome_done : (asked : Option Command) (source : Seen) (outcome : Result (List ℕ) Refusal) → CanBeDone asked source → ¬ FaultsRose source → IsOutcomeOf asked source outcome
-    → IsDoneOrNot (status_of outcome)
+    → IsDone asked (status_of outcome)
 outcome_done None source outcome can quiet cause = absurd can
 outcome_done (Some command.Run) source (Ok text) can quiet cause = inl refl
 outcome_done (Some command.Run) source (Err refused) can quiet cause = source_done source refused can quiet cause
+outcome_done (Some command.Matrix) source (Ok text) can quiet cause = inl refl
+outcome_done (Some command.Matrix) source (Err refused) can quiet cause = source_done source refused can quiet cause
+outcome_done (Some command.Chains) source (Ok text) can quiet cause = inl refl
+outcome_done (Some command.Chains) source (Err refused) can quiet cause = chains_done source refused can quiet cause
 outcome_done (Some command.Step) source (Ok text) can quiet cause = inl refl
 outcome_done (Some command.Step) source (Err refused) can quiet cause = step_done source refused can quiet cause
 outcome_done (Some command.Check) source (Ok text) can quiet cause = inl refl
@@ -150,8 +174,9 @@ outcome_done (Some (command.Gen lines tasks)) source (Err refusal.Header) can qu
 outcome_done (Some (command.Gen lines tasks)) source (Err refusal.ReadFault) can quiet cause = absurd cause.0
 outcome_done (Some (command.Gen lines tasks)) source (Err refusal.TooLong) can quiet cause = absurd cause.0
 outcome_done (Some (command.Gen lines tasks)) source (Err refusal.Memory) can quiet cause = inr refl
+outcome_done (Some (command.Gen lines tasks)) source (Err (refusal.TooManyChains text)) can quiet cause = absurd cause.0
 
 pub complete : (asked : Option Command) (source sink : Seen) (outcome : Result (List ℕ) Refusal) (status : ℕ) → CanBeDone asked source → ¬ FaultsRose source → ¬ FaultsRose sink
-    → IsOutcomeOf asked source outcome → IsWritten sink outcome status → IsDoneOrNot status
-complete asked source sink outcome status can quiet still cause (inl whole) = subst IsDoneOrNot (sym whole.0) (outcome_done asked source outcome can quiet cause)
+    → IsOutcomeOf asked source outcome → IsWritten sink outcome status → IsDone asked status
+complete asked source sink outcome status can quiet still cause (inl whole) = subst (IsDone asked) (sym whole.0) (outcome_done asked source outcome can quiet cause)
 complete asked source sink outcome status can quiet still cause (inr part) = absurd (still part.1)

@@ -7,6 +7,7 @@ pub mod Modules
 pub mod Whole
 pub mod Passes
 pub mod Summed
+pub mod Slotted
 mod FromSource
 mod Stepped
 mod Told

@@ -19,6 +19,7 @@ four (refusal.Step number) e = absurd (omega (arith, e))
 four (refusal.Fails line) e = absurd (omega (arith, e))
 four refusal.Header e = absurd (omega (arith, e))
 four refusal.Memory e = absurd (omega (arith, e))
+four (refusal.TooManyChains text) e = absurd (omega (arith, e))
 
 no_five : (refused : Refusal) → refusal_status refused ≢ 5
 no_five refusal.ReadFault e = omega (arith, e)
@@ -29,6 +30,7 @@ no_five (refusal.Step number) e = omega (arith, e)
 no_five (refusal.Fails line) e = omega (arith, e)
 no_five refusal.Header e = omega (arith, e)
 no_five refusal.Memory e = omega (arith, e)
+no_five (refusal.TooManyChains text) e = omega (arith, e)
 
 no_usage : (outcome : Result (List ℕ) Refusal) → outcome ≡ Err refusal.ReadFault → outcome ≡ Err refusal.Usage → ⊥
 no_usage outcome e f = cc
@@ -36,6 +38,8 @@ no_usage outcome e f = cc
 fault_rose : (asked : Option Command) (source : Seen) → IsOutcomeOf asked source (Err refusal.ReadFault) → FaultsRose source
 fault_rose None source cause = absurd (no_usage (Err refusal.ReadFault) refl cause.0)
 fault_rose (Some command.Run) source cause = cause
+fault_rose (Some command.Matrix) source cause = cause
+fault_rose (Some command.Chains) source cause = cause
 fault_rose (Some command.Step) source cause = cause
 fault_rose (Some command.Check) source cause = cause
 fault_rose (Some (command.Gen lines tasks)) source cause = absurd cause.0

@@ -16,6 +16,7 @@ step_refusal source refusal.Header cause = absurd cause
 step_refusal source refusal.ReadFault cause = cause
 step_refusal source refusal.TooLong cause = cause
 step_refusal source refusal.Memory cause = cause
+step_refusal source (refusal.TooManyChains text) cause = absurd cause
 
 pub stepped : (source : Seen) (s : Script) (outcome : Result (List ℕ) Refusal) → IsRead source (Ok s) → AreStepped s outcome → IsStepOutcome source outcome
 stepped source s (Ok text) read is = (read.0, (read.1.0, read.1.1, (s, read.1.2, is)))
@@ -27,3 +28,4 @@ stepped source s (Err (refusal.Fails line)) read is = absurd is
 stepped source s (Err refusal.Header) read is = absurd is
 stepped source s (Err refusal.ReadFault) read is = absurd is
 stepped source s (Err refusal.TooLong) read is = absurd is
+stepped source s (Err (refusal.TooManyChains text)) read is = absurd is

@@ -1,14 +1,16 @@
--- What was written where the status is 0.
-use Rattle.std.proofs.Common.{◌≡◌, ℕ, List, Option, Some, Result, Ok, Err, inl, inr, refl, sym, ◌∙◌, subst, arith}
+-- What was written where the status is 0, or 11.
+use Rattle.std.proofs.Common.{◌≡◌, ℕ, List, ◌++◌, Option, Some, Result, Ok, Err, String, string_bytes, inl, inr, refl, sym, ap, ◌∙◌, subst, arith}
+use Rattle.std.specs.Global.{Global}
+use Rattle.std.specs.Prelude.{codes}
 use Rattle.mf_io.specs.Outside.{Seen, Took}
 use Rattle.mf_top.specs.declared.refusal.Refusal.{Refusal}
 use Rattle.mf_top.specs.declared.refusal.Refusal.TheVariants as refusal
 use Rattle.mf_top.specs.declared.command.Command.{Command}
 use Rattle.mf_top.specs.declared.command.Command.TheVariants as command
-use Rattle.mf_top.specs.Answers.{IsCheckOutcome, IsRunOutcome, IsStepOutcome, IsLoaded, IsLoadOutcome, IsOutcomeOf, IsWritten, WroteHistory, WroteSummary, refusal_status}
-use Rattle.mf_top.specs.Check.{HoldsRun, IsVerdict, WroteYes}
+use Rattle.mf_top.specs.Answers.{IsChainsOutcome, IsCheckOutcome, IsStepOutcome, IsTextOutcome, IsLoaded, IsLoadOutcome, IsOutcomeOf, IsWritten, WroteChains, WroteHistory, WroteMatrix, WroteSummary, WroteTooMany, refusal_status, refusal_text}
+use Rattle.mf_top.specs.Check.{IsVerdict, WroteYes}
 use Rattle.mf_top.specs.Reading.{Held}
-use Rattle.mf_top.specs.Runs.{IsRunText}
+use Rattle.mf_top.specs.Runs.{IsChainsText, IsMatrixText, IsRunText, IsTooManyText}
 use Rattle.mf_top.specs.Steps.{IsStepText, WroteSteps}
 
 never_zero : (refused : Refusal) → refusal_status refused ≡ 0 → ⊥
@@ -20,6 +22,19 @@ never_zero refusal.Header e = omega (arith, e)
 never_zero refusal.ReadFault e = omega (arith, e)
 never_zero refusal.TooLong e = omega (arith, e)
 never_zero refusal.Memory e = omega (arith, e)
+never_zero (refusal.TooManyChains text) e = omega (arith, e)
+
+-- 11 is the status of too many chains alone
+eleven : (refused : Refusal) → refusal_status refused ≡ 11 → (text : String Global) × (refused ≡ refusal.TooManyChains text)
+eleven (refusal.TooManyChains text) e = (text, refl)
+eleven refusal.Usage e = absurd (omega (arith, e))
+eleven (refusal.Script line fault errno) e = absurd (omega (arith, e))
+eleven (refusal.Step number) e = absurd (omega (arith, e))
+eleven (refusal.Fails line) e = absurd (omega (arith, e))
+eleven refusal.Header e = absurd (omega (arith, e))
+eleven refusal.ReadFault e = absurd (omega (arith, e))
+eleven refusal.TooLong e = absurd (omega (arith, e))
+eleven refusal.Memory e = absurd (omega (arith, e))
 
 -- the whole text, and there was one
 whole_text : (sink : Seen) (outcome : Result (List ℕ) Refusal) (status : ℕ) → status ≡ 0 → IsWritten sink outcome status
@@ -28,15 +43,30 @@ whole_text sink (Ok text) status zero (inl whole) = (text, refl, whole.2)
 whole_text sink (Err refused) status zero (inl whole) = absurd (never_zero refused (sym whole.0 ∙ zero))
 whole_text sink outcome status zero (inr part) = absurd (omega (arith, zero, part.0))
 
+-- the text of a run, and the line behind it
+text_of_run : (sink : Seen) (outcome : Result (List ℕ) Refusal) (status : ℕ) → status ≡ 11 → IsWritten sink outcome status
+    → (text : String Global) × (outcome ≡ Err (refusal.TooManyChains text)) × Took sink.before sink.after (string_bytes text ++ codes "macsim: too many chains\n")
+text_of_run sink (Ok text) status is (inl whole) = absurd (omega (arith, is, whole.0))
+text_of_run sink (Err refused) status is (inl whole) =
+    let found = eleven refused (sym whole.0 ∙ is) in
+    (found.0, ap Err found.1, subst (λ (r : Refusal). Took sink.before sink.after (refusal_text r)) found.1 whole.2)
+text_of_run sink outcome status is (inr part) = absurd (omega (arith, is, part.0))
+
 took_of : (source sink : Seen) (text : List ℕ) (IsOf : List ℕ → List ℕ → Type 0) → Held source (λ bytes. IsOf bytes text) → Took sink.before sink.after text
     → Held source (λ bytes. (text : List ℕ) × IsOf bytes text × Took sink.before sink.after text)
 took_of source sink text IsOf held took = (held.0, held.1, (text, held.2, took))
 
 module _ (source sink : Seen) (outcome : Result (List ℕ) Refusal) (status : ℕ) (zero : status ≡ 0) (written : IsWritten sink outcome status) where
-  wrote_history : IsRunOutcome source outcome → WroteHistory source sink
-  wrote_history cause =
+  wrote_text : (IsTextOf : List ℕ → List ℕ → Type 0) → IsTextOutcome IsTextOf source outcome
+      → Held source (λ bytes. (text : List ℕ) × IsTextOf bytes text × Took sink.before sink.after text)
+  wrote_text IsTextOf cause =
       let all = whole_text sink outcome status zero written in
-      took_of source sink all.0 IsRunText (subst (IsRunOutcome source) all.1 cause).1 all.2
+      took_of source sink all.0 IsTextOf (subst (IsTextOutcome IsTextOf source) all.1 cause).1 all.2
+
+  wrote_chains : IsChainsOutcome source outcome → WroteChains source sink
+  wrote_chains cause =
+      let all = whole_text sink outcome status zero written in
+      took_of source sink all.0 IsChainsText (subst (IsChainsOutcome source) all.1 cause).1 all.2
 
   pub wrote_steps : IsStepOutcome source outcome → WroteSteps source sink
   wrote_steps cause =
@@ -56,7 +86,13 @@ module _ (source sink : Seen) (outcome : Result (List ℕ) Refusal) (status : �
 
   -- the same by what the words ask for
   pub history_asked : (asked : Option Command) → asked ≡ Some command.Run → IsOutcomeOf asked source outcome → WroteHistory source sink
-  history_asked asked is cause = wrote_history (subst (λ (a : Option Command). IsOutcomeOf a source outcome) is cause)
+  history_asked asked is cause = wrote_text IsRunText (subst (λ (a : Option Command). IsOutcomeOf a source outcome) is cause)
+
+  pub matrix_asked : (asked : Option Command) → asked ≡ Some command.Matrix → IsOutcomeOf asked source outcome → WroteMatrix source sink
+  matrix_asked asked is cause = wrote_text IsMatrixText (subst (λ (a : Option Command). IsOutcomeOf a source outcome) is cause)
+
+  pub chains_asked : (asked : Option Command) → asked ≡ Some command.Chains → IsOutcomeOf asked source outcome → WroteChains source sink
+  chains_asked asked is cause = wrote_chains (subst (λ (a : Option Command). IsOutcomeOf a source outcome) is cause)
 
   pub steps_asked : (asked : Option Command) → asked ≡ Some command.Step → IsOutcomeOf asked source outcome → WroteSteps source sink
   steps_asked asked is cause = wrote_steps (subst (λ (a : Option Command). IsOutcomeOf a source outcome) is cause)
@@ -66,3 +102,11 @@ module _ (source sink : Seen) (outcome : Result (List ℕ) Refusal) (status : �
 
   pub summary_asked : (asked : Option Command) (lines tasks : ℕ) → asked ≡ Some (command.Gen lines tasks) → IsOutcomeOf asked source outcome → WroteSummary lines tasks source sink
   summary_asked asked lines tasks is cause = wrote_summary lines tasks (subst (λ (a : Option Command). IsOutcomeOf a source outcome) is cause)
+
+pub too_many_asked : (source sink : Seen) (outcome : Result (List ℕ) Refusal) (status : ℕ) → status ≡ 11 → IsWritten sink outcome status → (asked : Option Command)
+    → asked ≡ Some command.Chains → IsOutcomeOf asked source outcome → WroteTooMany source sink
+too_many_asked source sink outcome status eleven written asked is cause =
+    let run = text_of_run sink outcome status eleven written in
+    let of_chains : IsChainsOutcome source outcome = subst (λ (a : Option Command). IsOutcomeOf a source outcome) is cause in
+    let held : Held source (λ bytes. IsTooManyText bytes (string_bytes run.0)) = (subst (IsChainsOutcome source) run.1 of_chains).1 in
+    (held.0, held.1, (string_bytes run.0, held.2, run.2))

@@ -1,5 +1,5 @@
 -- What the program may return and write, and why, by docs/MANUAL.md (EXIT STATUS).
-use Rattle.std.specs.Prelude.{◌≡◌, ◌⊎◌, ℕ, ◌≤◌, List, [], ◌++◌, length, Some, Option, None, IfSome, IsSomeAnd, Result, Ok, Err, codes, ◌+◌, ◌<◌}
+use Rattle.std.specs.Prelude.{◌≡◌, ◌⊎◌, ℕ, ◌≤◌, List, [], ◌++◌, length, Some, Option, None, IfSome, IsSomeAnd, Result, Ok, Err, codes, ◌+◌, ◌<◌, string_bytes}
 use Rattle.std.specs.Fmt.{decimal}
 use Rattle.mf_errno.specs.declared.errno.Errno.{Errno}
 use Rattle.mf_errno.specs.Names.{error_text}
@@ -20,12 +20,24 @@ use Rattle.mf_steps.specs.StepText.{AreAllTaken}
 use Rattle.mf_verdict.specs.declared.limits.TheConstants.{CHECK_LIMIT}
 use Rattle.mf_top.specs.Check.{HoldsRun, IsVerdict}
 use Rattle.mf_top.specs.Reading.{Held, AreScript}
-use Rattle.mf_top.specs.Runs.{IsRunText}
+use Rattle.mf_top.specs.Runs.{IsRunText, IsMatrixText, IsChainsText, IsTooManyText}
 use Rattle.mf_top.specs.Steps.{IsStepText, RefusesStep}
 
 -- The source held a script to its end, and the sink took the text of one history that is legal and complete for it, and nothing else.
 abbrev pub WroteHistory : Seen → Seen → Type 0
 WroteHistory source sink = Held source (λ bytes. (text : List ℕ) × IsRunText bytes text × Took sink.before sink.after text)
+
+-- So with the matrix behind it, and with the chains.
+abbrev pub WroteMatrix : Seen → Seen → Type 0
+WroteMatrix source sink = Held source (λ bytes. (text : List ℕ) × IsMatrixText bytes text × Took sink.before sink.after text)
+
+abbrev pub WroteChains : Seen → Seen → Type 0
+WroteChains source sink = Held source (λ bytes. (text : List ℕ) × IsChainsText bytes text × Took sink.before sink.after text)
+
+-- So where there are too many chains, with the line that says it behind the text of the run.
+abbrev pub WroteTooMany : Seen → Seen → Type 0
+WroteTooMany source sink =
+    Held source (λ bytes. (text : List ℕ) × IsTooManyText bytes text × Took sink.before sink.after (text ++ codes "macsim: too many chains\n"))
 
 -- Where the bytes of the sink are known: it took the summary of the load, and nothing else; and nothing was read.
 abbrev pub WroteSummary : ℕ → ℕ → Seen → Seen → Type 0
@@ -51,9 +63,14 @@ IsSourceRefusal source refusal.TooLong = HadNoFault source × IsTooLong SCRIPT_L
 IsSourceRefusal source refusal.Memory = HadNoFault source
 IsSourceRefusal source other = ⊥
 
-abbrev pub IsRunOutcome : Seen → Result (List ℕ) Refusal → Type 0
-IsRunOutcome source (Ok text) = HadNoFault source × Held source (λ bytes. IsRunText bytes text)
-IsRunOutcome source (Err refused) = IsSourceRefusal source refused
+-- such a text of the script that the source held, or why there is none
+abbrev pub IsTextOutcome : (List ℕ → List ℕ → Type 0) → Seen → Result (List ℕ) Refusal → Type 0
+IsTextOutcome IsTextOf source (Ok text) = HadNoFault source × Held source (λ bytes. IsTextOf bytes text)
+IsTextOutcome IsTextOf source (Err refused) = IsSourceRefusal source refused
+
+abbrev pub IsChainsOutcome : Seen → Result (List ℕ) Refusal → Type 0
+IsChainsOutcome source (Err (refusal.TooManyChains text)) = HadNoFault source × Held source (λ bytes. IsTooManyText bytes (string_bytes text))
+IsChainsOutcome source outcome = IsTextOutcome IsChainsText source outcome
 
 abbrev pub IsStepOutcome : Seen → Result (List ℕ) Refusal → Type 0
 IsStepOutcome source (Ok text) = HadNoFault source × Held source (λ bytes. IsStepText bytes text)
@@ -81,7 +98,9 @@ IsUsageOutcome source outcome = (outcome ≡ Err refusal.Usage) × IsUnread sour
 
 abbrev pub IsOutcomeOf : Option Command → Seen → Result (List ℕ) Refusal → Type 0
 IsOutcomeOf None source outcome = IsUsageOutcome source outcome
-IsOutcomeOf (Some command.Run) source outcome = IsRunOutcome source outcome
+IsOutcomeOf (Some command.Run) source outcome = IsTextOutcome IsRunText source outcome
+IsOutcomeOf (Some command.Matrix) source outcome = IsTextOutcome IsMatrixText source outcome
+IsOutcomeOf (Some command.Chains) source outcome = IsChainsOutcome source outcome
 IsOutcomeOf (Some command.Step) source outcome = IsStepOutcome source outcome
 IsOutcomeOf (Some command.Check) source outcome = IsCheckOutcome source outcome
 IsOutcomeOf (Some (command.Gen lines tasks)) source outcome = IsLoadOutcome lines tasks source outcome
@@ -98,6 +117,7 @@ refusal_status (refusal.Step number) = 7
 refusal_status (refusal.Fails line) = 8
 refusal_status refusal.Memory = 9
 refusal_status refusal.Header = 10
+refusal_status (refusal.TooManyChains text) = 11
 
 -- behind the name of a fault: the errno of a module that can't be booted, or of a tunable that can't be set
 abbrev pub errno_text : Option Errno → List ℕ
@@ -118,13 +138,15 @@ refusal_text refusal.Header = codes "macsim: check header\n"
 refusal_text refusal.ReadFault = codes "macsim: read fault\n"
 refusal_text refusal.TooLong = codes "macsim: too long\n"
 refusal_text refusal.Memory = codes "macsim: no memory\n"
+refusal_text (refusal.TooManyChains text) = string_bytes text ++ codes "macsim: too many chains\n"
 
--- its line has a number: it tells of a line or of a step
-abbrev pub HasNumber : Refusal → Type 0
-HasNumber (refusal.Script line fault errno) = Unit {0}
-HasNumber (refusal.Step number) = Unit {0}
-HasNumber (refusal.Fails line) = Unit {0}
-HasNumber other = ⊥
+-- its text is made, and takes memory: it has the number of a line or of a step, or begins with the text of a run
+abbrev pub TakesMemory : Refusal → Type 0
+TakesMemory (refusal.Script line fault errno) = Unit {0}
+TakesMemory (refusal.Step number) = Unit {0}
+TakesMemory (refusal.Fails line) = Unit {0}
+TakesMemory (refusal.TooManyChains text) = Unit {0}
+TakesMemory other = ⊥
 
 abbrev pub status_of : Result (List ℕ) Refusal → ℕ
 status_of (Ok text) = 0
@@ -156,6 +178,8 @@ HoldsAccepted source = IsSomeAnd source.before HoldsRun
 abbrev pub CanBeDone : Option Command → Seen → Type 0
 CanBeDone None source = ⊥
 CanBeDone (Some command.Run) source = HoldsScript source
+CanBeDone (Some command.Matrix) source = HoldsScript source
+CanBeDone (Some command.Chains) source = HoldsScript source
 CanBeDone (Some command.Step) source = HoldsSteps source
 CanBeDone (Some command.Check) source = HoldsAccepted source
 CanBeDone (Some (command.Gen lines tasks)) source = Unit {0}
@@ -165,6 +189,11 @@ pub record IsFaultless (words : List (List ℕ)) (source sink : Seen) : Type 0 w
   pub can : CanBeDone (command_of words) source
   pub source_stays : ¬ FaultsRose source
   pub sink_stays : ¬ FaultsRose sink
+
+-- it is done, or memory ran out, or with `chains` there are too many
+abbrev pub IsDone : Option Command → ℕ → Type 0
+IsDone (Some command.Chains) status = (status ≡ 0) ⊎ (status ≡ 9) ⊎ (status ≡ 11)
+IsDone other status = (status ≡ 0) ⊎ (status ≡ 9)
 
 -- The same of the calls that do what one word asks for.
 

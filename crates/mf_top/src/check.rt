@@ -1,14 +1,17 @@
 //! Whether a text is that of a run of a script.
 ghost use Rattle.std.specs.Prelude.{◌≡◌, ◌≤◌, ◌⊎◌, List, ℕ, Result, length};
+ghost use Rattle.mf_calls.specs.WellFormed.{IsWellFormed};
 ghost use Rattle.mf_verdict.specs.declared.limits.TheConstants.{CHECK_LIMIT};
 ghost use Rattle.mf_io.specs.Outside.{seen};
 ghost use Rattle.mf_top.specs.declared.refusal.Refusal.{Refusal};
 ghost use Rattle.mf_top.specs.Answers.{IsCheckFaultless, IsCheckOutcome, IsWritten};
 ghost use Rattle.mf_top.specs.Check.{IsVerdict, WroteYes};
 ghost use Rattle.mf_top.specs.Outcomes.{bytes_of_outcome};
+ghost use Rattle.mf_top.specs.Scripts.{IsJudgment};
 
-use crate::refusal::{Refusal, told};
+use crate::refusal::Refusal;
 use crate::{read, write};
+use mf_calls::Script;
 use mf_io::{Sink, Source};
 use mf_script::read_script;
 use mf_verdict::{CHECK_LIMIT, split_input, verdict_on};
@@ -36,8 +39,7 @@ pub fn run_check<S: Source, K: Sink>(alloc: Global, source: &mut S, sink: &mut K
         (seen K.taken K.faults sink.old sink.new)
         → (result ≡ 0) ⊎ (result ≡ 9) }
 {
-    let outcome = told(alloc, check_source(alloc, source));
-    write::write_outcome(sink, &outcome)
+    write::write_outcome(alloc, sink, check_source(alloc, source))
 }
 
 /// What is told of all that the source holds.
@@ -58,7 +60,16 @@ fn check_input(alloc: Global, bytes: &[u8]) -> Result<String, Refusal>
         return Err(Refusal::Header);
     };
     let script = read_script(alloc, script)?;
-    match verdict_on(alloc, &script, text)? {
+    judge(alloc, &script, text)
+}
+
+/// What is told of a text for a script.
+fn judge(alloc: Global, script: &Script, text: &[u8]) -> Result<String, Refusal>
+    requires formed { IsWellFormed script.now }
+    requires within { length text.now ≤ CHECK_LIMIT }
+    ensures { IsJudgment script.now text.now (bytes_of_outcome result) }
+{
+    match verdict_on(alloc, script, text)? {
         Some(line) => Err(Refusal::Fails(line)),
         None => Ok(String::from_str(alloc, YES)?),
     }

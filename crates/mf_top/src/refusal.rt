@@ -1,9 +1,7 @@
-//! Why nothing is told: no history, no steps, no summary of a load, no `yes`.
+//! Why what is asked for isn't told: no history, no steps, no summary of a load, no `yes`, or no chains.
 ghost use Rattle.std.specs.Prelude.{◌≡◌, ◌++◌, IfOk, OnOk, OnErr, string_bytes};
 ghost use Rattle.std.specs.Cow.{cow_str_bytes};
-ghost use Rattle.mf_top.specs.Answers.{errno_text, fault_text, refusal_status, refusal_text, HasNumber};
-ghost use Rattle.mf_top.specs.Outcomes.{bytes_of_outcome};
-ghost use Rattle.mf_top.specs.Refusals.{IsTold, IsToldOutcome};
+ghost use Rattle.mf_top.specs.Answers.{errno_text, fault_text, refusal_status, refusal_text, TakesMemory};
 ghost use Rattle.mf_top.specs.declared.refusal.Refusal.TheVariants as refusal;
 
 use crate::read::ReadError;
@@ -11,13 +9,15 @@ use mf_errno::Errno;
 use mf_script::{ScriptError, ScriptFault};
 use std::alloc::{AllocError, Global};
 use std::borrow::CowStr;
-use std::marker::Model;
+
+/// The status where memory ran out.
+pub const NO_MEMORY: u8 = 9;
 
 /// The line where memory ran out.
-const NO_MEMORY: &str = "macsim: no memory\n";
+pub const NO_MEMORY_LINE: &str = "macsim: no memory\n";
 
-/// Why no history, no text of steps, no summary and no `yes` is written.
-#[derive(Clone, Copy, Debug, PartialEq, Eq)]
+/// Why no history, no text of steps, no summary, no `yes`, or no chains are written.
+#[derive(Drop)]
 pub enum Refusal {
     /// The words are none of the program's.
     Usage,
@@ -40,12 +40,14 @@ pub enum Refusal {
     TooLong,
     /// Memory ran out.
     Memory,
+    /// There are too many chains. The text is that of the run, which is told without them.
+    TooManyChains(String),
 }
 
 impl Refusal {
     /// The program's exit status.
-    pub fn status(self) -> u8
-        ensures { result ≡ refusal_status self }
+    pub fn status(&self) -> u8
+        ensures { result ≡ refusal_status self.now }
     {
         match self {
             Refusal::Usage => 2,
@@ -54,15 +56,17 @@ impl Refusal {
             Refusal::TooLong => 6,
             Refusal::Step(_) => 7,
             Refusal::Fails(_) => 8,
-            Refusal::Memory => 9,
+            Refusal::Memory => NO_MEMORY,
             Refusal::Header => 10,
+            Refusal::TooManyChains(_) => 11,
         }
     }
 
-    /// The line that is written in their place. Only one with a number, of a line or of a step, takes memory.
+    /// The line that is written in their place, for the chains behind the text of the run. Only that text, and a line with a
+    /// number, of a line or of a step, take memory.
     pub fn text(self, alloc: Global) -> Result<CowStr<'static>, AllocError>
         ensures text { IfOk result (λ text. cow_str_bytes text ≡ refusal_text self) }
-        ensures memory { OnErr result (HasNumber self) }
+        ensures memory { OnErr result (TakesMemory self) }
     {
         let text = match self {
             Refusal::Usage => CowStr::Borrowed("macsim: usage: run | step | gen N T\n"),
@@ -76,7 +80,11 @@ impl Refusal {
             Refusal::Header => CowStr::Borrowed("macsim: check header\n"),
             Refusal::ReadFault => CowStr::Borrowed("macsim: read fault\n"),
             Refusal::TooLong => CowStr::Borrowed("macsim: too long\n"),
-            Refusal::Memory => CowStr::Borrowed(NO_MEMORY),
+            Refusal::Memory => CowStr::Borrowed(NO_MEMORY_LINE),
+            Refusal::TooManyChains(mut text) => {
+                text.push_str("macsim: too many chains\n")?;
+                CowStr::Owned(text)
+            }
         };
         Ok(text)
     }
@@ -108,65 +116,6 @@ fn push_errno(text: &mut String, errno: Option<Errno>) -> Result<(), AllocError>
         text.push_str(errno.name())?;
     }
     Ok(())
-}
-
-/// A refusal with its line. Contracts see the refusal.
-#[derive(Drop)]
-pub struct ToldRefusal {
-    refusal: Refusal,
-    text: CowStr<'static>,
-}
-
-impl Model for ToldRefusal {
-    ghost use Rattle.std.specs.Prelude.{◌≡◌};
-    ghost use Rattle.std.specs.Cow.{cow_str_bytes};
-    ghost use Rattle.mf_top.specs.declared.refusal.Refusal.{Refusal};
-    ghost use Rattle.mf_top.specs.Answers.{refusal_text};
-
-    ghost Value = { Refusal };
-
-    ghost view = { λ r. r.refusal };
-
-    ghost invariant = { λ r. cow_str_bytes r.text ≡ refusal_text r.refusal };
-}
-
-impl ToldRefusal {
-    /// The refusal with its line. Where memory runs out as that is built, it is want of memory that is told.
-    pub fn new(alloc: Global, refusal: Refusal) -> ToldRefusal
-        ensures { IsTold refusal result }
-    {
-        match refusal.text(alloc) {
-            Ok(text) => ToldRefusal { refusal, text },
-            Err(AllocError) => ToldRefusal {
-                refusal: Refusal::Memory,
-                text: CowStr::Borrowed(NO_MEMORY),
-            },
-        }
-    }
-
-    /// The program's exit status.
-    pub fn status(&self) -> u8
-        ensures { result ≡ refusal_status self.now }
-    {
-        self.refusal.status()
-    }
-
-    /// The line.
-    pub fn text(&self) -> &str
-        ensures { result.now ≡ refusal_text self.now }
-    {
-        self.text.as_str()
-    }
-}
-
-/// The outcome, with the line of its refusal.
-pub fn told(alloc: Global, outcome: Result<String, Refusal>) -> Result<String, ToldRefusal>
-    ensures { IsToldOutcome (bytes_of_outcome outcome) (bytes_of_outcome result) }
-{
-    match outcome {
-        Ok(text) => Ok(text),
-        Err(refusal) => Err(ToldRefusal::new(alloc, refusal)),
-    }
 }
 
 impl From<AllocError> for Refusal {

@@ -1,5 +1,5 @@
 //! The tasks of a script or of a generated load, each in a thread of its own, on one kernel.
-ghost use Rattle.std.specs.Prelude.{◌≡◌, ◌≤◌, ◌+◌, ℕ, false, length, map, vec_len, ◌↔◌, All, IfOk, IsTrue, string_bytes};
+ghost use Rattle.std.specs.Prelude.{◌≡◌, ◌≤◌, ◌+◌, false, length, map, vec_len, ◌↔◌, All, IfOk, IsTrue};
 ghost use Rattle.mf_policy.specs.Modules.{module_of};
 ghost use Rattle.mf_list.specs.Fresh.{IsFresh};
 ghost use Rattle.mf_calls.specs.declared.limits.TheConstants.{LINE_LIMIT, TASK_LIMIT};
@@ -8,16 +8,17 @@ ghost use Rattle.mf_core.specs.declared.progress.Turn.TheVariants as turn;
 ghost use Rattle.mf_core.specs.AllModules.{AreAllModules};
 ghost use Rattle.mf_core.specs.CoreView.{all_lines, done_of, open_of};
 ghost use Rattle.mf_share.specs.Passes.{AreOneEach, pass_turn};
-ghost use Rattle.mf_load.specs.Summary.{load_summary};
-ghost use Rattle.mf_top.specs.Runs.{IsRunOf};
+ghost use Rattle.mf_top.specs.Answers.{IsLoaded};
+ghost use Rattle.mf_top.specs.Outcomes.{bytes_of_outcome};
 ghost use Rattle.mf_top.specs.Passes.{HaveAll, IsBack, IsLine, IsSameTicket, WentOn};
+ghost use Rattle.mf_top.specs.Scripts.{IsToldOf};
 
-use crate::text::whole_text;
+use crate::refusal::Refusal;
+use crate::text::{Telling, tell};
 use mf_calls::{Script, generate};
 use mf_core::{Commit, Core, Turn};
 use mf_io::Gate;
 use mf_list::Listed;
-use mf_load::{summary_is_settled, summary_text};
 use mf_plan::Plan;
 use mf_policy::Policy;
 use mf_share::{Job, Kernel, Pass, Ticket};
@@ -28,22 +29,22 @@ use std::sync::ledger::{Blank, Ledger};
 use std::thread;
 use std::thread::Threads;
 
-/// The text of a run of the script, over these modules: its history, and the sources at its end.
+/// What is told of a run of the script, over these modules.
 pub fn run_script<P: Policy, G: Gate, R: Threads + Wait + Sync>(
     rt: &R,
     alloc: Global,
     script: &Script,
     gate: &G,
     modules: Vec<P>,
-) -> Result<String, AllocError>
+    telling: Telling,
+) -> Result<String, Refusal>
     requires formed { IsWellFormed script.now }
     requires modules { AreAllModules (map (λ p. module_of (P.spec p)) modules.items) }
     requires fresh { All (λ p. IsFresh (P.spec p)) modules.items }
-    ensures { IfOk result (λ text. IsRunOf script.now (string_bytes text)) }
+    ensures { IsToldOf telling script.now (bytes_of_outcome result) }
 {
     let core = run_core(rt, alloc, script, gate, modules)?;
-    let text = whole_text(alloc, script, core.history())?;
-    Ok(text)
+    tell(rt, alloc, script, &core, telling)
 }
 
 /// The summary of a run of the generated load of so many lines for each of so many tasks, over these modules.
@@ -54,19 +55,22 @@ pub fn run_load<P: Policy, G: Gate, R: Threads + Wait + Sync>(
     tasks: u32,
     gate: &G,
     modules: Vec<P>,
-) -> Result<String, AllocError>
+) -> Result<String, Refusal>
     requires lines { lines ≤ LINE_LIMIT }
     requires tasks { tasks ≤ TASK_LIMIT }
     requires modules { AreAllModules (map (λ p. module_of (P.spec p)) modules.items) }
     requires fresh { All (λ p. IsFresh (P.spec p)) modules.items }
-    ensures { IfOk result (λ text. string_bytes text ≡ load_summary lines tasks) }
+    ensures { IsLoaded lines tasks (bytes_of_outcome result) }
 {
     let script = generate(alloc, lines, tasks)?;
-    let core = run_core(rt, alloc, &script, gate, modules)?;
-    summary_is_settled();
-    let history = core.history();
-    let text = summary_text(alloc, lines, tasks, history.events.as_slice())?;
-    Ok(text)
+    run_script(
+        rt,
+        alloc,
+        &script,
+        gate,
+        modules,
+        Telling::Load(lines, tasks),
+    )
 }
 
 /// The core after each task of the script has run to its end: no entry is open, and all lines are done.
@@ -134,9 +138,14 @@ fn run_tasks<
         kernel: &kernel,
     };
     run.run_side_by_side(&mut passes);
-    // A task stops early only where memory ran out.
     let all_done = have_all(script, &passes);
-    let core = kernel.close(passes);
+    whole_run(kernel.close(passes), all_done)
+}
+
+/// The core of a run, unless a task stopped early, which happens only where memory ran out.
+fn whole_run<'s>(core: Core<'s>, all_done: bool) -> Result<Core<'s>, AllocError>
+    ensures { IfOk result (λ whole. IsTrue all_done × (whole ≡ core.entry)) }
+{
     if all_done { Ok(core) } else { Err(AllocError) }
 }
 

@@ -1,5 +1,5 @@
 //! The steps of a script, one after another.
-ghost use Rattle.std.specs.Prelude.{◌≡◌, ◌⊎◌, All, List, ℕ, map, Result, Ok, IfOk, OnErr, IfErr, string_bytes};
+ghost use Rattle.std.specs.Prelude.{◌≡◌, ◌⊎◌, All, List, ℕ, map, Result};
 ghost use Rattle.mf_policy.specs.Modules.{module_of};
 ghost use Rattle.mf_list.specs.Fresh.{IsFresh};
 ghost use Rattle.mf_calls.specs.WellFormed.{IsWellFormed};
@@ -12,8 +12,8 @@ ghost use Rattle.mf_top.specs.Outcomes.{bytes_of_outcome};
 ghost use Rattle.mf_top.specs.Scripts.{AreStepped};
 ghost use Rattle.mf_top.specs.Steps.{WroteSteps};
 
-use crate::refusal::{Refusal, told};
-use crate::text::add_sources;
+use crate::refusal::Refusal;
+use crate::text::with_sources;
 use crate::{read, write};
 use mf_calls::Script;
 use mf_io::{Sink, Source};
@@ -50,8 +50,7 @@ pub fn run_steps<S: Source, K: Sink, P: Policy>(
         (seen K.taken K.faults sink.old sink.new)
         → (result ≡ 0) ⊎ (result ≡ 9) }
 {
-    let outcome = told(alloc, step_source(alloc, source, modules));
-    write::write_outcome(sink, &outcome)
+    write::write_outcome(alloc, sink, step_source(alloc, source, modules))
 }
 
 /// The text of the steps of what the source holds, and of the sources at their end.
@@ -83,9 +82,6 @@ fn step_script<P: Policy>(
 {
     match mf_steps::run_steps(alloc, script, modules)? {
         Stepped::Refused(number) => Err(Refusal::Step(number)),
-        Stepped::Taken { mut text, core } => {
-            add_sources(alloc, script, core.history(), &mut text)?;
-            Ok(text)
-        }
+        Stepped::Taken { text, core } => with_sources(alloc, script, &core, text),
     }
 }

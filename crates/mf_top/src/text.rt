@@ -1,33 +1,158 @@
-//! The text of a history, and of the sources at its end.
+//! The texts of a run: its history, the sources at its end, and what is told behind them; or a summary.
 ghost use Rattle.std.specs.Prelude.{◌≡◌, ◌++◌, IfOk, OnOk, string_bytes};
 ghost use Rattle.mf_calls.specs.WellFormed.{IsWellFormed};
+ghost use Rattle.mf_core.specs.CoreView.{all_lines, done_of, open_of};
 ghost use Rattle.mf_core.specs.LegalHistory.{IsLegal};
 ghost use Rattle.mf_flow.specs.Laws.{AreInOrder};
 ghost use Rattle.mf_flow.specs.SourcesText.{sources_text};
-ghost use Rattle.mf_hist.specs.HistoryText.{history_text};
+ghost use Rattle.mf_load.specs.Summary.{load_summary};
+ghost use Rattle.mf_steps.specs.StepText.{IsStepRun};
+ghost use Rattle.mf_top.specs.declared.text.Telling.TheVariants as telling;
+ghost use Rattle.mf_top.specs.Outcomes.{bytes_of_outcome};
+ghost use Rattle.mf_top.specs.Runs.{IsMatrixOf, IsRun, run_text};
+ghost use Rattle.mf_top.specs.Scripts.{AreChainsTold, AreStepped, IsLoadOf, IsToldOf};
 
+use crate::refusal::Refusal;
 use mf_calls::Script;
-use mf_core::History;
+use mf_chains::{ChainFault, chains, print_chains};
+use mf_core::{Core, History};
 use mf_flow::{print_sources, sources};
 use mf_hist::print_history;
+use mf_load::{summary_is_settled, summary_text};
+use mf_matrix::print_matrix;
 use std::alloc::{AllocError, Global};
+use std::thread::Threads;
 
-/// The text of a legal history, and of the sources at its end.
-pub fn whole_text(alloc: Global, script: &Script, history: &History) -> Result<String, AllocError>
+/// What is told of a run.
+#[derive(Clone, Copy)]
+pub enum Telling {
+    /// Its history, and the sources at its end.
+    Run,
+    /// These, and the matrix of the state at its end.
+    Matrix,
+    /// These, and the chains that are kept.
+    Chains,
+    /// The summary of a generated load of so many lines for each of so many tasks.
+    Load(u32, u32),
+}
+
+/// What is told of the run of a script to its end: no entry is open, and all lines are done.
+pub fn tell<R: Threads + Sync>(
+    rt: &R,
+    alloc: Global,
+    script: &Script,
+    core: &Core,
+    telling: Telling,
+) -> Result<String, Refusal>
     requires formed { IsWellFormed script.now }
-    requires legal { IsLegal script.now history.now }
-    ensures text { IfOk result (λ text. string_bytes text
-        ≡ history_text script.now history.now ++ sources_text script.now history.now) }
-    ensures order { OnOk result (AreInOrder script.now history.now) }
+    requires script { core.now.script ≡ script.now }
+    requires entries { open_of core.now ≡ 0 }
+    requires lines { done_of core.now ≡ all_lines core.now.script }
+    ensures { IsToldOf telling script.now (bytes_of_outcome result) }
 {
+    let text = match telling {
+        Telling::Run => whole_text(alloc, script, core)?,
+        Telling::Matrix => with_matrix(rt, alloc, script, core)?,
+        Telling::Chains => return with_chains(alloc, script, core),
+        Telling::Load(lines, tasks) => summarize(alloc, lines, tasks, core)?,
+    };
+    Ok(text)
+}
+
+/// The text of the history of a run to its end, and of the sources there.
+fn whole_text(alloc: Global, script: &Script, core: &Core) -> Result<String, AllocError>
+    requires script { core.now.script ≡ script.now }
+    requires entries { open_of core.now ≡ 0 }
+    requires lines { done_of core.now ≡ all_lines core.now.script }
+    ensures run { OnOk result (IsRun script.now core.now.history) }
+    ensures text { IfOk result (λ text. string_bytes text ≡ run_text script.now core.now.history) }
+{
+    let history = core.history();
     let mut text = String::new(alloc);
     print_history(script, history, &mut text)?;
     add_sources(alloc, script, history, &mut text)?;
     Ok(text)
 }
 
+/// The text of the run, and of the matrix of the state at its end.
+fn with_matrix<R: Threads + Sync>(
+    rt: &R,
+    alloc: Global,
+    script: &Script,
+    core: &Core,
+) -> Result<String, AllocError>
+    requires formed { IsWellFormed script.now }
+    requires script { core.now.script ≡ script.now }
+    requires entries { open_of core.now ≡ 0 }
+    requires lines { done_of core.now ≡ all_lines core.now.script }
+    ensures { IfOk result (λ text. IsMatrixOf script.now (string_bytes text)) }
+{
+    let mut text = whole_text(alloc, script, core)?;
+    print_matrix(rt, alloc, core.state(), &mut text)?;
+    Ok(text)
+}
+
+/// The text of the run, and of the chains at its end, unless there are too many.
+fn with_chains(alloc: Global, script: &Script, core: &Core) -> Result<String, Refusal>
+    requires script { core.now.script ≡ script.now }
+    requires entries { open_of core.now ≡ 0 }
+    requires lines { done_of core.now ≡ all_lines core.now.script }
+    ensures { IsToldOf telling.Chains script.now (bytes_of_outcome result) }
+{
+    let text = whole_text(alloc, script, core)?;
+    add_chains(alloc, script, core.history(), text)
+}
+
+/// The text with that of the chains at the end of the history behind it, unless there are too many.
+fn add_chains(
+    alloc: Global,
+    script: &Script,
+    history: &History,
+    mut text: String,
+) -> Result<String, Refusal>
+    requires formed { IsWellFormed script.now }
+    requires legal { IsLegal script.now history.now }
+    ensures { AreChainsTold script.now history.now (string_bytes text) (bytes_of_outcome result) }
+{
+    match chains(alloc, script, history) {
+        Ok(table) => {
+            print_chains(&table, &mut text)?;
+            Ok(text)
+        }
+        Err(ChainFault::TooMany) => Err(Refusal::TooManyChains(text)),
+        Err(ChainFault::Memory) => Err(Refusal::Memory),
+    }
+}
+
+/// The summary of a load that was run to its end.
+fn summarize(alloc: Global, lines: u32, tasks: u32, core: &Core) -> Result<String, AllocError>
+    requires entries { open_of core.now ≡ 0 }
+    requires lines { done_of core.now ≡ all_lines core.now.script }
+    ensures { IsLoadOf lines tasks core.now.script
+        → IfOk result (λ text. string_bytes text ≡ load_summary lines tasks) }
+{
+    summary_is_settled();
+    let history = core.history();
+    summary_text(alloc, lines, tasks, history.events.as_slice())
+}
+
+/// The text of steps that were all taken, and of the sources at their end.
+pub fn with_sources(
+    alloc: Global,
+    script: &Script,
+    core: &Core,
+    mut text: String,
+) -> Result<String, Refusal>
+    requires script { core.now.script ≡ script.now }
+    requires taken { IsStepRun script.now core.now.history (string_bytes text) }
+    ensures { AreStepped script.now (bytes_of_outcome result) }
+{
+    add_sources(alloc, script, core.history(), &mut text)?;
+    Ok(text)
+}
+
 /// Appends the text of the sources at the end of a legal history.
-pub fn add_sources(
+fn add_sources(
     alloc: Global,
     script: &Script,
     history: &History,

@@ -1,22 +1,23 @@
 //! The program's call.
-ghost use Rattle.std.specs.Prelude.{◌≡◌, ◌≤◌, ◌⊎◌, All, List, ℕ, map, Some, Result, string_bytes};
+ghost use Rattle.std.specs.Prelude.{◌≡◌, All, List, ℕ, map, Some, Result, string_bytes};
 ghost use Rattle.mf_policy.specs.Modules.{module_of};
 ghost use Rattle.mf_list.specs.Fresh.{IsFresh};
-ghost use Rattle.mf_calls.specs.declared.limits.TheConstants.{LINE_LIMIT, TASK_LIMIT};
 ghost use Rattle.mf_core.specs.AllModules.{AreAllModules};
 ghost use Rattle.mf_top.specs.declared.refusal.Refusal.{Refusal};
 ghost use Rattle.mf_io.specs.Outside.{seen};
 ghost use Rattle.mf_top.specs.declared.command.Command.TheVariants as command;
 ghost use Rattle.mf_top.specs.Commands.{command_of};
 ghost use Rattle.mf_top.specs.Check.{WroteYes};
-ghost use Rattle.mf_top.specs.Answers.{WroteHistory, WroteSummary, IsRunOutcome, IsLoaded, IsOutcome, IsWritten, IsFaultless};
+ghost use Rattle.mf_top.specs.Answers.{WroteHistory, WroteMatrix, WroteChains, WroteTooMany, WroteSummary, IsOutcomeOf, IsOutcome, IsWritten, IsDone, IsFaultless};
+ghost use Rattle.mf_top.specs.Scripts.{IsOfSource, word_for};
 ghost use Rattle.mf_top.specs.Steps.{WroteSteps};
 ghost use Rattle.mf_top.specs.Outcomes.{bytes_of_outcome};
 
 use crate::check::check_source;
 use crate::command::Command;
-use crate::refusal::{Refusal, told};
+use crate::refusal::Refusal;
 use crate::steps::step_source;
+use crate::text::Telling;
 use crate::{read, run, write};
 use mf_io::{Gate, Sink, Source};
 use mf_policy::Policy;
@@ -25,12 +26,13 @@ use std::sync::Wait;
 use std::thread::Threads;
 
 /// With the word `run` runs the script that the source holds, leaving its steps aside, and writes its history and the
-/// sources at its end to the sink; with `step` takes its steps one after another, and writes what they print and the
+/// sources at its end to the sink; with `matrix` or `chains` writes the matrix of the state at the end, or the chains of
+/// the sources, behind them; with `step` takes the script's steps one after another, and writes what they print and the
 /// sources at their end; with `check` tells whether the source holds a script and the text of a run of it; with `gen N T`
 /// runs the generated load, and writes its summary. Returns the program's exit status: 0, the status of a `Refusal`, or 5
-/// where a write failed. `words` are those after the program's name. Nothing is
-/// written before the run has ended. `modules` has a policy of each module, once, in its initial state. The tasks of a run
-/// go on side by side, and call `gate`.
+/// where a write failed. `words` are those after the program's name. Nothing is written before the run has ended.
+/// `modules` has a policy of each module, once, in its initial state. The tasks of a run go on side by side, and call
+/// `gate`.
 pub fn macsim<S: Source, K: Sink, G: Gate, P: Policy, R: Threads + Wait + Sync>(
     rt: &R,
     alloc: Global,
@@ -49,6 +51,24 @@ pub fn macsim<S: Source, K: Sink, G: Gate, P: Policy, R: Threads + Wait + Sync>(
     // policy. Where source or sink doesn't tell its bytes, there are bytes of which this holds.
     ensures headline { command_of (map string_bytes words.now) ≡ Some command.Run → result ≡ 0
         → WroteHistory (seen S.left S.faults source.old source.new)
+        (seen K.taken K.faults sink.old sink.new) }
+
+    // With `matrix` and 0 the source held a script to its end, and the sink took the text of such a history and of its sources,
+    // and then of what each process may do to each party at its end, and nothing else.
+    ensures matrix { command_of (map string_bytes words.now) ≡ Some command.Matrix → result ≡ 0
+        → WroteMatrix (seen S.left S.faults source.old source.new)
+        (seen K.taken K.faults sink.old sink.new) }
+
+    // With `chains` and 0 the source held a script to its end, and the sink took the text of such a history and of its sources,
+    // and then of the chain that is kept for each source, and nothing else.
+    ensures chains { command_of (map string_bytes words.now) ≡ Some command.Chains → result ≡ 0
+        → WroteChains (seen S.left S.faults source.old source.new)
+        (seen K.taken K.faults sink.old sink.new) }
+
+    // With `chains` and 11 the source held a script to its end, and the sink took the text of such a history, whose chains are
+    // too many, and of its sources, and then the line that says so, and nothing else.
+    ensures too_many { command_of (map string_bytes words.now) ≡ Some command.Chains → result ≡ 11
+        → WroteTooMany (seen S.left S.faults source.old source.new)
         (seen K.taken K.faults sink.old sink.new) }
 
     // With `step` and 0 the source held a script to its end, each of its steps was taken, and the sink took their text and
@@ -75,17 +95,18 @@ pub fn macsim<S: Source, K: Sink, G: Gate, P: Policy, R: Threads + Wait + Sync>(
         (seen S.left S.faults source.old source.new) outcome
         × IsWritten (seen K.taken K.faults sink.old sink.new) outcome result }
 
-    // The right words, with `run` a script, with `step` one whose steps are all in turn, with `check` a script and the text of
-    // a run of it, over a source and a sink that don't fail, gives 0, or 9 if memory runs out.
+    // The right words, with `run`, `matrix` and `chains` a script, with `step` one whose steps are all in turn, with `check` a
+    // script and the text of a run of it, over a source and a sink that don't fail, give 0, or 9 if memory runs out, or with
+    // `chains` 11 if there are too many.
     ensures complete { IsFaultless (map string_bytes words.now)
         (seen S.left S.faults source.old source.new) (seen K.taken K.faults sink.old sink.new)
-        → (result ≡ 0) ⊎ (result ≡ 9) }
+        → IsDone (command_of (map string_bytes words.now)) result }
 {
-    let outcome = told(alloc, outcome_of(rt, alloc, words, source, gate, modules));
-    write::write_outcome(sink, &outcome)
+    let outcome = outcome_of(rt, alloc, words, source, gate, modules);
+    write::write_outcome(alloc, sink, outcome)
 }
 
-/// The text of the run's history, of the steps, of the load's summary, or `yes`; or why there is none.
+/// The text that the words ask for: of a run, of the steps, of the load's summary, or `yes`; or why there is none.
 fn outcome_of<S: Source, G: Gate, P: Policy, R: Threads + Wait + Sync>(
     rt: &R,
     alloc: Global,
@@ -101,46 +122,31 @@ fn outcome_of<S: Source, G: Gate, P: Policy, R: Threads + Wait + Sync>(
 {
     match Command::of_words(words) {
         None => Err(Refusal::Usage),
-        Some(Command::Run) => run_source(rt, alloc, source, gate, modules),
+        Some(Command::Run) => run_source(rt, alloc, source, gate, modules, Telling::Run),
+        Some(Command::Matrix) => run_source(rt, alloc, source, gate, modules, Telling::Matrix),
+        Some(Command::Chains) => run_source(rt, alloc, source, gate, modules, Telling::Chains),
         Some(Command::Step) => step_source(alloc, source, modules),
         Some(Command::Check) => check_source(alloc, source),
-        Some(Command::Gen(lines, tasks)) => run_generated(rt, alloc, lines, tasks, gate, modules),
+        Some(Command::Gen(lines, tasks)) => run::run_load(rt, alloc, lines, tasks, gate, modules),
     }
 }
 
-/// The summary of the generated load.
-fn run_generated<G: Gate, P: Policy, R: Threads + Wait + Sync>(
-    rt: &R,
-    alloc: Global,
-    lines: u32,
-    tasks: u32,
-    gate: &G,
-    modules: Vec<P>,
-) -> Result<String, Refusal>
-    requires lines { lines ≤ LINE_LIMIT }
-    requires tasks { tasks ≤ TASK_LIMIT }
-    requires modules { AreAllModules (map (λ p. module_of (P.spec p)) modules.items) }
-    requires fresh { All (λ p. IsFresh (P.spec p)) modules.items }
-    ensures { IsLoaded lines tasks (bytes_of_outcome result) }
-{
-    let text = run::run_load(rt, alloc, lines, tasks, gate, modules)?;
-    Ok(text)
-}
-
-/// The text of the history of what the source holds, and of its sources.
-#[tactic(auto, using(crate::proofs::FromSource::ran))]
+/// What is told of a run of what the source holds.
+#[tactic(auto, using(crate::proofs::FromSource::ran, crate::proofs::FromSource::not_run))]
 fn run_source<S: Source, G: Gate, P: Policy, R: Threads + Wait + Sync>(
     rt: &R,
     alloc: Global,
     source: &mut S,
     gate: &G,
     modules: Vec<P>,
+    telling: Telling,
 ) -> Result<String, Refusal>
+    requires telling { IsOfSource telling }
     requires modules { AreAllModules (map (λ p. module_of (P.spec p)) modules.items) }
     requires fresh { All (λ p. IsFresh (P.spec p)) modules.items }
-    ensures { IsRunOutcome (seen S.left S.faults source.old source.new) (bytes_of_outcome result) }
+    ensures { IsOutcomeOf (word_for telling)
+        (seen S.left S.faults source.old source.new) (bytes_of_outcome result) }
 {
     let script = read::read_source(alloc, source)?;
-    let text = run::run_script(rt, alloc, &script, gate, modules)?;
-    Ok(text)
+    run::run_script(rt, alloc, &script, gate, modules, telling)
 }

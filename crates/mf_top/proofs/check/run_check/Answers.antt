@@ -8,18 +8,17 @@ use Rattle.mf_top.proofs.check.run_check.Goals as goal
 
 pub returns-clause-check : goal.returns-clause-check
 returns-clause-check g c zero =
-    wrote_yes _ _ (bytes_of_outcome c.told-outcome.result) c.write_outcome.result zero c.write_outcome.ensures
-    (told_cause (Some command.Check) _ (bytes_of_outcome c.check_source.result) (bytes_of_outcome c.told-outcome.result) c.told-outcome.ensures c.check_source.ensures)
+    let told = c.write_outcome.ensures in
+    wrote_yes _ _ told.0 c.write_outcome.result zero told.2
+    (told_cause (Some command.Check) _ (bytes_of_outcome c.check_source.result) told.0 told.1 c.check_source.ensures)
 
 pub returns-clause-cause : goal.returns-clause-cause
-returns-clause-cause g c = (
-  bytes_of_outcome c.told-outcome.result,
-  told_cause (Some command.Check) _ (bytes_of_outcome c.check_source.result) (bytes_of_outcome c.told-outcome.result) c.told-outcome.ensures c.check_source.ensures,
-  c.write_outcome.ensures,
-)
+returns-clause-cause g c =
+    let told = c.write_outcome.ensures in
+    (told.0, told_cause (Some command.Check) _ (bytes_of_outcome c.check_source.result) told.0 told.1 c.check_source.ensures, told.2)
 
 pub returns-clause-complete : goal.returns-clause-complete
 returns-clause-complete g c faultless =
-    complete (Some command.Check) _ _ (bytes_of_outcome c.told-outcome.result) c.write_outcome.result
-    faultless.can faultless.source_stays faultless.sink_stays
-    (told_cause (Some command.Check) _ (bytes_of_outcome c.check_source.result) (bytes_of_outcome c.told-outcome.result) c.told-outcome.ensures c.check_source.ensures) c.write_outcome.ensures
+    let told = c.write_outcome.ensures in
+    complete (Some command.Check) _ _ told.0 c.write_outcome.result faultless.can faultless.source_stays faultless.sink_stays
+    (told_cause (Some command.Check) _ (bytes_of_outcome c.check_source.result) told.0 told.1 c.check_source.ensures) told.2
