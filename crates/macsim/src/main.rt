@@ -1,13 +1,14 @@
 //! Runs the script on the standard input, by threads or by its steps, or a generated load, and prints the history and its
-//! sources, or the summary, on the standard output; or tells whether what is there is a script and the text of a run of it.
+//! sources, the matrix or the chains behind them where these are asked for, or the summary, on the standard output; or tells
+//! whether what is there is a script and the text of a run of it.
 #![tactic(auto)]
 
-ghost use Rattle.std.specs.Prelude.{◌≡◌, ◌⊎◌, List, ℕ, map, Some, Result, IfOk, OnErr, string_bytes};
+ghost use Rattle.std.specs.Prelude.{◌≡◌, ◌++◌, ◌∷◌, [], List, ℕ, map, Some, Result, IfOk, OnErr, string_bytes};
 ghost use Rattle.mf_io.specs.Outside.{seen};
 ghost use Rattle.mf_top.specs.declared.refusal.Refusal.{Refusal};
 ghost use Rattle.mf_top.specs.declared.command.Command.TheVariants as command;
 ghost use Rattle.mf_top.specs.Commands.{command_of};
-ghost use Rattle.mf_top.specs.Answers.{WroteHistory, WroteSummary, IsOutcome, IsWritten, IsFaultless};
+ghost use Rattle.mf_top.specs.Answers.{WroteHistory, WroteMatrix, WroteChains, WroteTooMany, WroteSummary, IsOutcome, IsWritten, IsDone, IsFaultless};
 ghost use Rattle.mf_top.specs.Check.{WroteYes};
 ghost use Rattle.mf_top.specs.Steps.{WroteSteps};
 
@@ -48,6 +49,27 @@ fn words_of(rt: &HostRuntime) -> io::Result<Vec<String>> {
     Ok(words)
 }
 
+/// The list as it is, and the policy in a box. Whoever calls it owns nothing meanwhile.
+fn boxed<T: Policy, P: Policy>(
+    alloc: Global,
+    list: Vec<P>,
+    policy: T,
+) -> Result<(Vec<P>, Box<T>), AllocError>
+    ensures list { IfOk result (λ pair. pair.0.items ≡ list.items) }
+    ensures policy { IfOk result (λ pair. pair.1.value ≡ policy) }
+{
+    let policy = Box::new(alloc, policy)?;
+    Ok((list, policy))
+}
+
+/// The list with one policy more.
+fn pushed<P: Policy>(mut list: Vec<P>, policy: P) -> Result<Vec<P>, AllocError>
+    ensures { IfOk result (λ longer. longer.items ≡ list.items ++ policy ∷ []) }
+{
+    list.push(policy)?;
+    Ok(list)
+}
+
 /// Runs the program over the policy modules that are built in, and returns its exit status, of which it promises what
 /// `macsim` does. Where memory runs out before that, nothing is read and nothing written.
 fn run<S: Source, K: Sink, R: Threads + Wait + Sync>(
@@ -60,6 +82,18 @@ fn run<S: Source, K: Sink, R: Threads + Wait + Sync>(
     ensures headline { IfOk result (λ status.
         command_of (map string_bytes words.now) ≡ Some command.Run → status ≡ 0
         → WroteHistory (seen S.left S.faults source.old source.new)
+        (seen K.taken K.faults sink.old sink.new)) }
+    ensures matrix { IfOk result (λ status.
+        command_of (map string_bytes words.now) ≡ Some command.Matrix → status ≡ 0
+        → WroteMatrix (seen S.left S.faults source.old source.new)
+        (seen K.taken K.faults sink.old sink.new)) }
+    ensures chains { IfOk result (λ status.
+        command_of (map string_bytes words.now) ≡ Some command.Chains → status ≡ 0
+        → WroteChains (seen S.left S.faults source.old source.new)
+        (seen K.taken K.faults sink.old sink.new)) }
+    ensures too_many { IfOk result (λ status.
+        command_of (map string_bytes words.now) ≡ Some command.Chains → status ≡ 11
+        → WroteTooMany (seen S.left S.faults source.old source.new)
         (seen K.taken K.faults sink.old sink.new)) }
     ensures steps { IfOk result (λ status.
         command_of (map string_bytes words.now) ≡ Some command.Step → status ≡ 0
@@ -79,18 +113,26 @@ fn run<S: Source, K: Sink, R: Threads + Wait + Sync>(
         × IsWritten (seen K.taken K.faults sink.old sink.new) outcome status) }
     ensures complete { IfOk result (λ status. IsFaultless (map string_bytes words.now)
         (seen S.left S.faults source.old source.new) (seen K.taken K.faults sink.old sink.new)
-        → (status ≡ 0) ⊎ (status ≡ 9)) }
+        → IsDone (command_of (map string_bytes words.now)) status) }
     ensures untouched { OnErr result ((source.new ≡ source.old) × (sink.new ≡ sink.old)) }
 {
-    let mut modules: Vec<Box<dyn Policy + Send + Sync>> = Vec::new(alloc);
-    modules.push(Box::new(alloc, Biba::new())?)?;
-    modules.push(Box::new(alloc, Mls::new())?)?;
-    modules.push(Box::new(alloc, Lomac::new())?)?;
-    modules.push(Box::new(alloc, Partition::new())?)?;
-    modules.push(Box::new(alloc, Bsdextended::new(alloc)?)?)?;
-    modules.push(Box::new(alloc, Priority::new())?)?;
-    modules.push(Box::new(alloc, Seeotheruids::new())?)?;
-    modules.push(Box::new(alloc, Portacl::new())?)?;
+    let list: Vec<Box<dyn Policy + Send + Sync>> = Vec::new(alloc);
+    let (list, biba) = boxed(alloc, list, Biba::new())?;
+    let list = pushed(list, biba)?;
+    let (list, mls) = boxed(alloc, list, Mls::new())?;
+    let list = pushed(list, mls)?;
+    let (list, lomac) = boxed(alloc, list, Lomac::new())?;
+    let list = pushed(list, lomac)?;
+    let (list, partition) = boxed(alloc, list, Partition::new())?;
+    let list = pushed(list, partition)?;
+    let (list, bsdextended) = boxed(alloc, list, Bsdextended::new(alloc)?)?;
+    let list = pushed(list, bsdextended)?;
+    let (list, priority) = boxed(alloc, list, Priority::new())?;
+    let list = pushed(list, priority)?;
+    let (list, seeotheruids) = boxed(alloc, list, Seeotheruids::new())?;
+    let list = pushed(list, seeotheruids)?;
+    let (list, portacl) = boxed(alloc, list, Portacl::new())?;
+    let modules = pushed(list, portacl)?;
     Ok(macsim(rt, alloc, words, source, sink, &OpenGate, modules))
 }
 
