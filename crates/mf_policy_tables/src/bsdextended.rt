@@ -1,40 +1,47 @@
 //! The file system firewall by itself.
-ghost use Rattle.std.specs.Prelude.{IsTrue};
 ghost use Rattle.mf_policy.specs.IsChange.{IsChange};
 
-use crate::asked::{is_module, settings_of, wants};
+use crate::asked::{answer, changed, is_fresh, wants};
 use mf_bsdextended::Bsdextended;
-use mf_cred::{Cred, FileView};
-use mf_elem::{LabelValue, SLOTS};
-use mf_errno::{Errno, Module, Priv};
-use mf_item::{CheckOp, Item, Kind, ObjectView, SubjectView};
-use mf_policy::{Change, Policy, Spec};
+use mf_elem::Elem;
+use mf_errno::Errno::{self, Eacces, Enobufs, Enoent, Success};
+use mf_errno::Module;
+use mf_item::CheckOp;
+use mf_policy::{Change, Changed, Policy};
 use mf_rule::{MAX_RULES, Rule, read_rule};
 use std::alloc::{AllocError, Global};
 use std::process::Abort;
 
-/// Each operation that asks for letters, with letters that let it pass, and letters that don't.
-const LETTERS: [(CheckOp, &str, &str); 11] = [
-    (CheckOp::VnodeLookup, "x", "arsw"),
-    (CheckOp::VnodeOpenRead, "r", "aswx"),
-    (CheckOp::VnodeOpenWrite, "w", "arsx"),
-    (CheckOp::VnodeExec, "rx", "aswx"),
-    (CheckOp::VnodeExec, "arswx", "arsw"),
-    (CheckOp::VnodeStat, "s", "arwx"),
-    (CheckOp::VnodeReaddir, "r", "aswx"),
-    (CheckOp::VnodeCreate, "w", "arsx"),
-    (CheckOp::VnodeUnlinkDir, "w", "arsx"),
-    (CheckOp::VnodeUnlink, "w", "arsx"),
-    (CheckOp::VnodeSetmode, "a", "rswx"),
-];
-
-/// Operations that ask for no letter.
-const WITHOUT_LETTERS: [CheckOp; 5] = [
-    CheckOp::VnodeRead,
-    CheckOp::VnodeWrite,
-    CheckOp::VnodeRelabel,
-    CheckOp::PipeRead,
-    CheckOp::ProcVisible,
+/// Operations, the letters that the one rule gives, and the answers: for each that asks for letters, some that let it pass
+/// and some that don't; for those that ask for none, no letter.
+const LETTERS: &[(CheckOp, &str, Errno)] = &[
+    (CheckOp::VnodeLookup, "x", Success),
+    (CheckOp::VnodeLookup, "arsw", Eacces),
+    (CheckOp::VnodeOpenRead, "r", Success),
+    (CheckOp::VnodeOpenRead, "aswx", Eacces),
+    (CheckOp::VnodeOpenWrite, "w", Success),
+    (CheckOp::VnodeOpenWrite, "arsx", Eacces),
+    (CheckOp::VnodeExec, "rx", Success),
+    (CheckOp::VnodeExec, "aswx", Eacces),
+    (CheckOp::VnodeExec, "arswx", Success),
+    (CheckOp::VnodeExec, "arsw", Eacces),
+    (CheckOp::VnodeStat, "s", Success),
+    (CheckOp::VnodeStat, "arwx", Eacces),
+    (CheckOp::VnodeReaddir, "r", Success),
+    (CheckOp::VnodeReaddir, "aswx", Eacces),
+    (CheckOp::VnodeCreate, "w", Success),
+    (CheckOp::VnodeCreate, "arsx", Eacces),
+    (CheckOp::VnodeUnlinkDir, "w", Success),
+    (CheckOp::VnodeUnlinkDir, "arsx", Eacces),
+    (CheckOp::VnodeUnlink, "w", Success),
+    (CheckOp::VnodeUnlink, "arsx", Eacces),
+    (CheckOp::VnodeSetmode, "a", Success),
+    (CheckOp::VnodeSetmode, "rswx", Eacces),
+    (CheckOp::VnodeRead, "n", Success),
+    (CheckOp::VnodeWrite, "n", Success),
+    (CheckOp::VnodeRelabel, "n", Success),
+    (CheckOp::PipeRead, "n", Success),
+    (CheckOp::ProcVisible, "n", Success),
 ];
 
 /// The rule that matches all, and gives these letters.
@@ -45,176 +52,131 @@ fn rule(rt: &impl Abort, letters: &str) -> Rule {
     }
 }
 
-/// The policy with one rule.
-fn with_rule(alloc: Global, rule: Rule) -> Result<Bsdextended, AllocError> {
-    let mut policy = Bsdextended::new(alloc)?;
-    policy.change(alloc, &Change::RuleAdd(rule))?;
-    Ok(policy)
+/// The answer about a plain file, which has no label of the firewall's.
+fn answer_of<P: Policy>(policy: &P, op: CheckOp) -> Errno {
+    answer(policy, op, Elem::Low, Elem::Low)
 }
 
-fn answer(policy: &Bsdextended, op: CheckOp) -> Errno {
-    let object = ObjectView {
-        id: 1,
-        kind: Kind::Vnode,
-        file: FileView::default(),
-        label: [LabelValue::Unset; SLOTS],
-    };
-    let subject = SubjectView::default();
-    policy.check(0, &Item::new(op, &subject, Some(&object), None, None, None))
-}
-
-/// Wants the operation to be answered so where the one rule gives these letters.
-fn wants_answer(
-    rt: &impl Abort,
+/// The answer to the operation after a rule more.
+fn answer_with<P: Policy>(
     alloc: Global,
-    letters: &str,
+    policy: &mut P,
+    rule: Rule,
     op: CheckOp,
-    errno: Errno,
-) -> Result<(), AllocError> {
-    let policy = with_rule(alloc, rule(rt, letters))?;
-    wants(rt, op.name(), answer(&policy, op) == errno);
-    Ok(())
+) -> Result<Errno, AllocError> {
+    changed(alloc, policy, Change::RuleAdd(rule))?;
+    Ok(answer_of(policy, op))
 }
 
-fn is_firewall(policy: &Bsdextended) -> bool {
-    let granted = policy.grant(&Cred::default(), Priv::SchedRtprio);
-    let is_biba = policy.same(&Spec::Biba { revocation: false });
-    is_module(policy, Module::Bsdextended, false, true) && !is_biba && !granted
-}
-
-#[test]
-fn facts_of_the_module(rt: HostRuntime) -> Result<(), AllocError> {
-    let mut policy = Bsdextended::new(rt.alloc())?;
-    wants(&rt, "mac_bsdextended", is_firewall(&policy));
-    let settings = settings_of(rt.alloc(), &mut policy)?;
-    wants(
-        &rt,
-        "its setting",
-        settings == (Errno::Success, Errno::Enoent),
-    );
-    Ok(())
+/// The answer to the operation by the one rule.
+fn answer_by(alloc: Global, rule: Rule, op: CheckOp) -> Result<Errno, AllocError> {
+    let mut policy = Bsdextended::new(alloc)?;
+    answer_with(alloc, &mut policy, rule, op)
 }
 
 #[test]
 fn letters_of_operations(rt: HostRuntime) -> Result<(), AllocError> {
-    for (op, enough, too_few) in LETTERS {
-        wants_answer(&rt, rt.alloc(), enough, op, Errno::Success)?;
-        wants_answer(&rt, rt.alloc(), too_few, op, Errno::Eacces)?;
+    for (op, letters, errno) in LETTERS {
+        let found = answer_by(rt.alloc(), rule(&rt, letters), *op)?;
+        wants(&rt, op.name(), found == *errno);
     }
     Ok(())
 }
 
-#[test]
-fn operations_that_ask_for_no_letter(rt: HostRuntime) -> Result<(), AllocError> {
-    for op in WITHOUT_LETTERS {
-        wants_answer(&rt, rt.alloc(), "n", op, Errno::Success)?;
-    }
-    Ok(())
-}
-
-/// Whether the number of a rule that is set is one of a list's.
-fn is_change(change: &Change) -> bool
-    ensures { IsTrue result → IsChange change.now }
-{
-    match change {
-        Change::RuleSet(number, _) => *number < MAX_RULES,
-        _ => true,
-    }
-}
-
-/// Whether the change is one, and is answered so.
-fn is_changed(
-    alloc: Global,
-    policy: &mut Bsdextended,
-    change: &Change,
-    errno: Errno,
-    number: Option<u32>,
-) -> Result<bool, AllocError> {
-    if !is_change(change) {
-        return Ok(false);
-    }
-    let changed = policy.change(alloc, change)?;
-    Ok(changed.errno == errno && changed.number == number)
-}
-
-/// Wants these answers to changes, one behind the other.
-fn wants_changes(
+/// Wants the change to be answered so.
+fn wants_change<P: Policy>(
     rt: &impl Abort,
     alloc: Global,
-    policy: &mut Bsdextended,
-    rows: &[(Change, Errno, Option<u32>)],
-) -> Result<(), AllocError> {
-    for (change, errno, number) in rows {
-        let is_changed = is_changed(alloc, policy, change, *errno, *number)?;
-        wants(rt, "a change", is_changed);
-    }
+    policy: &mut P,
+    change: Change,
+    errno: Errno,
+    number: Option<u32>,
+) -> Result<(), AllocError>
+    requires { IsChange change }
+{
+    let found = changed(alloc, policy, change)?;
+    wants(rt, "a change", found == Changed { errno, number });
     Ok(())
+}
+
+/// Changes, one behind the other.
+fn change_one_by_one<P: Policy>(
+    rt: &impl Abort,
+    alloc: Global,
+    policy: &mut P,
+    rule: Rule,
+) -> Result<(), AllocError> {
+    wants_change(rt, alloc, policy, Change::FirstMatch(false), Success, None)?;
+    wants_change(
+        rt,
+        alloc,
+        policy,
+        Change::RuleRemove(MAX_RULES),
+        Enoent,
+        None,
+    )?;
+    wants_change(rt, alloc, policy, Change::RuleAdd(rule), Success, Some(0))?;
+    wants_change(rt, alloc, policy, Change::RuleSet(0, rule), Success, None)?;
+    wants_change(rt, alloc, policy, Change::RuleRemove(0), Success, None)?;
+    wants_change(rt, alloc, policy, Change::RuleRemove(0), Enoent, None)
 }
 
 #[test]
 fn answers_to_changes(rt: HostRuntime) -> Result<(), AllocError> {
     let rule = rule(&rt, "n");
-    let rows = [
-        (Change::FirstMatch(false), Errno::Success, None),
-        (Change::RuleRemove(MAX_RULES), Errno::Enoent, None),
-        (Change::RuleAdd(rule), Errno::Success, Some(0)),
-        (Change::RuleSet(0, rule), Errno::Success, None),
-        (Change::RuleRemove(0), Errno::Success, None),
-        (Change::RuleRemove(0), Errno::Enoent, None),
-    ];
     let mut policy = Bsdextended::new(rt.alloc())?;
-    wants_changes(&rt, rt.alloc(), &mut policy, &rows)
+    change_one_by_one(&rt, rt.alloc(), &mut policy, rule)
 }
 
 /// Adds the rule under every number, and once more.
-fn fill(
+fn fill<P: Policy>(
     rt: &impl Abort,
     alloc: Global,
-    policy: &mut Bsdextended,
-    add: &Change,
+    policy: &mut P,
+    rule: Rule,
 ) -> Result<(), AllocError> {
     for number in 0..MAX_RULES {
-        let is_added = is_changed(alloc, policy, add, Errno::Success, Some(number))?;
-        wants(rt, "a rule more", is_added);
+        wants_change(
+            rt,
+            alloc,
+            policy,
+            Change::RuleAdd(rule),
+            Success,
+            Some(number),
+        )?;
     }
-    let is_full = is_changed(alloc, policy, add, Errno::Enobufs, None)?;
-    wants(rt, "no rule more", is_full);
-    Ok(())
+    wants_change(rt, alloc, policy, Change::RuleAdd(rule), Enobufs, None)
 }
 
 #[test]
 fn no_room_for_a_rule(rt: HostRuntime) -> Result<(), AllocError> {
-    let add = Change::RuleAdd(rule(&rt, "n"));
+    let rule = rule(&rt, "n");
     let mut policy = Bsdextended::new(rt.alloc())?;
-    fill(&rt, rt.alloc(), &mut policy, &add)
+    fill(&rt, rt.alloc(), &mut policy, rule)
 }
 
-/// Adds the rule behind one that gives r, turns first match off, and puts the policy back.
-fn turn_off_and_reset(
+/// Adds a rule that gives r and one that gives nothing, turns first match off, and puts the policy back.
+fn turn_off_and_reset<P: Policy>(
     rt: &impl Abort,
     alloc: Global,
-    policy: &mut Bsdextended,
-    blocks: Rule,
+    policy: &mut P,
 ) -> Result<(), AllocError> {
-    policy.change(alloc, &Change::RuleAdd(blocks))?;
-    let with_first = answer(policy, CheckOp::VnodeOpenRead);
-    policy.change(alloc, &Change::FirstMatch(false))?;
-    let with_all = answer(policy, CheckOp::VnodeOpenRead);
-    let is_turned_off = with_first == Errno::Success && with_all == Errno::Eacces;
-    wants(rt, "first match", is_turned_off);
+    let alone = answer_with(alloc, policy, rule(rt, "r"), CheckOp::VnodeOpenRead)?;
+    let with_first = answer_with(alloc, policy, rule(rt, "n"), CheckOp::VnodeOpenRead)?;
+    changed(alloc, policy, Change::FirstMatch(false))?;
+    let with_all = answer_of(policy, CheckOp::VnodeOpenRead);
+    let found = [alone, with_first, with_all];
+    wants(rt, "first match", found == [Success, Success, Eacces]);
     policy.reset();
-    let is_open = answer(policy, CheckOp::VnodeOpenWrite) == Errno::Success;
-    wants(rt, "put back", is_open);
+    let is_open = answer_of(policy, CheckOp::VnodeOpenWrite) == Success;
+    let is_as_it_was = is_fresh(alloc, policy, Module::Bsdextended)?;
+    wants(rt, "put back", is_open && is_as_it_was);
     Ok(())
 }
 
 /// mac_bsdextended(4): with first match, a rule behind one that allows is never applied.
 #[test]
 fn first_match_turned_off_and_put_back(rt: HostRuntime) -> Result<(), AllocError> {
-    let (reads, blocks) = (rule(&rt, "r"), rule(&rt, "n"));
-    let fresh = Spec::fresh(rt.alloc(), Module::Bsdextended)?;
-    let mut policy = with_rule(rt.alloc(), reads)?;
-    turn_off_and_reset(&rt, rt.alloc(), &mut policy, blocks)?;
-    wants(&rt, "as it was", policy.same(&fresh));
-    Ok(())
+    let mut policy = Bsdextended::new(rt.alloc())?;
+    turn_off_and_reset(&rt, rt.alloc(), &mut policy)
 }

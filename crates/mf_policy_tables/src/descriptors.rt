@@ -1,8 +1,8 @@
 //! Files that a process has open, and how a process is seen as an object.
 
 use crate::asked::wants;
-use crate::entities::{add_file, add_process, labelled};
-use mf_cred::{ArrayVec, Cred, FileView};
+use crate::entities::{add_file, add_process, labelled, unlink};
+use mf_cred::{ArrayVec, Cred};
 use mf_elem::LabelValue;
 use mf_names::MOST_DESCRIPTORS;
 use mf_objects::{Fd, ID_LIMIT, MOST_ENTITIES, Objects};
@@ -26,15 +26,6 @@ fn close(objects: &mut Objects, number: u32) {
         if objects.fd(t, number).is_some() {
             objects.close_fd(t, number);
         }
-    }
-}
-
-/// Removes the file f.
-fn unlink(rt: &impl Abort, objects: &mut Objects) {
-    let root = objects.root();
-    if let Some(f) = objects.child(root, "f") {
-        assert!(rt; f.number() != 0 && !objects.file(f).dir && objects.count(f) == 0);
-        objects.remove_vnode(f);
     }
 }
 
@@ -96,7 +87,7 @@ fn open_and_unlink(
     alloc: Global,
     objects: &mut Objects,
 ) -> Result<(), AllocError> {
-    add_process(rt, alloc, objects)?;
+    add_process(rt, alloc, objects, "t")?;
     let _f = add_file(rt, alloc, objects, "f")?;
     open_all(rt, objects);
     close_and_open(rt, objects);
@@ -111,32 +102,31 @@ fn a_file_is_open_until_it_goes(rt: HostRuntime) -> Result<(), AllocError> {
     open_and_unlink(&rt, rt.alloc(), &mut objects)
 }
 
-/// The process of that credential.
-fn add_seen(
-    rt: &impl Abort,
-    alloc: Global,
-    objects: &mut Objects,
-    cred: &Cred,
-) -> Result<FileView, AllocError> {
-    assert!(rt; objects.live() < MOST_ENTITIES && objects.next_id() < ID_LIMIT);
-    assert!(rt; objects.process("t").is_none());
-    let t = objects.add_process(alloc, "t", cred, &labelled(3))?;
-    Ok(objects.file(t))
-}
-
-#[test]
-fn a_process_is_seen_by_its_real_uid_and_first_group(rt: HostRuntime) -> Result<(), AllocError> {
+/// A credential whose uids and groups all differ.
+fn user() -> Cred {
     let mut groups = ArrayVec::one(5);
     groups.push(6);
-    let cred = Cred {
+    Cred {
         uid: 1,
         ruid: 2,
         svuid: 3,
         groups,
-    };
-    let mut objects = Objects::new(rt.alloc(), &labelled(7))?;
-    let view = add_seen(&rt, rt.alloc(), &mut objects, &cred)?;
+    }
+}
+
+/// The process of that credential is seen so.
+fn add_seen(rt: &impl Abort, alloc: Global, objects: &mut Objects) -> Result<(), AllocError> {
+    assert!(rt; objects.live() < MOST_ENTITIES && objects.next_id() < ID_LIMIT);
+    assert!(rt; objects.process("t").is_none());
+    let t = objects.add_process(alloc, "t", &user(), &labelled(3))?;
+    let view = objects.file(t);
     let is_seen = view.uid == 2 && view.gid == 5 && view.mode == 0 && !view.dir;
-    wants(&rt, "its view", is_seen);
+    wants(rt, "its view", is_seen);
     Ok(())
+}
+
+#[test]
+fn a_process_is_seen_by_its_real_uid_and_first_group(rt: HostRuntime) -> Result<(), AllocError> {
+    let mut objects = Objects::new(rt.alloc(), &labelled(7))?;
+    add_seen(&rt, rt.alloc(), &mut objects)
 }

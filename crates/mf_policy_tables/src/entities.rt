@@ -34,19 +34,31 @@ pub fn add_file(
     }
 }
 
-/// The process t.
+/// The process of that name, with these label values.
+fn add_labelled(
+    rt: &impl Abort,
+    alloc: Global,
+    objects: &mut Objects,
+    name: &str,
+    values: &[LabelValue; 4],
+) -> Result<(), AllocError> {
+    assert!(rt; objects.live() < MOST_ENTITIES && objects.next_id() < ID_LIMIT);
+    if objects.process(name).is_none() {
+        let t = objects.add_process(alloc, name, &Cred::default(), values)?;
+        let is_root = objects.cred(t).uid == 0 && objects.has_cred(t, &Cred::default());
+        wants(rt, name, is_root && objects.kind(t) == Kind::Process);
+    }
+    Ok(())
+}
+
+/// The process of that name.
 pub fn add_process(
     rt: &impl Abort,
     alloc: Global,
     objects: &mut Objects,
+    name: &str,
 ) -> Result<(), AllocError> {
-    assert!(rt; objects.live() < MOST_ENTITIES && objects.next_id() < ID_LIMIT);
-    if objects.process("t").is_none() {
-        let t = objects.add_process(alloc, "t", &Cred::default(), &labelled(3))?;
-        let is_root = objects.cred(t).uid == 0 && objects.has_cred(t, &Cred::default());
-        wants(rt, "t", is_root && objects.kind(t) == Kind::Process);
-    }
-    Ok(())
+    add_labelled(rt, alloc, objects, name, &labelled(3))
 }
 
 /// The names of the root's entries, one behind the other.
@@ -83,15 +95,27 @@ fn names_in_byte_order(rt: HostRuntime) -> Result<(), AllocError> {
     are_listed(&rt, rt.alloc(), &mut objects, &["b", "a", "c", "B"], "Babc")
 }
 
-/// The empty pipe p of t.
-pub fn add_pipe(rt: &impl Abort, alloc: Global, objects: &mut Objects) -> Result<(), AllocError> {
+/// The empty pipe p, which the process of that name makes.
+pub fn add_pipe(
+    rt: &impl Abort,
+    alloc: Global,
+    objects: &mut Objects,
+    maker: &str,
+) -> Result<(), AllocError> {
     assert!(rt; objects.live() < MOST_ENTITIES && objects.next_id() < ID_LIMIT);
-    if let Some(t) = objects.process("t") {
+    if let Some(maker) = objects.process(maker) {
         if objects.pipe("p").is_none() {
-            let _p = objects.add_pipe(alloc, "p", t, &labelled(3))?;
+            let _p = objects.add_pipe(alloc, "p", maker, &labelled(3))?;
         }
     }
     Ok(())
+}
+
+/// The process of that name ends.
+fn exit(objects: &mut Objects, name: &str) {
+    if let Some(id) = objects.process(name) {
+        objects.remove_process(id);
+    }
 }
 
 /// The pipe p has its label and its title.
@@ -127,25 +151,24 @@ fn empty(rt: &impl Abort, objects: &mut Objects) {
     }
 }
 
-/// The process t ends. Before it there is its empty pipe.
-fn exit(rt: &impl Abort, objects: &mut Objects) {
-    if let Some(p) = objects.least_from(2) {
-        assert!(rt; objects.size(p) == 0);
-    }
-    if let Some(t) = objects.process("t") {
-        objects.remove_process(t);
+/// Before the pipe p there is nothing but the root and t.
+fn is_third(objects: &Objects) -> bool {
+    match objects.least_from(2) {
+        Some(p) => objects.size(p) == 0 && objects.live() == 3,
+        None => false,
     }
 }
 
 /// The process t makes the pipe p, uses it, and ends.
 fn use_and_exit(rt: &impl Abort, alloc: Global, objects: &mut Objects) -> Result<(), AllocError> {
-    add_process(rt, alloc, objects)?;
-    add_pipe(rt, alloc, objects)?;
+    add_process(rt, alloc, objects, "t")?;
+    add_pipe(rt, alloc, objects, "t")?;
     is_labelled(rt, alloc, objects)?;
-    wants(rt, "three", objects.live() == 3);
+    wants(rt, "three", is_third(objects));
     fill(rt, objects)?;
     empty(rt, objects);
-    exit(rt, objects);
+    wants(rt, "the empty pipe", is_third(objects));
+    exit(objects, "t");
     wants(rt, "the root", objects.live() == 1);
     Ok(())
 }
@@ -154,44 +177,6 @@ fn use_and_exit(rt: &impl Abort, alloc: Global, objects: &mut Objects) -> Result
 fn an_exit_takes_its_pipes(rt: HostRuntime) -> Result<(), AllocError> {
     let mut objects = Objects::new(rt.alloc(), &labelled(7))?;
     use_and_exit(&rt, rt.alloc(), &mut objects)
-}
-
-/// The process of this name, with these label values.
-fn add_labelled(
-    rt: &impl Abort,
-    alloc: Global,
-    objects: &mut Objects,
-    name: &str,
-    values: &[LabelValue; 4],
-) -> Result<(), AllocError> {
-    assert!(rt; objects.live() < MOST_ENTITIES && objects.next_id() < ID_LIMIT);
-    if objects.process(name).is_none() {
-        let _id = objects.add_process(alloc, name, &Cred::default(), values)?;
-    }
-    Ok(())
-}
-
-/// The pipe p, which the process of this name makes.
-fn add_pipe_of(
-    rt: &impl Abort,
-    alloc: Global,
-    objects: &mut Objects,
-    maker: &str,
-) -> Result<(), AllocError> {
-    assert!(rt; objects.live() < MOST_ENTITIES && objects.next_id() < ID_LIMIT);
-    if let Some(maker) = objects.process(maker) {
-        if objects.pipe("p").is_none() {
-            let _p = objects.add_pipe(alloc, "p", maker, &labelled(3))?;
-        }
-    }
-    Ok(())
-}
-
-/// The process of this name ends.
-fn exit_of(objects: &mut Objects, name: &str) {
-    if let Some(id) = objects.process(name) {
-        objects.remove_process(id);
-    }
 }
 
 /// How many live entities have each label slot made.
@@ -214,13 +199,13 @@ fn children_come_and_go(
     let values = [five, unset, five, unset];
     add_labelled(rt, alloc, objects, "t", &values)?;
     add_labelled(rt, alloc, objects, "t.c", &values)?;
-    add_pipe_of(rt, alloc, objects, "t.c")?;
+    add_pipe(rt, alloc, objects, "t.c")?;
     wants(rt, "held", held(objects) == [4, 0, 2, 0]);
-    exit_of(objects, "t.c");
+    exit(objects, "t.c");
     wants(rt, "held", held(objects) == [2, 0, 1, 0]);
     add_labelled(rt, alloc, objects, "t.c", &values)?;
     wants(rt, "held", held(objects) == [3, 0, 2, 0]);
-    exit_of(objects, "t.c");
+    exit(objects, "t.c");
     wants(rt, "held", held(objects) == [2, 0, 1, 0]);
     Ok(())
 }
@@ -271,7 +256,7 @@ fn send_and_receive(
     alloc: Global,
     objects: &mut Objects,
 ) -> Result<(), AllocError> {
-    add_process(rt, alloc, objects)?;
+    add_process(rt, alloc, objects, "t")?;
     add_socket(rt, alloc, objects)?;
     push_message(rt, alloc, objects, b"one")?;
     push_message(rt, alloc, objects, b"three")?;
@@ -285,18 +270,31 @@ fn the_oldest_message_first(rt: HostRuntime) -> Result<(), AllocError> {
     send_and_receive(&rt, rt.alloc(), &mut objects)
 }
 
+/// Gives the root two slots more.
+pub fn relabel(objects: &mut Objects) -> Result<(), AllocError> {
+    let (two, three) = (LabelValue::Number(2), LabelValue::Number(3));
+    let root = objects.root();
+    objects.relabel(root, &[LabelValue::Unset, two, three, LabelValue::Unset])
+}
+
+/// Whether the root has the first slot as it was, and those two.
+fn is_relabelled(objects: &Objects) -> bool {
+    let (two, three) = (LabelValue::Number(2), LabelValue::Number(3));
+    let after = [LabelValue::Number(7), two, three, LabelValue::Unset];
+    let root = objects.root();
+    objects.label(root) == after && objects.has_label(root, &after)
+}
+
+fn relabel_root(rt: &impl Abort, objects: &mut Objects) -> Result<(), AllocError> {
+    relabel(objects)?;
+    wants(rt, "its label", is_relabelled(objects));
+    Ok(())
+}
+
 #[test]
 fn unset_leaves_a_slot_as_it_is(rt: HostRuntime) -> Result<(), AllocError> {
-    let unset = LabelValue::Unset;
-    let (two, three) = (LabelValue::Number(2), LabelValue::Number(3));
     let mut objects = Objects::new(rt.alloc(), &labelled(7))?;
-    let root = objects.root();
-    objects.relabel(root, &[unset, two, three, unset])?;
-    let root = objects.root();
-    let after = [LabelValue::Number(7), two, three, unset];
-    let is_after = objects.label(root) == after && objects.has_label(root, &after);
-    wants(&rt, "its label", is_after);
-    Ok(())
+    relabel_root(&rt, &mut objects)
 }
 
 /// Appends a byte to the file f of the root.
@@ -338,7 +336,7 @@ fn has_second(objects: &Objects, value: LabelValue) -> bool {
 }
 
 /// Removes the file f.
-fn unlink(rt: &impl Abort, objects: &mut Objects) {
+pub fn unlink(rt: &impl Abort, objects: &mut Objects) {
     let root = objects.root();
     if let Some(f) = objects.child(root, "f") {
         assert!(rt; f.number() != 0 && !objects.file(f).dir && objects.count(f) == 0);

@@ -6,7 +6,7 @@ ghost use Rattle.mf_objects.specs.Live.{live_at};
 
 use crate::asked::wants;
 use crate::entities;
-use crate::registrations::all_three;
+use crate::registrations::{all_three, come_and_go};
 use mf_elem::LabelValue;
 use mf_errno::Module;
 use mf_objects::{Id, Objects};
@@ -15,7 +15,6 @@ use std::alloc::{AllocError, Global};
 use std::process::Abort;
 
 /// What takes memory among the calls of `Objects`.
-#[derive(Clone, Copy)]
 enum Growth {
     File(&'static str),
     Process,
@@ -58,32 +57,21 @@ fn grow(
     rt: &impl Abort,
     alloc: Global,
     objects: &mut Objects,
-    growth: Growth,
+    growth: &Growth,
 ) -> Result<(), AllocError> {
     match growth {
         Growth::File(name) => {
             let _id = entities::add_file(rt, alloc, objects, name)?;
             Ok(())
         }
-        Growth::Process => entities::add_process(rt, alloc, objects),
-        Growth::Pipe => entities::add_pipe(rt, alloc, objects),
+        Growth::Process => entities::add_process(rt, alloc, objects, "t"),
+        Growth::Pipe => entities::add_pipe(rt, alloc, objects, "t"),
         Growth::Socket => entities::add_socket(rt, alloc, objects),
         Growth::Append => entities::append(rt, objects),
         Growth::Fill => entities::fill(rt, objects),
         Growth::Message => entities::push_message(rt, alloc, objects, b"one"),
-        Growth::Relabel => relabel(objects),
+        Growth::Relabel => entities::relabel(objects),
     }
-}
-
-/// Gives the root two slots more.
-fn relabel(objects: &mut Objects) -> Result<(), AllocError> {
-    let (two, three, unset) = (
-        LabelValue::Number(2),
-        LabelValue::Number(3),
-        LabelValue::Unset,
-    );
-    let root = objects.root();
-    objects.relabel(root, &[unset, two, three, unset])
 }
 
 /// A part of a label, as a number.
@@ -140,7 +128,7 @@ fn grow_or_stay(
     rt: &impl Abort,
     alloc: Global,
     objects: &mut Objects,
-    growth: Growth,
+    growth: &Growth,
 ) -> Result<(), AllocError> {
     let before = reading_of(alloc, objects)?;
     if grow(rt, alloc, objects, growth).is_err() {
@@ -150,13 +138,17 @@ fn grow_or_stay(
     Ok(())
 }
 
+fn grow_all(rt: &impl Abort, alloc: Global, objects: &mut Objects) -> Result<(), AllocError> {
+    for growth in GROWTHS {
+        grow_or_stay(rt, alloc, objects, growth)?;
+    }
+    wants_reading(rt, alloc, objects, READING)
+}
+
 #[test]
 fn entities_after_refused_growths(rt: HostRuntime) -> Result<(), AllocError> {
     let mut objects = Objects::new(rt.alloc(), &entities::labelled(7))?;
-    for growth in GROWTHS {
-        grow_or_stay(&rt, rt.alloc(), &mut objects, *growth)?;
-    }
-    wants_reading(&rt, rt.alloc(), &objects, READING)
+    grow_all(&rt, rt.alloc(), &mut objects)
 }
 
 /// Modules, each with its registration, in the order in which they are listed.
@@ -170,6 +162,16 @@ const LISTED: &[Module] = &[
     Module::Portacl,
 ];
 
+/// Lists the module with this spec.
+fn list(specs: &mut SpecList, module: Module, spec: Spec) -> Result<(), AllocError> {
+    let registration = Registration {
+        module,
+        slot: None,
+        fixed: module != Module::Partition,
+    };
+    specs.list(registration, spec)
+}
+
 /// Lists the module; where that is refused, the specs are those of the copy, and it is done once
 /// more.
 fn list_or_stay(
@@ -178,33 +180,36 @@ fn list_or_stay(
     specs: &mut SpecList,
     module: Module,
 ) -> Result<(), AllocError> {
-    let registration = Registration {
-        module,
-        slot: None,
-        fixed: module != Module::Partition,
-    };
     let count = specs.len();
-    let spec = Spec::fresh(alloc, module)?;
-    if specs.list(registration, spec).is_err() {
+    if list(specs, module, Spec::fresh(alloc, module)?).is_err() {
         let is_same = specs.len() == count && !specs.is_listed(module);
         wants(rt, "as it was", is_same);
-        specs.list(registration, Spec::fresh(alloc, module)?)?;
+        list(specs, module, Spec::fresh(alloc, module)?)?;
     }
     let is_longer = specs.len() == count.saturating_add(1) && specs.is_listed(module);
     wants(rt, "one more", is_longer);
     Ok(())
 }
 
+fn is_copied(alloc: Global, specs: &SpecList) -> Result<bool, AllocError> {
+    let copy = specs.copy(alloc)?;
+    Ok(copy.len() == specs.len() && copy.is_listed(Module::Partition))
+}
+
+/// Lists all, and copies the list.
+fn list_all(rt: &impl Abort, alloc: Global, specs: &mut SpecList) -> Result<(), AllocError> {
+    for module in LISTED {
+        list_or_stay(rt, alloc, specs, *module)?;
+    }
+    let is_copied = is_copied(alloc, specs)?;
+    wants(rt, "a copy", is_copied);
+    Ok(())
+}
+
 #[test]
 fn specs_after_refused_growths(rt: HostRuntime) -> Result<(), AllocError> {
     let mut specs = SpecList::new(rt.alloc());
-    for module in LISTED {
-        list_or_stay(&rt, rt.alloc(), &mut specs, *module)?;
-    }
-    let copy = specs.copy(rt.alloc())?;
-    let is_copy = copy.len() == specs.len() && copy.is_listed(Module::Partition);
-    wants(&rt, "a copy", is_copy);
-    Ok(())
+    list_all(&rt, rt.alloc(), &mut specs)
 }
 
 /// The lists and the catalogue are made; where that is refused, it is done once more. No call after that takes memory.
@@ -214,10 +219,6 @@ fn policies_after_refused_growths(rt: HostRuntime) -> Result<(), AllocError> {
         Ok(policies) => policies,
         Err(_) => all_three(rt.alloc())?,
     };
-    let biba = policies.register("mac_biba", false);
-    let partition = policies.register("mac_partition", true);
-    assert!(rt; biba.is_ok() && partition.is_ok());
-    let left = policies.unregister("mac_partition");
-    assert!(rt; left.is_ok() && policies.knows("mac_partition"));
+    come_and_go(&rt, &mut policies);
     Ok(())
 }

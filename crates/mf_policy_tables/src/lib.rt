@@ -12,6 +12,8 @@ mod descriptors;
 #[cfg(test)]
 mod entities;
 #[cfg(test)]
+mod facts;
+#[cfg(test)]
 mod growths;
 #[cfg(test)]
 mod labels;

@@ -1,101 +1,68 @@
 //! LOMAC by itself.
 
-use crate::asked::{grade, is_module, wants, wants_answers, wants_by_level};
-use mf_cred::{Cred, FileView};
-use mf_elem::{Elem, LabelValue, RangeLabel, Request, SLOTS};
-use mf_errno::{Errno, Module, Priv};
-use mf_item::{CheckOp, Item, Kind, ObjectView, SubjectView};
+use crate::asked::{grade, labelled, object, subject, wants, wants_answers};
+use mf_elem::{Comps, Elem, LabelValue, Request};
+use mf_errno::Errno::{self, Eacces, Eperm, Success};
+use mf_item::CheckOp::{
+    self, KldLoad, ProcDebug, ProcSched, ProcSignal, ProcVisible, SocketDeliver, SocketVisible,
+    VnodeOpenRead, VnodeOpenWrite,
+};
+use mf_item::{Item, Kind};
 use mf_lomac::Lomac;
-use mf_policy::{Policy, Spec, after_check, lowered};
-
-#[test]
-fn facts_of_the_module(rt: HostRuntime) {
-    let mut policy = Lomac::new();
-    policy.reset();
-    let granted = policy.grant(&Cred::default(), Priv::KldLoad);
-    let is_lomac = is_module(&policy, Module::Lomac, true, false) && policy.same(&Spec::Lomac);
-    let is_biba = policy.same(&Spec::Biba { revocation: false });
-    wants(&rt, "mac_lomac", is_lomac && !granted && !is_biba);
-}
+use mf_policy::{Policy, after_check, lowered};
 
 #[test]
 fn reads_everything_and_writes_down(rt: HostRuntime) {
+    let (low, high, five, ten) = (Elem::Low, Elem::High, grade(5), grade(10));
+    let in_one = Elem::Grade(5, Comps::empty().with(1));
+    let in_two = Elem::Grade(9, Comps::empty().with(2));
     let rows = [
-        (Errno::Success, Errno::Success),
-        (Errno::Success, Errno::Success),
-        (Errno::Success, Errno::Eacces),
-        (Errno::Success, Errno::Eacces),
-    ];
-    wants_by_level(&rt, &Lomac::new(), &rows);
-}
-
-#[test]
-fn processes_sockets_and_modules(rt: HostRuntime) {
-    let (low, high) = (Elem::Low, Elem::High);
-    let rows = [
-        (CheckOp::ProcSignal, low, high, Errno::Eacces),
-        (CheckOp::ProcDebug, high, low, Errno::Success),
-        (CheckOp::ProcSched, grade(5), grade(9), Errno::Eacces),
-        (CheckOp::ProcVisible, low, high, Errno::Success),
-        (CheckOp::SocketVisible, low, high, Errno::Success),
-        (CheckOp::SocketDeliver, high, low, Errno::Eacces),
-        (CheckOp::SocketDeliver, high, Elem::Equal, Errno::Success),
-        (CheckOp::KldLoad, low, high, Errno::Success),
+        (VnodeOpenRead, ten, ten, Success),
+        (VnodeOpenWrite, ten, ten, Success),
+        (VnodeOpenRead, ten, five, Success),
+        (VnodeOpenWrite, ten, five, Success),
+        (VnodeOpenRead, five, ten, Success),
+        (VnodeOpenWrite, five, ten, Eacces),
+        (VnodeOpenRead, in_one, in_two, Success),
+        (VnodeOpenWrite, in_one, in_two, Eacces),
+        (ProcSignal, low, high, Eacces),
+        (ProcDebug, high, low, Success),
+        (ProcSched, five, grade(9), Eacces),
+        (ProcVisible, low, high, Success),
+        (SocketVisible, low, high, Success),
+        (SocketDeliver, high, low, Eacces),
+        (SocketDeliver, high, Elem::Equal, Success),
+        (KldLoad, low, high, Success),
     ];
     wants_answers(&rt, &Lomac::new(), &rows);
 }
 
-/// A label without a range, in each slot.
-fn labelled(element: Elem) -> [LabelValue; SLOTS] {
-    [LabelValue::Range(RangeLabel::effective(element)); SLOTS]
-}
-
-/// A subject of this element.
-fn subject_of(element: Elem) -> SubjectView {
-    SubjectView {
-        id: 0,
-        cred: Cred::default(),
-        label: labelled(element),
-    }
-}
-
-/// A file of this element.
-fn file_of(element: Elem) -> ObjectView {
-    ObjectView {
-        id: 1,
-        kind: Kind::Vnode,
-        file: FileView::default(),
-        label: labelled(element),
-    }
-}
-
 /// The answer to a relabel, of the subject's own credential or of a file with the old element.
-fn relabel(op: CheckOp, subject: Elem, old: Elem, asked: Option<Elem>) -> Errno {
-    let (subject, object) = (subject_of(subject), file_of(old));
+fn relabel(op: CheckOp, of_subject: Elem, old: Elem, asked: Option<Elem>) -> Errno {
     let mut request = Request::none();
     request.lomac = asked;
-    Lomac::new().check(
-        0,
-        &Item::new(op, &subject, Some(&object), Some(&request), None, None),
-    )
+    let subject = subject(labelled(of_subject));
+    let object = object(Kind::Vnode, labelled(old));
+    let item = Item::new(op, &subject, Some(&object), Some(&request), None, None);
+    Lomac::new().check(0, &item)
 }
 
 #[test]
 fn gives_what_it_dominates(rt: HostRuntime) {
-    let (five, nine, equal) = (grade(5), grade(9), Elem::Equal);
+    let (low, five, nine, equal) = (Elem::Low, grade(5), grade(9), Elem::Equal);
     let (own, file) = (CheckOp::CredRelabel, CheckOp::VnodeRelabel);
     let rows: &[(CheckOp, Elem, Elem, Option<Elem>, Errno)] = &[
-        (own, nine, Elem::Low, Some(five), Errno::Success),
-        (own, five, Elem::Low, Some(nine), Errno::Eperm),
-        (own, nine, Elem::Low, Some(equal), Errno::Eperm),
-        (own, equal, Elem::Low, Some(equal), Errno::Success),
-        (own, equal, Elem::Low, Some(nine), Errno::Success),
-        (own, five, Elem::Low, None, Errno::Success),
-        (file, five, nine, Some(five), Errno::Eperm),
-        (file, five, nine, None, Errno::Eperm),
-        (file, nine, five, Some(nine), Errno::Success),
-        (file, nine, five, Some(equal), Errno::Eperm),
-        (file, nine, five, None, Errno::Success),
+        (own, nine, low, Some(five), Success),
+        (own, five, low, Some(nine), Eperm),
+        (own, nine, low, Some(equal), Eperm),
+        (own, equal, low, Some(equal), Success),
+        (own, equal, low, Some(nine), Success),
+        (own, five, low, None, Success),
+        (file, five, nine, Some(five), Eperm),
+        (file, five, nine, None, Eperm),
+        (file, nine, five, Some(nine), Success),
+        (file, nine, five, Some(equal), Eperm),
+        (file, nine, five, None, Success),
     ];
     for (op, subject, old, asked, errno) in rows {
         let found = relabel(*op, *subject, *old, *asked);
@@ -107,7 +74,7 @@ fn gives_what_it_dominates(rt: HostRuntime) {
 #[test]
 fn what_remains_of_an_element(rt: HostRuntime) {
     let (low, five, nine, high, equal) = (Elem::Low, grade(5), grade(9), Elem::High, Elem::Equal);
-    let rows = [
+    let rows: &[(Elem, Elem, Elem)] = &[
         (low, low, low),
         (low, five, low),
         (low, high, low),
@@ -127,44 +94,49 @@ fn what_remains_of_an_element(rt: HostRuntime) {
         (nine, equal, nine),
         (high, equal, high),
     ];
-    for (subject, object, remains) in &rows {
-        wants(&rt, "what remains", lowered(subject, object) == *remains);
+    for (subject, object, remains) in rows {
+        let found = lowered(subject, object);
+        wants(&rt, "what remains", found == *remains);
     }
 }
 
 /// What is left of `high` in slot 0 after the check of a file that is low.
 fn left_by(op: CheckOp) -> LabelValue {
-    let (subject, object) = (subject_of(Elem::High), file_of(Elem::Low));
+    let subject = subject(labelled(Elem::High));
+    let object = object(Kind::Vnode, labelled(Elem::Low));
     let own = subject.label[0];
     let item = Item::new(op, &subject, Some(&object), None, None, None);
     after_check(0, &own, &item)
 }
 
+/// Operations, and what each leaves.
+const LEFT: &[(CheckOp, Elem)] = &[
+    (CheckOp::VnodeLookup, Elem::Low),
+    (CheckOp::VnodeReaddir, Elem::Low),
+    (CheckOp::VnodeOpenRead, Elem::Low),
+    (CheckOp::VnodeRead, Elem::Low),
+    (CheckOp::VnodeExec, Elem::Low),
+    (CheckOp::VnodeStat, Elem::Low),
+    (CheckOp::PipeRead, Elem::Low),
+    (CheckOp::PipeStat, Elem::Low),
+    (CheckOp::SocketReceive, Elem::Low),
+    (CheckOp::ProcDebug, Elem::Low),
+    (CheckOp::VnodeOpenWrite, Elem::High),
+    (CheckOp::VnodeCreate, Elem::High),
+    (CheckOp::VnodeUnlink, Elem::High),
+    (CheckOp::VnodeRelabel, Elem::High),
+    (CheckOp::PipeWrite, Elem::High),
+    (CheckOp::SocketDeliver, Elem::High),
+    (CheckOp::SocketVisible, Elem::High),
+    (CheckOp::ProcVisible, Elem::High),
+    (CheckOp::ProcSignal, Elem::High),
+    (CheckOp::Priv, Elem::High),
+];
+
 #[test]
 fn who_learns_is_lowered(rt: HostRuntime) {
-    let rows = [
-        (CheckOp::VnodeLookup, Elem::Low),
-        (CheckOp::VnodeReaddir, Elem::Low),
-        (CheckOp::VnodeOpenRead, Elem::Low),
-        (CheckOp::VnodeRead, Elem::Low),
-        (CheckOp::VnodeExec, Elem::Low),
-        (CheckOp::VnodeStat, Elem::Low),
-        (CheckOp::PipeRead, Elem::Low),
-        (CheckOp::PipeStat, Elem::Low),
-        (CheckOp::SocketReceive, Elem::Low),
-        (CheckOp::ProcDebug, Elem::Low),
-        (CheckOp::VnodeOpenWrite, Elem::High),
-        (CheckOp::VnodeCreate, Elem::High),
-        (CheckOp::VnodeUnlink, Elem::High),
-        (CheckOp::VnodeRelabel, Elem::High),
-        (CheckOp::PipeWrite, Elem::High),
-        (CheckOp::SocketDeliver, Elem::High),
-        (CheckOp::SocketVisible, Elem::High),
-        (CheckOp::ProcVisible, Elem::High),
-        (CheckOp::ProcSignal, Elem::High),
-        (CheckOp::Priv, Elem::High),
-    ];
-    for (op, left) in &rows {
-        wants(&rt, op.name(), left_by(*op) == labelled(*left)[0]);
+    for (op, left) in LEFT {
+        let [wanted, _, _, _] = labelled(*left);
+        wants(&rt, op.name(), left_by(*op) == wanted);
     }
 }

@@ -1,42 +1,30 @@
 //! MLS by itself.
 
-use crate::asked::{grade, is_module, wants, wants_answers, wants_by_level};
-use mf_cred::Cred;
-use mf_elem::Elem;
-use mf_errno::{Errno, Module, Priv};
-use mf_item::CheckOp;
+use crate::asked::{grade, wants_answers};
+use mf_elem::{Comps, Elem};
+use mf_errno::Errno::{Eacces, Success};
+use mf_item::CheckOp::{KldLoad, VnodeOpenRead, VnodeOpenWrite};
 use mf_mls::Mls;
-use mf_policy::{Policy, Spec};
 
-#[test]
-fn facts_of_the_module(rt: HostRuntime) {
-    let mut policy = Mls::new();
-    policy.reset();
-    let granted = policy.grant(&Cred::default(), Priv::KldLoad);
-    let is_mls = is_module(&policy, Module::Mls, true, false) && policy.same(&Spec::Mls);
-    wants(&rt, "mac_mls", is_mls && !granted);
-}
-
-/// One sentence of mac_mls(4) forbids the write of the third row, a write up; the kernel's code and this model allow it.
+/// mac_mls(4): a subject with `equal` is exempt. One sentence forbids the write up; the kernel's code and this model allow
+/// it. In this model MLS doesn't guard the loading of modules.
 #[test]
 fn reads_and_writes_by_level(rt: HostRuntime) {
+    let (equal, high, five, ten) = (Elem::Equal, Elem::High, grade(5), grade(10));
+    let in_one = Elem::Grade(5, Comps::empty().with(1));
+    let in_two = Elem::Grade(9, Comps::empty().with(2));
     let rows = [
-        (Errno::Success, Errno::Success),
-        (Errno::Success, Errno::Eacces),
-        (Errno::Eacces, Errno::Success),
-        (Errno::Eacces, Errno::Eacces),
-    ];
-    wants_by_level(&rt, &Mls::new(), &rows);
-}
-
-/// mac_mls(4): a subject with `equal` is exempt. In this model MLS doesn't guard the loading of modules.
-#[test]
-fn equal_is_exempt_and_anybody_loads_modules(rt: HostRuntime) {
-    let (equal, high) = (Elem::Equal, Elem::High);
-    let rows = [
-        (CheckOp::VnodeOpenWrite, equal, high, Errno::Success),
-        (CheckOp::KldLoad, equal, high, Errno::Success),
-        (CheckOp::KldLoad, grade(10), high, Errno::Success),
+        (VnodeOpenRead, ten, ten, Success),
+        (VnodeOpenWrite, ten, ten, Success),
+        (VnodeOpenRead, ten, five, Success),
+        (VnodeOpenWrite, ten, five, Eacces),
+        (VnodeOpenRead, five, ten, Eacces),
+        (VnodeOpenWrite, five, ten, Success),
+        (VnodeOpenRead, in_one, in_two, Eacces),
+        (VnodeOpenWrite, in_one, in_two, Eacces),
+        (VnodeOpenWrite, equal, high, Success),
+        (KldLoad, equal, high, Success),
+        (KldLoad, ten, high, Success),
     ];
     wants_answers(&rt, &Mls::new(), &rows);
 }

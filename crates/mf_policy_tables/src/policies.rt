@@ -2,8 +2,8 @@
 
 ghost use Rattle.mf_policy.specs.IsChange.{IsChange};
 
-use crate::asked::wants;
-use mf_elem::{Comps, Elem, LabelValue, RangeLabel, Request, SLOTS};
+use crate::asked::{grade, wants};
+use mf_elem::{Elem, LabelValue, RangeLabel, Request, SLOTS};
 use mf_errno::{Errno, Module};
 use mf_item::{CheckOp, Kind};
 use mf_policy::{
@@ -23,7 +23,7 @@ fn a_debugger_learns_and_changes(rt: HostRuntime) {
 }
 
 /// Operations, with whether each is a transfer through an open file.
-const TRANSFERS: [(CheckOp, bool); 6] = [
+const TRANSFERS: &[(CheckOp, bool)] = &[
     (CheckOp::VnodeRead, true),
     (CheckOp::VnodeWrite, true),
     (CheckOp::VnodeOpenRead, false),
@@ -35,35 +35,32 @@ const TRANSFERS: [(CheckOp, bool); 6] = [
 #[test]
 fn transfers_go_through_an_open_file(rt: HostRuntime) {
     for (op, transfer) in TRANSFERS {
-        wants(&rt, op.name(), is_transfer(op) == transfer);
+        wants(&rt, op.name(), is_transfer(*op) == *transfer);
     }
 }
 
 /// Whether policies have labels on entities of a kind.
-const LABELS: [(Module, Kind, bool); 3] = [
+const LABELS: &[(Module, Kind, bool)] = &[
     (Module::Biba, Kind::Vnode, true),
     (Module::Partition, Kind::Process, true),
     (Module::Partition, Kind::Vnode, false),
 ];
 
-#[test]
-fn files_have_no_partition(rt: HostRuntime) {
+/// Whether the policy has labels so, and takes a request for a partition there alone where it is mac_partition.
+fn labels(module: Module, kind: Kind, labels: bool) -> bool {
     let mut request = Request::none();
     request.partition = Some(7);
-    for (module, kind, labels) in LABELS {
-        let asks = module == Module::Biba || may_ask(module, kind, &request) == labels;
-        wants(
-            &rt,
-            module.name(),
-            labels_kind(module, kind) == labels && asks,
-        );
+    let asks = module == Module::Biba || may_ask(module, kind, &request) == labels;
+    asks && labels_kind(module, kind) == labels
+}
+
+#[test]
+fn files_have_no_partition(rt: HostRuntime) {
+    for (module, kind, wanted) in LABELS {
+        wants(&rt, module.name(), labels(*module, *kind, *wanted));
     }
     let is_static = wants_slot(Module::Mls) && flags_of(Module::Mls).is_notlate();
     wants(&rt, "mac_mls", is_static);
-}
-
-fn grade(grade: u16) -> Elem {
-    Elem::Grade(grade, Comps::empty())
 }
 
 fn element(element: Elem) -> RangeLabel {
@@ -114,7 +111,7 @@ fn relabels_of_an_object(rt: HostRuntime) {
 
 /// Each module, with the answers to a change of mac_bsdextended's setting and of mac_biba's, and whether it tests transfers
 /// after that; at first all do but mac_biba.
-const SETTINGS: [(Module, Errno, Errno, bool); 8] = [
+const SETTINGS: &[(Module, Errno, Errno, bool)] = &[
     (Module::Biba, Errno::Enoent, Errno::Success, true),
     (Module::Mls, Errno::Enoent, Errno::Enoent, true),
     (Module::Lomac, Errno::Enoent, Errno::Enoent, true),
@@ -126,45 +123,65 @@ const SETTINGS: [(Module, Errno, Errno, bool); 8] = [
 ];
 
 /// The answer to a change, which gives no number.
-fn errno_of(alloc: Global, spec: &mut Spec, change: &Change) -> Result<Option<Errno>, AllocError>
-    requires { IsChange change.now }
+fn errno_of(alloc: Global, spec: &mut Spec, change: Change) -> Result<Option<Errno>, AllocError>
+    requires { IsChange change }
 {
-    let changed = spec.change(alloc, change)?;
+    let changed = spec.change(alloc, &change)?;
     Ok(match changed.number {
         None => Some(changed.errno),
         Some(_) => None,
     })
 }
 
-/// The answers to a change of the one setting and to one of the other, and whether transfers are tested before and after.
-fn settings_of(
+/// Whether the changes are answered so, and whether transfers are tested so before and after them.
+fn is_set(
     alloc: Global,
     spec: &mut Spec,
-) -> Result<(Option<Errno>, Option<Errno>, bool, bool), AllocError> {
-    let before = spec.tests_transfers();
-    let first_match = errno_of(alloc, spec, &Change::FirstMatch(false))?;
-    let revocation = errno_of(alloc, spec, &Change::Revocation(true))?;
-    Ok((first_match, revocation, before, spec.tests_transfers()))
+    errnos: (Errno, Errno),
+    tests: (bool, bool),
+) -> Result<bool, AllocError> {
+    let before = spec.tests_transfers() == tests.0;
+    let first_match = errno_of(alloc, spec, Change::FirstMatch(false))?;
+    let revocation = errno_of(alloc, spec, Change::Revocation(true))?;
+    let are_answers = first_match == Some(errnos.0) && revocation == Some(errnos.1);
+    let after = spec.tests_transfers() == tests.1;
+    Ok(before && are_answers && after)
+}
+
+/// The same of a fresh spec.
+fn is_set_anew(
+    alloc: Global,
+    module: Module,
+    errnos: (Errno, Errno),
+    after: bool,
+) -> Result<bool, AllocError> {
+    let mut spec = Spec::fresh(alloc, module)?;
+    is_set(alloc, &mut spec, errnos, (module != Module::Biba, after))
 }
 
 #[test]
 fn settings_of_modules(rt: HostRuntime) -> Result<(), AllocError> {
     for (module, first_match, revocation, after) in SETTINGS {
-        let mut spec = Spec::fresh(rt.alloc(), module)?;
-        let found = settings_of(rt.alloc(), &mut spec)?;
-        let before = module != Module::Biba;
-        let is_set = found == (Some(first_match), Some(revocation), before, after);
+        let errnos = (*first_match, *revocation);
+        let is_set = is_set_anew(rt.alloc(), *module, errnos, *after)?;
         wants(&rt, module.name(), is_set);
     }
+    Ok(())
+}
+
+/// MLS stays as it is.
+fn stays(rt: &impl Abort, alloc: Global, spec: &mut Spec) -> Result<(), AllocError> {
+    let errnos = (Errno::Enoent, Errno::Enoent);
+    let is_set = is_set(alloc, spec, errnos, (true, true))?;
+    let is_same = spec.same(&Spec::Mls);
+    wants(rt, "mac_mls", is_set && is_same);
     Ok(())
 }
 
 #[test]
 fn mls_stays_as_it_is(rt: HostRuntime) -> Result<(), AllocError> {
     let mut spec = Spec::fresh(rt.alloc(), Module::Mls)?;
-    let _settings = settings_of(rt.alloc(), &mut spec)?;
-    wants(&rt, "mac_mls", spec.same(&Spec::Mls));
-    Ok(())
+    stays(&rt, rt.alloc(), &mut spec)
 }
 
 /// The registration of Biba, at boot and first.
@@ -182,91 +199,114 @@ fn put_copy(rt: &impl Abort, alloc: Global, list: &mut SpecList) -> Result<(), A
     Ok(())
 }
 
-/// Whether Biba is listed alone, fresh.
-fn has_biba(list: &SpecList) -> bool {
+/// Whether one policy is listed, Biba as it is when it is loaded.
+fn is_first(list: &SpecList) -> bool {
     if list.len() != 1 {
         return false;
     }
-    let is_first = list.spec(0).same(&Spec::Biba { revocation: false })
-        && list.registration(0) == BIBA
-        && list.holder(0) == Some(Module::Biba)
-        && list.holder(1).is_none();
+    let is_fresh = list.spec(0).same(&Spec::Biba { revocation: false });
+    is_fresh && list.registration(0) == BIBA
+}
+
+/// Whether Biba is found, and no other.
+fn is_alone(list: &SpecList) -> bool {
     let is_found = list.find(Module::Biba) == Some(0)
         && list.slot_in(Module::Biba) == Some(0)
+        && list.holder(0) == Some(Module::Biba)
         && list.spec_of(Module::Biba).is_some();
-    let is_alone = list.find(Module::Mls).is_none()
-        && list.slot_in(Module::Mls).is_none()
-        && list.spec_of(Module::Mls).is_none()
-        && list.lomac_slot().is_none();
-    is_first && is_found && is_alone
+    let is_other = list.find(Module::Mls).is_some()
+        || list.slot_in(Module::Mls).is_some()
+        || list.holder(1).is_some()
+        || list.spec_of(Module::Mls).is_some()
+        || list.lomac_slot().is_some();
+    is_found && !is_other
+}
+
+/// Lists Biba, and takes it away.
+fn come_and_go(rt: &impl Abort, alloc: Global, list: &mut SpecList) -> Result<(), AllocError> {
+    list.list(BIBA, Spec::fresh(alloc, Module::Biba)?)?;
+    put_copy(rt, alloc, list)?;
+    wants(rt, "mac_biba", is_first(list) && is_alone(list));
+    list.unlist(Module::Biba);
+    let is_listed = list.is_listed(Module::Biba);
+    wants(rt, "none", list.is_empty() && !is_listed);
+    Ok(())
 }
 
 #[test]
 fn specs_come_and_go(rt: HostRuntime) -> Result<(), AllocError> {
     let mut list = SpecList::new(rt.alloc());
-    list.list(BIBA, Spec::fresh(rt.alloc(), Module::Biba)?)?;
-    put_copy(&rt, rt.alloc(), &mut list)?;
-    wants(&rt, "mac_biba", has_biba(&list));
-    list.unlist(Module::Biba);
-    wants(
-        &rt,
-        "none",
-        list.is_empty() && !list.is_listed(Module::Biba),
-    );
+    come_and_go(&rt, rt.alloc(), &mut list)
+}
+
+/// The registration of MLS, at boot and second.
+const MLS: Registration = Registration {
+    module: Module::Mls,
+    slot: Some(1),
+    fixed: true,
+};
+
+/// The label at boot of a process, and that of a file that a child of such a process makes.
+fn at_boot_and_of_a_child(rt: &impl Abort, list: &mut SpecList) -> Result<(), AllocError> {
+    list.list(MLS, Spec::Mls)?;
+    let boot = Origin::Boot(Request::none());
+    let [_, process, _, _] = new_label(list, Kind::Process, &boot);
+    let whole = RangeLabel::ranged(Elem::Low, Elem::Low, Elem::High);
+    wants(rt, "a process", process.same(&LabelValue::Range(whole)));
+    let made = Origin::Maker([process; SLOTS]);
+    let [unset, file, _, _] = new_label(list, Kind::Vnode, &made);
+    let low = LabelValue::Range(RangeLabel::effective(Elem::Low));
+    let is_made = unset.same(&LabelValue::Unset) && file.same(&low);
+    wants(rt, "a file", is_made);
     Ok(())
 }
 
 #[test]
 fn labels_at_boot_and_of_a_child(rt: HostRuntime) -> Result<(), AllocError> {
-    let mut listed = SpecList::new(rt.alloc());
-    let mls = Registration {
-        module: Module::Mls,
-        slot: Some(1),
-        fixed: true,
-    };
-    listed.list(mls, Spec::Mls)?;
+    let mut list = SpecList::new(rt.alloc());
+    at_boot_and_of_a_child(&rt, &mut list)
+}
+
+/// The registration of LOMAC, at boot and first.
+const LOMAC: Registration = Registration {
+    module: Module::Lomac,
+    slot: Some(0),
+    fixed: true,
+};
+
+/// Wants such an entity to have this element by LOMAC, which labels entities of its kind.
+fn wants_label(rt: &impl Abort, list: &SpecList, kind: Kind, origin: &Origin, wanted: Elem) {
+    let [value, _, _, unset] = new_label(list, kind, origin);
+    let has_label = value == LabelValue::Range(element(wanted)) && unset == LabelValue::Unset;
+    let labels = labels_kind(Module::Lomac, kind) && may_ask(Module::Lomac, kind, &asks_five());
+    wants(rt, "a label", has_label && labels);
+}
+
+/// The request for the grade 5.
+fn asks_five() -> Request {
+    let mut request = Request::none();
+    request.lomac = Some(grade(5));
+    request
+}
+
+/// The labels of a process and of a file at boot, of a child, and of a pipe that a process makes.
+fn wants_labels(rt: &impl Abort, list: &mut SpecList) -> Result<(), AllocError> {
+    list.list(LOMAC, Spec::Lomac)?;
+    wants(rt, "its slot", list.lomac_slot() == Some(0));
     let boot = Origin::Boot(Request::none());
-    let [_, process, _, _] = new_label(&listed, Kind::Process, &boot);
-    let whole = RangeLabel::ranged(Elem::Low, Elem::Low, Elem::High);
-    wants(&rt, "a process", process.same(&LabelValue::Range(whole)));
-    let made = Origin::Maker([process; SLOTS]);
-    let [unset, file, _, _] = new_label(&listed, Kind::Vnode, &made);
-    let low = LabelValue::Range(RangeLabel::effective(Elem::Low));
-    wants(
-        &rt,
-        "a file",
-        unset.same(&LabelValue::Unset) && file.same(&low),
-    );
+    wants_label(rt, list, Kind::Process, &boot, Elem::High);
+    wants_label(rt, list, Kind::Vnode, &boot, Elem::High);
+    let asked = Origin::Boot(asks_five());
+    wants_label(rt, list, Kind::Process, &asked, grade(5));
+    wants_label(rt, list, Kind::Vnode, &asked, grade(5));
+    let made = Origin::Maker([LabelValue::Range(element(grade(9))); SLOTS]);
+    wants_label(rt, list, Kind::Process, &made, grade(9));
+    wants_label(rt, list, Kind::Pipe, &made, grade(9));
     Ok(())
 }
 
-/// The labels of a process and of a file at boot, of a child, and of a file that a process makes.
 #[test]
 fn labels_of_lomac(rt: HostRuntime) -> Result<(), AllocError> {
-    let mut listed = SpecList::new(rt.alloc());
-    let lomac = Registration {
-        module: Module::Lomac,
-        slot: Some(0),
-        fixed: true,
-    };
-    listed.list(lomac, Spec::Lomac)?;
-    wants(&rt, "its slot", listed.lomac_slot() == Some(0));
-    let mut asks_five = Request::none();
-    asks_five.lomac = Some(grade(5));
-    let nine = Origin::Maker([LabelValue::Range(element(grade(9))); SLOTS]);
-    let rows: &[(Kind, Origin, Elem)] = &[
-        (Kind::Process, Origin::Boot(Request::none()), Elem::High),
-        (Kind::Vnode, Origin::Boot(Request::none()), Elem::High),
-        (Kind::Process, Origin::Boot(asks_five), grade(5)),
-        (Kind::Vnode, Origin::Boot(asks_five), grade(5)),
-        (Kind::Process, nine, grade(9)),
-        (Kind::Pipe, nine, grade(9)),
-    ];
-    for (kind, origin, wanted) in rows {
-        let [value, _, _, unset] = new_label(&listed, *kind, origin);
-        let has_label = value == LabelValue::Range(element(*wanted)) && unset == LabelValue::Unset;
-        let asks = labels_kind(Module::Lomac, *kind) && may_ask(Module::Lomac, *kind, &asks_five);
-        wants(&rt, "a label", has_label && asks);
-    }
-    Ok(())
+    let mut list = SpecList::new(rt.alloc());
+    wants_labels(&rt, &mut list)
 }

@@ -1,12 +1,12 @@
 //! mac_seeotheruids and mac_portacl by themselves.
 ghost use Rattle.mf_policy.specs.IsChange.{IsChange};
 
-use crate::asked::{is_module, wants};
-use mf_cred::{ArrayVec, Cred, FileView};
+use crate::asked::{changed, object, wants};
+use mf_cred::{ArrayVec, Cred};
 use mf_elem::{LabelValue, SLOTS};
 use mf_errno::Errno::{self, Enoent, Eperm, Esrch, Success};
-use mf_errno::{Module, Priv};
-use mf_item::{CheckOp, Item, Kind, ObjectView, SubjectView};
+use mf_errno::Module;
+use mf_item::{CheckOp, Item, Kind, SubjectView};
 use mf_policy::{Change, Policy, Spec};
 use mf_ports::{Portacl, Seeotheruids};
 use mf_rule::read_ports;
@@ -61,48 +61,52 @@ fn answer<P: Policy>(
     process: (u32, u32),
     port: Option<(bool, u16)>,
 ) -> Errno {
-    let [uid, ruid, first, second] = user;
     let mut subject = SubjectView::default();
-    subject.cred = Cred {
-        uid,
-        ruid,
-        svuid: uid,
-        groups: groups(first, second),
-    };
-    let object = ObjectView {
-        id: 1,
-        kind: Kind::Process,
-        file: FileView {
-            uid: process.0,
-            gid: process.1,
-            mode: 0,
-            dir: false,
-        },
-        label: [LabelValue::Unset; SLOTS],
-    };
+    subject.cred = cred_of(user);
+    let mut object = object(Kind::Process, [LabelValue::Unset; SLOTS]);
+    object.file.uid = process.0;
+    object.file.gid = process.1;
     policy.check(0, &Item::new(op, &subject, Some(&object), None, None, port))
 }
 
-fn groups(first: u32, second: u32) -> ArrayVec<u32, 16> {
+fn cred_of(user: User) -> Cred {
+    let [uid, ruid, first, second] = user;
     let mut groups = ArrayVec::one(first);
     groups.push(second);
-    groups
+    Cred {
+        uid,
+        ruid,
+        svuid: uid,
+        groups,
+    }
 }
 
-fn seeotheruids(alloc: Global, settings: See) -> Result<Seeotheruids, AllocError> {
-    let mut policy = Seeotheruids::new();
-    policy.change(alloc, &Change::See(see(settings)))?;
-    Ok(policy)
+/// The answer of mac_seeotheruids with these settings to a user who looks at the process.
+fn seen(
+    alloc: Global,
+    policy: &mut Seeotheruids,
+    settings: See,
+    user: User,
+    process: (u32, u32),
+) -> Result<Errno, AllocError> {
+    changed(alloc, policy, Change::See(see(settings)))?;
+    Ok(answer(policy, CheckOp::ProcVisible, user, process, None))
 }
 
-fn portacl(rt: &impl Abort, alloc: Global, settings: Acl) -> Result<Portacl, AllocError> {
-    let mut policy = Portacl::new();
-    policy.change(alloc, &Change::Port(acl(rt, settings)))?;
-    Ok(policy)
+/// The answer of mac_portacl with this spec to a user who binds a socket to the port.
+fn bound(
+    alloc: Global,
+    policy: &mut Portacl,
+    spec: Spec,
+    user: User,
+    port: (bool, u16),
+) -> Result<Errno, AllocError> {
+    changed(alloc, policy, Change::Port(spec))?;
+    Ok(answer(policy, CheckOp::SocketBind, user, (2, 7), Some(port)))
 }
 
 /// Settings, a user, another process, and whether the user sees it, by what mac_seeotheruids(4) says of the settings.
-const SIGHTS: [(&str, See, User, (u32, u32), Errno); 14] = [
+const SIGHTS: &[(&str, See, User, (u32, u32), Errno)] = &[
     ("its own", SEE, [1, 1, 9, 5], (1, 7), Success),
     ("another's", SEE, [1, 1, 9, 5], (2, 9), Esrch),
     ("by real uid", SEE, [2, 1, 9, 5], (1, 7), Success),
@@ -131,19 +135,27 @@ const SPECIFIC: See = (false, true, 5, true);
 /// They would, but for the switch.
 const OFF: See = (false, false, 5, true);
 
-#[test]
-fn whose_processes_are_seen(rt: HostRuntime) -> Result<(), AllocError> {
+/// Each row's settings take the place of those of the row before.
+fn wants_sights(
+    rt: &impl Abort,
+    alloc: Global,
+    policy: &mut Seeotheruids,
+) -> Result<(), AllocError> {
     for (name, settings, user, process, errno) in SIGHTS {
-        let policy = seeotheruids(rt.alloc(), settings)?;
-        let found = answer(&policy, CheckOp::ProcVisible, user, process, None);
-        wants(&rt, name, found == errno);
+        let found = seen(alloc, policy, *settings, *user, *process)?;
+        wants(rt, name, found == *errno);
     }
     Ok(())
 }
 
+#[test]
+fn whose_processes_are_seen(rt: HostRuntime) -> Result<(), AllocError> {
+    wants_sights(&rt, rt.alloc(), &mut Seeotheruids::new())
+}
+
 /// Settings, a user, a port of TCP or else of UDP, and whether the user may bind a socket to it, by what mac_portacl(4) says of
 /// the settings.
-const BINDINGS: [(&str, Acl, User, (bool, u16), Errno); 21] = [
+const BINDINGS: &[(&str, Acl, User, (bool, u16), Errno)] = &[
     ("the last", ACL, [1, 1, 9, 5], (true, 1023), Eperm),
     ("above it", ACL, [1, 1, 9, 5], (true, 1024), Success),
     ("any", ACL, [1, 1, 9, 5], (false, 0), Success),
@@ -181,18 +193,22 @@ const RULES: Acl = (
 /// A rule for a group.
 const DOMAIN: Acl = ("gid:53:udp:53", 1023, true, true);
 
-#[test]
-fn which_ports_are_bound(rt: HostRuntime) -> Result<(), AllocError> {
+/// Each row's settings take the place of those of the row before.
+fn wants_bindings(rt: &impl Abort, alloc: Global, policy: &mut Portacl) -> Result<(), AllocError> {
     for (name, settings, user, port, errno) in BINDINGS {
-        let policy = portacl(&rt, rt.alloc(), settings)?;
-        let found = answer(&policy, CheckOp::SocketBind, user, (2, 7), Some(port));
-        wants(&rt, name, found == errno);
+        let found = bound(alloc, policy, acl(rt, *settings), *user, *port)?;
+        wants(rt, name, found == *errno);
     }
     Ok(())
 }
 
+#[test]
+fn which_ports_are_bound(rt: HostRuntime) -> Result<(), AllocError> {
+    wants_bindings(&rt, rt.alloc(), &mut Portacl::new())
+}
+
 /// Operations, each with the answers of mac_seeotheruids and of mac_portacl to a user who sees nobody and binds no port.
-const OPERATIONS: [(CheckOp, Errno, Errno); 9] = [
+const OPERATIONS: &[(CheckOp, Errno, Errno)] = &[
     (CheckOp::ProcVisible, Esrch, Success),
     (CheckOp::ProcSignal, Esrch, Success),
     (CheckOp::ProcDebug, Esrch, Success),
@@ -204,68 +220,98 @@ const OPERATIONS: [(CheckOp, Errno, Errno); 9] = [
     (CheckOp::Priv, Success, Success),
 ];
 
+/// The policy's answer to a user who sees nobody and binds no port.
+fn answer_to<P: Policy>(policy: &P, op: CheckOp) -> Errno {
+    answer(policy, op, [1, 1, 9, 5], (2, 7), Some((true, 80)))
+}
+
 #[test]
 fn operations_that_are_tested(rt: HostRuntime) {
-    let (policy, other) = (Seeotheruids::new(), Portacl::new());
     for (op, esrch, eperm) in OPERATIONS {
-        let port = Some((true, 80));
-        let seen = answer(&policy, op, [1, 1, 9, 5], (2, 7), port);
-        let bound = answer(&other, op, [1, 1, 9, 5], (2, 7), port);
-        wants(&rt, op.name(), seen == esrch && bound == eperm);
+        let seen = answer_to(&Seeotheruids::new(), *op);
+        let bound = answer_to(&Portacl::new(), *op);
+        wants(&rt, op.name(), seen == *esrch && bound == *eperm);
     }
 }
 
-/// Whether the policy is the module in its initial state, and grants nothing.
-fn is_fresh<P: Policy>(alloc: Global, policy: &P, module: Module) -> Result<bool, AllocError> {
-    let grants = policy.grant(&Cred::default(), Priv::KldLoad);
-    let is_fresh = policy.same(&Spec::fresh(alloc, module)?);
-    Ok(is_module(policy, module, false, true) && is_fresh && !grants)
+/// Whether the policy has the one spec, and the other one once it is put back.
+fn is_put_back<P: Policy>(policy: &mut P, set: Spec, initial: Spec) -> bool {
+    let is_set = policy.same(&set) && !policy.same(&initial);
+    policy.reset();
+    is_set && policy.same(&initial)
+}
+
+fn set_and_put_back(
+    rt: &impl Abort,
+    alloc: Global,
+    policy: &mut Seeotheruids,
+) -> Result<(), AllocError> {
+    changed(alloc, policy, Change::See(see(SPECIFIC)))?;
+    let is_put_back = is_put_back(policy, see(SPECIFIC), see(SEE));
+    wants(rt, "mac_seeotheruids", is_put_back);
+    Ok(())
 }
 
 #[test]
 fn settings_are_put_back(rt: HostRuntime) -> Result<(), AllocError> {
-    let mut policy = seeotheruids(rt.alloc(), SPECIFIC)?;
-    let is_set = policy.same(&see(SPECIFIC)) && !policy.same(&see(SEE));
-    policy.reset();
-    let is_fresh = is_fresh(rt.alloc(), &policy, Module::Seeotheruids)?;
-    wants(&rt, "mac_seeotheruids", is_set && is_fresh);
+    set_and_put_back(&rt, rt.alloc(), &mut Seeotheruids::new())
+}
+
+fn rule_and_put_back(
+    rt: &impl Abort,
+    alloc: Global,
+    policy: &mut Portacl,
+) -> Result<(), AllocError> {
+    changed(alloc, policy, Change::Port(acl(rt, RULES)))?;
+    let is_put_back = is_put_back(policy, acl(rt, RULES), acl(rt, ACL));
+    wants(rt, "mac_portacl", is_put_back);
     Ok(())
 }
 
 #[test]
 fn rules_are_put_back(rt: HostRuntime) -> Result<(), AllocError> {
-    let mut policy = portacl(&rt, rt.alloc(), RULES)?;
-    let is_set = policy.same(&acl(&rt, RULES)) && !policy.same(&acl(&rt, ACL));
-    policy.reset();
-    let is_fresh = is_fresh(rt.alloc(), &policy, Module::Portacl)?;
-    wants(&rt, "mac_portacl", is_set && is_fresh);
-    Ok(())
+    rule_and_put_back(&rt, rt.alloc(), &mut Portacl::new())
 }
 
 /// Modules, each with the answers of mac_seeotheruids and of mac_portacl to a change that holds its spec: as settings of
 /// mac_seeotheruids, and then as settings of mac_portacl.
-const CHANGES: [(Module, [Errno; 2], [Errno; 2]); 4] = [
-    (Module::Seeotheruids, [Success, Enoent], [Enoent, Enoent]),
-    (Module::Portacl, [Enoent, Enoent], [Enoent, Success]),
-    (Module::Biba, [Enoent, Enoent], [Enoent, Enoent]),
-    (Module::Bsdextended, [Enoent, Enoent], [Enoent, Enoent]),
+const CHANGES: &[(Module, (Errno, Errno), (Errno, Errno))] = &[
+    (Module::Seeotheruids, (Success, Enoent), (Enoent, Enoent)),
+    (Module::Portacl, (Enoent, Enoent), (Enoent, Success)),
+    (Module::Biba, (Enoent, Enoent), (Enoent, Enoent)),
+    (Module::Bsdextended, (Enoent, Enoent), (Enoent, Enoent)),
 ];
 
-/// The answers of both policies to a change.
-fn errnos(alloc: Global, change: &Change) -> Result<[Errno; 2], AllocError>
-    requires { IsChange change.now }
+/// The answer of a policy to a change.
+fn errno_of<P: Policy>(alloc: Global, mut policy: P, change: Change) -> Result<Errno, AllocError>
+    requires { IsChange change }
 {
-    let seen = Seeotheruids::new().change(alloc, change)?;
-    let bound = Portacl::new().change(alloc, change)?;
-    Ok([seen.errno, bound.errno])
+    let changed = changed(alloc, &mut policy, change)?;
+    Ok(changed.errno)
+}
+
+/// The answers of both policies to the module's spec as settings of mac_seeotheruids.
+fn errnos_to_see(alloc: Global, module: Module) -> Result<(Errno, Errno), AllocError> {
+    let change = Change::See(Spec::fresh(alloc, module)?);
+    let seen = errno_of(alloc, Seeotheruids::new(), change)?;
+    let change = Change::See(Spec::fresh(alloc, module)?);
+    Ok((seen, errno_of(alloc, Portacl::new(), change)?))
+}
+
+/// The answers of both policies to it as settings of mac_portacl.
+fn errnos_to_port(alloc: Global, module: Module) -> Result<(Errno, Errno), AllocError> {
+    let change = Change::Port(Spec::fresh(alloc, module)?);
+    let seen = errno_of(alloc, Seeotheruids::new(), change)?;
+    let change = Change::Port(Spec::fresh(alloc, module)?);
+    Ok((seen, errno_of(alloc, Portacl::new(), change)?))
 }
 
 #[test]
 fn settings_of_another_module(rt: HostRuntime) -> Result<(), AllocError> {
     for (module, see, port) in CHANGES {
-        let seen = errnos(rt.alloc(), &Change::See(Spec::fresh(rt.alloc(), module)?))?;
-        let bound = errnos(rt.alloc(), &Change::Port(Spec::fresh(rt.alloc(), module)?))?;
-        wants(&rt, module.name(), seen == see && bound == port);
+        let seen = errnos_to_see(rt.alloc(), *module)?;
+        let bound = errnos_to_port(rt.alloc(), *module)?;
+        wants(&rt, module.name(), seen == *see && bound == *port);
     }
     Ok(())
 }

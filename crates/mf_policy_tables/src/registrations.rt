@@ -114,6 +114,26 @@ fn is_at(
     }
 }
 
+/// Wants other specs than none to be those of the policies.
+fn wants_some(rt: &impl Abort, alloc: Global, policies: &Policies<OneOf>) {
+    let none = SpecList::new(alloc);
+    let is_none = policies.walk().same_specs(&none);
+    wants(rt, "some", !is_none);
+}
+
+/// Whether these three are listed in this order, and no other.
+fn are_in_order(
+    policies: &Policies<OneOf>,
+    first: &Result<Registration, RegisterFault>,
+    second: &Result<Registration, RegisterFault>,
+    third: &Result<Registration, RegisterFault>,
+) -> bool {
+    let listed = policies.walk().listed();
+    let places = listed.as_slice();
+    let are_two = is_at(places, 0, first) && is_at(places, 1, second);
+    are_two && is_at(places, 2, third) && places.len() == 3
+}
+
 /// Registers all three at boot, and looks at their places in walk order.
 fn register_three(rt: &impl Abort, policies: &mut Policies<OneOf>)
     requires { IsHeldOnce (policies.old.fixed ++ policies.old.list) policies.old.catalogue }
@@ -121,11 +141,8 @@ fn register_three(rt: &impl Abort, policies: &mut Policies<OneOf>)
     let partition = policies.register("mac_partition", false);
     let biba = policies.register("mac_biba", false);
     let mls = policies.register("mac_mls", false);
-    let listed = policies.walk().listed();
-    let places = listed.as_slice();
-    let are_first = is_at(places, 0, &mls) && is_at(places, 1, &biba);
-    let are_all = places.len() == 3 && is_at(places, 2, &partition);
-    wants(rt, "three", are_first && are_all);
+    let are_in_order = are_in_order(policies, &mls, &biba, &partition);
+    wants(rt, "three", are_in_order);
     let knows = policies.knows("mac_mls") && !policies.knows("mac_lomac");
     wants(rt, "their names", knows);
 }
@@ -134,28 +151,41 @@ fn register_three(rt: &impl Abort, policies: &mut Policies<OneOf>)
 fn registrations_in_walk_order(rt: HostRuntime) -> Result<(), AllocError> {
     let mut policies = all_three(rt.alloc())?;
     register_three(&rt, &mut policies);
-    let none = SpecList::new(rt.alloc());
-    wants(&rt, "some", !policies.walk().same_specs(&none));
+    wants_some(&rt, rt.alloc(), &policies);
     Ok(())
 }
 
-/// The errno of a change in the dynamic list.
-fn errno_of_late(
+/// A change in the dynamic list, which is empty.
+fn change_mls(alloc: Global, policies: &mut Policies<OneOf>) -> Result<Changed, AllocError> {
+    let change = Change::FirstMatch(true);
+    policies.list.change(alloc, Module::Mls, &change)
+}
+
+fn wants_no_setting(
+    rt: &impl Abort,
     alloc: Global,
     policies: &mut Policies<OneOf>,
-    module: Module,
-) -> Result<Errno, AllocError> {
-    let change = Change::FirstMatch(true);
-    let changed = policies.list.change(alloc, module, &change)?;
-    Ok(changed.errno)
+) -> Result<(), AllocError> {
+    let changed = change_mls(alloc, policies)?;
+    wants(rt, "mac_mls", changed.errno == Errno::Enoent);
+    Ok(())
 }
 
 #[test]
 fn what_is_not_listed_has_no_setting(rt: HostRuntime) -> Result<(), AllocError> {
     let mut policies = all_three(rt.alloc())?;
-    let errno = errno_of_late(rt.alloc(), &mut policies, Module::Mls)?;
-    wants(&rt, "mac_mls", errno == Errno::Enoent);
-    Ok(())
+    wants_no_setting(&rt, rt.alloc(), &mut policies)
+}
+
+/// Biba is booted, and mac_partition comes late and goes.
+pub fn come_and_go(rt: &impl Abort, policies: &mut Policies<OneOf>)
+    requires { IsHeldOnce (policies.old.fixed ++ policies.old.list) policies.old.catalogue }
+{
+    let biba = policies.register("mac_biba", false).is_ok();
+    let partition = policies.register("mac_partition", true).is_ok();
+    wants(rt, "both", biba && partition);
+    let left = policies.unregister("mac_partition").is_ok();
+    wants(rt, "mac_partition", left && policies.knows("mac_partition"));
 }
 
 fn of_partition(slot: u8) -> Registration {
@@ -205,6 +235,8 @@ fn wants_refusal(
 fn refuse_all(rt: &impl Abort, policies: &mut Policies<OneOf>)
     requires { IsHeldOnce (policies.old.fixed ++ policies.old.list) policies.old.catalogue }
 {
+    let is_booted = policies.register("mac_biba", false).is_ok();
+    wants(rt, "mac_biba", is_booted);
     wants_refusal(rt, policies, "mac_ifoff", true, RegisterFault::Unknown);
     wants_refusal(rt, policies, "mac_mls", true, RegisterFault::NotLate);
     wants_refusal(rt, policies, "mac_biba", true, RegisterFault::NotLate);
@@ -212,16 +244,14 @@ fn refuse_all(rt: &impl Abort, policies: &mut Policies<OneOf>)
     let pinned = policies.unregister("mac_biba") == Err(UnregisterFault::Pinned);
     let absent = policies.unregister("mac_mls") == Err(UnregisterFault::NotLoaded);
     wants(rt, "neither goes", pinned && absent);
+    let errno = RegisterFault::Exists.errno();
+    wants(rt, "its errno", errno == Errno::Eexist);
 }
 
 #[test]
 fn registration_is_refused(rt: HostRuntime) -> Result<(), AllocError> {
     let mut policies = all_three(rt.alloc())?;
-    let is_booted = policies.register("mac_biba", false).is_ok();
-    wants(&rt, "mac_biba", is_booted);
     refuse_all(&rt, &mut policies);
-    let errno = RegisterFault::Exists.errno();
-    wants(&rt, "its errno", errno == Errno::Eexist);
     Ok(())
 }
 

@@ -1,35 +1,28 @@
 //! Requests to change labels: which of them are claimed, and the labels after them.
 
-use crate::asked::wants;
-use mf_elem::{Comps, Elem, LabelValue, RangeLabel, Request, SLOTS};
+use crate::asked::{grade, wants};
+use mf_elem::{LabelValue, RangeLabel, Request, SLOTS};
 use mf_errno::Module;
 use mf_item::Kind;
 use mf_labeltext::read_request;
 use mf_policy::{Registration, Spec, SpecList, relabelled, sets_value, value_after};
 use std::alloc::{AllocError, Global};
+use std::process::Abort;
 
-/// Lists Biba, which holds slot 0.
-fn biba_alone(alloc: Global) -> Result<SpecList, AllocError> {
-    let mut listed = SpecList::new(alloc);
-    let biba = Registration {
-        module: Module::Biba,
-        slot: Some(0),
-        fixed: true,
+/// Lists the module in its initial state, with that slot.
+fn list(alloc: Global, specs: &mut SpecList, module: Module, slot: u8) -> Result<(), AllocError> {
+    let registration = Registration {
+        module,
+        slot: Some(slot),
+        fixed: module != Module::Partition,
     };
-    listed.list(biba, Spec::Biba { revocation: false })?;
-    Ok(listed)
+    specs.list(registration, Spec::fresh(alloc, module)?)
 }
 
-/// Lists Biba, and mac_partition, which holds slot 1.
-fn biba_and_partition(alloc: Global) -> Result<SpecList, AllocError> {
-    let mut listed = biba_alone(alloc)?;
-    let partition = Registration {
-        module: Module::Partition,
-        slot: Some(1),
-        fixed: false,
-    };
-    listed.list(partition, Spec::Partition)?;
-    Ok(listed)
+/// Lists Biba, which holds slot 0, and another module, which holds slot 1.
+fn list_both(alloc: Global, specs: &mut SpecList, other: Module) -> Result<(), AllocError> {
+    list(alloc, specs, Module::Biba, 0)?;
+    list(alloc, specs, other, 1)
 }
 
 /// Texts for an entity of a kind, and whether Biba and mac_partition claim what they ask.
@@ -45,18 +38,6 @@ const CLAIMS: &[(&str, Kind, bool)] = &[
     ("biba/5,foo/low", Kind::Process, false),
 ];
 
-/// Lists Biba, and LOMAC, which holds slot 1.
-fn biba_and_lomac(alloc: Global) -> Result<SpecList, AllocError> {
-    let mut listed = biba_alone(alloc)?;
-    let lomac = Registration {
-        module: Module::Lomac,
-        slot: Some(1),
-        fixed: true,
-    };
-    listed.list(lomac, Spec::Lomac)?;
-    Ok(listed)
-}
-
 /// Whether the listed policies claim what the text asks for an entity of that kind; None for what is no label text.
 fn claims(listed: &SpecList, text: &str, kind: Kind) -> Option<bool> {
     match read_request(text) {
@@ -65,41 +46,65 @@ fn claims(listed: &SpecList, text: &str, kind: Kind) -> Option<bool> {
     }
 }
 
-#[test]
-fn claims_of_biba_and_partition(rt: HostRuntime) -> Result<(), AllocError> {
-    let listed = biba_and_partition(rt.alloc())?;
-    for (text, kind, claimed) in CLAIMS {
-        wants(&rt, text, claims(&listed, text, *kind) == Some(*claimed));
+fn wants_claims(rt: &impl Abort, listed: &SpecList, rows: &[(&str, Kind, bool)]) {
+    for (text, kind, claimed) in rows {
+        wants(rt, text, claims(listed, text, *kind) == Some(*claimed));
     }
+}
+
+/// Wants them where Biba and the other are listed.
+fn claim_both(
+    rt: &impl Abort,
+    alloc: Global,
+    specs: &mut SpecList,
+    other: Module,
+    rows: &[(&str, Kind, bool)],
+) -> Result<(), AllocError> {
+    list_both(alloc, specs, other)?;
+    wants_claims(rt, specs, rows);
     Ok(())
 }
 
 #[test]
+fn claims_of_biba_and_partition(rt: HostRuntime) -> Result<(), AllocError> {
+    let mut specs = SpecList::new(rt.alloc());
+    claim_both(&rt, rt.alloc(), &mut specs, Module::Partition, CLAIMS)
+}
+
+/// The same where Biba and LOMAC are listed.
+const CLAIMS_OF_LOMAC: &[(&str, Kind, bool)] = &[
+    ("lomac/5,biba/7", Kind::Process, true),
+    ("lomac/5,mls/7", Kind::Process, false),
+    ("lomac/5,biba/7", Kind::Vnode, true),
+    ("lomac/5,mls/7", Kind::Vnode, false),
+    ("lomac/5,biba/7", Kind::Pipe, true),
+    ("lomac/5,mls/7", Kind::Pipe, false),
+    ("lomac/5,biba/7", Kind::Socket, true),
+    ("lomac/5,mls/7", Kind::Socket, false),
+];
+
+#[test]
 fn lomac_takes_requests_for_every_kind(rt: HostRuntime) -> Result<(), AllocError> {
-    let listed = biba_and_lomac(rt.alloc())?;
-    for kind in [Kind::Process, Kind::Vnode, Kind::Pipe, Kind::Socket] {
-        let both = claims(&listed, "lomac/5,biba/7", kind);
-        let unlisted = claims(&listed, "lomac/5,mls/7", kind);
-        wants(&rt, "claims", both == Some(true) && unlisted == Some(false));
-    }
+    let mut specs = SpecList::new(rt.alloc());
+    claim_both(&rt, rt.alloc(), &mut specs, Module::Lomac, CLAIMS_OF_LOMAC)
+}
+
+/// The same where Biba alone is listed.
+const CLAIMS_OF_BIBA: &[(&str, Kind, bool)] = &[
+    ("partition/none", Kind::Process, false),
+    ("biba/5", Kind::Process, true),
+];
+
+fn claim_alone(rt: &impl Abort, alloc: Global, specs: &mut SpecList) -> Result<(), AllocError> {
+    list(alloc, specs, Module::Biba, 0)?;
+    wants_claims(rt, specs, CLAIMS_OF_BIBA);
     Ok(())
 }
 
 #[test]
 fn an_unlisted_partition_is_not_claimed(rt: HostRuntime) -> Result<(), AllocError> {
-    let listed = biba_alone(rt.alloc())?;
-    let unlisted = claims(&listed, "partition/none", Kind::Process);
-    let listed = claims(&listed, "biba/5", Kind::Process);
-    wants(
-        &rt,
-        "claims",
-        unlisted == Some(false) && listed == Some(true),
-    );
-    Ok(())
-}
-
-fn grade(grade: u16) -> Elem {
-    Elem::Grade(grade, Comps::empty())
+    let mut specs = SpecList::new(rt.alloc());
+    claim_alone(&rt, rt.alloc(), &mut specs)
 }
 
 fn alone(effective: u16) -> LabelValue {
@@ -110,11 +115,6 @@ fn ranged(effective: u16, low: u16, high: u16) -> LabelValue {
     LabelValue::Range(RangeLabel::ranged(grade(effective), grade(low), grade(high)))
 }
 
-/// A label with these values of Biba and of mac_partition, whose third slot nobody holds.
-fn labelled(biba: LabelValue, partition: LabelValue) -> [LabelValue; SLOTS] {
-    [biba, partition, LabelValue::Number(9), LabelValue::Unset]
-}
-
 /// The value of a slot after what the request asks, by the policy that holds it.
 fn value_in(listed: &SpecList, request: &Request, slot: u8, before: LabelValue) -> LabelValue {
     match listed.holder(slot) {
@@ -123,81 +123,107 @@ fn value_in(listed: &SpecList, request: &Request, slot: u8, before: LabelValue) 
     }
 }
 
+/// The label after what the request asks, by the values of its slots.
+fn values_in(
+    listed: &SpecList,
+    request: &Request,
+    before: [LabelValue; SLOTS],
+) -> [LabelValue; SLOTS] {
+    let [first, second, third, fourth] = before;
+    [
+        value_in(listed, request, 0, first),
+        value_in(listed, request, 1, second),
+        value_in(listed, request, 2, third),
+        value_in(listed, request, 3, fourth),
+    ]
+}
+
+/// A label with these values in the first two slots, whose third slot nobody holds.
+fn labelled(values: &[LabelValue; 2]) -> [LabelValue; SLOTS] {
+    let [first, second] = *values;
+    [first, second, LabelValue::Number(9), LabelValue::Unset]
+}
+
 /// Whether a label is so after what the text asks, as a whole and in each slot.
 fn becomes(
     listed: &SpecList,
     text: &str,
-    before: &[LabelValue; SLOTS],
-    after: &[LabelValue; SLOTS],
+    before: &[LabelValue; 2],
+    after: &[LabelValue; 2],
 ) -> bool {
+    let (before, after) = (labelled(before), labelled(after));
     match read_request(text) {
         Ok(request) => {
-            relabelled(listed, &request, before) == *after
-                && value_in(listed, &request, 0, before[0]) == after[0]
-                && value_in(listed, &request, 1, before[1]) == after[1]
-                && value_in(listed, &request, 2, before[2]) == after[2]
-                && value_in(listed, &request, 3, before[3]) == after[3]
+            let whole = relabelled(listed, &request, &before);
+            whole == after && values_in(listed, &request, before) == after
         }
         Err(_) => false,
     }
 }
 
-#[test]
-fn what_is_not_asked_stays(rt: HostRuntime) -> Result<(), AllocError> {
-    let listed = biba_and_partition(rt.alloc())?;
-    let (biba, three) = (ranged(10, 5, 20), LabelValue::Number(3));
-    let rows: &[(&str, LabelValue, LabelValue)] = &[
-        ("biba/7", ranged(7, 5, 20), three),
-        ("biba/(6-18)", ranged(10, 6, 18), three),
-        (
-            "biba/7(6-18),partition/7",
-            ranged(7, 6, 18),
-            LabelValue::Number(7),
-        ),
-        ("partition/none", biba, three),
-        ("mls/7(6-18)", biba, three),
-    ];
-    for (text, of_biba, of_partition) in rows {
-        let after = labelled(*of_biba, *of_partition);
-        let becomes = becomes(&listed, text, &labelled(biba, three), &after);
-        wants(&rt, text, becomes);
+/// A text, and the values of the first two slots before and after what it asks.
+type Row = (&'static str, [LabelValue; 2], [LabelValue; 2]);
+
+fn wants_relabels(rt: &impl Abort, listed: &SpecList, rows: &[Row]) {
+    for (text, before, after) in rows {
+        wants(rt, text, becomes(listed, text, before, after));
     }
+}
+
+/// Relabels of values of Biba and of mac_partition: what isn't asked stays, and an unset value is set.
+fn relabel_partitions(
+    rt: &impl Abort,
+    alloc: Global,
+    specs: &mut SpecList,
+) -> Result<(), AllocError> {
+    list_both(alloc, specs, Module::Partition)?;
+    let (unset, three, seven) = (
+        LabelValue::Unset,
+        LabelValue::Number(3),
+        LabelValue::Number(7),
+    );
+    let both = [ranged(10, 5, 20), three];
+    let rows = [
+        ("biba/7", both, [ranged(7, 5, 20), three]),
+        ("biba/(6-18)", both, [ranged(10, 6, 18), three]),
+        ("biba/7(6-18),partition/7", both, [ranged(7, 6, 18), seven]),
+        ("partition/none", both, both),
+        ("mls/7(6-18)", both, both),
+        ("partition/none", [unset, unset], [unset, unset]),
+        ("partition/7", [unset, unset], [unset, seven]),
+        ("biba/7", [unset, unset], [alone(7), unset]),
+        ("mls/7", [unset, unset], [unset, unset]),
+    ];
+    wants_relabels(rt, specs, &rows);
     Ok(())
 }
 
 #[test]
-fn values_that_are_unset(rt: HostRuntime) -> Result<(), AllocError> {
-    let listed = biba_and_partition(rt.alloc())?;
-    let unset = LabelValue::Unset;
-    let seven = LabelValue::Range(RangeLabel::effective(grade(7)));
-    let rows: &[(&str, LabelValue, LabelValue)] = &[
-        ("partition/none", unset, unset),
-        ("partition/7", unset, LabelValue::Number(7)),
-        ("biba/7", seven, unset),
-        ("mls/7", unset, unset),
+fn what_is_not_asked_stays(rt: HostRuntime) -> Result<(), AllocError> {
+    let mut specs = SpecList::new(rt.alloc());
+    relabel_partitions(&rt, rt.alloc(), &mut specs)
+}
+
+/// Relabels of values of Biba and of LOMAC.
+fn relabel_elements(
+    rt: &impl Abort,
+    alloc: Global,
+    specs: &mut SpecList,
+) -> Result<(), AllocError> {
+    list_both(alloc, specs, Module::Lomac)?;
+    let (biba, nine) = (ranged(10, 5, 20), alone(9));
+    let rows = [
+        ("lomac/7", [biba, nine], [biba, alone(7)]),
+        ("lomac/7", [biba, LabelValue::Unset], [biba, alone(7)]),
+        ("biba/7,partition/3", [biba, nine], [ranged(7, 5, 20), nine]),
+        ("lomac/7,biba/6", [biba, nine], [ranged(6, 5, 20), alone(7)]),
     ];
-    for (text, of_biba, of_partition) in rows {
-        let after = labelled(*of_biba, *of_partition);
-        let becomes = becomes(&listed, text, &labelled(unset, unset), &after);
-        wants(&rt, text, becomes);
-    }
+    wants_relabels(rt, specs, &rows);
     Ok(())
 }
 
 #[test]
 fn lomac_has_an_element_alone(rt: HostRuntime) -> Result<(), AllocError> {
-    let listed = biba_and_lomac(rt.alloc())?;
-    let biba = ranged(10, 5, 20);
-    let rows: &[(&str, LabelValue, LabelValue, LabelValue)] = &[
-        ("lomac/7", alone(9), biba, alone(7)),
-        ("lomac/7", LabelValue::Unset, biba, alone(7)),
-        ("biba/7,partition/3", alone(9), ranged(7, 5, 20), alone(9)),
-        ("lomac/7,biba/6", alone(9), ranged(6, 5, 20), alone(7)),
-    ];
-    for (text, before, of_biba, of_lomac) in rows {
-        let after = labelled(*of_biba, *of_lomac);
-        let becomes = becomes(&listed, text, &labelled(biba, *before), &after);
-        wants(&rt, text, becomes);
-    }
-    Ok(())
+    let mut specs = SpecList::new(rt.alloc());
+    relabel_elements(&rt, rt.alloc(), &mut specs)
 }

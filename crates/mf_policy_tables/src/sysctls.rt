@@ -14,7 +14,7 @@ use std::process::Abort;
 
 /// The names of mac_biba(4), mac_bsdextended(4), mac_seeotheruids(4) and mac_portacl(4), with their modules; the first is a
 /// tunable.
-const NAMES: [(&str, Sysctl, Module); 10] = [
+const NAMES: &[(&str, Sysctl, Module)] = &[
     (
         "security.mac.biba.revocation_enabled",
         RevocationEnabled,
@@ -71,14 +71,13 @@ fn is_named(sysctl: Sysctl, name: &str, owner: Module) -> bool {
 #[test]
 fn names_of_settings(rt: HostRuntime) {
     for (name, sysctl, owner) in NAMES {
-        wants(&rt, name, is_named(sysctl, name, owner));
+        wants(&rt, name, is_named(*sysctl, name, *owner));
     }
     let none = Sysctl::from_name("security.mac.portacl.enabled");
     wants(&rt, "security.mac.portacl.enabled", none.is_none());
 }
 
 /// What a value asks for: nothing, revocation or first match so, or these settings of mac_seeotheruids or of mac_portacl.
-#[derive(Clone, Copy)]
 enum Asked {
     Nothing,
     Revocation(bool),
@@ -89,7 +88,7 @@ enum Asked {
 
 /// Values of settings, each with what it asks for where mac_seeotheruids and mac_portacl have `SEE` and `ACL`: the other
 /// settings stay.
-const VALUES: [(Sysctl, &str, Asked); 32] = [
+const VALUES: &[(Sysctl, &str, Asked)] = &[
     (RevocationEnabled, "1", Revocation(true)),
     (RevocationEnabled, "2", Nothing),
     (FirstmatchEnabled, "0", FirstMatch(false)),
@@ -135,52 +134,77 @@ const LAST: See = (true, false, 4_294_967_295, false);
 
 const ACL: Acl = (WWW, 99, false, true);
 
+/// Whether the spec is mac_seeotheruids with these settings.
+fn is_see(found: &Spec, wanted: See) -> bool {
+    found.same(&see(wanted))
+}
+
+/// Whether the spec is mac_portacl with these settings.
+fn is_acl(rt: &impl Abort, found: &Spec, wanted: Acl) -> bool {
+    found.same(&acl(rt, wanted))
+}
+
 /// Whether this is what was asked for.
-fn is_asked(rt: &impl Abort, found: &Option<Change>, wanted: Asked) -> bool {
+fn is_change(rt: &impl Abort, found: &Change, wanted: &Asked) -> bool {
     match (found, wanted) {
-        (None, Nothing) => true,
-        (Some(Change::Revocation(found)), Revocation(wanted)) => *found == wanted,
-        (Some(Change::FirstMatch(found)), FirstMatch(wanted)) => *found == wanted,
-        (Some(Change::See(found)), Sights(wanted)) => found.same(&see(wanted)),
-        (Some(Change::Port(found)), Ports(wanted)) => found.same(&acl(rt, wanted)),
+        (Change::Revocation(found), Revocation(wanted)) => *found == *wanted,
+        (Change::FirstMatch(found), FirstMatch(wanted)) => *found == *wanted,
+        (Change::See(found), Sights(wanted)) => is_see(found, *wanted),
+        (Change::Port(found), Ports(wanted)) => is_acl(rt, found, *wanted),
         _ => false,
     }
 }
 
-/// The modules that have such settings, each listed with one of these specs.
-fn listed(rt: &impl Abort, alloc: Global) -> Result<SpecList, AllocError> {
-    let specs = [
-        (Module::Biba, Spec::fresh(alloc, Module::Biba)?),
-        (
-            Module::Bsdextended,
-            Spec::fresh(alloc, Module::Bsdextended)?,
-        ),
-        (Module::Seeotheruids, see(SEE)),
-        (Module::Portacl, acl(rt, ACL)),
-    ];
-    let mut list = SpecList::new(alloc);
-    for (module, spec) in specs {
-        let registration = Registration {
-            module,
-            slot: None,
-            fixed: false,
-        };
-        list.list(registration, spec)?;
+/// Whether the value asks for that where these policies are listed.
+fn asks(rt: &impl Abort, list: &SpecList, sysctl: Sysctl, value: &str, wanted: &Asked) -> bool {
+    match (&sysctl.asked_of(list, value), wanted) {
+        (None, Nothing) => true,
+        (Some(found), _) => is_change(rt, found, wanted),
+        _ => false,
     }
-    Ok(list)
+}
+
+/// Lists a module that has such settings.
+fn list(specs: &mut SpecList, module: Module, spec: Spec) -> Result<(), AllocError> {
+    let registration = Registration {
+        module,
+        slot: None,
+        fixed: false,
+    };
+    specs.list(registration, spec)
+}
+
+/// Lists the modules that have such settings, each with one of these specs.
+fn list_all(rt: &impl Abort, alloc: Global, specs: &mut SpecList) -> Result<(), AllocError> {
+    list(specs, Module::Biba, Spec::fresh(alloc, Module::Biba)?)?;
+    list(
+        specs,
+        Module::Bsdextended,
+        Spec::fresh(alloc, Module::Bsdextended)?,
+    )?;
+    list(specs, Module::Seeotheruids, see(SEE))?;
+    list(specs, Module::Portacl, acl(rt, ACL))
+}
+
+/// Wants each value to ask for that where the modules are listed, and else for nothing.
+fn wants_values(rt: &impl Abort, specs: &SpecList, are_listed: bool) {
+    for (sysctl, value, asked) in VALUES {
+        let wanted = if are_listed { asked } else { &Nothing };
+        let asks = asks(rt, specs, *sysctl, value, wanted);
+        wants(rt, sysctl.name(), asks);
+    }
+}
+
+/// Before the modules are listed, and then.
+fn ask_all(rt: &impl Abort, alloc: Global, specs: &mut SpecList) -> Result<(), AllocError> {
+    wants_values(rt, specs, false);
+    list_all(rt, alloc, specs)?;
+    wants_values(rt, specs, true);
+    Ok(())
 }
 
 #[test]
 fn values_of_settings(rt: HostRuntime) -> Result<(), AllocError> {
-    let (all, none) = (listed(&rt, rt.alloc())?, SpecList::new(rt.alloc()));
-    for (sysctl, value, wanted) in VALUES {
-        let found = sysctl.asked_of(&all, value);
-        let is_unlisted = sysctl.asked_of(&none, value).is_none();
-        wants(
-            &rt,
-            sysctl.name(),
-            is_asked(&rt, &found, wanted) && is_unlisted,
-        );
-    }
-    Ok(())
+    let mut specs = SpecList::new(rt.alloc());
+    ask_all(&rt, rt.alloc(), &mut specs)
 }

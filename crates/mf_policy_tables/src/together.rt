@@ -1,56 +1,43 @@
 //! What policies answer together, and what they answer where their settings are changed in a list.
+ghost use Rattle.std.specs.Prelude.{◌++◌};
+ghost use Rattle.mf_list.specs.Once.{IsHeldOnce};
 
-use crate::asked::wants;
+use crate::asked::{labelled, object, subject, wants};
 use crate::one_of::OneOf;
 use crate::ports::acl;
 use crate::registrations::{Policies, all_three, late_three};
-use mf_cred::Cred;
-use mf_elem::{Elem, LabelValue, RangeLabel};
+use mf_elem::{Elem, LabelValue};
 use mf_errno::{Errno, Module, Priv};
-use mf_item::{CheckOp, Item, Kind, ObjectView, SubjectView};
+use mf_item::{CheckOp, Item, Kind, SubjectView};
 use mf_list::{Answer, Listed};
-use mf_policy::Change;
+use mf_policy::{Change, Changed};
 use std::alloc::{AllocError, Global};
 use std::process::Abort;
 
-/// A label with this element in the slots 0 and 1.
-fn labelled(element: Elem) -> [LabelValue; 4] {
-    let value = LabelValue::Range(RangeLabel {
-        effective: Some(element),
-        range: None,
-    });
-    [value, value, LabelValue::Unset, LabelValue::Unset]
-}
-
 /// A label with this element in slot 0 and this partition in slot 1.
 fn parted(element: Elem, partition: u32) -> [LabelValue; 4] {
-    let [value, _, unset, _] = labelled(element);
-    [value, LabelValue::Number(partition), unset, unset]
+    let [value, _, _, _] = labelled(element);
+    [
+        value,
+        LabelValue::Number(partition),
+        LabelValue::Unset,
+        LabelValue::Unset,
+    ]
 }
 
-fn subject(label: [LabelValue; 4]) -> SubjectView {
-    SubjectView {
-        id: 1,
-        cred: Cred::default(),
-        label,
-    }
-}
-
-fn object(kind: Kind, label: [LabelValue; 4]) -> ObjectView {
-    ObjectView {
-        id: 2,
-        kind,
-        file: Default::default(),
-        label,
-    }
+/// Registers Biba and then another.
+fn register_both(rt: &impl Abort, policies: &mut Policies<OneOf>, name: &str)
+    requires { IsHeldOnce (policies.old.fixed ++ policies.old.list) policies.old.catalogue }
+{
+    let biba = policies.register("mac_biba", false).is_ok();
+    let other = policies.register(name, false).is_ok();
+    wants(rt, name, biba && other);
 }
 
 /// All three, of which Biba is registered first and then another.
 fn biba_and(rt: &impl Abort, alloc: Global, name: &str) -> Result<Policies<OneOf>, AllocError> {
     let mut policies = all_three(alloc)?;
-    let biba = policies.register("mac_biba", false).is_ok();
-    let other = policies.register(name, false).is_ok();
-    wants(rt, name, biba && other);
+    register_both(rt, &mut policies, name);
     Ok(policies)
 }
 
@@ -76,9 +63,9 @@ type Row = (
     Option<Module>,
 );
 
-fn wants_rows(rt: &impl Abort, list: &Listed<'_, OneOf>, rows: &[Row]) {
+fn wants_rows(rt: &impl Abort, policies: &Policies<OneOf>, rows: &[Row]) {
     for (op, subject, object, errno, by) in rows {
-        let answer = answer_of(list, *op, Kind::Process, *subject, *object);
+        let answer = answer_of(&policies.walk(), *op, Kind::Process, *subject, *object);
         wants(rt, op.name(), answer.errno == *errno && answer.by == *by);
     }
 }
@@ -92,7 +79,7 @@ fn precedence_against_walk_order(rt: HostRuntime) -> Result<(), AllocError> {
         (CheckOp::ProcVisible, low, low, Errno::Success, None),
     ];
     let policies = biba_and(&rt, rt.alloc(), "mac_mls")?;
-    wants_rows(&rt, &policies.walk(), &rows);
+    wants_rows(&rt, &policies, &rows);
     Ok(())
 }
 
@@ -107,7 +94,7 @@ fn partition_against_biba(rt: HostRuntime) -> Result<(), AllocError> {
         (CheckOp::ProcVisible, high_1, low_2, Errno::Esrch, biba),
     ];
     let policies = biba_and(&rt, rt.alloc(), "mac_partition")?;
-    wants_rows(&rt, &policies.walk(), &rows);
+    wants_rows(&rt, &policies, &rows);
     Ok(())
 }
 
@@ -126,20 +113,25 @@ fn answer_to(list: &Listed<'_, OneOf>, uid: u32) -> Answer {
     list.ask(&item)
 }
 
-#[test]
-fn root_has_every_privilege(rt: HostRuntime) -> Result<(), AllocError> {
-    let policies = biba_and(&rt, rt.alloc(), "mac_mls")?;
+/// Wants root to have the privilege, and another user not.
+fn wants_privileges(rt: &impl Abort, policies: &Policies<OneOf>) {
     let root = answer_to(&policies.walk(), 0);
     let other = answer_to(&policies.walk(), 1001);
     let is_granted = root.errno == Errno::Success && root.by.is_none();
     let is_refused = other.errno == Errno::Eperm && other.by.is_none();
-    wants(&rt, "a privilege", is_granted && is_refused);
+    wants(rt, "a privilege", is_granted && is_refused);
+}
+
+#[test]
+fn root_has_every_privilege(rt: HostRuntime) -> Result<(), AllocError> {
+    let policies = biba_and(&rt, rt.alloc(), "mac_mls")?;
+    wants_privileges(&rt, &policies);
     Ok(())
 }
 
 /// Whose setting is changed in the static list, whether to on, the answer, and then that to a read from above through an
 /// open file.
-const REVOCATIONS: [(Module, bool, Errno, Errno); 4] = [
+const REVOCATIONS: &[(Module, bool, Errno, Errno)] = &[
     (Module::Mls, true, Errno::Enoent, Errno::Success),
     (Module::Partition, true, Errno::Enoent, Errno::Success),
     (Module::Biba, true, Errno::Success, Errno::Eacces),
@@ -160,18 +152,26 @@ fn set_and_read(
     Ok((changed.errno, read.errno))
 }
 
-#[test]
-fn a_policy_of_the_static_list_is_set(rt: HostRuntime) -> Result<(), AllocError> {
-    let mut policies = biba_and(&rt, rt.alloc(), "mac_mls")?;
+fn wants_revocations(
+    rt: &impl Abort,
+    alloc: Global,
+    policies: &mut Policies<OneOf>,
+) -> Result<(), AllocError> {
     for (module, revocation, set, read) in REVOCATIONS {
-        let found = set_and_read(rt.alloc(), &mut policies, module, revocation)?;
-        wants(&rt, module.name(), found == (set, read));
+        let found = set_and_read(alloc, policies, *module, *revocation)?;
+        wants(rt, module.name(), found == (*set, *read));
     }
     Ok(())
 }
 
+#[test]
+fn a_policy_of_the_static_list_is_set(rt: HostRuntime) -> Result<(), AllocError> {
+    let mut policies = biba_and(&rt, rt.alloc(), "mac_mls")?;
+    wants_revocations(&rt, rt.alloc(), &mut policies)
+}
+
 /// A process's real uid and partition, its errno and who decides, where a user of uid 1 in partition 1 looks at it.
-const SIGHTS: [(u32, u32, Errno, Option<Module>); 4] = [
+const SIGHTS: &[(u32, u32, Errno, Option<Module>)] = &[
     (1, 1, Errno::Success, None),
     (1, 2, Errno::Esrch, Some(Module::Partition)),
     (2, 1, Errno::Esrch, Some(Module::Seeotheruids)),
@@ -190,17 +190,23 @@ fn seen(list: &Listed<'_, OneOf>, uid: u32, partition: u32) -> Answer {
     list.ask(&item)
 }
 
-/// Where both hide the process, the newer one decides.
+/// Registers mac_partition and then mac_seeotheruids, and looks. Where both hide the process, the newer one decides.
+fn wants_sights(rt: &impl Abort, policies: &mut Policies<OneOf>)
+    requires { IsHeldOnce (policies.old.fixed ++ policies.old.list) policies.old.catalogue }
+{
+    let partition = policies.register("mac_partition", true).is_ok();
+    let seeotheruids = policies.register("mac_seeotheruids", true).is_ok();
+    wants(rt, "both", partition && seeotheruids);
+    for (uid, partition, errno, by) in SIGHTS {
+        let answer = seen(&policies.walk(), *uid, *partition);
+        wants(rt, "a process", answer.errno == *errno && answer.by == *by);
+    }
+}
+
 #[test]
 fn seeotheruids_before_partition(rt: HostRuntime) -> Result<(), AllocError> {
     let mut policies = late_three(rt.alloc())?;
-    let partition = policies.register("mac_partition", true).is_ok();
-    let seeotheruids = policies.register("mac_seeotheruids", true).is_ok();
-    wants(&rt, "both", partition && seeotheruids);
-    for (uid, partition, errno, by) in SIGHTS {
-        let answer = seen(&policies.walk(), uid, partition);
-        wants(&rt, "a process", answer.errno == errno && answer.by == by);
-    }
+    wants_sights(&rt, &mut policies);
     Ok(())
 }
 
@@ -214,25 +220,37 @@ fn bound(list: &Listed<'_, OneOf>) -> Answer {
     list.ask(&item)
 }
 
-/// Whether a rule that is set in the dynamic list lets uid 80 bind the port, which it may not before.
-fn is_let_through(
+/// Sets a rule of mac_portacl in the dynamic list.
+fn set_rule(
     rt: &impl Abort,
     alloc: Global,
     policies: &mut Policies<OneOf>,
-) -> Result<bool, AllocError> {
-    let before = bound(&policies.walk());
+) -> Result<Changed, AllocError> {
     let change = Change::Port(acl(rt, ("uid:80:tcp:80", 1023, true, true)));
-    let changed = policies.list.change(alloc, Module::Portacl, &change)?;
-    let after = bound(&policies.walk());
+    policies.list.change(alloc, Module::Portacl, &change)
+}
+
+/// A rule that is set in the dynamic list lets uid 80 bind the port, which it may not before.
+fn load_and_set(
+    rt: &impl Abort,
+    alloc: Global,
+    policies: &mut Policies<OneOf>,
+) -> Result<(), AllocError>
+    requires { IsHeldOnce (policies.old.fixed ++ policies.old.list) policies.old.catalogue }
+{
+    let loaded = policies.register("mac_portacl", true).is_ok();
+    let before = bound(&policies.walk());
     let is_denied = before.errno == Errno::Eperm && before.by == Some(Module::Portacl);
-    Ok(is_denied && changed.errno == Errno::Success && after.errno == Errno::Success)
+    wants(rt, "mac_portacl", loaded && is_denied);
+    let changed = set_rule(rt, alloc, policies)?;
+    let after = bound(&policies.walk());
+    let is_let = after.errno == Errno::Success;
+    wants(rt, "the rule", changed.errno == Errno::Success && is_let);
+    Ok(())
 }
 
 #[test]
 fn a_policy_of_the_dynamic_list_is_set(rt: HostRuntime) -> Result<(), AllocError> {
     let mut policies = late_three(rt.alloc())?;
-    let loaded = policies.register("mac_portacl", true).is_ok();
-    let is_set = is_let_through(&rt, rt.alloc(), &mut policies)?;
-    wants(&rt, "mac_portacl", loaded && is_set);
-    Ok(())
+    load_and_set(&rt, rt.alloc(), &mut policies)
 }

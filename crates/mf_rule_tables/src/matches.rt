@@ -1,12 +1,13 @@
 //! What rules match.
 
+use crate::asked::wants;
 use crate::texts::rule_of;
 use mf_cred::{ArrayVec, Cred, FileView};
 use mf_rule::Rule;
 use std::alloc::AllocError;
 
 /// Rules, each with whether it matches the subject of `subject` and the file of `FILE`.
-const MATCHES: [(&str, bool); 34] = [
+const MATCHES: &[(&str, bool)] = &[
     ("subject object mode n", true),
     ("subject uid 1 object mode n", true),
     ("subject uid 2 object mode n", true),
@@ -64,9 +65,9 @@ pub const FILE: FileView = FileView {
 };
 
 /// Whether the text was a rule, and one that matches `FILE` for this subject or doesn't, as is wanted.
-fn is_matched(cred: &Cred, rule: Option<Rule>, wanted: bool) -> bool {
+fn is_matched(rule: Option<Rule>, wanted: bool) -> bool {
     match rule {
-        Some(rule) => rule.matches(cred, &FILE) == wanted,
+        Some(rule) => rule.matches(&subject(), &FILE) == wanted,
         None => false,
     }
 }
@@ -75,7 +76,7 @@ fn is_matched(cred: &Cred, rule: Option<Rule>, wanted: bool) -> bool {
 fn what_rules_match(rt: HostRuntime) -> Result<(), AllocError> {
     for (text, wanted) in MATCHES {
         let rule = rule_of(rt.alloc(), text)?;
-        assert!(rt; is_matched(&subject(), rule, wanted), "{text}");
+        wants(&rt, text, is_matched(rule, *wanted));
     }
     Ok(())
 }

@@ -1,5 +1,6 @@
 //! Texts of rules about ports, and texts that are none.
 
+use crate::asked::wants;
 use mf_rule::{MOST_PORT_RULES, PortRule, read_ports, same_port_rules};
 use std::alloc::{AllocError, Global};
 
@@ -28,7 +29,7 @@ const LAST: PortRule = PortRule {
 };
 
 /// Texts, each with the rules that it spells.
-const RULES: [(&str, &[PortRule]); 6] = [
+const RULES: &[(&str, &[PortRule])] = &[
     ("", &[]),
     ("uid:80:tcp:80", &[WWW]),
     ("uid:0080:tcp:080", &[WWW]),
@@ -41,7 +42,7 @@ const RULES: [(&str, &[PortRule]); 6] = [
 ];
 
 /// Texts that spell no rules.
-const NO_RULES: [&str; 24] = [
+const NO_RULES: &[&str] = &[
     ",",
     "uid:80:tcp:80,",
     ",uid:80:tcp:80",
@@ -79,14 +80,14 @@ fn spells(text: &str, rules: &[PortRule]) -> bool {
 #[test]
 fn rules_about_ports(rt: HostRuntime) {
     for (text, rules) in RULES {
-        assert!(rt; spells(text, rules), "{text}");
+        wants(&rt, text, spells(text, rules));
     }
 }
 
 #[test]
 fn no_rules_about_ports(rt: HostRuntime) {
     for text in NO_RULES {
-        assert!(rt; read_ports(text).is_none(), "{text}");
+        wants(&rt, text, read_ports(text).is_none());
     }
 }
 
@@ -103,7 +104,7 @@ fn read_many(alloc: Global, many: usize) -> Result<Option<usize>, AllocError> {
 }
 
 /// Numbers of rules, each with whether that many are read.
-const NUMBERS: [(usize, bool); 4] = [
+const NUMBERS: &[(usize, bool)] = &[
     (MOST_PORT_RULES - 1, true),
     (MOST_PORT_RULES, true),
     (MOST_PORT_RULES + 1, false),
@@ -113,14 +114,15 @@ const NUMBERS: [(usize, bool); 4] = [
 #[test]
 fn most_rules_about_ports(rt: HostRuntime) -> Result<(), AllocError> {
     for (many, are_read) in NUMBERS {
-        let wanted = if are_read { Some(many) } else { None };
-        assert!(rt; read_many(rt.alloc(), many)? == wanted, "{many}");
+        let wanted = if *are_read { Some(*many) } else { None };
+        let found = read_many(rt.alloc(), *many)?;
+        wants(&rt, "as many", found == wanted);
     }
     Ok(())
 }
 
 /// Texts of rules, each with another one, and whether they spell the same rules.
-const PAIRS: [(&str, &str, bool); 6] = [
+const PAIRS: &[(&str, &str, bool)] = &[
     ("", "", true),
     ("uid:80:tcp:80", "uid:080:tcp:80", true),
     ("uid:80:tcp:80", "", false),
@@ -140,6 +142,6 @@ fn are_the_same(text: &str, other: &str, wanted: bool) -> bool {
 #[test]
 fn same_rules_about_ports(rt: HostRuntime) {
     for (text, other, wanted) in PAIRS {
-        assert!(rt; are_the_same(text, other, wanted), "{text} and {other}");
+        wants(&rt, text, are_the_same(text, other, *wanted));
     }
 }

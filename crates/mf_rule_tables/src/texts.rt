@@ -1,10 +1,11 @@
 //! Texts of rules, and texts that are none.
 
+use crate::asked::wants;
 use mf_rule::{Rule, RuleFault, print_rule, read_rule};
 use std::alloc::{AllocError, Global};
 
 /// The synopsis of ugidfw(8), with `not` and each `!`, and its letters of types and of modes.
-const SYNOPSIS: [(&str, &str); 2] = [
+const SYNOPSIS: &[(&str, &str)] = &[
     (
         "subject not ! uid 1001:1002 ! gid 1001:1002 object not ! uid 1001:1002 ! gid 1001:1002 ! suid ! sgid ! uid_of_subject ! gid_of_subject ! type ardbclsp mode arswxn",
         "subject not ! uid 1001:1002 ! gid 1001:1002 object not ! uid 1001:1002 ! gid 1001:1002 ! suid ! sgid ! uid_of_subject ! gid_of_subject ! type a mode arswx",
@@ -16,7 +17,7 @@ const SYNOPSIS: [(&str, &str); 2] = [
 ];
 
 /// Words of rules, and the canonical text of each. The second has every test.
-const CANONICAL: [(&str, &str); 8] = [
+const CANONICAL: &[(&str, &str)] = &[
     (
         "subject not ! uid 5:5 object gid 0:9 ! suid type dr mode wr",
         "subject not ! uid 5 object gid 0:9 ! suid type rd mode rw",
@@ -49,7 +50,7 @@ const CANONICAL: [(&str, &str); 8] = [
 ];
 
 /// Words that are no rule, each with its first fault.
-const FAULTS: [(&str, RuleFault); 30] = [
+const FAULTS: &[(&str, RuleFault)] = &[
     ("", RuleFault::Missing(0)),
     ("subject", RuleFault::Missing(1)),
     ("subject object", RuleFault::Missing(2)),
@@ -130,7 +131,8 @@ fn is_canonical(alloc: Global, text: &str, canonical: &str) -> Result<bool, Allo
 #[test]
 fn synopsis_of_ugidfw_8(rt: HostRuntime) -> Result<(), AllocError> {
     for (text, canonical) in SYNOPSIS {
-        assert!(rt; is_canonical(rt.alloc(), text, canonical)?, "{text}");
+        let is_canonical = is_canonical(rt.alloc(), text, canonical)?;
+        wants(&rt, text, is_canonical);
     }
     Ok(())
 }
@@ -138,7 +140,8 @@ fn synopsis_of_ugidfw_8(rt: HostRuntime) -> Result<(), AllocError> {
 #[test]
 fn canonical_texts(rt: HostRuntime) -> Result<(), AllocError> {
     for (text, canonical) in CANONICAL {
-        assert!(rt; is_canonical(rt.alloc(), text, canonical)?, "{text}");
+        let is_canonical = is_canonical(rt.alloc(), text, canonical)?;
+        wants(&rt, text, is_canonical);
     }
     Ok(())
 }
@@ -151,13 +154,14 @@ fn fault_of(alloc: Global, text: &str) -> Result<Option<RuleFault>, AllocError> 
 #[test]
 fn faults_and_their_words(rt: HostRuntime) -> Result<(), AllocError> {
     for (text, fault) in FAULTS {
-        assert!(rt; fault_of(rt.alloc(), text)? == Some(fault), "{text}");
+        let found = fault_of(rt.alloc(), text)?;
+        wants(&rt, text, found == Some(*fault));
     }
     Ok(())
 }
 
 /// Words of which the last is empty, with their faults.
-const EMPTY_WORDS: [(&[&str], RuleFault); 2] = [
+const EMPTY_WORDS: &[(&[&str], RuleFault)] = &[
     (&["subject", "uid", ""], RuleFault::BadRange(2)),
     (&["subject", "object", "mode", ""], RuleFault::BadMode(3)),
 ];
@@ -165,6 +169,7 @@ const EMPTY_WORDS: [(&[&str], RuleFault); 2] = [
 #[test]
 fn faults_of_empty_words(rt: HostRuntime) {
     for (words, fault) in EMPTY_WORDS {
-        assert!(rt; read_rule(words).err() == Some(fault));
+        let found = read_rule(words).err();
+        wants(&rt, "an empty word", found == Some(*fault));
     }
 }

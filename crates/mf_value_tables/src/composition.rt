@@ -5,7 +5,7 @@ use mf_compose::{decider, fold, granted};
 use mf_errno::Errno;
 
 /// Answers in walk order, their composition, and the place of the policy that decides.
-const ANSWERS: [(&[Errno], Errno, Option<usize>); 8] = [
+const ANSWERS: &[(&[Errno], Errno, Option<usize>)] = &[
     (&[], Errno::Success, None),
     (&[Errno::Success, Errno::Success], Errno::Success, None),
     (&[Errno::Eacces, Errno::Esrch], Errno::Esrch, Some(1)),
@@ -31,19 +31,13 @@ const ANSWERS: [(&[Errno], Errno, Option<usize>); 8] = [
 #[test]
 fn precedence_against_walk_order(rt: HostRuntime) {
     for (answers, errno, place) in ANSWERS {
-        wants(
-            &rt,
-            "precedence against walk order",
-            fold(answers) == errno && decider(answers) == place,
-        );
+        let is_so = fold(answers) == *errno && decider(answers) == *place;
+        wants(&rt, "precedence against walk order", is_so);
     }
 }
 
 #[test]
 fn one_grant_is_enough(rt: HostRuntime) {
-    wants(
-        &rt,
-        "one grant is enough",
-        granted(&[false, true]) && !granted(&[]),
-    );
+    let is_so = granted(&[false, true]) && !granted(&[]);
+    wants(&rt, "one grant is enough", is_so);
 }

@@ -5,7 +5,7 @@ use mf_errno::{Errno, Module, Priv, select};
 use std::alloc::AllocError;
 
 /// Errors with their numbers and names in errno(2).
-const ERRORS: [(Errno, u32, &str); 7] = [
+const ERRORS: &[(Errno, u32, &str)] = &[
     (Errno::Success, 0, "ok"),
     (Errno::Ebadf, 9, "EBADF"),
     (Errno::Edeadlk, 11, "EDEADLK"),
@@ -18,7 +18,11 @@ const ERRORS: [(Errno, u32, &str); 7] = [
 #[test]
 fn numbers_of_errno_2(rt: HostRuntime) {
     for (errno, number, name) in ERRORS {
-        wants(&rt, name, errno.number() == number && errno.name() == name);
+        wants(
+            &rt,
+            name,
+            errno.number() == *number && errno.name() == *name,
+        );
     }
 }
 
@@ -60,7 +64,7 @@ fn every_error_by_its_name(rt: HostRuntime) {
 }
 
 /// A newer and an older answer, and the one that is selected.
-const ANSWERS: [(Errno, Errno, Errno); 6] = [
+const ANSWERS: &[(Errno, Errno, Errno)] = &[
     (Errno::Eperm, Errno::Eacces, Errno::Eacces),
     (Errno::Edeadlk, Errno::Einval, Errno::Edeadlk),
     (Errno::Ebusy, Errno::Eperm, Errno::Eperm),
@@ -72,10 +76,7 @@ const ANSWERS: [(Errno, Errno, Errno); 6] = [
 #[test]
 fn precedence_of_two_answers(rt: HostRuntime) {
     for (newer, older, selected) in ANSWERS {
-        wants(
-            &rt,
-            "precedence of two answers",
-            select(newer, older) == selected,
-        );
+        let found = select(*newer, *older);
+        wants(&rt, "precedence of two answers", found == *selected);
     }
 }

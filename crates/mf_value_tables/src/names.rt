@@ -3,27 +3,23 @@
 use crate::asked::wants;
 use mf_names::{Bytes, Components, Listing, Name, NameList, Path, Word};
 use std::alloc::{AllocError, Global};
+use std::process::Abort;
+
+/// Whether the text, which is "ab", is emptied and grows.
+fn empties_and_grows(text: &mut Bytes<4>) -> Result<bool, AllocError> {
+    let is_filled = text.as_slice() == b"ab".as_slice();
+    text.clear();
+    let is_empty = text.as_slice().is_empty();
+    text.append(b"cd")?;
+    let is_grown = text.as_slice() == b"cd".as_slice();
+    Ok(is_filled && is_empty && is_grown)
+}
 
 #[test]
 fn a_text_grows_and_is_emptied(rt: HostRuntime) -> Result<(), AllocError> {
     let mut text: Bytes<4> = Bytes::copy_of(rt.alloc(), b"ab")?;
-    wants(
-        &rt,
-        "a text grows and is emptied",
-        text.as_slice() == b"ab".as_slice(),
-    );
-    text.clear();
-    wants(
-        &rt,
-        "a text grows and is emptied",
-        text.as_slice().is_empty(),
-    );
-    text.append(b"cd")?;
-    wants(
-        &rt,
-        "a text grows and is emptied",
-        text.as_slice() == b"cd".as_slice(),
-    );
+    let is_grown = empties_and_grows(&mut text)?;
+    wants(&rt, "a text", is_grown);
     Ok(())
 }
 
@@ -78,21 +74,19 @@ fn motd(alloc: Global) -> Result<Path, AllocError> {
     Ok(path)
 }
 
+/// Whether the path is /etc/motd.
+fn is_motd(path: &Path) -> bool {
+    let mut components = path.components();
+    let is_named = components.next() == Some("etc") && components.next() == Some("motd");
+    is_named && components.next().is_none() && path.depth() == 2
+}
+
 #[test]
 fn a_path_grows(rt: HostRuntime) -> Result<(), AllocError> {
-    wants(
-        &rt,
-        "a path grows",
-        Path::root(rt.alloc()).components().is_empty(),
-    );
+    let is_empty = Path::root(rt.alloc()).components().is_empty();
+    wants(&rt, "a path", is_empty);
     let path = motd(rt.alloc())?;
-    let mut components = path.components();
-    let named = components.next() == Some("etc") && components.next() == Some("motd");
-    wants(
-        &rt,
-        "a path grows",
-        path.depth() == 2 && named && components.next().is_none(),
-    );
+    wants(&rt, "a path", is_motd(&path));
     Ok(())
 }
 
@@ -104,26 +98,23 @@ fn ends_in_motd(components: &Components<'_>, directory: &Components<'_>) -> bool
     }
 }
 
+/// Whether the path ends in motd, and begins with the directory, which is none of its own.
+fn ends_in(path: &Path, directory: &Path) -> bool {
+    let (components, of_directory) = (path.components(), directory.components());
+    !components.is_same(&of_directory) && ends_in_motd(&components, &of_directory)
+}
+
+/// Makes the directory, and looks at the path's end.
+fn wants_directory(rt: &impl Abort, alloc: Global, path: &Path) -> Result<(), AllocError> {
+    let mut directory = Path::with_room(alloc, 4)?;
+    let is_root = directory.components().split_last().is_none();
+    directory.push("etc")?;
+    wants(rt, "a path", is_root && ends_in(path, &directory));
+    Ok(())
+}
+
 #[test]
 fn a_path_ends_in_its_directory(rt: HostRuntime) -> Result<(), AllocError> {
-    let mut directory = Path::with_room(rt.alloc(), 4)?;
-    wants(
-        &rt,
-        "a path ends in its directory",
-        directory.components().split_last().is_none(),
-    );
-    directory.push("etc")?;
     let path = motd(rt.alloc())?;
-    let (components, of_directory) = (path.components(), directory.components());
-    wants(
-        &rt,
-        "a path ends in its directory",
-        !components.is_same(&of_directory),
-    );
-    wants(
-        &rt,
-        "a path ends in its directory",
-        ends_in_motd(&components, &of_directory),
-    );
-    Ok(())
+    wants_directory(&rt, rt.alloc(), &path)
 }

@@ -12,46 +12,34 @@ fn groups_of_a_credential(rt: HostRuntime) {
     cred.groups.push(47);
     let copy = cred.copy();
     let in_both = copy.in_group(0) && copy.in_group(47) && !copy.in_group(48);
-    wants(&rt, "groups of a credential", copy.is_root() && in_both);
-    wants(
-        &rt,
-        "groups of a credential",
-        copy.same(&cred) && !copy.same(&Cred::default()),
-    );
+    let is_copy = copy.same(&cred) && !copy.same(&Cred::default());
+    wants(&rt, "groups", copy.is_root() && in_both && is_copy);
+}
+
+/// Whether the item is that of a relabel by this subject, and has no other part.
+fn is_relabel(item: &Item, subject: &SubjectView) -> bool {
+    let has_parts = item.request().is_some() && item.subject().same(subject);
+    let has_others = item.object().is_some() || item.privilege().is_some() || item.port().is_some();
+    has_parts && !has_others && item.op().name() == "cred_relabel"
 }
 
 #[test]
 fn an_item_has_its_parts(rt: HostRuntime) {
     let (subject, request) = (SubjectView::default(), Request::none());
-    let item = Item::new(
-        CheckOp::CredRelabel,
-        &subject,
-        None,
-        Some(&request),
-        None,
-        None,
-    );
-    let is_asked = item.request().is_some() && item.privilege().is_none() && item.port().is_none();
-    wants(
-        &rt,
-        "an item has its parts",
-        item.subject().same(&subject) && item.object().is_none() && is_asked,
-    );
-    wants(
-        &rt,
-        "an item has its parts",
-        item.op().name() == "cred_relabel",
-    );
+    let op = CheckOp::CredRelabel;
+    let item = Item::new(op, &subject, None, Some(&request), None, None);
+    wants(&rt, "an item", is_relabel(&item, &subject));
 }
 
 #[test]
 fn operations_by_name(rt: HostRuntime) -> Result<(), AllocError> {
+    let found = CheckOp::from_name("cred_relabel");
+    let shown = format!(in rt.alloc(); "{}", CheckOp::KldLoad)?;
+    let is_shown = shown.as_str() == "kld_load";
     wants(
         &rt,
-        "operations by name",
-        CheckOp::from_name("cred_relabel") == Some(CheckOp::CredRelabel),
+        "operations",
+        is_shown && found == Some(CheckOp::CredRelabel),
     );
-    let shown = format!(in rt.alloc(); "{}", CheckOp::KldLoad)?;
-    wants(&rt, "operations by name", shown.as_str() == "kld_load");
     Ok(())
 }

@@ -39,15 +39,19 @@ fn bad_escape(alloc: Global, text: &str) -> Option<usize> {
     }
 }
 
+/// Texts, and the places of their first bad escapes.
+const BAD_ESCAPES: &[(&str, usize)] = &[("a\\2", 1), ("\\", 0), ("\\5c\\5g", 3), ("é\\", 2)];
+
 #[test]
 fn bad_escapes(rt: HostRuntime) {
-    for (text, place) in [("a\\2", 1), ("\\", 0), ("\\5c\\5g", 3), ("é\\", 2)] {
-        wants(&rt, text, bad_escape(rt.alloc(), text) == Some(place));
+    for (text, place) in BAD_ESCAPES {
+        let found = bad_escape(rt.alloc(), text);
+        wants(&rt, text, found == Some(*place));
     }
 }
 
 /// Texts, the least number that is read, the greatest, and what is read.
-const NUMBERS: [(&str, u32, u32, Result<u32, NumberFault>); 10] = [
+const NUMBERS: &[(&str, u32, u32, Result<u32, NumberFault>)] = &[
     ("0", 0, 65535, Ok(0)),
     ("00065535", 0, 65535, Ok(65535)),
     ("65536", 0, 65535, Err(NumberFault::OutOfRange)),
@@ -68,7 +72,7 @@ const NUMBERS: [(&str, u32, u32, Result<u32, NumberFault>); 10] = [
 #[test]
 fn numbers_and_their_faults(rt: HostRuntime) {
     for (text, least, greatest, read) in NUMBERS {
-        wants(&rt, text, read_number(text, least, greatest) == read);
+        wants(&rt, text, read_number(text, *least, *greatest) == *read);
     }
 }
 
@@ -85,7 +89,7 @@ fn numbers_in_decimal_digits(rt: HostRuntime) -> Result<(), AllocError> {
 }
 
 /// Texts of modes, and what is read.
-const MODES: [(&str, Result<u32, NumberFault>); 3] = [
+const MODES: &[(&str, Result<u32, NumberFault>)] = &[
     ("00755", Ok(493)),
     ("08", Err(NumberFault::NotDigit(1))),
     ("10000", Err(NumberFault::OutOfRange)),
@@ -94,6 +98,6 @@ const MODES: [(&str, Result<u32, NumberFault>); 3] = [
 #[test]
 fn octal_numbers(rt: HostRuntime) {
     for (text, read) in MODES {
-        wants(&rt, text, read_octal(text, 4095) == read);
+        wants(&rt, text, read_octal(text, 4095) == *read);
     }
 }
