@@ -1,5 +1,5 @@
 //! Entries that meet, a change that waits, and growths that are refused, over the modules that are built in.
-ghost use Rattle.std.specs.Prelude.{◌≡◌, ◌+◌, All, length, map};
+ghost use Rattle.std.specs.Prelude.{◌≡◌, ◌+◌, ◌++◌, ◌∷◌, [], All, IfOk, length, map};
 ghost use Rattle.mf_policy.specs.Modules.{module_of};
 ghost use Rattle.mf_list.specs.Fresh.{IsFresh};
 ghost use Rattle.mf_calls.specs.WellFormed.{IsWellFormed};
@@ -12,6 +12,8 @@ mod steps;
 use mf_biba::Biba;
 use mf_bsdextended::Bsdextended;
 use mf_calls::Script;
+use mf_core::Core;
+use mf_hist::print_history;
 use mf_lomac::Lomac;
 use mf_mls::Mls;
 use mf_names::SCRIPT_LIMIT;
@@ -44,6 +46,13 @@ pub fn wants(rt: &impl Abort, name: &str, holds: bool) {
     assert!(rt; holds, "{name}");
 }
 
+/// The text of the core's history.
+pub fn history_text(alloc: Global, script: &Script, core: &Core<'_>) -> Result<String, AllocError> {
+    let mut text = String::new(alloc);
+    print_history(script, core.history(), &mut text)?;
+    Ok(text)
+}
+
 /// The history of that over any modules.
 fn history_over<P: Policy, J: Job, B: Ledger, R: Wait + Abort>(
     rt: &R,
@@ -55,8 +64,8 @@ fn history_over<P: Policy, J: Job, B: Ledger, R: Wait + Abort>(
     busy: Blank,
 ) -> Result<String, AllocError>
     requires formed { IsWellFormed script.now }
-    requires modules { AreAllModules (map (λ p. module_of (P.spec p)) modules.items) }
-    requires fresh { All (λ p. IsFresh (P.spec p)) modules.items }
+    requires modules { AreAllModules (map (λ p. module_of (P.spec p)) modules.items)
+        × All (λ p. IsFresh (P.spec p)) modules.items }
     requires job { script.now ≡ J.script }
     requires lines_name { lines.name ≡ J.name }
     requires lines_parts { (lines.parts ≡ J.parts) × (lines.parts ≡ length script.now.tasks + 1) }
@@ -72,7 +81,28 @@ fn history_over<P: Policy, J: Job, B: Ledger, R: Wait + Abort>(
     }
 }
 
-/// The history over the modules that are built in. While they are made nothing else is owned.
+/// The list as it is, and the policy in a box. Whoever calls it owns nothing meanwhile.
+fn boxed<T: Policy, P: Policy>(
+    alloc: Global,
+    list: Vec<P>,
+    policy: T,
+) -> Result<(Vec<P>, Box<T>), AllocError>
+    ensures list { IfOk result (λ pair. pair.0.items ≡ list.items) }
+    ensures policy { IfOk result (λ pair. pair.1.value ≡ policy) }
+{
+    let policy = Box::new(alloc, policy)?;
+    Ok((list, policy))
+}
+
+/// The list with one policy more.
+fn pushed<P: Policy>(mut list: Vec<P>, policy: P) -> Result<Vec<P>, AllocError>
+    ensures { IfOk result (λ longer. longer.items ≡ list.items ++ policy ∷ []) }
+{
+    list.push(policy)?;
+    Ok(list)
+}
+
+/// The history over the modules that are built in.
 fn over_modules<R: Wait + Abort>(
     rt: &R,
     alloc: Global,
@@ -82,21 +112,29 @@ fn over_modules<R: Wait + Abort>(
     requires formed { IsWellFormed script.now }
 {
     let parts = script.tasks.len() as u64 + 1;
-    let mut modules: Vec<Box<dyn Policy + Send + Sync>> = Vec::new(alloc);
-    modules.push(Box::new(alloc, Biba::new())?)?;
-    modules.push(Box::new(alloc, Mls::new())?)?;
-    modules.push(Box::new(alloc, Lomac::new())?)?;
-    modules.push(Box::new(alloc, Partition::new())?)?;
-    modules.push(Box::new(alloc, Bsdextended::new(alloc)?)?)?;
-    modules.push(Box::new(alloc, Priority::new())?)?;
-    modules.push(Box::new(alloc, Seeotheruids::new())?)?;
-    modules.push(Box::new(alloc, Portacl::new())?)?;
+    let list: Vec<Box<dyn Policy + Send + Sync>> = Vec::new(alloc);
+    let (list, biba) = boxed(alloc, list, Biba::new())?;
+    let list = pushed(list, biba)?;
+    let (list, mls) = boxed(alloc, list, Mls::new())?;
+    let list = pushed(list, mls)?;
+    let (list, lomac) = boxed(alloc, list, Lomac::new())?;
+    let list = pushed(list, lomac)?;
+    let (list, partition) = boxed(alloc, list, Partition::new())?;
+    let list = pushed(list, partition)?;
+    let (list, bsdextended) = boxed(alloc, list, Bsdextended::new(alloc)?)?;
+    let list = pushed(list, bsdextended)?;
+    let (list, priority) = boxed(alloc, list, Priority::new())?;
+    let list = pushed(list, priority)?;
+    let (list, seeotheruids) = boxed(alloc, list, Seeotheruids::new())?;
+    let list = pushed(list, seeotheruids)?;
+    let (list, portacl) = boxed(alloc, list, Portacl::new())?;
+    let list = pushed(list, portacl)?;
     history_over::<Box<dyn Policy + Send + Sync>, Brand, Brand, R>(
         rt,
         alloc,
         script,
         scenario,
-        modules,
+        list,
         Blank::new(parts),
         Blank::new(parts),
     )

@@ -1,5 +1,5 @@
 //! Runs of the program over the modules that are built in.
-ghost use Rattle.std.specs.Prelude.{All, map};
+ghost use Rattle.std.specs.Prelude.{◌≡◌, ◌<◌, ◌++◌, ◌∷◌, [], All, IfOk, map};
 ghost use Rattle.mf_policy.specs.Modules.{module_of};
 ghost use Rattle.mf_list.specs.Fresh.{IsFresh};
 ghost use Rattle.mf_core.specs.AllModules.{AreAllModules};
@@ -10,6 +10,7 @@ mod failures;
 mod gates;
 mod grants;
 mod labels;
+mod limits;
 mod load;
 mod modules;
 mod relabels;
@@ -44,6 +45,75 @@ const DENIAL: &str =
 const DENIED: &str =
     "boot mac_biba 0\nenter t\ndone t 1 no EACCES vnode_open_read mac_biba 2\nleave t\nsource biba vnode:/ high\nsource biba vnode:/a low\nsource biba proc:t high\n";
 
+/// Runs the program with these words over any modules, or takes the steps where there are none.
+fn over<S: Source, K: Sink, G: Gate, P: Policy, R: Threads + Wait + Sync>(
+    rt: &R,
+    alloc: Global,
+    words: Option<&[String]>,
+    source: &mut S,
+    sink: &mut K,
+    gate: &G,
+    modules: Vec<P>,
+) -> u8
+    requires modules { AreAllModules (map (λ p. module_of (P.spec p)) modules.items)
+        × All (λ p. IsFresh (P.spec p)) modules.items }
+{
+    match words {
+        Some(words) => macsim(rt, alloc, words, source, sink, gate, modules),
+        None => run_steps(alloc, source, sink, modules),
+    }
+}
+
+/// The list as it is, and the policy in a box. Whoever calls it owns nothing meanwhile.
+fn boxed<T: Policy, P: Policy>(
+    alloc: Global,
+    list: Vec<P>,
+    policy: T,
+) -> Result<(Vec<P>, Box<T>), AllocError>
+    ensures list { IfOk result (λ pair. pair.0.items ≡ list.items) }
+    ensures policy { IfOk result (λ pair. pair.1.value ≡ policy) }
+{
+    let policy = Box::new(alloc, policy)?;
+    Ok((list, policy))
+}
+
+/// The list with one policy more.
+fn pushed<P: Policy>(mut list: Vec<P>, policy: P) -> Result<Vec<P>, AllocError>
+    ensures { IfOk result (λ longer. longer.items ≡ list.items ++ policy ∷ []) }
+{
+    list.push(policy)?;
+    Ok(list)
+}
+
+/// Runs the program with these words over the modules that are built in, or takes the steps where there are none.
+fn run_over<S: Source, K: Sink, G: Gate, R: Threads + Wait + Sync>(
+    rt: &R,
+    alloc: Global,
+    words: Option<&[String]>,
+    source: &mut S,
+    sink: &mut K,
+    gate: &G,
+) -> Result<u8, AllocError> {
+    let list: Vec<Box<dyn Policy + Send + Sync>> = Vec::new(alloc);
+    let (list, biba) = boxed(alloc, list, Biba::new())?;
+    let list = pushed(list, biba)?;
+    let (list, mls) = boxed(alloc, list, Mls::new())?;
+    let list = pushed(list, mls)?;
+    let (list, lomac) = boxed(alloc, list, Lomac::new())?;
+    let list = pushed(list, lomac)?;
+    let (list, partition) = boxed(alloc, list, Partition::new())?;
+    let list = pushed(list, partition)?;
+    let (list, bsdextended) = boxed(alloc, list, Bsdextended::new(alloc)?)?;
+    let list = pushed(list, bsdextended)?;
+    let (list, priority) = boxed(alloc, list, Priority::new())?;
+    let list = pushed(list, priority)?;
+    let (list, seeotheruids) = boxed(alloc, list, Seeotheruids::new())?;
+    let list = pushed(list, seeotheruids)?;
+    let (list, portacl) = boxed(alloc, list, Portacl::new())?;
+    let list = pushed(list, portacl)?;
+    Ok(over(rt, alloc, words, source, sink, gate, list))
+}
+
 fn words_of(alloc: Global, given: &[&str]) -> Result<Vec<String>, AllocError> {
     let mut words = Vec::new(alloc);
     for word in given {
@@ -65,77 +135,48 @@ fn run_with<S: Source, K: Sink, G: Gate, R: Threads + Wait + Sync>(
     run_over(rt, alloc, Some(words.as_slice()), source, sink, gate)
 }
 
-/// Takes the steps of a script over those modules, and returns the exit status. No thread is needed for that.
-fn step_with<S: Source, K: Sink, R: Threads + Wait + Sync>(
-    rt: &R,
-    alloc: Global,
-    source: &mut S,
-    sink: &mut K,
-) -> Result<u8, AllocError> {
-    run_over(rt, alloc, None, source, sink, &OpenGate)
-}
-
-/// Runs the program with these words over any modules, or takes the steps where there are none.
-fn over<S: Source, K: Sink, G: Gate, P: Policy, R: Threads + Wait + Sync>(
-    rt: &R,
-    alloc: Global,
-    words: Option<&[String]>,
-    source: &mut S,
-    sink: &mut K,
-    gate: &G,
-    modules: Vec<P>,
-) -> u8
-    requires modules { AreAllModules (map (λ p. module_of (P.spec p)) modules.items) }
-    requires fresh { All (λ p. IsFresh (P.spec p)) modules.items }
-{
-    match words {
-        Some(words) => macsim(rt, alloc, words, source, sink, gate, modules),
-        None => run_steps(alloc, source, sink, modules),
-    }
-}
-
-/// The same over the modules that are built in. While they are made nothing else is owned.
-fn run_over<S: Source, K: Sink, G: Gate, R: Threads + Wait + Sync>(
-    rt: &R,
-    alloc: Global,
-    words: Option<&[String]>,
-    source: &mut S,
-    sink: &mut K,
-    gate: &G,
-) -> Result<u8, AllocError> {
-    let mut modules: Vec<Box<dyn Policy + Send + Sync>> = Vec::new(alloc);
-    modules.push(Box::new(alloc, Biba::new())?)?;
-    modules.push(Box::new(alloc, Mls::new())?)?;
-    modules.push(Box::new(alloc, Lomac::new())?)?;
-    modules.push(Box::new(alloc, Partition::new())?)?;
-    modules.push(Box::new(alloc, Bsdextended::new(alloc)?)?)?;
-    modules.push(Box::new(alloc, Priority::new())?)?;
-    modules.push(Box::new(alloc, Seeotheruids::new())?)?;
-    modules.push(Box::new(alloc, Portacl::new())?)?;
-    Ok(over(rt, alloc, words, source, sink, gate, modules))
-}
-
 /// Wants what is said of this to hold.
 fn wants_that<R: Abort>(rt: &R, name: &str, holds: bool) {
     assert!(rt; holds, "{name}");
 }
 
 /// Wants this exit status, and that the sink took this text.
-fn wants<R: Abort>(rt: &R, name: &str, status: u8, wanted: u8, sink: &MemSink, text: &[u8]) {
-    wants_that(rt, name, status == wanted && sink.taken() == text);
+fn wants<R: Abort>(rt: &R, name: &str, status: u8, wanted: u8, sink: &MemSink, text: &str) {
+    wants_that(
+        rt,
+        name,
+        status == wanted && sink.taken() == text.as_bytes(),
+    );
 }
 
-/// Runs the script with this gate, and returns the exit status.
-fn run_script<G: Gate, R: Threads + Wait + Sync>(
-    rt: &R,
+/// A source of the script, which gives at most so many bytes a call and fails at these calls.
+fn source_of(
     alloc: Global,
     script: &str,
-    sink: &mut MemSink,
-    gate: &G,
-) -> Result<u8, AllocError> {
+    most: usize,
+    fails: &[u64],
+) -> Result<MemSource, AllocError>
+    requires { 0 < most }
+{
     let bytes = script.as_bytes().to_vec(alloc)?;
-    let mut source = MemSource::new(bytes, 65_536, Vec::new(alloc));
-    run_with(rt, alloc, &["run"], &mut source, sink, gate)
+    Ok(MemSource::new(bytes, most, fails.to_vec(alloc)?))
+}
+
+/// What the program writes over the source, with exit status 0, into a sink that takes at most so many bytes a call.
+fn written_over<S: Source, G: Gate, R: Abort + Threads + Wait + Sync>(
+    rt: &R,
+    alloc: Global,
+    words: &[&str],
+    source: &mut S,
+    most: usize,
+    gate: &G,
+) -> Result<String, AllocError>
+    requires { 0 < most }
+{
+    let mut sink = MemSink::new(alloc, 100_000, most, Vec::new(alloc))?;
+    let status = run_with(rt, alloc, words, source, &mut sink, gate)?;
+    wants_that(rt, "exit status", status == 0);
+    String::from_utf8_lossy(alloc, sink.taken())
 }
 
 /// The text of a run of the script with this gate, whose exit status is 0.
@@ -145,33 +186,17 @@ fn text_of_run<G: Gate, R: Abort + Threads + Wait + Sync>(
     script: &str,
     gate: &G,
 ) -> Result<String, AllocError> {
-    let mut sink = MemSink::new(alloc, 100_000, 100_000, Vec::new(alloc))?;
-    let status = run_script(rt, alloc, script, &mut sink, gate)?;
-    wants_that(rt, "exit status", status == 0);
-    String::from_utf8_lossy(alloc, sink.taken())
+    let source = &mut source_of(alloc, script, 65_536, &[])?;
+    written_over(rt, alloc, &["run"], source, 100_000, gate)
 }
 
-/// The summary of a generated load of these words with this gate, whose exit status is 0.
+/// The summary of a generated load of these words with this gate, whose exit status is 0. Each read of the source would fail.
 fn summary_of<G: Gate, R: Abort + Threads + Wait + Sync>(
     rt: &R,
     alloc: Global,
     words: &[&str],
     gate: &G,
 ) -> Result<String, AllocError> {
-    let mut sink = MemSink::new(alloc, 1000, 7, Vec::new(alloc))?;
-    let status = run_load(rt, alloc, words, &mut sink, gate)?;
-    wants_that(rt, "exit status", status == 0);
-    String::from_utf8_lossy(alloc, sink.taken())
-}
-
-/// Runs the generated load of these words with this gate, and returns the exit status. Each read of the source would fail.
-fn run_load<G: Gate, R: Threads + Wait + Sync>(
-    rt: &R,
-    alloc: Global,
-    words: &[&str],
-    sink: &mut MemSink,
-    gate: &G,
-) -> Result<u8, AllocError> {
-    let mut source = MemSource::new(Vec::new(alloc), 1, vec![in alloc; 1]?);
-    run_with(rt, alloc, words, &mut source, sink, gate)
+    let source = &mut source_of(alloc, "", 1, &[1])?;
+    written_over(rt, alloc, words, source, 7, gate)
 }

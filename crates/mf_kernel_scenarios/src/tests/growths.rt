@@ -9,10 +9,9 @@ ghost use Rattle.mf_core.specs.AllModules.{AreAllModules};
 ghost use Rattle.mf_core.specs.CoreView.{specs_of};
 ghost use Rattle.mf_core.specs.Policies.{AreOf};
 
-use crate::tests::{Scenario, history_over_modules, wants};
+use crate::tests::{Scenario, history_over_modules, history_text, wants};
 use mf_calls::Script;
 use mf_core::{ChangeOutcome, Commit, Core, Turn};
-use mf_hist::print_history;
 use mf_list::{Catalogue, Fixed, Listed, PolicyList};
 use mf_plan::Plan;
 use mf_policy::Policy;
@@ -149,24 +148,13 @@ struct Machine<'s, P: Policy> {
     ghost tasks: { 0 < length core.script.tasks },
 }
 
-/// The text of the history.
-fn history_of<P: Policy>(
-    alloc: Global,
-    script: &Script,
-    machine: &Machine<P>,
-) -> Result<String, AllocError> {
-    let mut text = String::new(alloc);
-    print_history(script, machine.core.history(), &mut text)?;
-    Ok(text)
-}
-
 /// What can be read of the core: its turn and its counts, the live entities, and the history.
 fn reading_of<P: Policy>(
     alloc: Global,
     script: &Script,
     machine: &Machine<P>,
 ) -> Result<String, AllocError> {
-    let mut text = history_of(alloc, script, machine)?;
+    let mut text = history_text(alloc, script, &machine.core)?;
     let (open, lines) = (machine.core.open_entries(), machine.core.lines(0));
     let objects = &machine.core.state().objects;
     let (live, next) = (objects.live(), objects.next_id());
@@ -204,26 +192,6 @@ fn commit<P: Policy>(
     machine.core.done(alloc, 0, &listed, &plan, &verdict)
 }
 
-/// Commits the call of the open entry; where memory is refused, the core is as it was, and the call
-/// is committed once more.
-fn commit_or_stay<P: Policy>(
-    rt: &impl Abort,
-    alloc: Global,
-    script: &Script,
-    machine: &mut Machine<P>,
-) -> Result<(), AllocError> {
-    let before = reading_of(alloc, script, machine)?;
-    let done = match commit(rt, alloc, machine) {
-        Ok(done) => done,
-        Err(AllocError) => {
-            wants_reading(rt, alloc, script, machine, before.as_str())?;
-            commit(rt, alloc, machine)?
-        }
-    };
-    wants(rt, "done", done == Commit::Done);
-    Ok(())
-}
-
 /// Makes the change of the task's next line.
 fn change<P: Policy>(
     rt: &impl Abort,
@@ -240,23 +208,35 @@ fn change<P: Policy>(
     )
 }
 
-/// Makes the change of the task's next line; where memory is refused, core and policies are as they
-/// were, and it is made once more.
-fn change_or_stay<P: Policy>(
+/// Commits the call of the open entry, or makes the change of the task's next line, and returns whether that is done.
+fn do_step<P: Policy>(
+    rt: &impl Abort,
+    alloc: Global,
+    machine: &mut Machine<P>,
+) -> Result<bool, AllocError> {
+    if machine.core.turn(0) == Turn::Change {
+        Ok(change(rt, alloc, machine)? == ChangeOutcome::Done)
+    } else {
+        Ok(commit(rt, alloc, machine)? == Commit::Done)
+    }
+}
+
+/// The same; where memory is refused, core and policies are as they were, and it is done once more.
+fn do_step_or_stay<P: Policy>(
     rt: &impl Abort,
     alloc: Global,
     script: &Script,
     machine: &mut Machine<P>,
 ) -> Result<(), AllocError> {
     let before = reading_of(alloc, script, machine)?;
-    let outcome = match change(rt, alloc, machine) {
-        Ok(outcome) => outcome,
+    let is_done = match do_step(rt, alloc, machine) {
+        Ok(is_done) => is_done,
         Err(AllocError) => {
             wants_reading(rt, alloc, script, machine, before.as_str())?;
-            change(rt, alloc, machine)?
+            do_step(rt, alloc, machine)?
         }
     };
-    wants(rt, "changed", outcome == ChangeOutcome::Done);
+    wants(rt, "done", is_done);
     Ok(())
 }
 
@@ -280,16 +260,29 @@ fn do_line<P: Policy>(
     match machine.core.turn(0) {
         Turn::Entry => {
             enter(rt, machine);
-            commit_or_stay(rt, alloc, script, machine)?;
+            do_step_or_stay(rt, alloc, script, machine)?;
             leave(rt, machine);
             Ok(())
         }
-        Turn::Change => change_or_stay(rt, alloc, script, machine),
+        Turn::Change => do_step_or_stay(rt, alloc, script, machine),
         Turn::Entered | Turn::Done | Turn::Stopped | Turn::Finished => Ok(()),
     }
 }
 
-/// The history of the only task's lines, one after another.
+/// Does the task's lines, one after another: the history of that.
+fn do_lines<P: Policy>(
+    rt: &impl Abort,
+    alloc: Global,
+    script: &Script,
+    machine: &mut Machine<P>,
+) -> Result<String, AllocError> {
+    for _ in 0..MANY {
+        do_line(rt, alloc, script, machine)?;
+    }
+    history_text(alloc, script, &machine.core)
+}
+
+/// The same of the only task, from the beginning.
 pub fn history_over<P: Policy>(
     rt: &impl Abort,
     alloc: Global,
@@ -308,21 +301,7 @@ pub fn history_over<P: Policy>(
         list,
         catalogue,
     };
-    do_lines(rt, alloc, script, &mut machine)?;
-    history_of(alloc, script, &machine)
-}
-
-/// Does the task's lines.
-fn do_lines<P: Policy>(
-    rt: &impl Abort,
-    alloc: Global,
-    script: &Script,
-    machine: &mut Machine<P>,
-) -> Result<(), AllocError> {
-    for _ in 0..MANY {
-        do_line(rt, alloc, script, machine)?;
-    }
-    Ok(())
+    do_lines(rt, alloc, script, &mut machine)
 }
 
 /// Whether the replies in a history are these.

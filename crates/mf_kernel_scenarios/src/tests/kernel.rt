@@ -8,10 +8,9 @@ ghost use Rattle.mf_core.specs.AllModules.{AreAllModules};
 ghost use Rattle.mf_share.specs.Passes.{ticket_for};
 ghost use Rattle.mf_top.specs.Passes.{IsSameTicket};
 
-use crate::tests::{Scenario, history_over_modules, wants};
+use crate::tests::{Scenario, history_over_modules, history_text, wants};
 use mf_calls::Script;
 use mf_core::{Commit, Turn};
-use mf_hist::print_history;
 use mf_list::Listed;
 use mf_perform::Verdict;
 use mf_plan::Plan;
@@ -122,9 +121,7 @@ pub fn changed_during_a_call<P: Policy, J: Job, B: Ledger, R: Wait + Abort>(
     drop(policies);
     let core = kernel.close(passes);
     assert!(rt; matches!(changed, Ok(Commit::Done)) && matches!(called, Ok(Commit::Done)));
-    let mut text = String::new(alloc);
-    print_history(script, core.history(), &mut text)?;
-    Ok(text)
+    history_text(alloc, script, &core)
 }
 
 /// Enters for the pass, whose next line must be an entry.

@@ -7,10 +7,9 @@ ghost use Rattle.mf_core.specs.Policies.{AreOf};
 ghost use Rattle.mf_core.specs.AllModules.{AreAllModules};
 ghost use Rattle.mf_core.specs.CoreView.{specs_of};
 
-use crate::tests::{Scenario, history_over_modules, wants};
+use crate::tests::{Scenario, history_over_modules, history_text, wants};
 use mf_calls::Script;
 use mf_core::{ChangeOutcome, Commit, Core, Turn};
-use mf_hist::print_history;
 use mf_list::{Catalogue, Fixed, Listed, PolicyList};
 use mf_plan::Plan;
 use mf_policy::Policy;
@@ -85,18 +84,18 @@ fn try_change<P: Policy, R: Abort>(
     core.change(alloc, 1, fixed, list, catalogue)
 }
 
-/// Task 1 would change the list of policies while task 0 is in its entry, and does once that has ended.
+/// Task 1 would change the list of policies while task 0 is in its entry, and does once that has ended: the history of that.
 fn wait_and_change<P: Policy, R: Abort>(
     rt: &R,
     alloc: Global,
+    script: &Script,
     core: &mut Core,
     fixed: &Fixed<P>,
     list: &mut PolicyList<P>,
     catalogue: &mut Catalogue<P>,
-) -> Result<(), AllocError>
+) -> Result<String, AllocError>
     requires tasks { length core.old.script.tasks ≡ 2 }
     requires policies { AreOf (specs_of core.old) fixed.now list.old catalogue.old }
-    ensures { OnOk result (core.new.script ≡ core.old.script) }
 {
     begin_entry(rt, core);
     let early = try_change(rt, alloc, core, fixed, list, catalogue)?;
@@ -105,10 +104,10 @@ fn wait_and_change<P: Policy, R: Abort>(
     let late = try_change(rt, alloc, core, fixed, list, catalogue)?;
     let is_empty = Listed::new(fixed, list).listed().len() == 0;
     wants(rt, "late", late == ChangeOutcome::Done && is_empty);
-    Ok(())
+    history_text(alloc, script, core)
 }
 
-/// The history of that, from the beginning.
+/// The same from the beginning.
 pub fn change_during_entry<P: Policy, R: Abort>(
     rt: &R,
     alloc: Global,
@@ -121,10 +120,15 @@ pub fn change_during_entry<P: Policy, R: Abort>(
 {
     assert!(rt; script.tasks.len() == 2);
     let (mut core, fixed, mut list, mut catalogue) = Core::new(alloc, script, modules)?;
-    wait_and_change(rt, alloc, &mut core, &fixed, &mut list, &mut catalogue)?;
-    let mut text = String::new(alloc);
-    print_history(script, core.history(), &mut text)?;
-    Ok(text)
+    wait_and_change(
+        rt,
+        alloc,
+        script,
+        &mut core,
+        &fixed,
+        &mut list,
+        &mut catalogue,
+    )
 }
 
 #[test]

@@ -1,11 +1,10 @@
 //! Words, scripts and faults, and what the program makes of them.
 
-use crate::tests::{DENIAL, DENIED, run_with, wants};
+use crate::tests::{DENIAL, DENIED, run_over, run_with, source_of, wants, words_of};
 use mf_io::{MemSink, MemSource, OpenGate};
 use std::alloc::{AllocError, Global};
 use std::process::Abort;
 use std::sync::Wait;
-use std::test::Fail;
 use std::thread::Threads;
 
 /// A run of the program, and what it must give.
@@ -33,6 +32,19 @@ pub const PLAIN: Case = Case {
 
 const RUNS: &[Case] = &[
     PLAIN,
+    Case {
+        name: "the matrix behind the plainest denial",
+        words: &["matrix"],
+        text: "boot mac_biba 0\nenter t\ndone t 1 no EACCES vnode_open_read mac_biba 2\nleave t\nsource biba vnode:/ high\nsource biba vnode:/a low\nsource biba proc:t high\nmatrix proc:t vnode:/ rwxs\nmatrix proc:t vnode:/a -w--\nmatrix proc:t proc:t vgdc\n",
+        ..PLAIN
+    },
+    Case {
+        name: "the chains behind a read and a write to a pipe",
+        words: &["chains"],
+        script: "boot mac_biba\nfile /a reg uid 0 gid 0 mode 644 label biba/high text hi\ntask t uid 0 gid 0 label biba/5\nread /a\npipe p\npwrite p x\nend\n",
+        text: "boot mac_biba 0\nenter t\ndone t 1 ok bytes 2 =hi\nleave t\nenter t\ndone t 2 ok\nleave t\nenter t\ndone t 3 ok\nleave t\nsource biba vnode:/ high\nsource biba vnode:/a high\nsource biba proc:t 5,high\nsource biba pipe:p 5,high\nchain biba vnode:/ high 0@0\nchain biba vnode:/a high 1@0\nchain biba proc:t 5 2@0\nchain biba proc:t high 0@0 2@2.1\nchain biba pipe:p 5 3@5\nchain biba pipe:p high 0@0 2@2.1 3@5.0\n",
+        ..PLAIN
+    },
     Case {
         name: "an empty task",
         script: "boot mac_biba\ntask t uid 0 gid 0 label -\nend\n",
@@ -175,72 +187,94 @@ const OTHER_WORDS: &[&[&str]] = &[
     &["gen", "1", "1", "1"],
 ];
 
-/// Runs the case over a source that gives at most 64 bytes a call and a sink that takes at most 10.
-pub fn run_case<R: Abort + Threads + Wait + Sync>(
+/// Runs the program with these words, or takes the steps where there are none, over a source that gives at most 64 bytes a
+/// call and a sink that takes at most 10, and wants the case's status and text.
+pub fn wants_case<R: Abort + Threads + Wait + Sync>(
+    rt: &R,
+    alloc: Global,
+    words: Option<&[String]>,
+    case: &Case,
+) -> Result<(), AllocError> {
+    let source = &mut source_of(alloc, case.script, 64, case.source_fails)?;
+    let fails = case.sink_fails.to_vec(alloc)?;
+    let sink = &mut MemSink::new(alloc, 10_000, 10, fails)?;
+    let status = run_over(rt, alloc, words, source, sink, &OpenGate)?;
+    wants(rt, case.name, status, case.status, sink, case.text);
+    Ok(())
+}
+
+/// Runs the program with the case's words.
+fn run_case<R: Abort + Threads + Wait + Sync>(
     rt: &R,
     alloc: Global,
     case: &Case,
 ) -> Result<(), AllocError> {
-    let bytes = case.script.as_bytes().to_vec(alloc)?;
-    let mut source = MemSource::new(bytes, 64, case.source_fails.to_vec(alloc)?);
-    let mut sink = MemSink::new(alloc, 1000, 10, case.sink_fails.to_vec(alloc)?)?;
-    let status = run_with(rt, alloc, case.words, &mut source, &mut sink, &OpenGate)?;
-    wants(
-        rt,
-        case.name,
-        status,
-        case.status,
-        &sink,
-        case.text.as_bytes(),
-    );
-    Ok(())
+    let words = words_of(alloc, case.words)?;
+    wants_case(rt, alloc, Some(words.as_slice()), case)
 }
 
-#[test]
-fn runs(rt: HostRuntime) -> Result<(), Fail> {
-    for case in RUNS {
-        run_case(&rt, rt.alloc(), case)?;
+/// Runs each case of a table.
+pub fn run_cases<R: Abort + Threads + Wait + Sync>(
+    rt: &R,
+    alloc: Global,
+    table: &[Case],
+) -> Result<(), AllocError> {
+    for case in table {
+        run_case(rt, alloc, case)?;
     }
     Ok(())
 }
 
 #[test]
-fn refusals(rt: HostRuntime) -> Result<(), Fail> {
-    for case in REFUSALS {
-        run_case(&rt, rt.alloc(), case)?;
-    }
-    Ok(())
+fn runs(rt: HostRuntime) -> Result<(), AllocError> {
+    run_cases(&rt, rt.alloc(), RUNS)
 }
 
 #[test]
-fn words_that_are_not_taken(rt: HostRuntime) -> Result<(), Fail> {
+fn refusals(rt: HostRuntime) -> Result<(), AllocError> {
+    run_cases(&rt, rt.alloc(), REFUSALS)
+}
+
+/// Wants the program not to take these words, and not to read.
+fn wants_usage<R: Abort + Threads + Wait + Sync>(
+    rt: &R,
+    alloc: Global,
+    words: &'static [&'static str],
+) -> Result<(), AllocError> {
+    let case = Case {
+        name: "words that are not taken",
+        words,
+        source_fails: &[1],
+        status: 2,
+        text: "macsim: usage: run | step | gen N T\n",
+        ..PLAIN
+    };
+    run_case(rt, alloc, &case)
+}
+
+#[test]
+fn words_that_are_not_taken(rt: HostRuntime) -> Result<(), AllocError> {
     for words in OTHER_WORDS {
-        let case = Case {
-            name: "words that are not taken",
-            words,
-            source_fails: &[1],
-            status: 2,
-            text: "macsim: usage: run | step | gen N T\n",
-            ..PLAIN
-        };
-        run_case(&rt, rt.alloc(), &case)?;
+        wants_usage(&rt, rt.alloc(), words)?;
     }
     Ok(())
 }
 
+/// Wants the script that the source gives to be too long.
+fn wants_too_long<R: Abort + Threads + Wait + Sync>(
+    rt: &R,
+    alloc: Global,
+    source: &mut MemSource,
+) -> Result<(), AllocError> {
+    let sink = &mut MemSink::new(alloc, 100, 100, Vec::new(alloc))?;
+    let status = run_with(rt, alloc, &["run"], source, sink, &OpenGate)?;
+    wants(rt, "too long", status, 6, sink, "macsim: too long\n");
+    Ok(())
+}
+
 #[test]
-fn one_byte_too_long(rt: HostRuntime) -> Result<(), Fail> {
+fn one_byte_too_long(rt: HostRuntime) -> Result<(), AllocError> {
     let bytes = vec![in rt.alloc(); b'#'; 1_048_577]?;
     let mut source = MemSource::new(bytes, 65_536, Vec::new(rt.alloc()));
-    let mut sink = MemSink::new(rt.alloc(), 100, 100, Vec::new(rt.alloc()))?;
-    let status = run_with(&rt, rt.alloc(), &["run"], &mut source, &mut sink, &OpenGate)?;
-    wants(
-        &rt,
-        "too long",
-        status,
-        6,
-        &sink,
-        b"macsim: too long\n".as_slice(),
-    );
-    Ok(())
+    wants_too_long(&rt, rt.alloc(), &mut source)
 }

@@ -1,7 +1,7 @@
 //! Files that are open: what is asked through them, what a relabel changes, and what a file and a process take along.
 
-use crate::tests::transcript::{PLAIN, Rows, run_rows};
-use std::test::Fail;
+use crate::tests::transcript::{PLAIN, Rows, run_table};
+use std::alloc::AllocError;
 
 const TUNED: &str =
     "boot mac_biba\ntunable security.mac.biba.revocation_enabled=1\nfile /f reg uid 0 gid 0 mode 644 label biba/high text hi\n";
@@ -323,25 +323,16 @@ const NUMBERS: &[Rows] = &[
 ];
 
 #[test]
-fn relabels_and_open_files(rt: HostRuntime) -> Result<(), Fail> {
-    for rows in RELABELLED {
-        run_rows(&rt, rt.alloc(), rows)?;
-    }
-    Ok(())
+fn relabels_and_open_files(rt: HostRuntime) -> Result<(), AllocError> {
+    run_table(&rt, rt.alloc(), RELABELLED)
 }
 
 #[test]
-fn transfers_that_count(rt: HostRuntime) -> Result<(), Fail> {
-    for rows in COUNTED {
-        run_rows(&rt, rt.alloc(), rows)?;
-    }
-    Ok(())
+fn transfers_that_count(rt: HostRuntime) -> Result<(), AllocError> {
+    run_table(&rt, rt.alloc(), COUNTED)
 }
 
 #[test]
-fn numbers_of_descriptors(rt: HostRuntime) -> Result<(), Fail> {
-    for rows in NUMBERS {
-        run_rows(&rt, rt.alloc(), rows)?;
-    }
-    Ok(())
+fn numbers_of_descriptors(rt: HostRuntime) -> Result<(), AllocError> {
+    run_table(&rt, rt.alloc(), NUMBERS)
 }

@@ -2,12 +2,11 @@
 ghost use Rattle.std.specs.Prelude.{◌≡◌};
 
 use crate::tests::tasks::SCRIPT;
-use crate::tests::{DENIAL, run_with, wants_that};
+use crate::tests::{DENIAL, run_with, source_of, wants_that};
 use mf_io::{Failed, MemSink, MemSource, OpenGate, Sink, Source};
 use std::alloc::{AllocError, Global};
 use std::process::Abort;
 use std::sync::Wait;
-use std::test::Fail;
 use std::thread::Threads;
 
 /// A source or a sink, which counts its calls and those after the first that failed.
@@ -72,6 +71,15 @@ impl<K: Sink + Drop> Sink for Watched<K> {
     }
 }
 
+/// A run of the program over a source that gives at most so many bytes a call, and a sink that takes at most so many.
+#[derive(Clone, Copy)]
+struct Run<'a> {
+    words: &'a [&'a str],
+    script: &'a str,
+    given: usize,
+    taken: usize,
+}
+
 /// What was seen of a run: the exit status, how often it read and wrote, and what the sink took.
 #[derive(Drop)]
 struct Seen {
@@ -87,10 +95,17 @@ impl Seen {
         let has_text = self.taken.as_slice() == b"macsim: read fault\n".as_slice();
         self.status == 4 && self.reads == reads && has_text
     }
-}
 
-/// How many bytes a call of the source gives at most, and how many one of the sink takes.
-type Most = (usize, usize);
+    /// Whether the run ended after so many writes, of which the last one failed.
+    fn has_write_fault(&self, writes: u64) -> bool {
+        self.status == 5 && self.writes == writes
+    }
+
+    /// Whether the sink took a beginning of what it took in the other run.
+    fn is_front_of(&self, other: &Seen) -> bool {
+        other.taken.as_slice().starts_with(self.taken.as_slice())
+    }
+}
 
 /// Runs the program over this source and this sink, and wants no call of either after one that failed.
 fn seen_of<R: Abort + Threads + Wait + Sync>(
@@ -111,46 +126,94 @@ fn seen_of<R: Abort + Threads + Wait + Sync>(
     })
 }
 
-/// Runs the program over a source and a sink with so many bytes a call, which fail at these calls.
+/// Runs the program over this source and a sink that fails at these calls.
+fn seen_from<R: Abort + Threads + Wait + Sync>(
+    rt: &R,
+    alloc: Global,
+    run: &Run<'_>,
+    source: &mut Watched<MemSource>,
+    writes: &[u64],
+) -> Result<Seen, AllocError> {
+    assert!(rt; run.taken > 0);
+    let fails = writes.to_vec(alloc)?;
+    let sink = &mut Watched::new(MemSink::new(alloc, 100_000, run.taken, fails)?);
+    seen_of(rt, alloc, run.words, source, sink)
+}
+
+/// Runs the program over a source and a sink that fail at these calls.
 fn watched_run<R: Abort + Threads + Wait + Sync>(
     rt: &R,
     alloc: Global,
-    (words, script): (&[&str], &str),
-    (given, taken): Most,
+    run: &Run<'_>,
     reads: &[u64],
     writes: &[u64],
 ) -> Result<Seen, AllocError> {
-    assert!(rt; given > 0 && taken > 0);
-    let bytes = script.as_bytes().to_vec(alloc)?;
-    let mut source = Watched::new(MemSource::new(bytes, given, reads.to_vec(alloc)?));
-    let mut sink = Watched::new(MemSink::new(alloc, 100_000, taken, writes.to_vec(alloc)?)?);
-    seen_of(rt, alloc, words, &mut source, &mut sink)
+    assert!(rt; run.given > 0);
+    let source = &mut Watched::new(source_of(alloc, run.script, run.given, reads)?);
+    seen_from(rt, alloc, run, source, writes)
+}
+
+/// The source fails at this read, which is then the last.
+fn fails_at_read<R: Abort + Threads + Wait + Sync>(
+    rt: &R,
+    alloc: Global,
+    run: &Run<'_>,
+    read: u64,
+) -> Result<(), AllocError> {
+    let seen = watched_run(rt, alloc, run, &[read], &[])?;
+    wants_that(rt, "a read fails", seen.has_read_fault(read));
+    Ok(())
+}
+
+/// The sink fails at this write, which is then the last, and took a beginning of the whole.
+fn fails_at_write<R: Abort + Threads + Wait + Sync>(
+    rt: &R,
+    alloc: Global,
+    run: &Run<'_>,
+    write: u64,
+    whole: &Seen,
+) -> Result<(), AllocError> {
+    let seen = watched_run(rt, alloc, run, &[], &[write])?;
+    let is_front = seen.is_front_of(whole);
+    wants_that(rt, "a write fails", seen.has_write_fault(write) && is_front);
+    Ok(())
+}
+
+/// The sink fails at this write, after the whole script was read in two calls.
+fn fails_after_reads<R: Abort + Threads + Wait + Sync>(
+    rt: &R,
+    alloc: Global,
+    run: &Run<'_>,
+    write: u64,
+) -> Result<(), AllocError> {
+    let seen = watched_run(rt, alloc, run, &[], &[write])?;
+    wants_that(rt, "reads", seen.has_write_fault(write) && seen.reads == 2);
+    Ok(())
 }
 
 /// The source fails at its second read, in the middle of the script.
 #[test]
-fn a_source_that_fails_is_left_alone(rt: HostRuntime) -> Result<(), Fail> {
-    let seen = watched_run(&rt, rt.alloc(), (&["run"], DENIAL), (40, 1000), &[2], &[])?;
-    wants_that(&rt, "a read fails", seen.has_read_fault(2));
-    Ok(())
+fn a_source_that_fails_is_left_alone(rt: HostRuntime) -> Result<(), AllocError> {
+    let run = Run {
+        words: &["run"],
+        script: DENIAL,
+        given: 40,
+        taken: 1000,
+    };
+    fails_at_read(&rt, rt.alloc(), &run, 2)
 }
 
 /// The sink fails at its first write, or at its third.
 #[test]
-fn a_sink_that_fails_is_left_alone(rt: HostRuntime) -> Result<(), Fail> {
-    for failing in [1, 3] {
-        let seen = watched_run(
-            &rt,
-            rt.alloc(),
-            (&["run"], DENIAL),
-            (1000, 10),
-            &[],
-            &[failing],
-        )?;
-        let is_ended = seen.status == 5 && seen.reads == 2 && seen.writes == failing;
-        wants_that(&rt, "a write fails", is_ended);
-    }
-    Ok(())
+fn a_sink_that_fails_is_left_alone(rt: HostRuntime) -> Result<(), AllocError> {
+    let run = Run {
+        words: &["run"],
+        script: DENIAL,
+        given: 1000,
+        taken: 10,
+    };
+    fails_after_reads(&rt, rt.alloc(), &run, 1)?;
+    fails_after_reads(&rt, rt.alloc(), &run, 3)
 }
 
 /// Runs of the program whose text is always the same: words, and a script.
@@ -197,20 +260,39 @@ end
 /// Some bytes a call, one, and the whole at once.
 const MOST: &[usize] = &[64, 1, 100_000];
 
+/// How often the run reads where nothing fails.
+fn reads_of<R: Abort + Threads + Wait + Sync>(
+    rt: &R,
+    alloc: Global,
+    run: &Run<'_>,
+) -> Result<u64, AllocError> {
+    let whole = watched_run(rt, alloc, run, &[], &[])?;
+    wants_that(rt, "no call fails", whole.status == 0 && whole.reads > 1);
+    Ok(whole.reads)
+}
+
 /// The source fails at each of the calls that the program makes, in turn.
 fn fails_at_each_read<R: Abort + Threads + Wait + Sync>(
     rt: &R,
     alloc: Global,
-    script: &str,
-    most: usize,
+    run: &Run<'_>,
 ) -> Result<(), AllocError> {
-    let (run, most): ((&[&str], &str), Most) = ((&["run"], script), (most, most));
-    let whole = watched_run(rt, alloc, run, most, &[], &[])?;
-    let reads = whole.reads;
-    wants_that(rt, "no call fails", whole.status == 0 && reads > 1);
-    for failing in 1..=reads {
-        let seen = watched_run(rt, alloc, run, most, &[failing], &[])?;
-        wants_that(rt, "a read fails", seen.has_read_fault(failing));
+    let reads = reads_of(rt, alloc, run)?;
+    for read in 1..=reads {
+        fails_at_read(rt, alloc, run, read)?;
+    }
+    Ok(())
+}
+
+/// The sink fails at each of the calls that the program made in the whole run, in turn.
+fn fails_at_each_write_of<R: Abort + Threads + Wait + Sync>(
+    rt: &R,
+    alloc: Global,
+    run: &Run<'_>,
+    whole: &Seen,
+) -> Result<(), AllocError> {
+    for write in 1..=whole.writes {
+        fails_at_write(rt, alloc, run, write, whole)?;
     }
     Ok(())
 }
@@ -219,35 +301,51 @@ fn fails_at_each_read<R: Abort + Threads + Wait + Sync>(
 fn fails_at_each_write<R: Abort + Threads + Wait + Sync>(
     rt: &R,
     alloc: Global,
-    run: (&[&str], &str),
-    most: usize,
+    run: &Run<'_>,
 ) -> Result<(), AllocError> {
-    let whole = watched_run(rt, alloc, run, (most, most), &[], &[])?;
-    let has_written = whole.status == 0 && whole.writes > 0;
-    wants_that(rt, "no call fails", has_written);
-    for failing in 1..=whole.writes {
-        let seen = watched_run(rt, alloc, run, (most, most), &[], &[failing])?;
-        let is_ended = seen.status == 5 && seen.writes == failing;
-        let is_front = whole.taken.as_slice().starts_with(seen.taken.as_slice());
-        wants_that(rt, "a write fails", is_ended && is_front);
+    let whole = watched_run(rt, alloc, run, &[], &[])?;
+    wants_that(rt, "no call fails", whole.status == 0 && whole.writes > 0);
+    fails_at_each_write_of(rt, alloc, run, &whole)
+}
+
+/// The same with each number of bytes a call.
+fn fails_at_each_write_by_most<'a, R: Abort + Threads + Wait + Sync>(
+    rt: &R,
+    alloc: Global,
+    words: &'a [&'a str],
+    script: &'a str,
+) -> Result<(), AllocError> {
+    for most in MOST {
+        let (given, taken) = (*most, *most);
+        let run = Run {
+            words,
+            script,
+            given,
+            taken,
+        };
+        fails_at_each_write(rt, alloc, &run)?;
     }
     Ok(())
 }
 
 #[test]
-fn each_read_fails_in_turn(rt: HostRuntime) -> Result<(), Fail> {
+fn each_read_fails_in_turn(rt: HostRuntime) -> Result<(), AllocError> {
     for most in MOST {
-        fails_at_each_read(&rt, rt.alloc(), SCRIPT, *most)?;
+        let run = Run {
+            words: &["run"],
+            script: SCRIPT,
+            given: *most,
+            taken: *most,
+        };
+        fails_at_each_read(&rt, rt.alloc(), &run)?;
     }
     Ok(())
 }
 
 #[test]
-fn each_write_fails_in_turn(rt: HostRuntime) -> Result<(), Fail> {
-    for most in MOST {
-        for run in SETTLED {
-            fails_at_each_write(&rt, rt.alloc(), *run, *most)?;
-        }
+fn each_write_fails_in_turn(rt: HostRuntime) -> Result<(), AllocError> {
+    for (words, script) in SETTLED {
+        fails_at_each_write_by_most(&rt, rt.alloc(), words, script)?;
     }
     Ok(())
 }

@@ -2,10 +2,10 @@
 
 use crate::tests::{DENIAL, DENIED, summary_of, text_of_run, wants_that};
 use mf_io::Gate;
+use std::alloc::AllocError;
 use std::process::Abort;
 use std::sync::Wait;
 use std::sync::atomic::{AtomicU64, Ordering};
-use std::test::Fail;
 use std::thread::Threads;
 
 /// How often each call came for the first line of the first task, and how often any other came.
@@ -120,7 +120,7 @@ impl Gate for Meeting {
 }
 
 #[test]
-fn each_line_calls_the_gate_once(rt: HostRuntime) -> Result<(), Fail> {
+fn each_line_calls_the_gate_once(rt: HostRuntime) -> Result<(), AllocError> {
     let counts = Counts::new();
     let text = text_of_run(&rt, rt.alloc(), DENIAL, &counts)?;
     wants_that(&rt, "one line", text.as_str() == DENIED);
@@ -140,7 +140,7 @@ end
 ";
 
 #[test]
-fn one_task_commits_while_another_is_between(rt: HostRuntime) -> Result<(), Fail> {
+fn one_task_commits_while_another_is_between(rt: HostRuntime) -> Result<(), AllocError> {
     let meeting = Meeting::new();
     let _text = text_of_run(&rt, rt.alloc(), TWO_READERS, &meeting)?;
     meeting.wants_both(&rt);
@@ -148,7 +148,7 @@ fn one_task_commits_while_another_is_between(rt: HostRuntime) -> Result<(), Fail
 }
 
 #[test]
-fn so_do_the_tasks_of_a_load(rt: HostRuntime) -> Result<(), Fail> {
+fn so_do_the_tasks_of_a_load(rt: HostRuntime) -> Result<(), AllocError> {
     let meeting = Meeting::new();
     let text = summary_of(&rt, rt.alloc(), &["gen", "1", "2"], &meeting)?;
     wants_that(&rt, "a load", text.as_str() == "gen 1 2\nok 1\nEACCES 1\n");
@@ -173,7 +173,7 @@ leave a
 
 /// The first task's plan is out of date when it commits: it plans and walks again, and calls the gate once more.
 #[test]
-fn a_stale_commit_is_tried_again(rt: HostRuntime) -> Result<(), Fail> {
+fn a_stale_commit_is_tried_again(rt: HostRuntime) -> Result<(), AllocError> {
     let meeting = Meeting::new();
     let text = text_of_run(&rt, rt.alloc(), READER_AND_REMOVER, &meeting)?;
     let is_removed = text.as_str().ends_with(REMOVED_BEFORE_THE_COMMIT);

@@ -3,11 +3,11 @@
 use crate::tests::gates::{is_raised, wants_count};
 use crate::tests::tasks::wants_replies;
 use crate::tests::text_of_run;
-use crate::tests::transcript::{PLAIN, Rows, run_rows};
+use crate::tests::transcript::{PLAIN, Rows, run_table};
 use mf_io::Gate;
+use std::alloc::AllocError;
 use std::sync::Wait;
 use std::sync::atomic::{AtomicU64, Ordering};
-use std::test::Fail;
 use std::thread::Threads;
 
 const GRANTS: &[Rows] = &[
@@ -50,11 +50,8 @@ const GRANTS: &[Rows] = &[
 ];
 
 #[test]
-fn grants(rt: HostRuntime) -> Result<(), Fail> {
-    for rows in GRANTS {
-        run_rows(&rt, rt.alloc(), rows)?;
-    }
-    Ok(())
+fn grants(rt: HostRuntime) -> Result<(), AllocError> {
+    run_table(&rt, rt.alloc(), GRANTS)
 }
 
 /// A realtime user asks three times. Root loads the module after the first time, and unloads it after the second.
@@ -128,7 +125,7 @@ impl Gate for Turns {
 }
 
 #[test]
-fn a_grant_comes_and_goes_with_its_module(rt: HostRuntime) -> Result<(), Fail> {
+fn a_grant_comes_and_goes_with_its_module(rt: HostRuntime) -> Result<(), AllocError> {
     let turns = Turns::new();
     let text = text_of_run(&rt, rt.alloc(), COMES_AND_GOES, &turns)?;
     wants_count(&rt, &turns.waits_that_ran_out, 0);

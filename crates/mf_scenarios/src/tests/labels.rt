@@ -1,7 +1,7 @@
 //! Labels as `getpmac` and `getfmac` show them.
 
-use crate::tests::transcript::{PLAIN, Rows, run_rows};
-use std::test::Fail;
+use crate::tests::transcript::{PLAIN, Rows, run_table};
+use std::alloc::AllocError;
 
 const LABELS: &[Rows] = &[
     Rows {
@@ -78,9 +78,6 @@ const LABELS: &[Rows] = &[
 ];
 
 #[test]
-fn labels(rt: HostRuntime) -> Result<(), Fail> {
-    for rows in LABELS {
-        run_rows(&rt, rt.alloc(), rows)?;
-    }
-    Ok(())
+fn labels(rt: HostRuntime) -> Result<(), AllocError> {
+    run_table(&rt, rt.alloc(), LABELS)
 }

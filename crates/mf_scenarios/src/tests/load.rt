@@ -2,7 +2,7 @@
 
 use crate::tests::{summary_of, wants_that};
 use mf_io::OpenGate;
-use std::test::Fail;
+use std::alloc::AllocError;
 
 /// Words of loads, and their summaries.
 const SMALL: &[(&[&str], &str)] = &[
@@ -11,7 +11,7 @@ const SMALL: &[(&[&str], &str)] = &[
 ];
 
 #[test]
-fn small_loads(rt: HostRuntime) -> Result<(), Fail> {
+fn small_loads(rt: HostRuntime) -> Result<(), AllocError> {
     for (words, wanted) in SMALL {
         let summary = summary_of(&rt, rt.alloc(), words, &OpenGate)?;
         wants_that(&rt, "a summary", summary.as_str() == *wanted);
@@ -35,7 +35,7 @@ fn sum_of_counts(text: &str) -> u64 {
 const LARGEST: &[&str] = &["gen", "4096", "16"];
 
 #[test]
-fn largest_load(rt: HostRuntime) -> Result<(), Fail> {
+fn largest_load(rt: HostRuntime) -> Result<(), AllocError> {
     let first = summary_of(&rt, rt.alloc(), LARGEST, &OpenGate)?;
     let second = summary_of(&rt, rt.alloc(), LARGEST, &OpenGate)?;
     let is_same = first.as_str() == second.as_str();

@@ -3,7 +3,6 @@
 use crate::tests::{text_of_run, wants_that};
 use mf_io::OpenGate;
 use std::alloc::{AllocError, Global};
-use std::test::Fail;
 
 /// How often each other task reads.
 const READS: usize = 20;
@@ -67,7 +66,7 @@ fn count_reads(text: &str) -> usize {
 }
 
 #[test]
-fn a_module_comes_and_goes(rt: HostRuntime) -> Result<(), Fail> {
+fn a_module_comes_and_goes(rt: HostRuntime) -> Result<(), AllocError> {
     let script = sixteen_tasks(rt.alloc())?;
     let text = text_of_run(&rt, rt.alloc(), script.as_str(), &OpenGate)?;
     let changes = lines_from(rt.alloc(), text.as_str(), "changed ")?;
@@ -113,7 +112,7 @@ fn slots_given(alloc: Global, text: &str) -> Result<String, AllocError> {
 
 /// Whoever comes first, a slot is given once.
 #[test]
-fn sixteen_tasks_load_and_unload(rt: HostRuntime) -> Result<(), Fail> {
+fn sixteen_tasks_load_and_unload(rt: HostRuntime) -> Result<(), AllocError> {
     let script = sixteen_loaders(rt.alloc())?;
     let text = text_of_run(&rt, rt.alloc(), script.as_str(), &OpenGate)?;
     let slots = slots_given(rt.alloc(), text.as_str())?;

@@ -1,7 +1,7 @@
 //! Relabels: who may make them, what they change, and what they make of sources.
 
-use crate::tests::transcript::{PLAIN, Rows, run_rows};
-use std::test::Fail;
+use crate::tests::transcript::{PLAIN, Rows, run_table};
+use std::alloc::AllocError;
 
 const BIBA: Rows = Rows {
     before: "boot mac_biba\n",
@@ -237,25 +237,16 @@ const OBJECTS: &[Rows] = &[
 ];
 
 #[test]
-fn manual_pages(rt: HostRuntime) -> Result<(), Fail> {
-    for rows in MANUAL_PAGES {
-        run_rows(&rt, rt.alloc(), rows)?;
-    }
-    Ok(())
+fn manual_pages(rt: HostRuntime) -> Result<(), AllocError> {
+    run_table(&rt, rt.alloc(), MANUAL_PAGES)
 }
 
 #[test]
-fn relabels_of_processes(rt: HostRuntime) -> Result<(), Fail> {
-    for rows in PROCESSES {
-        run_rows(&rt, rt.alloc(), rows)?;
-    }
-    Ok(())
+fn relabels_of_processes(rt: HostRuntime) -> Result<(), AllocError> {
+    run_table(&rt, rt.alloc(), PROCESSES)
 }
 
 #[test]
-fn relabels_of_objects(rt: HostRuntime) -> Result<(), Fail> {
-    for rows in OBJECTS {
-        run_rows(&rt, rt.alloc(), rows)?;
-    }
-    Ok(())
+fn relabels_of_objects(rt: HostRuntime) -> Result<(), AllocError> {
+    run_table(&rt, rt.alloc(), OBJECTS)
 }

@@ -1,8 +1,7 @@
 //! What the policies and the framework answer to the lines of one task.
 
-use crate::tests::transcript::{PLAIN, Rows, Transcript, run_rows};
-use std::alloc::{AllocError, Global};
-use std::test::Fail;
+use crate::tests::transcript::{PLAIN, Rows, run_table};
+use std::alloc::AllocError;
 
 const BIBA: Rows = Rows {
     before: "boot mac_biba\n",
@@ -154,77 +153,11 @@ const LOADS: &[Rows] = &[
 ];
 
 #[test]
-fn objects(rt: HostRuntime) -> Result<(), Fail> {
-    for rows in OBJECTS {
-        run_rows(&rt, rt.alloc(), rows)?;
-    }
-    Ok(())
+fn objects(rt: HostRuntime) -> Result<(), AllocError> {
+    run_table(&rt, rt.alloc(), OBJECTS)
 }
 
 #[test]
-fn loads(rt: HostRuntime) -> Result<(), Fail> {
-    for rows in LOADS {
-        run_rows(&rt, rt.alloc(), rows)?;
-    }
-    Ok(())
-}
-
-/// Adds the call that writes so many letters.
-fn add_letters(
-    alloc: Global,
-    transcript: &mut Transcript,
-    call: &str,
-    count: usize,
-) -> Result<(), AllocError> {
-    let mut line = String::from_str(alloc, call)?;
-    for _letter in 0..count {
-        line.push_str("a")?;
-    }
-    transcript.add(line.as_str(), "ok")
-}
-
-const LIMITS: Rows = Rows {
-    name: "limits of objects",
-    before: "file /f reg uid 0 gid 0 mode 644 label -\n",
-    ..PLAIN
-};
-
-/// Fills a file, a pipe and a socket.
-fn fill_objects(alloc: Global, transcript: &mut Transcript) -> Result<(), AllocError> {
-    add_letters(alloc, transcript, "write /f ", 65_536)?;
-    transcript.add("write /f a", "no EFBIG - -")?;
-    transcript.add("pipe p", "ok")?;
-    add_letters(alloc, transcript, "pwrite p ", 16_384)?;
-    transcript.add("pwrite p a", "no EAGAIN - -")?;
-    transcript.add("socket s", "ok")?;
-    for _message in 0..16 {
-        transcript.add("send s s x", "ok")?;
-    }
-    transcript.add("send s s x", "no ENOBUFS - -")
-}
-
-#[test]
-fn limits_of_objects(rt: HostRuntime) -> Result<(), Fail> {
-    let mut transcript = Transcript::new(rt.alloc(), &LIMITS)?;
-    fill_objects(rt.alloc(), &mut transcript)?;
-    transcript.end(&rt, rt.alloc(), &LIMITS)?;
-    Ok(())
-}
-
-/// Makes as many pipes as there may be beside the root and the task.
-fn add_pipes(alloc: Global, transcript: &mut Transcript) -> Result<(), AllocError> {
-    for number in 1..1023 {
-        let line = format!(in alloc; "pipe p{number}")?;
-        transcript.add(line.as_str(), "ok")?;
-    }
-    transcript.add("pipe p1023", "no ENFILE - -")?;
-    transcript.add("pipe p1", "no EEXIST - -")
-}
-
-#[test]
-fn table_of_entities_full(rt: HostRuntime) -> Result<(), Fail> {
-    let mut transcript = Transcript::new(rt.alloc(), &PLAIN)?;
-    add_pipes(rt.alloc(), &mut transcript)?;
-    transcript.end(&rt, rt.alloc(), &PLAIN)?;
-    Ok(())
+fn loads(rt: HostRuntime) -> Result<(), AllocError> {
+    run_table(&rt, rt.alloc(), LOADS)
 }

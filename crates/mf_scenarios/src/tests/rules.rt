@@ -1,8 +1,7 @@
 //! Rules about files, and their settings.
 
-use crate::tests::transcript::{PLAIN, Rows, Transcript, run_rows};
-use std::alloc::{AllocError, Global};
-use std::test::Fail;
+use crate::tests::transcript::{PLAIN, Rows, run_table};
+use std::alloc::AllocError;
 
 const FIREWALL: Rows = Rows {
     before: "boot mac_bsdextended\nfile /f reg uid 0 gid 0 mode 644 label - text hi\n",
@@ -164,43 +163,11 @@ const SETTINGS: &[Rows] = &[
 ];
 
 #[test]
-fn decisions(rt: HostRuntime) -> Result<(), Fail> {
-    for rows in DECISIONS {
-        run_rows(&rt, rt.alloc(), rows)?;
-    }
-    Ok(())
+fn decisions(rt: HostRuntime) -> Result<(), AllocError> {
+    run_table(&rt, rt.alloc(), DECISIONS)
 }
 
 #[test]
-fn settings(rt: HostRuntime) -> Result<(), Fail> {
-    for rows in SETTINGS {
-        run_rows(&rt, rt.alloc(), rows)?;
-    }
-    Ok(())
-}
-
-/// Adds as many rules as there may be.
-fn fill(alloc: Global, transcript: &mut Transcript) -> Result<(), AllocError> {
-    for number in 0..250 {
-        let reply = format!(in alloc; "ok rule {number}")?;
-        transcript.add("ugidfw add subject uid 5 object mode n", reply.as_str())?;
-    }
-    Ok(())
-}
-
-/// There is no room, and then for one.
-const FULL: &[(&str, &str)] = &[
-    ("ugidfw add subject uid 5 object mode n", "no ENOBUFS - -"),
-    ("ugidfw remove 0", "ok"),
-    ("ugidfw remove 0", "no ENOENT - -"),
-    ("ugidfw add subject uid 5 object mode n", "ok rule 0"),
-];
-
-#[test]
-fn a_full_rule_list(rt: HostRuntime) -> Result<(), Fail> {
-    let mut transcript = Transcript::new(rt.alloc(), &FIREWALL)?;
-    fill(rt.alloc(), &mut transcript)?;
-    transcript.add_all(FULL)?;
-    transcript.end(&rt, rt.alloc(), &FIREWALL)?;
-    Ok(())
+fn settings(rt: HostRuntime) -> Result<(), AllocError> {
+    run_table(&rt, rt.alloc(), SETTINGS)
 }

@@ -1,7 +1,7 @@
 //! What flowed into each party.
 
-use crate::tests::transcript::{PLAIN, Rows, run_rows};
-use std::test::Fail;
+use crate::tests::transcript::{PLAIN, Rows, run_table};
+use std::alloc::AllocError;
 
 const BIBA: Rows = Rows {
     task: "uid 0 gid 0 label biba/5",
@@ -66,9 +66,6 @@ const FLOWS: &[Rows] = &[
 ];
 
 #[test]
-fn flows(rt: HostRuntime) -> Result<(), Fail> {
-    for rows in FLOWS {
-        run_rows(&rt, rt.alloc(), rows)?;
-    }
-    Ok(())
+fn flows(rt: HostRuntime) -> Result<(), AllocError> {
+    run_table(&rt, rt.alloc(), FLOWS)
 }

@@ -1,9 +1,7 @@
 //! The steps of a script, taken one after another.
 
-use crate::tests::cases::{Case, PLAIN, run_case};
-use crate::tests::{step_with, wants};
-use mf_io::{MemSink, MemSource};
-use std::test::Fail;
+use crate::tests::cases::{Case, PLAIN, run_cases, wants_case};
+use std::alloc::AllocError;
 
 /// Each step of which is in turn.
 const STEPPED: Case = Case {
@@ -11,13 +9,15 @@ const STEPPED: Case = Case {
     ..PLAIN
 };
 
+const NO_STEPS: Case = Case {
+    name: "no steps",
+    script: "boot mac_biba\ntask t uid 0 gid 0 label -\nread /\nend\n",
+    text: "boot mac_biba 0\nsource biba vnode:/ high\nsource biba proc:t high\n",
+    ..STEPPED
+};
+
 const TAKEN: &[Case] = &[
-    Case {
-        name: "no steps",
-        script: "boot mac_biba\ntask t uid 0 gid 0 label -\nread /\nend\n",
-        text: "boot mac_biba 0\nsource biba vnode:/ high\nsource biba proc:t high\n",
-        ..STEPPED
-    },
+    NO_STEPS,
     Case {
         name: "a change waits while an entry is open",
         script: "boot mac_partition\nfile /f reg uid 0 gid 0 mode 644 label - text hi\ntask a uid 0 gid 0 label -\nread /f\nend\ntask b uid 0 gid 0 label -\nkldunload mac_partition\nend\nsteps\nenter a\nchange b\nplan a\ndone a\nleave a\nchange b\nend\n",
@@ -157,35 +157,16 @@ const REFUSED: &[Case] = &[
 ];
 
 #[test]
-fn no_thread_is_needed(rt: HostRuntime) -> Result<(), Fail> {
-    let taken = &TAKEN[0];
-    let bytes = taken.script.as_bytes().to_vec(rt.alloc())?;
-    let mut source = MemSource::new(bytes, 64, Vec::new(rt.alloc()));
-    let mut sink = MemSink::new(rt.alloc(), 1000, 10, Vec::new(rt.alloc()))?;
-    let status = step_with(&rt, rt.alloc(), &mut source, &mut sink)?;
-    wants(
-        &rt,
-        taken.name,
-        status,
-        taken.status,
-        &sink,
-        taken.text.as_bytes(),
-    );
-    Ok(())
+fn no_thread_is_needed(rt: HostRuntime) -> Result<(), AllocError> {
+    wants_case(&rt, rt.alloc(), None, &NO_STEPS)
 }
 
 #[test]
-fn steps_are_taken(rt: HostRuntime) -> Result<(), Fail> {
-    for case in TAKEN {
-        run_case(&rt, rt.alloc(), case)?;
-    }
-    Ok(())
+fn steps_are_taken(rt: HostRuntime) -> Result<(), AllocError> {
+    run_cases(&rt, rt.alloc(), TAKEN)
 }
 
 #[test]
-fn steps_are_refused(rt: HostRuntime) -> Result<(), Fail> {
-    for case in REFUSED {
-        run_case(&rt, rt.alloc(), case)?;
-    }
-    Ok(())
+fn steps_are_refused(rt: HostRuntime) -> Result<(), AllocError> {
+    run_cases(&rt, rt.alloc(), REFUSED)
 }

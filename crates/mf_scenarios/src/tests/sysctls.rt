@@ -1,7 +1,7 @@
 //! Settings of mac_seeotheruids and mac_portacl that change between two calls.
 
-use crate::tests::transcript::{PLAIN, Rows, run_rows};
-use std::test::Fail;
+use crate::tests::transcript::{PLAIN, Rows, run_table};
+use std::alloc::AllocError;
 
 const PORTACL: Rows = Rows {
     before: "boot mac_portacl\n",
@@ -221,17 +221,11 @@ const PROCESSES: &[Rows] = &[
 ];
 
 #[test]
-fn bindings(rt: HostRuntime) -> Result<(), Fail> {
-    for rows in BINDINGS {
-        run_rows(&rt, rt.alloc(), rows)?;
-    }
-    Ok(())
+fn bindings(rt: HostRuntime) -> Result<(), AllocError> {
+    run_table(&rt, rt.alloc(), BINDINGS)
 }
 
 #[test]
-fn processes(rt: HostRuntime) -> Result<(), Fail> {
-    for rows in PROCESSES {
-        run_rows(&rt, rt.alloc(), rows)?;
-    }
-    Ok(())
+fn processes(rt: HostRuntime) -> Result<(), AllocError> {
+    run_table(&rt, rt.alloc(), PROCESSES)
 }

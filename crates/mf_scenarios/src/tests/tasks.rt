@@ -4,7 +4,6 @@ use crate::tests::{text_of_run, wants_that};
 use mf_io::OpenGate;
 use std::alloc::{AllocError, Global};
 use std::process::Abort;
-use std::test::Fail;
 
 /// Two tasks on a machine with three policies.
 pub const SCRIPT: &str = "boot mac_biba
@@ -79,7 +78,7 @@ pub fn wants_replies<R: Abort>(
 }
 
 #[test]
-fn replies_in_any_order_of_events(rt: HostRuntime) -> Result<(), Fail> {
+fn replies_in_any_order_of_events(rt: HostRuntime) -> Result<(), AllocError> {
     let text = text_of_run(&rt, rt.alloc(), SCRIPT, &OpenGate)?;
     wants_replies(&rt, rt.alloc(), text.as_str(), "alice", ALICE)?;
     wants_replies(&rt, rt.alloc(), text.as_str(), "www", WWW)?;

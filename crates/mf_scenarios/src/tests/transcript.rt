@@ -115,7 +115,7 @@ fn is_change(line: &str) -> bool {
 }
 
 /// Runs the task, and compares its history and its sources.
-pub fn run_rows<R: Abort + Threads + Wait + Sync>(
+fn run_rows<R: Abort + Threads + Wait + Sync>(
     rt: &R,
     alloc: Global,
     rows: &Rows,
@@ -123,4 +123,16 @@ pub fn run_rows<R: Abort + Threads + Wait + Sync>(
     let mut transcript = Transcript::new(alloc, rows)?;
     transcript.add_all(rows.rows)?;
     transcript.end(rt, alloc, rows)
+}
+
+/// Runs each task of a table, and compares its history and its sources.
+pub fn run_table<R: Abort + Threads + Wait + Sync>(
+    rt: &R,
+    alloc: Global,
+    table: &[Rows],
+) -> Result<(), AllocError> {
+    for rows in table {
+        run_rows(rt, alloc, rows)?;
+    }
+    Ok(())
 }

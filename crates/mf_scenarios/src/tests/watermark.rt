@@ -1,10 +1,9 @@
 //! What mac_lomac answers, which labels it takes, whom it lowers, and what moves under it.
 
-use crate::tests::transcript::{PLAIN, Rows, run_rows};
+use crate::tests::transcript::{PLAIN, Rows, run_table};
 use crate::tests::{text_of_run, wants_that};
 use mf_io::OpenGate;
 use std::alloc::{AllocError, Global};
-use std::test::Fail;
 
 const LOMAC: Rows = Rows {
     before: "boot mac_lomac\n",
@@ -296,19 +295,13 @@ const OBJECTS: &[Rows] = &[
 ];
 
 #[test]
-fn watermark_of_processes(rt: HostRuntime) -> Result<(), Fail> {
-    for rows in PROCESSES {
-        run_rows(&rt, rt.alloc(), rows)?;
-    }
-    Ok(())
+fn watermark_of_processes(rt: HostRuntime) -> Result<(), AllocError> {
+    run_table(&rt, rt.alloc(), PROCESSES)
 }
 
 #[test]
-fn watermark_of_objects(rt: HostRuntime) -> Result<(), Fail> {
-    for rows in OBJECTS {
-        run_rows(&rt, rt.alloc(), rows)?;
-    }
-    Ok(())
+fn watermark_of_objects(rt: HostRuntime) -> Result<(), AllocError> {
+    run_table(&rt, rt.alloc(), OBJECTS)
 }
 
 const TWO_FILES: &str = "boot mac_lomac
@@ -365,7 +358,7 @@ fn count_answers(text: &str, answer: &str) -> usize {
 }
 
 #[test]
-fn sixteen_tasks_sink(rt: HostRuntime) -> Result<(), Fail> {
+fn sixteen_tasks_sink(rt: HostRuntime) -> Result<(), AllocError> {
     let script = sixteen_tasks(rt.alloc())?;
     let text = text_of_run(&rt, rt.alloc(), script.as_str(), &OpenGate)?;
     let sources = sources_of_sixteen(rt.alloc())?;

@@ -1,0 +1,151 @@
+//! As much of each kind as there may be, and then more.
+
+use crate::tests::transcript::{PLAIN, Rows, Transcript};
+use std::alloc::{AllocError, Global};
+use std::process::Abort;
+use std::sync::Wait;
+use std::thread::Threads;
+
+/// Lines of one kind, and those behind them. Where `#` stands in the line or its reply, the line's number comes.
+struct Fill {
+    line: &'static str,
+    /// How many letters each line ends with besides.
+    letters: u32,
+    reply: &'static str,
+    from: u32,
+    to: u32,
+    behind: &'static [(&'static str, &'static str)],
+}
+
+/// Of a file, a pipe and a socket.
+const OBJECTS: &[Fill] = &[
+    Fill {
+        line: "write /f ",
+        letters: 65_536,
+        reply: "ok",
+        from: 0,
+        to: 1,
+        behind: &[("write /f a", "no EFBIG - -"), ("pipe p", "ok")],
+    },
+    Fill {
+        line: "pwrite p ",
+        letters: 16_384,
+        reply: "ok",
+        from: 0,
+        to: 1,
+        behind: &[("pwrite p a", "no EAGAIN - -"), ("socket s", "ok")],
+    },
+    Fill {
+        line: "send s s x",
+        letters: 0,
+        reply: "ok",
+        from: 0,
+        to: 16,
+        behind: &[("send s s x", "no ENOBUFS - -")],
+    },
+];
+
+/// Beside the root and the task.
+const ENTITIES: &[Fill] = &[Fill {
+    line: "pipe p#",
+    letters: 0,
+    reply: "ok",
+    from: 1,
+    to: 1023,
+    behind: &[
+        ("pipe p1023", "no ENFILE - -"),
+        ("pipe p1", "no EEXIST - -"),
+    ],
+}];
+
+/// There is no room, and then for one.
+const RULES: &[Fill] = &[Fill {
+    line: "ugidfw add subject uid 5 object mode n",
+    letters: 0,
+    reply: "ok rule #",
+    from: 0,
+    to: 250,
+    behind: &[
+        ("ugidfw add subject uid 5 object mode n", "no ENOBUFS - -"),
+        ("ugidfw remove 0", "ok"),
+        ("ugidfw remove 0", "no ENOENT - -"),
+        ("ugidfw add subject uid 5 object mode n", "ok rule 0"),
+    ],
+}];
+
+/// The text with the number in the place of `#`.
+fn numbered(alloc: Global, text: &str, number: u32) -> Result<String, AllocError> {
+    match text.split_once('#') {
+        Some((front, back)) => format!(in alloc; "{front}{number}{back}"),
+        None => String::from_str(alloc, text),
+    }
+}
+
+/// The line of that number.
+fn line_of(alloc: Global, fill: &Fill, number: u32) -> Result<String, AllocError> {
+    let mut line = numbered(alloc, fill.line, number)?;
+    for _letter in 0..fill.letters {
+        line.push_str("a")?;
+    }
+    Ok(line)
+}
+
+/// Adds the line of that number, and its reply.
+fn add_line(
+    alloc: Global,
+    transcript: &mut Transcript,
+    fill: &Fill,
+    number: u32,
+) -> Result<(), AllocError> {
+    let line = line_of(alloc, fill, number)?;
+    let reply = numbered(alloc, fill.reply, number)?;
+    transcript.add(line.as_str(), reply.as_str())
+}
+
+/// Adds the lines, and those behind them.
+fn add_fill(alloc: Global, transcript: &mut Transcript, fill: &Fill) -> Result<(), AllocError> {
+    for number in fill.from..fill.to {
+        add_line(alloc, transcript, fill, number)?;
+    }
+    transcript.add_all(fill.behind)
+}
+
+/// Runs the task with these lines, and compares its history and its sources.
+fn run_fills<R: Abort + Threads + Wait + Sync>(
+    rt: &R,
+    alloc: Global,
+    rows: &Rows,
+    fills: &[Fill],
+) -> Result<(), AllocError> {
+    let mut transcript = Transcript::new(alloc, rows)?;
+    for fill in fills {
+        add_fill(alloc, &mut transcript, fill)?;
+    }
+    transcript.end(rt, alloc, rows)
+}
+
+#[test]
+fn limits_of_objects(rt: HostRuntime) -> Result<(), AllocError> {
+    let rows = Rows {
+        name: "limits of objects",
+        before: "file /f reg uid 0 gid 0 mode 644 label -\n",
+        ..PLAIN
+    };
+    run_fills(&rt, rt.alloc(), &rows, OBJECTS)
+}
+
+#[test]
+fn table_of_entities_full(rt: HostRuntime) -> Result<(), AllocError> {
+    run_fills(&rt, rt.alloc(), &PLAIN, ENTITIES)
+}
+
+#[test]
+fn a_full_rule_list(rt: HostRuntime) -> Result<(), AllocError> {
+    let rows = Rows {
+        name: "a full rule list",
+        before: "boot mac_bsdextended\nfile /f reg uid 0 gid 0 mode 644 label - text hi\n",
+        boots: "boot mac_bsdextended -\n",
+        ..PLAIN
+    };
+    run_fills(&rt, rt.alloc(), &rows, RULES)
+}
