@@ -49,6 +49,8 @@ SYNTAX = {
     "mf_spelling": "how scripts are spelled",
     "mf_script": "scripts as texts",
     "mf_flow SourcesText": "the sources as a text",
+    "mf_matrix MatrixText": "the matrix as a text",
+    "mf_chains ChainsText": "chains as a text",
     "mf_load Summary": "the summary of a load as a text",
     "mf_hist": "histories as texts",
     "mf_verdict Header": "the header of what is checked",

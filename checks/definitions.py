@@ -199,7 +199,7 @@ class Definition:
     def add(self, text, above):
         """Adds a line with the comments above it: a clause, or what goes on with the line before."""
         self.count += 1 + above
-        if text[0] == " ":
+        if text[0] in " }":
             self.pieces[-1] += "\n" + text
         elif not text.startswith("unfolding "):
             self.pieces.append(text)

@@ -1,8 +1,9 @@
 #!/bin/sh
 # Runs each script of examples/, and compares what is printed with the .out file beside it; a picture of its sources with the .dot file, where
-# there is one; and the replies with the comments `#=` in it, by tools/expect. Each script has an .out file or such comments. A script with steps
-# is run by them, and its text is always the same. Without them the text of a script with several tasks depends on their order: it is run several
-# times, and of each run is compared what holds in every order. A line for each failure, then a count.
+# there is one; what `matrix` and `chains` write behind that with the .matrix and the .chains file, where there are such; and the replies with the
+# comments `#=` in it, by tools/expect. Each script has an .out file or such comments. A script with steps is run by them, and its text is always the
+# same. Without them the text of a script in which several tasks call depends on their order: it is run several times, and of each run is compared what
+# holds in every order. A line for each failure, then a count.
 cd "$(dirname "$0")/.." || exit 1
 printed=$(mktemp) && told=$(mktemp) || exit 1
 trap 'rm -f "$printed" "$told"' EXIT
@@ -38,9 +39,18 @@ has_steps() {
     grep -q '^[[:blank:]]*steps[[:blank:]]*$' "$1"
 }
 
+# How many tasks of the script have calls.
+callers() {
+    awk '
+        $1 == "task" { open = 1; next }
+        $1 == "end" || $1 == "steps" { open = 0 }
+        open && NF && $1 !~ /^#/ { open = 0; count++ }
+        END { print count + 0 }' "$1"
+}
+
 # Whether the script's text is always the same.
 is_settled() {
-    has_steps "$1" || [ "$(awk '$1 == "task"' "$1" | wc -l)" -le 1 ]
+    has_steps "$1" || [ "$(callers "$1")" -le 1 ]
 }
 
 is_as_expected() {
@@ -59,10 +69,19 @@ is_drawn() {
     [ ! -e "${1%.macsim}.dot" ] || awk -f examples/sources.awk "$printed" | cmp -s - "${1%.macsim}.dot"
 }
 
+# Whether each of two words writes behind the text of the .out file what is in the file with its name, where there is one.
+goes_on() {
+    for word in matrix chains; do
+        further=${1%.macsim}.$word
+        [ ! -e "$further" ] || cat "${1%.macsim}.out" "$further" >"$told"
+        [ ! -e "$further" ] || ./macsim "$word" <"$1" | cmp -s - "$told" || return 1
+    done
+}
+
 # Whether a script with an .out file prints what is there, in each of several runs where they may differ.
 is_as_printed() {
     for run in 1 2 3 4 5; do
-        is_as_expected "$1" && is_drawn "$1" || return 1
+        is_as_expected "$1" && is_drawn "$1" && goes_on "$1" || return 1
         ! is_settled "$1" || return 0
     done
 }

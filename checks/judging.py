@@ -7,6 +7,7 @@ from pathlib import Path
 ROOT = Path(__file__).resolve().parent.parent
 sys.path.insert(0, str(ROOT / "tools"))
 
+from further_lines import FURTHER, fault_of_lines, parted
 from macsim_command import with_steps, word_for
 from macsim_replay import Replay
 from macsim_text import BadInput, events_of, script_of
@@ -22,13 +23,15 @@ class Work:
 
     def __init__(self, name, program, given, words=None):
         self.name, self.program, self.given = name, program, given
-        self.script = None if words else script_of(given.decode("latin-1"), name)
+        is_script = words is None or words[0] in FURTHER
+        self.script = script_of(given.decode("latin-1"), name) if is_script else None
         self.words = words or [word_for(self.script)]
         # Whether the same is printed each time.
-        self.is_settled = (
-            words is not None or self.script.steps is not None or len(self.script.tasks) < 2
-        )
+        self.is_settled = self.script is None or self.words == ["step"] or self.has_one_caller()
         self.usual = program.run(self.words, given)
+
+    def has_one_caller(self):
+        return sum(bool(task.calls) for task in self.script.tasks.values()) < 2
 
     def is_right(self, printed):
         """Whether what a run that ended with 0 printed is right for the script."""
@@ -58,7 +61,13 @@ def steps_of(event):
 
 
 def fault_of(work, printed):
-    """What is wrong with the history of a run, or None."""
+    """What is wrong with the history of a run, or with what stands behind it, or None."""
+    word = work.words[0]
+    if word in FURTHER:
+        printed, lines = parted(printed, word)
+        fault = fault_of_lines(word, work.given.decode("latin-1"), printed, lines, work.name)
+        if fault is not None:
+            return fault
     try:
         events = events_of(printed, work.name)
         for _ in Replay(work.script).follow(events, work.name):

@@ -1,5 +1,5 @@
 """Refuses the program one allocation after another, in a run of its own each: over five worked
-scripts, their texts, which it checks, a load and the examples. A run that is refused an allocation
+scripts, also with `matrix` and `chains`, their texts, which it checks, a load and the examples. A run that is refused an allocation
 ends with 0 and what is right for its script, or with 9 and no part of a history; the first fifteen,
 in which `main` makes the words and the modules, end with 9. The tests of refused growths are run so
 too, with each refused: they hold, or say that memory ran out. A line for each script, with how many
@@ -13,6 +13,7 @@ import re
 import time
 from collections import Counter
 
+from further_lines import FURTHER
 from judging import BEGINNING, ROOT, Work, lacks_memory, told_of
 from running import NOTHING, Program, one
 from scripts import WORKED
@@ -37,6 +38,8 @@ def words():
 def works(program):
     for name, text in WORKED.items():
         yield Work(name, program, text.encode())
+        for word in FURTHER:
+            yield Work(f"{word} of {name}", program, text.encode(), words=[word])
     yield Work("gen 64 4", program, b"", words=["gen", "64", "4"])
     for name, text in WORKED.items():
         printed = program.run(["run"], text.encode()).printed

@@ -37,9 +37,9 @@ reads_nothing() {
     cmp -s "$folder/left" "$script"
 }
 
-# Whether a run over the script, with a device that takes nothing, tells so by its status.
+# Whether the script with a word, where the device takes nothing, tells so by its status.
 fails_to_write() {
-    "$program" run <"$script" >/dev/full 2>"$folder/told"
+    "$program" "$1" <"$script" >/dev/full 2>"$folder/told"
     [ "$?" -eq 5 ] && [ ! -s "$folder/told" ]
 }
 
@@ -90,6 +90,16 @@ text no_3 'no 3'
 { cat "$folder/checked"; head -c "$((16777216 - $(wc -c <"$folder/checked")))" /dev/zero | tr '\0' '\n'; } >"$folder/longest_checked"
 { cat "$folder/longest_checked"; echo; } >"$folder/longer_checked"
 text no_8 'no 8'
+{
+    cat "$history"
+    printf 'matrix proc:t vnode:/ rwxs\nmatrix proc:t vnode:/a -w--\nmatrix proc:t proc:t vgdc\n'
+} >"$folder/matrix"
+{
+    cat "$history"
+    printf 'chain biba vnode:/ high 0@0\nchain biba vnode:/a low 1@0\nchain biba proc:t high 2@0\n'
+} >"$folder/chains"
+PYTHONPATH=checks python3 -B -c 'import limit_scripts; print(limit_scripts.steps(True), end="")' >"$folder/many"
+{ "$program" run <"$folder/many"; echo 'macsim: too many chains'; } >"$folder/too_many_chains"
 script_of "$most" "$folder/longest"
 script_of "$((most + 1))" "$folder/longer"
 
@@ -101,6 +111,9 @@ check_usage "$(printf '\377')"
 check_usage run "$script"
 check_usage step "$script"
 check_usage check "$script"
+check_usage matrix "$script"
+check_usage chains "$script"
+check_usage chain
 check_usage gen 2
 check_usage gen 2 2 2
 check_usage gen 0 2
@@ -120,7 +133,7 @@ check 'run: steps are left aside' ends 0 "$folder/stepped" "$history" run
 check 'run: the longest script' ends 0 "$folder/longest" "$history" run
 check 'run: one byte more' ends 6 "$folder/longer" "$folder/too_long" run
 check 'run: an input that cannot be read' ends 4 . "$folder/read_fault" run
-check 'run: an output that cannot be written' fails_to_write
+check 'run: an output that cannot be written' fails_to_write run
 
 check 'step: each step is taken' ends 0 "$folder/all_stepped" "$history" step
 check 'step: a step that is out of turn' ends 7 "$folder/twice" "$folder/refused" step
@@ -135,6 +148,18 @@ check 'check: no header' ends 10 "$script" "$folder/header" check
 check 'check: the longest input' ends 8 "$folder/longest_checked" "$folder/no_8" check
 check 'check: one byte more' ends 6 "$folder/longer_checked" "$folder/too_long" check
 check 'check: an input that cannot be read' ends 4 . "$folder/read_fault" check
+
+for word in matrix chains; do
+    check "$word: a script" ends 0 "$script" "$folder/$word" "$word"
+    check "$word: steps are left aside" ends 0 "$folder/stepped" "$folder/$word" "$word"
+    check "$word: no module, no file and no task" ends 0 /dev/null /dev/null "$word"
+    check "$word: a word that is none" ends 3 "$folder/bad" "$folder/unknown_word" "$word"
+    check "$word: the longest script" ends 0 "$folder/longest" "$folder/$word" "$word"
+    check "$word: one byte more" ends 6 "$folder/longer" "$folder/too_long" "$word"
+    check "$word: an input that cannot be read" ends 4 . "$folder/read_fault" "$word"
+    check "$word: an output that cannot be written" fails_to_write "$word"
+done
+check 'chains: too many' ends 11 "$folder/many" "$folder/too_many_chains" chains
 
 check 'run: a closed standard input' over 4 closed_input
 check 'run: an input that is open for writing' over 4 input_for_writing

@@ -1,7 +1,7 @@
 """Runs scripts of sixteen tasks that load, unload and change, that mac_lomac lowers, or that have
 files open, on one, two and four processors, where some or all threads can't be made, and where
 memory is refused. Each history is judged by the auditor, followed by the tools and made again by its steps, and no
-label slot is given twice. A line for each kind of run, then a count.
+label slot is given twice; what `matrix` and `chains` write behind one is judged by rules of its own. A line for each kind of run, then a count.
 
     checks/threads.sh [--every N] [--from K] [--all]
 """
@@ -11,6 +11,7 @@ import time
 from collections import Counter
 
 import scripts
+from further_lines import FURTHER
 from judging import BEGINNING, ROOT, Work, fault_of, lacks_memory, told_of
 from running import ALL, ALL_PROCESSORS, NOTHING, Program, Refused, on_processors, one
 
@@ -41,12 +42,14 @@ class Runs:
 
     def __init__(self, program):
         self.program = program
+        sinking = scripts.sinking(SINKING_LINES).encode()
         self.works = [
             Work("loading", program, scripts.loaders().encode()),
             Work("changing", program, scripts.changers(CHANGES).encode()),
             Work("waiting", program, scripts.mixed(MIXED_LINES).encode()),
-            Work("sinking", program, scripts.sinking(SINKING_LINES).encode()),
+            Work("sinking", program, sinking),
             Work("opening", program, scripts.openers(OPENING_LINES).encode()),
+            *(Work(f"{word} of sinking", program, sinking, words=[word]) for word in FURTHER),
         ]
         self.passed = self.failed = 0
 

@@ -79,6 +79,8 @@ check 'status 3' tells 3 "$folder/bad" 'macsim: status 3, the input is no script
 check 'status 4' tells 4 . "macsim: status 4, the input couldn't be read: docs/ERRORS.md, Input, output and memory" run
 check 'status 5' fails_to_write
 check 'status 6' tells 6 "$folder/long" 'macsim: status 6, the input is too long: docs/ERRORS.md, Input, output and memory' run
+PYTHONPATH=checks python3 -B -c 'import limit_scripts; print(limit_scripts.steps(True), end="")' >"$folder/many"
+check 'status 11' tells 11 "$folder/many" 'macsim: status 11, there are too many chains: docs/ERRORS.md, Too many chains' chains
 check 'status 7' tells 7 "$folder/refused" 'macsim: status 7, a step was refused: docs/ERRORS.md, Steps' step
 
 builder='printf "#!/bin/sh\necho new\n" >out/macsim; chmod +x out/macsim; echo "rt: running out/macsim"'

@@ -32,6 +32,17 @@ class Thing:
         return self.kind, self.holder if self.kind == "vnode" else None, self.name
 
 
+class Names:
+    """A name for each thing that ever came: its title, and behind it #2 for the second of that title."""
+
+    def __init__(self):
+        self.names, self.count = {}, {}
+
+    def add(self, thing):
+        count = self.count[thing.title] = self.count.get(thing.title, 0) + 1
+        self.names[thing] = thing.title if count == 1 else f"{thing.title}#{count}"
+
+
 class Things:
     """What is there, in the order in which it came."""
 

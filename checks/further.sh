@@ -1,0 +1,9 @@
+#!/bin/sh
+# The lines that `macsim matrix` and `macsim chains` write behind the text of a run, against rules of their own in matrix_rules.py and
+# chain_rules.py, which go by the text of the run alone: over the examples, worked scripts and 100 scripts of random calls, and with
+# `checks/further.sh --all` over 2,000; at the limits of chains and one past each, and of the greatest matrix. A line for each failure, then the counts.
+cd "$(dirname "$0")/.." || exit 1
+
+# The program is built before the first run that counts.
+./macsim run </dev/null >/dev/null 2>&1
+exec python3 -B checks/further.py "$@"
