@@ -10,11 +10,12 @@ use Rattle.std.specs.Ordering.{nat_cmp}
 use Rattle.std.specs.FinSet as set
 use Rattle.std.specs.FinSet.{FinSet, members, contains-from_list_nat, contains-empty, contains-is_subset, is_subset-contains, same_set, nat_cmp-IsAntisymmetric}
 use Rattle.std.specs.Cmp.{nat_cmp_total}
-use Rattle.std.proofs.lemmas.Nat.Bits.{same_from_bits_below, bit_at-lt, bit_at_cat_low, bit_at_cat_high, bit_at-zero, bit_at_set_same, bit_at_set_other, bit_at_and}
+use Rattle.std.proofs.lemmas.Nat.Bits.{same_from_bits_below, bit_at-lt, bit_at-zero, bit_at_set_same, bit_at_set_other, bit_at_and}
 use Rattle.std.proofs.lemmas.List.{get_or-set_same, get_or-set_other}
 use Rattle.mf_elem.specs.Comps.{is_there, rising, compartments_of, no_comps, with_compartment}
 use Rattle.mf_elem.specs.OfSets.{number_with, word_of, words_of, comps_of}
 use Rattle.mf_elem.specs.declared.comps.Comps.{Comps}
+use Rattle.mf_elem.proofs.NumberBits.{bit_at_with, bits_with}
 use Rattle.mf_elem.proofs.Among.{numbers_to, range_is, among_is, above, zero_not_among, filter_same}
 use Rattle.mf_elem.specs.Bounds.{AreWords}
 
@@ -65,43 +66,6 @@ rising_contained comps =
     rising_to comps
     ∙ filter_same test (set.contains (compartments_of comps)) 256 (λ q least most.
     sym (among_rising comps.words q ∙ contains-from_list_nat (filter test (numbers_to 256)) q ∙ among_is test 256 q least most))
-
--- the number fits
-one_more_bit : (n i c : ℕ) → n < 2 ^ i → c ≤ 2 ^ i → n + c < 2 ^ suc i
-one_more_bit n i c h l = let e : 2 ^ suc i ≡ 2 ^ i + 2 ^ i = grind arith in omega (arith, e)
-
-cond_le : (b : Bool) (n : ℕ) → cond b n 0 ≤ n
-cond_le true n = omega arith
-cond_le false n = omega arith
-
-pub bits_with : (f : ℕ → Bool) (k : ℕ) → number_with f k < 2 ^ k
-unfolding number_with
-bits_with f zero = lit< tt
-bits_with f (suc i) = one_more_bit (number_with f i) i (cond (f i) (2 ^ i) 0) (bits_with f i) (cond_le (f i) (2 ^ i))
-
--- the bits of the number
-high_part : (b : Bool) (n i : ℕ) → n + cond b (2 ^ i) 0 ≡ cond b 1 0 * 2 ^ i + n
-high_part true n i = omega arith
-high_part false n i = omega arith
-
-lowest_of : (b : Bool) → bit_at (cond b 1 0) 0 ≡ cond b 1 0
-lowest_of true = refl
-lowest_of false = refl
-
-pub bit_at_with : (f : ℕ → Bool) (k j : ℕ) → j < k → bit_at (number_with f k) j ≡ cond (f j) 1 0
-unfolding number_with
-bit_at_with f zero j h = absurd (omega arith)
-bit_at_with f (suc i) j h =
-    let N : ℕ = number_with f i in
-    let whole : bit_at (N + cond (f i) (2 ^ i) 0) j ≡ bit_at (cond (f i) 1 0 * 2 ^ i + N) j = ap (λ n. bit_at n j) (high_part (f i) N i) in
-    whole ∙ (elim (cases_lt j i) [
-      | inl l ↦ bit_at_cat_low (cond (f i) 1 0) i N j l ∙ bit_at_with f i j l
-      | inr g ↦
-          let e : j ≡ i = omega arith in
-          let d : j - i ≡ 0 = omega arith in
-          bit_at_cat_high (cond (f i) 1 0) i N j (bits_with f i) g
-          ∙ ap (bit_at (cond (f i) 1 0)) d ∙ lowest_of (f i) ∙ ap (λ k. cond (f k) 1 0) (sym e)
-    ])
 
 -- a place in a word, counted through the words
 place_word : (k i : ℕ) → i < 64 → (64 * k + i) / 64 ≡ k

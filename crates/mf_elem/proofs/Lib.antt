@@ -1,3 +1,4 @@
 pub mod Among
 pub mod CompsLaws
+pub mod NumberBits
 pub mod Valid
