@@ -14,7 +14,7 @@ use Rattle.mf_objects.specs.declared.entity.EntityData.{EntityData}
 use Rattle.mf_objects.specs.declared.entity.EntityData.TheVariants.{Process, Vnode, Pipe, Socket}
 use Rattle.mf_objects.specs.Live.{LiveEntity, has_id}
 use Rattle.mf_objects.specs.Lives.{is_held_by}
-use Rattle.mf_objects.specs.Population.{NamesDiffer, is_namesake, shares_names, is_entry_beside}
+use Rattle.mf_objects.specs.Population.{NoNamesakes, is_namesake, shares_names, is_entry_beside}
 use Rattle.mf_objects.proofs.Belonging.{Stays, AllStay, StaysAt, changed_stays, find_all}
 
 -- what needs another name than the other still does
@@ -42,7 +42,7 @@ changed_name change id names e = one (has_id id e)
     one true = names e
     one false = refl
 
-pub names_mapped : (f : LiveEntity → LiveEntity) (live : List LiveEntity) → ((e : LiveEntity) → (f e).name ≡ e.name) → AllStay f live → NamesDiffer live → NamesDiffer (map f live)
+pub names_mapped : (f : LiveEntity → LiveEntity) (live : List LiveEntity) → ((e : LiveEntity) → (f e).name ≡ e.name) → AllStay f live → NoNamesakes live → NoNamesakes (map f live)
 names_mapped f live names stays differ i j d before within =
     let short : j < length live = omega (arith, within, length-map live f) in
     let older : LiveEntity = get_or live i d in
@@ -52,7 +52,7 @@ names_mapped f live names stays differ i j d before within =
     rw (get_or-map f live i d d (omega arith), get_or-map f live j d d short) (kept ∙ differ i j d before short)
 
 pub names_changed : (change : LiveEntity → LiveEntity) (id : Id) (live : List LiveEntity) → ((e : LiveEntity) → (change e).name ≡ e.name) → StaysAt change id live
-    → NamesDiffer live → NamesDiffer (map (changed_at change id) live)
+    → NoNamesakes live → NoNamesakes (map (changed_at change id) live)
 names_changed change id live names stays differ =
     names_mapped (changed_at change id) live (changed_name change id names) (changed_stays change id live stays) differ
 
@@ -65,11 +65,11 @@ none_passes test (e ∷ es) none = one (test e) refl (none_passes test es) none
     one true is rest some = cc
     one false is rest none = All-cons (λ (x : LiveEntity). test x ≡ false) e es is (rest none)
 
-pub names_push : (live : List LiveEntity) (x : LiveEntity) → NamesDiffer live → find (is_namesake x.name x.what) live ≡ None → NamesDiffer (live ++ x ∷ [])
+pub names_push : (live : List LiveEntity) (x : LiveEntity) → NoNamesakes live → find (is_namesake x.name x.what) live ≡ None → NoNamesakes (live ++ x ∷ [])
 names_push live x differ free =
     all_pairs_push (λ (older e : LiveEntity). is_namesake e.name e.what older ≡ false) live x differ (none_passes (is_namesake x.name x.what) live free)
 
-pub names_one : (x : LiveEntity) → NamesDiffer (x ∷ [])
+pub names_one : (x : LiveEntity) → NoNamesakes (x ∷ [])
 names_one x i j d before within = absurd (omega (arith, before, within))
 
 -- One name, one entity
@@ -132,7 +132,7 @@ namesakes : (x y : LiveEntity) → shares_names y.what x.what ≡ true → x.nam
 namesakes x y shares same = rw (shares, (bytes_eq-Decides x.name y.name).1 same) refl
 
 -- of live entities, two that need different names and have one name are one
-pub one_name : (live : List LiveEntity) (a b : Id) (x y : LiveEntity) → NamesDiffer live → find (has_id a) live ≡ Some x → find (has_id b) live ≡ Some y
+pub one_name : (live : List LiveEntity) (a b : Id) (x y : LiveEntity) → NoNamesakes live → find (has_id a) live ≡ Some x → find (has_id b) live ≡ Some y
     → shares_names y.what x.what ≡ true → x.name ≡ y.name → x ≡ y
 one_name [] a b x y differ at_a at_b shares same = cc
 one_name (e ∷ es) a b x y differ at_a at_b shares same =
@@ -141,7 +141,7 @@ one_name (e ∷ es) a b x y differ at_a at_b shares same =
     younger : All (λ z. is_namesake z.name z.what e ≡ false) es
     younger k d l = differ zero (suc k) d (omega arith) (omega (arith, l))
 
-    later : NamesDiffer es
+    later : NoNamesakes es
     later i j d before within = differ (suc i) (suc j) d (omega (arith, before)) (omega (arith, within))
 
     apart : (z : LiveEntity) (id : Id) → find (has_id id) es ≡ Some z → is_namesake z.name z.what e ≡ false

@@ -4,10 +4,11 @@ use Rattle.std.specs.Prelude.{◌≡◌, ◌==◌, ◌≢◌, ◌<◌, ◌≤◌
 use Rattle.mf_elem.specs.declared.label.LabelValue.{LabelValue}
 use Rattle.mf_elem.specs.declared.label.TheConstants.{SLOTS}
 use Rattle.mf_elem.specs.declared.label.LabelValue.TheVariants as values
+use Rattle.mf_item.specs.declared.view.ObjectView.{ObjectView}
 use Rattle.mf_objects.specs.declared.id.Id.{Id}
 use Rattle.mf_objects.specs.declared.entity.EntityData.{EntityData}
 use Rattle.mf_objects.specs.declared.entity.EntityData.TheVariants.{Vnode}
-use Rattle.mf_objects.specs.Live.{Entities, LiveEntity, id_of, label_at, live_at, is_set, value_in}
+use Rattle.mf_objects.specs.Live.{Entities, LiveEntity, id_of, file_at, kind_at, label_at, live_at, is_set, value_in}
 
 -- the id is held by this directory
 abbrev pub is_held_by : Id → Option Id → Bool
@@ -60,6 +61,10 @@ made_count objects slot = count_by (λ e. is_set (value_in slot e)) objects.live
 -- the value of a label slot
 abbrev pub value_at : Entities → Id → ℕ → LabelValue
 value_at objects id slot = slice_index_or (label_at objects id) slot values.Unset
+
+-- the entity as policies see it
+abbrev pub view_at : Entities → Id → ObjectView
+view_at objects id = record { id = id.0; kind = kind_at objects id; file = file_at objects id; label = label_at objects id }
 
 -- where the given values aren't Unset, those of the label aren't either
 abbrev pub HasSlotsFor : List LabelValue → List LabelValue → Type 0

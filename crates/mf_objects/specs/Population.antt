@@ -56,8 +56,8 @@ abbrev pub is_namesake : List ℕ → EntityData → LiveEntity → Bool
 is_namesake name what e = shares_names what e.what && bytes_eq e.name name
 
 -- names differ among processes, among pipes, among sockets, and in each directory
-abbrev pub NamesDiffer : List LiveEntity → Type 0
-NamesDiffer live = AllPairs (λ older e. is_namesake e.name e.what older ≡ false) live
+abbrev pub NoNamesakes : List LiveEntity → Type 0
+NoNamesakes live = AllPairs (λ older e. is_namesake e.name e.what older ≡ false) live
 
 -- the descriptors of a process: they are no more than it may have, their numbers are below that and differ, and each is on a live regular file
 pub record AreDescriptors (live : List LiveEntity) (fds : List Fd) : Type 0 where
@@ -72,5 +72,5 @@ pub record IsPopulation (objects : Entities) : Type 0 where
   pub rooted : HasRoot objects.live
   pub belong : AllBelong objects.live
   pub directories : All (λ e. NoBytesIfDirectory e.what) objects.live
-  pub names : NamesDiffer objects.live
+  pub names : NoNamesakes objects.live
   pub descriptors : All (λ e. AreDescriptors objects.live (fds_of e.what)) objects.live

@@ -3,11 +3,13 @@ use Rattle.std.specs.Prelude.{◌≡◌, ◌==◌, ◌≢◌, ℕ, ◌+◌, ◌<
 use Rattle.std.specs.List.{sum_by}
 use Rattle.mf_elem.specs.declared.label.LabelValue.{LabelValue}
 use Rattle.mf_elem.specs.declared.label.TheConstants.{SLOTS}
+use Rattle.mf_item.specs.declared.view.ObjectView.{ObjectView}
 use Rattle.mf_slots.specs.Zones.{Contents, Handles, handle, under, label_values, NoneUnset}
-use Rattle.mf_objects.specs.declared.limits.TheConstants.{MOST_ENTITIES}
+use Rattle.mf_objects.specs.declared.limits.TheConstants.{MOST_ENTITIES, ROOT_MODE}
 use Rattle.mf_objects.specs.declared.entity.Entity.{Entity}
+use Rattle.mf_objects.specs.declared.entity.EntityData.TheVariants.{Vnode}
 use Rattle.mf_objects.specs.declared.id.Id.{Id}
-use Rattle.mf_objects.specs.Live.{LiveEntity, Entities, has_id, live_at}
+use Rattle.mf_objects.specs.Live.{LiveEntity, Entities, has_id, live_at, kind_of, file_of}
 use Rattle.mf_objects.specs.Descriptors.{fds_of}
 use Rattle.mf_objects.specs.Population.{IsPopulation}
 
@@ -66,6 +68,22 @@ pub record IsPlace (objects : Entities) (id : Id) (place : ℕ) : Type 0 where
 -- an entity as contracts see it, with these label values
 abbrev pub with_values : List LabelValue → Entity → LiveEntity
 with_values label e = record { id = e.id; name = e.name; label = label; what = e.what }
+
+-- the root directory with this label, of uid 0 and gid 0, with mode 755
+abbrev pub root_labelled : Handles → Entity
+root_labelled label =
+    record {
+      id = record { 0 = 0 };
+      name = [];
+      label = label;
+      what = Vnode (record { parent = None; file = record { uid = 0; gid = 0; mode = ROOT_MODE; dir = true }; content = [] });
+    }
+
+-- policies see an entity so, but for its label
+pub record IsSeenSo (e : Entity) (view : ObjectView) : Type 0 where
+  pub id : view.id ≡ e.id.0
+  pub kind : view.kind ≡ kind_of e.what
+  pub file : view.file ≡ file_of e.what
 
 -- an entity without its label, which no path depends on
 abbrev pub unlabelled : Entity → LiveEntity

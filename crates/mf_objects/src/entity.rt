@@ -5,6 +5,7 @@ ghost use Rattle.mf_names.specs.declared.limits.TheConstants.{CONTENT_LIMIT, SCR
 ghost use Rattle.mf_objects.specs.Index as index;
 ghost use Rattle.mf_objects.specs.Live as live;
 ghost use Rattle.mf_objects.specs.Lives.{is_held_by};
+ghost use Rattle.mf_objects.specs.Sound.{IsSeenSo};
 ghost use Rattle.mf_objects.specs.Changes as change;
 ghost use Rattle.mf_objects.specs.Descriptors as fds;
 ghost use Rattle.mf_objects.specs.Fits.{FitsBytes, FitsMessage, HasMessage};
@@ -14,11 +15,11 @@ mod descriptors;
 
 use crate::descriptors::Descriptors;
 use crate::id::Id;
-use crate::index::Group;
+use crate::index::{Group, same_name};
 use crate::limits::PIPE_LIMIT;
 use crate::messages::Messages;
 use mf_cred::{ArrayVec, Cred, Duplicate, FileView};
-use mf_item::Kind;
+use mf_item::{Kind, ObjectView};
 use mf_names::{Bytes, CONTENT_LIMIT, Name, SCRIPT_LIMIT};
 use mf_slots::Label;
 use std::alloc::AllocError;
@@ -329,10 +330,17 @@ impl Entity {
         self.what.is_entry(dir)
     }
 
+    /// Whether policies see it so, but for its label.
+    pub fn is_seen_so(&self, view: &ObjectView) -> bool
+        ensures { IsTrue result ↔ IsSeenSo self.now view.now }
+    {
+        view.id == self.id.0 && view.kind == self.what.kind() && view.file == self.what.file()
+    }
+
     /// Whether it belongs to the group and has this name.
     pub fn is_member(&self, group: Group, name: &str) -> bool
         ensures { result ≡ (index.is_in group self.now.what && bytes_eq self.now.name name.now) }
     {
-        self.what.is_in(group) && self.name.as_str() == name
+        self.what.is_in(group) && same_name(self.name.as_str(), name)
     }
 }

@@ -1,5 +1,6 @@
 //! The index of names, by which a look-up compares a name or two and not those of all entities.
 ghost use Rattle.std.specs.Prelude.{◌≡◌, ◌==◌, ◌≤◌, ◌<◌, ◌+◌, ◌-◌, take, length, [], ◌∷◌, ◌++◌, not, filter, replicate, IfOk, OnOk, OnErr, slice_index_or};
+ghost use Rattle.std.specs.Str.{bytes_eq};
 ghost use Rattle.mf_objects.specs.declared.index.TheConstants.{BUCKETS, SPREAD};
 ghost use Rattle.mf_objects.specs.Index as index;
 
@@ -10,11 +11,15 @@ use std::marker::Model;
 /// How many buckets there are: as many as entities may live, so that most hold one id at most.
 pub const BUCKETS: u32 = 1024;
 
-/// Hashes are below this prime number, by which a sum of theirs with a byte stays far below what 32 bits hold.
-pub const SPREAD: u32 = 16_777_213;
+/// Hashes are below this power of two, by which a sum of theirs with a byte stays far below what 32 bits hold. A remainder
+/// by it is quick.
+pub const SPREAD: u32 = 16_777_216;
 
 /// What a hash is multiplied by before the next byte is added.
 pub const FACTOR: u32 = 31;
+
+/// The most bytes of a name that are compared one by one.
+const SHORT_NAME: usize = 8;
 
 /// The entities among which a name is looked up: processes, pipes, sockets, or what a directory holds. The root alone is
 /// held by none.
@@ -52,6 +57,23 @@ fn bucket_of(group: Group, name: &str) -> usize
         hash = mixed(hash, *byte);
     }
     (hash % BUCKETS) as usize
+}
+
+/// Whether the two are one name. Most names have a few bytes, which are compared one by one here.
+pub fn same_name(name: &str, other: &str) -> bool
+    ensures { result ≡ bytes_eq name.now other.now }
+{
+    let bytes = name.as_bytes();
+    let others = other.as_bytes();
+    if bytes.len() != others.len() || bytes.len() > SHORT_NAME {
+        return name == other;
+    }
+    for place in 0..bytes.len() {
+        if bytes[place] != others[place] {
+            return false;
+        }
+    }
+    true
 }
 
 /// The hash with one byte more.

@@ -1,5 +1,5 @@
 //! The live entities, and the calls that make and remove them.
-ghost use Rattle.std.specs.Prelude.{◌≡◌, ◌==◌, ◌<◌, ◌≤◌, [], length, IsTrue, IsSome, OnOk, OnErr, IfOk, Some, None, position, find};
+ghost use Rattle.std.specs.Prelude.{◌≡◌, ◌==◌, ◌<◌, ◌≤◌, [], ◌∷◌, length, IsTrue, IsSome, OnOk, OnErr, IfOk, Some, None, position, find};
 ghost use Rattle.mf_names.specs.declared.limits.TheConstants.{CONTENT_LIMIT};
 ghost use Rattle.mf_objects.specs.declared.limits.TheConstants.{ID_LIMIT, MOST_ENTITIES};
 ghost use Rattle.mf_objects.specs.Live as live;
@@ -7,7 +7,7 @@ ghost use Rattle.mf_objects.specs.Lives.{is_directory, IsLive};
 ghost use Rattle.mf_objects.specs.Changes as change;
 ghost use Rattle.mf_objects.specs.Fits.{MayJoin};
 ghost use Rattle.mf_objects.specs.Population.{is_namesake};
-ghost use Rattle.mf_objects.specs.Sound.{IsPlace, IsById};
+ghost use Rattle.mf_objects.specs.Sound.{IsPlace, IsById, root_labelled};
 ghost use Rattle.mf_objects.specs.Index.{bucket_of, with_id};
 ghost use Rattle.mf_slots.specs.Zones.{MakesLabel};
 
@@ -62,26 +62,10 @@ impl Objects {
         ensures { IfOk result (λ objects. objects ≡ change.with_root values.now) }
     {
         let mut zones = Zones::new(alloc)?;
-        let label = zones.make_label(values)?;
-        let root = Entity {
-            id: Id(0),
-            name: Name::from_str(alloc, "")?,
-            label,
-            what: EntityData::Vnode(Vnode {
-                parent: None,
-                file: FileView {
-                    uid: 0,
-                    gid: 0,
-                    mode: ROOT_MODE,
-                    dir: true,
-                },
-                content: Bytes::new(alloc),
-            }),
-        };
         let mut index = NameIndex::new(alloc)?;
-        index.insert(root.what.group(), root.name.as_str(), root.id)?;
-        let mut entities = Vec::new(alloc);
-        entities.push(root)?;
+        let group = Group::Entries(None);
+        let label = enroll(&mut zones, &mut index, values, group, "", Id(0))?;
+        let entities = root_alone(alloc, label)?;
         Ok(Objects {
             next: 1,
             zones,
@@ -254,6 +238,30 @@ impl Objects {
     {
         place_of(&self.entities, id).unwrap()
     }
+}
+
+/// The list of the root directory alone, with this label.
+fn root_alone(alloc: Global, label: Label) -> Result<Vec<Entity>, AllocError>
+    ensures { IfOk result (λ entities. entities.items ≡ root_labelled label ∷ []) }
+{
+    let root = Entity {
+        id: Id(0),
+        name: Name::from_str(alloc, "")?,
+        label,
+        what: EntityData::Vnode(Vnode {
+            parent: None,
+            file: FileView {
+                uid: 0,
+                gid: 0,
+                mode: ROOT_MODE,
+                dir: true,
+            },
+            content: Bytes::new(alloc),
+        }),
+    };
+    let mut entities = Vec::new(alloc);
+    entities.push(root)?;
+    Ok(entities)
 }
 
 /// Makes a label, and puts the id into the index under its name. If memory runs out, nothing changes.

@@ -4,9 +4,10 @@ ghost use Rattle.std.specs.Prelude.{◌≡◌, ◌↔◌, IsTrue, ◌≢◌, ◌
 ghost use Rattle.mf_names.specs.declared.limits.TheConstants.{CONTENT_LIMIT};
 ghost use Rattle.mf_objects.specs.declared.limits.TheConstants.{MOST_ENTITIES};
 ghost use Rattle.mf_elem.specs.declared.label.TheConstants.{SLOTS};
+ghost use Rattle.mf_slots.specs.Zones.{label_values};
 ghost use Rattle.mf_objects.specs.Head.{head_of};
 ghost use Rattle.mf_objects.specs.Live as live;
-ghost use Rattle.mf_objects.specs.Lives.{is_vnode, is_directory, IsLive, is_from, IsLeast, IsFirstLive, value_at, made_count};
+ghost use Rattle.mf_objects.specs.Lives.{is_vnode, is_directory, IsLive, is_from, IsLeast, IsFirstLive, value_at, view_at, made_count};
 ghost use Rattle.mf_objects.specs.Population.{IsPopulation};
 ghost use Rattle.mf_objects.specs.Index as index;
 ghost use Rattle.mf_objects.specs.Sound.{with_values, IsById};
@@ -18,7 +19,8 @@ use crate::id::Id;
 use crate::index::Group;
 use mf_cred::{Cred, FileView};
 use mf_elem::{LabelValue, SLOTS};
-use mf_item::Kind;
+use mf_item::{Kind, ObjectView};
+use mf_slots::{Label, Zones};
 
 impl Objects {
     /// How many entities live. The clause `population` is the invariant of the live entities.
@@ -186,7 +188,17 @@ impl Objects {
         ensures { IsTrue result ↔ (label.now ≡ live.label_at self.now id) }
     {
         let place = self.place(id);
-        self.zones.holds(&self.entities[place].label, label)
+        has_values(&self.zones, &self.entities[place].label, label)
+    }
+
+    /// Whether policies see the entity so. Nothing is copied.
+    pub fn has_view(&self, id: Id, view: &ObjectView) -> bool
+        requires { IsSome (live.live_at self.now id) }
+        ensures { IsTrue result ↔ (view.now ≡ view_at self.now id) }
+    {
+        let place = self.place(id);
+        let entity = &self.entities[place];
+        entity.is_seen_so(view) && has_values(&self.zones, &entity.label, &view.label)
     }
 
     /// What a slot of the entity's label holds.
@@ -229,6 +241,13 @@ impl Objects {
         let place = self.place(id);
         &self.entities[place]
     }
+}
+
+/// Whether the zones have these values for the label.
+fn has_values(zones: &Zones, label: &Label, values: &[LabelValue; SLOTS]) -> bool
+    ensures { IsTrue result ↔ (values.now ≡ label_values zones.now label.now) }
+{
+    zones.holds(label, values)
 }
 
 /// The first id of at least `n` among entities that stand by rising id.
