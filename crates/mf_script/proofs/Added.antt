@@ -1,6 +1,6 @@
 -- Items that the parts of a word add, one after another.
 use Rattle.mf_labeltext.specs.Reading.{parts}
-use Rattle.std.proofs.Common.{◌≡◌, ℕ, List, [], ◌∷◌, Option, Ok, Err, ap, sym, ◌∙◌}
+use Rattle.std.proofs.Common.{◌≡◌, ℕ, List, [], ◌∷◌, Option, Result, Ok, Err, ap, sym, ◌∙◌}
 use Rattle.std.proofs.Common.{Bor, ◌<◌}
 use Rattle.std.proofs.lemmas.Str.Pattern.{IsSplitOnceResult}
 use Rattle.std.specs.Prelude.{MatchOption}
@@ -8,7 +8,7 @@ use Rattle.mf_names.proofs.Splits.{first_part}
 use Rattle.mf_script.specs.declared.refusal.Refusal.{Refusal}
 use Rattle.mf_script.specs.declared.refusal.Refusal.TheVariants.{Faulty, Memory}
 use Rattle.mf_script.specs.Readers.{Read, and_then}
-use Rattle.mf_script.specs.Gives.{Fails}
+use Rattle.mf_script.specs.Gives.{Fails, Gives}
 use Rattle.mf_script.specs.Parts.{all_added}
 
 -- what is read from a text on, by what it reads as
@@ -28,10 +28,12 @@ pub part_adds : {A : Type 0} (add : List A → List ℕ → Read (List A)) (item
 unfolding and_then
 part_adds add items all w ws more first is so_far h = sym (from_part add items all w ws (Ok more) is h) ∙ so_far
 
-pub parts_end : {A : Type 0} (add : List A → List ℕ → Read (List A)) (items : List A) (all : List (List ℕ)) (w : List ℕ) (more : List A) (first : Read (List A))
-    → all ≡ w ∷ [] → all_added add items all ≡ first → add items w ≡ Ok more → first ≡ Ok more
+-- the last part is read as the whole is
+pub last_part : {A : Type 0} (add : List A → List ℕ → Read (List A)) (items : List A) (all : List (List ℕ)) (w : List ℕ) (first : Read (List A)) (more : List A) (result : Result (Unit {0}) Refusal)
+    → all ≡ w ∷ [] → all_added add items all ≡ first → Gives (λ u. more) result (add items w) → Gives (λ u. more) result first
 unfolding all_added
-parts_end add items all w more first is so_far h = sym (part_adds add items all w [] more first is so_far h)
+last_part add items all w first more (Ok u) is so_far h = sym (part_adds add items all w [] more first is so_far h)
+last_part add items all w first more (Err e) is so_far h = part_fails add items all w [] e first is so_far h
 
 -- Splitting at a separator
 

@@ -1,5 +1,5 @@
 -- The calls of a task's lines, as the tables of calls in docs/MANUAL.md have them: their names, and the arguments of each.
-use Rattle.std.specs.Prelude.{ℕ, List, [], ◌∷◌, ◌++◌, Ok, codes}
+use Rattle.std.specs.Prelude.{ℕ, Bool, if◌then◌else◌, List, [], ◌∷◌, ◌++◌, length, Ok, codes}
 use Rattle.mf_words.specs.Words.{Words}
 use Rattle.mf_calls.specs.declared.script.Call.{Call}
 use Rattle.mf_calls.specs.declared.script.Call.TheVariants as call
@@ -40,6 +40,11 @@ Table = List (List ℕ × Arguments)
 -- the call of that name in a table, with the arguments that come next, and the words after them
 unfoldable pub call_in : Table → List ℕ → Arguments
 call_in table name ws = one_of table name (λ arguments. arguments ws)
+
+-- the rows of a table whose names have a length of that kind
+abbrev pub with_length : (ℕ → Bool) → Table → Table
+with_length fits [] = []
+with_length fits (row ∷ table) = if fits (length row.0) then row ∷ with_length fits table else with_length fits table
 
 -- What ugidfw(8) does is said by the word behind it.
 

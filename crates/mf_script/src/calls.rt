@@ -1,11 +1,11 @@
 //! The calls of a task's lines.
 #![tactic(auto, unfolding(crate::specs::Readers::and_then))]
 
-ghost use Rattle.std.specs.Prelude.{◌≡◌, ◌++◌, if◌then◌else◌};
+ghost use Rattle.std.specs.Prelude.{◌≡◌, ◌==◌, nat_lt, if◌then◌else◌};
 ghost use Rattle.mf_script.specs.Gives.{Gives};
 ghost use Rattle.mf_calls.specs.declared.script.Call.TheVariants as call;
 ghost use Rattle.mf_script.specs.Parts.{any_word, simple_name_of, path_of, mode_of, open_mode_of, descriptor_of, text_of, sides_of, protocol_of, port_of};
-ghost use Rattle.mf_script.specs.Calls.{call_in, call_named, call_words, calls, file_calls, descriptor_calls, channel_calls, module_calls, setting_calls, add_rule, set_rule, ugidfw_calls, ugidfw, one, two, three};
+ghost use Rattle.mf_script.specs.Calls.{call_in, call_named, call_words, calls, with_length, add_rule, set_rule, ugidfw_calls, ugidfw, one, two, three};
 
 use crate::error::ScriptFault;
 use crate::refusal::{Refusal, faulty};
@@ -133,7 +133,7 @@ fn ugidfw_call(alloc: Global, name: &str, words: &mut Words) -> Result<Call, Ref
         "list" => Ok(Call::UgidfwList),
         "add" => add_rule(alloc, words),
         "set" => set_rule(alloc, words),
-        "remove" => Ok(Call::UgidfwRemove(parts::rule_number(words)?)),
+        "remove" => parts::rule_number(words).map(Call::UgidfwRemove),
         _ => Err(faulty(ScriptFault::UnknownWord)),
     }
 }
@@ -148,110 +148,100 @@ fn ugidfw(alloc: Global, words: &mut Words) -> Result<Call, Refusal>
     }
 }
 
-/// The call of that name with the arguments that come next.
+/// The call of that name with the arguments that come next, where the name has four letters at most.
 #[tactic(auto, unfolding(crate::specs::Calls::call_in, crate::specs::Readers::and_then))]
-fn call(alloc: Global, name: &str, words: &mut Words) -> Result<Call, Refusal>
-    ensures { Gives (λ c. (c, words.new)) result (call_in calls name.now words.old) }
-{
-    match name {
-        "fork" => Ok(Call::Fork(names::name(alloc, words)?)),
-        "exit" => Ok(Call::Exit),
-        "see" => Ok(Call::See(names::process(alloc, words)?)),
-        "signal" => Ok(Call::Signal(names::process(alloc, words)?)),
-        "debug" => Ok(Call::Debug(names::process(alloc, words)?)),
-        "sched" => Ok(Call::Sched(names::process(alloc, words)?)),
-        "priv" => Ok(Call::Priv(parts::privilege(words)?)),
-        "getpmac" => Ok(Call::Getpmac),
-        "setpmac" => Ok(Call::Setpmac(parts::word(alloc, words)?)),
-        _ => file_call(alloc, name, words),
-    }
-}
-
-/// The same of a call that isn't about a process.
-#[tactic(auto, unfolding(crate::specs::Calls::call_in, crate::specs::Readers::and_then))]
-fn file_call(alloc: Global, name: &str, words: &mut Words) -> Result<Call, Refusal>
+fn short_call(alloc: Global, name: &str, words: &mut Words) -> Result<Call, Refusal>
     ensures { Gives (λ c. (c, words.new)) result
-        (call_in
-        (file_calls ++ descriptor_calls ++ channel_calls ++ module_calls ++ setting_calls)
-        name.now words.old) }
+        (call_in (with_length (λ n. nat_lt n 5) calls) name.now words.old) }
 {
     match name {
-        "exec" => Ok(Call::Exec(names::path(alloc, words)?)),
-        "create" => Ok(Call::Create(names::path(alloc, words)?)),
-        "mkdir" => Ok(Call::Mkdir(names::path(alloc, words)?)),
-        "read" => Ok(Call::Read(names::path(alloc, words)?)),
-        "write" => write(alloc, words),
-        "stat" => Ok(Call::Stat(names::path(alloc, words)?)),
-        "getfmac" => Ok(Call::Getfmac(names::path(alloc, words)?)),
-        "setfmac" => setfmac(alloc, words),
-        "readdir" => Ok(Call::Readdir(names::path(alloc, words)?)),
-        "chmod" => chmod(alloc, words),
-        "unlink" => Ok(Call::Unlink(names::path(alloc, words)?)),
-        _ => descriptor_call(alloc, name, words),
-    }
-}
-
-/// The same of a call that is about descriptors, or about no file.
-#[tactic(auto, unfolding(crate::specs::Calls::call_in, crate::specs::Readers::and_then))]
-fn descriptor_call(alloc: Global, name: &str, words: &mut Words) -> Result<Call, Refusal>
-    ensures { Gives (λ c. (c, words.new)) result
-        (call_in (descriptor_calls ++ channel_calls ++ module_calls ++ setting_calls)
-        name.now words.old) }
-{
-    match name {
+        "read" => names::path(alloc, words).map(Call::Read),
+        "stat" => names::path(alloc, words).map(Call::Stat),
+        "exec" => names::path(alloc, words).map(Call::Exec),
         "open" => open(alloc, words),
-        "fread" => Ok(Call::Fread(parts::descriptor(words)?)),
-        "fwrite" => fwrite(alloc, words),
-        "close" => Ok(Call::Close(parts::descriptor(words)?)),
-        _ => channel_call(alloc, name, words),
-    }
-}
-
-/// The same of a call that is about no file.
-#[tactic(auto, unfolding(crate::specs::Calls::call_in, crate::specs::Readers::and_then))]
-fn channel_call(alloc: Global, name: &str, words: &mut Words) -> Result<Call, Refusal>
-    ensures { Gives (λ c. (c, words.new)) result
-        (call_in (channel_calls ++ module_calls ++ setting_calls) name.now words.old) }
-{
-    match name {
-        "pipe" => Ok(Call::Pipe(names::name(alloc, words)?)),
-        "socket" => Ok(Call::Socket(names::name(alloc, words)?)),
-        "pread" => Ok(Call::Pread(names::name(alloc, words)?)),
-        "pwrite" => pwrite(alloc, words),
-        "pstat" => Ok(Call::Pstat(names::name(alloc, words)?)),
-        "setpipemac" => relabel(alloc, false, words),
+        "see" => names::process(alloc, words).map(Call::See),
+        "fork" => names::name(alloc, words).map(Call::Fork),
+        "exit" => Ok(Call::Exit),
+        "priv" => parts::privilege(words).map(Call::Priv),
+        "pipe" => names::name(alloc, words).map(Call::Pipe),
         "send" => send(alloc, words),
-        "recv" => Ok(Call::Recv(names::name(alloc, words)?)),
-        "seesock" => Ok(Call::Seesock(names::name(alloc, words)?)),
-        "setsockmac" => relabel(alloc, true, words),
+        "recv" => names::name(alloc, words).map(Call::Recv),
         "bind" => bind(alloc, words),
-        _ => module_call(alloc, name, words),
+        _ => Err(faulty(ScriptFault::UnknownWord)),
     }
 }
 
-/// The same of a call that is about the modules.
+/// The same where the name has five letters.
 #[tactic(auto, unfolding(crate::specs::Calls::call_in, crate::specs::Readers::and_then))]
-fn module_call(alloc: Global, name: &str, words: &mut Words) -> Result<Call, Refusal>
+fn five_letter_call(alloc: Global, name: &str, words: &mut Words) -> Result<Call, Refusal>
     ensures { Gives (λ c. (c, words.new)) result
-        (call_in (module_calls ++ setting_calls) name.now words.old) }
+        (call_in (with_length (λ n. n == 5) calls) name.now words.old) }
 {
     match name {
-        "kldstat" => Ok(Call::Kldstat),
-        "kldload" => Ok(Call::Kldload(parts::word(alloc, words)?)),
-        "kldunload" => Ok(Call::Kldunload(parts::word(alloc, words)?)),
-        _ => setting_call(alloc, name, words),
+        "write" => write(alloc, words),
+        "mkdir" => names::path(alloc, words).map(Call::Mkdir),
+        "chmod" => chmod(alloc, words),
+        "fread" => parts::descriptor(words).map(Call::Fread),
+        "close" => parts::descriptor(words).map(Call::Close),
+        "debug" => names::process(alloc, words).map(Call::Debug),
+        "sched" => names::process(alloc, words).map(Call::Sched),
+        "pread" => names::name(alloc, words).map(Call::Pread),
+        "pstat" => names::name(alloc, words).map(Call::Pstat),
+        _ => Err(faulty(ScriptFault::UnknownWord)),
     }
 }
 
-/// The same of a call that is about the settings of a policy.
+/// The same where it has six.
 #[tactic(auto, unfolding(crate::specs::Calls::call_in, crate::specs::Readers::and_then))]
-fn setting_call(alloc: Global, name: &str, words: &mut Words) -> Result<Call, Refusal>
-    ensures { Gives (λ c. (c, words.new)) result (call_in setting_calls name.now words.old) }
+fn six_letter_call(alloc: Global, name: &str, words: &mut Words) -> Result<Call, Refusal>
+    ensures { Gives (λ c. (c, words.new)) result
+        (call_in (with_length (λ n. n == 6) calls) name.now words.old) }
 {
     match name {
+        "create" => names::path(alloc, words).map(Call::Create),
+        "unlink" => names::path(alloc, words).map(Call::Unlink),
+        "fwrite" => fwrite(alloc, words),
+        "signal" => names::process(alloc, words).map(Call::Signal),
+        "socket" => names::name(alloc, words).map(Call::Socket),
+        "pwrite" => pwrite(alloc, words),
         "sysctl" => sysctl(alloc, words),
         "ugidfw" => ugidfw(alloc, words),
         _ => Err(faulty(ScriptFault::UnknownWord)),
+    }
+}
+
+/// The same where it has more.
+#[tactic(auto, unfolding(crate::specs::Calls::call_in, crate::specs::Readers::and_then))]
+fn long_call(alloc: Global, name: &str, words: &mut Words) -> Result<Call, Refusal>
+    ensures { Gives (λ c. (c, words.new)) result
+        (call_in (with_length (λ n. nat_lt 6 n) calls) name.now words.old) }
+{
+    match name {
+        "readdir" => names::path(alloc, words).map(Call::Readdir),
+        "getfmac" => names::path(alloc, words).map(Call::Getfmac),
+        "setfmac" => setfmac(alloc, words),
+        "getpmac" => Ok(Call::Getpmac),
+        "setpmac" => parts::word(alloc, words).map(Call::Setpmac),
+        "setpipemac" => relabel(alloc, false, words),
+        "seesock" => names::name(alloc, words).map(Call::Seesock),
+        "setsockmac" => relabel(alloc, true, words),
+        "kldstat" => Ok(Call::Kldstat),
+        "kldload" => parts::word(alloc, words).map(Call::Kldload),
+        "kldunload" => parts::word(alloc, words).map(Call::Kldunload),
+        _ => Err(faulty(ScriptFault::UnknownWord)),
+    }
+}
+
+/// The call of that name with the arguments that come next. It is compared with the names of its length alone, those of
+/// files first, since they are the most.
+fn call(alloc: Global, name: &str, words: &mut Words) -> Result<Call, Refusal>
+    ensures { Gives (λ c. (c, words.new)) result (call_in calls name.now words.old) }
+{
+    match name.len() {
+        0..=4 => short_call(alloc, name, words),
+        5 => five_letter_call(alloc, name, words),
+        6 => six_letter_call(alloc, name, words),
+        _ => long_call(alloc, name, words),
     }
 }
 

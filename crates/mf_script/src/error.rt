@@ -8,7 +8,7 @@ use std::alloc::AllocError;
 use thiserror::Error;
 
 /// The faults of a script.
-#[derive(Clone, Copy, Debug, PartialEq, Eq)]
+#[derive(Clone, Copy, Debug)]
 pub enum ScriptFault {
     /// A byte that may not stand in a script.
     NotText,
@@ -83,7 +83,7 @@ impl ScriptFault {
 }
 
 /// Why bytes are not read as a script.
-#[derive(Clone, Copy, Debug, PartialEq, Eq, Error)]
+#[derive(Clone, Copy, Debug, Error)]
 pub enum ScriptError {
     /// The first faulty line, counted from 1, and its first fault, with an errno where a module can't be booted or a tunable
     /// can't be set.

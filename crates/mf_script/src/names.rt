@@ -2,9 +2,11 @@
 #![tactic(auto, unfolding(crate::specs::Readers::and_then))]
 
 ghost use Rattle.std.specs.Prelude.{◌≡◌, ◌≢◌, ◌<◌, ◌≤◌, ◌∷◌, MatchOption, List, ℕ};
+ghost use Rattle.mf_labeltext.specs.Bytes.{slash};
+ghost use Rattle.mf_labeltext.specs.Reading.{parts};
 ghost use Rattle.mf_calls.specs.Names.{is_process_name};
 ghost use Rattle.mf_script.specs.Gives.{Gives};
-ghost use Rattle.mf_script.specs.Parts.{word_by, simple_name_of, process_of, with_component, components_of, behind_root, path_of};
+ghost use Rattle.mf_script.specs.Parts.{word_by, simple_name_of, process_of, all_added, with_component, components_of, behind_root, path_of};
 
 use crate::Words;
 use crate::error::ScriptFault;
@@ -29,9 +31,10 @@ pub fn name_of(alloc: Global, word: &str) -> Result<Name, Refusal>
 pub fn name(alloc: Global, words: &mut Words) -> Result<Name, Refusal>
     ensures { Gives (λ n. (n, words.new)) result (word_by simple_name_of words.old) }
 {
-    let word = words.next().ok_or(faulty(ScriptFault::Missing))?;
-    let name = name_of(alloc, word)?;
-    Ok(name)
+    match words.next() {
+        None => Err(faulty(ScriptFault::Missing)),
+        Some(word) => name_of(alloc, word),
+    }
 }
 
 /// The text after the first character, where that is `first`.
@@ -70,9 +73,10 @@ fn process_of(alloc: Global, word: &str) -> Result<Name, Refusal>
 pub fn process(alloc: Global, words: &mut Words) -> Result<Name, Refusal>
     ensures { Gives (λ n. (n, words.new)) result (word_by process_of words.old) }
 {
-    let word = words.next().ok_or(faulty(ScriptFault::Missing))?;
-    let process = process_of(alloc, word)?;
-    Ok(process)
+    match words.next() {
+        None => Err(faulty(ScriptFault::Missing)),
+        Some(word) => process_of(alloc, word),
+    }
 }
 
 #[tactic(auto, unfolding(crate::specs::Parts::with_component, crate::specs::Readers::and_then))]
@@ -86,23 +90,29 @@ fn add_component(path: &mut Path, word: &str) -> Result<(), Refusal>
     Ok(())
 }
 
+/// Adds the components of the word.
+fn add_components(path: &mut Path, word: &str) -> Result<(), Refusal>
+    ensures { Gives (λ u. path.new) result
+        (all_added with_component path.old (parts slash word.now)) }
+{
+    let mut rest = word;
+    while let Some((component, after)) = split_at(rest, '/') {
+        match add_component(path, component) {
+            Err(error) => return Err(error),
+            Ok(()) => rest = after,
+        }
+    }
+    add_component(path, rest)
+}
+
 #[tactic(auto, unfolding(crate::specs::Parts::components_of))]
 fn components_of(alloc: Global, word: &str) -> Result<Path, Refusal>
     ensures { Gives (λ path. path) result (components_of word.now) }
 {
     // Room for just these: what is read is kept to the end of a run.
     let mut path = Path::with_room(alloc, word.len() + 1)?;
-    let mut rest = word;
-    while let Some((component, after)) = split_at(rest, '/') {
-        match add_component(&mut path, component) {
-            Err(error) => return Err(error),
-            Ok(()) => rest = after,
-        }
-    }
-    match add_component(&mut path, rest) {
-        Err(error) => Err(error),
-        Ok(()) => Ok(path),
-    }
+    add_components(&mut path, word)?;
+    Ok(path)
 }
 
 /// The path whose text after its first slash this is.
@@ -134,7 +144,8 @@ fn path_of(alloc: Global, word: &str) -> Result<Path, Refusal>
 pub fn path(alloc: Global, words: &mut Words) -> Result<Path, Refusal>
     ensures { Gives (λ p. (p, words.new)) result (word_by path_of words.old) }
 {
-    let word = words.next().ok_or(faulty(ScriptFault::Missing))?;
-    let path = path_of(alloc, word)?;
-    Ok(path)
+    match words.next() {
+        None => Err(faulty(ScriptFault::Missing)),
+        Some(word) => path_of(alloc, word),
+    }
 }

@@ -34,11 +34,10 @@ pub fn read_script(alloc: Global, bytes: &[u8]) -> Result<Script, ScriptError>
     let mut number = 1;
     let mut lines = Lines::of(bytes);
     while let Some(line) = lines.next() {
-        match take_line(alloc, &mut script, place, line) {
-            Ok(next) => place = next,
+        match take_line(alloc, &mut script, &mut place, line) {
+            Ok(()) => number += 1,
             Err(refusal) => return Err(at_line(number, refusal)),
         }
-        number += 1;
     }
     ended(script, place, number)
 }
@@ -71,16 +70,17 @@ fn ended(script: Script, place: Place, number: u32) -> Result<Script, ScriptErro
     }
 }
 
-/// Takes a line at this place. The result is the place of the next line.
+/// Takes a line at this place, and goes on to the place of the next line.
 #[tactic(auto, unfolding(crate::specs::Grammar::line_read, crate::specs::Readers::and_then))]
 fn take_line(
     alloc: Global,
     script: &mut Script,
-    place: Place,
+    place: &mut Place,
     line: &[u8],
-) -> Result<Place, Refusal>
+) -> Result<(), Refusal>
     requires { length line.now ≤ SCRIPT_LIMIT }
-    ensures { Gives (λ p. (script.new, p)) result (line_read script.old place line.now) }
+    ensures { Gives (λ u. (script.new, place.new)) result
+        (line_read script.old place.old line.now) }
 {
     if !are_plain(line) {
         return Err(faulty(ScriptFault::NotText));

@@ -1,18 +1,24 @@
 //! Which line may stand where, and what it adds to the script.
 #![tactic(auto, unfolding(crate::specs::Readers::and_then))]
 
-ghost use Rattle.std.specs.Prelude.{◌≡◌, ◌++◌, ◌∷◌, []};
+ghost use Rattle.std.specs.Prelude.{◌≡◌, ◌++◌, ◌∷◌, [], ℕ, List, Ok, length, nat_lt};
+ghost use Rattle.mf_calls.specs.declared.limits.TheConstants.{LINE_LIMIT};
+ghost use Rattle.mf_calls.specs.declared.script.Script.{Script};
+ghost use Rattle.mf_calls.specs.declared.script.Task.{Task};
+ghost use Rattle.mf_script.specs.declared.error.ScriptFault.TheVariants.{TooMany};
+ghost use Rattle.mf_script.specs.Readers.{Read, and_then, unless};
 ghost use Rattle.mf_script.specs.Gives.{Gives};
-ghost use Rattle.mf_script.specs.declared.rows.Place.TheVariants as place;
-ghost use Rattle.mf_script.specs.Grammar.{booted_after, boot_in, tunable_in, file_in, task_in, line_in, step_in, nothing_behind, behind_tasks, behind_files, behind_tunable, behind_boots, in_task, in_steps, row_in, words_line};
+ghost use Rattle.mf_script.specs.declared.rows.Place.TheVariants as places;
+ghost use Rattle.mf_script.specs.Grammar.{Reading, booted_after, boot_in, tunable_in, file_in, task_in, line_in, step_in, nothing_behind, behind_tasks, behind_files, behind_tunable, behind_boots, in_steps, row_in, with_list, words_line};
 
 use crate::error::ScriptFault;
 use crate::refusal::{Refusal, faulty};
 use crate::{Words, judging, lines, parts};
-use mf_calls::{LINE_LIMIT, STEP_LIMIT, Script, Task};
+use mf_calls::{LINE_LIMIT, Line, Listing, STEP_LIMIT, Script, Task};
 use mf_errno::Module;
 use mf_words::is_comment;
 use std::alloc::Global;
+use std::mem;
 
 /// Where the next line stands. Among tasks it is known how many of their lines list the rules.
 #[derive(Drop)]
@@ -96,26 +102,49 @@ fn task_row(
     Ok(Place::Task(task, lists))
 }
 
+/// How many lines list the rules, with this line, where the task has room for it.
+fn lists_with(task: &Task, line: &Line, lists: usize) -> Result<usize, Refusal>
+    ensures { Gives (λ n. n) result
+        (and_then (unless TooMany (nat_lt (length task.now.lines) LINE_LIMIT))
+        (λ u. with_list line.now.call lists)) }
+{
+    if task.lines.len() >= LINE_LIMIT {
+        return Err(faulty(ScriptFault::TooMany));
+    }
+    judging::with_list(&line.call, lists)
+}
+
+/// Adds the item and sets the count, where the count isn't refused. A caller that hands its item on here owns none over a refusal.
+fn push_counted<T: Drop>(
+    list: &mut Listing<T>,
+    item: T,
+    count: &mut usize,
+    counted: Result<usize, Refusal>,
+) -> Result<(), Refusal>
+    ensures { (read : Read ℕ) → Gives (λ n. n) counted read →
+        Gives {Y = List T × ℕ} (λ u. (list.new, count.new)) result
+        (and_then read (λ n. Ok (list.old ++ item ∷ [], n))) }
+{
+    *count = counted?;
+    list.push(item)?;
+    Ok(())
+}
+
 /// Takes a line of the task, by its first word.
 #[tactic(auto, unfolding(crate::specs::Grammar::line_in, crate::specs::Readers::and_then))]
 fn line_row(
     alloc: Global,
-    script: &Script,
-    mut task: Task,
-    lists: usize,
+    task: &mut Task,
+    lists: &mut usize,
     first: &str,
     words: &mut Words,
-) -> Result<Place, Refusal>
-    ensures { Gives (λ p. (script.now, p)) result
-        (line_in script.now task lists first.now words.old) }
+) -> Result<(), Refusal>
+    ensures { (s : Script) → Gives (λ u. (s, places.Task task.new lists.new)) result
+        (line_in s task.old lists.old first.now words.old) }
 {
     let line = lines::line_words(alloc, first, words)?;
-    if task.lines.len() >= LINE_LIMIT {
-        return Err(faulty(ScriptFault::TooMany));
-    }
-    let lists = judging::with_list(&line.call, lists)?;
-    task.lines.push(line)?;
-    Ok(Place::Task(task, lists))
+    let counted = lists_with(task, &line, *lists);
+    push_counted(&mut task.lines, line, lists, counted)
 }
 
 /// Takes a step, by its first word.
@@ -136,21 +165,29 @@ fn step_row(
     Ok(Place::Steps)
 }
 
-/// Ends the task.
+/// Puts the task at this place behind those of the script.
+fn close_task(script: &mut Script, place: &mut Place) -> Result<(), Refusal>
+    ensures { (t : Task) (lists : ℕ) → place.old ≡ places.Task t lists →
+        Gives {Y = Reading} (λ u. (script.new, place.new)) result
+        (Ok (record (script.old) { tasks = script.old.tasks ++ t ∷ [] }, places.Tasks lists)) }
+{
+    if let Place::Task(task, lists) = mem::replace(place, Place::End) {
+        script.tasks.push(task)?;
+        *place = Place::Tasks(lists);
+    }
+    Ok(())
+}
+
+/// Ends the task at this place.
 #[tactic(auto, unfolding(crate::specs::Grammar::nothing_behind, crate::specs::Readers::and_then))]
-fn end_row(
-    script: &mut Script,
-    task: Task,
-    lists: usize,
-    words: &mut Words,
-) -> Result<Place, Refusal>
-    ensures { Gives (λ p. (script.new, p)) result
+fn end_row(script: &mut Script, place: &mut Place, words: &mut Words) -> Result<(), Refusal>
+    ensures { (t : Task) (lists : ℕ) → place.old ≡ places.Task t lists →
+        Gives {Y = Reading} (λ u. (script.new, place.new)) result
         (nothing_behind
-        (record (script.old) { tasks = script.old.tasks ++ task ∷ [] }, place.Tasks lists) words.old) }
+        (record (script.old) { tasks = script.old.tasks ++ t ∷ [] }, places.Tasks lists) words.old) }
 {
     parts::no_more(words)?;
-    script.tasks.push(task)?;
-    Ok(Place::Tasks(lists))
+    close_task(script, place)
 }
 
 /// Takes a line of one word, behind which the next stands at this place.
@@ -233,26 +270,6 @@ fn behind_boots(
     }
 }
 
-/// Takes a line inside a task.
-#[tactic(auto, unfolding(crate::specs::Grammar::in_task))]
-fn in_task(
-    alloc: Global,
-    script: &mut Script,
-    task: Task,
-    lists: usize,
-    first: &str,
-    words: &mut Words,
-) -> Result<Place, Refusal>
-    ensures { Gives (λ p. (script.new, p)) result
-        (in_task script.old task lists first.now words.old) }
-{
-    if first == "end" {
-        end_row(script, task, lists, words)
-    } else {
-        line_row(alloc, script, task, lists, first, words)
-    }
-}
-
 /// Takes a line inside the steps.
 #[tactic(auto, unfolding(crate::specs::Grammar::in_steps))]
 fn in_steps(
@@ -270,24 +287,43 @@ fn in_steps(
     }
 }
 
-/// Takes a line at this place, by its first word. The result is the place of the next line.
-#[tactic(auto, unfolding(crate::specs::Grammar::row_in))]
+/// Goes on to the next place, where there is one.
+fn go_to<T: Drop>(place: &mut T, next: Result<T, Refusal>) -> Result<(), Refusal>
+    ensures { (s : Script) (read : Read (Script × T)) → Gives (λ p. (s, p)) next read →
+        Gives (λ u. (s, place.new)) result read }
+{
+    *place = next?;
+    Ok(())
+}
+
+/// Takes a line at this place, by its first word, and goes on to the place of the next line.
+#[tactic(auto, unfolding(crate::specs::Grammar::row_in, crate::specs::Grammar::in_task))]
 fn row(
     alloc: Global,
     script: &mut Script,
-    place: Place,
+    place: &mut Place,
     first: &str,
     words: &mut Words,
-) -> Result<Place, Refusal>
-    ensures { Gives (λ p. (script.new, p)) result (row_in script.old place first.now words.old) }
+) -> Result<(), Refusal>
+    ensures { Gives (λ u. (script.new, place.new)) result
+        (row_in script.old place.old first.now words.old) }
 {
     match place {
-        Place::Boots => behind_boots(alloc, script, first, words),
-        Place::Tunable => behind_tunable(alloc, script, true, first, words),
-        Place::Files => behind_files(alloc, script, first, words),
-        Place::Tasks(lists) => behind_tasks(alloc, script, lists, first, words),
-        Place::Task(task, lists) => in_task(alloc, script, task, lists, first, words),
-        Place::Steps => in_steps(alloc, script, first, words),
+        Place::Boots => go_to(place, behind_boots(alloc, script, first, words)),
+        Place::Tunable => go_to(place, behind_tunable(alloc, script, true, first, words)),
+        Place::Files => go_to(place, behind_files(alloc, script, first, words)),
+        Place::Tasks(lists) => {
+            let next = behind_tasks(alloc, script, *lists, first, words);
+            go_to(place, next)
+        }
+        Place::Task(task, lists) => {
+            if first == "end" {
+                end_row(script, place, words)
+            } else {
+                line_row(alloc, task, lists, first, words)
+            }
+        }
+        Place::Steps => go_to(place, in_steps(alloc, script, first, words)),
         Place::End => Err(faulty(ScriptFault::UnknownWord)),
     }
 }
@@ -297,16 +333,17 @@ fn row(
 pub fn words_line(
     alloc: Global,
     script: &mut Script,
-    place: Place,
+    place: &mut Place,
     words: &mut Words,
-) -> Result<Place, Refusal>
-    ensures { Gives (λ p. (script.new, p)) result (words_line script.old place words.old) }
+) -> Result<(), Refusal>
+    ensures { Gives (λ u. (script.new, place.new)) result
+        (words_line script.old place.old words.old) }
 {
     match words.next() {
-        None => Ok(place),
+        None => Ok(()),
         Some(first) => {
             if is_comment(first) {
-                Ok(place)
+                Ok(())
             } else {
                 row(alloc, script, place, first, words)
             }

@@ -17,9 +17,9 @@ returns-in-Err-clause-exact c =
 
 pub loop-line-preserved : goal.loop-line-preserved
 loop-line-preserved c = record {
-  so_far = goes_on c.loop-line.script c.loop-line.place c.loop-line.number c.loop-line.lines c.in-Some.line.now _ c.take_line.new.script c.in-Ok.next _
+  so_far = goes_on c.loop-line.script c.loop-line.place c.loop-line.number c.loop-line.lines c.in-Some.line.now _ c.take_line.new.script c.take_line.new.place _
       c.in-Some.ensures.lines c.in-Ok.ensures c.loop-line.invariant.so_far;
-  formed = line_kept c.loop-line.script c.loop-line.place c.in-Some.line.now c.take_line.new.script c.in-Ok.next c.in-Some.ensures.most c.loop-line.invariant.formed c.in-Ok.ensures;
+  formed = line_kept c.loop-line.script c.loop-line.place c.in-Some.line.now c.take_line.new.script c.take_line.new.place c.in-Some.ensures.most c.loop-line.invariant.formed c.in-Ok.ensures;
   number = omega (arith, c.loop-line.invariant.number, ap (λ (ls : List (List ℕ)). length ls) c.in-Some.ensures.lines);
 }
 

@@ -1,14 +1,14 @@
 use Rattle.mf_labeltext.specs.Bytes.{slash}
 use Rattle.mf_labeltext.specs.Reading.{parts}
-use Rattle.std.proofs.Common.{◌≡◌, length, []}
+use Rattle.std.proofs.Common.{◌≡◌, length}
 use denote.Shadow.{shadow}
 use denote.Text.{Utf8}
 use Rattle.mf_script.specs.Parts.{with_component, all_added}
-use Rattle.mf_script.proofs.names.components_of.Given as goal
+use Rattle.mf_script.proofs.names.add_components.Given as goal
 
 abbrev pub invariant-loop-component : goal.invariant-loop-component
 invariant-loop-component l = record {
-  so_far : all_added with_component l.path (parts slash l.rest) ≡ all_added with_component [] (parts slash l.word);
+  so_far : all_added with_component l.path (parts slash l.rest) ≡ all_added with_component l.fn.path (parts slash l.word);
   text : shadow (Utf8 l.rest);
 }
 
