@@ -88,8 +88,8 @@ reached row checks (Err e) done = cc
 -- What it asks of a label
 
 -- what an effect asks
-abbrev pub asked_of : Effect → Option Request
-asked_of effect = option_map (λ asked. asked.1) (relabelled_by effect)
+abbrev pub asked_in_effect : Effect → Option Request
+asked_in_effect effect = option_map (λ asked. asked.1) (relabelled_by effect)
 
 -- the row of a call by who makes it, if somebody does
 abbrev pub row_by : State → List ℕ → Call → Option Id → Row
@@ -104,21 +104,21 @@ none_done : (tail : Tail) → None ≡ where_done tail None
 none_done Do = refl
 none_done (Refuse e) = refl
 
-nothing_asked : {A : Type 0} (row : A → Row) → ((a : A) → asked_of (row a).effect ≡ None) → (way : Way A) → asked_of (through way row).effect ≡ where_done (through way row).tail None
+nothing_asked : {A : Type 0} (row : A → Row) → ((a : A) → asked_in_effect (row a).effect ≡ None) → (way : Way A) → asked_in_effect (through way row).effect ≡ where_done (through way row).tail None
 nothing_asked {A = A} row none way = by_there way.there ∙ none_done (through way row).tail
   where
-    by_there : (there : Result A Errno) → asked_of (if_there (λ found. (row found).effect) (λ e. Unchanged) there) ≡ None
+    by_there : (there : Result A Errno) → asked_in_effect (if_there (λ found. (row found).effect) (λ e. Unchanged) there) ≡ None
     by_there (Ok a) = none a
     by_there (Err e) = refl
 
 relabel_asks : (claim : Option Request) (way : Way Id) (check : Id → Check)
-    → asked_of (through (then_way (ok_or claim errno.Einval) (λ r. carrying r way)) (relabel_by check)).effect
+    → asked_in_effect (through (then_way (ok_or claim errno.Einval) (λ r. carrying r way)) (relabel_by check)).effect
     ≡ where_done (through (then_way (ok_or claim errno.Einval) (λ r. carrying r way)) (relabel_by check)).tail claim
 relabel_asks None way check = refl
 relabel_asks (Some r) way check = by_there way.there
   where
     by_there : (there : Result Id Errno)
-        → asked_of (through (carrying r (record { checks = way.checks; there = there })) (relabel_by check)).effect
+        → asked_in_effect (through (carrying r (record { checks = way.checks; there = there })) (relabel_by check)).effect
         ≡ where_done (through (carrying r (record { checks = way.checks; there = there })) (relabel_by check)).tail (Some r)
     by_there (Ok id) = refl
     by_there (Err e) = refl
@@ -131,7 +131,7 @@ module _ (s : State) (task : List ℕ) (me : Id) where
   way_of c = way_to s me (about_of s task me c).place
 
   -- The table.
-  pub asks : (c : Call) → asked_of (row_for s task c me).effect ≡ where_done (row_for s task c me).tail (asked_at s (about_of s task me c).place)
+  pub asks : (c : Call) → asked_in_effect (row_for s task c me).effect ≡ where_done (row_for s task c me).tail (asked_at s (about_of s task me c).place)
   asks (call.Setpmac text) = relabel_asks (claimed_in s.specs kinds.Process text) (straight (Ok me)) (λ id. by_itself me op.CredRelabel)
   asks (call.Setfmac text path) = relabel_asks (claimed_in s.specs kinds.Vnode text) (along me found_at (lookup_along s.objects path)) (on me op.VnodeRelabel)
   asks (call.Setpipemac text name) = relabel_asks (claimed_in s.specs kinds.Pipe text) (straight (ok_or (entity_named s.objects kinds.Pipe name) errno.Enoent)) (on me op.PipeRelabel)

@@ -7,11 +7,10 @@ use Rattle.mf_item.specs.declared.view.SubjectView.{SubjectView}
 use Rattle.mf_item.specs.Item.{Item}
 use Rattle.mf_objects.specs.declared.id.Id.{Id}
 use Rattle.mf_objects.specs.Live.{Entities, cred_at, is_process, label_at, live_at}
-use Rattle.mf_objects.specs.Lives.{IsLive}
+use Rattle.mf_objects.specs.Lives.{IsLive, view_at}
 use Rattle.mf_plan.specs.declared.outline.Check.{Check}
 use Rattle.mf_plan.specs.declared.outline.Outline.{Outline}
 use Rattle.mf_plan.specs.Planned.{Plan}
-use Rattle.mf_plan.specs.Views.{object_of}
 
 -- the subject, with the credential of the process that calls
 abbrev pub subject_in : Entities → Check → SubjectView
@@ -37,7 +36,7 @@ item_asking objects asked check =
     record {
       op = check.op;
       subject = subject_in objects check;
-      object = option_map (object_of objects) check.object;
+      object = option_map (view_at objects) check.object;
       request = request_with asked check.op;
       privilege = check.privilege;
       port = check.port;

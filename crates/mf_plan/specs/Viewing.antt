@@ -9,12 +9,12 @@ use Rattle.mf_plan.specs.declared.views.CheckView.{CheckView}
 use Rattle.mf_plan.specs.Outline.{request_with, subject_in}
 use Rattle.mf_plan.specs.Items.{nobody}
 use Rattle.mf_plan.specs.Lowering.{with_slot}
-use Rattle.mf_plan.specs.Views.{object_of}
+use Rattle.mf_objects.specs.Lives.{view_at}
 
 -- the view is that of the check, but for its subject
 pub record IsViewOf (objects : Entities) (asked : Option Request) (check : Check) (seen : CheckView) : Type 0 where
   pub op : seen.op ≡ check.op
-  pub object : seen.object ≡ option_map (object_of objects) check.object
+  pub object : seen.object ≡ option_map (view_at objects) check.object
   pub request : seen.request ≡ request_with asked check.op
   pub privilege : seen.privilege ≡ check.privilege
   pub port : seen.port ≡ check.port

@@ -2,13 +2,8 @@
 use Rattle.std.specs.Prelude.{ℕ, ◌+◌, Bool, nat_lt, List, length, Option, None}
 use Rattle.mf_item.specs.declared.view.Kind.{Kind}
 use Rattle.mf_item.specs.declared.view.Kind.TheVariants as kinds
-use Rattle.mf_item.specs.declared.view.ObjectView.{ObjectView}
 use Rattle.mf_objects.specs.declared.id.Id.{Id}
-use Rattle.mf_objects.specs.Live.{Entities, id_of, live_named, is_process, is_pipe, is_socket, kind_at, file_at, label_at, content_at}
-
--- the entity of an id as an object
-abbrev pub object_of : Entities → Id → ObjectView
-object_of objects id = record { id = id.0; kind = kind_at objects id; file = file_at objects id; label = label_at objects id }
+use Rattle.mf_objects.specs.Live.{Entities, id_of, live_named, is_process, is_pipe, is_socket, file_at, content_at}
 
 -- the live process, pipe or socket of a name
 

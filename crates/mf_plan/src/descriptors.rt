@@ -77,7 +77,7 @@ fn descriptor_at(state: &State, caller: Id, call: &Call) -> Option<Fd>
 }
 
 /// The descriptor that a call of the task's own process, or of its child of that name, goes through. Few calls go through one: so
-/// who calls is looked up for these alone.
+/// who calls is looked up for these alone, and apart.
 pub fn descriptor_of_call(state: &State, task: &str, child: Option<&str>, call: &Call) -> Option<Fd>
     requires task { IsName task.now }
     requires child { IfSome (option_copied child) IsName }
@@ -88,11 +88,24 @@ pub fn descriptor_of_call(state: &State, task: &str, child: Option<&str>, call: 
 {
     match call {
         Call::Fread(_) | Call::Fwrite(..) | Call::Close(_) => {
-            let caller = caller_of(&state.objects, task, child)?;
-            descriptor_at(state, caller, call)
+            descriptor_of_caller(state, task, child, call)
         }
         _ => None,
     }
+}
+
+/// The same of any call. A descriptor is wide, and `descriptor_of_call` needs no room for one where the call goes through none.
+#[inline(never)]
+fn descriptor_of_caller(state: &State, task: &str, child: Option<&str>, call: &Call) -> Option<Fd>
+    requires task { IsName task.now }
+    requires child { IfSome (option_copied child) IsName }
+    ensures value { result ≡ option_and_then
+        (λ me. found.descriptor_at state.now me (rows.about_of state.now task.now me call.now).place)
+        (process_named state.now.objects (caller_name task.now (option_copied child.entry))) }
+    ensures file { IfSome result (λ fd. IsLive is_regular state.now.objects fd.file) }
+{
+    let caller = caller_of(&state.objects, task, child)?;
+    descriptor_at(state, caller, call)
 }
 
 /// What mac_biba has in its slot of an entity's label.

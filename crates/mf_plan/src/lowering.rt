@@ -2,6 +2,7 @@
 ghost use Rattle.std.specs.Option.{option_map_or};
 ghost use Rattle.std.specs.Prelude.{◌≡◌, ◌<◌, ◌≤◌, ◌+◌, length, slice_index_or, take, IfSome, IsSome};
 ghost use Rattle.mf_objects.specs.Live.{live_at};
+ghost use Rattle.mf_objects.specs.Lives.{value_at};
 ghost use Rattle.mf_policy.specs.Lowering as policies;
 ghost use Rattle.mf_plan.specs.Items.{HaveSubjects, item_with, items_with, nobody};
 ghost use Rattle.mf_plan.specs.Lowering as spec;
@@ -100,9 +101,17 @@ fn lower_listed(
     ensures places { HaveSubjects subjects.new checks.new }
 {
     if let (Some(slot), Some(caller)) = (state.specs.lomac_slot(), caller) {
-        let own = value_in(&state.objects.label(caller), slot);
+        let own = own_value(state, caller, slot);
         lower(slot, caller.number(), own, subjects, checks);
     }
+}
+
+/// What the caller has in the slot. It stands apart, so that a plan needs no room for a label where mac_lomac isn't listed.
+fn own_value(state: &State, caller: Id, slot: u8) -> LabelValue
+    requires { IsSome (live_at state.now.objects caller) }
+    ensures { result ≡ value_at state.now.objects caller slot }
+{
+    value_in(&state.objects.label(caller), slot)
 }
 
 /// Makes the first views those of the outline's checks, as its caller comes to them.

@@ -1,14 +1,16 @@
 //! Outlines of plans: the checks of a call with ids in the place of views.
-ghost use Rattle.std.specs.Prelude.{◌≡◌, ◌↔◌, ◌<◌, ◌+◌, [], ◌∷◌, ◌++◌, length, IsSome, IsTrue};
+ghost use Rattle.std.specs.Prelude.{◌≡◌, ◌↔◌, ◌<◌, ◌+◌, [], ◌∷◌, ◌++◌, length, IsSome, IsTrue, None};
+ghost use Rattle.mf_errno.specs.declared.errno.Errno.TheVariants.{Esrch};
 ghost use Rattle.mf_item.specs.declared.operation.CheckOp.TheVariants as op;
 ghost use Rattle.mf_objects.specs.Live.{live_at};
 ghost use Rattle.mf_plan.specs.Outline as spec;
 ghost use Rattle.mf_plan.specs.Checks as check;
+ghost use Rattle.mf_plan.specs.declared.plan.Tail.TheVariants.{Refuse};
 
 use crate::found::Found;
 use crate::plan::{MOST_CHECKS, Tail};
 use mf_cred::ArrayVec;
-use mf_errno::Priv;
+use mf_errno::{Errno, Priv};
 use mf_item::CheckOp;
 use mf_objects::{Id, Objects};
 
@@ -59,6 +61,50 @@ pub struct Outline {
     pub found: Found,
     pub checks: ArrayVec<Check, MOST_CHECKS>,
     pub tail: Tail,
+}
+
+impl Outline {
+    /// The outline of a call that nobody makes.
+    pub fn new() -> Outline
+        ensures found { result.found ≡ record { caller = None; target = None; request = None } }
+        ensures checks { result.checks ≡ [] }
+        ensures tail { result.tail ≡ Refuse Esrch }
+    {
+        Outline {
+            found: Found {
+                caller: None,
+                target: None,
+                request: None,
+            },
+            checks: ArrayVec::new(),
+            tail: Tail::Refuse(Errno::Esrch),
+        }
+    }
+
+    /// Becomes that of a call of this process, as nothing is found of it yet.
+    pub(crate) fn begin(&mut self, caller: Option<Id>)
+        ensures found { self.new.found
+            ≡ record { caller = caller; target = None; request = None } }
+        ensures checks { self.new.checks ≡ [] }
+        ensures tail { self.new.tail ≡ Refuse Esrch }
+    {
+        self.found.caller = caller;
+        self.found.target = None;
+        self.checks.clear();
+        self.refuse(Errno::Esrch);
+    }
+
+    /// Becomes that of a call which the framework refuses, and which asks nothing of a label then.
+    pub(crate) fn refuse(&mut self, errno: Errno)
+        ensures found { self.new.found ≡ record self.old.found { request = None } }
+        ensures checks { self.new.checks ≡ self.old.checks }
+        ensures tail { self.new.tail ≡ Refuse errno }
+    {
+        if self.found.request.is_some() {
+            self.found.request = None;
+        }
+        self.tail = Tail::Refuse(errno);
+    }
 }
 
 /// Adds the check of what the caller does to the entity.

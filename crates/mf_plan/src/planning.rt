@@ -1,5 +1,5 @@
 //! The plan of a call.
-ghost use Rattle.std.specs.Prelude.{◌≡◌, ◌↔◌, [], ◌∷◌, Ok, Some, None, IfOk, IfSome, IsSome, ℕ, List};
+ghost use Rattle.std.specs.Prelude.{◌≡◌, ◌↔◌, [], ◌∷◌, Ok, Some, None, IfOk, IfSome, IsSome, IsTrue, ℕ, List};
 ghost use Rattle.std.specs.Option.{option_copied};
 ghost use Rattle.mf_calls.specs.WellFormed.{IsFormedCall, IsName};
 ghost use Rattle.mf_plan.specs.declared.plan.Tail.TheVariants.{Do};
@@ -19,18 +19,16 @@ ghost use Rattle.mf_plan.specs.declared.state.State.{State};
 
 use crate::descriptors::{close, fread, fwrite};
 use crate::files::{create, exec, on_file, open, read, readdir, unlink, write};
-use crate::found::Found;
 use crate::last_label::LastLabel;
 use crate::loading::{kldload, kldunload};
 use crate::named::{bind, fork, make, on_named, pread, pwrite, recv, send};
 use crate::names::caller_of;
-use crate::outline::{Checks, Outline, ask_alone, ask_privilege};
+use crate::outline::{Checks, Outline, ask_privilege};
 use crate::plan::{Plan, Tail};
-use crate::relabels::claim;
+use crate::relabels::{relabel_caller, relabel_file, relabel_named};
 use crate::settings::{change_setting, list_rules};
 use crate::state::State;
 use mf_calls::Call;
-use mf_cred::ArrayVec;
 use mf_elem::Request;
 use mf_errno::{Errno, Priv};
 use mf_item::Kind::{Pipe, Process, Socket, Vnode};
@@ -46,59 +44,61 @@ pub fn plan_of(state: &State, task: &str, child: Option<&str>, call: &Call) -> P
     ensures { result ≡ spec.plan_of state.now task.now (option_copied child.entry) call.now }
 {
     let mut plan = Plan::new();
-    plan.make(state, task, child, call);
+    plan.make(state, task, child, call, &mut Outline::new());
     plan
 }
 
 impl Plan {
-    /// Becomes the plan of a call, as `plan_of` makes it, and says who calls, and what the call is about where it may be done. A
-    /// plan is large: this one is made where it lies, and never moved.
-    pub fn make(&mut self, state: &State, task: &str, child: Option<&str>, call: &Call) -> Found
+    /// Becomes the plan of a call, as `plan_of` makes it, and has the outline say who calls, and what the call is about where it may
+    /// be done. A plan is large, and so is an outline: both are made where they lie, and never moved.
+    pub fn make(
+        &mut self,
+        state: &State,
+        task: &str,
+        child: Option<&str>,
+        call: &Call,
+        outline: &mut Outline,
+    )
         requires task { IsName task.now }
         requires child { IfSome (option_copied child) IsName }
         requires formed { IsFormedCall call.now }
         ensures plan { self.new
             ≡ spec.plan_of state.now task.now (option_copied child.entry) call.now }
         ensures found { self.new.tail ≡ Do
-            → AreFound state.now task.now (option_copied child.entry) call.now result }
-        ensures caller { result.caller
+            → AreFound state.now task.now (option_copied child.entry) call.now outline.new.found }
+        ensures caller { outline.new.found.caller
             ≡ process_named state.now.objects (caller_name task.now (option_copied child.entry)) }
     {
         self.label.keep(call);
-        let outline = outline_of(state, task, child, call, &self.label);
-        self.fill(state, &outline);
-        outline.found
+        outline.make(state, task, child, call, &self.label);
+        self.fill(state, outline);
     }
 
-    /// Who calls, and what the call is about, where this is its plan in the present state. None where it isn't.
+    /// Whether this is the plan of the call in the present state. The outline says who calls, and where it is what the call is about.
     pub fn is_of(
         &self,
         state: &State,
         task: &str,
         child: Option<&str>,
         call: &Call,
-    ) -> Option<Found>
+        outline: &mut Outline,
+    ) -> bool
         requires task { IsName task.now }
         requires child { IfSome (option_copied child) IsName }
         requires formed { IsFormedCall call.now }
-        ensures is { IsSome result
+        ensures is { IsTrue result
             ↔ (self.now ≡ spec.plan_of state.now task.now (option_copied child.entry) call.now) }
-        ensures found { self.now.tail ≡ Do → IfSome result
-            (λ found. AreFound state.now task.now (option_copied child.entry) call.now found) }
-        ensures caller { IfSome result (λ found. found.caller
-            ≡ process_named state.now.objects (caller_name task.now (option_copied child.entry))) }
+        ensures found { self.now.tail ≡ Do → IsTrue result
+            → AreFound state.now task.now (option_copied child.entry) call.now outline.new.found }
+        ensures caller { outline.new.found.caller
+            ≡ process_named state.now.objects (caller_name task.now (option_copied child.entry)) }
     {
-        let outline = outline_of(state, task, child, call, &self.label);
-        if self.is_outlined(state, &outline) {
-            Some(outline.found)
-        } else {
-            None
-        }
+        outline.make(state, task, child, call, &self.label);
+        self.is_outlined(state, outline)
     }
 }
 
-/// The outline of the plan of a call of the task's own process, or of its child of that name: its checks with ids in the
-/// place of views. A label text that is the last one isn't read again.
+/// The outline of the plan of a call of the task's own process, or of its child of that name, as `Outline::make` makes it.
 pub fn outline_of(
     state: &State,
     task: &str,
@@ -119,30 +119,49 @@ pub fn outline_of(
     ensures found { result.tail ≡ Do
         → AreFound state.now task.now (option_copied child.entry) call.now result.found }
 {
-    // It is filled in where it lies: a move would copy all the room for checks.
-    let mut outline = Outline {
-        found: Found {
-            caller: caller_of(&state.objects, task, child),
-            target: None,
-            request: None,
-        },
-        checks: ArrayVec::new(),
-        tail: Tail::Refuse(Errno::Esrch),
-    };
-    if let Some(caller) = outline.found.caller {
-        let (checks, request) = (&mut outline.checks, &mut outline.found.request);
-        match ask_for(state, task, caller, call, last, checks, request) {
-            Ok(target) => {
-                outline.found.target = target;
-                outline.tail = Tail::Do;
-            }
-            Err(errno) => {
-                outline.found.request = None;
-                outline.tail = Tail::Refuse(errno);
+    let mut outline = Outline::new();
+    outline.make(state, task, child, call, last);
+    outline
+}
+
+impl Outline {
+    /// Becomes the outline of the plan of a call of the task's own process, or of its child of that name: its checks with ids in
+    /// the place of views. A label text that is the last one isn't read again. An outline that is made anew where it lies costs
+    /// neither a copy nor the clearing of its room.
+    pub fn make(
+        &mut self,
+        state: &State,
+        task: &str,
+        child: Option<&str>,
+        call: &Call,
+        last: &LastLabel,
+    )
+        requires task { IsName task.now }
+        requires child { IfSome (option_copied child) IsName }
+        requires formed { IsFormedCall call.now }
+        ensures plan { outlines.outlined state.now.objects self.new
+            ≡ spec.plan_in state.now
+            (spec.call_row state.now task.now (option_copied child.entry) call.now) }
+        ensures live { outlines.AreLive state.now.objects self.new.checks }
+        ensures caller { self.new.found.caller
+            ≡ process_named state.now.objects (caller_name task.now (option_copied child.entry)) }
+        ensures lives { IfSome self.new.found.caller
+            (λ id. IsSome (live_at state.now.objects id)) }
+        ensures found { self.new.tail ≡ Do
+            → AreFound state.now task.now (option_copied child.entry) call.now self.new.found }
+    {
+        self.begin(caller_of(&state.objects, task, child));
+        if let Some(caller) = self.found.caller {
+            let (checks, request) = (&mut self.checks, &mut self.found.request);
+            match ask_for(state, task, caller, call, last, checks, request) {
+                Ok(target) => {
+                    self.found.target = target;
+                    self.tail = Tail::Do;
+                }
+                Err(errno) => self.refuse(errno),
             }
         }
     }
-    outline
 }
 
 /// The check of a privilege of the caller.
@@ -160,18 +179,6 @@ fn has_privilege(
 {
     ask_privilege(objects, caller, privilege, checks);
     Ok(None)
-}
-
-/// The check of a relabel of the caller itself.
-fn on_caller(objects: &Objects, caller: Id, checks: &mut Checks) -> Result<Option<Id>, Errno>
-    requires empty { checks.old ≡ [] }
-    requires asking { outlines.IsAsking objects.now caller checks.old }
-    ensures checks { checks.new ≡ check.by_itself caller op.CredRelabel ∷ [] }
-    ensures target { result ≡ Ok (Some caller) }
-    ensures asking { outlines.IsAsking objects.now caller checks.new }
-{
-    ask_alone(objects, caller, CheckOp::CredRelabel, checks);
-    Ok(Some(caller))
 }
 
 /// Collects the checks of a call of a live process, in order, and what a relabel asks for. First comes what the call is about, where it
@@ -254,10 +261,7 @@ fn ask_on_process(
 {
     match call {
         Call::Fork(child) => fork(state, task, caller, child.as_str()),
-        Call::Setpmac(label) => {
-            claim(&state.specs, Process, label.as_str(), last, asked)?;
-            on_caller(&state.objects, caller, checks)
-        }
+        Call::Setpmac(label) => relabel_caller(state, caller, label, last, checks, asked),
         Call::See(name) => on_named(state, caller, Process, CheckOp::ProcVisible, name, checks),
         Call::Signal(name) => on_named(state, caller, Process, CheckOp::ProcSignal, name, checks),
         Call::Debug(name) => on_named(state, caller, Process, CheckOp::ProcDebug, name, checks),
@@ -296,8 +300,7 @@ fn ask_on_file(
         Call::Stat(path) => on_file(state, caller, CheckOp::VnodeStat, path, checks),
         Call::Getfmac(path) => on_file(state, caller, CheckOp::VnodeStat, path, checks),
         Call::Setfmac(label, path) => {
-            claim(&state.specs, Vnode, label.as_str(), last, asked)?;
-            on_file(state, caller, CheckOp::VnodeRelabel, path, checks)
+            relabel_file(state, caller, label, path, last, checks, asked)
         }
         Call::Readdir(path) => readdir(state, caller, path, checks),
         Call::Chmod(path, _) => on_file(state, caller, CheckOp::VnodeSetmode, path, checks),
@@ -340,8 +343,8 @@ fn ask_on_pipe(
         Call::Pwrite(name, text) => pwrite(state, caller, name, text.as_slice(), checks),
         Call::Pstat(name) => on_named(state, caller, Pipe, CheckOp::PipeStat, name, checks),
         Call::Setpipemac(label, name) => {
-            claim(&state.specs, Pipe, label.as_str(), last, asked)?;
-            on_named(state, caller, Pipe, CheckOp::PipeRelabel, name, checks)
+            let op = CheckOp::PipeRelabel;
+            relabel_named(state, caller, Pipe, op, label, name, last, checks, asked)
         }
         _ => Err(Errno::Enoent),
     }
@@ -378,8 +381,8 @@ fn ask_on_socket(
             on_named(state, caller, Socket, op, name, checks)
         }
         Call::Setsockmac(label, name) => {
-            claim(&state.specs, Socket, label.as_str(), last, asked)?;
-            on_named(state, caller, Socket, CheckOp::SocketRelabel, name, checks)
+            let op = CheckOp::SocketRelabel;
+            relabel_named(state, caller, Socket, op, label, name, last, checks, asked)
         }
         Call::Bind(name, tcp, port) => bind(state, caller, name, *tcp, *port, checks),
         _ => Err(Errno::Enoent),

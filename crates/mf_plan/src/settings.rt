@@ -117,21 +117,20 @@ pub(crate) fn change_setting(
     ensures target { IfOk result (λ target. target ≡ None) }
 {
     let (module, change) = setting_of(state, call);
-    judge(state, caller, is_tunable(state, call), module, change)
+    judge(state, caller, is_tunable(state, call), module, &change)
 }
 
-/// The tests of a change of a setting, which root alone makes, and of a tunable nobody.
+/// The tests of a change of a setting, which root alone makes, and of a tunable nobody. The change is wide, and lent.
 fn judge(
     state: &State,
     caller: Id,
     tunable: bool,
     module: Option<Module>,
-    change: Option<Change>,
+    change: &Option<Change>,
 ) -> Result<Option<Id>, Errno>
     requires lives { IsSome (live_at state.now.objects caller) }
-    ensures row { ended_by [] result
-        ≡ end_in (row.through
-        (way_to state.now caller (Setting tunable «module» change)) (set state.now payload.None)) }
+    ensures row { ended_by [] result ≡ end_in (row.through
+        (way_to state.now caller (Setting tunable «module» change.now)) (set state.now payload.None)) }
     ensures target { IfOk result (λ target. target ≡ None) }
 {
     if !state.objects.cred(caller).is_root() || tunable {
@@ -141,10 +140,12 @@ fn judge(
     if !state.specs.is_listed(module) {
         return Err(Errno::Enoent);
     }
-    let change = change.ok_or(Errno::Einval)?;
-    match state.specs.answer_to(module, &change).errno {
-        Errno::Success => Ok(None),
-        errno => Err(errno),
+    match change {
+        None => Err(Errno::Einval),
+        Some(change) => match state.specs.answer_to(module, change).errno {
+            Errno::Success => Ok(None),
+            errno => Err(errno),
+        },
     }
 }
 

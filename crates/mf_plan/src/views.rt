@@ -1,10 +1,10 @@
 //! Checks and live entities as policies see them.
-ghost use Rattle.std.specs.Prelude.{◌≡◌, ◌↔◌, ◌≤◌, ◌<◌, ◌+◌, length, map, option_map, take, IfSome, IsSome, IsTrue, Some, None, slice_index_or};
+ghost use Rattle.std.specs.Prelude.{◌≡◌, ◌↔◌, ◌≤◌, ◌<◌, ◌+◌, [], ◌∷◌, ◌++◌, length, map, option_map, take, IfSome, IsSome, IsTrue, Some, None, slice_index_or};
 ghost use Rattle.mf_objects.specs.Live.{live_at};
+ghost use Rattle.mf_objects.specs.Lives.{view_at};
 ghost use Rattle.mf_plan.specs.Outline as outline;
 ghost use Rattle.mf_plan.specs.Items.{HaveSubjects, item_with, items_with, nobody};
 ghost use Rattle.mf_plan.specs.Viewing as viewing;
-ghost use Rattle.mf_plan.specs.Views as view;
 
 use crate::outline::Check;
 use crate::plan::{MOST_CHECKS, MOST_SUBJECTS};
@@ -83,7 +83,7 @@ fn is_subject(objects: &Objects, check: Check, subject: &SubjectView) -> bool
 /// The object of a check, as policies see it.
 pub fn object_in(objects: &Objects, object: Option<Id>) -> Option<ObjectView>
     requires { IfSome object (λ id. IsSome (live_at objects.now id)) }
-    ensures { result ≡ option_map (view.object_of objects.now) object }
+    ensures { result ≡ option_map (view_at objects.now) object }
 {
     match object {
         None => None,
@@ -96,25 +96,14 @@ pub fn object_in(objects: &Objects, object: Option<Id>) -> Option<ObjectView>
     }
 }
 
-/// Whether the view is that of the entity. Nothing is copied.
-fn is_entity(objects: &Objects, id: Id, object: &ObjectView) -> bool
-    requires { IsSome (live_at objects.now id) }
-    ensures { IsTrue result ↔ (object.now ≡ view.object_of objects.now id) }
-{
-    object.id == id.number()
-        && object.kind == objects.kind(id)
-        && object.file == objects.file(id)
-        && objects.has_label(id, &object.label)
-}
-
 /// Whether the view is that of the check's object.
 fn is_object(objects: &Objects, id: Option<Id>, object: &Option<ObjectView>) -> bool
     requires { IfSome id (λ id. IsSome (live_at objects.now id)) }
-    ensures { IsTrue result ↔ (object.now ≡ option_map (view.object_of objects.now) id) }
+    ensures { IsTrue result ↔ (object.now ≡ option_map (view_at objects.now) id) }
 {
     match (id, object) {
         (None, None) => true,
-        (Some(id), Some(object)) => is_entity(objects, id, object),
+        (Some(id), Some(object)) => objects.has_view(id, object),
         _ => false,
     }
 }
@@ -225,9 +214,55 @@ fn place_of_subject(
     ensures few { length subjects.new ≤ length subjects.old + 1 }
 {
     if !goes_on(last, check) {
-        subjects.push(subject_in(objects, check));
+        add_subject(objects, check, subjects);
     }
     subjects.len() - 1
+}
+
+/// Adds the check's subject. It stands apart, as `renew_object` does: a function clears the room for what it copies, even where
+/// it copies nothing.
+#[inline(never)]
+fn add_subject(objects: &Objects, check: Check, subjects: &mut Subjects)
+    requires live { outline.IsLiveCheck objects.now check }
+    requires few { length subjects.old < MOST_SUBJECTS }
+    ensures { subjects.new ≡ subjects.old ++ outline.subject_in objects.now check ∷ [] }
+{
+    subjects.push(subject_in(objects, check));
+}
+
+/// Makes the view that of the entity.
+#[inline(never)]
+fn renew_object(objects: &Objects, id: Option<Id>, seen: &mut Option<ObjectView>)
+    requires { IfSome id (λ id. IsSome (live_at objects.now id)) }
+    ensures { seen.new ≡ option_map (view_at objects.now) id }
+{
+    let Some(id) = id else {
+        *seen = None;
+        return;
+    };
+    match seen {
+        Some(view) => renew_view(objects, id, view),
+        None => *seen = object_in(objects, Some(id)),
+    }
+}
+
+/// Makes the view that of the entity, where it lies.
+fn renew_view(objects: &Objects, id: Id, seen: &mut ObjectView)
+    requires { IsSome (live_at objects.now id) }
+    ensures { seen.new ≡ view_at objects.now id }
+{
+    seen.id = id.number();
+    seen.kind = objects.kind(id);
+    seen.file = objects.file(id);
+    seen.label = objects.label(id);
+}
+
+/// Makes the request the one that goes with a check of that operation.
+#[inline(never)]
+fn renew_request(asked: &Option<Request>, op: CheckOp, seen: &mut Option<Request>)
+    ensures { seen.new ≡ outline.request_with asked.now op }
+{
+    *seen = request_with(asked, op);
 }
 
 /// Makes the view that of the check. An object or a request that it shows as it is isn't copied again.
@@ -247,10 +282,10 @@ fn look_again(
     seen.privilege = check.privilege;
     seen.port = check.port;
     if !is_object(objects, check.object, &seen.object) {
-        seen.object = object_in(objects, check.object);
+        renew_object(objects, check.object, &mut seen.object);
     }
     if !is_request(asked, check.op, &seen.request) {
-        seen.request = request_with(asked, check.op);
+        renew_request(asked, check.op, &mut seen.request);
     }
 }
 

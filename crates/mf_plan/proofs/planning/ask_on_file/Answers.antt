@@ -1,22 +1,10 @@
-use Rattle.std.proofs.Common.{◌≡◌, ℕ, List, ◌⊎◌, inl, inr, ◌∙◌}
-use Rattle.mf_item.specs.declared.operation.CheckOp.TheVariants as op
-use Rattle.mf_item.specs.declared.view.Kind.TheVariants as kinds
+use Rattle.std.proofs.Common.{◌≡◌, ℕ, List, ◌⊎◌, inl, inr}
 use Rattle.mf_objects.specs.declared.id.Id.{Id}
 use Rattle.mf_calls.specs.declared.script.Call.{Call}
 use Rattle.mf_calls.specs.declared.script.Call.TheVariants as call
 use Rattle.mf_plan.specs.declared.state.State.{State}
-use Rattle.mf_plan.specs.Checks.{on}
 use Rattle.mf_plan.specs.Ended.{Ended, end_by, end_for}
-use Rattle.mf_plan.specs.Path.{found_at, lookup_along}
-use Rattle.mf_plan.specs.Ways.{along}
-use Rattle.mf_plan.proofs.Relabelling.{claimed}
 use Rattle.mf_plan.proofs.planning.ask_on_file.Goals as goal
-
-pub returns-in_ok-claim-in-Setfmac-clause-row : goal.returns-in_ok-claim-in-Setfmac-clause-row
-returns-in_ok-claim-in-Setfmac-clause-row c =
-    rw c.in-Setfmac.is (c.on_file-in-Setfmac.ensures.row
-    ∙ claimed c.args.state.now.specs kinds.Vnode _ _ c.claim.new.asked (along c.args.caller found_at (lookup_along c.args.state.now.objects c.in-Setfmac.path)) (on c.args.caller op.VnodeRelabel) c.as_str.ensures
-    c.claim.ensures.asked c.in_ok-claim-in-Setfmac.ensures.ok)
 
 -- `create` and `mkdir` end alike
 made : (s : State) (task : List ℕ) (me : Id) (path : List (List ℕ)) (c : Call) (end : Ended) → (c ≡ call.Create path) ⊎ (c ≡ call.Mkdir path)
@@ -30,3 +18,6 @@ returns-in-Create-clause-row c =
 
 pub returns-in-Chmod-clause-row : goal.returns-in-Chmod-clause-row
 returns-in-Chmod-clause-row c = rw c.in-Chmod.is c.on_file-in-Chmod.ensures.row
+
+pub returns-in-Setfmac-clause-row : goal.returns-in-Setfmac-clause-row
+returns-in-Setfmac-clause-row c = rw c.in-Setfmac.is c.relabel_file.ensures.row
