@@ -15,7 +15,7 @@ use Rattle.mf_policy.specs.Lowering.{after_check, after_checks, lomac_slot, lowe
 use Rattle.mf_policy.specs.Operations.{row_of}
 use Rattle.mf_objects.specs.declared.id.Id.{Id}
 use Rattle.mf_objects.specs.Live.{LiveEntity, Entities, has_id, is_process, kind_of, live_at, value_in}
-use Rattle.mf_objects.specs.Lives.{value_at}
+use Rattle.mf_objects.specs.Lives.{value_at, view_at}
 use Rattle.mf_objects.specs.Changes.{with_change}
 use Rattle.mf_objects.specs.Labels.{with_value}
 use Rattle.mf_objects.specs.Population.{IsPopulation}
@@ -33,7 +33,7 @@ use Rattle.mf_plan.specs.declared.state.State.{State}
 use Rattle.mf_plan.specs.Names.{caller_name}
 use Rattle.mf_plan.specs.Outline.{item_asking}
 use Rattle.mf_plan.specs.Plan.{call_row, plan_in, plan_of}
-use Rattle.mf_plan.specs.Views.{object_of, process_named}
+use Rattle.mf_plan.specs.Views.{process_named}
 use Rattle.mf_plan.proofs.LoweredChecks.{IsSameCheck, plan_all}
 use Rattle.mf_perform.specs.Effect.{with_objects}
 use Rattle.mf_perform.specs.OneCall.{call_reply, observed, observed_by}
@@ -45,13 +45,13 @@ use Rattle.mf_perform.proofs.Rooted.{HasKind, IsRooted, inside_some, named_proce
 
 -- what a check sees of its object is the entity of that id as it is; of one that doesn't live it sees no label
 abbrev pub Sees : Entities → Item → Type 0
-Sees objects item = IfSome item.object (λ object. object ≡ object_of objects (record { 0 = object.id }))
+Sees objects item = IfSome item.object (λ object. object ≡ view_at objects (record { 0 = object.id }))
 
 item_sees : (o : Entities) (asked : Option Request) (check : Check) → Sees o (item_asking o asked check)
 unfolding item_asking
 item_sees o asked check = one check.object
   where
-    one : (at : Option Id) → IfSome (option_map (object_of o) at) (λ object. object ≡ object_of o (record { 0 = object.id }))
+    one : (at : Option Id) → IfSome (option_map (view_at o) at) (λ object. object ≡ view_at o (record { 0 = object.id }))
     one None = tt
     one (Some id) = refl
 
@@ -72,7 +72,7 @@ passed_see o (reply.Refused errno) items all = all
 -- what a check sees of its object is read of no label of a subject
 sees_so : (o : Entities) (item other : Item) → IsSameCheck item other → Sees o other → Sees o item
 sees_so o item other same sees =
-    subst (λ (at : Option ObjectView). IfSome at (λ object. object ≡ object_of o (record { 0 = object.id }))) (sym same.object) sees
+    subst (λ (at : Option ObjectView). IfSome at (λ object. object ≡ view_at o (record { 0 = object.id }))) (sym same.object) sees
 
 -- A value that is lowered
 
@@ -81,7 +81,7 @@ module _ (P : LabelValue → Type 0) (o : Entities) (slot : ℕ) (seen : (own : 
   after_check_keeps : (item : Item) (value : LabelValue) → Sees o item → P value → P (after_check slot value item)
   after_check_keeps item value sees own = by_way (observes (row_of item.op).movement)
     where
-      by_object : (object : Option ObjectView) → IfSome object (λ object. object ≡ object_of o (record { 0 = object.id })) → P (lowered_value value (object_slot object slot))
+      by_object : (object : Option ObjectView) → IfSome object (λ object. object ≡ view_at o (record { 0 = object.id })) → P (lowered_value value (object_slot object slot))
       by_object None sees = unset value own
       by_object (Some object) sees =
           subst (λ (x : ObjectView). P (lowered_value value (object_slot (Some x) slot))) (sym sees) (seen value (record { 0 = object.id }) own)

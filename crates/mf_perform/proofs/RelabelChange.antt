@@ -20,7 +20,7 @@ use Rattle.mf_objects.proofs.Entities.{label_of, changed_at}
 use Rattle.mf_objects.specs.declared.id.Id.{Id}
 use Rattle.mf_objects.specs.declared.entity.EntityData.{EntityData}
 use Rattle.mf_objects.specs.Live.{LiveEntity, Entities, has_id, id_of, is_pipe, is_process, is_socket, kind_of, label_at, live_at, live_named}
-use Rattle.mf_objects.specs.Lives.{IsLive}
+use Rattle.mf_objects.specs.Lives.{IsLive, view_at}
 use Rattle.mf_calls.specs.declared.script.Call.{Call}
 use Rattle.mf_calls.specs.declared.script.Call.TheVariants as call
 use Rattle.mf_calls.specs.Tasks.{is_change}
@@ -38,10 +38,10 @@ use Rattle.mf_plan.specs.Plan.{lowering_by, plan_in}
 use Rattle.mf_plan.specs.Relabels.{claimed_in, if_claimed}
 use Rattle.mf_plan.specs.Row.{through}
 use Rattle.mf_plan.specs.Rows.{about_of}
-use Rattle.mf_plan.specs.Views.{object_of, process_named}
+use Rattle.mf_plan.specs.Views.{process_named}
 use Rattle.mf_plan.specs.Ways.{At, then_way, way_to, carrying}
 use Rattle.mf_plan.specs.Ways.Place.{File, Named}
-use Rattle.mf_plan.proofs.Finding.{asked_of, row_by}
+use Rattle.mf_plan.proofs.Finding.{asked_in_effect, row_by}
 use Rattle.mf_perform.specs.Effect.{with_objects, with_request}
 use Rattle.mf_perform.specs.OneCall.{observed_by}
 use Rattle.mf_perform.proofs.Allowed.{IsAllowed}
@@ -195,7 +195,7 @@ module _ (s s1 : State) (caller : Id) (by : Option Id) (checks : List Item) (kee
             item = last.check;
             asked = last.request ∙ ap (λ (b : Bool). if b then Some request else None) relabel;
             asks = of_object (λ same. other (sym is ∙ same)) (ap (λ (o : CheckOp). (row_of o).test) last.op ∙ test) caller me.entity me.live
-                (process_kind me.entity.what me.passes) (last.label ∙ ap label_of me.live) (object_of s.objects id) last.object (ap label_of was);
+                (process_kind me.entity.what me.passes) (last.label ∙ ap label_of me.live) (view_at s.objects id) last.object (ap label_of was);
             granted = granted_now last.check last.granted;
           })
 
@@ -225,7 +225,7 @@ module _ (s s1 : State) (task : List ℕ) (caller : Id) (by : Option Id) (checks
   -- the checks of a row as the caller comes to them
   abbrev come : (c : Call) (what : At (about_of s task caller c).place) → List Check → List Item
   come c what before =
-      lowering s caller (map (item_asking s.objects (asked_of ((about_of s task caller c).row what).effect)) (before ++ ((about_of s task caller c).row what).checks))
+      lowering s caller (map (item_asking s.objects (asked_in_effect ((about_of s task caller c).row what).effect)) (before ++ ((about_of s task caller c).row what).checks))
 
   call_made : (c : Call) (what : At (about_of s task caller c).place) → (way_to s caller (about_of s task caller c).place).there ≡ Ok what
       → (before : List Check) → AllByRecursion (IsGranted s.specs) (come c what before) → (is_change c ≡ false → s1 ≡ observed_by s (come c what before) caller)

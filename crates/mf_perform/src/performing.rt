@@ -80,32 +80,31 @@ fn perform_by(
 {
     let target = found.target;
     match call {
-        Call::Fork(child) => fork(alloc, state, task, caller, child.as_str())?,
-        Call::Exit => exit(state, caller),
+        Call::Fork(child) => fork(alloc, state, task, caller, child.as_str()),
+        Call::Exit => Ok(exit(state, caller)),
         Call::Setpmac(_) | Call::Setfmac(..) | Call::Setpipemac(..) | Call::Setsockmac(..) => {
-            relabel(state, target, &found.request)?
+            relabel(state, target, &found.request)
         }
-        Call::Create(path) => make_file(alloc, state, caller, target, path, FILE_MODE, false)?,
-        Call::Mkdir(path) => make_file(alloc, state, caller, target, path, DIRECTORY_MODE, true)?,
-        Call::Write(_, text) => append(state, target, text.as_slice())?,
-        Call::Chmod(_, mode) => chmod(state, target, *mode),
-        Call::Unlink(_) => unlink(state, target),
-        Call::OpenFd(_, read, write) => open(state, caller, target, *read, *write, opening),
-        Call::Fwrite(_, text) => append(state, target, text.as_slice())?,
-        Call::Close(number) => close(state, caller, *number),
-        Call::Pipe(name) => make_channel(alloc, state, caller, Channel::Pipe, name.as_str())?,
-        Call::Socket(name) => make_channel(alloc, state, caller, Channel::Socket, name.as_str())?,
-        Call::Pread(_) => pread(state, target),
-        Call::Pwrite(_, text) => append(state, target, text.as_slice())?,
-        Call::Send(_, _, text) => deliver(alloc, state, target, text.as_slice())?,
-        Call::Recv(_) => recv(state, target),
-        Call::See(_) | Call::Signal(_) | Call::Debug(_) | Call::Sched(_) | Call::Priv(_) => {}
-        Call::Getpmac | Call::Exec(_) | Call::Read(_) | Call::Fread(_) | Call::Stat(_) => {}
-        Call::Getfmac(_) | Call::Readdir(_) | Call::Pstat(_) | Call::Seesock(_) => {}
-        Call::Bind(..) | Call::Kldstat | Call::UgidfwList => {}
+        Call::Create(path) => make_file(alloc, state, caller, target, path, FILE_MODE, false),
+        Call::Mkdir(path) => make_file(alloc, state, caller, target, path, DIRECTORY_MODE, true),
+        Call::Write(_, text) => append(state, target, text.as_slice()),
+        Call::Chmod(_, mode) => Ok(chmod(state, target, *mode)),
+        Call::Unlink(_) => Ok(unlink(state, target)),
+        Call::OpenFd(_, read, write) => Ok(open(state, caller, target, *read, *write, opening)),
+        Call::Fwrite(_, text) => append(state, target, text.as_slice()),
+        Call::Close(number) => Ok(close(state, caller, *number)),
+        Call::Pipe(name) => make_channel(alloc, state, caller, Channel::Pipe, name.as_str()),
+        Call::Socket(name) => make_channel(alloc, state, caller, Channel::Socket, name.as_str()),
+        Call::Pread(_) => Ok(pread(state, target)),
+        Call::Pwrite(_, text) => append(state, target, text.as_slice()),
+        Call::Send(_, _, text) => deliver(alloc, state, target, text.as_slice()),
+        Call::Recv(_) => Ok(recv(state, target)),
+        Call::See(_) | Call::Signal(_) | Call::Debug(_) | Call::Sched(_) | Call::Priv(_) => Ok(()),
+        Call::Getpmac | Call::Exec(_) | Call::Read(_) | Call::Fread(_) | Call::Stat(_) => Ok(()),
+        Call::Getfmac(_) | Call::Readdir(_) | Call::Pstat(_) | Call::Seesock(_) => Ok(()),
+        Call::Bind(..) | Call::Kldstat | Call::UgidfwList => Ok(()),
         // Changes of the policies aren't made here.
-        Call::Kldload(_) | Call::Kldunload(_) | Call::Sysctl(..) => {}
-        Call::UgidfwAdd(_) | Call::UgidfwSet(..) | Call::UgidfwRemove(_) => {}
+        Call::Kldload(_) | Call::Kldunload(_) | Call::Sysctl(..) => Ok(()),
+        Call::UgidfwAdd(_) | Call::UgidfwSet(..) | Call::UgidfwRemove(_) => Ok(()),
     }
-    Ok(())
 }
