@@ -16,7 +16,7 @@ use Rattle.mf_objects.specs.declared.id.Id.{Id}
 use Rattle.mf_objects.specs.Live.{Entities, cred_at, label_at}
 use Rattle.mf_objects.specs.Titles.{title_at}
 use Rattle.mf_plan.specs.declared.state.State.{State}
-use Rattle.mf_plan.specs.Views.{object_of}
+use Rattle.mf_objects.specs.Lives.{view_at}
 use Rattle.mf_matrix.specs.declared.letters.Letter.{Letter}
 use Rattle.mf_matrix.specs.declared.matrix.Row.{Row}
 use Rattle.mf_matrix.specs.declared.parties.Party.{Party}
@@ -40,7 +40,7 @@ subject_of objects id = record { id = id.0; cred = cred_at objects id; label = l
 -- an entity by its id, with its title, and as policies see it
 abbrev pub party_of : Entities → Id → Party
 party_of objects id =
-    record { id = id; title = title_at objects id; subject = subject_of objects id; object = object_of objects id }
+    record { id = id; title = title_at objects id; subject = subject_of objects id; object = view_at objects id }
 
 -- the live entities by rising id
 abbrev pub parties_in : Entities → List Party

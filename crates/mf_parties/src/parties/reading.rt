@@ -3,9 +3,9 @@ ghost use Rattle.std.specs.Prelude.{◌≡◌, IsSome, IfSome, length, count_by,
 ghost use Rattle.std.specs.Option.{option_copied};
 ghost use Rattle.mf_elem.specs.declared.label.LabelValue.TheVariants as values;
 ghost use Rattle.mf_objects.specs.Live as live;
-ghost use Rattle.mf_objects.specs.Lives.{is_regular, IsLive, value_at};
+ghost use Rattle.mf_objects.specs.Lives.{is_regular, IsLive, value_at, view_at};
 ghost use Rattle.mf_objects.specs.Descriptors as fds;
-ghost use Rattle.mf_plan.specs.Views.{object_of, is_dir};
+ghost use Rattle.mf_plan.specs.Views.{is_dir};
 
 use super::Parties;
 use crate::party::Party;
@@ -112,7 +112,7 @@ impl Parties {
     /// It as an object of a check.
     pub fn object(&self, id: PartyId) -> ObjectView
         requires { IsSome (live.live_at self.now id) }
-        ensures { result ≡ object_of self.now id }
+        ensures { result ≡ view_at self.now id }
     {
         match self.at(id) {
             None => ObjectView {
