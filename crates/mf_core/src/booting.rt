@@ -1,5 +1,5 @@
 //! Registration at boot, and the setting that the script's tunable gives.
-ghost use Rattle.std.specs.Prelude.{◌≡◌, ◌++◌, [], false, All, IfOk, fold, map};
+ghost use Rattle.std.specs.Prelude.{◌≡◌, ◌++◌, [], false, All, IfOk, OnOk, fold, map};
 ghost use Rattle.mf_policy.specs.declared.settings.Change.TheVariants.{Revocation};
 ghost use Rattle.mf_policy.specs.Modules.{module_of};
 ghost use Rattle.mf_policy.specs.Registration.{with_registered};
@@ -35,11 +35,30 @@ pub fn boot<P: Policy>(
     ensures fixed { IfOk result (λ r. r.1 ≡ static_of script.now) }
 {
     let (mut fixed, mut list, mut catalogue) = unlisted(alloc, policies)?;
-    let boots = register_boots(alloc, &script.boots, &mut fixed, &mut list, &mut catalogue)?;
+    let boots = list_boots(alloc, script, &mut fixed, &mut list, &mut catalogue)?;
+    Ok((boots, fixed, list, catalogue))
+}
+
+/// Registers the modules that the script boots, in its order, and sets mac_biba's policy as its tunable says.
+fn list_boots<P: Policy>(
+    alloc: Global,
+    script: &Script,
+    fixed: &mut Fixed<P>,
+    list: &mut PolicyList<P>,
+    catalogue: &mut Catalogue<P>,
+) -> Result<BootList, AllocError>
+    requires formed { IsWellFormed script.now }
+    requires unlisted { AreOf [] fixed.old list.old catalogue.old }
+    ensures boots { IfOk result (λ boots. boots ≡ boots_of script.now) }
+    ensures policies { OnOk result
+        (AreOf (booted_specs script.now) fixed.new list.new catalogue.new) }
+    ensures fixed { OnOk result (fixed.new ≡ static_of script.now) }
+{
+    let boots = register_boots(alloc, &script.boots, fixed, list, catalogue)?;
     let _answer = fixed.set(alloc, Module::Biba, &tunable_of(script))?;
     fixed.are_pinned();
     list.may_leave();
-    Ok((boots, fixed, list, catalogue))
+    Ok(boots)
 }
 
 /// What the script's tunable changes of mac_biba's policy, where that is booted.

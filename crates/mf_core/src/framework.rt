@@ -29,7 +29,7 @@ use crate::run::Run;
 use mf_calls::Script;
 use mf_list::{Catalogue, Fixed, Listed, PolicyList};
 use mf_perform::{Verdict, verdict_of};
-use mf_plan::{Plan, State};
+use mf_plan::{Outline, Plan, State};
 use mf_policy::Policy;
 use std::alloc::{AllocError, Global};
 use std::marker::Model;
@@ -149,7 +149,8 @@ impl<'s> Core<'s> {
         requires turn { turn_at self.now task ≡ turn.Entered }
         ensures { next_plan self.now.script (run_state self.now) task ≡ Some plan.new }
     {
-        let _found = self.run.plan(task, plan);
+        let mut outline = Outline::new();
+        self.run.plan(task, plan, &mut outline);
     }
 
     /// The listed policies' verdict on a plan: the first denial, if a check is denied.

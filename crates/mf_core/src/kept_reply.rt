@@ -68,9 +68,10 @@ impl KeptReply {
     pub fn is_ok(&self) -> bool
         ensures { result ≡ is_ok self.now }
     {
-        match self.lend().get() {
-            Reply::Ok(_) => true,
-            Reply::Denied { .. } | Reply::Refused(_) => false,
+        match &self.kept {
+            Kept::Done => true,
+            Kept::Denied { .. } | Kept::Refused(_) => false,
+            Kept::Other(reply) => is_done(reply),
         }
     }
 
@@ -98,6 +99,13 @@ impl KeptReply {
             },
         }
     }
+}
+
+/// Whether the reply is that of a call which was done.
+fn is_done(reply: &Reply) -> bool
+    ensures { result ≡ is_ok reply.now }
+{
+    matches!(reply, Reply::Ok(_))
 }
 
 /// A reply that is lent out of a history. Contracts see the reply.

@@ -1,5 +1,5 @@
 //! A run of a script: the state of the framework, and how far each task is.
-ghost use Rattle.std.specs.Prelude.{◌≡◌, ◌<◌, ◌≤◌, ◌+◌, ◌⊎◌, ◌↔◌, length, fold, true, false, IfOk, IsOk, IfSome, IsSome, OnOk, OnErr, Some};
+ghost use Rattle.std.specs.Prelude.{◌≡◌, ◌<◌, ◌≤◌, ◌+◌, ◌⊎◌, ◌↔◌, [], length, fold, true, false, IfOk, IsOk, IsSome, IsTrue, OnOk, OnErr, Some};
 ghost use Rattle.mf_calls.specs.declared.limits.TheConstants.{LINE_LIMIT};
 ghost use Rattle.mf_calls.specs.Tasks.{lines_of};
 ghost use Rattle.mf_calls.specs.WellFormed.{IsFormedLine, IsWellFormed};
@@ -27,7 +27,7 @@ use crate::progress::{Phase, ProgressList, Turn};
 use mf_calls::{Line, Script};
 use mf_errno::Module;
 use mf_perform::{Verdict, complete, load, payload_of, refusal_of};
-use mf_plan::{Found, Plan, Reply, State};
+use mf_plan::{Found, Outline, Plan, Reply, State};
 use mf_policy::SpecList;
 use mf_slots::SlotNumbers;
 use std::alloc::{AllocError, Global};
@@ -59,9 +59,9 @@ impl<'s> Run<'s> {
         ensures { IfOk result (λ run. run
             ≡ record { script = script.now; run = opening_run script.now }) }
     {
+        let progress = ProgressList::for_tasks(alloc, &script.tasks)?;
         let (specs, numbers) = booted(alloc, script)?;
         let objects = opening_objects(alloc, script, &specs)?;
-        let progress = ProgressList::for_tasks(alloc, &script.tasks)?;
         let state = State {
             objects,
             specs,
@@ -100,29 +100,32 @@ impl<'s> Run<'s> {
         self.script.line_at(task, progress.lines)
     }
 
-    /// Makes `plan` that of the call of the task's next line, from the present state, and returns what the call is about.
-    pub fn plan(&self, task: u32, plan: &mut Plan) -> Found
+    /// Makes `plan` that of the call of the task's next line, from the present state, and `outline` its outline, with what the call
+    /// is about.
+    pub fn plan(&self, task: u32, plan: &mut Plan, outline: &mut Outline)
         requires task { task < length self.now.script.tasks }
         requires line { IsSome (next_line self.now.script self.now.run.progress task) }
         ensures plan { next_plan self.now.script self.now.run task ≡ Some plan.new }
-        ensures found { plan.new.tail ≡ Do → IsNextFound self.now.script self.now.run task result }
+        ensures found { plan.new.tail ≡ Do
+            → IsNextFound self.now.script self.now.run task outline.new.found }
     {
         let line = self.line(task);
         let name = self.script.name_of(task);
-        plan.make(&self.state, name, line.child_name(), &line.call)
+        plan.make(&self.state, name, line.child_name(), &line.call, outline);
     }
 
-    /// What the call of the task's next line is about, where this is its plan in the present state. None where it isn't.
-    pub fn found_by(&self, task: u32, plan: &Plan) -> Option<Found>
+    /// Whether this is the plan of the call of the task's next line in the present state. The outline becomes that of the call, with
+    /// what it is about.
+    pub fn has_plan(&self, task: u32, plan: &Plan, outline: &mut Outline) -> bool
         requires task { task < length self.now.script.tasks }
         requires line { IsSome (next_line self.now.script self.now.run.progress task) }
-        ensures is { IsSome result ↔ (next_plan self.now.script self.now.run task ≡ Some plan.now) }
-        ensures found { plan.now.tail ≡ Do
-            → IfSome result (λ found. IsNextFound self.now.script self.now.run task found) }
+        ensures is { IsTrue result ↔ (next_plan self.now.script self.now.run task ≡ Some plan.now) }
+        ensures found { plan.now.tail ≡ Do → IsTrue result
+            → IsNextFound self.now.script self.now.run task outline.new.found }
     {
         let line = self.line(task);
         let name = self.script.name_of(task);
-        plan.is_of(&self.state, name, line.child_name(), &line.call)
+        plan.is_of(&self.state, name, line.child_name(), &line.call, outline)
     }
 
     /// The reply to the call of the task's next line. The plan, what was found as it was made, and the verdict of the state's
@@ -226,9 +229,26 @@ fn booted(alloc: Global, script: &Script) -> Result<(SpecList, SlotNumbers), All
 {
     let mut specs = SpecList::new(alloc);
     let mut numbers = SlotNumbers::new();
+    list_booted(alloc, script, &mut specs, &mut numbers)?;
+    Ok((specs, numbers))
+}
+
+/// Lists the modules that the script boots, in its order, and sets mac_biba's policy as the script's tunable says.
+fn list_booted(
+    alloc: Global,
+    script: &Script,
+    specs: &mut SpecList,
+    numbers: &mut SlotNumbers,
+) -> Result<(), AllocError>
+    requires formed { IsWellFormed script.now }
+    requires unlisted { specs.old ≡ [] }
+    requires ungiven { numbers.old ≡ 0 }
+    ensures specs { OnOk result (specs.new ≡ booted_specs script.now) }
+    ensures numbers { OnOk result (numbers.new ≡ fold given_after 0 script.now.boots) }
+{
     for wanted in script.boots.as_slice() {
-        load(alloc, &mut specs, &mut numbers, false, *wanted)?;
+        load(alloc, specs, numbers, false, *wanted)?;
     }
     let _answer = specs.change(alloc, Module::Biba, &tunable_of(script))?;
-    Ok((specs, numbers))
+    Ok(())
 }

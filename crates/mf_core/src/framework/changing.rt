@@ -1,5 +1,5 @@
 //! The calls of a core that do the call of a line: commits of entries, and changes of the policies.
-ghost use Rattle.std.specs.Prelude.{◌≡◌, ◌+◌, ◌<◌, ◌↔◌, length, false, IfOk, IsOk, IfSome, IsSome, OnErr, Some};
+ghost use Rattle.std.specs.Prelude.{◌≡◌, ◌+◌, ◌<◌, ◌↔◌, length, false, IfOk, IsOk, IsTrue, OnErr, Some};
 ghost use Rattle.mf_plan.specs.declared.plan.Tail.TheVariants.{Do};
 ghost use Rattle.mf_plan.specs.declared.reply.Payload.TheVariants as payload;
 ghost use Rattle.mf_plan.specs.declared.reply.Reply.{Reply};
@@ -17,7 +17,7 @@ use crate::history::Event;
 use crate::progress::{ChangeOutcome, Commit};
 use mf_list::{Catalogue, Fixed, Listed, PolicyList};
 use mf_perform::Verdict;
-use mf_plan::{Found, Plan};
+use mf_plan::{Outline, Plan};
 use mf_policy::Policy;
 use std::alloc::{AllocError, Global};
 
@@ -46,29 +46,37 @@ impl<'s> Core<'s> {
         ensures err { OnErr result (self.new ≡ self.old) }
         ensures memory { is_ok (reply_to plan.now verdict.now.denied payload.None) ≡ false → IsOk result }
     {
-        let Some(found) = self.found_now(task, list, plan) else {
+        let mut outline = Outline::new();
+        if !self.is_current(task, list, plan, &mut outline) {
             return Ok(Commit::Stale);
-        };
-        let reply = self.run.reply(alloc, task, plan, &found, verdict)?;
+        }
+        let found = &outline.found;
+        let reply = self.run.reply(alloc, task, plan, found, verdict)?;
         let number = self.run.lines(task) + 1;
-        self.run.commit(alloc, task, number, &found, &reply)?;
+        self.run.commit(alloc, task, number, found, &reply)?;
         self.history.events.push(Event::Done(task, number, reply));
         Ok(Commit::Done)
     }
 
-    /// What the task's call is about, where the plan is that of the call and the lists have the policies and specs of the core's
-    /// state. None where they aren't.
-    fn found_now<P: Policy>(&self, task: u32, list: &Listed<'_, P>, plan: &Plan) -> Option<Found>
+    /// Whether the plan is that of the task's call, and the lists have the policies and specs of the core's state. Then the outline
+    /// becomes that of the call, with what it is about.
+    fn is_current<P: Policy>(
+        &self,
+        task: u32,
+        list: &Listed<'_, P>,
+        plan: &Plan,
+        outline: &mut Outline,
+    ) -> bool
         requires task { task < length self.now.script.tasks }
         requires turn { turn_at self.now task ≡ turn.Entered }
-        ensures is { IsSome result ↔ IsCurrent self.now task list.now plan.now }
-        ensures found { plan.now.tail ≡ Do
-            → IfSome result (λ found. IsNextFound self.now.script (run_state self.now) task found) }
+        ensures is { IsTrue result ↔ IsCurrent self.now task list.now plan.now }
+        ensures found { plan.now.tail ≡ Do → IsTrue result
+            → IsNextFound self.now.script (run_state self.now) task outline.new.found }
     {
         if !list.same_specs(&self.run.state().specs) {
-            return None;
+            return false;
         }
-        self.run.found_by(task, plan)
+        self.run.has_plan(task, plan, outline)
     }
 
     /// Makes the change of the task's next line. While entries are open nothing changes, and the result is `Waits` with

@@ -19,7 +19,7 @@ use crate::kept_reply::KeptReply;
 use crate::relisting::relist;
 use mf_list::{Catalogue, Fixed, Listed, PolicyList};
 use mf_perform::{Relisting, listed_after, put_listed, relisting_of, verdict_of};
-use mf_plan::{Plan, State};
+use mf_plan::{Outline, Plan, State};
 use mf_policy::{Policy, SpecList};
 use std::alloc::{AllocError, Global};
 
@@ -66,9 +66,10 @@ impl<'s> Run<'s> {
             → is_ok reply ≡ false → IsOk result }
     {
         let mut plan = Plan::new();
-        let found = self.plan(task, &mut plan);
+        let mut outline = Outline::new();
+        self.plan(task, &mut plan, &mut outline);
         let verdict = verdict_of(list, &plan);
-        self.reply(alloc, task, &plan, &found, &verdict)
+        self.reply(alloc, task, &plan, &outline.found, &verdict)
     }
 
     /// What the task's next line changes of the policies, and the listed specs after it, where it is done with this reply. The

@@ -8,7 +8,7 @@ use Rattle.mf_core.proofs.run.Run.plan.Goals as goal
 pub returns-clause-found : goal.returns-clause-found
 returns-clause-found c = λ tail.
     let line = c.line-line.result.now in
-    let found = c.make.result in
+    let found = c.make.new.outline.found in
     let state = c.self.inside.state in
     let named = subst (λ (child : Option (List ℕ)). AreFound state c.name_of-name.result.now child line.call found) c.child_name.ensures (c.make.ensures.found tail) in
     let here = subst (λ (name : List ℕ). AreFound state name line.child line.call found) c.name_of-name.ensures named in

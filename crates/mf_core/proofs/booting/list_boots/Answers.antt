@@ -1,6 +1,6 @@
 use Rattle.mf_core.proofs.Apart.{static_apart}
 use Rattle.mf_core.proofs.Booted.{tuned}
-use Rattle.mf_core.proofs.booting.boot.Goals as goal
+use Rattle.mf_core.proofs.booting.list_boots.Goals as goal
 
 pub returns-clause-policies : goal.returns-clause-policies
 returns-clause-policies g c =

@@ -5,7 +5,7 @@ use Rattle.mf_errno.specs.declared.module.Module.{Module}
 use Rattle.mf_calls.specs.WellFormed.{AreBoots}
 use Rattle.mf_calls.proofs.FewBoots.{slot_left}
 use Rattle.mf_core.proofs.Booted.{loaded_more}
-use Rattle.mf_core.proofs.run.booted.Goals as goal
+use Rattle.mf_core.proofs.run.list_booted.Goals as goal
 
 pub load-requires : goal.load-requires
 load-requires c =
@@ -13,7 +13,7 @@ load-requires c =
     let P : List Module → Type 0 = λ ms. AreBoots ms in
     record {
       slots = λ wants.
-          let left = slot_left modules c.loop-wanted.wanted-index _ (subst P (sym c.as_slice-wanted-items.ensures) c.requires.boots)
+          let left = slot_left modules c.loop-wanted.wanted-index _ (subst P (sym c.as_slice-wanted-items.ensures) c.requires.formed.boots)
           (slice_get-get_or modules c.loop-wanted.wanted-index _ (omega arith)) wants in
           omega (arith, c.loop-wanted.invariant.numbers_are, left);
     }
