@@ -20,10 +20,10 @@ use Rattle.mf_core.specs.Opening.{booted_specs, boots_of, registrations_from}
 use Rattle.mf_audit.specs.Slotted.{AreSlotted}
 use Rattle.mf_audit.proofs.Slots.{slotted_change, slotted_newest}
 
-abbrev HasSlot : Registration → Type 0
-HasSlot r = slot_of r < SLOTS
+abbrev HasLabelSlot : Registration → Type 0
+HasLabelSlot r = slot_of r < SLOTS
 
-pub slot_within : (m : Module) (booted : Bool) (given : ℕ) → (wants_slot m ≡ true → given < SLOTS) → HasSlot (registration_of m booted given)
+pub slot_within : (m : Module) (booted : Bool) (given : ℕ) → (wants_slot m ≡ true → given < SLOTS) → HasLabelSlot (registration_of m booted given)
 slot_within m booted given few = one (wants_slot m) few
   where
     one : (b : Bool) → (b ≡ true → given < SLOTS) → slot_of (record { «module» = m; slot = slot_for b given; fixed = (registration_of m booted given).fixed }) < SLOTS
@@ -32,12 +32,12 @@ slot_within m booted given few = one (wants_slot m) few
 
 each_within : (ms : List Module) (given : ℕ)
     → ((n : ℕ) (m : Module) → slice_get ms n ≡ Some m → wants_slot m ≡ true → fold given_after given (take n ms) ≤ 3)
-    → AllByRecursion HasSlot (registrations_from given ms)
+    → AllByRecursion HasLabelSlot (registrations_from given ms)
 each_within [] given few = tt
 each_within (m ∷ ms) given few =
     (slot_within m false given (λ wants. omega (arith, few zero m refl wants)), each_within ms (given_after given m) (λ n k at wants. few (suc n) k at wants))
 
-registered_slotted : (rs : List Registration) (es : List Entry) → AllByRecursion HasSlot rs → AreSlotted es → AreSlotted (fold with_registered es rs)
+registered_slotted : (rs : List Registration) (es : List Entry) → AllByRecursion HasLabelSlot rs → AreSlotted es → AreSlotted (fold with_registered es rs)
 registered_slotted [] es each all = all
 registered_slotted (r ∷ rs) es each all =
     registered_slotted rs (with_registered es r) each.1 (slotted_newest (r, fresh_of r.module) es each.0 all)

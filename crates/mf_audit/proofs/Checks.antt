@@ -1,34 +1,23 @@
 -- The checks that a walk asks are those of the plans.
-use Rattle.std.proofs.Common.{◌≡◌, ℕ, Bool, Option, option_map, ap, ◌∙◌}
+use Rattle.std.proofs.Common.{◌≡◌, Option, ap, ◌∙◌}
 use Rattle.mf_elem.specs.declared.label.Request.{Request}
-use Rattle.mf_errno.specs.declared.privilege.Priv.{Priv}
-use Rattle.mf_item.specs.declared.operation.CheckOp.{CheckOp}
-use Rattle.mf_item.specs.declared.view.ObjectView.{ObjectView}
 use Rattle.mf_item.specs.declared.view.SubjectView.{SubjectView}
 use Rattle.mf_item.specs.Item.{Item}
 use Rattle.mf_objects.specs.declared.id.Id.{Id}
 use Rattle.mf_objects.specs.Live.{Entities}
 use Rattle.mf_plan.specs.declared.outline.Check.{Check}
 use Rattle.mf_plan.specs.declared.state.State.{State}
-use Rattle.mf_plan.specs.Outline.{item_asking, request_with, subject_in}
-use Rattle.mf_plan.specs.Views.{object_of}
+use Rattle.mf_plan.specs.Outline.{item_asking, subject_in}
 use Rattle.mf_audit.specs.declared.walk.Asked.{Asked}
 use Rattle.mf_audit.specs.declared.walk.Walk.{Walk}
-use Rattle.mf_audit.specs.Asking.{asking, item_with}
-
--- what is asked by these parts
-abbrev pub parts : CheckOp → Option ObjectView → Option Request → Option Priv → Option (Bool × ℕ) → Asked
-parts op object request privilege port = record { op = op; object = object; request = request; privilege = privilege; port = port }
+use Rattle.mf_audit.specs.Asking.{asking, item_with, parts_of}
 
 -- the check of a plan, by what was read for it
-pub is_check : (o : Entities) (request : Option Request) (check : Check) (subject : SubjectView) (object : Option ObjectView) (asked : Option Request)
-    → subject ≡ subject_in o check → object ≡ option_map (object_of o) check.object → asked ≡ request_with request check.op
-    → item_with subject (parts check.op object asked check.privilege check.port) ≡ item_asking o request check
+pub is_check : (o : Entities) (request : Option Request) (check : Check) (subject : SubjectView) (asked : Asked)
+    → subject ≡ subject_in o check → asked ≡ parts_of o request check → item_with subject asked ≡ item_asking o request check
 unfolding item_asking
-is_check o request check subject object asked is_subject is_object is_asked =
-    ap (λ (s : SubjectView). item_with s (parts check.op object asked check.privilege check.port)) is_subject
-    ∙ ap (λ (x : Option ObjectView). item_with (subject_in o check) (parts check.op x asked check.privilege check.port)) is_object
-    ∙ ap (λ (r : Option Request). item_with (subject_in o check) (parts check.op (option_map (object_of o) check.object) r check.privilege check.port)) is_asked
+is_check o request check subject asked is_subject is_asked =
+    ap (λ (s : SubjectView). item_with s asked) is_subject ∙ ap (item_with (subject_in o check)) is_asked
 
 -- the walk after it, of a kernel that is seen as this state
 pub asked_so : (view s : State) → view ≡ s → (me : Id) (walk walk' : Walk) (item : Item) (request : Option Request) (check : Check)

@@ -3,7 +3,6 @@ pub mod BootSlots
 pub mod Booting
 pub mod Checks
 pub mod Comparing
-pub mod FewLines
 pub mod Going
 pub mod LastName
 pub mod Lines

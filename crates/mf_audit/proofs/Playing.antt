@@ -15,7 +15,7 @@ use Rattle.mf_core.specs.RunView.{RunView, run_on}
 use Rattle.mf_core.proofs.Laws.{AllMayCome-append}
 use Rattle.mf_audit.specs.declared.audit.Audit.TheVariants.{Legal, Wrong}
 use Rattle.mf_audit.specs.Lines.{IsEventAudit}
-use Rattle.mf_audit.proofs.FewLines.{few_events}
+use Rattle.mf_core.proofs.FewLines.{few_events}
 
 -- so many of the events came, and the player is where they lead
 pub record IsPlayed (s : Script) (es : List Event) (n : ℕ) (player : RunView) : Type 0 where

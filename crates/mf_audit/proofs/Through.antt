@@ -1,17 +1,21 @@
 -- A call goes by the way to what it is about, and then by its row there.
-use Rattle.std.proofs.Common.{◌≡◌, ℕ, List, [], ◌∷◌, ◌++◌, Option, Some, None, Result, Ok, Err, map, option_map, refl, ap, sym, ◌∙◌, subst, if◌then◌else◌, Bool, true, false}
+use Rattle.std.proofs.Common.{◌≡◌, ◌||◌, not, ℕ, List, [], ◌∷◌, ◌++◌, Option, Some, None, Result, Ok, Err, map, option_map, refl, ap, sym, ◌∙◌, subst, if◌then◌else◌, Bool, true, false}
 use Rattle.std.specs.Option.{ok_or}
+use Rattle.std.specs.Prelude.{◌==◌}
 use Rattle.std.specs.Result.{IsErrAnd}
 use Rattle.mf_text.specs.Results.{and_then}
 use Rattle.std.proofs.lemmas.List.Sums.{fold-append}
 use Rattle.mf_elem.specs.declared.label.Request.{Request}
 use Rattle.mf_errno.specs.declared.errno.Errno.{Errno}
 use Rattle.mf_errno.specs.declared.errno.Errno.TheVariants as errno
+use Rattle.mf_errno.specs.declared.module.Module.{Module}
 use Rattle.mf_item.specs.Item.{Item}
 use Rattle.mf_item.specs.declared.operation.CheckOp.TheVariants as op
 use Rattle.mf_item.specs.declared.view.Kind.TheVariants as kinds
 use Rattle.mf_objects.specs.declared.id.Id.{Id}
-use Rattle.mf_objects.specs.Live.{Entities}
+use Rattle.mf_objects.specs.Live.{Entities, cred_at}
+use Rattle.mf_policy.specs.declared.settings.Change.{Change}
+use Rattle.mf_policy.specs.Registration.{is_listed}
 use Rattle.mf_calls.specs.declared.script.Call.{Call}
 use Rattle.mf_calls.specs.declared.script.Call.TheVariants as call
 use Rattle.mf_plan.specs.declared.outline.Check.{Check}
@@ -25,10 +29,11 @@ use Rattle.mf_plan.specs.Relabels.{claimed_in}
 use Rattle.mf_plan.specs.Row.{Row, ask_if, refuse_if, through}
 use Rattle.mf_plan.specs.Rows.{about_of}
 use Rattle.mf_plan.specs.Views.{entity_named}
-use Rattle.mf_plan.specs.Ways.{At, Way, along, carrying, straight, then_way, way_to}
+use Rattle.mf_plan.specs.Ways.{At, Way, along, carrying, setting_found, straight, then_way, way_to}
 use Rattle.mf_audit.specs.declared.done.Done.{Done}
 use Rattle.mf_audit.specs.declared.walk.Walk.{Walk}
 use Rattle.mf_audit.specs.Asking.{asking, asking_all}
+use Rattle.mf_audit.specs.Changing.{changing_by}
 use Rattle.mf_audit.specs.Ends.{EndsBy, Goes, Leads}
 
 -- what a row's effect asks of a label
@@ -182,3 +187,31 @@ itself s me claim end walk is =
         → Leads s me (then_way (ok_or claim errno.Einval) (λ r. carrying r (straight (Ok me)))) walk walk (and_then (ok_or claim errno.Einval) (λ r. Ok (r, me)))
     by_claim None = record { walk = refl; leads = refl }
     by_claim (Some r) = record { walk = refl; leads = refl }
+
+-- Whose setting is changed, and how
+
+abbrev pub with_change : Option Change → Module → Result (Module × Change) Errno
+with_change change m = and_then (ok_or change errno.Einval) (λ change. Ok (m, change))
+
+setting_is : (s : State) (me : Id) (tunable : Bool) (m : Option Module) (change : Option Change)
+    → setting_found s me tunable m change ≡ and_then (changing_by s me tunable m) (with_change change)
+setting_is s me tunable m change = by_root (not ((cred_at s.objects me).uid == 0) || tunable) m
+  where
+    by_list : (m : Module) (b : Bool)
+        → (if not b then Err errno.Enoent else with_change change m) ≡ and_then (if b then Ok m else Err errno.Enoent) (with_change change)
+    by_list m true = refl
+    by_list m false = refl
+
+    by_root : (b : Bool) (m : Option Module)
+        → (if b then Err errno.Eperm else and_then (ok_or m errno.Enoent) (λ m. if not (is_listed m s.specs) then Err errno.Enoent else with_change change m))
+        ≡ and_then (if b then Err errno.Eperm else and_then (ok_or m errno.Enoent) (λ m. if is_listed m s.specs then Ok m else Err errno.Enoent)) (with_change change)
+    by_root true m = refl
+    by_root false None = refl
+    by_root false (Some m) = by_list m (is_listed m s.specs)
+
+-- the way to a setting, which a process may change so, or not
+pub setting_there : (s : State) (me : Id) (tunable : Bool) (m : Option Module) (change : Option Change) (may : Result Module Errno) (walk : Walk)
+    → may ≡ changing_by s me tunable m → Leads s me (straight (setting_found s me tunable m change)) walk walk (and_then may (with_change change))
+setting_there s me tunable m change may walk is =
+    at_once s me (setting_found s me tunable m change) (and_then may (with_change change)) walk
+    (ap (λ (r : Result Module Errno). and_then r (with_change change)) is ∙ sym (setting_is s me tunable m change))

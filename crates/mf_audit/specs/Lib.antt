@@ -1,8 +1,10 @@
 pub mod Asking
 pub mod Audit
+pub mod Changing
 pub mod Ended
 pub mod Ends
 pub mod Lines
+pub mod Open
 pub mod Slotted
 pub mod Sorts
 pub mod Taking

@@ -11,15 +11,15 @@ use Rattle.mf_perform.specs.Held.{with_lomac_value}
 use Rattle.mf_perform.specs.OneCall.{call_reply, call_state}
 use Rattle.mf_core.specs.declared.history.Event.{Event}
 use Rattle.mf_core.specs.LegalHistory.{MayCome}
-use Rattle.mf_core.specs.RunView.{RunView, run_on}
+use Rattle.mf_core.specs.RunView.{RunView, IsReached, run_on}
 use Rattle.mf_audit.specs.declared.done.Done.{Done}
 use Rattle.mf_audit.specs.declared.walk.Denied.{Denied}
 use Rattle.mf_audit.specs.Ends.{IsSound, effect_of}
 
--- the run goes on by the event where it may come, and nowhere else
-abbrev pub Takes : RunView → Event → Option RunView → Type 0
-Takes run e (Some next) = MayCome run.script run.run e × (next ≡ run_on run e)
-Takes run e None = ¬ MayCome run.script run.run e
+-- the run goes on to the next by the event where it may come, and nowhere else
+abbrev pub Takes : RunView → Event → RunView → Bool → Type 0
+Takes run e next true = MayCome run.script run.run e × (next ≡ run_on run e) × IsReached next.script next.run
+Takes run e next false = ¬ MayCome run.script run.run e
 
 -- the state goes on to the next by a call where this is its reply, and nowhere else
 abbrev pub Replies : State → List ℕ → Option (List ℕ) → Call → Reply → State → Bool → Type 0

@@ -47,9 +47,8 @@ fn audit_events(
     let mut player = Player::new(alloc, script)?;
     let mut line = boots;
     for event in events {
-        match player.take(alloc, event)? {
-            None => return Ok(Audit::Wrong(line + 1)),
-            Some(next) => player = next,
+        if !player.take(alloc, event)? {
+            return Ok(Audit::Wrong(line + 1));
         }
         line += 1;
     }

@@ -8,7 +8,7 @@ ghost use Rattle.mf_audit.specs.Ends.{Goes};
 use crate::done::{Done, Effect, Shown};
 use crate::files::overfills;
 use crate::kernel::Kernel;
-use crate::walk::Walk;
+use crate::walk::{Check, Walk};
 use mf_errno::Errno;
 use mf_item::CheckOp;
 use mf_objects::{MOST_MESSAGES, PIPE_LIMIT};
@@ -26,7 +26,7 @@ pub(crate) fn pread<'c>(
     ensures { (task : List ℕ) → (name : List ℕ) → Goes kernel.now task me
         ((rows.about_of kernel.now task me (call.Pread name)).row id) walk.old walk.new result }
 {
-    walk.on(kernel, me, CheckOp::PipeRead, id);
+    walk.ask(kernel, me, &Check::On(CheckOp::PipeRead, id), None);
     if kernel.parties.content(id).is_empty() {
         return Err(Errno::Eagain);
     }
@@ -50,7 +50,7 @@ pub(crate) fn pwrite<'c>(
         ((rows.about_of kernel.now task me (call.Pwrite name text.now)).row id) walk.old walk.new
         result }
 {
-    walk.on(kernel, me, CheckOp::PipeWrite, id);
+    walk.ask(kernel, me, &Check::On(CheckOp::PipeWrite, id), None);
     if overfills(PIPE_LIMIT, kernel, text, id) {
         return Err(Errno::Eagain);
     }
@@ -74,7 +74,12 @@ pub(crate) fn send<'c>(
         result }
 {
     let (from, to) = ends;
-    walk.by_socket(kernel, me, from, CheckOp::SocketDeliver, to);
+    walk.ask(
+        kernel,
+        me,
+        &Check::BySocket(from, CheckOp::SocketDeliver, to),
+        None,
+    );
     if kernel.parties.count(to) >= MOST_MESSAGES {
         return Err(Errno::Enobufs);
     }
@@ -93,7 +98,7 @@ pub(crate) fn recv<'c>(
     ensures { (task : List ℕ) → (name : List ℕ) → Goes kernel.now task me
         ((rows.about_of kernel.now task me (call.Recv name)).row id) walk.old walk.new result }
 {
-    walk.on(kernel, me, CheckOp::SocketReceive, id);
+    walk.ask(kernel, me, &Check::On(CheckOp::SocketReceive, id), None);
     if kernel.parties.count(id) == 0 {
         return Err(Errno::Eagain);
     }
@@ -118,6 +123,6 @@ pub(crate) fn bind<'c>(
         ((rows.about_of kernel.now task me (call.Bind name tcp port)).row id) walk.old walk.new
         result }
 {
-    walk.binding(kernel, me, tcp, port, id);
+    walk.ask(kernel, me, &Check::Binding(tcp, port, id), None);
     Ok(Done::shows(Shown::Nothing))
 }

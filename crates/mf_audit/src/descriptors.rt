@@ -12,7 +12,7 @@ ghost use Rattle.mf_audit.specs.Ends.{Goes};
 use crate::done::{Done, Effect, Shown};
 use crate::files::is_dir;
 use crate::kernel::Kernel;
-use crate::walk::Walk;
+use crate::walk::{Check, Walk};
 use mf_elem::LabelValue;
 use mf_errno::{Errno, Module};
 use mf_item::CheckOp;
@@ -72,7 +72,7 @@ fn ask_if(kernel: &Kernel, walk: &mut Walk, me: PartyId, test: bool, op: CheckOp
     ensures few { walk.new.asked ≤ walk.old.asked + 1 }
 {
     if test {
-        walk.on(kernel, me, op, id);
+        walk.ask(kernel, me, &Check::On(op, id), None);
     }
 }
 

@@ -13,7 +13,7 @@ ghost use Rattle.mf_audit.specs.Ends.{Goes, IsShown, payload_of};
 use crate::done::{Done, Effect, Shown};
 use crate::kernel::Kernel;
 use crate::paths::last_name;
-use crate::walk::Walk;
+use crate::walk::{Check, Walk};
 use mf_elem::Request;
 use mf_errno::Errno;
 use mf_item::CheckOp;
@@ -37,7 +37,7 @@ pub(crate) fn shown<'c>(
     ensures { (task : List ℕ) → Goes kernel.now task me
         (row.ask (on me op id) (row.shows (payload_of kernel.now shown))) walk.old walk.new result }
 {
-    walk.on(kernel, me, op, id);
+    walk.ask(kernel, me, &Check::On(op, id), None);
     Ok(Done::shows(shown))
 }
 
@@ -78,7 +78,7 @@ pub(crate) fn exec<'c>(
     if kernel.parties.is_dir(id) {
         return Err(Errno::Eacces);
     }
-    walk.on(kernel, me, CheckOp::VnodeExec, id);
+    walk.ask(kernel, me, &Check::On(CheckOp::VnodeExec, id), None);
     Ok(Done::shows(Shown::Nothing))
 }
 
@@ -112,7 +112,7 @@ pub(crate) fn appends<'c>(
     ensures { (task : List ℕ) → Goes kernel.now task me
         (rows.appends kernel.now me text.now id) walk.old walk.new result }
 {
-    walk.on(kernel, me, CheckOp::VnodeWrite, id);
+    walk.ask(kernel, me, &Check::On(CheckOp::VnodeWrite, id), None);
     if overfills(CONTENT_LIMIT, kernel, text, id) {
         return Err(Errno::Efbig);
     }
@@ -134,8 +134,8 @@ pub(crate) fn read<'c>(
     if kernel.parties.is_dir(id) {
         return Err(Errno::Eisdir);
     }
-    walk.on(kernel, me, CheckOp::VnodeOpenRead, id);
-    walk.on(kernel, me, CheckOp::VnodeRead, id);
+    walk.ask(kernel, me, &Check::On(CheckOp::VnodeOpenRead, id), None);
+    walk.ask(kernel, me, &Check::On(CheckOp::VnodeRead, id), None);
     Ok(Done::shows(Shown::Head(id)))
 }
 
@@ -156,8 +156,8 @@ pub(crate) fn write<'c>(
     if kernel.parties.is_dir(id) {
         return Err(Errno::Eisdir);
     }
-    walk.on(kernel, me, CheckOp::VnodeOpenWrite, id);
-    walk.on(kernel, me, CheckOp::VnodeWrite, id);
+    walk.ask(kernel, me, &Check::On(CheckOp::VnodeOpenWrite, id), None);
+    walk.ask(kernel, me, &Check::On(CheckOp::VnodeWrite, id), None);
     if overfills(CONTENT_LIMIT, kernel, text, id) {
         return Err(Errno::Efbig);
     }
@@ -179,7 +179,7 @@ pub(crate) fn readdir<'c>(
     if !kernel.parties.is_dir(id) {
         return Err(Errno::Enotdir);
     }
-    walk.on(kernel, me, CheckOp::VnodeReaddir, id);
+    walk.ask(kernel, me, &Check::On(CheckOp::VnodeReaddir, id), None);
     Ok(Done::shows(Shown::Names(id)))
 }
 
@@ -197,7 +197,7 @@ pub(crate) fn chmod<'c>(
         ((rows.about_of kernel.now task me (call.Chmod path mode)).row id) walk.old walk.new
         result }
 {
-    walk.on(kernel, me, CheckOp::VnodeSetmode, id);
+    walk.ask(kernel, me, &Check::On(CheckOp::VnodeSetmode, id), None);
     Ok(Done::changes(Effect::SetMode(id, mode)))
 }
 
@@ -217,8 +217,8 @@ pub(crate) fn unlink<'c>(
         ((rows.about_of kernel.now task me (call.Unlink path)).row (dir, id)) walk.old walk.new
         result }
 {
-    walk.on(kernel, me, CheckOp::VnodeUnlinkDir, dir);
-    walk.on(kernel, me, CheckOp::VnodeUnlink, id);
+    walk.ask(kernel, me, &Check::On(CheckOp::VnodeUnlinkDir, dir), None);
+    walk.ask(kernel, me, &Check::On(CheckOp::VnodeUnlink, id), None);
     if kernel.parties.count(id) > 0 {
         return Err(Errno::Enotempty);
     }
@@ -241,7 +241,7 @@ pub(crate) fn make_file<'c>(
     ensures { (task : List ℕ) → Goes kernel.now task me
         (rows.makes_file kernel.now me path.now mode is_dir dir) walk.old walk.new result }
 {
-    walk.on(kernel, me, CheckOp::VnodeCreate, dir);
+    walk.ask(kernel, me, &Check::On(CheckOp::VnodeCreate, dir), None);
     if is_full(kernel) {
         return Err(Errno::Enfile);
     }
@@ -268,6 +268,6 @@ pub(crate) fn relabel<'c>(
         (row.relabel_by (on me op) asked) walk.old walk.new result }
 {
     let (request, id) = asked;
-    walk.relabel(kernel, me, op, Some(id), &request);
+    walk.ask(kernel, me, &Check::On(op, id), Some(request));
     Ok(Done::changes(Effect::Relabel(id, request)))
 }

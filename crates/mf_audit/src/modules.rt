@@ -7,7 +7,7 @@ ghost use Rattle.mf_audit.specs.Ends.{Goes};
 
 use crate::done::{Done, Effect, Shown};
 use crate::kernel::Kernel;
-use crate::walk::Walk;
+use crate::walk::{Check, Walk};
 use mf_errno::{Errno, Module};
 use mf_item::CheckOp;
 use mf_parties::PartyId;
@@ -26,7 +26,7 @@ pub(crate) fn load<'c>(
         ((rows.about_of kernel.now task me (call.Kldload name)).row «module») walk.old walk.new
         result }
 {
-    walk.by_itself(kernel, me, CheckOp::KldLoad);
+    walk.ask(kernel, me, &Check::Alone(CheckOp::KldLoad), None);
     if let Some(fault) = load_fault(true, &kernel.listed, kernel.given, module) {
         return Err(fault.errno());
     }

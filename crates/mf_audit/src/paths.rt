@@ -12,7 +12,7 @@ ghost use Rattle.mf_audit.specs.Asking.{asking_all};
 ghost use Rattle.mf_audit.specs.Ends.{Leads, target_of};
 
 use crate::kernel::Kernel;
-use crate::walk::Walk;
+use crate::walk::{Check, Walk};
 use mf_errno::Errno;
 use mf_item::CheckOp;
 use mf_names::{Components, Path};
@@ -42,7 +42,7 @@ fn look_up(
         × (id.0 ≢ 0))) }
     ensures few { walk.new.asked < 100 }
 {
-    walk.on(kernel, me, CheckOp::VnodeLookup, dir);
+    walk.ask(kernel, me, &Check::On(CheckOp::VnodeLookup, dir), None);
     let entry = kernel.parties.entry_of(dir, name);
     let Some(next) = below.next() else {
         return Ok((dir, entry));

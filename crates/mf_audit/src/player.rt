@@ -5,6 +5,7 @@ ghost use Rattle.mf_core.specs.declared.history.Event.TheVariants as event;
 ghost use Rattle.mf_core.specs.declared.progress.Turn.TheVariants as turn;
 ghost use Rattle.mf_core.specs.LegalHistory.{next_line, next_number, opening_run, turn_of};
 ghost use Rattle.mf_core.specs.Progress.{open_entries};
+ghost use Rattle.mf_core.specs.RunView.{IsReached};
 ghost use Rattle.mf_audit.specs.Taking.{Takes};
 
 use crate::kernel::Kernel;
@@ -17,7 +18,7 @@ use std::alloc::{AllocError, Global};
 use std::marker::Model;
 
 /// A player in a run of a script: the state of the kernel, and how far each task is. Contracts see the script and the state of
-/// the run.
+/// the run. It is lent: where memory runs out, the run is lost with it.
 #[derive(Drop)]
 pub(crate) struct Player<'s> {
     script: &'s Script,
@@ -26,7 +27,7 @@ pub(crate) struct Player<'s> {
 }
 
 impl<'s> Model for Player<'s> {
-    ghost use Rattle.mf_core.specs.RunView.{RunView, IsReached};
+    ghost use Rattle.mf_core.specs.RunView.{RunView};
 
     ghost Value = { RunView };
 
@@ -34,17 +35,15 @@ impl<'s> Model for Player<'s> {
       script = p.script.now;
       run = record { state = p.kernel; progress = p.standings };
     } };
-
-    ghost invariant = { λ p. IsReached p.script.now
-        (record { state = p.kernel; progress = p.standings }) };
 }
 
 impl<'s> Player<'s> {
     /// The player before the first event of the script.
     pub(crate) fn new(alloc: Global, script: &'s Script) -> Result<Player<'s>, AllocError>
         requires { IsWellFormed script.now }
-        ensures { IfOk result (λ player. player
+        ensures opening { IfOk result (λ player. player
             ≡ record { script = script.now; run = opening_run script.now }) }
+        ensures reached { IfOk result (λ player. IsReached player.script player.run) }
     {
         let kernel = opening(alloc, script)?;
         let standings = Standings::new(alloc, &script.tasks)?;
@@ -56,8 +55,9 @@ impl<'s> Player<'s> {
     }
 
     /// Goes on by the event where it may come. Where it may not, nobody can go on.
-    pub(crate) fn take(self, alloc: Global, event: &Event) -> Result<Option<Player<'s>>, AllocError>
-        ensures { IfOk result (Takes self.entry event.now) }
+    pub(crate) fn take(&mut self, alloc: Global, event: &Event) -> Result<bool, AllocError>
+        requires { IsReached self.old.script self.old.run }
+        ensures { IfOk result (Takes self.old event.now self.new) }
     {
         match event {
             Event::Enter(task) => Ok(self.enter(*task)),
@@ -75,6 +75,7 @@ impl<'s> Player<'s> {
 
     /// Whether each task has done all its lines.
     pub(crate) fn is_complete(&self) -> bool
+        requires { IsReached self.now.script self.now.run }
         ensures { IsTrue result ↔ ((t : ℕ) → t < length self.now.script.tasks
             → turn_of self.now.script self.now.run.progress t ≡ turn.Finished) }
     {
@@ -91,6 +92,7 @@ impl<'s> Player<'s> {
 
     /// What the task may do next. There is nothing for one that the script doesn't have.
     fn turn(&self, task: u32) -> Turn
+        requires { IsReached self.now.script self.now.run }
         ensures { result ≡ turn_of self.now.script self.now.run.progress task }
     {
         if task as usize >= self.standings.len() {
@@ -106,101 +108,88 @@ impl<'s> Player<'s> {
     }
 
     /// The task begins an entry.
-    fn enter(mut self, task: u32) -> Option<Player<'s>>
-        ensures { Takes self.entry (event.Enter task) result }
+    fn enter(&mut self, task: u32) -> bool
+        requires { IsReached self.old.script self.old.run }
+        ensures { Takes self.old (event.Enter task) self.new result }
     {
         match self.turn(task) {
             Turn::Entry => {
                 self.standings.set_phase(task as usize, Phase::Entered);
-                Some(self)
+                true
             }
-            Turn::Change | Turn::Entered | Turn::Done | Turn::Finished | Turn::Stopped => None,
+            Turn::Change | Turn::Entered | Turn::Done | Turn::Finished | Turn::Stopped => false,
         }
     }
 
     /// The task ends its entry.
-    fn leave(mut self, task: u32) -> Option<Player<'s>>
-        ensures { Takes self.entry (event.Leave task) result }
+    fn leave(&mut self, task: u32) -> bool
+        requires { IsReached self.old.script self.old.run }
+        ensures { Takes self.old (event.Leave task) self.new result }
     {
         match self.turn(task) {
             Turn::Entered | Turn::Done => {
                 self.standings.leave(task as usize);
-                Some(self)
+                true
             }
-            Turn::Entry | Turn::Change | Turn::Finished | Turn::Stopped => None,
+            Turn::Entry | Turn::Change | Turn::Finished | Turn::Stopped => false,
         }
     }
 
     /// The call of the task's entry is done, with this reply.
     fn done(
-        self,
+        &mut self,
         alloc: Global,
         task: u32,
         number: u32,
         given: &Reply,
-    ) -> Result<Option<Player<'s>>, AllocError>
-        ensures { IfOk result (Takes self.entry (event.Done task number given.now)) }
+    ) -> Result<bool, AllocError>
+        requires { IsReached self.old.script self.old.run }
+        ensures { IfOk result (Takes self.old (event.Done task number given.now) self.new) }
     {
         if !self.is_at_call(task, number) {
-            return Ok(None);
+            return Ok(false);
         }
         let line = self.line(task);
-        let name = self.script.name_of(task);
-        let Player {
-            script,
-            mut kernel,
-            mut standings,
-        } = self;
-        if !kernel.go_on(alloc, name, line, given)? {
-            return Ok(None);
+        let script = self.script;
+        let name = script.name_of(task);
+        if !self.kernel.go_on(alloc, name, line, given)? {
+            return Ok(false);
         }
-        standings.set_phase(task as usize, Phase::Done);
-        Ok(Some(Player {
-            script,
-            kernel,
-            standings,
-        }))
+        self.standings.set_phase(task as usize, Phase::Done);
+        Ok(true)
     }
 
     /// The change of the task's line is made, with this reply.
     fn changed(
-        self,
+        &mut self,
         alloc: Global,
         task: u32,
         number: u32,
         given: &Reply,
-    ) -> Result<Option<Player<'s>>, AllocError>
-        ensures { IfOk result (Takes self.entry (event.Changed task number given.now)) }
+    ) -> Result<bool, AllocError>
+        requires { IsReached self.old.script self.old.run }
+        ensures { IfOk result (Takes self.old (event.Changed task number given.now) self.new) }
     {
         if !self.is_at_change(task, number) {
-            return Ok(None);
+            return Ok(false);
         }
         let line = self.line(task);
-        let name = self.script.name_of(task);
-        let Player {
-            script,
-            mut kernel,
-            mut standings,
-        } = self;
-        if !kernel.go_on(alloc, name, line, given)? {
-            return Ok(None);
+        let script = self.script;
+        let name = script.name_of(task);
+        if !self.kernel.go_on(alloc, name, line, given)? {
+            return Ok(false);
         }
-        standings.advance(task as usize);
-        Ok(Some(Player {
-            script,
-            kernel,
-            standings,
-        }))
+        self.standings.advance(task as usize);
+        Ok(true)
     }
 
     /// Whether the call of the task's entry, at the line of that number, may be done.
     fn is_at_call(&self, task: u32, number: u32) -> bool
+        requires { IsReached self.now.script self.now.run }
         ensures { IsTrue result ↔ (turn_of self.now.script self.now.run.progress task
             ≡ turn.Entered)
             × (number ≡ next_number self.now.run task) }
     {
-        // Reading a field brings what is true of all players into the proof.
-        let _standings = &self.standings;
         match self.turn(task) {
             Turn::Entered => self.is_next(task, number),
             Turn::Entry | Turn::Change | Turn::Done | Turn::Finished | Turn::Stopped => false,
@@ -209,6 +198,7 @@ impl<'s> Player<'s> {
 
     /// Whether the change at the line of that number may be made: no entry is open.
     fn is_at_change(&self, task: u32, number: u32) -> bool
+        requires { IsReached self.now.script self.now.run }
         ensures { IsTrue result ↔ (open_entries self.now.run.progress ≡ 0)
             × (turn_of self.now.script self.now.run.progress task ≡ turn.Change)
             × (number ≡ next_number self.now.run task) }
@@ -221,7 +211,8 @@ impl<'s> Player<'s> {
 
     /// Whether the line after those that the task has done has this number.
     fn is_next(&self, task: u32, number: u32) -> bool
-        requires { task < length self.now.script.tasks }
+        requires reached { IsReached self.now.script self.now.run }
+        requires task { task < length self.now.script.tasks }
         ensures { result ≡ (number == next_number self.now.run task) }
     {
         number == self.standings.at(task as usize).lines + 1
@@ -229,6 +220,7 @@ impl<'s> Player<'s> {
 
     /// The line after those that the task has done.
     fn line(&self, task: u32) -> &'s Line
+        requires reached { IsReached self.now.script self.now.run }
         requires task { task < length self.now.script.tasks }
         requires line { IsSome (next_line self.now.script self.now.run.progress task) }
         ensures value { next_line self.now.script self.now.run.progress task ≡ Some result.now }

@@ -11,7 +11,7 @@ ghost use Rattle.mf_audit.specs.Ends.{Goes, IsShown, payload_of};
 use crate::done::{Done, Effect, Shown};
 use crate::files::is_full;
 use crate::kernel::Kernel;
-use crate::walk::Walk;
+use crate::walk::{Check, Walk};
 use mf_elem::Request;
 use mf_errno::{Errno, Priv};
 use mf_item::CheckOp;
@@ -100,7 +100,7 @@ pub(crate) fn privileged<'c>(
     ensures { (task : List ℕ) → Goes kernel.now task me
         (row.ask (checks.for_privilege me p) row.does_nothing) walk.old walk.new result }
 {
-    walk.privilege(kernel, me, p);
+    walk.ask(kernel, me, &Check::Privilege(p), None);
     Ok(Done::shows(Shown::Nothing))
 }
 
@@ -117,6 +117,11 @@ pub(crate) fn relabel_itself<'c>(
         (row.relabel_by (λ id. checks.by_itself me op.CredRelabel) (request, me)) walk.old walk.new
         result }
 {
-    walk.relabel(kernel, me, CheckOp::CredRelabel, None, &request);
+    walk.ask(
+        kernel,
+        me,
+        &Check::Alone(CheckOp::CredRelabel),
+        Some(request),
+    );
     Ok(Done::changes(Effect::Relabel(me, request)))
 }

@@ -1,19 +1,18 @@
 //! The rows of calls that change a setting of a policy.
-ghost use Rattle.std.specs.Prelude.{◌≡◌, ℕ, List, None, Some, IfOk, IfSome, false, option_and_then, if◌then◌else◌};
+ghost use Rattle.std.specs.Prelude.{◌≡◌, ℕ, List, None, IfSome, option_and_then, if◌then◌else◌};
 ghost use Rattle.std.specs.Option.{option_map_or};
 ghost use Rattle.mf_plan.specs.declared.reply.Payload.TheVariants as payload;
-ghost use Rattle.mf_errno.specs.declared.module.Module.TheVariants as modules;
+ghost use Rattle.mf_calls.specs.declared.script.Call.TheVariants as call;
 ghost use Rattle.mf_plan.specs.Rows as rows;
-ghost use Rattle.mf_plan.specs.Ways.{setting_found};
 ghost use Rattle.mf_plan.specs.Settings as spec;
 ghost use Rattle.mf_policy.specs.IsChange.{IsChange};
 ghost use Rattle.mf_policy.specs.Settings.{change_in};
 ghost use Rattle.mf_policy.specs.Sysctls.{asked_of, sysctl_named, sysctl_row};
+ghost use Rattle.mf_audit.specs.Changing.{changing_by};
 ghost use Rattle.mf_audit.specs.Ends.{Goes};
 
 use crate::done::{Done, Effect, Shown};
 use crate::kernel::Kernel;
-use crate::ways::setting;
 use mf_errno::{Errno, Module};
 use mf_names::Word;
 use mf_parties::PartyId;
@@ -23,13 +22,13 @@ use mf_policy::{Change, Sysctl};
 pub(crate) fn set<'c>(
     kernel: &Kernel,
     _me: PartyId,
-    asked: (Module, Change),
+    module: Module,
+    change: Change,
 ) -> Result<Done<'c>, Errno>
-    requires { IsChange asked.1 }
+    requires { IsChange change }
     ensures { (task : List ℕ) → (walk : _) → Goes kernel.now task _me
-        (rows.set kernel.now payload.None asked) walk walk result }
+        (rows.set kernel.now payload.None («module», change)) walk walk result }
 {
-    let (module, change) = asked;
     match kernel.listed.answer_to(module, &change).errno {
         Errno::Success => Ok(Done::changes(Effect::Set(module, change))),
         errno => Err(errno),
@@ -40,15 +39,15 @@ pub(crate) fn set<'c>(
 pub(crate) fn add<'c>(
     kernel: &Kernel,
     _me: PartyId,
-    asked: (Module, Change),
+    module: Module,
+    change: Change,
 ) -> Result<Done<'c>, Errno>
-    requires { IsChange asked.1 }
+    requires { IsChange change }
     ensures { (task : List ℕ) → (walk : _) → Goes kernel.now task _me
         (rows.set kernel.now
-        (option_map_or payload.Rule (change_in asked.0 asked.1 kernel.now.specs).0.number
-        payload.None) asked) walk walk result }
+        (option_map_or payload.Rule (change_in «module» change kernel.now.specs).0.number
+        payload.None) («module», change)) walk walk result }
 {
-    let (module, change) = asked;
     let answer = kernel.listed.answer_to(module, &change);
     match (answer.errno, answer.number) {
         (Errno::Success, Some(number)) => Ok(Done {
@@ -92,34 +91,39 @@ fn asked_named(kernel: &Kernel, name: &str, value: &str) -> Option<Change>
     }
 }
 
-/// The module whose setting a value is to change by its name, and the change.
-pub(crate) fn sysctl(
+/// Sets the setting of that name to the value.
+pub(crate) fn sysctl<'c>(
     kernel: &Kernel,
     me: PartyId,
     name: &Word,
     value: &Word,
-) -> Result<(Module, Change), Errno>
-    ensures there { result ≡ setting_found kernel.now me (spec.is_tunable kernel.now.specs name.now)
-        (spec.owner_named name.now)
-        (option_and_then (λ s. if (sysctl_row s).tunable then None
-        else asked_of s kernel.now.specs value.now) (sysctl_named name.now)) }
-    ensures change { IfOk result (λ asked. IsChange asked.1) }
+) -> Result<Done<'c>, Errno>
+    ensures { (task : List ℕ) → (walk : _) → Goes kernel.now task me
+        ((rows.about_of kernel.now task me (call.Sysctl name.now value.now)).whole) walk walk
+        result }
 {
-    let change = asked_named(kernel, name.as_str(), value.as_str());
-    let tunable = is_tunable(kernel, name.as_str());
-    setting(kernel, me, tunable, owner_named(name.as_str()), change)
+    let name = name.as_str();
+    let module = changing(kernel, me, is_tunable(kernel, name), owner_named(name))?;
+    match asked_named(kernel, name, value.as_str()) {
+        Some(change) => set(kernel, me, module, change),
+        None => Err(Errno::Einval),
+    }
 }
 
-/// A change of the rules about files, and their module.
-pub(crate) fn of_rules(
+/// The module whose setting is changed. Root alone changes one, and a tunable nobody.
+pub(crate) fn changing(
     kernel: &Kernel,
     me: PartyId,
-    change: Change,
-) -> Result<(Module, Change), Errno>
-    requires { IsChange change }
-    ensures there { result ≡ setting_found kernel.now me false (Some modules.Bsdextended)
-        (Some change) }
-    ensures change { IfOk result (λ asked. IsChange asked.1) }
+    tunable: bool,
+    module: Option<Module>,
+) -> Result<Module, Errno>
+    ensures { result ≡ changing_by kernel.now me tunable «module» }
 {
-    setting(kernel, me, false, Some(Module::Bsdextended), Some(change))
+    if !kernel.parties.cred(me).is_root() || tunable {
+        return Err(Errno::Eperm);
+    }
+    match module {
+        Some(module) if kernel.listed.is_listed(module) => Ok(module),
+        _ => Err(Errno::Enoent),
+    }
 }

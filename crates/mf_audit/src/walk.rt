@@ -1,11 +1,10 @@
 //! A walk along the checks of a call: each is answered as it is asked.
-ghost use Rattle.std.specs.Prelude.{◌≡◌, ◌<◌, option_map, IfSome, IsSome, Some, None};
+ghost use Rattle.std.specs.Prelude.{◌≡◌, ◌<◌, IsSome};
 ghost use Rattle.mf_list.specs.Asked.{answer_to};
+ghost use Rattle.mf_objects.specs.declared.id.Id.{Id};
 ghost use Rattle.mf_objects.specs.Live.{live_at};
-ghost use Rattle.mf_plan.specs.Checks as check;
 ghost use Rattle.mf_plan.specs.Lowering.{with_slot};
-ghost use Rattle.mf_plan.specs.Outline.{is_relabel, item_asking, item_of, request_with};
-ghost use Rattle.mf_plan.specs.Views.{object_of};
+ghost use Rattle.mf_plan.specs.Outline.{is_relabel, item_asking, request_with, subject_in};
 ghost use Rattle.mf_audit.specs.Asking as spec;
 ghost use Rattle.mf_audit.specs.Slotted.{AreSlotted};
 
@@ -37,6 +36,21 @@ pub struct Walk {
     pub denied: Option<Denied>,
 }
 
+/// A check of a call.
+#[derive(Clone, Copy)]
+pub enum Check {
+    /// Of what the caller does to another party.
+    On(CheckOp, PartyId),
+    /// Of the caller alone.
+    Alone(CheckOp),
+    /// Of a privilege of the caller's.
+    Privilege(Priv),
+    /// Of what a socket of the caller's does to another: the socket is the subject, with the caller's credential.
+    BySocket(PartyId, CheckOp, PartyId),
+    /// Of a binding of a socket of the caller's to a port, of TCP or else of UDP.
+    Binding(bool, u16, PartyId),
+}
+
 /// What a check asks of its subject.
 #[derive(Clone, Copy)]
 pub struct Asked {
@@ -63,135 +77,27 @@ impl Walk {
         }
     }
 
-    /// The check of what the caller does to another party.
-    pub(crate) fn on(&mut self, kernel: &Kernel, me: PartyId, op: CheckOp, id: PartyId)
-        requires caller { IsSome (live_at kernel.now.objects me) }
-        requires object { IsSome (live_at kernel.now.objects id) }
-        requires few { self.old.asked < 255 }
-        ensures { self.new ≡ spec.asking kernel.now.specs me self.old
-            (item_of kernel.now.objects (check.on me op id)) }
-    {
-        let subject = kernel.parties.process(me);
-        let object = kernel.parties.object(id);
-        let asked = Asked::of(op, Some(object));
-        self.ask(&kernel.listed, me, &subject, &asked);
-    }
-
-    /// The check of the caller alone.
-    pub(crate) fn by_itself(&mut self, kernel: &Kernel, me: PartyId, op: CheckOp)
-        requires caller { IsSome (live_at kernel.now.objects me) }
-        requires few { self.old.asked < 255 }
-        ensures { self.new ≡ spec.asking kernel.now.specs me self.old
-            (item_of kernel.now.objects (check.by_itself me op)) }
-    {
-        let subject = kernel.parties.process(me);
-        let asked = Asked::of(op, None);
-        self.ask(&kernel.listed, me, &subject, &asked);
-    }
-
-    /// The check of a privilege of the caller's.
-    pub(crate) fn privilege(&mut self, kernel: &Kernel, me: PartyId, privilege: Priv)
-        requires caller { IsSome (live_at kernel.now.objects me) }
-        requires few { self.old.asked < 255 }
-        ensures { self.new ≡ spec.asking kernel.now.specs me self.old
-            (item_of kernel.now.objects (check.for_privilege me privilege)) }
-    {
-        let subject = kernel.parties.process(me);
-        let asked = Asked {
-            op: CheckOp::Priv,
-            object: None,
-            request: None,
-            privilege: Some(privilege),
-            port: None,
-        };
-        self.ask(&kernel.listed, me, &subject, &asked);
-    }
-
-    /// The check of what a socket of the caller's does to another: the socket is the subject, with the caller's credential.
-    pub(crate) fn by_socket(
+    /// Asks one more check, with what is asked of a label.
+    pub(crate) fn ask(
         &mut self,
         kernel: &Kernel,
         me: PartyId,
-        socket: PartyId,
-        op: CheckOp,
-        id: PartyId,
+        check: &Check,
+        request: Option<Request>,
     )
         requires caller { IsSome (live_at kernel.now.objects me) }
-        requires subject { IsSome (live_at kernel.now.objects socket) }
-        requires object { IsSome (live_at kernel.now.objects id) }
+        requires there { spec.IsThere kernel.now.objects check.now }
         requires few { self.old.asked < 255 }
         ensures { self.new ≡ spec.asking kernel.now.specs me self.old
-            (item_of kernel.now.objects (check.by_socket me socket op id)) }
+            (item_asking kernel.now.objects request (spec.check_of me check.now)) }
     {
-        let subject = kernel.parties.subject(me, socket);
-        let object = kernel.parties.object(id);
-        let asked = Asked::of(op, Some(object));
-        self.ask(&kernel.listed, me, &subject, &asked);
-    }
-
-    /// The check of a binding of a socket of the caller's to a port, of TCP or else of UDP.
-    pub(crate) fn binding(
-        &mut self,
-        kernel: &Kernel,
-        me: PartyId,
-        tcp: bool,
-        port: u16,
-        id: PartyId,
-    )
-        requires caller { IsSome (live_at kernel.now.objects me) }
-        requires object { IsSome (live_at kernel.now.objects id) }
-        requires few { self.old.asked < 255 }
-        ensures { self.new ≡ spec.asking kernel.now.specs me self.old
-            (item_of kernel.now.objects (check.binding me tcp port id)) }
-    {
-        let subject = kernel.parties.process(me);
-        let object = kernel.parties.object(id);
-        let asked = Asked {
-            op: CheckOp::SocketBind,
-            object: Some(object),
-            request: None,
-            privilege: None,
-            port: Some((tcp, port)),
-        };
-        self.ask(&kernel.listed, me, &subject, &asked);
-    }
-
-    /// A check with what a relabel asks for, of another party or of the caller alone.
-    pub(crate) fn relabel(
-        &mut self,
-        kernel: &Kernel,
-        me: PartyId,
-        op: CheckOp,
-        id: Option<PartyId>,
-        request: &Request,
-    )
-        requires caller { IsSome (live_at kernel.now.objects me) }
-        requires object { IfSome id (λ id. IsSome (live_at kernel.now.objects id)) }
-        requires few { self.old.asked < 255 }
-        ensures { self.new ≡ spec.asking kernel.now.specs me self.old
-            (item_asking kernel.now.objects (Some request.now)
-            (record {
-              op = op;
-              caller = me;
-              subject = me;
-              object = id;
-              privilege = None;
-              port = None;
-            })) }
-    {
-        let subject = kernel.parties.process(me);
-        let asked = Asked {
-            op,
-            object: object_in(&kernel.parties, id),
-            request: request_with(op, request),
-            privilege: None,
-            port: None,
-        };
-        self.ask(&kernel.listed, me, &subject, &asked);
+        let subject = subject_of(&kernel.parties, me, check);
+        let asked = asked_of(&kernel.parties, check, request);
+        self.count(&kernel.listed, me, &subject, &asked);
     }
 
     /// One more check. It counts where none before it was denied.
-    fn ask(&mut self, listed: &SpecList, me: PartyId, subject: &SubjectView, asked: &Asked)
+    fn count(&mut self, listed: &SpecList, me: PartyId, subject: &SubjectView, asked: &Asked)
         requires slots { AreSlotted listed.now }
         requires few { self.old.asked < 255 }
         ensures { self.new
@@ -250,25 +156,6 @@ impl Walk {
 }
 
 impl Asked {
-    /// The operation on that object, where it has one, with nothing more.
-    fn of(op: CheckOp, object: Option<ObjectView>) -> Asked
-        ensures { result ≡ record {
-          op = op;
-          object = object;
-          request = None;
-          privilege = None;
-          port = None;
-        } }
-    {
-        Asked {
-            op,
-            object,
-            request: None,
-            privilege: None,
-            port: None,
-        }
-    }
-
     /// The check of this subject.
     fn item<'a>(&'a self, subject: &'a SubjectView) -> Item<'a>
         ensures { result ≡ spec.item_with subject.now self.now }
@@ -295,22 +182,62 @@ fn with_value(subject: &SubjectView, slot: u8, value: &LabelValue) -> SubjectVie
     view
 }
 
-/// The party as an object, where there is one.
-fn object_in(parties: &Parties, id: Option<PartyId>) -> Option<ObjectView>
-    requires { IfSome id (λ id. IsSome (live_at parties.now id)) }
-    ensures { result ≡ option_map (object_of parties.now) id }
+/// The subject of a check that this process asks.
+fn subject_of(parties: &Parties, me: PartyId, check: &Check) -> SubjectView
+    requires caller { IsSome (live_at parties.now me) }
+    requires there { spec.IsThere parties.now check.now }
+    ensures { result ≡ subject_in parties.now (spec.check_of me check.now) }
 {
-    match id {
-        Some(id) => Some(parties.object(id)),
-        None => None,
+    match check {
+        Check::BySocket(socket, ..) => parties.subject(me, *socket),
+        Check::On(..) | Check::Alone(_) | Check::Privilege(_) | Check::Binding(..) => {
+            parties.subject(me, me)
+        }
+    }
+}
+
+/// What a check asks of it, with what is asked of a label.
+fn asked_of(parties: &Parties, check: &Check, request: Option<Request>) -> Asked
+    requires { spec.IsThere parties.now check.now }
+    ensures { (me : Id) → result ≡ spec.parts_of parties.now request (spec.check_of me check.now) }
+{
+    match check {
+        Check::On(op, id) | Check::BySocket(_, op, id) => Asked {
+            op: *op,
+            object: Some(parties.object(*id)),
+            request: request_with(*op, request),
+            privilege: None,
+            port: None,
+        },
+        Check::Alone(op) => Asked {
+            op: *op,
+            object: None,
+            request: request_with(*op, request),
+            privilege: None,
+            port: None,
+        },
+        Check::Privilege(privilege) => Asked {
+            op: CheckOp::Priv,
+            object: None,
+            request: request_with(CheckOp::Priv, request),
+            privilege: Some(*privilege),
+            port: None,
+        },
+        Check::Binding(tcp, port, id) => Asked {
+            op: CheckOp::SocketBind,
+            object: Some(parties.object(*id)),
+            request: request_with(CheckOp::SocketBind, request),
+            privilege: None,
+            port: Some((*tcp, *port)),
+        },
     }
 }
 
 /// What is asked of a label, where the operation changes one.
-fn request_with(op: CheckOp, request: &Request) -> Option<Request>
-    ensures { result ≡ request_with (Some request.now) op }
+fn request_with(op: CheckOp, request: Option<Request>) -> Option<Request>
+    ensures { result ≡ request_with request op }
 {
-    if is_relabel(op) { Some(*request) } else { None }
+    if is_relabel(op) { request } else { None }
 }
 
 /// Whether the operation changes a label.

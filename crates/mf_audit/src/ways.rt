@@ -1,6 +1,6 @@
 //! What a call is about, where it isn't named by a path, and what it asks of a label.
 ghost use Rattle.std.specs.Option.{ok_or};
-ghost use Rattle.std.specs.Prelude.{◌≡◌, ◌<◌, if◌then◌else◌, is_some, IfOk, IfSome, IsSome, Err, Ok, []};
+ghost use Rattle.std.specs.Prelude.{◌≡◌, ◌<◌, if◌then◌else◌, is_some, IfOk, IsSome, Err, Ok, []};
 ghost use Rattle.mf_errno.specs.declared.errno.Errno.TheVariants as errno;
 ghost use Rattle.mf_item.specs.declared.view.Kind.TheVariants as kinds;
 ghost use Rattle.mf_objects.specs.declared.id.Id.{Id};
@@ -11,21 +11,27 @@ ghost use Rattle.mf_plan.specs.Names.{child_name};
 ghost use Rattle.mf_plan.specs.Ways as ways;
 ghost use Rattle.mf_plan.specs.Ways.Place.{Asking, File, Loading, Named, Sockets, Unloading};
 ghost use Rattle.mf_plan.specs.Ways.{way_to};
-ghost use Rattle.mf_plan.specs.declared.descriptors.Access.TheVariants as access;
 ghost use Rattle.mf_policy.specs.Registration.{is_listed};
-ghost use Rattle.mf_policy.specs.IsChange.{IsChange};
 ghost use Rattle.mf_audit.specs.Ends.{Leads};
+ghost use Rattle.mf_audit.specs.Open.{access_of};
 
 use crate::kernel::Kernel;
 use crate::paths::file;
-use crate::walk::Walk;
+use crate::walk::{Check, Walk};
 use mf_elem::Request;
 use mf_errno::{Errno, Module, Priv};
 use mf_item::{CheckOp, Kind};
 use mf_labeltext::read_request;
 use mf_names::{Name, Path, Word};
 use mf_parties::{OpenFile, PartyId};
-use mf_policy::Change;
+
+/// How a descriptor has to be open.
+#[derive(Clone, Copy)]
+pub enum Access {
+    Reading,
+    Writing,
+    Any,
+}
 
 /// The process, pipe or socket of a name.
 pub(crate) fn named(kernel: &Kernel, kind: Kind, name: &Name) -> Result<PartyId, Errno>
@@ -81,37 +87,26 @@ pub(crate) fn listed(kernel: &Kernel, module: Module) -> Result<(), Errno>
     }
 }
 
-/// The file on which the caller has a descriptor of that number, which is open for reading.
-pub(crate) fn opened_for_reading(kernel: &Kernel, me: PartyId, n: u32) -> Result<PartyId, Errno>
-    ensures there { result ≡ ok_or (ways.opened_file_at kernel.now.objects me access.Reading n)
+/// The file on which the caller has a descriptor of that number, which is open so.
+pub(crate) fn opened(kernel: &Kernel, me: PartyId, access: Access, n: u32) -> Result<PartyId, Errno>
+    ensures there { result ≡ ok_or (ways.opened_file_at kernel.now.objects me (access_of access) n)
         errno.Ebadf }
     ensures live { IfOk result (λ id. IsSome (live_at kernel.now.objects id)) }
 {
     match kernel.parties.fd(me, n) {
-        Some(fd) if fd.read => Ok(fd.file),
+        Some(fd) if allows(access, &fd) => Ok(fd.file),
         _ => Err(Errno::Ebadf),
     }
 }
 
-/// That on which it has one that is open for writing.
-pub(crate) fn opened_for_writing(kernel: &Kernel, me: PartyId, n: u32) -> Result<PartyId, Errno>
-    ensures there { result ≡ ok_or (ways.opened_file_at kernel.now.objects me access.Writing n)
-        errno.Ebadf }
-    ensures live { IfOk result (λ id. IsSome (live_at kernel.now.objects id)) }
+/// Whether a descriptor is open so.
+fn allows(access: Access, fd: &OpenFile) -> bool
+    ensures { result ≡ ways.allows (access_of access) fd.now }
 {
-    match kernel.parties.fd(me, n) {
-        Some(fd) if fd.write => Ok(fd.file),
-        _ => Err(Errno::Ebadf),
-    }
-}
-
-/// That on which it has any.
-pub(crate) fn opened(kernel: &Kernel, me: PartyId, n: u32) -> Result<PartyId, Errno>
-    ensures { result ≡ ok_or (ways.opened_file_at kernel.now.objects me access.Any n) errno.Ebadf }
-{
-    match kernel.parties.fd(me, n) {
-        Some(fd) => Ok(fd.file),
-        None => Err(Errno::Ebadf),
+    match access {
+        Access::Reading => fd.read,
+        Access::Writing => fd.write,
+        Access::Any => true,
     }
 }
 
@@ -132,7 +127,7 @@ pub(crate) fn sockets(
     ensures few { walk.new.asked < 100 }
 {
     let from = named(kernel, Kind::Socket, from)?;
-    walk.on(kernel, me, CheckOp::SocketSend, from);
+    walk.ask(kernel, me, &Check::On(CheckOp::SocketSend, from), None);
     let to = named(kernel, Kind::Socket, to)?;
     Ok((from, to))
 }
@@ -150,7 +145,7 @@ pub(crate) fn loading(
         result }
     ensures few { walk.new.asked < 100 }
 {
-    walk.privilege(kernel, me, Priv::KldLoad);
+    walk.ask(kernel, me, &Check::Privilege(Priv::KldLoad), None);
     Module::from_name(name.as_str()).ok_or(Errno::Enoent)
 }
 
@@ -167,31 +162,9 @@ pub(crate) fn unloading(
         result }
     ensures few { walk.new.asked < 100 }
 {
-    walk.privilege(kernel, me, Priv::KldUnload);
-    walk.by_itself(kernel, me, CheckOp::KldUnload);
+    walk.ask(kernel, me, &Check::Privilege(Priv::KldUnload), None);
+    walk.ask(kernel, me, &Check::Alone(CheckOp::KldUnload), None);
     Module::from_name(name.as_str()).ok_or(Errno::Enoent)
-}
-
-/// The module whose setting is changed, and the change. Root alone changes one, and a tunable nobody.
-pub(crate) fn setting(
-    kernel: &Kernel,
-    me: PartyId,
-    tunable: bool,
-    module: Option<Module>,
-    change: Option<Change>,
-) -> Result<(Module, Change), Errno>
-    ensures there { result ≡ ways.setting_found kernel.now me tunable «module» change }
-    ensures change { IfSome change IsChange → IfOk result (λ asked. IsChange asked.1) }
-{
-    if !kernel.parties.cred(me).is_root() || tunable {
-        return Err(Errno::Eperm);
-    }
-    let module = module.ok_or(Errno::Enoent)?;
-    if !kernel.listed.is_listed(module) {
-        return Err(Errno::Enoent);
-    }
-    let change = change.ok_or(Errno::Einval)?;
-    Ok((module, change))
 }
 
 /// What a label text asks of the label of an entity of that kind.

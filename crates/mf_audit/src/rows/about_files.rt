@@ -13,7 +13,7 @@ use crate::kernel::Kernel;
 use crate::paths::{entry, file};
 use crate::processes::close;
 use crate::walk::Walk;
-use crate::ways::{asked_file, opened, opened_for_reading, opened_for_writing};
+use crate::ways::{Access, asked_file, opened};
 use mf_calls::Call;
 use mf_errno::Errno;
 use mf_item::CheckOp;
@@ -113,15 +113,15 @@ pub(super) fn on_descriptor<'c>(
 {
     match call {
         Call::Fread(n) => {
-            let id = opened_for_reading(kernel, me, *n)?;
+            let id = opened(kernel, me, Access::Reading, *n)?;
             reads(kernel, walk, me, id)
         }
         Call::Fwrite(n, text) => {
-            let id = opened_for_writing(kernel, me, *n)?;
+            let id = opened(kernel, me, Access::Writing, *n)?;
             appends(kernel, walk, me, text.as_slice(), id)
         }
         Call::Close(n) => {
-            let _file = opened(kernel, me, *n)?;
+            let _file = opened(kernel, me, Access::Any, *n)?;
             close(kernel, me, *n)
         }
         _ => Err(Errno::Ebadf),

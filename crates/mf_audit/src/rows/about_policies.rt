@@ -11,7 +11,7 @@ use crate::done::{Done, Shown};
 use crate::kernel::Kernel;
 use crate::modules::{load, unload};
 use crate::processes::just_shown;
-use crate::settings::{add, of_rules, set, sysctl};
+use crate::settings::{add, changing, set, sysctl};
 use crate::walk::Walk;
 use crate::ways::{listed, loading, unloading};
 use mf_calls::Call;
@@ -59,25 +59,22 @@ pub(super) fn on_setting<'c>(
         (row_for kernel.now _task.now call.now me) walk walk result }
 {
     match call {
-        Call::Sysctl(name, value) => {
-            let asked = sysctl(kernel, me, name, value)?;
-            set(kernel, me, asked)
-        }
+        Call::Sysctl(name, value) => sysctl(kernel, me, name, value),
         Call::UgidfwList => {
             listed(kernel, Module::Bsdextended)?;
             just_shown(kernel, me, Shown::Rules)
         }
         Call::UgidfwAdd(rule) => {
-            let asked = of_rules(kernel, me, Change::RuleAdd(*rule))?;
-            add(kernel, me, asked)
+            let module = changing(kernel, me, false, Some(Module::Bsdextended))?;
+            add(kernel, me, module, Change::RuleAdd(*rule))
         }
         Call::UgidfwSet(number, rule) => {
-            let asked = of_rules(kernel, me, Change::RuleSet(*number, *rule))?;
-            set(kernel, me, asked)
+            let module = changing(kernel, me, false, Some(Module::Bsdextended))?;
+            set(kernel, me, module, Change::RuleSet(*number, *rule))
         }
         Call::UgidfwRemove(number) => {
-            let asked = of_rules(kernel, me, Change::RuleRemove(*number))?;
-            set(kernel, me, asked)
+            let module = changing(kernel, me, false, Some(Module::Bsdextended))?;
+            set(kernel, me, module, Change::RuleRemove(*number))
         }
         _ => Err(Errno::Enoent),
     }

@@ -1,29 +1,26 @@
-use Rattle.std.proofs.Common.{Bool, refl, subst}
+use Rattle.std.proofs.Common.{Bool, refl, sym, subst}
 use Rattle.mf_core.specs.LegalHistory.{RunState}
+use Rattle.mf_core.specs.RunView.{RunView, IsReached}
 use Rattle.mf_core.proofs.Reached.{changed_on, put_view}
 use Rattle.mf_audit.specs.Taking.{Replies}
 use Rattle.mf_audit.proofs.Replying.{moves_on, replied, unreplied}
+use Rattle.mf_audit.proofs.Turns.{few_ids}
 use Rattle.mf_audit.proofs.player.Player.changed.Goals as goal
 
-pub invariant_of-result : goal.invariant_of-result
-invariant_of-result c =
-    let k = c.args.self in
+pub go_on-requires-clause-next : goal.go_on-requires-clause-next
+go_on-requires-clause-next c =
+    let k = c.args.self.now in
     let s = c.self.inside.script.now in
     let r : RunState = record { state = c.self.inside.kernel; progress = c.self.inside.standings } in
-    let line = c.line-line.result.now in
-    let name = c.name_of-name.result.now in
-    let may = c.is_at_change.ensures.0 c.if-not-is_at_change.false in
-    let goes = subst (λ (is : Bool). Replies c.self.inside.kernel name line.child line.call c.args.given.now c.go_on.new.self is) c.if-not-branch.false c.in_ok-go_on.ensures in
-    let replies = replied k s r c.self.view_is c.args.task line name c.line-line.ensures.value c.name_of-name.ensures c.args.given.now c.args.given.now refl goes.0 in
-    let moves = moves_on k s r c.self.view_is c.args.task line name c.line-line.ensures.value c.name_of-name.ensures c.go_on.new.self goes.1 in
-    changed_on k s r c.self.view_is c.self.invariant c.args.task line c.args.given.now may.1 c.line-line.ensures.value replies
-    c.args.number c.go_on.new.self c.advance.new.self (may.0, may.1, may.2, replies) moves c.advance.ensures
+    let reached : IsReached s r = subst (λ (v : RunView). IsReached v.script v.run) (sym c.self.view_is) c.requires in
+    few_ids k s r c.self.view_is reached
 
 pub returns : goal.returns
 returns c =
-    let k = c.args.self in
+    let k = c.args.self.now in
     let s = c.self.inside.script.now in
     let r : RunState = record { state = c.self.inside.kernel; progress = c.self.inside.standings } in
+    let reached : IsReached s r = subst (λ (v : RunView). IsReached v.script v.run) (sym c.self.view_is) c.requires in
     let line = c.line-line.result.now in
     let name = c.name_of-name.result.now in
     let may = c.is_at_change.ensures.0 c.if-not-is_at_change.false in
@@ -31,13 +28,15 @@ returns c =
     let replies = replied k s r c.self.view_is c.args.task line name c.line-line.ensures.value c.name_of-name.ensures c.args.given.now c.args.given.now refl goes.0 in
     let moves = moves_on k s r c.self.view_is c.args.task line name c.line-line.ensures.value c.name_of-name.ensures c.go_on.new.self goes.1 in (
       (may.0, may.1, may.2, replies),
-      put_view k s r c.self.view_is c.self.invariant c.args.task line c.args.given.now may.1 c.line-line.ensures.value replies
+      put_view k s r c.self.view_is reached c.args.task line c.args.given.now may.1 c.line-line.ensures.value replies
           c.args.number c.go_on.new.self c.advance.new.self moves c.advance.ensures,
+      changed_on k s r c.self.view_is reached c.args.task line c.args.given.now may.1 c.line-line.ensures.value replies
+          c.args.number c.go_on.new.self c.advance.new.self (may.0, may.1, may.2, replies) moves c.advance.ensures,
     )
 
 pub returns-then-not-branch : goal.returns-then-not-branch
 returns-then-not-branch c = λ may.
-    let k = c.args.self in
+    let k = c.args.self.now in
     let s = c.self.inside.script.now in
     let r : RunState = record { state = c.self.inside.kernel; progress = c.self.inside.standings } in
     let line = c.line-line.result.now in

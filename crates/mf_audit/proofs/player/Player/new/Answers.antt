@@ -8,8 +8,8 @@ use Rattle.mf_core.specs.RunView.{IsReached}
 use Rattle.mf_core.proofs.Reached.{opening_reached}
 use Rattle.mf_audit.proofs.player.Player.new.Goals as goal
 
-pub invariant_of-result : goal.invariant_of-result
-invariant_of-result c =
+pub returns-clause-reached : goal.returns-clause-reached
+returns-clause-reached c =
     let s = c.args.script.now in
     let standings = c.in_ok-standings.standings in
     let ids : (opening_state s).objects.next ≤ MOST_AT_OPENING = subst (λ (x : State). x.objects.next ≤ MOST_AT_OPENING) c.in_ok-kernel.ensures.state c.in_ok-kernel.ensures.ids in

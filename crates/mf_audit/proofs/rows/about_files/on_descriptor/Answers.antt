@@ -28,10 +28,10 @@ returns-in_ok-id-in-Fwrite c =
 pub returns-in_err-_file-in-Close : goal.returns-in_err-_file-in-Close
 returns-in_err-_file-in-Close c =
     missed c.args.kernel.now c.args._task.now c.args.me c.args.call.now (call.Close c.in-Close.n) _ c.args.walk.now _ _ c.in-Close.is
-    (at_once c.args.kernel.now c.args.me _ _ c.args.walk.now c.in_err-_file-in-Close.ensures) (c.from_residual-in_err-_file-in-Close.ensures.1)
+    (at_once c.args.kernel.now c.args.me _ _ c.args.walk.now c.in_err-_file-in-Close.ensures.there) (c.from_residual-in_err-_file-in-Close.ensures.1)
 
 pub returns-in_ok-_file-in-Close : goal.returns-in_ok-_file-in-Close
 returns-in_ok-_file-in-Close c =
     found c.args.kernel.now c.args._task.now c.args.me c.args.call.now (call.Close c.in-Close.n) c.in_ok-_file-in-Close._file c.args.walk.now _ _ _ c.in-Close.is
-    (at_once c.args.kernel.now c.args.me _ _ c.args.walk.now c.in_ok-_file-in-Close.ensures)
+    (at_once c.args.kernel.now c.args.me _ _ c.args.walk.now c.in_ok-_file-in-Close.ensures.there)
     (c.close.ensures c.args._task.now c.args.walk.now c.in_ok-_file-in-Close._file)
