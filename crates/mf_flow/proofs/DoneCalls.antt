@@ -27,7 +27,7 @@ use Rattle.mf_objects.specs.Lives.{value_at}
 use Rattle.mf_plan.specs.Lowering.{each_lowered, lowering, while_lowered, with_slot}
 use Rattle.mf_plan.specs.Plan.{call_row, plan_in, plan_of, row_for}
 use Rattle.mf_plan.specs.Rows.{about_of}
-use Rattle.mf_plan.proofs.Finding.{asked_of as asked_in_effect, row_by}
+use Rattle.mf_plan.proofs.Finding.{asked_in_effect, row_by}
 use Rattle.mf_plan.proofs.LoweredChecks.{lowering_taken, put_back}
 use Rattle.mf_plan.proofs.Transfers.{AreThrough, through_descriptor}
 use Rattle.mf_plan.proofs.Transfers.AreThrough.{asks_none, asks_read, asks_write}
@@ -41,7 +41,7 @@ use Rattle.mf_core.specs.NextFound.{FoundAt, IsNextFound}
 use Rattle.mf_core.proofs.SameLists.{done_tail}
 use Rattle.mf_perform.specs.Passed.{passed}
 use Rattle.mf_flow.specs.declared.following.Flow.{Flow}
-use Rattle.mf_flow.specs.Rows.{Rows, rows_moved, rows_after_line, flow_moved, flow_settled, flow_after_event, asked_of, rows_by}
+use Rattle.mf_flow.specs.Rows.{Rows, rows_moved, rows_after_line, flow_moved, flow_settled, flow_after_event, relabel_asked, rows_by}
 use Rattle.mf_flow.specs.Transfers.{caller_of, counts, descriptor_of}
 use Rattle.mf_flow.proofs.Counted.{all_pass}
 use Rattle.std.specs.Option.{option_map_or, option_zip}
@@ -58,7 +58,7 @@ flow_after_line s s' task found said f =
 
 line_flow : (s s' : State) (task : List ℕ) (found : Option Line) (line : Line) (said : Reply) (f moved : Flow) (next : ℕ) (o : Entities) (caller : Option Id)
     (asked : Option (Id × Request)) → found ≡ Some line → moved ≡ flow_moved s (descriptor_of s task line) (passed said (plan_of s task line.child line.call).items) f
-    → next ≡ s.objects.next → o ≡ s'.objects → caller ≡ caller_of s task line → asked ≡ asked_of s task line said
+    → next ≡ s.objects.next → o ≡ s'.objects → caller ≡ caller_of s task line → asked ≡ relabel_asked s task line said
     → flow_settled next o caller asked moved ≡ flow_after_line s s' task found said f
 line_flow s s' task found line said f moved next o caller asked found_is moved_is next_is o_is caller_is asked_is =
     let then : Flow = flow_moved s (descriptor_of s task line) (passed said (plan_of s task line.child line.call).items) f in
@@ -136,7 +136,7 @@ lowering_moves s n me rows items = one (lomac_slot s.specs)
     one None = refl
     one (Some slot) = each_moves n slot s.objects me.0 (value_at s.objects me slot) rows items
 
-passed_lowering : (s : State) (me : Id) (said : Reply) (items : List Item) → passed said (lowering s me items) ≡ lowering s me (passed said items)
+pub passed_lowering : (s : State) (me : Id) (said : Reply) (items : List Item) → passed said (lowering s me items) ≡ lowering s me (passed said items)
 passed_lowering s me (reply.Ok payload) items = refl
 passed_lowering s me (reply.Denied errno op item by) items = lowering_taken s me (item - 1) items
 passed_lowering s me (reply.Refused errno) items = refl
@@ -160,7 +160,7 @@ own_lowered s me asked k file = one (lomac_slot s.specs)
             (put_back (label_at s.objects me) slot Unset)
         two false = refl
 
-through_lowered : (s : State) (me : Id) (asked : Option Request) (fd : Fd) (checks : List Check) → AreThrough me fd checks
+pub through_lowered : (s : State) (me : Id) (asked : Option Request) (fd : Fd) (checks : List Check) → AreThrough me fd checks
     → lowering s me (map (item_asking s.objects asked) checks) ≡ map (item_asking s.objects asked) checks
 through_lowered s me asked fd _ asks_none = one (lomac_slot s.specs)
   where
@@ -216,7 +216,7 @@ pub done_flow : (s : Script) (run : RunState) (e : Event) (t number : ℕ) (said
     → state ≡ run.state → state' ≡ (run_after s run e).state → task ≡ name_of s t → next_line s run.progress t ≡ Some line
     → map (item_asking state.objects request) checks ≡ passed said (plan_in state (call_row state task line.child line.call)).items
     → moved ≡ flow_moved state fd (map (item_of state.objects) checks) f → fd ≡ descriptor_of state task line → next ≡ state.objects.next
-    → caller ≡ caller_of state task line → asked ≡ asked_of state task line said
+    → caller ≡ caller_of state task line → asked ≡ relabel_asked state task line said
     → flow_settled next state'.objects caller asked moved ≡ flow_after_event s run e f
 done_flow s run e t number said state state' task line f moved fd request checks next caller asked is here after_is task_is line_is items_are moved_is fd_is next_is caller_is asked_is =
     line_flow run.state (run_after s run (event.Done t number said)).state (name_of s t) (next_line s run.progress t) line said f moved next state'.objects caller asked line_is
@@ -229,7 +229,7 @@ done_flow s run e t number said state state' task line f moved fd request checks
     (next_is ∙ ap (λ (x : State). x.objects.next) here)
     (ap (λ (x : State). x.objects) after_is ∙ ap (λ (x : Event). (run_after s run x).state.objects) is)
     (caller_is ∙ ap (λ (x : State). caller_of x task line) here ∙ ap (λ (x : List ℕ). caller_of run.state x line) task_is)
-    (asked_is ∙ ap (λ (x : State). asked_of x task line said) here ∙ ap (λ (x : List ℕ). asked_of run.state x line said) task_is)
+    (asked_is ∙ ap (λ (x : State). relabel_asked x task line said) here ∙ ap (λ (x : List ℕ). relabel_asked run.state x line said) task_is)
     ∙ sym (ap (λ (x : Event). flow_after_event s run x f) is)
 
 pub done_line : (s : Script) (run : RunState) (e : Event) (t number : ℕ) (said : Reply) (line : Line) → e ≡ event.Done t number said → MayCome s run e
@@ -263,11 +263,11 @@ done_found s run e t number said state task line found is may here task_is line_
 pub done_asked : (s : Script) (run : RunState) (e : Event) (t number : ℕ) (said : Reply) (state : State) (task : List ℕ) (line : Line) (found : Found)
     → e ≡ event.Done t number said → MayCome s run e → state ≡ run.state → task ≡ name_of s t → next_line s run.progress t ≡ Some line
     → ((plan_of state task line.child line.call).tail ≡ Do → AreFound state task line.child line.call found)
-    → after_reply said None (option_zip found.target found.request) ≡ asked_of state task line said
+    → after_reply said None (option_zip found.target found.request) ≡ relabel_asked state task line said
 done_asked s run e t number said state task line found is may here task_is line_is found_is =
     one said (done_ends s run e t number said state task line is may here task_is line_is)
   where
-    one : (said : Reply) → (is_ok said ≡ true → (plan_of state task line.child line.call).tail ≡ Do) → after_reply said None (option_zip found.target found.request) ≡ asked_of state task line said
+    one : (said : Reply) → (is_ok said ≡ true → (plan_of state task line.child line.call).tail ≡ Do) → after_reply said None (option_zip found.target found.request) ≡ relabel_asked state task line said
     one (reply.Ok payload) ends =
         zipped state task line.child line.call found (found_is (ends refl))
     one (reply.Denied errno op item by) ends = refl

@@ -33,7 +33,7 @@ use Rattle.mf_core.specs.RunView.{RunView}
 use Rattle.mf_perform.proofs.StateChange.{Deed, StateChange}
 use Rattle.mf_perform.proofs.EntityChange.{ChangesEntities, changes_entities}
 use Rattle.mf_flow.specs.declared.following.Flow.{Flow}
-use Rattle.mf_flow.specs.Rows.{AreKept, AreOwnRows, AreRows, EachBecomes, HasSlot, IsFlowOf, IsKept, IsOpening, Rows, rows_moved, rows_created, rows_after_line, rows_after_event, flow_after_event}
+use Rattle.mf_flow.specs.Rows.{AreKept, AreOwnRows, AreRows, EachBecomes, HasLabelSlot, IsFlowOf, IsKept, IsOpening, Rows, rows_moved, rows_created, rows_after_line, rows_after_event, flow_after_event}
 use Rattle.mf_flow.specs.Sources.{Sets, own_source, element_by, moving, sets_after_line, sets_after_event, sets_after, sources_of}
 use Rattle.mf_flow.proofs.Across.{gives_element, moved_by_all, opening_sets, set_of, sets_across}
 use Rattle.mf_flow.proofs.Elements.{all_labelled}
@@ -293,8 +293,8 @@ pub still_registered : (s : Script) (run : RunState) (e : Event) (flows flows' :
 still_registered s run e flows flows' become = same_registrations (Becomes s run e) flows flows' (λ f new becomes. becomes.registration) become
 
 -- the policies' slots
-pub flow_slots : (s : Script) (es : List Event) (n : ℕ) (replay : RunView) (flows : List Flow) → AllByRecursion (IsFlow s es n replay) flows → AllByRecursion HasSlot flows
-flow_slots s es n replay flows all = all_from (IsFlow s es n replay) HasSlot flows (λ f so_far. so_far.of.within) all
+pub flow_slots : (s : Script) (es : List Event) (n : ℕ) (replay : RunView) (flows : List Flow) → AllByRecursion (IsFlow s es n replay) flows → AllByRecursion HasLabelSlot flows
+flow_slots s es n replay flows all = all_from (IsFlow s es n replay) HasLabelSlot flows (λ f so_far. so_far.of.within) all
 
 -- At the end
 

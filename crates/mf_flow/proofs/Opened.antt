@@ -23,7 +23,7 @@ use Rattle.mf_objects.specs.declared.descriptors.Fd.{Fd}
 use Rattle.mf_objects.specs.declared.id.Id.{Id}
 use Rattle.mf_objects.specs.Descriptors.{fd_in, fds_at, fds_of, has_number}
 use Rattle.mf_objects.specs.Live.{Entities, LiveEntity, has_id, is_process}
-use Rattle.mf_objects.specs.Lives.{value_at}
+use Rattle.mf_objects.specs.Lives.{value_at, view_at}
 use Rattle.mf_calls.specs.declared.script.Call.{Call}
 use Rattle.mf_calls.specs.declared.script.Call.TheVariants as call
 use Rattle.mf_plan.specs.declared.outline.Check.{Check}
@@ -41,8 +41,8 @@ use Rattle.mf_plan.specs.Plan.{call_row, plan_of, row_for}
 use Rattle.mf_plan.specs.Planned.{Plan}
 use Rattle.mf_plan.specs.Row.{Row, if_there, refuse}
 use Rattle.mf_plan.specs.Rows.{biba_value, new_fd, opens}
-use Rattle.mf_plan.specs.Views.{is_dir, object_of, process_named}
-use Rattle.mf_plan.proofs.Finding.{asked_of as asked_in_effect, plan_with}
+use Rattle.mf_plan.specs.Views.{is_dir, process_named}
+use Rattle.mf_plan.proofs.Finding.{asked_in_effect, plan_with}
 use Rattle.mf_perform.specs.OneCall.{call_reply, call_state}
 use Rattle.mf_perform.specs.Passed.{passed}
 use Rattle.mf_perform.specs.Refused.{is_ok}
@@ -147,12 +147,12 @@ module _ (p : FlowPolicy) (r : Registration) (spec : Spec) (s : State) (of : IsO
     abbrev IsOpen : Check → Type 0
     IsOpen check =
         is_transfer check.op ≡ false
-        → AllowedBy p (row_of check.op).movement (element_at r o check.subject) (range_label (object_slot (option_map (object_of o) check.object) (slot_of r))).effective
+        → AllowedBy p (row_of check.op).movement (element_at r o check.subject) (range_label (object_slot (option_map (view_at o) check.object) (slot_of r))).effective
 
     shows_open : (check : Check) (item : Item) → IsShown o check item → IsAsItIs r o item × (IsTested spec item → IsAllowed p r item)
         → IsOpen check
     shows_open check item shown told no_transfer =
-        subst (λ (k : CheckOp). AllowedBy p (row_of k).movement (element_at r o check.subject) (range_label (object_slot (option_map (object_of o) check.object) (slot_of r))).effective)
+        subst (λ (k : CheckOp). AllowedBy p (row_of k).movement (element_at r o check.subject) (range_label (object_slot (option_map (view_at o) check.object) (slot_of r))).effective)
         shown.op
         (subst (λ (e : Option Elem). AllowedBy p (row_of item.op).movement (element_at r o check.subject) e) object
         (subst (λ (e : Option Elem). AllowedBy p (row_of item.op).movement e (object_element r item)) subject
@@ -164,10 +164,10 @@ module _ (p : FlowPolicy) (r : Registration) (spec : Spec) (s : State) (of : IsO
         subject : element_by r item.subject.label ≡ element_at r o check.subject
         subject = told.0 ∙ ap (λ (n : ℕ). element_at r o (record { 0 = n })) shown.subject
 
-        object : object_element r item ≡ (range_label (object_slot (option_map (object_of o) check.object) (slot_of r))).effective
+        object : object_element r item ≡ (range_label (object_slot (option_map (view_at o) check.object) (slot_of r))).effective
         object = ap (λ x. (range_label (object_slot x (slot_of r))).effective) shown.object
 
-        theirs : (id : Option Id) → Has p (range_label (object_slot (option_map (object_of o) id) (slot_of r))).effective
+        theirs : (id : Option Id) → Has p (range_label (object_slot (option_map (view_at o) id) (slot_of r))).effective
         theirs None = tt
         theirs (Some id) = have id
 

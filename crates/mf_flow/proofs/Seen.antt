@@ -21,7 +21,7 @@ use Rattle.mf_objects.specs.declared.id.Id.{Id}
 use Rattle.mf_objects.specs.Changes.{with_change}
 use Rattle.mf_objects.specs.Labels.{with_value}
 use Rattle.mf_objects.specs.Live.{LiveEntity, Entities, has_id, label_at, live_at, value_in}
-use Rattle.mf_objects.specs.Lives.{value_at}
+use Rattle.mf_objects.specs.Lives.{value_at, view_at}
 use Rattle.mf_calls.specs.declared.script.Call.{Call}
 use Rattle.mf_calls.specs.Tasks.{is_change}
 use Rattle.mf_plan.specs.declared.outline.Check.{Check}
@@ -31,7 +31,7 @@ use Rattle.mf_plan.specs.declared.state.State.{State}
 use Rattle.mf_plan.specs.Lowering.{each_lowered, lowering, while_lowered, with_slot}
 use Rattle.mf_plan.specs.Names.{caller_name}
 use Rattle.mf_plan.specs.Outline.{item_asking}
-use Rattle.mf_plan.specs.Views.{object_of, process_named}
+use Rattle.mf_plan.specs.Views.{process_named}
 use Rattle.mf_perform.specs.OneCall.{observed}
 use Rattle.mf_perform.specs.Passed.{passed}
 use Rattle.mf_perform.proofs.Observing.{Observing, checks_passed, find_valued, observed_change, observed_lowers, observing, passes_found}
@@ -117,7 +117,7 @@ within_label (x ∷ label) (suc slot) e is = let rest = within_label label slot 
 
 -- What checks see
 
-object_seen : (o : Entities) (object : Option Id) → IsObject o (option_map (object_of o) object)
+object_seen : (o : Entities) (object : Option Id) → IsObject o (option_map (view_at o) object)
 object_seen o None = tt
 object_seen o (Some id) = refl
 

@@ -8,14 +8,13 @@ use Rattle.mf_policy.specs.Lowering.{after_check, lomac_slot}
 use Rattle.mf_policy.specs.Operations.{is_transfer}
 use Rattle.mf_objects.specs.declared.id.Id.{Id}
 use Rattle.mf_objects.specs.Live.{Entities}
-use Rattle.mf_objects.specs.Lives.{value_at}
+use Rattle.mf_objects.specs.Lives.{value_at, view_at}
 use Rattle.mf_plan.specs.declared.outline.Check.{Check}
 use Rattle.mf_plan.specs.declared.reply.Reply.{Reply}
 use Rattle.mf_plan.specs.declared.reply.Reply.TheVariants as reply
 use Rattle.mf_plan.specs.declared.state.State.{State}
 use Rattle.mf_plan.specs.Lowering.{each_lowered, lowering, while_lowered}
 use Rattle.mf_plan.specs.Outline.{item_asking}
-use Rattle.mf_plan.specs.Views.{object_of}
 use Rattle.mf_plan.proofs.LoweredChecks.{IsSameCheck, while_same}
 use Rattle.mf_plan.proofs.Transfers.{AreBehindOpenings, operation_at_opening}
 use Rattle.mf_perform.specs.Passed.{passed}
@@ -25,7 +24,7 @@ use Rattle.std.specs.Option.{option_map_or}
 pub record IsShown (o : Entities) (check : Check) (item : Item) : Type 0 where
   pub op : item.op ≡ check.op
   pub subject : item.subject.id ≡ check.subject.0
-  pub object : item.object ≡ option_map (object_of o) check.object
+  pub object : item.object ≡ option_map (view_at o) check.object
 
 abbrev pub AreShown : Entities → List Check → List Item → Type 0
 AreShown o [] [] = Unit {0}

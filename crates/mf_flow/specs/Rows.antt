@@ -114,13 +114,13 @@ rows_given slot m objects (Some asked) rows =
     if has_element m asked.1 then slice_set rows asked.0.0 (own_source (element_numbered slot objects asked.0.0)) else rows
 
 -- what a call with that reply asks of whose label; one that isn't done asks nothing
-abbrev pub asked_of : State → List ℕ → Line → Reply → Option (Id × Request)
-asked_of s task line reply = after_reply reply None (relabelled_by (call_row s task line.child line.call).effect)
+abbrev pub relabel_asked : State → List ℕ → Line → Reply → Option (Id × Request)
+relabel_asked s task line reply = after_reply reply None (relabelled_by (call_row s task line.child line.call).effect)
 
 abbrev pub rows_after_line : Registration → State → State → List ℕ → Option Line → Reply → Rows → Rows
 rows_after_line r s s' task None reply rows = rows
 rows_after_line r s s' task (Some line) reply rows =
-    rows_given (slot_of r) r.module s'.objects (asked_of s task line reply)
+    rows_given (slot_of r) r.module s'.objects (relabel_asked s task line reply)
     (rows_created (slot_of r) s.objects.next s'.objects (caller_of s task line)
     (fold (rows_moved (slot_of r) s.objects) rows (moving r s task line reply)))
 
@@ -132,8 +132,8 @@ rows_after_event s r run other rows = rows
 -- Each policy
 
 -- the policy's label slot is one that there is
-abbrev pub HasSlot : Flow → Type 0
-HasSlot f = slot_of f.registration < SLOTS
+abbrev pub HasLabelSlot : Flow → Type 0
+HasLabelSlot f = slot_of f.registration < SLOTS
 
 -- the sources by the policy after checks that passed, of a call that goes through this descriptor, or through none
 abbrev pub flow_moved : State → Option Fd → List Item → Flow → Flow

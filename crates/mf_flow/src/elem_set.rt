@@ -1,5 +1,5 @@
 //! Sets of elements, kept in the order in which they are listed.
-ghost use Rattle.std.specs.Prelude.{◌≡◌, ◌↔◌, [], ◌∷◌, IfOk, IsTrue};
+ghost use Rattle.std.specs.Prelude.{◌≡◌, ◌↔◌, [], ◌∷◌, IfOk, IsTrue, OnOk};
 ghost use Rattle.mf_flow.specs.Order.{union};
 
 use crate::order::compare;
@@ -46,7 +46,9 @@ impl ElemSet {
     pub fn of_either(alloc: Global, set: &[Elem], other: &[Elem]) -> Result<Self, AllocError>
         ensures { IfOk result (λ both. both ≡ union set.now other.now) }
     {
-        let items = merged(alloc, set, other)?;
+        let room = set.len().saturating_add(other.len());
+        let mut items = Vec::with_capacity(alloc, room)?;
+        merge(set, other, &mut items)?;
         Ok(ElemSet { items })
     }
 
@@ -84,11 +86,11 @@ pub fn has_all(set: &[Elem], other: &[Elem]) -> bool
     found == other.len()
 }
 
-/// The elements of two sets merged, in one walk along both.
-fn merged(alloc: Global, set: &[Elem], other: &[Elem]) -> Result<Vec<Elem>, AllocError>
-    ensures { IfOk result (λ items. items.items ≡ union set.now other.now) }
+/// Fills a list with the elements of two sets, in one walk along both.
+fn merge(set: &[Elem], other: &[Elem], items: &mut Vec<Elem>) -> Result<(), AllocError>
+    requires { items.old.items ≡ [] }
+    ensures { OnOk result (items.new.items ≡ union set.now other.now) }
 {
-    let mut items = Vec::new(alloc);
     let mut mine = 0;
     let mut theirs = 0;
     while mine < set.len() && theirs < other.len() {
@@ -110,5 +112,5 @@ fn merged(alloc: Global, set: &[Elem], other: &[Elem]) -> Result<Vec<Elem>, Allo
     }
     items.extend_from_slice(&set[mine..])?;
     items.extend_from_slice(&other[theirs..])?;
-    Ok(items)
+    Ok(())
 }

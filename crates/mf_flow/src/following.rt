@@ -1,26 +1,31 @@
 //! The sources after each event of a history.
-ghost use Rattle.std.specs.Prelude.{◌≡◌, ◌<◌, IfOk, OnOk, find, map};
+ghost use Rattle.std.specs.Prelude.{◌≡◌, ◌<◌, None, IfOk, OnOk, find, map};
 ghost use Rattle.std.specs.List.{AllByRecursion};
+ghost use Rattle.std.specs.Option.{option_zip};
 ghost use Rattle.mf_elem.specs.declared.label.TheConstants.{SLOTS};
 ghost use Rattle.mf_plan.specs.Outline.{item_of};
 ghost use Rattle.mf_list.specs.Asked.{slot_of};
 ghost use Rattle.mf_objects.specs.Lives.{is_from};
-ghost use Rattle.mf_calls.specs.WellFormed.{IsWellFormed};
+ghost use Rattle.mf_calls.specs.WellFormed.{IsFormedLine, IsName, IsWellFormed};
+ghost use Rattle.mf_perform.specs.OneCall.{after_reply};
+ghost use Rattle.mf_perform.specs.Passed.{passed};
+ghost use Rattle.mf_core.specs.declared.history.Event.TheVariants as events;
 ghost use Rattle.mf_core.specs.LegalHistory.{run_after, MayCome};
 ghost use Rattle.mf_flow.specs.Order.{union};
 ghost use Rattle.mf_flow.specs.Rows as spec;
 ghost use Rattle.mf_flow.specs.Sources.{own_source, held_by};
+ghost use Rattle.mf_flow.specs.Transfers.{descriptor_of};
 
 use crate::elem_set::ElemSet;
 use crate::moving::move_all;
-use crate::relabelling::{asked_of, give};
+use crate::relabelling::give;
 use crate::set_list::{SetList, sweep};
-use mf_calls::Script;
-use mf_core::{Event, Run};
-use mf_elem::{Elem, Request};
+use mf_calls::{Line, Script};
+use mf_core::{Event, KeptReply, Run};
+use mf_elem::Elem;
 use mf_objects::{Fd, Id, Objects};
 use mf_perform::passed;
-use mf_plan::{Check, LastLabel, State, descriptor_of_call, outline_of};
+use mf_plan::{Check, Found, LastLabel, Outline, Reply, State, descriptor_of_call};
 use mf_policy::{Registration, slot_label};
 use std::alloc::{AllocError, Global};
 
@@ -40,16 +45,33 @@ impl Flow {
     }
 }
 
+/// What is kept from call to call, where it is made anew for each.
+#[derive(Drop)]
+pub struct Workspace {
+    last: LastLabel,
+    outline: Outline,
+}
+
+impl Workspace {
+    /// Nothing is kept yet.
+    pub fn new() -> Workspace {
+        Workspace {
+            last: LastLabel::new(),
+            outline: Outline::new(),
+        }
+    }
+}
+
 /// The state and the sources after an event that may come.
 pub fn follow(
     alloc: Global,
     script: &Script,
     run: &mut Run,
     flows: &mut Vec<Flow>,
-    last: &mut LastLabel,
+    space: &mut Workspace,
     event: &Event,
 ) -> Result<(), AllocError>
-    requires slots { AllByRecursion spec.HasSlot flows.old.items }
+    requires slots { AllByRecursion spec.HasLabelSlot flows.old.items }
     requires script { run.old.script ≡ script.now }
     requires formed { IsWellFormed script.now }
     requires may { MayCome script.now run.old.run event.now }
@@ -62,22 +84,7 @@ pub fn follow(
 {
     match event {
         Event::Done(task, number, reply) => {
-            let line = script.line_at(*task, *number - 1);
-            let name = script.name_of(*task);
-            let state = run.state();
-            let next = state.objects.next_id();
-            last.keep(&line.call);
-            let child = line.child_name();
-            let outline = outline_of(state, name, child, &line.call, last);
-            let lent = reply.lend();
-            let said = lent.get();
-            let checks = passed(said, outline.checks.as_slice());
-            let fd = descriptor_of_call(state, name, child, &line.call);
-            move_in_each(alloc, state, &fd, checks, flows)?;
-            let asked = asked_of(said, &outline);
-            run.commit(alloc, *task, *number, &outline.found, reply)?;
-            let objects = &run.state().objects;
-            settle_each(alloc, next, objects, outline.found.caller, &asked, flows)
+            follow_call(alloc, script, run, flows, space, *task, *number, reply)
         }
         Event::Enter(task) => {
             run.enter(*task);
@@ -91,6 +98,71 @@ pub fn follow(
     }
 }
 
+/// The same after a call that is done, or isn't, with that reply.
+fn follow_call(
+    alloc: Global,
+    script: &Script,
+    run: &mut Run,
+    flows: &mut Vec<Flow>,
+    space: &mut Workspace,
+    task: u32,
+    number: u32,
+    reply: &KeptReply,
+) -> Result<(), AllocError>
+    requires slots { AllByRecursion spec.HasLabelSlot flows.old.items }
+    requires script { run.old.script ≡ script.now }
+    requires formed { IsWellFormed script.now }
+    requires may { MayCome script.now run.old.run (events.Done task number reply.now) }
+    ensures run { OnOk result (run.new ≡ record {
+      script = script.now;
+      run = run_after script.now run.old.run (events.Done task number reply.now);
+    }) }
+    ensures flows { OnOk result (spec.EachBecomes (λ f new. spec.IsKept
+        (run_after script.now run.old.run (events.Done task number reply.now)).state.objects
+        (spec.flow_after_event script.now run.old.run (events.Done task number reply.now) f) new)
+        flows.old.items flows.new.items) }
+{
+    let line = script.line_at(task, number - 1);
+    let name = script.name_of(task);
+    let state = run.state();
+    let next = state.objects.next_id();
+    let child = line.child_name();
+    space.last.keep(&line.call);
+    space
+        .outline
+        .make(state, name, child, &line.call, &space.last);
+    let outline = &space.outline;
+    move_passed(alloc, state, name, line, outline, reply, flows)?;
+    run.commit(alloc, task, number, &outline.found, reply)?;
+    let objects = &run.state().objects;
+    settle_call(alloc, next, objects, &outline.found, reply, flows)
+}
+
+/// What the checks of a call move that passed, by each policy. A reply is wide: it is lent apart from what may fail.
+fn move_passed(
+    alloc: Global,
+    state: &State,
+    task: &str,
+    line: &Line,
+    outline: &Outline,
+    reply: &KeptReply,
+    flows: &mut Vec<Flow>,
+) -> Result<(), AllocError>
+    requires slots { AllByRecursion spec.HasLabelSlot flows.old.items }
+    requires task { IsName task.now }
+    requires line { IsFormedLine line.now }
+    ensures { OnOk result (spec.EachBecomes (λ f new. new ≡ spec.flow_moved state.now
+        (descriptor_of state.now task.now line.now)
+        (map (item_of state.now.objects) (passed reply.now outline.now.checks)) f)
+        flows.old.items flows.new.items) }
+{
+    let fd = descriptor_of_call(state, task, line.child_name(), &line.call);
+    let lent = reply.lend();
+    let said = lent.get();
+    let checks = passed(said, outline.checks.as_slice());
+    move_in_each(alloc, state, &fd, checks, flows)
+}
+
 /// What checks that passed move, by each policy, of a call that goes through this descriptor, or through none.
 fn move_in_each(
     alloc: Global,
@@ -99,7 +171,7 @@ fn move_in_each(
     checks: &[Check],
     flows: &mut Vec<Flow>,
 ) -> Result<(), AllocError>
-    requires { AllByRecursion spec.HasSlot flows.old.items }
+    requires { AllByRecursion spec.HasLabelSlot flows.old.items }
     ensures { OnOk result (spec.EachBecomes (λ f new. new ≡ spec.flow_moved state.now fd.now
         (map (item_of state.now.objects) checks.now) f) flows.old.items flows.new.items) }
 {
@@ -116,30 +188,51 @@ fn move_in(
     checks: &[Check],
     flow: &mut Flow,
 ) -> Result<(), AllocError>
-    requires { spec.HasSlot flow.old }
+    requires { spec.HasLabelSlot flow.old }
     ensures { OnOk result (flow.new ≡ spec.flow_moved state.now fd.now
         (map (item_of state.now.objects) checks.now) flow.old) }
 {
     move_all(alloc, &flow.registration, state, fd, &mut flow.sets, checks)
 }
 
-/// What is left of a call, by each policy: the sources of an entity that came under this number, and of one that was relabelled.
+/// What is left of a call with that reply, by each policy.
+fn settle_call(
+    alloc: Global,
+    next: u32,
+    objects: &Objects,
+    found: &Found,
+    reply: &KeptReply,
+    flows: &mut Vec<Flow>,
+) -> Result<(), AllocError>
+    requires { AllByRecursion spec.HasLabelSlot flows.old.items }
+    ensures { OnOk result (spec.EachBecomes (λ f new. spec.IsKept objects.now
+        (spec.flow_settled next objects.now found.now.caller
+        (after_reply reply.now None (option_zip found.now.target found.now.request)) f) new)
+        flows.old.items flows.new.items) }
+{
+    let lent = reply.lend();
+    let said = lent.get();
+    settle_each(alloc, next, objects, found, said, flows)
+}
+
+/// The same, by the reply itself: the sources of an entity that came under this number, and of one that was relabelled.
 /// Now and then those of entities that are gone are freed.
 fn settle_each(
     alloc: Global,
     next: u32,
     objects: &Objects,
-    caller: Option<Id>,
-    asked: &Option<(Id, Request)>,
+    found: &Found,
+    reply: &Reply,
     flows: &mut Vec<Flow>,
 ) -> Result<(), AllocError>
-    requires { AllByRecursion spec.HasSlot flows.old.items }
+    requires { AllByRecursion spec.HasLabelSlot flows.old.items }
     ensures { OnOk result (spec.EachBecomes (λ f new. spec.IsKept objects.now
-        (spec.flow_settled next objects.now caller asked.now f) new)
+        (spec.flow_settled next objects.now found.now.caller
+        (after_reply reply.now None (option_zip found.now.target found.now.request)) f) new)
         flows.old.items flows.new.items) }
 {
     for place in 0..flows.len() {
-        settle(alloc, next, objects, caller, asked, &mut flows[place])?;
+        settle(alloc, next, objects, found, reply, &mut flows[place])?;
     }
     Ok(())
 }
@@ -148,18 +241,20 @@ fn settle(
     alloc: Global,
     next: u32,
     objects: &Objects,
-    caller: Option<Id>,
-    asked: &Option<(Id, Request)>,
+    found: &Found,
+    reply: &Reply,
     flow: &mut Flow,
 ) -> Result<(), AllocError>
-    requires { spec.HasSlot flow.old }
+    requires { spec.HasLabelSlot flow.old }
     ensures { OnOk result (spec.IsKept objects.now
-        (spec.flow_settled next objects.now caller asked.now flow.old) flow.new) }
+        (spec.flow_settled next objects.now found.now.caller
+        (after_reply reply.now None (option_zip found.now.target found.now.request)) flow.old)
+        flow.new) }
 {
     let slot = flow.slot();
-    create(alloc, slot, next, objects, caller, &mut flow.sets)?;
+    create(alloc, slot, next, objects, found.caller, &mut flow.sets)?;
     let module = flow.registration.module;
-    give(alloc, slot, module, objects, asked, &mut flow.sets)?;
+    give(alloc, slot, module, objects, found, reply, &mut flow.sets)?;
     sweep(alloc, objects, &mut flow.sets);
     Ok(())
 }
@@ -219,9 +314,6 @@ pub fn first_sources(
 {
     match element {
         None | Some(Elem::Equal) => Ok(ElemSet::new(alloc)),
-        Some(own) => {
-            let set = ElemSet::one(alloc, own)?;
-            ElemSet::of_either(alloc, set.as_slice(), maker)
-        }
+        Some(own) => ElemSet::of_either(alloc, &[own], maker),
     }
 }

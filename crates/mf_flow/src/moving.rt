@@ -64,6 +64,9 @@ fn receive(
     ensures { OnOk result (sets.new ≡ rows.set_received slot objects.now sets.old to from
         (rows.set_at sets.old from)) }
 {
+    if has_all(sets.at(to), sets.at(from)) {
+        return Ok(());
+    }
     let new = joined(alloc, slot, objects, to, from, sets.at(to), sets.at(from))?;
     sets.put(to, new);
     Ok(())

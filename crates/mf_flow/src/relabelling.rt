@@ -12,7 +12,7 @@ use crate::set_list::SetList;
 use mf_elem::{Elem, Request};
 use mf_errno::Module;
 use mf_objects::{Id, Objects};
-use mf_plan::{Outline, Reply};
+use mf_plan::{Found, Outline, Reply};
 use mf_policy::range_asked;
 use std::alloc::{AllocError, Global};
 
@@ -27,20 +27,22 @@ pub fn asked_of(reply: &Reply, outline: &Outline) -> Option<(Id, Request)>
     }
 }
 
-/// Starts the sources of an entity anew, where its relabel gives it an effective element by the module's policy.
+/// Starts the sources of an entity anew, where its relabel is done and gives it an effective element by the module's policy.
 pub fn give(
     alloc: Global,
     slot: u8,
     module: Module,
     objects: &Objects,
-    asked: &Option<(Id, Request)>,
+    found: &Found,
+    reply: &Reply,
     sets: &mut SetList,
 ) -> Result<(), AllocError>
     requires { slot < SLOTS }
-    ensures { OnOk result (sets.new ≡ rows_given slot «module» objects.now asked.now sets.old) }
+    ensures { OnOk result (sets.new ≡ rows_given slot «module» objects.now (after_reply reply.now
+        None (option_zip found.now.target found.now.request)) sets.old) }
 {
-    match asked {
-        Some((id, request)) if has_element(module, request) => {
+    match (reply, found.target, &found.request) {
+        (Reply::Ok(_), Some(id), Some(request)) if has_element(module, request) => {
             let element = element_at(objects, slot, id.number());
             let set = own_source(alloc, element)?;
             sets.put(id.number(), Some(set));

@@ -10,21 +10,20 @@ ghost use Rattle.mf_objects.specs.Titles.{title_at};
 ghost use Rattle.mf_calls.specs.declared.script.Script.{Script as ScriptValue};
 ghost use Rattle.mf_calls.specs.WellFormed.{IsWellFormed};
 ghost use Rattle.mf_core.specs.declared.history.History.{History as HistoryValue};
-ghost use Rattle.mf_core.specs.LegalHistory.{run_state_of, IsLegal};
+ghost use Rattle.mf_core.specs.LegalHistory.{opening_run, run_state_of, IsLegal};
 ghost use Rattle.mf_flow.specs.Laws.{AreInOrder};
 ghost use Rattle.mf_flow.specs.Rows.{AreOwnRows, AreRows, IsFlowOf, IsOpening, set_at};
 ghost use Rattle.mf_flow.specs.Sources.{Sets};
 ghost use Rattle.mf_flow.specs.Table as spec;
 
 use crate::elem_set::ElemSet;
-use crate::following::{Flow, follow, new_sources};
+use crate::following::{Flow, Workspace, follow, new_sources};
 use crate::set_list::SetList;
 use mf_calls::Script;
 use mf_core::{BootList, History, Run};
 use mf_errno::Module;
 use mf_names::{Listing, Name};
 use mf_objects::{Id, Objects};
-use mf_plan::LastLabel;
 use mf_policy::Registration;
 use std::alloc::{AllocError, Global};
 
@@ -53,7 +52,26 @@ pub fn sources(alloc: Global, script: &Script, history: &History) -> Result<Tabl
     if booted.is_empty() {
         return Ok(Listing::new(alloc));
     }
-    let (run, flows) = followed(alloc, script, history, &booted)?;
+    let mut run = Run::new(alloc, script)?;
+    sources_along(alloc, script, history, &booted, &mut run)
+}
+
+/// The same, of the policies that were booted, by a run that goes along the history.
+fn sources_along(
+    alloc: Global,
+    script: &Script,
+    history: &History,
+    booted: &[Registration],
+    run: &mut Run,
+) -> Result<Table, AllocError>
+    requires formed { IsWellFormed script.now }
+    requires legal { IsLegal script.now history.now }
+    requires booted { booted.now ≡ spec.sourced history.now.boots }
+    requires opening { run.old ≡ record { script = script.now; run = opening_run script.now } }
+    ensures { IfOk result (λ table. table ≡ spec.table_of script.now history.now) }
+{
+    let mut flows = opening_flows(alloc, booted, &run.state().objects)?;
+    follow_all(alloc, script, history, run, &mut flows)?;
     list_flows(alloc, &run.state().objects, &flows)
 }
 
@@ -93,28 +111,30 @@ fn booted_as(boots: &BootList, module: Module) -> Option<&Registration>
         .find(|registration| module.is(registration.module))
 }
 
-/// The state at the end of the history, and the sources by each of these policies.
-fn followed<'s>(
+/// What the history makes of a run and of the sources by each of these policies, which are those of the opening.
+fn follow_all(
     alloc: Global,
-    script: &'s Script,
+    script: &Script,
     history: &History,
-    booted: &[Registration],
-) -> Result<(Run<'s>, Vec<Flow>), AllocError>
+    run: &mut Run,
+    flows: &mut Vec<Flow>,
+) -> Result<(), AllocError>
     requires formed { IsWellFormed script.now }
     requires legal { IsLegal script.now history.now }
-    requires booted { booted.now ≡ spec.sourced history.now.boots }
-    ensures run { IfOk result (λ r. r.0.run ≡ run_state_of script.now history.now.events.list) }
-    ensures registrations { IfOk result (λ r. map (λ flow. flow.registration) r.1.items
-        ≡ booted.now) }
-    ensures flows { IfOk result (λ r. AllByRecursion (IsFlowOf script.now history.now) r.1.items) }
+    requires run { run.old ≡ record { script = script.now; run = opening_run script.now } }
+    requires registrations { map (λ flow. flow.registration) flows.old.items
+        ≡ spec.sourced history.now.boots }
+    requires opening { AllByRecursion (IsOpening run.old.run.state.objects) flows.old.items }
+    ensures run { OnOk result (run.new.run ≡ run_state_of script.now history.now.events.list) }
+    ensures registrations { OnOk result (map (λ flow. flow.registration) flows.new.items
+        ≡ spec.sourced history.now.boots) }
+    ensures flows { OnOk result (AllByRecursion (IsFlowOf script.now history.now) flows.new.items) }
 {
-    let mut run = Run::new(alloc, script)?;
-    let mut flows = opening_flows(alloc, booted, &run.state().objects)?;
-    let mut last = LastLabel::new();
+    let mut space = Workspace::new();
     for event in history.events.as_slice() {
-        follow(alloc, script, &mut run, &mut flows, &mut last, event)?;
+        follow(alloc, script, run, flows, &mut space, event)?;
     }
-    Ok((run, flows))
+    Ok(())
 }
 
 /// The sources in the opening state by each of these policies.

@@ -2,7 +2,7 @@ use Rattle.std.proofs.Common.{◌≡◌, arith, map, sym, subst, ◌∙◌}
 use Rattle.std.proofs.lemmas.List.Elements.{All-from_recursion}
 use Rattle.mf_plan.specs.Outline.{item_of}
 use Rattle.mf_flow.specs.declared.following.Flow.{Flow}
-use Rattle.mf_flow.specs.Rows.{HasSlot, flow_moved}
+use Rattle.mf_flow.specs.Rows.{HasLabelSlot, flow_moved}
 use Rattle.mf_flow.proofs.Becoming.{all_become, as_it_was, as_many, becomes_more, none_yet}
 use Rattle.mf_flow.proofs.following.move_in_each.Goals as goal
 
@@ -15,8 +15,8 @@ move_in-requires c =
     let fs = c.args.flows.now.items in
     let here = c.index_mut.result.now in
     let count = as_many R fs c.loop-place.flows.items c.loop-place.place c.loop-place.invariant in
-    subst HasSlot (sym (c.index_mut.ensures.value ∙ as_it_was R fs c.loop-place.flows.items c.loop-place.place here c.loop-place.invariant (omega (arith, count))))
-    (All-from_recursion HasSlot fs c.requires c.loop-place.place here (omega (arith, count)))
+    subst HasLabelSlot (sym (c.index_mut.ensures.value ∙ as_it_was R fs c.loop-place.flows.items c.loop-place.place here c.loop-place.invariant (omega (arith, count))))
+    (All-from_recursion HasLabelSlot fs c.requires c.loop-place.place here (omega (arith, count)))
 
 pub loop-place-preserved : goal.loop-place-preserved
 loop-place-preserved c =

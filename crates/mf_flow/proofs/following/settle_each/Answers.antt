@@ -1,31 +1,30 @@
 use Rattle.std.proofs.Common.{arith, sym, subst, ◌∙◌}
 use Rattle.std.proofs.lemmas.List.Elements.{All-from_recursion}
-use Rattle.mf_flow.specs.declared.following.Flow.{Flow}
-use Rattle.mf_flow.specs.Rows.{HasSlot, IsKept, flow_settled}
-use Rattle.mf_flow.proofs.Becoming.{all_become, as_it_was, as_many, becomes_more, none_yet}
+use Rattle.mf_flow.specs.Rows.{HasLabelSlot}
+use Rattle.mf_flow.proofs.Becoming.{IsSettled, all_become, as_it_was, as_many, becomes_more, none_yet}
 use Rattle.mf_flow.proofs.following.settle_each.Goals as goal
 
 pub loop-place-init : goal.loop-place-init
-loop-place-init c = none_yet (λ (f new : Flow). IsKept c.args.objects.now (flow_settled c.args.next c.args.objects.now c.args.caller c.args.asked.now f) new) c.args.flows.now.items
+loop-place-init c = none_yet (IsSettled c.args.next c.args.objects.now c.args.found.now c.args.reply.now) c.args.flows.now.items
 
 pub settle-requires : goal.settle-requires
 settle-requires c =
-    let R = λ (f new : Flow). IsKept c.args.objects.now (flow_settled c.args.next c.args.objects.now c.args.caller c.args.asked.now f) new in
+    let R = IsSettled c.args.next c.args.objects.now c.args.found.now c.args.reply.now in
     let fs = c.args.flows.now.items in
     let here = c.index_mut.result.now in
     let count = as_many R fs c.loop-place.flows.items c.loop-place.place c.loop-place.invariant in
-    subst HasSlot (sym (c.index_mut.ensures.value ∙ as_it_was R fs c.loop-place.flows.items c.loop-place.place here c.loop-place.invariant (omega (arith, count))))
-    (All-from_recursion HasSlot fs c.requires c.loop-place.place here (omega (arith, count)))
+    subst HasLabelSlot (sym (c.index_mut.ensures.value ∙ as_it_was R fs c.loop-place.flows.items c.loop-place.place here c.loop-place.invariant (omega (arith, count))))
+    (All-from_recursion HasLabelSlot fs c.requires c.loop-place.place here (omega (arith, count)))
 
 pub loop-place-preserved : goal.loop-place-preserved
 loop-place-preserved c =
-    let R = λ (f new : Flow). IsKept c.args.objects.now (flow_settled c.args.next c.args.objects.now c.args.caller c.args.asked.now f) new in
+    let R = IsSettled c.args.next c.args.objects.now c.args.found.now c.args.reply.now in
     let count = as_many R c.args.flows.now.items c.loop-place.flows.items c.loop-place.place c.loop-place.invariant in
     becomes_more R c.args.flows.now.items c.loop-place.flows.items c.loop-place.place c.index_mut.result.now c.settle.new.flow c.loop-place.invariant (omega (arith, count))
     c.index_mut.ensures.value c.in_ok-settle.ensures
 
 pub returns : goal.returns
 returns c =
-    let R = λ (f new : Flow). IsKept c.args.objects.now (flow_settled c.args.next c.args.objects.now c.args.caller c.args.asked.now f) new in
+    let R = IsSettled c.args.next c.args.objects.now c.args.found.now c.args.reply.now in
     all_become R c.args.flows.now.items c.loop-place.flows.items c.loop-place.place
     (omega (arith, c.len-place-end.ensures)) c.loop-place.invariant

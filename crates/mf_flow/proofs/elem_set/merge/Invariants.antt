@@ -1,6 +1,6 @@
 use Rattle.std.proofs.Common.{◌+◌, ◌-◌, length}
 use Rattle.mf_flow.proofs.Placing.{IsMerged}
-use Rattle.mf_flow.proofs.elem_set.merged.Given as goal
+use Rattle.mf_flow.proofs.elem_set.merge.Given as goal
 
 abbrev pub invariant-loop-mine : goal.invariant-loop-mine
 invariant-loop-mine l = IsMerged l.set l.other l.items.items l.mine l.theirs

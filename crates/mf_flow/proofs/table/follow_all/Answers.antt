@@ -1,21 +1,19 @@
-use Rattle.std.proofs.Common.{arith, sym, subst, ◌∙◌}
+use Rattle.std.proofs.Common.{arith, refl, sym, subst, ◌∙◌}
 use Rattle.mf_core.specs.LegalHistory.{MayCome}
-use Rattle.mf_flow.proofs.Followed.{all_flows, all_replayed, flow_slots, flows_more, next_may, opening_flows, opening_replayed, replayed_more, slots_within, still_registered}
-use Rattle.mf_flow.proofs.table.followed.Goals as goal
-
-pub opening_flows-requires : goal.opening_flows-requires
-opening_flows-requires c = slots_within c.args.script.now c.args.history.now c.args.booted.now c.requires.formed c.requires.legal c.requires.booted
+use Rattle.mf_flow.proofs.Followed.{all_flows, all_replayed, flow_slots, flows_more, next_may, opening_flows, opening_replayed, replayed_more, still_registered}
+use Rattle.mf_flow.specs.Table.{sourced}
+use Rattle.mf_flow.proofs.table.follow_all.Goals as goal
 
 pub loop-event-init : goal.loop-event-init
 loop-event-init c =
     let s = c.args.script.now in
     let h = c.args.history.now in
     let es = c.as_slice-event-items.result.now in
-    let replay = c.in_ok-run.run' in (
-      opening_replayed s h es replay c.as_slice-event-items.ensures c.requires.legal c.in_ok-run.ensures,
-      c.in_ok-flows.ensures.registrations,
-      opening_flows s h c.args.booted.now es replay c.state.result.now c.in_ok-flows.flows.items c.requires.formed c.requires.legal c.requires.booted
-          c.as_slice-event-items.ensures c.in_ok-run.ensures c.state.ensures c.in_ok-flows.ensures.registrations c.in_ok-flows.ensures.opening,
+    let replay = c.args.run.now in (
+      opening_replayed s h es replay c.as_slice-event-items.ensures c.requires.legal c.requires.run,
+      c.requires.registrations,
+      opening_flows s h (sourced h.boots) es replay replay.run.state c.args.flows.now.items c.requires.formed c.requires.legal refl
+          c.as_slice-event-items.ensures c.requires.run refl c.requires.registrations c.requires.opening,
     )
 
 pub follow-requires-clause-slots : goal.follow-requires-clause-slots

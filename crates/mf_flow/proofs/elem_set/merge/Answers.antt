@@ -1,8 +1,12 @@
-use Rattle.std.proofs.Common.{◌≡◌, ◌++◌, ◌-◌, arith, take, drop, length, ap, ◌∙◌}
+use Rattle.std.proofs.Common.{◌≡◌, ◌++◌, ◌-◌, List, arith, take, drop, length, ap, subst, sym, ◌∙◌}
+use Rattle.mf_elem.specs.declared.elem.Elem.{Elem}
 use Rattle.mf_flow.specs.Order.{union}
-use Rattle.mf_flow.proofs.Placing.{merged_mine, merged_theirs, rest_of}
-use Rattle.mf_flow.proofs.elem_set.merged.Goals as goal
-use Rattle.mf_flow.proofs.elem_set.merged.Goals.{then-loop-mine-test+else-theirs-other, else-loop-mine-test}
+use Rattle.mf_flow.proofs.Placing.{IsMerged, merged_mine, merged_none, merged_theirs, rest_of}
+use Rattle.mf_flow.proofs.elem_set.merge.Goals as goal
+use Rattle.mf_flow.proofs.elem_set.merge.Goals.{then-loop-mine-test+else-theirs-other, else-loop-mine-test}
+
+pub loop-mine-init : goal.loop-mine-init
+loop-mine-init c = subst (λ (xs : List Elem). IsMerged c.args.set.now c.args.other.now xs 0 0) (sym c.requires) (merged_none c.args.set.now c.args.other.now)
 
 pub returns : goal.returns
 returns c =
