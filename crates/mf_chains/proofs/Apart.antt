@@ -20,7 +20,7 @@ use Rattle.mf_core.specs.declared.history.Event.{Event}
 use Rattle.mf_core.specs.declared.history.Event.TheVariants as event
 use Rattle.mf_core.specs.Opening.{opening_state}
 use Rattle.mf_core.specs.LegalHistory.{RunState, next_line, opening_run, run_after}
-use Rattle.mf_flow.specs.Rows.{asked_of}
+use Rattle.mf_flow.specs.Rows.{relabel_asked}
 use Rattle.mf_flow.specs.Sources.{has_element}
 use Rattle.mf_flow.specs.Transfers.{caller_of, counts, descriptor_of}
 use Rattle.mf_chains.specs.declared.happening.Occurrence.{Occurrence}
@@ -135,9 +135,9 @@ line_ends r s s' k task None said xs ends =
 line_ends r s s' k task (Some line) said xs ends =
     let moves : List Occurrence = moving_from r s (descriptor_of s task line) (k + 1) 1 (passed said (plan_of s task line.child line.call).items) in
     let comes : List Occurrence = coming_at r s'.objects (k + 1) (caller_of s task line) s.objects.next in
-    let relabels : List Occurrence = relabelling r s'.objects (k + 1) (asked_of s task line said) in
+    let relabels : List Occurrence = relabelling r s'.objects (k + 1) (relabel_asked s task line said) in
     subst (Ends (k + 1)) (append_assoc (xs ++ moves) comes relabels ∙ append_assoc xs moves (comes ++ relabels))
-    (relabelling_ends r s'.objects (k + 1) (asked_of s task line said) ((xs ++ moves) ++ comes)
+    (relabelling_ends r s'.objects (k + 1) (relabel_asked s task line said) ((xs ++ moves) ++ comes)
     (coming_ends r (k + 1) (caller_of s task line) (record { 0 = s.objects.next }) (live_at s'.objects (record { 0 = s.objects.next })) (xs ++ moves)
     (moving_ends r s (descriptor_of s task line) (k + 1) 1 xs (passed said (plan_of s task line.child line.call).items) (begins k xs ends))))
 

@@ -1,6 +1,5 @@
 mod Apart
 mod Elements
-mod FewEvents
 mod Joining
 mod Lacking
 mod Judging

@@ -36,7 +36,7 @@ use Rattle.mf_core.specs.declared.history.Event.TheVariants as event
 use Rattle.mf_core.specs.Opening.{opening_state}
 use Rattle.mf_core.specs.Progress.{progress_at}
 use Rattle.mf_core.specs.LegalHistory.{RunState, next_line, MayCome, run_after, AllMayCome}
-use Rattle.mf_flow.specs.Rows.{asked_of}
+use Rattle.mf_flow.specs.Rows.{relabel_asked}
 use Rattle.mf_flow.specs.Sources.{Sets, element_by, has_element, held_by, moving, own_source, set_after, sets_after, sets_after_event, sets_after_line}
 use Rattle.mf_flow.specs.Order.{union}
 use Rattle.mf_flow.specs.Transfers.{caller_of, descriptor_of}
@@ -241,7 +241,7 @@ line_tied p r spec s s' k task line said sets xs is after_is shape flowing tied 
     comes_in = coming_at r s'.objects k (caller_of s task line) s.objects.next
 
     relabels : List Occurrence
-    relabels = relabelling r s'.objects k (asked_of s task line said)
+    relabels = relabelling r s'.objects k (relabel_asked s task line said)
 
     seen : Tied s1.objects moved (xs ++ moves)
     seen other x there =

@@ -1,6 +1,7 @@
 -- What the code tells of a call is what happens by it.
 use Rattle.std.proofs.Common.{◌≡◌, ℕ, ◌<◌, ◌≤◌, ◌+◌, ◌-◌, ◌==◌, suc, Bool, true, false, cond, List, [], ◌∷◌, ◌++◌, length, take, drop, get_or, map, Option, Some, None, refl, ap, sym, ◌∙◌, subst, arith, append_assoc, append-nil}
 use Rattle.std.specs.Prelude.{find, option_and_then, IsSome, IsTrue, nat_eq}
+use Rattle.mf_flow.proofs.DoneCalls.{passed_lowering, through_lowered}
 use Rattle.mf_flow.proofs.Moves.{same_id}
 use Rattle.std.specs.List.{flat_map, range_with_len}
 use Rattle.std.specs.Option.{option_map_or}
@@ -10,16 +11,13 @@ use Rattle.std.proofs.lemmas.List.FromFn.{map-range_with_len_more}
 use Rattle.std.proofs.lemmas.List.Folds.{flat_map-map}
 use Rattle.std.proofs.lemmas.Grind.{flat_map-append}
 use Rattle.mf_elem.specs.declared.label.LabelValue.{LabelValue}
-use Rattle.mf_elem.specs.declared.label.LabelValue.TheVariants.{Unset}
 use Rattle.mf_elem.specs.declared.label.Request.{Request}
 use Rattle.mf_item.specs.Item.{Item}
-use Rattle.mf_item.specs.declared.operation.CheckOp.{CheckOp}
-use Rattle.mf_item.specs.declared.operation.CheckOp.TheVariants as op
 use Rattle.mf_policy.specs.Lowering.{after_check, lomac_slot}
 use Rattle.mf_policy.specs.declared.registration.Registration.{Registration}
 use Rattle.mf_objects.specs.declared.descriptors.Fd.{Fd}
 use Rattle.mf_objects.specs.declared.id.Id.{Id}
-use Rattle.mf_objects.specs.Live.{LiveEntity, Entities, id_of, label_at, live_at}
+use Rattle.mf_objects.specs.Live.{LiveEntity, Entities, id_of, live_at}
 use Rattle.mf_objects.specs.Lives.{is_from, value_at}
 use Rattle.mf_calls.specs.declared.script.Line.{Line}
 use Rattle.mf_calls.specs.declared.script.Script.{Script}
@@ -28,21 +26,18 @@ use Rattle.mf_plan.specs.declared.outline.Check.{Check}
 use Rattle.mf_plan.specs.declared.reply.Reply.{Reply}
 use Rattle.mf_plan.specs.declared.reply.Reply.TheVariants as reply
 use Rattle.mf_plan.specs.declared.state.State.{State}
-use Rattle.mf_plan.specs.Checks.{on}
 use Rattle.mf_plan.specs.Found.{descriptor_at}
 use Rattle.mf_plan.specs.Lowering.{each_lowered, lowering, while_lowered, with_slot}
 use Rattle.mf_plan.specs.Outline.{item_asking, item_of}
 use Rattle.mf_plan.specs.Plan.{call_row, plan_in, plan_of, row_for}
 use Rattle.mf_plan.specs.Rows.{about_of}
-use Rattle.mf_plan.proofs.Finding.{asked_of as asked_in_effect, row_by}
-use Rattle.mf_plan.proofs.LoweredChecks.{lowering_taken, put_back}
-use Rattle.mf_plan.proofs.Transfers.{AreThrough, through_descriptor}
-use Rattle.mf_plan.proofs.Transfers.AreThrough.{asks_none, asks_read, asks_write}
+use Rattle.mf_plan.proofs.Finding.{asked_in_effect, row_by}
+use Rattle.mf_plan.proofs.Transfers.{through_descriptor}
 use Rattle.mf_perform.specs.Passed.{passed}
 use Rattle.mf_core.specs.declared.history.Event.{Event}
 use Rattle.mf_core.specs.declared.history.Event.TheVariants as event
 use Rattle.mf_core.specs.LegalHistory.{RunState, next_line, run_after}
-use Rattle.mf_flow.specs.Rows.{asked_of, element_numbered, may_come}
+use Rattle.mf_flow.specs.Rows.{relabel_asked, element_numbered, may_come}
 use Rattle.mf_list.specs.Asked.{slot_of}
 use Rattle.mf_flow.specs.Transfers.{caller_of, descriptor_of}
 use Rattle.mf_chains.specs.declared.happening.Occurrence.{Occurrence}
@@ -147,40 +142,6 @@ module _ (r : Registration) (s : State) (event : ℕ) where
       one None = refl
       one (Some slot) = each_moving slot me.0 (value_at s.objects me slot) n items
 
-passed_lowering : (s : State) (me : Id) (said : Reply) (items : List Item) → passed said (lowering s me items) ≡ lowering s me (passed said items)
-passed_lowering s me (reply.Ok payload) items = refl
-passed_lowering s me (reply.Denied errno op item by) items = lowering_taken s me (item - 1) items
-passed_lowering s me (reply.Refused errno) items = refl
-
--- the one check of a call through a descriptor finds its caller as it is
-own_lowered : (s : State) (me : Id) (asked : Option Request) (k : CheckOp) (file : Id)
-    → lowering s me (item_asking s.objects asked (on me k file) ∷ []) ≡ item_asking s.objects asked (on me k file) ∷ []
-unfolding item_asking
-own_lowered s me asked k file = one (lomac_slot s.specs)
-  where
-    item : Item
-    item = item_asking s.objects asked (on me k file)
-
-    one : (slot : Option ℕ) → option_map_or (λ slot. each_lowered slot me.0 (value_at s.objects me slot) (item ∷ [])) slot (item ∷ []) ≡ item ∷ []
-    one None = refl
-    one (Some slot) = two (me.0 == me.0)
-      where
-        two : (b : Bool) → cond b (record item { subject = with_slot slot (value_at s.objects me slot) item.subject }) item ∷ [] ≡ item ∷ []
-        two true =
-            ap (λ (label : List LabelValue). let lowered : Item = record item { subject = record item.subject { label = label } } in lowered ∷ [])
-            (put_back (label_at s.objects me) slot Unset)
-        two false = refl
-
-through_lowered : (s : State) (me : Id) (asked : Option Request) (fd : Fd) (checks : List Check) → AreThrough me fd checks
-    → lowering s me (map (item_asking s.objects asked) checks) ≡ map (item_asking s.objects asked) checks
-through_lowered s me asked fd _ asks_none = one (lomac_slot s.specs)
-  where
-    one : (slot : Option ℕ) → option_map_or (λ slot. each_lowered slot me.0 (value_at s.objects me slot) []) slot [] ≡ []
-    one None = refl
-    one (Some slot) = refl
-through_lowered s me asked fd _ (asks_read is) = own_lowered s me asked op.VnodeRead fd.file
-through_lowered s me asked fd _ (asks_write is) = own_lowered s me asked op.VnodeWrite fd.file
-
 -- the checks of the row of a call move what those of its plan do
 plan_moving : (r : Registration) (s : State) (event : ℕ) (task : List ℕ) (line : Line) (said : Reply)
     → moving_from r s (descriptor_of s task line) event 1 (passed said (plan_in s (call_row s task line.child line.call)).items)
@@ -219,7 +180,7 @@ module _ (r : Registration) (event : ℕ) (said : Reply) (line : Line) where
 
   told_line : (state state' : State) (task : List ℕ) (fd : Option Fd) (request : Option Request) (checks : List Check) (caller : Option Id) (next : ℕ) (asked : Option (Id × Request))
       → map (item_asking state.objects request) checks ≡ passed said (plan_in state (call_row state task line.child line.call)).items
-      → fd ≡ descriptor_of state task line → next ≡ state.objects.next → caller ≡ caller_of state task line → asked ≡ asked_of state task line said
+      → fd ≡ descriptor_of state task line → next ≡ state.objects.next → caller ≡ caller_of state task line → asked ≡ relabel_asked state task line said
       → told state fd (map (item_of state.objects) checks) state'.objects caller next asked ≡ happened_at_line r state state' event task (Some line) said
   told_line state state' task fd request checks caller next asked items_are fd_is next_is caller_is asked_is =
       let o : Entities = state'.objects in
@@ -238,7 +199,7 @@ pub done_happened : (s : Script) (r : Registration) (run : RunState) (e : Event)
     (request : Option Request) (checks : List Check) (next : ℕ) (caller : Option Id) (asked : Option (Id × Request)) (past moves comes all : List Occurrence) → e ≡ event.Done t number said
     → state ≡ run.state → state' ≡ (run_after s run e).state → task ≡ name_of s t → next_line s run.progress t ≡ Some line
     → map (item_asking state.objects request) checks ≡ passed said (plan_in state (call_row state task line.child line.call)).items
-    → fd ≡ descriptor_of state task line → next ≡ state.objects.next → caller ≡ caller_of state task line → asked ≡ asked_of state task line said
+    → fd ≡ descriptor_of state task line → next ≡ state.objects.next → caller ≡ caller_of state task line → asked ≡ relabel_asked state task line said
     → moves ≡ past ++ moving_from r state fd event_number 1 (map (item_of state.objects) checks) → comes ≡ moves ++ coming_at r state'.objects event_number caller next
     → all ≡ comes ++ relabelling r state'.objects event_number asked → all ≡ past ++ happened_in s r run event_number e
 done_happened s r run e t number event_number said state state' task line fd request checks next caller asked past moves comes all is here after_is task_is line_is items_are fd_is next_is

@@ -24,7 +24,7 @@ use Rattle.mf_core.specs.declared.history.Event.{Event}
 use Rattle.mf_core.specs.declared.history.Event.TheVariants as event
 use Rattle.mf_core.specs.Opening.{opening_state}
 use Rattle.mf_core.specs.LegalHistory.{RunState, opening_run, next_line, run_after}
-use Rattle.mf_flow.specs.Rows.{asked_of, may_come}
+use Rattle.mf_flow.specs.Rows.{relabel_asked, may_come}
 use Rattle.mf_flow.specs.Sources.{element_by, has_element}
 use Rattle.mf_flow.specs.Transfers.{caller_of, counts, descriptor_of}
 use Rattle.mf_chains.specs.declared.happening.Happening.TheVariants.{Labelled, Moves}
@@ -106,7 +106,7 @@ abbrev pub happened_at_line : Registration → State → State → ℕ → List 
 happened_at_line r s s' event task None reply = []
 happened_at_line r s s' event task (Some line) reply =
     moving_from r s (descriptor_of s task line) event 1 (passed reply (plan_of s task line.child line.call).items)
-    ++ (coming_at r s'.objects event (caller_of s task line) s.objects.next ++ relabelling r s'.objects event (asked_of s task line reply))
+    ++ (coming_at r s'.objects event (caller_of s task line) s.objects.next ++ relabelling r s'.objects event (relabel_asked s task line reply))
 
 -- Histories
 

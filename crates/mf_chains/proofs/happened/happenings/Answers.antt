@@ -1,5 +1,5 @@
 use Rattle.std.proofs.Common.{arith, ap, length}
-use Rattle.mf_chains.proofs.FewEvents.{few_events}
+use Rattle.mf_core.proofs.FewLines.{few_events}
 use Rattle.mf_chains.proofs.happened.happenings.Goals as goal
 
 pub overflow_cast-number : goal.overflow_cast-number
