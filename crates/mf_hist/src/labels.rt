@@ -1,5 +1,5 @@
 //! Readers of labels.
-#![tactic(auto)]
+#![tactic(auto, using(crate::proofs::Readers::next_read))]
 
 ghost use Rattle.std.specs.Prelude.{◌≡◌};
 ghost use Rattle.mf_hist.specs.Lines.{parts_shown};
@@ -17,9 +17,10 @@ use mf_spelling::parts_asked;
 pub fn label(words: &mut Words) -> Result<ArrayVec<LabelPart, SLOTS>, Unread>
     ensures { IsRead (λ parts. (parts, words.new)) result (next_by label_in_word words.old) }
 {
-    let word = words.next().ok_or(Unread::NoLine)?;
-    let parts = label_in_word(word)?;
-    Ok(parts)
+    match words.next() {
+        None => Err(Unread::NoLine),
+        Some(word) => label_in_word(word),
+    }
 }
 
 #[tactic(auto, unfolding(crate::specs::Reading::label_in_word))]
