@@ -35,7 +35,7 @@ use Rattle.mf_plan.specs.Settings.{unless_success}
 use Rattle.mf_plan.specs.Ways.{At, Place, Way, asking, straight, then_way, way_to, carrying}
 use Rattle.mf_plan.specs.Ways.Place.{Asking, Entry, File, Free, Sockets}
 use Rattle.mf_plan.specs.Views.{is_dir, overfills, process_named, entity_named}
-use Rattle.mf_plan.proofs.Finding.{asked_of, row_by}
+use Rattle.mf_plan.proofs.Finding.{asked_in_effect, row_by}
 use Rattle.mf_plan.proofs.LoweredChecks.{plan_long}
 use Rattle.mf_perform.specs.declared.verdict.Denial.{Denial}
 use Rattle.mf_perform.specs.Verdict.{denial_at, denial_from}
@@ -180,7 +180,7 @@ pub few_checks : (s : State) (task : List ℕ) (child : Option (List ℕ)) (c : 
 few_checks s task child c formed =
     let row = call_row s task child c in
     let caller = process_named s.objects (caller_name task child) in
-    let asked = length-map row.checks (item_asking s.objects (asked_of row.effect)) in
+    let asked = length-map row.checks (item_asking s.objects (asked_in_effect row.effect)) in
     omega (arith, plan_long s caller (plan_in s row), asked, few_called s task c caller formed)
 
 -- Denials

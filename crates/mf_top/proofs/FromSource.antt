@@ -16,11 +16,11 @@ use Rattle.mf_top.specs.declared.text.Telling.TheVariants as telling
 use Rattle.mf_top.specs.Answers.{IsChainsOutcome, IsOutcomeOf, IsSourceRefusal}
 use Rattle.mf_top.specs.Reading.{IsWhole}
 use Rattle.mf_top.specs.Refusals.{script_refusal}
-use Rattle.mf_top.specs.Scripts.{IsOfSource, IsRead, IsTextBy, IsToldOf, IsTooManyBy, word_for}
+use Rattle.mf_top.specs.Scripts.{IsOfSource, IsSourceRead, IsTextBy, IsToldOf, IsTooManyBy, word_for}
 
 module _ (source : Seen) (bytes : List ℕ) (quiet : HadNoFault source) (whole : IsWhole source.before source.after bytes) (few : length bytes ≤ SCRIPT_LIMIT) where
   -- what was read is said by how it is spelled
-  pub read_of : (s : Script) → script_of bytes ≡ Ok s → IsRead source (Ok s)
+  pub read_of : (s : Script) → script_of bytes ≡ Ok s → IsSourceRead source (Ok s)
   read_of s is = let both = (scripts_texts bytes s few).0 is in (quiet, (bytes, whole, (few, both.0, both.1)))
 
   pub refused : (error : ScriptError) → IsScriptOf (Err error) (script_of bytes) → IsSourceRefusal source (script_refusal error)
@@ -29,13 +29,13 @@ module _ (source : Seen) (bytes : List ℕ) (quiet : HadNoFault source) (whole :
 
 -- what is told of a run of it
 
-told_text : (t : Telling) (source : Seen) (s : Script) (text : List ℕ) → IsOfSource t → IsRead source (Ok s) → IsTextBy t s text → IsOutcomeOf (word_for t) source (Ok text)
+told_text : (t : Telling) (source : Seen) (s : Script) (text : List ℕ) → IsOfSource t → IsSourceRead source (Ok s) → IsTextBy t s text → IsOutcomeOf (word_for t) source (Ok text)
 told_text telling.Run source s text of read is = (read.0, (read.1.0, read.1.1, (s, read.1.2, is)))
 told_text telling.Matrix source s text of read is = (read.0, (read.1.0, read.1.1, (s, read.1.2, is)))
 told_text telling.Chains source s text of read is = (read.0, (read.1.0, read.1.1, (s, read.1.2, is)))
 told_text (telling.Load lines tasks) source s text of read is = absurd of
 
-too_many : (t : Telling) (source : Seen) (s : Script) (text : String Global) → IsRead source (Ok s) → IsTooManyBy t s (string_bytes text)
+too_many : (t : Telling) (source : Seen) (s : Script) (text : String Global) → IsSourceRead source (Ok s) → IsTooManyBy t s (string_bytes text)
     → IsOutcomeOf (word_for t) source (Err (refusal.TooManyChains text))
 too_many telling.Run source s text read is = absurd is
 too_many telling.Matrix source s text read is = absurd is
@@ -48,7 +48,7 @@ no_memory telling.Matrix source of quiet = quiet
 no_memory telling.Chains source of quiet = quiet
 no_memory (telling.Load lines tasks) source of quiet = absurd of
 
-pub ran : (t : Telling) (source : Seen) (s : Script) (outcome : Result (List ℕ) Refusal) → IsOfSource t → IsRead source (Ok s) → IsToldOf t s outcome
+pub ran : (t : Telling) (source : Seen) (s : Script) (outcome : Result (List ℕ) Refusal) → IsOfSource t → IsSourceRead source (Ok s) → IsToldOf t s outcome
     → IsOutcomeOf (word_for t) source outcome
 ran t source s (Ok text) of read is = told_text t source s text of read is
 ran t source s (Err (refusal.TooManyChains text)) of read is = too_many t source s text read is

@@ -33,13 +33,13 @@ use Rattle.mf_lifetimes.proofs.Settings.{all_changed}
 use Rattle.mf_matrix.specs.Slotted.{AreSlotted}
 
 -- the slot of a registration is one that labels have
-abbrev HasSlot : Registration → Type 0
-HasSlot r = slot_of r < SLOTS
+abbrev HasLabelSlot : Registration → Type 0
+HasLabelSlot r = slot_of r < SLOTS
 
 abbrev HasSlots : List Entry → Type 0
-HasSlots listed = AllByRecursion (λ entry. HasSlot entry.0) listed
+HasSlots listed = AllByRecursion (λ entry. HasLabelSlot entry.0) listed
 
-own_slot : (m : Module) (booted : Bool) (given : ℕ) → (wants_slot m ≡ true → given < SLOTS) → HasSlot (registration_of m booted given)
+own_slot : (m : Module) (booted : Bool) (given : ℕ) → (wants_slot m ≡ true → given < SLOTS) → HasLabelSlot (registration_of m booted given)
 own_slot m booted given few = one (wants_slot m) few
   where
     one : (b : Bool) → (b ≡ true → given < SLOTS) → slot_of (record { «module» = m; slot = slot_for b given; fixed = (registration_of m booted given).fixed }) < SLOTS
@@ -50,19 +50,19 @@ own_slot m booted given few = one (wants_slot m) few
 
 each_boot : (ms : List Module) (given : ℕ)
     → ((n : ℕ) (m : Module) → slice_get ms n ≡ Some m → wants_slot m ≡ true → fold given_after given (take n ms) ≤ 3)
-    → AllByRecursion HasSlot (registrations_from given ms)
+    → AllByRecursion HasLabelSlot (registrations_from given ms)
 each_boot [] given few = tt
 each_boot (m ∷ ms) given few =
     (own_slot m false given (λ wants. omega (arith, few zero m refl wants)), each_boot ms (given_after given m) (λ n k at wants. few (suc n) k at wants))
 
-registered : (rs : List Registration) (es : List Entry) → AllByRecursion HasSlot rs → HasSlots es → HasSlots (fold with_registered es rs)
+registered : (rs : List Registration) (es : List Entry) → AllByRecursion HasLabelSlot rs → HasSlots es → HasSlots (fold with_registered es rs)
 registered [] es each all = all
 registered (r ∷ rs) es each all =
-    registered rs (with_registered es r) each.1 (all_newest (λ entry. HasSlot entry.0) (r, fresh_of r.module) es each.0 all)
+    registered rs (with_registered es r) each.1 (all_newest (λ entry. HasLabelSlot entry.0) (r, fresh_of r.module) es each.0 all)
 
 booted : (s : Script) → IsWellFormed s → HasSlots (booted_specs s)
 booted s formed =
-    all_changed HasSlot Biba (Revocation s.revocation) (fold with_registered [] (boots_of s))
+    all_changed HasLabelSlot Biba (Revocation s.revocation) (fold with_registered [] (boots_of s))
     (registered (boots_of s) [] (each_boot s.boots 0 (λ n m at wants. slot_left s.boots n m formed.boots at wants)) tt)
 
 -- What each event keeps
@@ -92,10 +92,10 @@ keeps s s' (removed gone is) all = subst (λ (x : State). HasSlots x.specs) (sym
 keeps s s' (unlinked id is) all = subst (λ (x : State). HasSlots x.specs) (sym is) all
 keeps s s' (loaded m none is) all =
     subst (λ (x : State). HasSlots x.specs) (sym is)
-    (all_newest (λ entry. HasSlot entry.0) (registration_of m s.booted s.numbers, fresh_of m) s.specs
+    (all_newest (λ entry. HasLabelSlot entry.0) (registration_of m s.booted s.numbers, fresh_of m) s.specs
     (own_slot m s.booted s.numbers (loadable s.booted s.specs s.numbers m none)) all)
-keeps s s' (unloaded m ok is) all = subst (λ (x : State). HasSlots x.specs) (sym is) (all_without (λ entry. HasSlot entry.0) m s.specs all)
-keeps s s' (set_to m change ok is) all = subst (λ (x : State). HasSlots x.specs) (sym is) (all_changed HasSlot m change s.specs all)
+keeps s s' (unloaded m ok is) all = subst (λ (x : State). HasSlots x.specs) (sym is) (all_without (λ entry. HasLabelSlot entry.0) m s.specs all)
+keeps s s' (set_to m change ok is) all = subst (λ (x : State). HasSlots x.specs) (sym is) (all_changed HasLabelSlot m change s.specs all)
 
 on : (s : Script) (r : RunState) (es : List Event) → IsRooted r.state.objects → HasSlots r.state.specs → HasSlots (fold (run_after s) r es).state.specs
 on s r [] rooted all = all

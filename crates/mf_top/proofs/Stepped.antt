@@ -5,7 +5,7 @@ use Rattle.mf_io.specs.Outside.{Seen}
 use Rattle.mf_top.specs.declared.refusal.Refusal.{Refusal}
 use Rattle.mf_top.specs.declared.refusal.Refusal.TheVariants as refusal
 use Rattle.mf_top.specs.Answers.{IsSourceRefusal, IsStepOutcome}
-use Rattle.mf_top.specs.Scripts.{IsRead, AreStepped}
+use Rattle.mf_top.specs.Scripts.{IsSourceRead, AreStepped}
 
 pub step_refusal : (source : Seen) (refused : Refusal) → IsSourceRefusal source refused → IsStepOutcome source (Err refused)
 step_refusal source refusal.Usage cause = absurd cause
@@ -18,7 +18,7 @@ step_refusal source refusal.TooLong cause = cause
 step_refusal source refusal.Memory cause = cause
 step_refusal source (refusal.TooManyChains text) cause = absurd cause
 
-pub stepped : (source : Seen) (s : Script) (outcome : Result (List ℕ) Refusal) → IsRead source (Ok s) → AreStepped s outcome → IsStepOutcome source outcome
+pub stepped : (source : Seen) (s : Script) (outcome : Result (List ℕ) Refusal) → IsSourceRead source (Ok s) → AreStepped s outcome → IsStepOutcome source outcome
 stepped source s (Ok text) read is = (read.0, (read.1.0, read.1.1, (s, read.1.2, is)))
 stepped source s (Err (refusal.Step number)) read is = (read.0, (read.1.0, read.1.1, (s, read.1.2, is)))
 stepped source s (Err refusal.Memory) read is = read.0

@@ -23,9 +23,9 @@ use Rattle.mf_top.specs.Steps.{IsStepsOf}
 use Rattle.mf_steps.specs.StepText.{IsFirstRefused}
 
 -- the source held that script, to its end
-abbrev pub IsRead : Seen → Result Script Refusal → Type 0
-IsRead source (Ok s) = HadNoFault source × Held source (λ bytes. AreScript bytes s)
-IsRead source (Err refused) = IsSourceRefusal source refused
+abbrev pub IsSourceRead : Seen → Result Script Refusal → Type 0
+IsSourceRead source (Ok s) = HadNoFault source × Held source (λ bytes. AreScript bytes s)
+IsSourceRead source (Err refused) = IsSourceRefusal source refused
 
 -- the text is that of the steps of the script; or a step is the first that is refused; or memory ran out
 abbrev pub AreStepped : Script → Result (List ℕ) Refusal → Type 0

@@ -6,7 +6,7 @@ ghost use Rattle.mf_io.specs.Outside.{seen, HasRisen};
 ghost use Rattle.mf_io.specs.Causes.{Gave};
 ghost use Rattle.mf_top.specs.Reading.{IsWhole, GaveOn};
 ghost use Rattle.mf_top.specs.Answers.{IsTooLong};
-ghost use Rattle.mf_top.specs.Scripts.{IsRead};
+ghost use Rattle.mf_top.specs.Scripts.{IsSourceRead};
 ghost use Rattle.mf_verdict.specs.declared.limits.TheConstants.{CHECK_LIMIT};
 
 use crate::refusal::Refusal;
@@ -75,7 +75,7 @@ pub fn read_all<S: Source>(
 /// The script that the source holds to its end.
 #[tactic(auto, using(crate::proofs::FromSource::read_of, crate::proofs::FromSource::refused))]
 pub fn read_source<S: Source>(alloc: Global, source: &mut S) -> Result<Script, Refusal>
-    ensures read { IsRead (seen S.left S.faults source.old source.new) result }
+    ensures read { IsSourceRead (seen S.left S.faults source.old source.new) result }
     ensures formed { IfOk result IsWellFormed }
 {
     let bytes = read_all(alloc, source, SCRIPT_LIMIT)?;

@@ -15,7 +15,7 @@ use Rattle.mf_reading.proofs.Runs.{histories_read}
 use Rattle.mf_audit.specs.Audit.{BeginsLegally, lines_of}
 use Rattle.mf_verdict.specs.Pieces.{pieces}
 use Rattle.mf_verdict.specs.Verdict.{IsFirstWrong, TextBegins, history_lines}
-use Rattle.mf_verdict.proofs.HistoryLines.{Entry, IsRead, all_read, line_text, lines_are, one_entry, take_same, text_lines}
+use Rattle.mf_verdict.proofs.HistoryLines.{Entry, IsEntryRead, all_read, line_text, lines_are, one_entry, take_same, text_lines}
 use Rattle.mf_verdict.proofs.Pieces.{concat_pieces}
 
 -- The first n lines are those of the history
@@ -60,14 +60,14 @@ pub record GoesOn (s : Script) (xs ys : List Entry) (lines : List (List ℕ)) : 
   pub next : Entry
   pub later : List Entry
   pub more : List (List ℕ)
-  pub read : IsRead s next
+  pub read : IsEntryRead s next
   pub entries : ys ≡ xs ++ next ∷ later
   pub line : lines ≡ line_text s next ∷ more
 
 entry_on : (x y : Entry) (ys zs : List Entry) → x ≡ y → ys ≡ zs → y ∷ ys ≡ x ∷ zs
 entry_on x y ys zs e f = cc
 
-goes_on : (s : Script) (xs ys : List Entry) (lines : List (List ℕ)) → lines ≢ [] → AllByRecursion (IsRead s) xs → AllByRecursion (IsRead s) ys
+goes_on : (s : Script) (xs ys : List Entry) (lines : List (List ℕ)) → lines ≢ [] → AllByRecursion (IsEntryRead s) xs → AllByRecursion (IsEntryRead s) ys
     → take (suc (length xs)) (map (line_text s) xs ++ lines) ≡ take (suc (length xs)) (map (line_text s) ys) → GoesOn s xs ys lines
 goes_on s [] ys [] some fx fy e = absurd (some refl)
 goes_on s [] [] (line ∷ lines) some fx fy e = absurd (cc)
@@ -131,7 +131,7 @@ module _ (s : Script) (h : History) (formed : IsWellFormed s) (readable : IsRead
 
   no_next : (g : History) (on : GoesOn s (lines_of h) (lines_of g) (pieces rest)) → ⊥
   no_next g on = by_entry on.next on.read on.entries on.line where
-    by_entry : (x : Entry) → IsRead s x → lines_of g ≡ lines_of h ++ x ∷ on.later → pieces rest ≡ line_text s x ∷ on.more → ⊥
+    by_entry : (x : Entry) → IsEntryRead s x → lines_of g ≡ lines_of h ++ x ∷ on.later → pieces rest ≡ line_text s x ∷ on.more → ⊥
     by_entry (inr e) read entries line = none.event e read (concat on.more, sym (concat_pieces rest) ∙ ap concat line)
     by_entry (inl r) read entries line =
         none.boot r (no_events h.boots g.boots h.events.list g.events.list r on.later entries) read (concat on.more, sym (concat_pieces rest) ∙ ap concat line)

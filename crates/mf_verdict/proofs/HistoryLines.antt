@@ -30,9 +30,9 @@ line_text s (inl r) = boot_text r
 line_text s (inr e) = event_text s e
 
 -- it can be read
-abbrev pub IsRead : Script → Entry → Type 0
-IsRead s (inl r) = IsBoot r
-IsRead s (inr e) = IsEvent s e
+abbrev pub IsEntryRead : Script → Entry → Type 0
+IsEntryRead s (inl r) = IsBoot r
+IsEntryRead s (inr e) = IsEvent s e
 
 -- Each is a line
 
@@ -48,7 +48,7 @@ spoken_line text first more spoken = record {
   is = spoken.spelled;
 }
 
-pub is_line : (s : Script) (x : Entry) → IsRead s x → IsLine (line_text s x)
+pub is_line : (s : Script) (x : Entry) → IsEntryRead s x → IsLine (line_text s x)
 is_line s (inl r) fits = spoken_line (boot_text r) _ (boot_more r) (boot_spoken r fits)
 is_line s (inr e) fits = spoken_line (event_text s e) (event_first e) (event_more s e) (event_spoken s e fits)
 
@@ -57,7 +57,7 @@ line_first text rest line =
     ap (λ (t : List ℕ). pieces (t ++ rest)) line.is ∙ whole_first line.front rest line.lacks ∙ ap (λ (t : List ℕ). t ∷ pieces rest) (sym line.is)
 
 -- the lines of texts that are put together
-pub lines_front : (s : Script) (xs : List Entry) (rest : List ℕ) → AllByRecursion (IsRead s) xs → pieces (flat_map (line_text s) xs ++ rest) ≡ map (line_text s) xs ++ pieces rest
+pub lines_front : (s : Script) (xs : List Entry) (rest : List ℕ) → AllByRecursion (IsEntryRead s) xs → pieces (flat_map (line_text s) xs ++ rest) ≡ map (line_text s) xs ++ pieces rest
 lines_front s [] rest each = refl
 lines_front s (x ∷ xs) rest each =
     ap (λ (t : List ℕ). pieces (t ++ rest)) (flat_map-cons (line_text s) x xs)
@@ -86,16 +86,16 @@ entries_text s boots events =
 pub text_is : (s : Script) (h : History) → history_text s h ≡ flat_map (line_text s) (lines_of h)
 text_is s h = sym (entries_text s h.boots h.events.list)
 
-all_events : (s : Script) (events : List Event) → AllByRecursion (IsEvent s) events → AllByRecursion (IsRead s) (map inr events)
+all_events : (s : Script) (events : List Event) → AllByRecursion (IsEvent s) events → AllByRecursion (IsEntryRead s) (map inr events)
 all_events s [] each = tt
 all_events s (e ∷ events) each = (each.0, all_events s events each.1)
 
 pub all_entries : (s : Script) (boots : List Registration) (events : List Event) → AllByRecursion IsBoot boots → AllByRecursion (IsEvent s) events
-    → AllByRecursion (IsRead s) (map inl boots ++ map inr events)
+    → AllByRecursion (IsEntryRead s) (map inl boots ++ map inr events)
 all_entries s [] events each more = all_events s events more
 all_entries s (r ∷ boots) events each more = (each.0, all_entries s boots events each.1 more)
 
-pub all_read : (s : Script) (h : History) → IsReadable s h → AllByRecursion (IsRead s) (lines_of h)
+pub all_read : (s : Script) (h : History) → IsReadable s h → AllByRecursion (IsEntryRead s) (lines_of h)
 all_read s h readable = all_entries s h.boots h.events.list readable.boots readable.events
 
 pub text_lines : (s : Script) (h : History) (rest : List ℕ) → IsReadable s h → pieces (history_text s h ++ rest) ≡ map (line_text s) (lines_of h) ++ pieces rest
@@ -125,14 +125,14 @@ lines_text s h = concat_texts s (lines_of h) ∙ sym (text_is s h)
 only_boots : (rs qs : List Registration) (r q : Registration) → rs ≡ qs → rs ≡ r ∷ [] → qs ≡ q ∷ [] → r ≡ q
 only_boots rs qs r q e f g = cc
 
-pub one_entry : (s : Script) (x y : Entry) → IsRead s x → IsRead s y → line_text s x ≡ line_text s y → x ≡ y
+pub one_entry : (s : Script) (x y : Entry) → IsEntryRead s x → IsEntryRead s y → line_text s x ≡ line_text s y → x ≡ y
 one_entry s (inl r) (inl q) fx fy e =
     ap inl (only_boots (r ∷ []) (q ∷ []) r q (same_lines escaped_stands s (r ∷ []) (q ∷ []) [] [] (fx, tt) (fy, tt) tt tt (ap (λ (t : List ℕ). (t ++ []) ++ []) e)).0 refl refl)
 one_entry s (inl r) (inr f) fx fy e = absurd (apart escaped_stands s f r [] [] fy fx (ap (λ (t : List ℕ). t ++ []) (sym e)))
 one_entry s (inr g) (inl q) fx fy e = absurd (apart escaped_stands s g q [] [] fx fy (ap (λ (t : List ℕ). t ++ []) e))
 one_entry s (inr g) (inr f) fx fy e = ap inr (one_event escaped_stands s g f [] [] fx fy (ap (λ (t : List ℕ). t ++ []) e)).0
 
-pub take_same : (s : Script) (n : ℕ) (xs ys : List Entry) → AllByRecursion (IsRead s) xs → AllByRecursion (IsRead s) ys
+pub take_same : (s : Script) (n : ℕ) (xs ys : List Entry) → AllByRecursion (IsEntryRead s) xs → AllByRecursion (IsEntryRead s) ys
     → take n (map (line_text s) xs) ≡ take n (map (line_text s) ys) → take n xs ≡ take n ys
 take_same s zero xs ys fx fy e = refl
 take_same s (suc n) [] [] fx fy e = refl
