@@ -1,11 +1,11 @@
 //! Which rules of a list may match.
 
 use crate::asked::wants;
-use crate::lists::{has, rule};
+use crate::lists::has;
+use crate::texts::rule_of;
 use mf_cred::{ArrayVec, Cred, FileView};
 use mf_rule::{READ, Rule, RuleList};
 use std::alloc::{AllocError, Global};
-use std::process::Abort;
 
 /// A subject with this uid in all three places.
 fn subject_of(uid: u32) -> Cred {
@@ -17,18 +17,21 @@ fn subject_of(uid: u32) -> Cred {
     }
 }
 
-/// Adds these rules to a list.
-fn add_all(
-    rt: &impl Abort,
-    alloc: Global,
-    rules: &mut RuleList,
-    texts: &[&str],
-) -> Result<(), AllocError> {
-    for text in texts {
-        let rule = rule(rt, alloc, text)?;
-        rules.add(rule)?;
+/// Adds the rule of this text to a list.
+fn adds(alloc: Global, rules: &mut RuleList, text: &str) -> bool {
+    match rule_of(alloc, text) {
+        Ok(Some(rule)) => rules.add(rule).is_ok(),
+        _ => false,
     }
-    Ok(())
+}
+
+/// Adds these rules.
+fn adds_all(alloc: Global, rules: &mut RuleList, texts: &[&str]) -> bool {
+    let mut holds = true;
+    for text in texts {
+        holds &= adds(alloc, rules, text);
+    }
+    holds
 }
 
 /// Whether the rules 0 to 4 may match a subject of the uid, and a directory or a file that is none.
@@ -46,24 +49,21 @@ fn may_match(rules: &RuleList, uid: u32, dir: bool) -> [bool; 5] {
 /// A uid, whether the object is a directory, and which of the rules 0 to 4 may match.
 type Row = (u32, bool, [bool; 5]);
 
-fn wants_rows(rt: &impl Abort, rules: &RuleList, rows: &[Row]) {
+/// Whether the rules may match so.
+fn match_so(rules: &RuleList, rows: &[Row]) -> bool {
+    let mut holds = true;
     for (uid, dir, wanted) in rows {
-        let found = may_match(rules, *uid, *dir);
-        wants(rt, "which may match", found == *wanted);
+        holds &= may_match(rules, *uid, *dir) == *wanted;
     }
+    holds
 }
 
-/// Wants it of a list of these rules.
-fn wants_of(
-    rt: &impl Abort,
-    alloc: Global,
-    rules: &mut RuleList,
-    texts: &[&str],
-    rows: &[Row],
-) -> Result<(), AllocError> {
-    add_all(rt, alloc, rules, texts)?;
-    wants_rows(rt, rules, rows);
-    Ok(())
+/// Whether it is so of a list of these rules.
+fn is_so_of(alloc: Global, texts: &[&str], rows: &[Row]) -> bool {
+    match RuleList::new(alloc) {
+        Ok(mut rules) => adds_all(alloc, &mut rules, texts) && match_so(&rules, rows),
+        Err(AllocError) => false,
+    }
 }
 
 /// With the uid, with another, and whether the object is a directory or isn't.
@@ -80,9 +80,8 @@ const OF_TESTS: &[Row] = &[
 ];
 
 #[test]
-fn rules_that_may_match(rt: HostRuntime) -> Result<(), AllocError> {
-    let mut rules = RuleList::new(rt.alloc())?;
-    wants_of(&rt, rt.alloc(), &mut rules, TESTS, OF_TESTS)
+fn rules_that_may_match(rt: HostRuntime) {
+    wants(&rt, "tests", is_so_of(rt.alloc(), TESTS, OF_TESTS));
 }
 
 /// Ranges that meet and that overlap, and the last uid.
@@ -105,9 +104,8 @@ const OF_RANGES: &[Row] = &[
 ];
 
 #[test]
-fn ranges_of_uids(rt: HostRuntime) -> Result<(), AllocError> {
-    let mut rules = RuleList::new(rt.alloc())?;
-    wants_of(&rt, rt.alloc(), &mut rules, RANGES, OF_RANGES)
+fn ranges_of_uids(rt: HostRuntime) {
+    wants(&rt, "ranges", is_so_of(rt.alloc(), RANGES, OF_RANGES));
 }
 
 const GONE: &[&str] = &["subject uid 5 object mode r", "subject uid 6 object mode r"];
@@ -119,19 +117,25 @@ const OF_GONE: &[Row] = &[
 ];
 
 /// Sets rule 0 anew and takes rule 1 away: where they were, no rule may match any more.
-fn set_and_remove(rt: &impl Abort, alloc: Global, rules: &mut RuleList) -> Result<(), AllocError> {
-    add_all(rt, alloc, rules, GONE)?;
-    let seven = rule(rt, alloc, "subject uid 7 object mode r")?;
-    rules.set(0, seven)?;
-    wants(rt, "a rule", rules.remove(1) == Ok(()));
-    wants_rows(rt, rules, OF_GONE);
-    Ok(())
+fn sets_and_removes(alloc: Global, rules: &mut RuleList) -> bool {
+    let are_added = adds_all(alloc, rules, GONE);
+    let is_set = match rule_of(alloc, "subject uid 7 object mode r") {
+        Ok(Some(seven)) => rules.set(0, seven).is_ok(),
+        _ => false,
+    };
+    are_added && is_set && rules.remove(1) == Ok(()) && match_so(rules, OF_GONE)
+}
+
+fn gone_rules_may_not_match(alloc: Global) -> bool {
+    match RuleList::new(alloc) {
+        Ok(mut rules) => sets_and_removes(alloc, &mut rules),
+        Err(AllocError) => false,
+    }
 }
 
 #[test]
-fn rules_that_are_gone(rt: HostRuntime) -> Result<(), AllocError> {
-    let mut rules = RuleList::new(rt.alloc())?;
-    set_and_remove(&rt, rt.alloc(), &mut rules)
+fn rules_that_are_gone(rt: HostRuntime) {
+    wants(&rt, "rules", gone_rules_may_not_match(rt.alloc()));
 }
 
 /// Whether the list is as the other one, gives uid 5 all that it may read, and has no rule of this number.
@@ -141,71 +145,62 @@ fn has_stayed(rules: &RuleList, before: &RuleList, number: u32) -> bool {
 }
 
 /// Sets a rule; where memory is refused, the list is as it was, and it is done once more.
-fn set_or_stay(
-    rt: &impl Abort,
-    rules: &mut RuleList,
-    before: &RuleList,
-    rule: Rule,
-) -> Result<(), AllocError> {
-    if rules.set(7, rule).is_err() {
-        wants(rt, "as it was", has_stayed(rules, before, 7));
-        rules.set(7, rule)?;
+fn sets_or_stays(rules: &mut RuleList, before: &RuleList, rule: &Rule) -> Result<bool, AllocError> {
+    let mut stays = true;
+    if rules.set(7, *rule).is_err() {
+        stays = has_stayed(rules, before, 7);
+        rules.set(7, *rule)?;
     }
-    wants(rt, "a rule", has(rules, 7, &rule));
-    Ok(())
+    Ok(stays && has(rules, 7, rule))
 }
 
 /// Sets a rule in an empty list, beside another empty one.
-fn set_beside(
-    rt: &impl Abort,
-    alloc: Global,
-    rules: &mut RuleList,
-    rule: Rule,
-) -> Result<(), AllocError> {
+fn sets_beside(alloc: Global, rules: &mut RuleList, rule: &Rule) -> Result<bool, AllocError> {
     let empty = RuleList::new(alloc)?;
-    set_or_stay(rt, rules, &empty, rule)
+    sets_or_stays(rules, &empty, rule)
+}
+
+/// Adds a rule once more, which was refused: the list is as it was.
+fn adds_again(rules: &mut RuleList, before: &RuleList, rule: &Rule) -> Result<bool, AllocError> {
+    let stays = rules.same(before) && rules.get(0).is_none();
+    Ok(rules.add(*rule)? == Some(0) && stays)
 }
 
 /// Adds a rule; where memory is refused, the list is as it was, and it is done once more.
-fn add_or_stay(
-    rt: &impl Abort,
-    rules: &mut RuleList,
-    before: &RuleList,
-    rule: Rule,
-) -> Result<(), AllocError> {
-    let number = match rules.add(rule) {
-        Ok(number) => number,
-        Err(AllocError) => {
-            let is_same = rules.same(before) && rules.get(0).is_none();
-            wants(rt, "as it was", is_same);
-            rules.add(rule)?
-        }
+fn adds_or_stays(rules: &mut RuleList, before: &RuleList, rule: &Rule) -> Result<bool, AllocError> {
+    let is_first = match rules.add(*rule) {
+        Ok(number) => number == Some(0),
+        Err(AllocError) => adds_again(rules, before, rule)?,
     };
-    wants(rt, "a rule", number == Some(0) && has(rules, 0, &rule));
-    Ok(())
+    Ok(is_first && has(rules, 0, rule))
 }
 
 /// Adds a rule beside a copy of the list.
-fn add_beside(
-    rt: &impl Abort,
-    alloc: Global,
-    rules: &mut RuleList,
-    rule: Rule,
-) -> Result<(), AllocError> {
+fn adds_beside(alloc: Global, rules: &mut RuleList, rule: &Rule) -> Result<bool, AllocError> {
     let before = rules.copy(alloc)?;
-    add_or_stay(rt, rules, &before, rule)
+    adds_or_stays(rules, &before, rule)
 }
 
 /// Sets the one rule and adds the other.
-fn set_and_add(rt: &impl Abort, alloc: Global, rules: &mut RuleList) -> Result<(), AllocError> {
-    let five = rule(rt, alloc, "subject uid 5:6 object mode n")?;
-    let nine = rule(rt, alloc, "subject uid 8:9 object mode n")?;
-    set_beside(rt, alloc, rules, five)?;
-    add_beside(rt, alloc, rules, nine)
+fn sets_and_adds(alloc: Global, rules: &mut RuleList) -> Result<bool, AllocError> {
+    let five = rule_of(alloc, "subject uid 5:6 object mode n")?;
+    let nine = rule_of(alloc, "subject uid 8:9 object mode n")?;
+    match (&five, &nine) {
+        (Some(five), Some(nine)) => {
+            Ok(sets_beside(alloc, rules, five)? && adds_beside(alloc, rules, nine)?)
+        }
+        _ => Ok(false),
+    }
+}
+
+fn grow_or_stay(alloc: Global) -> Result<bool, AllocError> {
+    let mut rules = RuleList::new(alloc)?;
+    sets_and_adds(alloc, &mut rules)
 }
 
 #[test]
 fn rules_after_refused_growths(rt: HostRuntime) -> Result<(), AllocError> {
-    let mut rules = RuleList::new(rt.alloc())?;
-    set_and_add(&rt, rt.alloc(), &mut rules)
+    let is_so = grow_or_stay(rt.alloc())?;
+    wants(&rt, "rules", is_so);
+    Ok(())
 }

@@ -28,16 +28,21 @@ const ANSWERS: &[(&[Errno], Errno, Option<usize>)] = &[
     ),
 ];
 
-#[test]
-fn precedence_against_walk_order(rt: HostRuntime) {
+fn precedence_against_walk_order() -> bool {
+    let mut holds = true;
     for (answers, errno, place) in ANSWERS {
-        let is_so = fold(answers) == *errno && decider(answers) == *place;
-        wants(&rt, "precedence against walk order", is_so);
+        holds &= fold(answers) == *errno && decider(answers) == *place;
     }
+    holds
 }
 
 #[test]
-fn one_grant_is_enough(rt: HostRuntime) {
-    let is_so = granted(&[false, true]) && !granted(&[]);
-    wants(&rt, "one grant is enough", is_so);
+fn answers_of_several_policies(rt: HostRuntime) {
+    wants(
+        &rt,
+        "precedence against walk order",
+        precedence_against_walk_order(),
+    );
+    let is_granted = granted(&[false, true]) && !granted(&[]);
+    wants(&rt, "one grant is enough", is_granted);
 }

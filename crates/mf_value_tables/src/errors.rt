@@ -1,8 +1,8 @@
 //! Errors, modules and privileges by number and by name, and which of two answers counts.
 
-use crate::asked::wants;
+use crate::asked::{holds, wants};
 use mf_errno::{Errno, Module, Priv, select};
-use std::alloc::AllocError;
+use std::alloc::{AllocError, Global};
 
 /// Errors with their numbers and names in errno(2).
 const ERRORS: &[(Errno, u32, &str)] = &[
@@ -15,52 +15,41 @@ const ERRORS: &[(Errno, u32, &str)] = &[
     (Errno::Enotempty, 66, "ENOTEMPTY"),
 ];
 
-#[test]
-fn numbers_of_errno_2(rt: HostRuntime) {
+fn numbers_of_errno_2() -> bool {
+    let mut holds = true;
     for (errno, number, name) in ERRORS {
-        wants(
-            &rt,
-            name,
-            errno.number() == *number && errno.name() == *name,
-        );
+        holds &= errno.number() == *number && errno.name() == *name;
     }
+    holds
 }
 
-#[test]
-fn names_lead_back(rt: HostRuntime) {
-    let errors = Errno::from_name(Errno::Enotdir.name()) == Some(Errno::Enotdir)
-        && Errno::from_name("enotdir").is_none();
-    let modules = Module::from_name(Module::Bsdextended.name()) == Some(Module::Bsdextended)
-        && Module::from_name("mac_lomac") == Some(Module::Lomac)
-        && Module::from_name("biba").is_none();
-    let privilege = Priv::from_name(Priv::KldUnload.name());
-    wants(
-        &rt,
-        "names lead back",
-        errors && modules && privilege == Some(Priv::KldUnload),
-    );
+fn is_error(name: &str, wanted: Option<Errno>) -> bool {
+    Errno::from_name(name) == wanted
 }
 
-#[test]
-fn names_are_shown(rt: HostRuntime) -> Result<(), AllocError> {
-    let shown = format!(in rt.alloc(); "{} {} {}", Errno::Success, Module::Mls, Priv::KldLoad)?;
-    wants(
-        &rt,
-        "names are shown",
-        shown.as_str() == "ok mac_mls KLD_LOAD",
-    );
-    Ok(())
+fn is_module(name: &str, wanted: Option<Module>) -> bool {
+    Module::from_name(name) == wanted
 }
 
-#[test]
-fn every_error_by_its_name(rt: HostRuntime) {
+fn names_lead_back() -> bool {
+    let errors = is_error(Errno::Enotdir.name(), Some(Errno::Enotdir)) && is_error("enotdir", None);
+    let modules = is_module(Module::Bsdextended.name(), Some(Module::Bsdextended))
+        && is_module("mac_lomac", Some(Module::Lomac))
+        && is_module("biba", None);
+    errors && modules && Priv::from_name(Priv::KldUnload.name()) == Some(Priv::KldUnload)
+}
+
+fn names_are_shown(alloc: Global) -> Result<bool, AllocError> {
+    let shown = format!(in alloc; "{} {} {}", Errno::Success, Module::Mls, Priv::KldLoad)?;
+    Ok(shown.as_str() == "ok mac_mls KLD_LOAD")
+}
+
+fn every_error_by_its_name() -> bool {
+    let mut holds = true;
     for errno in Errno::all() {
-        wants(
-            &rt,
-            "every error by its name",
-            Errno::from_name(errno.name()) == Some(*errno),
-        );
+        holds &= is_error(errno.name(), Some(*errno));
     }
+    holds
 }
 
 /// A newer and an older answer, and the one that is selected.
@@ -73,10 +62,19 @@ const ANSWERS: &[(Errno, Errno, Errno)] = &[
     (Errno::Success, Errno::Success, Errno::Success),
 ];
 
-#[test]
-fn precedence_of_two_answers(rt: HostRuntime) {
+fn precedence_of_two_answers() -> bool {
+    let mut holds = true;
     for (newer, older, selected) in ANSWERS {
-        let found = select(*newer, *older);
-        wants(&rt, "precedence of two answers", found == *selected);
+        holds &= select(*newer, *older) == *selected;
     }
+    holds
+}
+
+#[test]
+fn errors_modules_and_privileges(rt: HostRuntime) {
+    wants(&rt, "numbers of errno(2)", numbers_of_errno_2());
+    wants(&rt, "names lead back", names_lead_back());
+    wants(&rt, "names are shown", holds(names_are_shown(rt.alloc())));
+    wants(&rt, "every error by its name", every_error_by_its_name());
+    wants(&rt, "two answers", precedence_of_two_answers());
 }

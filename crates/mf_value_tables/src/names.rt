@@ -1,46 +1,43 @@
 //! Names, paths, texts of a limited length, and lists.
+ghost use Rattle.std.specs.Prelude.{◌≡◌, []};
 
-use crate::asked::wants;
+use crate::asked::{holds, wants};
 use mf_names::{Bytes, Components, Listing, Name, NameList, Path, Word};
 use std::alloc::{AllocError, Global};
-use std::process::Abort;
+
+/// Whether these are the text's bytes.
+fn has(text: &Bytes<4>, bytes: &[u8]) -> bool {
+    text.as_slice() == bytes
+}
 
 /// Whether the text, which is "ab", is emptied and grows.
-fn empties_and_grows(text: &mut Bytes<4>) -> Result<bool, AllocError> {
-    let is_filled = text.as_slice() == b"ab".as_slice();
+fn empties_and_grows(text: &mut Bytes<4>) -> bool {
+    let is_filled = has(text, b"ab");
     text.clear();
-    let is_empty = text.as_slice().is_empty();
-    text.append(b"cd")?;
-    let is_grown = text.as_slice() == b"cd".as_slice();
-    Ok(is_filled && is_empty && is_grown)
+    let is_empty = has(text, b"");
+    is_filled && is_empty && text.append(b"cd").is_ok() && has(text, b"cd")
 }
 
-#[test]
-fn a_text_grows_and_is_emptied(rt: HostRuntime) -> Result<(), AllocError> {
-    let mut text: Bytes<4> = Bytes::copy_of(rt.alloc(), b"ab")?;
-    let is_grown = empties_and_grows(&mut text)?;
-    wants(&rt, "a text", is_grown);
-    Ok(())
+fn a_text_grows_and_is_emptied(alloc: Global) -> bool {
+    match Bytes::copy_of(alloc, b"ab") {
+        Ok(mut text) => empties_and_grows(&mut text),
+        Err(AllocError) => false,
+    }
 }
 
-#[test]
-fn items_stay_in_order(rt: HostRuntime) -> Result<(), AllocError> {
-    let mut numbers = Listing::new(rt.alloc());
-    numbers.push(2u32)?;
-    numbers.push(1)?;
-    wants(
-        &rt,
-        "items stay in order",
-        numbers.len() == 2 && numbers.as_slice() == [2, 1].as_slice(),
-    );
-    Ok(())
+/// Whether items stay in order in the list, which is empty.
+fn keeps_order(numbers: &mut Listing<u32>) -> bool {
+    let are_listed = numbers.push(2).is_ok() && numbers.push(1).is_ok() && numbers.len() == 2;
+    are_listed && numbers.as_slice() == [2, 1].as_slice()
 }
 
-#[test]
-fn words_keep_their_text(rt: HostRuntime) -> Result<(), AllocError> {
-    let word = Word::from_string(String::from_str(rt.alloc(), "mac_biba")?);
-    wants(&rt, "words keep their text", word.as_str() == "mac_biba");
-    Ok(())
+fn items_stay_in_order(alloc: Global) -> bool {
+    keeps_order(&mut Listing::new(alloc))
+}
+
+fn words_keep_their_text(alloc: Global) -> Result<bool, AllocError> {
+    let word = Word::from_string(String::from_str(alloc, "mac_biba")?);
+    Ok(word.as_str() == "mac_biba")
 }
 
 /// Lists two names, one of which is made of a `String`.
@@ -49,45 +46,47 @@ fn list_two(alloc: Global, names: &mut NameList) -> Result<(), AllocError> {
     names.push(Name::from_string(String::from_str(alloc, "t1")?))
 }
 
-#[test]
-fn names_keep_their_text(rt: HostRuntime) -> Result<(), AllocError> {
-    let mut names = NameList::new(rt.alloc());
-    list_two(rt.alloc(), &mut names)?;
-    wants(&rt, "names keep their text", names.len() == 2);
-    for name in names.as_slice() {
-        wants(&rt, "names keep their text", name.as_str().len() == 2);
-    }
-    Ok(())
+/// Whether these are the two.
+fn are_two(names: &[Name]) -> bool {
+    names.len() == 2 && names[0].as_str() == "t0" && names[1].as_str() == "t1"
+}
+
+fn names_keep_their_text(alloc: Global) -> bool {
+    let mut names = NameList::new(alloc);
+    list_two(alloc, &mut names).is_ok() && names.len() == 2 && are_two(names.as_slice())
+}
+
+fn is_a_list_of_no_names(alloc: Global) -> bool {
+    NameList::from_vec(Vec::new(alloc)).len() == 0
 }
 
 #[test]
-fn a_list_of_no_names(rt: HostRuntime) {
-    let listed = NameList::from_vec(Vec::new(rt.alloc()));
-    wants(&rt, "a list of no names", listed.len() == 0);
+fn texts_and_lists(rt: HostRuntime) {
+    let alloc = rt.alloc();
+    wants(&rt, "a text", a_text_grows_and_is_emptied(alloc));
+    wants(&rt, "items", items_stay_in_order(alloc));
+    wants(&rt, "words", holds(words_keep_their_text(alloc)));
+    wants(&rt, "names", names_keep_their_text(alloc));
+    wants(&rt, "no names", is_a_list_of_no_names(alloc));
 }
 
-/// The path /etc/motd.
-fn motd(alloc: Global) -> Result<Path, AllocError> {
-    let mut path = Path::root(alloc);
-    path.push("etc")?;
-    path.push("motd")?;
-    Ok(path)
+/// Whether the path becomes /etc/motd, from the root.
+fn becomes_motd(path: &mut Path) -> bool
+    requires { path.old ≡ [] }
+{
+    path.push("etc").is_ok() && path.push("motd").is_ok()
+}
+
+/// Whether the next component is this.
+fn is_next(components: &mut Components<'_>, wanted: Option<&str>) -> bool {
+    components.next() == wanted
 }
 
 /// Whether the path is /etc/motd.
 fn is_motd(path: &Path) -> bool {
     let mut components = path.components();
-    let is_named = components.next() == Some("etc") && components.next() == Some("motd");
-    is_named && components.next().is_none() && path.depth() == 2
-}
-
-#[test]
-fn a_path_grows(rt: HostRuntime) -> Result<(), AllocError> {
-    let is_empty = Path::root(rt.alloc()).components().is_empty();
-    wants(&rt, "a path", is_empty);
-    let path = motd(rt.alloc())?;
-    wants(&rt, "a path", is_motd(&path));
-    Ok(())
+    let is_named = is_next(&mut components, Some("etc")) && is_next(&mut components, Some("motd"));
+    is_named && is_next(&mut components, None) && path.depth() == 2
 }
 
 /// Whether the components are those of the directory, and motd.
@@ -104,17 +103,24 @@ fn ends_in(path: &Path, directory: &Path) -> bool {
     !components.is_same(&of_directory) && ends_in_motd(&components, &of_directory)
 }
 
-/// Makes the directory, and looks at the path's end.
-fn wants_directory(rt: &impl Abort, alloc: Global, path: &Path) -> Result<(), AllocError> {
-    let mut directory = Path::with_room(alloc, 4)?;
-    let is_root = directory.components().split_last().is_none();
-    directory.push("etc")?;
-    wants(rt, "a path", is_root && ends_in(path, &directory));
-    Ok(())
+/// Whether the path is /etc/motd once it has grown, and ends in its directory, which is the root at first.
+fn grows(path: &mut Path, directory: &mut Path) -> bool
+    requires path { path.old ≡ [] }
+    requires directory { directory.old ≡ [] }
+{
+    let are_roots = path.components().is_empty() && directory.components().split_last().is_none();
+    let is_motd = becomes_motd(path) && is_motd(path);
+    are_roots && is_motd && directory.push("etc").is_ok() && ends_in(path, directory)
+}
+
+fn a_path_ends_in_its_directory(alloc: Global) -> bool {
+    match Path::with_room(alloc, 4) {
+        Ok(mut directory) => grows(&mut Path::root(alloc), &mut directory),
+        Err(AllocError) => false,
+    }
 }
 
 #[test]
-fn a_path_ends_in_its_directory(rt: HostRuntime) -> Result<(), AllocError> {
-    let path = motd(rt.alloc())?;
-    wants_directory(&rt, rt.alloc(), &path)
+fn paths(rt: HostRuntime) {
+    wants(&rt, "a path", a_path_ends_in_its_directory(rt.alloc()));
 }

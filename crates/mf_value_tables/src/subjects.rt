@@ -1,19 +1,18 @@
 //! Credentials, and what policies are asked.
 
-use crate::asked::wants;
+use crate::asked::{holds, wants};
 use mf_cred::{Cred, Duplicate};
 use mf_elem::Request;
 use mf_item::{CheckOp, Item, SubjectView};
-use std::alloc::AllocError;
+use std::alloc::{AllocError, Global};
 
-#[test]
-fn groups_of_a_credential(rt: HostRuntime) {
+fn groups_of_a_credential() -> bool {
     let mut cred = Cred::default();
     cred.groups.push(47);
     let copy = cred.copy();
     let in_both = copy.in_group(0) && copy.in_group(47) && !copy.in_group(48);
     let is_copy = copy.same(&cred) && !copy.same(&Cred::default());
-    wants(&rt, "groups", copy.is_root() && in_both && is_copy);
+    copy.is_root() && in_both && is_copy
 }
 
 /// Whether the item is that of a relabel by this subject, and has no other part.
@@ -23,23 +22,22 @@ fn is_relabel(item: &Item, subject: &SubjectView) -> bool {
     has_parts && !has_others && item.op().name() == "cred_relabel"
 }
 
-#[test]
-fn an_item_has_its_parts(rt: HostRuntime) {
+fn an_item_has_its_parts() -> bool {
     let (subject, request) = (SubjectView::default(), Request::none());
     let op = CheckOp::CredRelabel;
     let item = Item::new(op, &subject, None, Some(&request), None, None);
-    wants(&rt, "an item", is_relabel(&item, &subject));
+    is_relabel(&item, &subject)
+}
+
+fn operations_by_name(alloc: Global) -> Result<bool, AllocError> {
+    let shown = format!(in alloc; "{}", CheckOp::KldLoad)?;
+    let is_found = CheckOp::from_name("cred_relabel") == Some(CheckOp::CredRelabel);
+    Ok(is_found && shown.as_str() == "kld_load")
 }
 
 #[test]
-fn operations_by_name(rt: HostRuntime) -> Result<(), AllocError> {
-    let found = CheckOp::from_name("cred_relabel");
-    let shown = format!(in rt.alloc(); "{}", CheckOp::KldLoad)?;
-    let is_shown = shown.as_str() == "kld_load";
-    wants(
-        &rt,
-        "operations",
-        is_shown && found == Some(CheckOp::CredRelabel),
-    );
-    Ok(())
+fn credentials_and_items(rt: HostRuntime) {
+    wants(&rt, "groups", groups_of_a_credential());
+    wants(&rt, "an item", an_item_has_its_parts());
+    wants(&rt, "operations", holds(operations_by_name(rt.alloc())));
 }

@@ -1,34 +1,31 @@
 //! Texts of numbers, and of bytes with escapes.
 
-use crate::asked::wants;
+use crate::asked::{holds, wants};
 use mf_text::{
     NumberFault, TextFault, escape, print_number, read_number, read_octal, unescape, unescape_bytes,
 };
 use std::alloc::{AllocError, Global};
 
-#[test]
-fn bytes_and_their_escaped_text(rt: HostRuntime) -> Result<(), TextFault> {
-    let bytes = [97, 32, 92, 0, 255];
-    let mut text = String::from_str(rt.alloc(), "text ")?;
-    escape(&bytes, &mut text)?;
-    wants(
-        &rt,
-        "bytes and their escaped text",
-        text.as_str() == "text a\\20\\5c\\00\\ff",
-    );
-    Ok(())
+/// Bytes that need escapes, and two that don't.
+const BYTES: &[u8] = &[97, 32, 92, 0, 255];
+
+/// Appends a text of them, and a number.
+fn append_both(out: &mut String) -> bool {
+    let is_appended = escape(BYTES, out).is_ok() && out.as_str() == "text a\\20\\5c\\00\\ff";
+    is_appended && print_number(4294967295, out).is_ok()
 }
 
-#[test]
-fn escapes_of_either_case(rt: HostRuntime) -> Result<(), TextFault> {
-    let bytes = [97, 32, 92, 0, 255];
-    let read = unescape(rt.alloc(), "a\\20\\5C\\00\\fF")?;
-    wants(
-        &rt,
-        "escapes of either case",
-        read.as_slice() == bytes.as_slice(),
-    );
-    Ok(())
+fn texts_are_appended(alloc: Global) -> Result<bool, AllocError> {
+    let mut out = String::from_str(alloc, "text ")?;
+    let are_appended = append_both(&mut out);
+    Ok(are_appended && out.as_str() == "text a\\20\\5c\\00\\ff4294967295")
+}
+
+fn escapes_of_either_case(alloc: Global) -> bool {
+    match unescape(alloc, "a\\20\\5C\\00\\fF") {
+        Ok(read) => read.as_slice() == BYTES,
+        Err(_) => false,
+    }
 }
 
 /// The place of the first bad escape; None where there is none, or no memory.
@@ -42,12 +39,12 @@ fn bad_escape(alloc: Global, text: &str) -> Option<usize> {
 /// Texts, and the places of their first bad escapes.
 const BAD_ESCAPES: &[(&str, usize)] = &[("a\\2", 1), ("\\", 0), ("\\5c\\5g", 3), ("é\\", 2)];
 
-#[test]
-fn bad_escapes(rt: HostRuntime) {
+fn bad_escapes(alloc: Global) -> bool {
+    let mut holds = true;
     for (text, place) in BAD_ESCAPES {
-        let found = bad_escape(rt.alloc(), text);
-        wants(&rt, text, found == Some(*place));
+        holds &= bad_escape(alloc, text) == Some(*place);
     }
+    holds
 }
 
 /// Texts, the least number that is read, the greatest, and what is read.
@@ -69,23 +66,12 @@ const NUMBERS: &[(&str, u32, u32, Result<u32, NumberFault>)] = &[
     ("256", 1, 256, Ok(256)),
 ];
 
-#[test]
-fn numbers_and_their_faults(rt: HostRuntime) {
+fn numbers_and_their_faults() -> bool {
+    let mut holds = true;
     for (text, least, greatest, read) in NUMBERS {
-        wants(&rt, text, read_number(text, *least, *greatest) == *read);
+        holds &= read_number(text, *least, *greatest) == *read;
     }
-}
-
-#[test]
-fn numbers_in_decimal_digits(rt: HostRuntime) -> Result<(), AllocError> {
-    let mut out = String::from_str(rt.alloc(), "uid ")?;
-    print_number(4294967295, &mut out)?;
-    wants(
-        &rt,
-        "numbers in decimal digits",
-        out.as_str() == "uid 4294967295",
-    );
-    Ok(())
+    holds
 }
 
 /// Texts of modes, and what is read.
@@ -95,9 +81,19 @@ const MODES: &[(&str, Result<u32, NumberFault>)] = &[
     ("10000", Err(NumberFault::OutOfRange)),
 ];
 
-#[test]
-fn octal_numbers(rt: HostRuntime) {
+fn octal_numbers() -> bool {
+    let mut holds = true;
     for (text, read) in MODES {
-        wants(&rt, text, read_octal(text, 4095) == *read);
+        holds &= read_octal(text, 4095) == *read;
     }
+    holds
+}
+
+#[test]
+fn texts_of_bytes_and_of_numbers(rt: HostRuntime) {
+    wants(&rt, "texts", holds(texts_are_appended(rt.alloc())));
+    wants(&rt, "escapes", escapes_of_either_case(rt.alloc()));
+    wants(&rt, "bad escapes", bad_escapes(rt.alloc()));
+    wants(&rt, "numbers", numbers_and_their_faults());
+    wants(&rt, "octal numbers", octal_numbers());
 }
