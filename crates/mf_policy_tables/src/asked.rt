@@ -3,10 +3,10 @@ ghost use Rattle.std.specs.Prelude.{◌<◌};
 ghost use Rattle.mf_policy.specs.IsChange.{IsChange};
 
 use mf_cred::{Cred, FileView};
-use mf_elem::{Comps, Elem, LabelValue, RangeLabel, SLOTS};
+use mf_elem::{Comps, Elem, LAST_COMPARTMENT, LabelValue, RangeLabel, SLOTS};
 use mf_errno::{Errno, Module};
 use mf_item::{CheckOp, Item, Kind, ObjectView, SubjectView};
-use mf_policy::{Change, Changed, Policy, Spec};
+use mf_policy::{Change, Policy, Spec};
 use std::alloc::{AllocError, Global};
 use std::process::Abort;
 
@@ -15,8 +15,37 @@ pub fn wants(rt: &impl Abort, name: &str, holds: bool) {
     assert!(rt; holds, "{name}");
 }
 
+/// Whether it holds, and no memory ran out.
+pub fn holds(found: Result<bool, AllocError>) -> bool {
+    match found {
+        Ok(holds) => holds,
+        Err(AllocError) => false,
+    }
+}
+
+/// An element, as rows have it: a grade with no compartment, or with one.
+pub enum Level {
+    Low,
+    High,
+    Equal,
+    Grade(u16),
+    In(u16, u16),
+}
+
 pub fn grade(grade: u16) -> Elem {
     Elem::Grade(grade, Comps::empty())
+}
+
+pub fn element(level: &Level) -> Elem {
+    match level {
+        Level::Low => Elem::Low,
+        Level::High => Elem::High,
+        Level::Equal => Elem::Equal,
+        Level::In(number, n) if 1 <= *n && *n <= LAST_COMPARTMENT => {
+            Elem::Grade(*number, Comps::empty().with(*n))
+        }
+        Level::Grade(number) | Level::In(number, _) => grade(*number),
+    }
 }
 
 /// A label without a range, in each slot.
@@ -62,34 +91,32 @@ pub fn answer<P: Policy>(policy: &P, op: CheckOp, subject: Elem, object: Elem) -
     answer_in(policy, 0, op, [own; SLOTS], labelled(object))
 }
 
-/// Wants these answers of the policy to operations, by the elements of subject and object.
-pub fn wants_answers<P: Policy>(
-    rt: &impl Abort,
-    policy: &P,
-    rows: &[(CheckOp, Elem, Elem, Errno)],
-) {
+/// An operation, the elements of subject and object, and the answer.
+pub type Row = (CheckOp, Level, Level, Errno);
+
+/// Whether the policy answers so.
+pub fn answers<P: Policy>(policy: &P, rows: &[Row]) -> bool {
+    let mut holds = true;
     for (op, subject, object, errno) in rows {
-        let found = answer(policy, *op, *subject, *object);
-        wants(rt, op.name(), found == *errno);
+        holds &= answer(policy, *op, element(subject), element(object)) == *errno;
+    }
+    holds
+}
+
+/// Whether the policy answers a change with that errno.
+pub fn is_answered<P: Policy>(alloc: Global, policy: &mut P, change: &Change, errno: Errno) -> bool
+    requires { IsChange change.now }
+{
+    match policy.change(alloc, change) {
+        Ok(changed) => changed.errno == errno,
+        Err(AllocError) => false,
     }
 }
 
-/// The answer of a policy to a change.
-pub fn changed<P: Policy>(
-    alloc: Global,
-    policy: &mut P,
-    change: Change,
-) -> Result<Changed, AllocError>
-    requires { IsChange change }
-{
-    policy.change(alloc, &change)
-}
-
-/// The answers of a policy to a change of mac_bsdextended's setting, and of mac_biba's.
-pub fn settings_of<P: Policy>(alloc: Global, policy: &mut P) -> Result<(Errno, Errno), AllocError> {
-    let first_match = changed(alloc, policy, Change::FirstMatch(true))?;
-    let revocation = changed(alloc, policy, Change::Revocation(true))?;
-    Ok((first_match.errno, revocation.errno))
+/// Whether it answers a change of mac_bsdextended's setting with the one, and of mac_biba's with the other.
+pub fn has_settings<P: Policy>(alloc: Global, policy: &mut P, errnos: (Errno, Errno)) -> bool {
+    let is_first = is_answered(alloc, policy, &Change::FirstMatch(true), errnos.0);
+    is_first && is_answered(alloc, policy, &Change::Revocation(true), errnos.1)
 }
 
 /// Whether the policy has the spec of this module in its initial state.

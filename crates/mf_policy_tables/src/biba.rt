@@ -1,36 +1,28 @@
 //! Biba by itself.
 
-use crate::asked::{answer, changed, grade, settings_of, wants, wants_answers};
+use crate::asked::Level::{Equal, Grade, High, In};
+use crate::asked::{Row, answer, answers, grade, has_settings, holds, wants};
 use mf_biba::Biba;
-use mf_elem::{Comps, Elem};
-use mf_errno::Errno::{self, Eacces, Eperm, Success};
+use mf_errno::Errno::{self, Eacces, Enoent, Eperm, Esrch, Success};
 use mf_item::CheckOp::{self, KldLoad, VnodeOpenRead, VnodeOpenWrite};
-use mf_policy::{Change, Policy, Spec};
+use mf_policy::{Change, Changed, Policy, Spec};
 use std::alloc::{AllocError, Global};
-use std::process::Abort;
 
 /// The four rules that mac_biba(4) gives, in its order. A subject with `equal` is exempt. FreeBSD's Biba lets only a
 /// privileged subject load a module too, by its privilege check; here it is the check `kld_load`.
-#[test]
-fn rules_of_mac_biba_4(rt: HostRuntime) {
-    let (equal, high, five, ten) = (Elem::Equal, Elem::High, grade(5), grade(10));
-    let in_one = Elem::Grade(5, Comps::empty().with(1));
-    let in_two = Elem::Grade(9, Comps::empty().with(2));
-    let rows = [
-        (VnodeOpenRead, ten, ten, Success),
-        (VnodeOpenWrite, ten, ten, Success),
-        (VnodeOpenRead, ten, five, Eacces),
-        (VnodeOpenWrite, ten, five, Success),
-        (VnodeOpenRead, five, ten, Success),
-        (VnodeOpenWrite, five, ten, Eacces),
-        (VnodeOpenRead, in_one, in_two, Eacces),
-        (VnodeOpenWrite, in_one, in_two, Eacces),
-        (VnodeOpenWrite, equal, high, Success),
-        (KldLoad, equal, high, Success),
-        (KldLoad, ten, high, Eperm),
-    ];
-    wants_answers(&rt, &Biba::new(), &rows);
-}
+const RULES: &[Row] = &[
+    (VnodeOpenRead, Grade(10), Grade(10), Success),
+    (VnodeOpenWrite, Grade(10), Grade(10), Success),
+    (VnodeOpenRead, Grade(10), Grade(5), Eacces),
+    (VnodeOpenWrite, Grade(10), Grade(5), Success),
+    (VnodeOpenRead, Grade(5), Grade(10), Success),
+    (VnodeOpenWrite, Grade(5), Grade(10), Eacces),
+    (VnodeOpenRead, In(5, 1), In(9, 2), Eacces),
+    (VnodeOpenWrite, In(5, 1), In(9, 2), Eacces),
+    (VnodeOpenWrite, Equal, High, Success),
+    (KldLoad, Equal, High, Success),
+    (KldLoad, Grade(10), High, Eperm),
+];
 
 /// Transfers of bytes through an open file of a grade, by a subject of grade 5, with the answers where revocation is on.
 const TRANSFERS: &[(CheckOp, u16, Errno)] = &[
@@ -42,48 +34,55 @@ const TRANSFERS: &[(CheckOp, u16, Errno)] = &[
     (CheckOp::VnodeWrite, 9, Eacces),
 ];
 
-/// Wants the policy to have revocation so, by its spec and by its answers: with it off, every transfer passes.
-fn wants_revocation(rt: &impl Abort, policy: &Biba, revocation: bool) {
-    let is_so = policy.same(&Spec::Biba { revocation });
-    let is_other = policy.same(&Spec::Biba {
-        revocation: !revocation,
-    });
-    wants(rt, "revocation", is_so && !is_other);
+/// Whether the policy tests transfers so: with revocation off, every transfer passes.
+fn tests_transfers(policy: &Biba, revocation: bool) -> bool {
+    let mut holds = true;
     for (op, object, errno) in TRANSFERS {
         let wanted = if revocation { *errno } else { Success };
-        let found = answer(policy, *op, grade(5), grade(*object));
-        wants(rt, op.name(), found == wanted);
+        holds &= answer(policy, *op, grade(5), grade(*object)) == wanted;
     }
+    holds
+}
+
+/// Whether the policy has revocation so, by its spec and by its answers.
+fn has_revocation(policy: &Biba, revocation: bool) -> bool {
+    let (on, off) = (
+        Spec::Biba { revocation: true },
+        Spec::Biba { revocation: false },
+    );
+    let is_so = policy.same(&on) == revocation && policy.same(&off) != revocation;
+    is_so && tests_transfers(policy, revocation)
 }
 
 /// Revocation is off at first, is turned on, and is put back.
-fn turn_on_and_off(rt: &impl Abort, alloc: Global, policy: &mut Biba) -> Result<(), AllocError> {
-    wants_revocation(rt, policy, false);
-    let changed = changed(alloc, policy, Change::Revocation(true))?;
-    let is_on = changed.errno == Success && changed.number.is_none();
-    wants(rt, "on", is_on);
-    wants_revocation(rt, policy, true);
+fn turns_on_and_off(alloc: Global, policy: &mut Biba) -> bool {
+    let was_off = has_revocation(policy, false);
+    let wanted = Changed {
+        errno: Success,
+        number: None,
+    };
+    let is_changed = policy.change(alloc, &Change::Revocation(true)) == Ok(wanted);
+    let is_on = has_revocation(policy, true);
     policy.reset();
-    wants_revocation(rt, policy, false);
-    Ok(())
+    was_off && is_changed && is_on && has_revocation(policy, false)
+}
+
+/// Whether a policy with Biba's setting answers as Biba.
+fn is_biba<P: Policy>(alloc: Global, policy: &mut P) -> bool {
+    let has_settings = has_settings(alloc, policy, (Enoent, Success));
+    has_settings && answer(policy, CheckOp::ProcSignal, grade(5), grade(3)) == Esrch
+}
+
+fn a_box_answers_as_the_policy_in_it(alloc: Global) -> Result<bool, AllocError> {
+    let mut policy: Box<dyn Policy + Send + Sync> = Box::new(alloc, Biba::new())?;
+    Ok(is_biba(alloc, &mut policy))
 }
 
 #[test]
-fn revocation_tests_each_transfer(rt: HostRuntime) -> Result<(), AllocError> {
-    turn_on_and_off(&rt, rt.alloc(), &mut Biba::new())
-}
-
-/// Wants a policy with Biba's setting to answer as Biba.
-fn wants_biba<P: Policy>(rt: &impl Abort, alloc: Global, policy: &mut P) -> Result<(), AllocError> {
-    let settings = settings_of(alloc, policy)?;
-    let answer = answer(policy, CheckOp::ProcSignal, grade(5), grade(3));
-    let is_set = settings == (Errno::Enoent, Success);
-    wants(rt, "a box", answer == Errno::Esrch && is_set);
-    Ok(())
-}
-
-#[test]
-fn a_box_answers_as_the_policy_in_it(rt: HostRuntime) -> Result<(), AllocError> {
-    let mut policy: Box<dyn Policy + Send + Sync> = Box::new(rt.alloc(), Biba::new())?;
-    wants_biba(&rt, rt.alloc(), &mut policy)
+fn rules_of_mac_biba_4(rt: HostRuntime) {
+    wants(&rt, "rules of mac_biba(4)", answers(&Biba::new(), RULES));
+    let turns = turns_on_and_off(rt.alloc(), &mut Biba::new());
+    wants(&rt, "revocation", turns);
+    let is_boxed = a_box_answers_as_the_policy_in_it(rt.alloc());
+    wants(&rt, "a box", holds(is_boxed));
 }

@@ -1,7 +1,7 @@
 //! The file system firewall by itself.
 ghost use Rattle.mf_policy.specs.IsChange.{IsChange};
 
-use crate::asked::{answer, changed, is_fresh, wants};
+use crate::asked::{answer, holds, is_answered, is_fresh, wants};
 use mf_bsdextended::Bsdextended;
 use mf_elem::Elem;
 use mf_errno::Errno::{self, Eacces, Enobufs, Enoent, Success};
@@ -10,7 +10,6 @@ use mf_item::CheckOp;
 use mf_policy::{Change, Changed, Policy};
 use mf_rule::{MAX_RULES, Rule, read_rule};
 use std::alloc::{AllocError, Global};
-use std::process::Abort;
 
 /// Operations, the letters that the one rule gives, and the answers: for each that asks for letters, some that let it pass
 /// and some that don't; for those that ask for none, no letter.
@@ -45,11 +44,8 @@ const LETTERS: &[(CheckOp, &str, Errno)] = &[
 ];
 
 /// The rule that matches all, and gives these letters.
-fn rule(rt: &impl Abort, letters: &str) -> Rule {
-    match read_rule(&["subject", "object", "mode", letters]) {
-        Ok(rule) => rule,
-        Err(_) => panic!(rt; "no letters: {letters}"),
-    }
+fn rule(letters: &str) -> Option<Rule> {
+    read_rule(&["subject", "object", "mode", letters]).ok()
 }
 
 /// The answer about a plain file, which has no label of the firewall's.
@@ -57,126 +53,141 @@ fn answer_of<P: Policy>(policy: &P, op: CheckOp) -> Errno {
     answer(policy, op, Elem::Low, Elem::Low)
 }
 
-/// The answer to the operation after a rule more.
-fn answer_with<P: Policy>(
+/// Whether the policy answers so to the operation after a rule more.
+fn answers_with<P: Policy>(
     alloc: Global,
     policy: &mut P,
-    rule: Rule,
+    letters: &str,
     op: CheckOp,
-) -> Result<Errno, AllocError> {
-    changed(alloc, policy, Change::RuleAdd(rule))?;
-    Ok(answer_of(policy, op))
-}
-
-/// The answer to the operation by the one rule.
-fn answer_by(alloc: Global, rule: Rule, op: CheckOp) -> Result<Errno, AllocError> {
-    let mut policy = Bsdextended::new(alloc)?;
-    answer_with(alloc, &mut policy, rule, op)
-}
-
-#[test]
-fn letters_of_operations(rt: HostRuntime) -> Result<(), AllocError> {
-    for (op, letters, errno) in LETTERS {
-        let found = answer_by(rt.alloc(), rule(&rt, letters), *op)?;
-        wants(&rt, op.name(), found == *errno);
+    errno: Errno,
+) -> bool {
+    match rule(letters) {
+        Some(rule) => {
+            let is_added = is_answered(alloc, policy, &Change::RuleAdd(rule), Success);
+            is_added && answer_of(policy, op) == errno
+        }
+        None => false,
     }
-    Ok(())
 }
 
-/// Wants the change to be answered so.
-fn wants_change<P: Policy>(
-    rt: &impl Abort,
+/// Whether it answers so to each operation by the one rule: it is put back each time.
+fn gives_letters<P: Policy>(alloc: Global, policy: &mut P) -> bool {
+    let mut holds = true;
+    for (op, letters, errno) in LETTERS {
+        holds &= answers_with(alloc, policy, letters, *op, *errno);
+        policy.reset();
+    }
+    holds
+}
+
+/// A change, with a rule where it needs one.
+enum Edit {
+    FirstMatch(bool),
+    Remove(u32),
+    Add,
+    SetFirst,
+}
+
+/// Changes, one behind the other, with their answers.
+const EDITS: &[(Edit, Errno, Option<u32>)] = &[
+    (Edit::FirstMatch(false), Success, None),
+    (Edit::Remove(MAX_RULES), Enoent, None),
+    (Edit::Add, Success, Some(0)),
+    (Edit::SetFirst, Success, None),
+    (Edit::Remove(0), Success, None),
+    (Edit::Remove(0), Enoent, None),
+];
+
+/// The change with that rule.
+fn change_of(edit: &Edit, rule: Rule) -> Change
+    ensures { IsChange result }
+{
+    match edit {
+        Edit::FirstMatch(first_match) => Change::FirstMatch(*first_match),
+        Edit::Remove(number) => Change::RuleRemove(*number),
+        Edit::Add => Change::RuleAdd(rule),
+        Edit::SetFirst => Change::RuleSet(0, rule),
+    }
+}
+
+/// Whether the change is answered so.
+fn is_edited<P: Policy>(
     alloc: Global,
     policy: &mut P,
-    change: Change,
+    change: &Change,
     errno: Errno,
     number: Option<u32>,
-) -> Result<(), AllocError>
-    requires { IsChange change }
+) -> bool
+    requires { IsChange change.now }
 {
-    let found = changed(alloc, policy, change)?;
-    wants(rt, "a change", found == Changed { errno, number });
-    Ok(())
+    policy.change(alloc, change) == Ok(Changed { errno, number })
 }
 
-/// Changes, one behind the other.
-fn change_one_by_one<P: Policy>(
-    rt: &impl Abort,
-    alloc: Global,
-    policy: &mut P,
-    rule: Rule,
-) -> Result<(), AllocError> {
-    wants_change(rt, alloc, policy, Change::FirstMatch(false), Success, None)?;
-    wants_change(
-        rt,
-        alloc,
-        policy,
-        Change::RuleRemove(MAX_RULES),
-        Enoent,
-        None,
-    )?;
-    wants_change(rt, alloc, policy, Change::RuleAdd(rule), Success, Some(0))?;
-    wants_change(rt, alloc, policy, Change::RuleSet(0, rule), Success, None)?;
-    wants_change(rt, alloc, policy, Change::RuleRemove(0), Success, None)?;
-    wants_change(rt, alloc, policy, Change::RuleRemove(0), Enoent, None)
-}
-
-#[test]
-fn answers_to_changes(rt: HostRuntime) -> Result<(), AllocError> {
-    let rule = rule(&rt, "n");
-    let mut policy = Bsdextended::new(rt.alloc())?;
-    change_one_by_one(&rt, rt.alloc(), &mut policy, rule)
+/// Whether the changes are answered so.
+fn is_edited_one_by_one<P: Policy>(alloc: Global, policy: &mut P, rule: Rule) -> bool {
+    let mut holds = true;
+    for (edit, errno, number) in EDITS {
+        holds &= is_edited(alloc, policy, &change_of(edit, rule), *errno, *number);
+    }
+    holds
 }
 
 /// Adds the rule under every number, and once more.
-fn fill<P: Policy>(
-    rt: &impl Abort,
-    alloc: Global,
-    policy: &mut P,
-    rule: Rule,
-) -> Result<(), AllocError> {
+fn is_filled<P: Policy>(alloc: Global, policy: &mut P, rule: Rule) -> bool {
+    let add = Change::RuleAdd(rule);
+    let mut holds = true;
     for number in 0..MAX_RULES {
-        wants_change(
-            rt,
-            alloc,
-            policy,
-            Change::RuleAdd(rule),
-            Success,
-            Some(number),
-        )?;
+        holds &= is_edited(alloc, policy, &add, Success, Some(number));
     }
-    wants_change(rt, alloc, policy, Change::RuleAdd(rule), Enobufs, None)
+    holds && is_edited(alloc, policy, &add, Enobufs, None)
 }
 
-#[test]
-fn no_room_for_a_rule(rt: HostRuntime) -> Result<(), AllocError> {
-    let rule = rule(&rt, "n");
-    let mut policy = Bsdextended::new(rt.alloc())?;
-    fill(&rt, rt.alloc(), &mut policy, rule)
+/// Edits the rules of an empty policy, puts it back, and fills it.
+fn takes_rules<P: Policy>(alloc: Global, policy: &mut P) -> bool {
+    match rule("n") {
+        Some(rule) => {
+            let is_edited = is_edited_one_by_one(alloc, policy, rule);
+            policy.reset();
+            is_edited && is_filled(alloc, policy, rule)
+        }
+        None => false,
+    }
 }
 
-/// Adds a rule that gives r and one that gives nothing, turns first match off, and puts the policy back.
-fn turn_off_and_reset<P: Policy>(
-    rt: &impl Abort,
-    alloc: Global,
-    policy: &mut P,
-) -> Result<(), AllocError> {
-    let alone = answer_with(alloc, policy, rule(rt, "r"), CheckOp::VnodeOpenRead)?;
-    let with_first = answer_with(alloc, policy, rule(rt, "n"), CheckOp::VnodeOpenRead)?;
-    changed(alloc, policy, Change::FirstMatch(false))?;
-    let with_all = answer_of(policy, CheckOp::VnodeOpenRead);
-    let found = [alone, with_first, with_all];
-    wants(rt, "first match", found == [Success, Success, Eacces]);
+/// Adds a rule that gives r and one that gives nothing, turns first match off, and puts the policy back. mac_bsdextended(4): with
+/// first match, a rule behind one that allows is never applied.
+fn turns_off<P: Policy>(alloc: Global, policy: &mut P) -> bool {
+    let read = CheckOp::VnodeOpenRead;
+    answers_with(alloc, policy, "r", read, Success)
+        && answers_with(alloc, policy, "n", read, Success)
+        && is_answered(alloc, policy, &Change::FirstMatch(false), Success)
+        && answer_of(policy, read) == Eacces
+}
+
+/// Whether the policy is open and as it was, once it is put back.
+fn is_put_back<P: Policy>(alloc: Global, policy: &mut P) -> bool {
     policy.reset();
     let is_open = answer_of(policy, CheckOp::VnodeOpenWrite) == Success;
-    let is_as_it_was = is_fresh(alloc, policy, Module::Bsdextended)?;
-    wants(rt, "put back", is_open && is_as_it_was);
-    Ok(())
+    is_open && holds(is_fresh(alloc, policy, Module::Bsdextended))
 }
 
-/// mac_bsdextended(4): with first match, a rule behind one that allows is never applied.
+/// Whether all is so, one behind the other.
+fn is_firewall(alloc: Global, policy: &mut Bsdextended) -> bool {
+    gives_letters(alloc, policy)
+        && takes_rules(alloc, policy)
+        && is_put_back(alloc, policy)
+        && turns_off(alloc, policy)
+        && is_put_back(alloc, policy)
+}
+
+fn rules_are_kept(alloc: Global) -> bool {
+    match Bsdextended::new(alloc) {
+        Ok(mut policy) => is_firewall(alloc, &mut policy),
+        Err(AllocError) => false,
+    }
+}
+
 #[test]
-fn first_match_turned_off_and_put_back(rt: HostRuntime) -> Result<(), AllocError> {
-    let mut policy = Bsdextended::new(rt.alloc())?;
-    turn_off_and_reset(&rt, rt.alloc(), &mut policy)
+fn letters_rules_and_first_match(rt: HostRuntime) {
+    wants(&rt, "mac_bsdextended", rules_are_kept(rt.alloc()));
 }

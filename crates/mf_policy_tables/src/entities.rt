@@ -1,367 +1,354 @@
-//! Files, processes, pipes and sockets through their lives.
+//! Files, processes, pipes and sockets through their lives. Each step is taken once more where memory is refused: then all can be
+//! read as before. Where no memory is refused the tests show nothing but what comes of each step; checks/memory.sh runs one of
+//! them with one allocation refused after another.
 
-use crate::asked::wants;
-use mf_cred::{Cred, FileView};
-use mf_elem::LabelValue;
-use mf_item::Kind;
-use mf_objects::{ID_LIMIT, Id, MOST_ENTITIES, Objects};
+use crate::asked::{holds, wants};
+use crate::reading::{reading_of, reads};
+use crate::steps::Step::{
+    Append, Close, Empty, Exit, File, Fill, Open, Pipe, Process, Reads, Receive, Relabel, Send,
+    SetLabel, SetMode, Socket, Unlink, User,
+};
+use crate::steps::{Step, Values, changes, grow};
+use mf_elem::LabelValue::{Number, Unset};
+use mf_objects::Objects;
 use std::alloc::{AllocError, Global};
-use std::process::Abort;
 
-pub fn labelled(number: u32) -> [LabelValue; 4] {
-    let unset = LabelValue::Unset;
-    [LabelValue::Number(number), unset, unset, unset]
-}
-
-/// A file of the root with that name and the bytes `text`.
-pub fn add_file(
-    rt: &impl Abort,
+/// Takes a step once more, which was refused: before that all can be read as before the first time.
+fn takes_again(
     alloc: Global,
     objects: &mut Objects,
-    name: &str,
-) -> Result<Id, AllocError> {
-    let file = FileView {
-        uid: 0,
-        gid: 0,
-        mode: 0o644,
-        dir: false,
-    };
-    let root = objects.root();
-    assert!(rt; objects.live() < MOST_ENTITIES && objects.next_id() < ID_LIMIT);
-    match objects.child(root, name) {
-        Some(id) => Ok(id),
-        None => objects.add_vnode(alloc, root, name, &file, b"text", &labelled(1)),
+    step: &Step,
+    before: &str,
+) -> Result<bool, AllocError> {
+    let is_same = reads(alloc, objects, before)?;
+    grow(alloc, objects, step)?;
+    Ok(is_same)
+}
+
+/// Takes a step, which comes out as it says.
+fn takes(alloc: Global, objects: &mut Objects, step: &Step) -> Result<bool, AllocError> {
+    let before = reading_of(alloc, objects)?;
+    match grow(alloc, objects, step) {
+        Ok(()) => Ok(changes(objects, step)),
+        Err(AllocError) => takes_again(alloc, objects, step, before.as_str()),
     }
 }
 
-/// The process of that name, with these label values.
-fn add_labelled(
-    rt: &impl Abort,
-    alloc: Global,
-    objects: &mut Objects,
-    name: &str,
-    values: &[LabelValue; 4],
-) -> Result<(), AllocError> {
-    assert!(rt; objects.live() < MOST_ENTITIES && objects.next_id() < ID_LIMIT);
-    if objects.process(name).is_none() {
-        let t = objects.add_process(alloc, name, &Cred::default(), values)?;
-        let is_root = objects.cred(t).uid == 0 && objects.has_cred(t, &Cred::default());
-        wants(rt, name, is_root && objects.kind(t) == Kind::Process);
-    }
-    Ok(())
-}
-
-/// The process of that name.
-pub fn add_process(
-    rt: &impl Abort,
-    alloc: Global,
-    objects: &mut Objects,
-    name: &str,
-) -> Result<(), AllocError> {
-    add_labelled(rt, alloc, objects, name, &labelled(3))
-}
-
-/// The names of the root's entries, one behind the other.
-fn listing_of(alloc: Global, objects: &Objects) -> Result<String, AllocError> {
-    let names = objects.names(alloc, objects.root())?;
-    let mut listing = String::new(alloc);
-    for name in names.as_slice() {
-        listing.push_str(name.as_str())?;
-    }
-    Ok(listing)
-}
-
-/// Adds these files, which the root lists so.
-fn are_listed(
-    rt: &impl Abort,
-    alloc: Global,
-    objects: &mut Objects,
-    names: &[&str],
-    listing: &str,
-) -> Result<(), AllocError> {
-    for name in names {
-        let _id = add_file(rt, alloc, objects, name)?;
-    }
-    let root = objects.root();
-    wants(rt, "count", objects.count(root) as usize == names.len());
-    let found = listing_of(alloc, objects)?;
-    wants(rt, "listing", found.as_str() == listing);
-    Ok(())
-}
-
-#[test]
-fn names_in_byte_order(rt: HostRuntime) -> Result<(), AllocError> {
-    let mut objects = Objects::new(rt.alloc(), &labelled(7))?;
-    are_listed(&rt, rt.alloc(), &mut objects, &["b", "a", "c", "B"], "Babc")
-}
-
-/// The empty pipe p, which the process of that name makes.
-pub fn add_pipe(
-    rt: &impl Abort,
-    alloc: Global,
-    objects: &mut Objects,
-    maker: &str,
-) -> Result<(), AllocError> {
-    assert!(rt; objects.live() < MOST_ENTITIES && objects.next_id() < ID_LIMIT);
-    if let Some(maker) = objects.process(maker) {
-        if objects.pipe("p").is_none() {
-            let _p = objects.add_pipe(alloc, "p", maker, &labelled(3))?;
+/// Takes the steps, each of which comes out as it says.
+fn takes_all(alloc: Global, objects: &mut Objects, steps: &[Step]) -> Result<bool, AllocError> {
+    for step in steps {
+        let is_so = match step {
+            Reads(wanted) => reads(alloc, objects, wanted)?,
+            _ => takes(alloc, objects, step)?,
+        };
+        if !is_so {
+            return Ok(false);
         }
     }
-    Ok(())
+    Ok(true)
 }
 
-/// The process of that name ends.
-fn exit(objects: &mut Objects, name: &str) {
-    if let Some(id) = objects.process(name) {
-        objects.remove_process(id);
-    }
+/// The label of the root.
+const OF_ROOT: &Values = &[Number(7), Unset, Unset, Unset];
+
+/// Takes them from the root on.
+fn lives(alloc: Global, steps: &[Step]) -> Result<bool, AllocError> {
+    let mut objects = Objects::new(alloc, OF_ROOT)?;
+    takes_all(alloc, &mut objects, steps)
 }
 
-/// The pipe p has its label and its title.
-fn is_labelled(rt: &impl Abort, alloc: Global, objects: &Objects) -> Result<(), AllocError> {
-    if let Some(p) = objects.pipe("p") {
-        wants(
-            rt,
-            "its label",
-            objects.label(p)[0] == LabelValue::Number(3),
-        );
-        let mut title = String::new(alloc);
-        objects.title(p, &mut title)?;
-        wants(rt, "its title", title.as_str() == "pipe:p");
-    }
-    Ok(())
-}
+/// The label of t.
+const THREE: Values = [Number(3), Unset, Unset, Unset];
 
-/// Fills the pipe p.
-#[tactic(auto, using(mf_objects::proofs::Laws::fits_pipe))]
-pub fn fill(rt: &impl Abort, objects: &mut Objects) -> Result<(), AllocError> {
-    if let Some(p) = objects.pipe("p") {
-        assert!(rt; objects.size(p) < 10);
-        objects.append(p, b"text")?;
-    }
-    Ok(())
-}
-
-/// Empties the pipe p.
-fn empty(rt: &impl Abort, objects: &mut Objects) {
-    if let Some(p) = objects.pipe("p") {
-        assert!(rt; objects.size(p) == 4);
-        objects.clear(p);
-    }
-}
-
-/// Before the pipe p there is nothing but the root and t.
-fn is_third(objects: &Objects) -> bool {
-    match objects.least_from(2) {
-        Some(p) => objects.size(p) == 0 && objects.live() == 3,
-        None => false,
-    }
-}
-
-/// The process t makes the pipe p, uses it, and ends.
-fn use_and_exit(rt: &impl Abort, alloc: Global, objects: &mut Objects) -> Result<(), AllocError> {
-    add_process(rt, alloc, objects, "t")?;
-    add_pipe(rt, alloc, objects, "t")?;
-    is_labelled(rt, alloc, objects)?;
-    wants(rt, "three", is_third(objects));
-    fill(rt, objects)?;
-    empty(rt, objects);
-    wants(rt, "the empty pipe", is_third(objects));
-    exit(objects, "t");
-    wants(rt, "the root", objects.live() == 1);
-    Ok(())
-}
+/// Every growth, some of them of what an earlier one made.
+const GROWTHS: &[Step] = &[
+    File("f"),
+    File("g"),
+    Process("t", THREE),
+    Pipe("t"),
+    Socket,
+    File("h"),
+    Append,
+    Fill,
+    Send(b"one"),
+    Send(b"one"),
+    Relabel([Unset, Number(2), Number(3), Unset]),
+    Reads(
+        " 7 7 7 1 1 0
+fgh
+vnode:/ v755d 0 0 0 0 3 0 0 7 2 3 0
+vnode:/f v644 0 0 0 5 0 5 0 1 0 0 0
+vnode:/g v644 0 0 0 4 0 4 0 1 0 0 0
+proc:t p0 0 0 0 0 0 0 0 3 0 0 0
+pipe:p f0 0 0 0 4 0 4 0 3 0 0 0
+socket:s s0 0 0 0 0 2 0 3 3 0 0 0
+vnode:/h v644 0 0 0 4 0 4 0 1 0 0 0
+ 0 0
+",
+    ),
+];
 
 #[test]
-fn an_exit_takes_its_pipes(rt: HostRuntime) -> Result<(), AllocError> {
-    let mut objects = Objects::new(rt.alloc(), &labelled(7))?;
-    use_and_exit(&rt, rt.alloc(), &mut objects)
+fn entities_after_refused_growths(rt: HostRuntime) -> Result<(), AllocError> {
+    let lives = lives(rt.alloc(), GROWTHS)?;
+    wants(&rt, "growths", lives);
+    Ok(())
 }
 
-/// How many live entities have each label slot made.
-fn held(objects: &Objects) -> [u32; 4] {
-    [
-        objects.held(0),
-        objects.held(1),
-        objects.held(2),
-        objects.held(3),
-    ]
-}
+/// The label of t and of its child.
+const FIVES: Values = [Number(5), Unset, Number(5), Unset];
 
 /// The child t.c of t makes the pipe p, which goes with it; then there is a child without one.
-fn children_come_and_go(
-    rt: &impl Abort,
-    alloc: Global,
-    objects: &mut Objects,
-) -> Result<(), AllocError> {
-    let (five, unset) = (LabelValue::Number(5), LabelValue::Unset);
-    let values = [five, unset, five, unset];
-    add_labelled(rt, alloc, objects, "t", &values)?;
-    add_labelled(rt, alloc, objects, "t.c", &values)?;
-    add_pipe(rt, alloc, objects, "t.c")?;
-    wants(rt, "held", held(objects) == [4, 0, 2, 0]);
-    exit(objects, "t.c");
-    wants(rt, "held", held(objects) == [2, 0, 1, 0]);
-    add_labelled(rt, alloc, objects, "t.c", &values)?;
-    wants(rt, "held", held(objects) == [3, 0, 2, 0]);
-    exit(objects, "t.c");
-    wants(rt, "held", held(objects) == [2, 0, 1, 0]);
-    Ok(())
-}
+const EXITS: &[Step] = &[
+    Process("t", FIVES),
+    Process("t.c", FIVES),
+    Pipe("t.c"),
+    Reads(
+        " 4 4 4 0 2 0
+
+vnode:/ v755d 0 0 0 0 0 0 0 7 0 0 0
+proc:t p0 0 0 0 0 0 0 0 5 0 5 0
+proc:t.c p0 0 0 0 0 0 0 0 5 0 5 0
+pipe:p f0 0 0 0 0 0 0 0 3 0 0 0
+ 0 0
+",
+    ),
+    Exit("t.c"),
+    Reads(
+        " 2 4 2 0 1 0
+
+vnode:/ v755d 0 0 0 0 0 0 0 7 0 0 0
+proc:t p0 0 0 0 0 0 0 0 5 0 5 0
+ 0 0
+",
+    ),
+    Process("t.c", FIVES),
+    Reads(
+        " 3 5 3 0 2 0
+
+vnode:/ v755d 0 0 0 0 0 0 0 7 0 0 0
+proc:t p0 0 0 0 0 0 0 0 5 0 5 0
+proc:t.c p0 0 0 0 0 0 0 0 5 0 5 0
+ 0 0
+",
+    ),
+    Exit("t.c"),
+    Reads(
+        " 2 5 2 0 1 0
+
+vnode:/ v755d 0 0 0 0 0 0 0 7 0 0 0
+proc:t p0 0 0 0 0 0 0 0 5 0 5 0
+ 0 0
+",
+    ),
+];
 
 #[test]
-fn an_exit_gives_up_its_slots(rt: HostRuntime) -> Result<(), AllocError> {
-    let mut objects = Objects::new(rt.alloc(), &labelled(7))?;
-    children_come_and_go(&rt, rt.alloc(), &mut objects)
+fn an_exit_gives_up_its_slots(rt: HostRuntime) {
+    wants(&rt, "slots", holds(lives(rt.alloc(), EXITS)));
 }
 
-/// The socket s of t, without a message.
-pub fn add_socket(rt: &impl Abort, alloc: Global, objects: &mut Objects) -> Result<(), AllocError> {
-    assert!(rt; objects.live() < MOST_ENTITIES && objects.next_id() < ID_LIMIT);
-    if let Some(t) = objects.process("t") {
-        if objects.socket("s").is_none() {
-            let _s = objects.add_socket(alloc, "s", t, &labelled(3))?;
-        }
-    }
-    Ok(())
-}
+/// Files of the root, whose names are listed in byte order.
+const NAMES: &[Step] = &[
+    File("b"),
+    File("a"),
+    File("c"),
+    File("B"),
+    Reads(
+        " 5 5 5 0 0 0
+Babc
+vnode:/ v755d 0 0 0 0 4 0 0 7 0 0 0
+vnode:/b v644 0 0 0 4 0 4 0 1 0 0 0
+vnode:/a v644 0 0 0 4 0 4 0 1 0 0 0
+vnode:/c v644 0 0 0 4 0 4 0 1 0 0 0
+vnode:/B v644 0 0 0 4 0 4 0 1 0 0 0
+",
+    ),
+];
 
-/// Puts a short message into the socket s.
-#[tactic(auto, using(mf_objects::proofs::Laws::fits_message))]
-pub fn push_message(
-    rt: &impl Abort,
-    alloc: Global,
-    objects: &mut Objects,
-    text: &[u8],
-) -> Result<(), AllocError> {
-    if let Some(s) = objects.socket("s") {
-        assert!(rt; objects.count(s) < 16 && text.len() < 9);
-        objects.push_message(alloc, s, text)?;
-    }
-    Ok(())
-}
+/// The process t makes the pipe p, uses it, and ends; its pipe goes with it.
+const PIPES: &[Step] = &[
+    Process("t", THREE),
+    Pipe("t"),
+    Reads(
+        " 3 3 3 0 0 0
 
-/// Takes the oldest message out of the socket s, and returns its length.
-#[tactic(auto, using(mf_objects::proofs::Laws::has_message))]
-fn pop_message(rt: &impl Abort, objects: &mut Objects) -> Option<u32> {
-    let s = objects.socket("s")?;
-    assert!(rt; objects.count(s) > 0);
-    Some(objects.pop_message(s).len)
-}
+vnode:/ v755d 0 0 0 0 0 0 0 7 0 0 0
+proc:t p0 0 0 0 0 0 0 0 3 0 0 0
+pipe:p f0 0 0 0 0 0 0 0 3 0 0 0
+ 0 0
+",
+    ),
+    Fill,
+    Reads(
+        " 3 3 3 0 0 0
+
+vnode:/ v755d 0 0 0 0 0 0 0 7 0 0 0
+proc:t p0 0 0 0 0 0 0 0 3 0 0 0
+pipe:p f0 0 0 0 4 0 4 0 3 0 0 0
+ 0 0
+",
+    ),
+    Empty,
+    Reads(
+        " 3 3 3 0 0 0
+
+vnode:/ v755d 0 0 0 0 0 0 0 7 0 0 0
+proc:t p0 0 0 0 0 0 0 0 3 0 0 0
+pipe:p f0 0 0 0 0 0 0 0 3 0 0 0
+ 0 0
+",
+    ),
+    Exit("t"),
+    Reads(
+        " 1 3 1 0 0 0
+
+vnode:/ v755d 0 0 0 0 0 0 0 7 0 0 0
+",
+    ),
+];
 
 /// The socket s of t gets two messages, and gives back the first.
-fn send_and_receive(
-    rt: &impl Abort,
-    alloc: Global,
-    objects: &mut Objects,
-) -> Result<(), AllocError> {
-    add_process(rt, alloc, objects, "t")?;
-    add_socket(rt, alloc, objects)?;
-    push_message(rt, alloc, objects, b"one")?;
-    push_message(rt, alloc, objects, b"three")?;
-    wants(rt, "the first", pop_message(rt, objects) == Some(3));
-    Ok(())
-}
+const MESSAGES: &[Step] = &[
+    Process("t", THREE),
+    Socket,
+    Send(b"one"),
+    Send(b"three"),
+    Receive(3),
+    Reads(
+        " 3 3 3 0 0 0
 
-#[test]
-fn the_oldest_message_first(rt: HostRuntime) -> Result<(), AllocError> {
-    let mut objects = Objects::new(rt.alloc(), &labelled(7))?;
-    send_and_receive(&rt, rt.alloc(), &mut objects)
-}
+vnode:/ v755d 0 0 0 0 0 0 0 7 0 0 0
+proc:t p0 0 0 0 0 0 0 0 3 0 0 0
+socket:s s0 0 0 0 0 1 0 5 3 0 0 0
+ 0 0
+",
+    ),
+];
 
-/// Gives the root two slots more.
-pub fn relabel(objects: &mut Objects) -> Result<(), AllocError> {
-    let (two, three) = (LabelValue::Number(2), LabelValue::Number(3));
-    let root = objects.root();
-    objects.relabel(root, &[LabelValue::Unset, two, three, LabelValue::Unset])
-}
+/// The root gets two slots more, and keeps the first as it is.
+const LABELS: &[Step] = &[
+    Relabel([Unset, Number(2), Number(3), Unset]),
+    Reads(
+        " 1 1 1 1 1 0
 
-/// Whether the root has the first slot as it was, and those two.
-fn is_relabelled(objects: &Objects) -> bool {
-    let (two, three) = (LabelValue::Number(2), LabelValue::Number(3));
-    let after = [LabelValue::Number(7), two, three, LabelValue::Unset];
-    let root = objects.root();
-    objects.label(root) == after && objects.has_label(root, &after)
-}
-
-fn relabel_root(rt: &impl Abort, objects: &mut Objects) -> Result<(), AllocError> {
-    relabel(objects)?;
-    wants(rt, "its label", is_relabelled(objects));
-    Ok(())
-}
-
-#[test]
-fn unset_leaves_a_slot_as_it_is(rt: HostRuntime) -> Result<(), AllocError> {
-    let mut objects = Objects::new(rt.alloc(), &labelled(7))?;
-    relabel_root(&rt, &mut objects)
-}
-
-/// Appends a byte to the file f of the root.
-#[tactic(auto, using(mf_objects::proofs::Laws::fits_file))]
-pub fn append(rt: &impl Abort, objects: &mut Objects) -> Result<(), AllocError> {
-    let root = objects.root();
-    if let Some(f) = objects.child(root, "f") {
-        assert!(rt; !objects.file(f).dir && objects.size(f) < 10);
-        objects.append(f, b"s")?;
-    }
-    Ok(())
-}
-
-/// Changes the mode of the file f, whose content has five bytes.
-fn set_mode(rt: &impl Abort, objects: &mut Objects) {
-    let root = objects.root();
-    if let Some(f) = objects.child(root, "f") {
-        wants(rt, "its head", objects.head(f).len == 5);
-        objects.set_mode(f, 0o1777);
-    }
-}
-
-/// Gives the file f a second label value.
-fn set_label(rt: &impl Abort, objects: &mut Objects) -> Result<(), AllocError> {
-    let root = objects.root();
-    if let Some(f) = objects.child(root, "f") {
-        wants(rt, "its mode", objects.file(f).mode == 0o1777);
-        objects.set_label(f, 1, LabelValue::Number(9))?;
-    }
-    Ok(())
-}
-
-/// Whether the file f has this second label value.
-fn has_second(objects: &Objects, value: LabelValue) -> bool {
-    match objects.child(objects.root(), "f") {
-        Some(f) => objects.value(f, 1) == value,
-        None => false,
-    }
-}
-
-/// Removes the file f.
-pub fn unlink(rt: &impl Abort, objects: &mut Objects) {
-    let root = objects.root();
-    if let Some(f) = objects.child(root, "f") {
-        assert!(rt; f.number() != 0 && !objects.file(f).dir && objects.count(f) == 0);
-        objects.remove_vnode(f);
-    }
-}
+vnode:/ v755d 0 0 0 0 0 0 0 7 2 3 0
+",
+    ),
+];
 
 /// The file f from its beginning to its end.
-fn make_and_unlink(
-    rt: &impl Abort,
-    alloc: Global,
-    objects: &mut Objects,
-) -> Result<(), AllocError> {
-    let _id = add_file(rt, alloc, objects, "f")?;
-    append(rt, objects)?;
-    set_mode(rt, objects);
-    set_label(rt, objects)?;
-    wants(rt, "its label", has_second(objects, LabelValue::Number(9)));
-    unlink(rt, objects);
-    wants(rt, "the root", objects.live() == 1);
-    Ok(())
-}
+const WRITES: &[Step] = &[
+    File("f"),
+    Append,
+    SetMode(0o1777),
+    SetLabel(9),
+    Reads(
+        " 2 2 2 1 0 0
+f
+vnode:/ v755d 0 0 0 0 1 0 0 7 0 0 0
+vnode:/f v1777 0 0 0 5 0 5 0 1 9 0 0
+",
+    ),
+    Unlink,
+    Reads(
+        " 1 2 1 0 0 0
+
+vnode:/ v755d 0 0 0 0 0 0 0 7 0 0 0
+",
+    ),
+];
+
+/// The file f is open in t under all numbers, and under fewer, and goes.
+const OPENINGS: &[Step] = &[
+    Process("t", THREE),
+    File("f"),
+    Open(true, false, 0),
+    Open(true, false, 1),
+    Open(true, false, 2),
+    Open(true, false, 3),
+    Open(true, false, 4),
+    Open(true, false, 5),
+    Open(true, false, 6),
+    Open(true, false, 7),
+    Open(true, false, 8),
+    Open(true, false, 9),
+    Open(true, false, 10),
+    Open(true, false, 11),
+    Open(true, false, 12),
+    Open(true, false, 13),
+    Open(true, false, 14),
+    Open(true, false, 15),
+    Reads(
+        " 3 3 3 0 0 0
+f
+vnode:/ v755d 0 0 0 0 1 0 0 7 0 0 0
+proc:t p0 0 0 0 0 0 0 0 3 0 0 0
+vnode:/f v644 0 0 0 4 0 4 0 1 0 0 0
+ 16 16 r 0 3 1 r 1 3 1 r 2 3 1 r 3 3 1 r 4 3 1 r 5 3 1 r 6 3 1 r 7 3 1 r 8 3 1 r 9 3 1 r 10 3 1 r 11 3 1 r 12 3 1 r 13 3 1 r 14 3 1 r 15 3 1
+",
+    ),
+    Close(15),
+    Close(3),
+    Close(0),
+    Close(3),
+    Reads(
+        " 3 3 3 0 0 0
+f
+vnode:/ v755d 0 0 0 0 1 0 0 7 0 0 0
+proc:t p0 0 0 0 0 0 0 0 3 0 0 0
+vnode:/f v644 0 0 0 4 0 4 0 1 0 0 0
+ 13 0 r 1 3 1 r 2 3 1 r 4 3 1 r 5 3 1 r 6 3 1 r 7 3 1 r 8 3 1 r 9 3 1 r 10 3 1 r 11 3 1 r 12 3 1 r 13 3 1 r 14 3 1
+",
+    ),
+    Open(false, true, 0),
+    Reads(
+        " 3 3 3 0 0 0
+f
+vnode:/ v755d 0 0 0 0 1 0 0 7 0 0 0
+proc:t p0 0 0 0 0 0 0 0 3 0 0 0
+vnode:/f v644 0 0 0 4 0 4 0 1 0 0 0
+ 14 3 w 0 3 1 r 1 3 1 r 2 3 1 r 4 3 1 r 5 3 1 r 6 3 1 r 7 3 1 r 8 3 1 r 9 3 1 r 10 3 1 r 11 3 1 r 12 3 1 r 13 3 1 r 14 3 1
+",
+    ),
+    Unlink,
+    Reads(
+        " 2 3 2 0 0 0
+
+vnode:/ v755d 0 0 0 0 0 0 0 7 0 0 0
+proc:t p0 0 0 0 0 0 0 0 3 0 0 0
+ 0 0
+",
+    ),
+];
+
+/// A process is seen by its real uid and its first group.
+const SEEN: &[Step] = &[
+    User,
+    Reads(
+        " 2 2 2 0 0 0
+
+vnode:/ v755d 0 0 0 0 0 0 0 7 0 0 0
+proc:t p0 1 2 5 0 0 0 0 3 0 0 0
+ 0 0
+",
+    ),
+];
+
+/// What comes of lives.
+const LIVES: &[(&str, &[Step])] = &[
+    ("names in byte order", NAMES),
+    ("an exit takes its pipes", PIPES),
+    ("the oldest message first", MESSAGES),
+    ("unset leaves a slot as it is", LABELS),
+    ("a file from write to unlink", WRITES),
+    ("a file is open until it goes", OPENINGS),
+    ("a process is seen by its real uid and first group", SEEN),
+];
 
 #[test]
-fn a_file_from_write_to_unlink(rt: HostRuntime) -> Result<(), AllocError> {
-    let mut objects = Objects::new(rt.alloc(), &labelled(7))?;
-    make_and_unlink(&rt, rt.alloc(), &mut objects)
+fn entities_through_their_lives(rt: HostRuntime) {
+    for (name, steps) in LIVES {
+        wants(&rt, name, holds(lives(rt.alloc(), steps)));
+    }
 }

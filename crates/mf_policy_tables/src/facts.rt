@@ -1,6 +1,6 @@
 //! What each module is when it is loaded.
 
-use crate::asked::{is_fresh, settings_of, wants};
+use crate::asked::{has_settings, holds, is_fresh, wants};
 use mf_biba::Biba;
 use mf_bsdextended::Bsdextended;
 use mf_cred::Cred;
@@ -12,7 +12,6 @@ use mf_policy::Policy;
 use mf_ports::{Portacl, Seeotheruids};
 use mf_priority::Priority;
 use std::alloc::{AllocError, Global};
-use std::process::Abort;
 
 /// The facts of a module.
 struct Facts {
@@ -117,36 +116,45 @@ fn is_module<P: Policy>(policy: &P, facts: &Facts) -> bool {
     is_module && by_flags && !granted
 }
 
-/// Whether the facts are those of the policy, which has its initial state once it is put back.
-fn has_facts<P: Policy>(alloc: Global, policy: &mut P, facts: &Facts) -> Result<bool, AllocError> {
-    policy.reset();
-    let is_fresh_module = is_fresh(alloc, policy, facts.module)?;
-    let is_other = is_fresh(alloc, policy, facts.other)?;
-    let settings = settings_of(alloc, policy)?;
-    let is_set = settings == facts.settings;
-    Ok(is_fresh_module && !is_other && is_set && is_module(policy, facts))
+/// Whether the policy has the spec of its module in its initial state, and not that of the other one.
+fn is_initial<P: Policy>(alloc: Global, policy: &P, facts: &Facts) -> bool {
+    let is_another = matches!(is_fresh(alloc, policy, facts.other), Ok(false));
+    holds(is_fresh(alloc, policy, facts.module)) && is_another
 }
 
-fn wants_facts<P: Policy>(
-    rt: &impl Abort,
-    alloc: Global,
-    mut policy: P,
-    facts: &Facts,
-) -> Result<(), AllocError> {
-    let has_facts = has_facts(alloc, &mut policy, facts)?;
-    wants(rt, facts.module.name(), has_facts);
-    Ok(())
+/// Whether the facts are those of the policy, which has its initial state once it is put back.
+fn has_facts<P: Policy>(alloc: Global, policy: &mut P, facts: &Facts) -> bool {
+    policy.reset();
+    let is_initial = is_initial(alloc, policy, facts);
+    is_initial && has_settings(alloc, policy, facts.settings) && is_module(policy, facts)
+}
+
+/// Whether they are those of mac_bsdextended.
+fn bsdextended_has_facts(alloc: Global) -> bool {
+    match Bsdextended::new(alloc) {
+        Ok(mut policy) => has_facts(alloc, &mut policy, &BSDEXTENDED),
+        Err(AllocError) => false,
+    }
+}
+
+/// Whether those of the policies that have labels are so.
+fn labelled_have_facts(alloc: Global) -> bool {
+    has_facts(alloc, &mut Biba::new(), &BIBA)
+        && has_facts(alloc, &mut Mls::new(), &MLS)
+        && has_facts(alloc, &mut Lomac::new(), &LOMAC)
+        && has_facts(alloc, &mut Partition::new(), &PARTITION)
+}
+
+/// Whether those of the others are.
+fn others_have_facts(alloc: Global) -> bool {
+    has_facts(alloc, &mut Priority::new(), &PRIORITY)
+        && has_facts(alloc, &mut Seeotheruids::new(), &SEEOTHERUIDS)
+        && has_facts(alloc, &mut Portacl::new(), &PORTACL)
 }
 
 #[test]
-fn facts_of_modules(rt: HostRuntime) -> Result<(), AllocError> {
-    let alloc = rt.alloc();
-    wants_facts(&rt, alloc, Biba::new(), &BIBA)?;
-    wants_facts(&rt, alloc, Mls::new(), &MLS)?;
-    wants_facts(&rt, alloc, Lomac::new(), &LOMAC)?;
-    wants_facts(&rt, alloc, Partition::new(), &PARTITION)?;
-    wants_facts(&rt, alloc, Bsdextended::new(alloc)?, &BSDEXTENDED)?;
-    wants_facts(&rt, alloc, Priority::new(), &PRIORITY)?;
-    wants_facts(&rt, alloc, Seeotheruids::new(), &SEEOTHERUIDS)?;
-    wants_facts(&rt, alloc, Portacl::new(), &PORTACL)
+fn facts_of_modules(rt: HostRuntime) {
+    wants(&rt, "labelled ones", labelled_have_facts(rt.alloc()));
+    wants(&rt, "mac_bsdextended", bsdextended_has_facts(rt.alloc()));
+    wants(&rt, "others", others_have_facts(rt.alloc()));
 }

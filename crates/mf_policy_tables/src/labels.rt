@@ -1,6 +1,6 @@
 //! Label texts: their faults, what they ask for, and the texts that are printed.
 
-use crate::asked::wants;
+use crate::asked::{holds, wants};
 use mf_elem::{Comps, Elem, LabelValue, RangeLabel, Request};
 use mf_errno::Module;
 use mf_labeltext::{LabelFault, policy_name, print_elem, print_label, read_request};
@@ -56,28 +56,28 @@ const CANONICAL: &[(&str, &str)] = &[
 /// Texts that ask for a policy that has no labels here.
 const OTHERS: &[&str] = &["foo/x", "foo/", "foo//x", "foo/é"];
 
-#[test]
-fn faults_and_their_places(rt: HostRuntime) {
+fn faults_and_their_places() -> bool {
+    let mut holds = true;
     for (text, fault) in FAULTS {
-        wants(&rt, text, read_request(text) == Err(*fault));
+        holds &= read_request(text) == Err(*fault);
     }
+    holds
 }
 
-#[test]
-fn last_element_counts(rt: HostRuntime) {
+fn last_element_counts() -> bool {
     let mut wanted = Request::none();
     wanted.biba = Some(RangeLabel::effective(Elem::Equal));
-    let found = read_request("biba/1(0-9),biba/eq");
-    wants(&rt, "the last", found == Ok(wanted));
+    read_request("biba/1(0-9),biba/eq") == Ok(wanted)
 }
 
-#[test]
-fn other_policies(rt: HostRuntime) {
+fn other_policies() -> bool {
     let mut wanted = Request::none();
     wanted.other = true;
+    let mut holds = true;
     for text in OTHERS {
-        wants(&rt, text, read_request(text) == Ok(wanted));
+        holds &= read_request(text) == Ok(wanted);
     }
+    holds
 }
 
 /// The parts of a label that the request asks for.
@@ -109,22 +109,33 @@ fn canonical_of(alloc: Global, text: &str) -> Result<String, AllocError> {
     Ok(out)
 }
 
-#[test]
-fn canonical_labels(rt: HostRuntime) -> Result<(), AllocError> {
+fn canonical_labels(alloc: Global) -> Result<bool, AllocError> {
     for (text, canonical) in CANONICAL {
-        let found = canonical_of(rt.alloc(), text)?;
-        wants(&rt, text, found.as_str() == *canonical);
+        if canonical_of(alloc, text)?.as_str() != *canonical {
+            return Ok(false);
+        }
     }
-    Ok(())
+    Ok(true)
+}
+
+/// Appends an element to the text, which is "low,".
+fn is_appended(out: &mut String) -> bool {
+    let element = Elem::Grade(10, Comps::empty().with(256).with(2));
+    print_elem(&element, out).is_ok() && out.as_str() == "low,10:2+256"
+}
+
+fn elements_are_appended(alloc: Global) -> Result<bool, AllocError> {
+    let mut out = String::from_str(alloc, "low,")?;
+    Ok(is_appended(&mut out))
 }
 
 #[test]
-fn elements_are_appended(rt: HostRuntime) -> Result<(), AllocError> {
-    let comps = Comps::empty().with(256).with(2);
-    let mut out = String::from_str(rt.alloc(), "low,")?;
-    print_elem(&Elem::Grade(10, comps), &mut out)?;
-    let names = (policy_name(Module::Mls), policy_name(Module::Lomac));
-    let is_named = names == ("mls", "lomac");
-    wants(&rt, "elements", out.as_str() == "low,10:2+256" && is_named);
-    Ok(())
+fn texts_of_labels(rt: HostRuntime) {
+    wants(&rt, "faults", faults_and_their_places());
+    wants(&rt, "the last", last_element_counts());
+    wants(&rt, "other policies", other_policies());
+    wants(&rt, "canonical labels", holds(canonical_labels(rt.alloc())));
+    wants(&rt, "elements", holds(elements_are_appended(rt.alloc())));
+    let are_named = policy_name(Module::Mls) == "mls" && policy_name(Module::Lomac) == "lomac";
+    wants(&rt, "names", are_named);
 }

@@ -8,7 +8,7 @@ mod biba;
 #[cfg(test)]
 mod bsdextended;
 #[cfg(test)]
-mod descriptors;
+mod cases;
 #[cfg(test)]
 mod entities;
 #[cfg(test)]
@@ -18,9 +18,13 @@ mod growths;
 #[cfg(test)]
 mod labels;
 #[cfg(test)]
+mod lists;
+#[cfg(test)]
 mod lomac;
 #[cfg(test)]
 mod mls;
+#[cfg(test)]
+mod new_labels;
 #[cfg(test)]
 mod one_of;
 #[cfg(test)]
@@ -32,9 +36,17 @@ mod ports;
 #[cfg(test)]
 mod priority;
 #[cfg(test)]
+mod questions;
+#[cfg(test)]
+mod reading;
+#[cfg(test)]
 mod registrations;
 #[cfg(test)]
 mod relabels;
+#[cfg(test)]
+mod settings;
+#[cfg(test)]
+mod steps;
 #[cfg(test)]
 mod sysctls;
 #[cfg(test)]

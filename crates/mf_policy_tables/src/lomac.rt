@@ -1,41 +1,36 @@
 //! LOMAC by itself.
 
-use crate::asked::{grade, labelled, object, subject, wants, wants_answers};
-use mf_elem::{Comps, Elem, LabelValue, Request};
+use crate::asked::Level::{self, Equal, Grade, High, In, Low};
+use crate::asked::{Row, answers, element, labelled, object, subject, wants};
+use mf_elem::{Elem, LabelValue, Request};
 use mf_errno::Errno::{self, Eacces, Eperm, Success};
 use mf_item::CheckOp::{
-    self, KldLoad, ProcDebug, ProcSched, ProcSignal, ProcVisible, SocketDeliver, SocketVisible,
-    VnodeOpenRead, VnodeOpenWrite,
+    self, CredRelabel, KldLoad, ProcDebug, ProcSched, ProcSignal, ProcVisible, SocketDeliver,
+    SocketVisible, VnodeOpenRead, VnodeOpenWrite, VnodeRelabel,
 };
 use mf_item::{Item, Kind};
 use mf_lomac::Lomac;
 use mf_policy::{Policy, after_check, lowered};
 
-#[test]
-fn reads_everything_and_writes_down(rt: HostRuntime) {
-    let (low, high, five, ten) = (Elem::Low, Elem::High, grade(5), grade(10));
-    let in_one = Elem::Grade(5, Comps::empty().with(1));
-    let in_two = Elem::Grade(9, Comps::empty().with(2));
-    let rows = [
-        (VnodeOpenRead, ten, ten, Success),
-        (VnodeOpenWrite, ten, ten, Success),
-        (VnodeOpenRead, ten, five, Success),
-        (VnodeOpenWrite, ten, five, Success),
-        (VnodeOpenRead, five, ten, Success),
-        (VnodeOpenWrite, five, ten, Eacces),
-        (VnodeOpenRead, in_one, in_two, Success),
-        (VnodeOpenWrite, in_one, in_two, Eacces),
-        (ProcSignal, low, high, Eacces),
-        (ProcDebug, high, low, Success),
-        (ProcSched, five, grade(9), Eacces),
-        (ProcVisible, low, high, Success),
-        (SocketVisible, low, high, Success),
-        (SocketDeliver, high, low, Eacces),
-        (SocketDeliver, high, Elem::Equal, Success),
-        (KldLoad, low, high, Success),
-    ];
-    wants_answers(&rt, &Lomac::new(), &rows);
-}
+/// It reads everything and writes down.
+const RULES: &[Row] = &[
+    (VnodeOpenRead, Grade(10), Grade(10), Success),
+    (VnodeOpenWrite, Grade(10), Grade(10), Success),
+    (VnodeOpenRead, Grade(10), Grade(5), Success),
+    (VnodeOpenWrite, Grade(10), Grade(5), Success),
+    (VnodeOpenRead, Grade(5), Grade(10), Success),
+    (VnodeOpenWrite, Grade(5), Grade(10), Eacces),
+    (VnodeOpenRead, In(5, 1), In(9, 2), Success),
+    (VnodeOpenWrite, In(5, 1), In(9, 2), Eacces),
+    (ProcSignal, Low, High, Eacces),
+    (ProcDebug, High, Low, Success),
+    (ProcSched, Grade(5), Grade(9), Eacces),
+    (ProcVisible, Low, High, Success),
+    (SocketVisible, Low, High, Success),
+    (SocketDeliver, High, Low, Eacces),
+    (SocketDeliver, High, Equal, Success),
+    (KldLoad, Low, High, Success),
+];
 
 /// The answer to a relabel, of the subject's own credential or of a file with the old element.
 fn relabel(op: CheckOp, of_subject: Elem, old: Elem, asked: Option<Elem>) -> Errno {
@@ -47,56 +42,75 @@ fn relabel(op: CheckOp, of_subject: Elem, old: Elem, asked: Option<Elem>) -> Err
     Lomac::new().check(0, &item)
 }
 
-#[test]
-fn gives_what_it_dominates(rt: HostRuntime) {
-    let (low, five, nine, equal) = (Elem::Low, grade(5), grade(9), Elem::Equal);
-    let (own, file) = (CheckOp::CredRelabel, CheckOp::VnodeRelabel);
-    let rows: &[(CheckOp, Elem, Elem, Option<Elem>, Errno)] = &[
-        (own, nine, low, Some(five), Success),
-        (own, five, low, Some(nine), Eperm),
-        (own, nine, low, Some(equal), Eperm),
-        (own, equal, low, Some(equal), Success),
-        (own, equal, low, Some(nine), Success),
-        (own, five, low, None, Success),
-        (file, five, nine, Some(five), Eperm),
-        (file, five, nine, None, Eperm),
-        (file, nine, five, Some(nine), Success),
-        (file, nine, five, Some(equal), Eperm),
-        (file, nine, five, None, Success),
-    ];
-    for (op, subject, old, asked, errno) in rows {
-        let found = relabel(*op, *subject, *old, *asked);
-        wants(&rt, op.name(), found == *errno);
+/// Relabels, by the elements of subject and object and what is asked, with their answers: it gives what it dominates.
+const RELABELS: &[(CheckOp, Level, Level, Option<Level>, Errno)] = &[
+    (CredRelabel, Grade(9), Low, Some(Grade(5)), Success),
+    (CredRelabel, Grade(5), Low, Some(Grade(9)), Eperm),
+    (CredRelabel, Grade(9), Low, Some(Equal), Eperm),
+    (CredRelabel, Equal, Low, Some(Equal), Success),
+    (CredRelabel, Equal, Low, Some(Grade(9)), Success),
+    (CredRelabel, Grade(5), Low, None, Success),
+    (VnodeRelabel, Grade(5), Grade(9), Some(Grade(5)), Eperm),
+    (VnodeRelabel, Grade(5), Grade(9), None, Eperm),
+    (VnodeRelabel, Grade(9), Grade(5), Some(Grade(9)), Success),
+    (VnodeRelabel, Grade(9), Grade(5), Some(Equal), Eperm),
+    (VnodeRelabel, Grade(9), Grade(5), None, Success),
+];
+
+/// What is asked.
+fn element_of(asked: &Option<Level>) -> Option<Elem> {
+    match asked {
+        Some(level) => Some(element(level)),
+        None => None,
     }
 }
 
+fn gives_what_it_dominates() -> bool {
+    let mut holds = true;
+    for (op, subject, old, asked, errno) in RELABELS {
+        let found = relabel(*op, element(subject), element(old), element_of(asked));
+        holds &= found == *errno;
+    }
+    holds
+}
+
+#[test]
+fn reads_everything_and_writes_down(rt: HostRuntime) {
+    wants(&rt, "rules", answers(&Lomac::new(), RULES));
+    wants(&rt, "relabels", gives_what_it_dominates());
+}
+
 /// What remains of a subject's element after it has observed an object of the second.
+const REMAINS: &[(Level, Level, Level)] = &[
+    (Low, Low, Low),
+    (Low, Grade(5), Low),
+    (Low, High, Low),
+    (Grade(5), Low, Low),
+    (Grade(5), Grade(5), Grade(5)),
+    (Grade(5), Grade(9), Grade(5)),
+    (Grade(5), High, Grade(5)),
+    (Grade(9), Low, Low),
+    (Grade(9), Grade(5), Grade(5)),
+    (High, Low, Low),
+    (High, Grade(9), Grade(9)),
+    (High, High, High),
+    (Equal, Low, Equal),
+    (Equal, Grade(5), Equal),
+    (Equal, Equal, Equal),
+    (Low, Equal, Low),
+    (Grade(9), Equal, Grade(9)),
+    (High, Equal, High),
+];
+
+/// Whether that remains.
+fn remains(subject: &Level, object: &Level, wanted: &Level) -> bool {
+    lowered(&element(subject), &element(object)) == element(wanted)
+}
+
 #[test]
 fn what_remains_of_an_element(rt: HostRuntime) {
-    let (low, five, nine, high, equal) = (Elem::Low, grade(5), grade(9), Elem::High, Elem::Equal);
-    let rows: &[(Elem, Elem, Elem)] = &[
-        (low, low, low),
-        (low, five, low),
-        (low, high, low),
-        (five, low, low),
-        (five, five, five),
-        (five, nine, five),
-        (five, high, five),
-        (nine, low, low),
-        (nine, five, five),
-        (high, low, low),
-        (high, nine, nine),
-        (high, high, high),
-        (equal, low, equal),
-        (equal, five, equal),
-        (equal, equal, equal),
-        (low, equal, low),
-        (nine, equal, nine),
-        (high, equal, high),
-    ];
-    for (subject, object, remains) in rows {
-        let found = lowered(subject, object);
-        wants(&rt, "what remains", found == *remains);
+    for (subject, object, wanted) in REMAINS {
+        wants(&rt, "what remains", remains(subject, object, wanted));
     }
 }
 

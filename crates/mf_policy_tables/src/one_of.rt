@@ -1,4 +1,5 @@
-//! Biba, MLS, mac_partition, mac_seeotheruids and mac_portacl as one type, for a list of policies without boxes.
+//! Biba, MLS, mac_partition, mac_seeotheruids and mac_portacl as one type, for a list of policies without boxes. Of mac_partition
+//! it is counted how often it is reset: it has no setting, so no contract tells a policy of it that is reset from one that isn't.
 use mf_biba::Biba;
 use mf_cred::Cred;
 use mf_errno::{Errno, Module, Priv};
@@ -8,28 +9,29 @@ use mf_partition::Partition;
 use mf_policy::{Change, Changed, LoadFlags, Policy, Spec};
 use mf_ports::{Portacl, Seeotheruids};
 use std::alloc::{AllocError, Global};
+use std::sync::atomic::{AtomicU64, Ordering};
 
 /// One of the policies, without a box.
 #[derive(Drop)]
-pub enum OneOf {
+pub enum OneOf<'a> {
     Biba(Biba),
     Mls(Mls),
-    Partition(Partition),
+    Partition(Partition, &'a AtomicU64),
     Seeotheruids(Seeotheruids),
     Portacl(Portacl),
 }
 
-impl Policy for OneOf {
+impl<'a> Policy for OneOf<'a> {
     ghost use Rattle.mf_policy.specs.declared.spec.Spec.TheVariants as means;
     ghost use Rattle.mf_policy_tables.specs.declared.one_of.OneOf.TheVariants as one;
 
-    ghost spec = { λ policy. elim policy [ one.Biba b ↦ means.Biba b.revocation | one.Mls m ↦ means.Mls | one.Partition p ↦ means.Partition | one.Seeotheruids s ↦ means.Seeotheruids s.primarygroup s.specific s.gid s.suser | one.Portacl p ↦ means.Portacl p.rules p.port_high p.suser p.autoport ] };
+    ghost spec = { λ policy. elim policy [ one.Biba b ↦ means.Biba b.revocation | one.Mls m ↦ means.Mls | one.Partition p resets ↦ means.Partition | one.Seeotheruids s ↦ means.Seeotheruids s.primarygroup s.specific s.gid s.suser | one.Portacl p ↦ means.Portacl p.rules p.port_high p.suser p.autoport ] };
 
     fn module(&self) -> Module {
         match self {
             OneOf::Biba(policy) => policy.module(),
             OneOf::Mls(policy) => policy.module(),
-            OneOf::Partition(policy) => policy.module(),
+            OneOf::Partition(policy, _) => policy.module(),
             OneOf::Seeotheruids(policy) => policy.module(),
             OneOf::Portacl(policy) => policy.module(),
         }
@@ -39,7 +41,7 @@ impl Policy for OneOf {
         match self {
             OneOf::Biba(policy) => policy.flags(),
             OneOf::Mls(policy) => policy.flags(),
-            OneOf::Partition(policy) => policy.flags(),
+            OneOf::Partition(policy, _) => policy.flags(),
             OneOf::Seeotheruids(policy) => policy.flags(),
             OneOf::Portacl(policy) => policy.flags(),
         }
@@ -49,7 +51,7 @@ impl Policy for OneOf {
         match self {
             OneOf::Biba(policy) => policy.wants_slot(),
             OneOf::Mls(policy) => policy.wants_slot(),
-            OneOf::Partition(policy) => policy.wants_slot(),
+            OneOf::Partition(policy, _) => policy.wants_slot(),
             OneOf::Seeotheruids(policy) => policy.wants_slot(),
             OneOf::Portacl(policy) => policy.wants_slot(),
         }
@@ -59,7 +61,7 @@ impl Policy for OneOf {
         match self {
             OneOf::Biba(policy) => policy.same(other),
             OneOf::Mls(policy) => policy.same(other),
-            OneOf::Partition(policy) => policy.same(other),
+            OneOf::Partition(policy, _) => policy.same(other),
             OneOf::Seeotheruids(policy) => policy.same(other),
             OneOf::Portacl(policy) => policy.same(other),
         }
@@ -69,7 +71,7 @@ impl Policy for OneOf {
         match self {
             OneOf::Biba(policy) => policy.check(slot, item),
             OneOf::Mls(policy) => policy.check(slot, item),
-            OneOf::Partition(policy) => policy.check(slot, item),
+            OneOf::Partition(policy, _) => policy.check(slot, item),
             OneOf::Seeotheruids(policy) => policy.check(slot, item),
             OneOf::Portacl(policy) => policy.check(slot, item),
         }
@@ -79,7 +81,7 @@ impl Policy for OneOf {
         match self {
             OneOf::Biba(policy) => policy.grant(cred, privilege),
             OneOf::Mls(policy) => policy.grant(cred, privilege),
-            OneOf::Partition(policy) => policy.grant(cred, privilege),
+            OneOf::Partition(policy, _) => policy.grant(cred, privilege),
             OneOf::Seeotheruids(policy) => policy.grant(cred, privilege),
             OneOf::Portacl(policy) => policy.grant(cred, privilege),
         }
@@ -89,7 +91,7 @@ impl Policy for OneOf {
         match self {
             OneOf::Biba(policy) => policy.change(alloc, change),
             OneOf::Mls(policy) => policy.change(alloc, change),
-            OneOf::Partition(policy) => policy.change(alloc, change),
+            OneOf::Partition(policy, _) => policy.change(alloc, change),
             OneOf::Seeotheruids(policy) => policy.change(alloc, change),
             OneOf::Portacl(policy) => policy.change(alloc, change),
         }
@@ -99,7 +101,10 @@ impl Policy for OneOf {
         match self {
             OneOf::Biba(policy) => policy.reset(),
             OneOf::Mls(policy) => policy.reset(),
-            OneOf::Partition(policy) => policy.reset(),
+            OneOf::Partition(policy, resets) => {
+                resets.fetch_add(1, Ordering::SeqCst);
+                policy.reset();
+            }
             OneOf::Seeotheruids(policy) => policy.reset(),
             OneOf::Portacl(policy) => policy.reset(),
         }

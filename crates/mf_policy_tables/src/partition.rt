@@ -26,13 +26,12 @@ const ANSWERS: &[(CheckOp, LabelValue, LabelValue, Errno)] = &[
 ];
 
 /// mac_partition(4): processes see those of their own partition; one in no partition sees all.
-#[test]
-fn partitions_agree(rt: HostRuntime) {
-    let policy = Partition::new();
+fn partitions_agree(policy: &Partition) -> bool {
+    let mut holds = true;
     for (op, subject, object, errno) in ANSWERS {
-        let found = answer_in(&policy, 1, *op, labelled(*subject), labelled(*object));
-        wants(&rt, op.name(), found == *errno);
+        holds &= answer_in(policy, 1, *op, labelled(*subject), labelled(*object)) == *errno;
     }
+    holds
 }
 
 /// The answer to a subject with this uid that asks to join the partition.
@@ -54,9 +53,16 @@ const JOINS: &[(u32, Option<u32>, Errno)] = &[
     (1001, None, Errno::Success),
 ];
 
-#[test]
-fn root_alone_joins_a_partition(rt: HostRuntime) {
+fn root_alone_joins() -> bool {
+    let mut holds = true;
     for (uid, partition, errno) in JOINS {
-        wants(&rt, "a relabel", joins(*uid, *partition) == *errno);
+        holds &= joins(*uid, *partition) == *errno;
     }
+    holds
+}
+
+#[test]
+fn partitions_agree_and_root_alone_joins_one(rt: HostRuntime) {
+    wants(&rt, "partitions", partitions_agree(&Partition::new()));
+    wants(&rt, "a relabel", root_alone_joins());
 }

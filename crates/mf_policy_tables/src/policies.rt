@@ -1,25 +1,22 @@
-//! The tables of modules and of operations, the rules for relabels, the specs of policies, and the labels of new entities.
+//! The tables of modules and of operations, the rules for relabels, and the specs of policies.
 
 ghost use Rattle.mf_policy.specs.IsChange.{IsChange};
 
-use crate::asked::{grade, wants};
-use mf_elem::{Elem, LabelValue, RangeLabel, Request, SLOTS};
+use crate::asked::Level::{self, Equal, Grade, Low};
+use crate::asked::{element, grade, wants};
+use mf_elem::{Elem, RangeLabel, Request};
 use mf_errno::{Errno, Module};
 use mf_item::{CheckOp, Kind};
 use mf_policy::{
-    Change, Movement, Origin, Registration, Spec, SpecList, Test, credential_relabel, flags_of,
-    is_transfer, labels_kind, may_ask, new_label, object_relabel, row_of, wants_slot,
+    Change, Changed, Movement, Registration, Spec, SpecList, Test, credential_relabel, flags_of,
+    is_transfer, labels_kind, may_ask, object_relabel, row_of, wants_slot,
 };
 use std::alloc::{AllocError, Global};
-use std::process::Abort;
 
-#[test]
-fn a_debugger_learns_and_changes(rt: HostRuntime) {
+fn a_debugger_learns_and_changes() -> bool {
     let row = row_of(CheckOp::ProcDebug);
     let is_both = row.test == Test::ObserveAndModify && row.movement == Movement::BothWays;
-    wants(&rt, "proc_debug", is_both && !row.transfer);
-    let letters = row_of(CheckOp::VnodeExec).letters;
-    wants(&rt, "vnode_exec", letters == Some(18));
+    is_both && !row.transfer && row_of(CheckOp::VnodeExec).letters == Some(18)
 }
 
 /// Operations, with whether each is a transfer through an open file.
@@ -32,11 +29,12 @@ const TRANSFERS: &[(CheckOp, bool)] = &[
     (CheckOp::SocketDeliver, false),
 ];
 
-#[test]
-fn transfers_go_through_an_open_file(rt: HostRuntime) {
+fn transfers_go_through_an_open_file() -> bool {
+    let mut holds = true;
     for (op, transfer) in TRANSFERS {
-        wants(&rt, op.name(), is_transfer(*op) == *transfer);
+        holds &= is_transfer(*op) == *transfer;
     }
+    holds
 }
 
 /// Whether policies have labels on entities of a kind.
@@ -54,59 +52,92 @@ fn labels(module: Module, kind: Kind, labels: bool) -> bool {
     asks && labels_kind(module, kind) == labels
 }
 
-#[test]
-fn files_have_no_partition(rt: HostRuntime) {
+fn files_have_no_partition() -> bool {
+    let mut holds = true;
     for (module, kind, wanted) in LABELS {
-        wants(&rt, module.name(), labels(*module, *kind, *wanted));
+        holds &= labels(*module, *kind, *wanted);
     }
+    holds
+}
+
+#[test]
+fn operations_and_modules(rt: HostRuntime) {
+    wants(&rt, "a debugger", a_debugger_learns_and_changes());
+    wants(&rt, "transfers", transfers_go_through_an_open_file());
+    wants(&rt, "labels", files_have_no_partition());
     let is_static = wants_slot(Module::Mls) && flags_of(Module::Mls).is_notlate();
     wants(&rt, "mac_mls", is_static);
 }
 
-fn element(element: Elem) -> RangeLabel {
-    label(Some(element), None)
+/// What a relabel asks for: an element, a range, both, or nothing.
+enum Label {
+    Element(Level),
+    Range(u16, u16),
+    Both(u16, u16, u16),
+    Lowest,
+    Nothing,
 }
 
-fn label(effective: Option<Elem>, range: Option<(Elem, Elem)>) -> RangeLabel {
-    RangeLabel { effective, range }
-}
-
-fn ranged(effective: u16, low: u16, high: u16) -> RangeLabel {
-    RangeLabel::ranged(grade(effective), grade(low), grade(high))
-}
-
-#[test]
-fn order_of_relabel_refusals(rt: HostRuntime) {
-    let subject = ranged(10, 5, 20);
-    let rows: &[(RangeLabel, Errno)] = &[
-        (ranged(4, 5, 20), Errno::Einval),
-        (label(None, Some((grade(11), grade(20)))), Errno::Einval),
-        (element(grade(25)), Errno::Eperm),
-        (ranged(10, 5, 30), Errno::Eperm),
-        (element(Elem::Equal), Errno::Eperm),
-        (ranged(12, 6, 18), Errno::Success),
-        (label(None, None), Errno::Success),
-    ];
-    for (asked, errno) in rows {
-        let found = credential_relabel(&subject, asked);
-        wants(&rt, "a credential", found == *errno);
+fn label_of(label: &Label) -> RangeLabel {
+    match label {
+        Label::Element(level) => RangeLabel::effective(element(level)),
+        Label::Range(low, high) => RangeLabel {
+            effective: None,
+            range: Some((grade(*low), grade(*high))),
+        },
+        Label::Both(effective, low, high) => {
+            RangeLabel::ranged(grade(*effective), grade(*low), grade(*high))
+        }
+        Label::Lowest => RangeLabel::ranged(Elem::Low, Elem::Low, Elem::Low),
+        Label::Nothing => RangeLabel {
+            effective: None,
+            range: None,
+        },
     }
 }
 
-#[test]
-fn relabels_of_an_object(rt: HostRuntime) {
-    let lowest = RangeLabel::ranged(Elem::Low, Elem::Low, Elem::Low);
-    let rows: &[(Elem, RangeLabel, Errno)] = &[
-        (Elem::Low, element(grade(7)), Errno::Eperm),
-        (grade(7), label(None, None), Errno::Eperm),
-        (Elem::Low, lowest, Errno::Einval),
-        (Elem::Low, element(Elem::Equal), Errno::Eperm),
-        (Elem::Low, element(Elem::Low), Errno::Success),
-    ];
-    for (old, asked, errno) in rows {
-        let found = object_relabel(&lowest, old, asked);
-        wants(&rt, "an object", found == *errno);
+/// What a subject of grade 10, with the range from 5 to 20, asks for itself, and the answers: the refusals have an order.
+const CREDENTIALS: &[(Label, Errno)] = &[
+    (Label::Both(4, 5, 20), Errno::Einval),
+    (Label::Range(11, 20), Errno::Einval),
+    (Label::Element(Grade(25)), Errno::Eperm),
+    (Label::Both(10, 5, 30), Errno::Eperm),
+    (Label::Element(Equal), Errno::Eperm),
+    (Label::Both(12, 6, 18), Errno::Success),
+    (Label::Nothing, Errno::Success),
+];
+
+fn order_of_relabel_refusals() -> bool {
+    let subject = label_of(&Label::Both(10, 5, 20));
+    let mut holds = true;
+    for (asked, errno) in CREDENTIALS {
+        holds &= credential_relabel(&subject, &label_of(asked)) == *errno;
     }
+    holds
+}
+
+/// What a subject that is low alone asks for an object of an element, and the answers.
+const OBJECTS: &[(Level, Label, Errno)] = &[
+    (Low, Label::Element(Grade(7)), Errno::Eperm),
+    (Grade(7), Label::Nothing, Errno::Eperm),
+    (Low, Label::Lowest, Errno::Einval),
+    (Low, Label::Element(Equal), Errno::Eperm),
+    (Low, Label::Element(Low), Errno::Success),
+];
+
+fn relabels_of_an_object() -> bool {
+    let lowest = label_of(&Label::Lowest);
+    let mut holds = true;
+    for (old, asked, errno) in OBJECTS {
+        holds &= object_relabel(&lowest, &element(old), &label_of(asked)) == *errno;
+    }
+    holds
+}
+
+#[test]
+fn refusals_of_relabels(rt: HostRuntime) {
+    wants(&rt, "a credential", order_of_relabel_refusals());
+    wants(&rt, "an object", relabels_of_an_object());
 }
 
 /// Each module, with the answers to a change of mac_bsdextended's setting and of mac_biba's, and whether it tests transfers
@@ -122,66 +153,39 @@ const SETTINGS: &[(Module, Errno, Errno, bool)] = &[
     (Module::Portacl, Errno::Enoent, Errno::Enoent, true),
 ];
 
-/// The answer to a change, which gives no number.
-fn errno_of(alloc: Global, spec: &mut Spec, change: Change) -> Result<Option<Errno>, AllocError>
-    requires { IsChange change }
+/// Whether a change is answered with that errno, and no number.
+fn is_answered(alloc: Global, spec: &mut Spec, change: &Change, errno: Errno) -> bool
+    requires { IsChange change.now }
 {
-    let changed = spec.change(alloc, &change)?;
-    Ok(match changed.number {
-        None => Some(changed.errno),
-        Some(_) => None,
-    })
+    let number = None;
+    spec.change(alloc, change) == Ok(Changed { errno, number })
 }
 
 /// Whether the changes are answered so, and whether transfers are tested so before and after them.
-fn is_set(
-    alloc: Global,
-    spec: &mut Spec,
-    errnos: (Errno, Errno),
-    tests: (bool, bool),
-) -> Result<bool, AllocError> {
-    let before = spec.tests_transfers() == tests.0;
-    let first_match = errno_of(alloc, spec, Change::FirstMatch(false))?;
-    let revocation = errno_of(alloc, spec, Change::Revocation(true))?;
-    let are_answers = first_match == Some(errnos.0) && revocation == Some(errnos.1);
-    let after = spec.tests_transfers() == tests.1;
-    Ok(before && are_answers && after)
+fn is_set(alloc: Global, spec: &mut Spec, errnos: (Errno, Errno), tests: (bool, bool)) -> bool {
+    let is_so = spec.tests_transfers() == tests.0;
+    let is_first = is_answered(alloc, spec, &Change::FirstMatch(false), errnos.0);
+    let is_second = is_answered(alloc, spec, &Change::Revocation(true), errnos.1);
+    is_so && is_first && is_second && spec.tests_transfers() == tests.1
 }
 
-/// The same of a fresh spec.
-fn is_set_anew(
-    alloc: Global,
-    module: Module,
-    errnos: (Errno, Errno),
-    after: bool,
-) -> Result<bool, AllocError> {
-    let mut spec = Spec::fresh(alloc, module)?;
-    is_set(alloc, &mut spec, errnos, (module != Module::Biba, after))
-}
-
-#[test]
-fn settings_of_modules(rt: HostRuntime) -> Result<(), AllocError> {
-    for (module, first_match, revocation, after) in SETTINGS {
-        let errnos = (*first_match, *revocation);
-        let is_set = is_set_anew(rt.alloc(), *module, errnos, *after)?;
-        wants(&rt, module.name(), is_set);
+/// The same of a fresh spec; that of MLS stays as it is.
+fn is_set_anew(alloc: Global, module: Module, errnos: (Errno, Errno), after: bool) -> bool {
+    match Spec::fresh(alloc, module) {
+        Ok(mut spec) => {
+            let is_set = is_set(alloc, &mut spec, errnos, (module != Module::Biba, after));
+            is_set && spec.same(&Spec::Mls) == (module == Module::Mls)
+        }
+        Err(AllocError) => false,
     }
-    Ok(())
 }
 
-/// MLS stays as it is.
-fn stays(rt: &impl Abort, alloc: Global, spec: &mut Spec) -> Result<(), AllocError> {
-    let errnos = (Errno::Enoent, Errno::Enoent);
-    let is_set = is_set(alloc, spec, errnos, (true, true))?;
-    let is_same = spec.same(&Spec::Mls);
-    wants(rt, "mac_mls", is_set && is_same);
-    Ok(())
-}
-
-#[test]
-fn mls_stays_as_it_is(rt: HostRuntime) -> Result<(), AllocError> {
-    let mut spec = Spec::fresh(rt.alloc(), Module::Mls)?;
-    stays(&rt, rt.alloc(), &mut spec)
+fn settings_of_modules(alloc: Global) -> bool {
+    let mut holds = true;
+    for (module, first_match, revocation, after) in SETTINGS {
+        holds &= is_set_anew(alloc, *module, (*first_match, *revocation), *after);
+    }
+    holds
 }
 
 /// The registration of Biba, at boot and first.
@@ -191,12 +195,18 @@ const BIBA: Registration = Registration {
     fixed: true,
 };
 
-/// Puts a copy of the first spec in its place.
-fn put_copy(rt: &impl Abort, alloc: Global, list: &mut SpecList) -> Result<(), AllocError> {
-    assert!(rt; list.len() == 1);
-    let copy = list.spec(0).copy(alloc)?;
-    list.put(0, copy);
-    Ok(())
+/// Puts a copy of the only spec in its place.
+fn puts_copy(alloc: Global, list: &mut SpecList) -> bool {
+    if list.len() != 1 {
+        return false;
+    }
+    match list.spec(0).copy(alloc) {
+        Ok(copy) => {
+            list.put(0, copy);
+            true
+        }
+        Err(AllocError) => false,
+    }
 }
 
 /// Whether one policy is listed, Biba as it is when it is loaded.
@@ -223,90 +233,19 @@ fn is_alone(list: &SpecList) -> bool {
 }
 
 /// Lists Biba, and takes it away.
-fn come_and_go(rt: &impl Abort, alloc: Global, list: &mut SpecList) -> Result<(), AllocError> {
-    list.list(BIBA, Spec::fresh(alloc, Module::Biba)?)?;
-    put_copy(rt, alloc, list)?;
-    wants(rt, "mac_biba", is_first(list) && is_alone(list));
+fn comes_and_goes(alloc: Global, list: &mut SpecList) -> bool {
+    let is_listed = list.list(BIBA, Spec::Biba { revocation: false }).is_ok();
+    let is_there = is_listed && puts_copy(alloc, list) && is_first(list) && is_alone(list);
     list.unlist(Module::Biba);
-    let is_listed = list.is_listed(Module::Biba);
-    wants(rt, "none", list.is_empty() && !is_listed);
-    Ok(())
+    is_there && list.is_empty() && !list.is_listed(Module::Biba)
+}
+
+fn specs_come_and_go(alloc: Global) -> bool {
+    comes_and_goes(alloc, &mut SpecList::new(alloc))
 }
 
 #[test]
-fn specs_come_and_go(rt: HostRuntime) -> Result<(), AllocError> {
-    let mut list = SpecList::new(rt.alloc());
-    come_and_go(&rt, rt.alloc(), &mut list)
-}
-
-/// The registration of MLS, at boot and second.
-const MLS: Registration = Registration {
-    module: Module::Mls,
-    slot: Some(1),
-    fixed: true,
-};
-
-/// The label at boot of a process, and that of a file that a child of such a process makes.
-fn at_boot_and_of_a_child(rt: &impl Abort, list: &mut SpecList) -> Result<(), AllocError> {
-    list.list(MLS, Spec::Mls)?;
-    let boot = Origin::Boot(Request::none());
-    let [_, process, _, _] = new_label(list, Kind::Process, &boot);
-    let whole = RangeLabel::ranged(Elem::Low, Elem::Low, Elem::High);
-    wants(rt, "a process", process.same(&LabelValue::Range(whole)));
-    let made = Origin::Maker([process; SLOTS]);
-    let [unset, file, _, _] = new_label(list, Kind::Vnode, &made);
-    let low = LabelValue::Range(RangeLabel::effective(Elem::Low));
-    let is_made = unset.same(&LabelValue::Unset) && file.same(&low);
-    wants(rt, "a file", is_made);
-    Ok(())
-}
-
-#[test]
-fn labels_at_boot_and_of_a_child(rt: HostRuntime) -> Result<(), AllocError> {
-    let mut list = SpecList::new(rt.alloc());
-    at_boot_and_of_a_child(&rt, &mut list)
-}
-
-/// The registration of LOMAC, at boot and first.
-const LOMAC: Registration = Registration {
-    module: Module::Lomac,
-    slot: Some(0),
-    fixed: true,
-};
-
-/// Wants such an entity to have this element by LOMAC, which labels entities of its kind.
-fn wants_label(rt: &impl Abort, list: &SpecList, kind: Kind, origin: &Origin, wanted: Elem) {
-    let [value, _, _, unset] = new_label(list, kind, origin);
-    let has_label = value == LabelValue::Range(element(wanted)) && unset == LabelValue::Unset;
-    let labels = labels_kind(Module::Lomac, kind) && may_ask(Module::Lomac, kind, &asks_five());
-    wants(rt, "a label", has_label && labels);
-}
-
-/// The request for the grade 5.
-fn asks_five() -> Request {
-    let mut request = Request::none();
-    request.lomac = Some(grade(5));
-    request
-}
-
-/// The labels of a process and of a file at boot, of a child, and of a pipe that a process makes.
-fn wants_labels(rt: &impl Abort, list: &mut SpecList) -> Result<(), AllocError> {
-    list.list(LOMAC, Spec::Lomac)?;
-    wants(rt, "its slot", list.lomac_slot() == Some(0));
-    let boot = Origin::Boot(Request::none());
-    wants_label(rt, list, Kind::Process, &boot, Elem::High);
-    wants_label(rt, list, Kind::Vnode, &boot, Elem::High);
-    let asked = Origin::Boot(asks_five());
-    wants_label(rt, list, Kind::Process, &asked, grade(5));
-    wants_label(rt, list, Kind::Vnode, &asked, grade(5));
-    let made = Origin::Maker([LabelValue::Range(element(grade(9))); SLOTS]);
-    wants_label(rt, list, Kind::Process, &made, grade(9));
-    wants_label(rt, list, Kind::Pipe, &made, grade(9));
-    Ok(())
-}
-
-#[test]
-fn labels_of_lomac(rt: HostRuntime) -> Result<(), AllocError> {
-    let mut list = SpecList::new(rt.alloc());
-    wants_labels(&rt, &mut list)
+fn specs_and_their_settings(rt: HostRuntime) {
+    wants(&rt, "settings", settings_of_modules(rt.alloc()));
+    wants(&rt, "mac_biba", specs_come_and_go(rt.alloc()));
 }

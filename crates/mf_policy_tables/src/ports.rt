@@ -1,7 +1,8 @@
 //! mac_seeotheruids and mac_portacl by themselves.
 ghost use Rattle.mf_policy.specs.IsChange.{IsChange};
 
-use crate::asked::{changed, object, wants};
+use crate::asked::{holds, is_answered, object, wants};
+use crate::settings::{Acl, Asked, See, acl, change_of, see};
 use mf_cred::{ArrayVec, Cred};
 use mf_elem::{LabelValue, SLOTS};
 use mf_errno::Errno::{self, Enoent, Eperm, Esrch, Success};
@@ -9,40 +10,7 @@ use mf_errno::Module;
 use mf_item::{CheckOp, Item, Kind, SubjectView};
 use mf_policy::{Change, Policy, Spec};
 use mf_ports::{Portacl, Seeotheruids};
-use mf_rule::read_ports;
 use std::alloc::{AllocError, Global};
-use std::process::Abort;
-
-/// The settings `primarygroup_enabled`, `specificgid_enabled`, `specificgid` and `suser_privileged`.
-pub type See = (bool, bool, u32, bool);
-
-/// The settings `rules`, `port_high`, `suser_exempt` and `autoport_exempt`.
-pub type Acl = (&'static str, u32, bool, bool);
-
-/// mac_seeotheruids with these settings.
-pub fn see(settings: See) -> Spec {
-    let (primarygroup, specific, gid, suser) = settings;
-    Spec::Seeotheruids {
-        primarygroup,
-        specific,
-        gid,
-        suser,
-    }
-}
-
-/// mac_portacl with these settings.
-pub fn acl(rt: &impl Abort, settings: Acl) -> Spec {
-    let (rules, port_high, suser, autoport) = settings;
-    match read_ports(rules) {
-        Some(rules) => Spec::Portacl {
-            rules,
-            port_high,
-            suser,
-            autoport,
-        },
-        None => panic!(rt; "no rules: {rules}"),
-    }
-}
 
 /// The settings of mac_seeotheruids(4) when it is loaded.
 const SEE: See = (false, false, 0, true);
@@ -81,30 +49,6 @@ fn cred_of(user: User) -> Cred {
     }
 }
 
-/// The answer of mac_seeotheruids with these settings to a user who looks at the process.
-fn seen(
-    alloc: Global,
-    policy: &mut Seeotheruids,
-    settings: See,
-    user: User,
-    process: (u32, u32),
-) -> Result<Errno, AllocError> {
-    changed(alloc, policy, Change::See(see(settings)))?;
-    Ok(answer(policy, CheckOp::ProcVisible, user, process, None))
-}
-
-/// The answer of mac_portacl with this spec to a user who binds a socket to the port.
-fn bound(
-    alloc: Global,
-    policy: &mut Portacl,
-    spec: Spec,
-    user: User,
-    port: (bool, u16),
-) -> Result<Errno, AllocError> {
-    changed(alloc, policy, Change::Port(spec))?;
-    Ok(answer(policy, CheckOp::SocketBind, user, (2, 7), Some(port)))
-}
-
 /// Settings, a user, another process, and whether the user sees it, by what mac_seeotheruids(4) says of the settings.
 const SIGHTS: &[(&str, See, User, (u32, u32), Errno)] = &[
     ("its own", SEE, [1, 1, 9, 5], (1, 7), Success),
@@ -135,22 +79,27 @@ const SPECIFIC: See = (false, true, 5, true);
 /// They would, but for the switch.
 const OFF: See = (false, false, 5, true);
 
-/// Each row's settings take the place of those of the row before.
-fn wants_sights(
-    rt: &impl Abort,
+/// Whether the user sees the process so with these settings.
+fn is_seen(
     alloc: Global,
     policy: &mut Seeotheruids,
-) -> Result<(), AllocError> {
-    for (name, settings, user, process, errno) in SIGHTS {
-        let found = seen(alloc, policy, *settings, *user, *process)?;
-        wants(rt, name, found == *errno);
-    }
-    Ok(())
+    settings: See,
+    user: User,
+    process: (u32, u32),
+    errno: Errno,
+) -> bool {
+    let is_set = is_answered(alloc, policy, &Change::See(see(settings)), Success);
+    is_set && answer(policy, CheckOp::ProcVisible, user, process, None) == errno
 }
 
-#[test]
-fn whose_processes_are_seen(rt: HostRuntime) -> Result<(), AllocError> {
-    wants_sights(&rt, rt.alloc(), &mut Seeotheruids::new())
+/// The name of the first row that isn't so, or none. Each row's settings take the place of those of the row before.
+fn wrong_sight(alloc: Global, policy: &mut Seeotheruids) -> &'static str {
+    for (name, settings, user, process, errno) in SIGHTS {
+        if !is_seen(alloc, policy, *settings, *user, *process, *errno) {
+            return name;
+        }
+    }
+    ""
 }
 
 /// Settings, a user, a port of TCP or else of UDP, and whether the user may bind a socket to it, by what mac_portacl(4) says of
@@ -193,18 +142,27 @@ const RULES: Acl = (
 /// A rule for a group.
 const DOMAIN: Acl = ("gid:53:udp:53", 1023, true, true);
 
-/// Each row's settings take the place of those of the row before.
-fn wants_bindings(rt: &impl Abort, alloc: Global, policy: &mut Portacl) -> Result<(), AllocError> {
-    for (name, settings, user, port, errno) in BINDINGS {
-        let found = bound(alloc, policy, acl(rt, *settings), *user, *port)?;
-        wants(rt, name, found == *errno);
-    }
-    Ok(())
+/// Whether the user may bind a socket to the port so with these settings.
+fn is_bound(
+    alloc: Global,
+    policy: &mut Portacl,
+    settings: Acl,
+    user: User,
+    port: (bool, u16),
+    errno: Errno,
+) -> bool {
+    let is_set = is_answered(alloc, policy, &Change::Port(acl(settings)), Success);
+    is_set && answer(policy, CheckOp::SocketBind, user, (2, 7), Some(port)) == errno
 }
 
-#[test]
-fn which_ports_are_bound(rt: HostRuntime) -> Result<(), AllocError> {
-    wants_bindings(&rt, rt.alloc(), &mut Portacl::new())
+/// The name of the first row that isn't so, or none. Each row's settings take the place of those of the row before.
+fn wrong_binding(alloc: Global, policy: &mut Portacl) -> &'static str {
+    for (name, settings, user, port, errno) in BINDINGS {
+        if !is_bound(alloc, policy, *settings, *user, *port, *errno) {
+            return name;
+        }
+    }
+    ""
 }
 
 /// Operations, each with the answers of mac_seeotheruids and of mac_portacl to a user who sees nobody and binds no port.
@@ -225,52 +183,41 @@ fn answer_to<P: Policy>(policy: &P, op: CheckOp) -> Errno {
     answer(policy, op, [1, 1, 9, 5], (2, 7), Some((true, 80)))
 }
 
-#[test]
-fn operations_that_are_tested(rt: HostRuntime) {
+fn operations_that_are_tested(see: &Seeotheruids, acl: &Portacl) -> bool {
+    let mut holds = true;
     for (op, esrch, eperm) in OPERATIONS {
-        let seen = answer_to(&Seeotheruids::new(), *op);
-        let bound = answer_to(&Portacl::new(), *op);
-        wants(&rt, op.name(), seen == *esrch && bound == *eperm);
+        holds &= answer_to(see, *op) == *esrch && answer_to(acl, *op) == *eperm;
     }
+    holds
 }
 
-/// Whether the policy has the one spec, and the other one once it is put back.
-fn is_put_back<P: Policy>(policy: &mut P, set: Spec, initial: Spec) -> bool {
-    let is_set = policy.same(&set) && !policy.same(&initial);
+/// Whether the policy has the one spec once it is asked for, and the other one once it is put back.
+fn is_put_back<P: Policy>(
+    alloc: Global,
+    policy: &mut P,
+    asked: &Asked,
+    set: &Spec,
+    initial: &Spec,
+) -> bool {
+    let is_answered = is_answered(alloc, policy, &change_of(asked), Success);
+    let is_set = policy.same(set) && !policy.same(initial);
     policy.reset();
-    is_set && policy.same(&initial)
+    is_answered && is_set && policy.same(initial)
 }
 
-fn set_and_put_back(
-    rt: &impl Abort,
-    alloc: Global,
-    policy: &mut Seeotheruids,
-) -> Result<(), AllocError> {
-    changed(alloc, policy, Change::See(see(SPECIFIC)))?;
-    let is_put_back = is_put_back(policy, see(SPECIFIC), see(SEE));
-    wants(rt, "mac_seeotheruids", is_put_back);
-    Ok(())
+/// What is asked for before the policies are put back.
+const SIGHTS_OF_MEMBERS: &Asked = &Asked::Sights(SPECIFIC);
+
+const RULES_OF_PORTS: &Asked = &Asked::Ports(RULES);
+
+fn settings_are_put_back(alloc: Global) -> bool {
+    let policy = &mut Seeotheruids::new();
+    is_put_back(alloc, policy, SIGHTS_OF_MEMBERS, &see(SPECIFIC), &see(SEE))
 }
 
-#[test]
-fn settings_are_put_back(rt: HostRuntime) -> Result<(), AllocError> {
-    set_and_put_back(&rt, rt.alloc(), &mut Seeotheruids::new())
-}
-
-fn rule_and_put_back(
-    rt: &impl Abort,
-    alloc: Global,
-    policy: &mut Portacl,
-) -> Result<(), AllocError> {
-    changed(alloc, policy, Change::Port(acl(rt, RULES)))?;
-    let is_put_back = is_put_back(policy, acl(rt, RULES), acl(rt, ACL));
-    wants(rt, "mac_portacl", is_put_back);
-    Ok(())
-}
-
-#[test]
-fn rules_are_put_back(rt: HostRuntime) -> Result<(), AllocError> {
-    rule_and_put_back(&rt, rt.alloc(), &mut Portacl::new())
+fn rules_are_put_back(alloc: Global) -> bool {
+    let policy = &mut Portacl::new();
+    is_put_back(alloc, policy, RULES_OF_PORTS, &acl(RULES), &acl(ACL))
 }
 
 /// Modules, each with the answers of mac_seeotheruids and of mac_portacl to a change that holds its spec: as settings of
@@ -282,36 +229,45 @@ const CHANGES: &[(Module, (Errno, Errno), (Errno, Errno))] = &[
     (Module::Bsdextended, (Enoent, Enoent), (Enoent, Enoent)),
 ];
 
-/// The answer of a policy to a change.
-fn errno_of<P: Policy>(alloc: Global, mut policy: P, change: Change) -> Result<Errno, AllocError>
-    requires { IsChange change }
+/// Whether both policies answer the change so.
+fn both_answer(alloc: Global, change: &Change, wanted: (Errno, Errno)) -> bool
+    requires { IsChange change.now }
 {
-    let changed = changed(alloc, &mut policy, change)?;
-    Ok(changed.errno)
+    let (see, acl) = (&mut Seeotheruids::new(), &mut Portacl::new());
+    is_answered(alloc, see, change, wanted.0) && is_answered(alloc, acl, change, wanted.1)
 }
 
-/// The answers of both policies to the module's spec as settings of mac_seeotheruids.
-fn errnos_to_see(alloc: Global, module: Module) -> Result<(Errno, Errno), AllocError> {
-    let change = Change::See(Spec::fresh(alloc, module)?);
-    let seen = errno_of(alloc, Seeotheruids::new(), change)?;
-    let change = Change::See(Spec::fresh(alloc, module)?);
-    Ok((seen, errno_of(alloc, Portacl::new(), change)?))
+/// Whether they answer so to the module's spec, as settings of the one and of the other.
+fn answer_to_module(
+    alloc: Global,
+    module: Module,
+    as_see: (Errno, Errno),
+    as_port: (Errno, Errno),
+) -> Result<bool, AllocError> {
+    let is_see = both_answer(alloc, &Change::See(Spec::fresh(alloc, module)?), as_see);
+    let is_port = both_answer(alloc, &Change::Port(Spec::fresh(alloc, module)?), as_port);
+    Ok(is_see && is_port)
 }
 
-/// The answers of both policies to it as settings of mac_portacl.
-fn errnos_to_port(alloc: Global, module: Module) -> Result<(Errno, Errno), AllocError> {
-    let change = Change::Port(Spec::fresh(alloc, module)?);
-    let seen = errno_of(alloc, Seeotheruids::new(), change)?;
-    let change = Change::Port(Spec::fresh(alloc, module)?);
-    Ok((seen, errno_of(alloc, Portacl::new(), change)?))
+fn settings_of_another_module(alloc: Global) -> bool {
+    let mut is_so = true;
+    for (module, see, port) in CHANGES {
+        is_so &= holds(answer_to_module(alloc, *module, *see, *port));
+    }
+    is_so
 }
 
 #[test]
-fn settings_of_another_module(rt: HostRuntime) -> Result<(), AllocError> {
-    for (module, see, port) in CHANGES {
-        let seen = errnos_to_see(rt.alloc(), *module)?;
-        let bound = errnos_to_port(rt.alloc(), *module)?;
-        wants(&rt, module.name(), seen == *see && bound == *port);
-    }
-    Ok(())
+fn sights_and_ports(rt: HostRuntime) {
+    let alloc = rt.alloc();
+    let sight = wrong_sight(alloc, &mut Seeotheruids::new());
+    wants(&rt, sight, sight.is_empty());
+    let binding = wrong_binding(alloc, &mut Portacl::new());
+    wants(&rt, binding, binding.is_empty());
+    let are_tested = operations_that_are_tested(&Seeotheruids::new(), &Portacl::new());
+    wants(&rt, "operations", are_tested);
+    let are_put_back = settings_are_put_back(alloc) && rules_are_put_back(alloc);
+    wants(&rt, "put back", are_put_back);
+    let is_other = settings_of_another_module(alloc);
+    wants(&rt, "another module", is_other);
 }

@@ -37,11 +37,12 @@ const GROUPS: &[(u32, u32, [bool; 3])] = &[
 ];
 
 /// mac_priority(4): members of `realtime` may have realtime, and members of `idletime` idle priority.
-#[test]
-fn realtime_and_idle_users(rt: HostRuntime) {
+fn realtime_and_idle_users() -> bool {
+    let mut holds = true;
     for (first, second, wanted) in GROUPS {
-        wants(&rt, "groups", granted(*first, *second) == *wanted);
+        holds &= granted(*first, *second) == *wanted;
     }
+    holds
 }
 
 /// The answer to a user who asks for realtime priority.
@@ -53,7 +54,9 @@ fn answer(op: CheckOp) -> Errno {
 }
 
 #[test]
-fn nothing_is_denied(rt: HostRuntime) {
-    wants(&rt, "kld_load", answer(CheckOp::KldLoad) == Errno::Success);
-    wants(&rt, "priv", answer(CheckOp::Priv) == Errno::Success);
+fn privileges_are_granted_and_nothing_is_denied(rt: HostRuntime) {
+    wants(&rt, "groups", realtime_and_idle_users());
+    let is_let = answer(CheckOp::KldLoad) == Errno::Success;
+    let is_granted = answer(CheckOp::Priv) == Errno::Success;
+    wants(&rt, "nothing is denied", is_let && is_granted);
 }

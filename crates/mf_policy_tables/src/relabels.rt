@@ -1,32 +1,20 @@
 //! Requests to change labels: which of them are claimed, and the labels after them.
 
 use crate::asked::{grade, wants};
+use crate::growths::list;
+use Value::{Alone, Number, Ranged, Unset};
 use mf_elem::{LabelValue, RangeLabel, Request, SLOTS};
 use mf_errno::Module;
 use mf_item::Kind;
 use mf_labeltext::read_request;
-use mf_policy::{Registration, Spec, SpecList, relabelled, sets_value, value_after};
-use std::alloc::{AllocError, Global};
-use std::process::Abort;
+use mf_policy::{SpecList, relabelled, sets_value, value_after};
+use std::alloc::Global;
 
-/// Lists the module in its initial state, with that slot.
-fn list(alloc: Global, specs: &mut SpecList, module: Module, slot: u8) -> Result<(), AllocError> {
-    let registration = Registration {
-        module,
-        slot: Some(slot),
-        fixed: module != Module::Partition,
-    };
-    specs.list(registration, Spec::fresh(alloc, module)?)
-}
+/// A text for an entity of a kind, and whether the listed policies claim what it asks.
+type Claim = (&'static str, Kind, bool);
 
-/// Lists Biba, which holds slot 0, and another module, which holds slot 1.
-fn list_both(alloc: Global, specs: &mut SpecList, other: Module) -> Result<(), AllocError> {
-    list(alloc, specs, Module::Biba, 0)?;
-    list(alloc, specs, other, 1)
-}
-
-/// Texts for an entity of a kind, and whether Biba and mac_partition claim what they ask.
-const CLAIMS: &[(&str, Kind, bool)] = &[
+/// Claims of Biba and mac_partition.
+const CLAIMS: &[Claim] = &[
     ("biba/5(1-9),partition/7", Kind::Process, true),
     ("partition/none", Kind::Process, true),
     ("partition/7", Kind::Socket, false),
@@ -38,41 +26,8 @@ const CLAIMS: &[(&str, Kind, bool)] = &[
     ("biba/5,foo/low", Kind::Process, false),
 ];
 
-/// Whether the listed policies claim what the text asks for an entity of that kind; None for what is no label text.
-fn claims(listed: &SpecList, text: &str, kind: Kind) -> Option<bool> {
-    match read_request(text) {
-        Ok(request) => Some(listed.claims(kind, &request)),
-        Err(_) => None,
-    }
-}
-
-fn wants_claims(rt: &impl Abort, listed: &SpecList, rows: &[(&str, Kind, bool)]) {
-    for (text, kind, claimed) in rows {
-        wants(rt, text, claims(listed, text, *kind) == Some(*claimed));
-    }
-}
-
-/// Wants them where Biba and the other are listed.
-fn claim_both(
-    rt: &impl Abort,
-    alloc: Global,
-    specs: &mut SpecList,
-    other: Module,
-    rows: &[(&str, Kind, bool)],
-) -> Result<(), AllocError> {
-    list_both(alloc, specs, other)?;
-    wants_claims(rt, specs, rows);
-    Ok(())
-}
-
-#[test]
-fn claims_of_biba_and_partition(rt: HostRuntime) -> Result<(), AllocError> {
-    let mut specs = SpecList::new(rt.alloc());
-    claim_both(&rt, rt.alloc(), &mut specs, Module::Partition, CLAIMS)
-}
-
-/// The same where Biba and LOMAC are listed.
-const CLAIMS_OF_LOMAC: &[(&str, Kind, bool)] = &[
+/// Claims of Biba and LOMAC: it takes requests for every kind.
+const CLAIMS_OF_LOMAC: &[Claim] = &[
     ("lomac/5,biba/7", Kind::Process, true),
     ("lomac/5,mls/7", Kind::Process, false),
     ("lomac/5,biba/7", Kind::Vnode, true),
@@ -83,36 +38,49 @@ const CLAIMS_OF_LOMAC: &[(&str, Kind, bool)] = &[
     ("lomac/5,mls/7", Kind::Socket, false),
 ];
 
-#[test]
-fn lomac_takes_requests_for_every_kind(rt: HostRuntime) -> Result<(), AllocError> {
-    let mut specs = SpecList::new(rt.alloc());
-    claim_both(&rt, rt.alloc(), &mut specs, Module::Lomac, CLAIMS_OF_LOMAC)
-}
-
-/// The same where Biba alone is listed.
-const CLAIMS_OF_BIBA: &[(&str, Kind, bool)] = &[
+/// Claims of Biba alone: an unlisted partition is not claimed.
+const CLAIMS_OF_BIBA: &[Claim] = &[
     ("partition/none", Kind::Process, false),
     ("biba/5", Kind::Process, true),
 ];
 
-fn claim_alone(rt: &impl Abort, alloc: Global, specs: &mut SpecList) -> Result<(), AllocError> {
-    list(alloc, specs, Module::Biba, 0)?;
-    wants_claims(rt, specs, CLAIMS_OF_BIBA);
-    Ok(())
+/// Whether the listed policies claim what the text asks for an entity of that kind; None for what is no label text.
+fn claims(listed: &SpecList, text: &str, kind: Kind) -> Option<bool> {
+    match read_request(text) {
+        Ok(request) => Some(listed.claims(kind, &request)),
+        Err(_) => None,
+    }
 }
 
-#[test]
-fn an_unlisted_partition_is_not_claimed(rt: HostRuntime) -> Result<(), AllocError> {
-    let mut specs = SpecList::new(rt.alloc());
-    claim_alone(&rt, rt.alloc(), &mut specs)
+/// The text of the first claim that isn't so, or none.
+fn wrong_claim(listed: &SpecList, rows: &[Claim]) -> Option<&'static str> {
+    for (text, kind, claimed) in rows {
+        if claims(listed, text, *kind) != Some(*claimed) {
+            return Some(text);
+        }
+    }
+    None
 }
 
-fn alone(effective: u16) -> LabelValue {
-    LabelValue::Range(RangeLabel::effective(grade(effective)))
+/// The value of a slot, as rows have it.
+enum Value {
+    Unset,
+    Number(u32),
+    /// A grade without a range.
+    Alone(u16),
+    /// A grade with the range from the second to the third.
+    Ranged(u16, u16, u16),
 }
 
-fn ranged(effective: u16, low: u16, high: u16) -> LabelValue {
-    LabelValue::Range(RangeLabel::ranged(grade(effective), grade(low), grade(high)))
+fn value_of(value: &Value) -> LabelValue {
+    match value {
+        Unset => LabelValue::Unset,
+        Number(number) => LabelValue::Number(*number),
+        Alone(effective) => LabelValue::Range(RangeLabel::effective(grade(*effective))),
+        Ranged(effective, low, high) => {
+            LabelValue::Range(RangeLabel::ranged(grade(*effective), grade(*low), grade(*high)))
+        }
+    }
 }
 
 /// The value of a slot after what the request asks, by the policy that holds it.
@@ -139,91 +107,120 @@ fn values_in(
 }
 
 /// A label with these values in the first two slots, whose third slot nobody holds.
-fn labelled(values: &[LabelValue; 2]) -> [LabelValue; SLOTS] {
-    let [first, second] = *values;
+fn labelled(values: &[Value; 2]) -> [LabelValue; SLOTS] {
+    let [first, second] = values;
+    let (first, second) = (value_of(first), value_of(second));
     [first, second, LabelValue::Number(9), LabelValue::Unset]
 }
 
-/// Whether a label is so after what the text asks, as a whole and in each slot.
+/// Whether a label is so after what is asked, as a whole and in each slot.
 fn becomes(
     listed: &SpecList,
-    text: &str,
-    before: &[LabelValue; 2],
-    after: &[LabelValue; 2],
+    request: &Request,
+    before: &[LabelValue; SLOTS],
+    after: &[LabelValue; SLOTS],
 ) -> bool {
-    let (before, after) = (labelled(before), labelled(after));
-    match read_request(text) {
-        Ok(request) => {
-            let whole = relabelled(listed, &request, &before);
-            whole == after && values_in(listed, &request, before) == after
-        }
-        Err(_) => false,
-    }
+    relabelled(listed, request, before) == *after && values_in(listed, request, *before) == *after
 }
 
 /// A text, and the values of the first two slots before and after what it asks.
-type Row = (&'static str, [LabelValue; 2], [LabelValue; 2]);
+type Row = (&'static str, [Value; 2], [Value; 2]);
 
-fn wants_relabels(rt: &impl Abort, listed: &SpecList, rows: &[Row]) {
+/// The text of the first relabel that isn't so, or none.
+fn wrong_relabel(listed: &SpecList, rows: &[Row]) -> Option<&'static str> {
     for (text, before, after) in rows {
-        wants(rt, text, becomes(listed, text, before, after));
+        let becomes = match read_request(text) {
+            Ok(request) => becomes(listed, &request, &labelled(before), &labelled(after)),
+            Err(_) => false,
+        };
+        if !becomes {
+            return Some(text);
+        }
     }
+    None
 }
 
 /// Relabels of values of Biba and of mac_partition: what isn't asked stays, and an unset value is set.
-fn relabel_partitions(
-    rt: &impl Abort,
+const PARTITIONS: &[Row] = &[
+    (
+        "biba/7",
+        [Ranged(10, 5, 20), Number(3)],
+        [Ranged(7, 5, 20), Number(3)],
+    ),
+    (
+        "biba/(6-18)",
+        [Ranged(10, 5, 20), Number(3)],
+        [Ranged(10, 6, 18), Number(3)],
+    ),
+    (
+        "biba/7(6-18),partition/7",
+        [Ranged(10, 5, 20), Number(3)],
+        [Ranged(7, 6, 18), Number(7)],
+    ),
+    (
+        "partition/none",
+        [Ranged(10, 5, 20), Number(3)],
+        [Ranged(10, 5, 20), Number(3)],
+    ),
+    (
+        "mls/7(6-18)",
+        [Ranged(10, 5, 20), Number(3)],
+        [Ranged(10, 5, 20), Number(3)],
+    ),
+    ("partition/none", [Unset, Unset], [Unset, Unset]),
+    ("partition/7", [Unset, Unset], [Unset, Number(7)]),
+    ("biba/7", [Unset, Unset], [Alone(7), Unset]),
+    ("mls/7", [Unset, Unset], [Unset, Unset]),
+];
+
+/// Relabels of values of Biba and of LOMAC, which has an element alone.
+const ELEMENTS: &[Row] = &[
+    (
+        "lomac/7",
+        [Ranged(10, 5, 20), Alone(9)],
+        [Ranged(10, 5, 20), Alone(7)],
+    ),
+    (
+        "lomac/7",
+        [Ranged(10, 5, 20), Unset],
+        [Ranged(10, 5, 20), Alone(7)],
+    ),
+    (
+        "biba/7,partition/3",
+        [Ranged(10, 5, 20), Alone(9)],
+        [Ranged(7, 5, 20), Alone(9)],
+    ),
+    (
+        "lomac/7,biba/6",
+        [Ranged(10, 5, 20), Alone(9)],
+        [Ranged(6, 5, 20), Alone(7)],
+    ),
+];
+
+/// Whether the claims are so where Biba is listed alone, and these and the relabels where another module is listed too.
+fn are_relabelled(
     alloc: Global,
     specs: &mut SpecList,
-) -> Result<(), AllocError> {
-    list_both(alloc, specs, Module::Partition)?;
-    let (unset, three, seven) = (
-        LabelValue::Unset,
-        LabelValue::Number(3),
-        LabelValue::Number(7),
-    );
-    let both = [ranged(10, 5, 20), three];
-    let rows = [
-        ("biba/7", both, [ranged(7, 5, 20), three]),
-        ("biba/(6-18)", both, [ranged(10, 6, 18), three]),
-        ("biba/7(6-18),partition/7", both, [ranged(7, 6, 18), seven]),
-        ("partition/none", both, both),
-        ("mls/7(6-18)", both, both),
-        ("partition/none", [unset, unset], [unset, unset]),
-        ("partition/7", [unset, unset], [unset, seven]),
-        ("biba/7", [unset, unset], [alone(7), unset]),
-        ("mls/7", [unset, unset], [unset, unset]),
-    ];
-    wants_relabels(rt, specs, &rows);
-    Ok(())
+    other: Module,
+    claims: &[Claim],
+    relabels: &[Row],
+) -> bool {
+    let is_first = list(alloc, specs, Module::Biba, Some(0)).is_ok();
+    let is_alone = wrong_claim(specs, CLAIMS_OF_BIBA).is_none();
+    let is_second = list(alloc, specs, other, Some(1)).is_ok();
+    let are_claimed = wrong_claim(specs, claims).is_none();
+    is_first && is_alone && is_second && are_claimed && wrong_relabel(specs, relabels).is_none()
+}
+
+/// The same from an empty list on.
+fn are_relabelled_beside(alloc: Global, other: Module, claims: &[Claim], relabels: &[Row]) -> bool {
+    are_relabelled(alloc, &mut SpecList::new(alloc), other, claims, relabels)
 }
 
 #[test]
-fn what_is_not_asked_stays(rt: HostRuntime) -> Result<(), AllocError> {
-    let mut specs = SpecList::new(rt.alloc());
-    relabel_partitions(&rt, rt.alloc(), &mut specs)
-}
-
-/// Relabels of values of Biba and of LOMAC.
-fn relabel_elements(
-    rt: &impl Abort,
-    alloc: Global,
-    specs: &mut SpecList,
-) -> Result<(), AllocError> {
-    list_both(alloc, specs, Module::Lomac)?;
-    let (biba, nine) = (ranged(10, 5, 20), alone(9));
-    let rows = [
-        ("lomac/7", [biba, nine], [biba, alone(7)]),
-        ("lomac/7", [biba, LabelValue::Unset], [biba, alone(7)]),
-        ("biba/7,partition/3", [biba, nine], [ranged(7, 5, 20), nine]),
-        ("lomac/7,biba/6", [biba, nine], [ranged(6, 5, 20), alone(7)]),
-    ];
-    wants_relabels(rt, specs, &rows);
-    Ok(())
-}
-
-#[test]
-fn lomac_has_an_element_alone(rt: HostRuntime) -> Result<(), AllocError> {
-    let mut specs = SpecList::new(rt.alloc());
-    relabel_elements(&rt, rt.alloc(), &mut specs)
+fn claims_and_relabels(rt: HostRuntime) {
+    let partition = are_relabelled_beside(rt.alloc(), Module::Partition, CLAIMS, PARTITIONS);
+    wants(&rt, "biba and partition", partition);
+    let lomac = are_relabelled_beside(rt.alloc(), Module::Lomac, CLAIMS_OF_LOMAC, ELEMENTS);
+    wants(&rt, "biba and lomac", lomac);
 }

@@ -1,8 +1,8 @@
 //! The settings that have a name, and what their values ask for.
 
 use crate::asked::wants;
-use crate::ports::{Acl, See, acl, see};
-use Asked::{FirstMatch, Nothing, Ports, Revocation, Sights};
+use crate::settings::Asked::{self, FirstMatch, Ports, Revocation, Sights};
+use crate::settings::{Acl, See, acl, see};
 use mf_errno::Module;
 use mf_policy::Sysctl::{
     self, AutoportExempt, FirstmatchEnabled, PortHigh, PrimarygroupEnabled, RevocationEnabled,
@@ -10,7 +10,6 @@ use mf_policy::Sysctl::{
 };
 use mf_policy::{Change, Registration, Spec, SpecList};
 use std::alloc::{AllocError, Global};
-use std::process::Abort;
 
 /// The names of mac_biba(4), mac_bsdextended(4), mac_seeotheruids(4) and mac_portacl(4), with their modules; the first is a
 /// tunable.
@@ -68,59 +67,57 @@ fn is_named(sysctl: Sysctl, name: &str, owner: Module) -> bool {
         && sysctl.is_tunable() == is_tunable
 }
 
-#[test]
-fn names_of_settings(rt: HostRuntime) {
+fn names_of_settings() -> bool {
+    let mut holds = true;
     for (name, sysctl, owner) in NAMES {
-        wants(&rt, name, is_named(*sysctl, name, *owner));
+        holds &= is_named(*sysctl, name, *owner);
     }
-    let none = Sysctl::from_name("security.mac.portacl.enabled");
-    wants(&rt, "security.mac.portacl.enabled", none.is_none());
-}
-
-/// What a value asks for: nothing, revocation or first match so, or these settings of mac_seeotheruids or of mac_portacl.
-enum Asked {
-    Nothing,
-    Revocation(bool),
-    FirstMatch(bool),
-    Sights(See),
-    Ports(Acl),
+    holds && Sysctl::from_name("security.mac.portacl.enabled").is_none()
 }
 
 /// Values of settings, each with what it asks for where mac_seeotheruids and mac_portacl have `SEE` and `ACL`: the other
 /// settings stay.
-const VALUES: &[(Sysctl, &str, Asked)] = &[
-    (RevocationEnabled, "1", Revocation(true)),
-    (RevocationEnabled, "2", Nothing),
-    (FirstmatchEnabled, "0", FirstMatch(false)),
-    (FirstmatchEnabled, "1", FirstMatch(true)),
-    (FirstmatchEnabled, "x", Nothing),
-    (PrimarygroupEnabled, "0", Sights((false, false, 7, false))),
-    (PrimarygroupEnabled, "1", Sights(SEE)),
-    (PrimarygroupEnabled, "2", Nothing),
-    (SpecificgidEnabled, "1", Sights((true, true, 7, false))),
-    (SpecificgidEnabled, "x", Nothing),
-    (Specificgid, "0", Sights((true, false, 0, false))),
-    (Specificgid, "4294967295", Sights(LAST)),
-    (Specificgid, "4294967296", Nothing),
-    (Specificgid, "x", Nothing),
-    (Specificgid, "", Nothing),
-    (SuserPrivileged, "1", Sights((true, false, 7, true))),
-    (SuserPrivileged, "2", Nothing),
-    (PortHigh, "0", Ports((WWW, 0, false, true))),
-    (PortHigh, "65535", Ports((WWW, 65_535, false, true))),
-    (PortHigh, "65536", Nothing),
-    (PortHigh, "x", Nothing),
-    (SuserExempt, "1", Ports((WWW, 99, true, true))),
-    (SuserExempt, "2", Nothing),
-    (SuserExempt, "x", Nothing),
-    (AutoportExempt, "0", Ports((WWW, 99, false, false))),
-    (AutoportExempt, "1", Ports(ACL)),
-    (AutoportExempt, "2", Nothing),
-    (Rules, "", Ports(("", 99, false, true))),
-    (Rules, DOMAIN, Ports((DOMAIN, 99, false, true))),
-    (Rules, WWW, Ports(ACL)),
-    (Rules, "uid:80:tcp:http", Nothing),
-    (Rules, "x", Nothing),
+const VALUES: &[(Sysctl, &str, Option<Asked>)] = &[
+    (RevocationEnabled, "1", Some(Revocation(true))),
+    (RevocationEnabled, "2", None),
+    (FirstmatchEnabled, "0", Some(FirstMatch(false))),
+    (FirstmatchEnabled, "1", Some(FirstMatch(true))),
+    (FirstmatchEnabled, "x", None),
+    (
+        PrimarygroupEnabled,
+        "0",
+        Some(Sights((false, false, 7, false))),
+    ),
+    (PrimarygroupEnabled, "1", Some(Sights(SEE))),
+    (PrimarygroupEnabled, "2", None),
+    (
+        SpecificgidEnabled,
+        "1",
+        Some(Sights((true, true, 7, false))),
+    ),
+    (SpecificgidEnabled, "x", None),
+    (Specificgid, "0", Some(Sights((true, false, 0, false)))),
+    (Specificgid, "4294967295", Some(Sights(LAST))),
+    (Specificgid, "4294967296", None),
+    (Specificgid, "x", None),
+    (Specificgid, "", None),
+    (SuserPrivileged, "1", Some(Sights((true, false, 7, true)))),
+    (SuserPrivileged, "2", None),
+    (PortHigh, "0", Some(Ports((WWW, 0, false, true)))),
+    (PortHigh, "65535", Some(Ports((WWW, 65_535, false, true)))),
+    (PortHigh, "65536", None),
+    (PortHigh, "x", None),
+    (SuserExempt, "1", Some(Ports((WWW, 99, true, true)))),
+    (SuserExempt, "2", None),
+    (SuserExempt, "x", None),
+    (AutoportExempt, "0", Some(Ports((WWW, 99, false, false)))),
+    (AutoportExempt, "1", Some(Ports(ACL))),
+    (AutoportExempt, "2", None),
+    (Rules, "", Some(Ports(("", 99, false, true)))),
+    (Rules, DOMAIN, Some(Ports((DOMAIN, 99, false, true)))),
+    (Rules, WWW, Some(Ports(ACL))),
+    (Rules, "uid:80:tcp:http", None),
+    (Rules, "x", None),
 ];
 
 const WWW: &str = "uid:80:tcp:80";
@@ -134,32 +131,22 @@ const LAST: See = (true, false, 4_294_967_295, false);
 
 const ACL: Acl = (WWW, 99, false, true);
 
-/// Whether the spec is mac_seeotheruids with these settings.
-fn is_see(found: &Spec, wanted: See) -> bool {
-    found.same(&see(wanted))
-}
-
-/// Whether the spec is mac_portacl with these settings.
-fn is_acl(rt: &impl Abort, found: &Spec, wanted: Acl) -> bool {
-    found.same(&acl(rt, wanted))
-}
-
 /// Whether this is what was asked for.
-fn is_change(rt: &impl Abort, found: &Change, wanted: &Asked) -> bool {
+fn is_change(found: &Change, wanted: &Asked) -> bool {
     match (found, wanted) {
         (Change::Revocation(found), Revocation(wanted)) => *found == *wanted,
         (Change::FirstMatch(found), FirstMatch(wanted)) => *found == *wanted,
-        (Change::See(found), Sights(wanted)) => is_see(found, *wanted),
-        (Change::Port(found), Ports(wanted)) => is_acl(rt, found, *wanted),
+        (Change::See(found), Sights(wanted)) => found.same(&see(*wanted)),
+        (Change::Port(found), Ports(wanted)) => found.same(&acl(*wanted)),
         _ => false,
     }
 }
 
 /// Whether the value asks for that where these policies are listed.
-fn asks(rt: &impl Abort, list: &SpecList, sysctl: Sysctl, value: &str, wanted: &Asked) -> bool {
+fn asks(list: &SpecList, sysctl: Sysctl, value: &str, wanted: Option<&Asked>) -> bool {
     match (&sysctl.asked_of(list, value), wanted) {
-        (None, Nothing) => true,
-        (Some(found), _) => is_change(rt, found, wanted),
+        (None, None) => true,
+        (Some(found), Some(wanted)) => is_change(found, wanted),
         _ => false,
     }
 }
@@ -175,7 +162,7 @@ fn list(specs: &mut SpecList, module: Module, spec: Spec) -> Result<(), AllocErr
 }
 
 /// Lists the modules that have such settings, each with one of these specs.
-fn list_all(rt: &impl Abort, alloc: Global, specs: &mut SpecList) -> Result<(), AllocError> {
+fn list_all(alloc: Global, specs: &mut SpecList) -> Result<(), AllocError> {
     list(specs, Module::Biba, Spec::fresh(alloc, Module::Biba)?)?;
     list(
         specs,
@@ -183,28 +170,32 @@ fn list_all(rt: &impl Abort, alloc: Global, specs: &mut SpecList) -> Result<(), 
         Spec::fresh(alloc, Module::Bsdextended)?,
     )?;
     list(specs, Module::Seeotheruids, see(SEE))?;
-    list(specs, Module::Portacl, acl(rt, ACL))
+    list(specs, Module::Portacl, acl(ACL))
 }
 
-/// Wants each value to ask for that where the modules are listed, and else for nothing.
-fn wants_values(rt: &impl Abort, specs: &SpecList, are_listed: bool) {
+/// The first value that doesn't ask for that where the modules are listed, or that asks for something where they aren't.
+fn wrong_value(specs: &SpecList, are_listed: bool) -> Option<Sysctl> {
     for (sysctl, value, asked) in VALUES {
-        let wanted = if are_listed { asked } else { &Nothing };
-        let asks = asks(rt, specs, *sysctl, value, wanted);
-        wants(rt, sysctl.name(), asks);
+        let wanted = if are_listed { asked.as_ref() } else { None };
+        if !asks(specs, *sysctl, value, wanted) {
+            return Some(*sysctl);
+        }
     }
+    None
 }
 
-/// Before the modules are listed, and then.
-fn ask_all(rt: &impl Abort, alloc: Global, specs: &mut SpecList) -> Result<(), AllocError> {
-    wants_values(rt, specs, false);
-    list_all(rt, alloc, specs)?;
-    wants_values(rt, specs, true);
-    Ok(())
+/// Whether all ask so before the modules are listed, and then.
+fn all_ask(alloc: Global, specs: &mut SpecList) -> bool {
+    let is_nothing = wrong_value(specs, false).is_none();
+    is_nothing && list_all(alloc, specs).is_ok() && wrong_value(specs, true).is_none()
+}
+
+fn values_of_settings(alloc: Global) -> bool {
+    all_ask(alloc, &mut SpecList::new(alloc))
 }
 
 #[test]
-fn values_of_settings(rt: HostRuntime) -> Result<(), AllocError> {
-    let mut specs = SpecList::new(rt.alloc());
-    ask_all(&rt, rt.alloc(), &mut specs)
+fn names_and_values_of_settings(rt: HostRuntime) {
+    wants(&rt, "names", names_of_settings());
+    wants(&rt, "values", values_of_settings(rt.alloc()));
 }

@@ -1,0 +1,58 @@
+//! Settings of modules, as rows have them, and the changes that ask for them.
+ghost use Rattle.mf_policy.specs.IsChange.{IsChange};
+
+use mf_cred::ArrayVec;
+use mf_policy::{Change, Spec};
+use mf_rule::read_ports;
+
+/// The settings `primarygroup_enabled`, `specificgid_enabled`, `specificgid` and `suser_privileged` of mac_seeotheruids.
+pub type See = (bool, bool, u32, bool);
+
+/// The settings `rules`, `port_high`, `suser_exempt` and `autoport_exempt` of mac_portacl.
+pub type Acl = (&'static str, u32, bool, bool);
+
+/// What a change asks for: revocation or first match so, or these settings of mac_seeotheruids or of mac_portacl.
+pub enum Asked {
+    Revocation(bool),
+    FirstMatch(bool),
+    Sights(See),
+    Ports(Acl),
+}
+
+/// mac_seeotheruids with these settings.
+pub fn see(settings: See) -> Spec {
+    let (primarygroup, specific, gid, suser) = settings;
+    Spec::Seeotheruids {
+        primarygroup,
+        specific,
+        gid,
+        suser,
+    }
+}
+
+/// mac_portacl with these settings; a text that is no rules counts as none.
+pub fn acl(settings: Acl) -> Spec {
+    let (rules, port_high, suser, autoport) = settings;
+    let rules = match read_ports(rules) {
+        Some(rules) => rules,
+        None => ArrayVec::new(),
+    };
+    Spec::Portacl {
+        rules,
+        port_high,
+        suser,
+        autoport,
+    }
+}
+
+/// The change that asks for that.
+pub fn change_of(asked: &Asked) -> Change
+    ensures { IsChange result }
+{
+    match asked {
+        Asked::Revocation(revocation) => Change::Revocation(*revocation),
+        Asked::FirstMatch(first_match) => Change::FirstMatch(*first_match),
+        Asked::Sights(settings) => Change::See(see(*settings)),
+        Asked::Ports(settings) => Change::Port(acl(*settings)),
+    }
+}
