@@ -1,7 +1,6 @@
 //! The check of a binding: one of t, which is root's, or of its child c, which isn't, on t's socket a.
 
 use crate::plans::plan_of_text;
-use crate::population::state_of;
 use crate::scripts::wants;
 use mf_item::{CheckOp, Item, ObjectView};
 use mf_objects::{Id, Objects};
@@ -43,16 +42,11 @@ fn binds(objects: &Objects, plan: &Plan, name: &str, port: (bool, u16)) -> bool 
     }
 }
 
-fn are_bindings(rt: &impl Abort, alloc: Global, state: &State) -> Result<(), AllocError> {
+/// Each call asks for its port.
+pub fn are_bindings(rt: &impl Abort, alloc: Global, state: &State) -> Result<(), AllocError> {
     for (text, name, tcp, port) in BINDINGS {
         let plan = plan_of_text(rt, alloc, state, text)?;
         wants(rt, text, binds(&state.objects, &plan, name, (*tcp, *port)));
     }
     Ok(())
-}
-
-#[test]
-fn a_binding_asks_for_its_port(rt: HostRuntime) -> Result<(), AllocError> {
-    let state = state_of(&rt, rt.alloc())?;
-    are_bindings(&rt, rt.alloc(), &state)
 }

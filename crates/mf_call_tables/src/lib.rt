@@ -8,6 +8,8 @@ mod calls;
 #[cfg(test)]
 mod lomac;
 #[cfg(test)]
+mod machine;
+#[cfg(test)]
 mod open_files;
 #[cfg(test)]
 mod plans;

@@ -1,28 +1,15 @@
 //! Calls of t where mac_lomac is listed. There is nothing but the root and the process t, which are high.
 
-use crate::calls::{Machine, add_process, labelled, run, with_module};
+use crate::calls::run;
+use crate::machine::{Machine, add_process, beside, labelled, machine_with, with_module};
 use crate::scripts::wants;
 use mf_elem::{Comps, Elem};
 use mf_errno::Module;
-use mf_list::{Catalogue, Fixed, PolicyList};
 use mf_lomac::Lomac;
 use mf_objects::Objects;
-use mf_plan::State;
 use mf_policy::Spec;
-use mf_slots::SlotNumbers;
 use std::alloc::{AllocError, Global};
 use std::process::Abort;
-
-/// The static list with LOMAC, and a dynamic one with nothing.
-#[tactic(auto, using(mf_list::proofs::Counts::once_if_distinct))]
-fn lists_of_lomac(alloc: Global) -> Result<(Fixed<Lomac>, PolicyList<Lomac>), AllocError> {
-    let mut fixed = Fixed::new(alloc)?;
-    let mut list = PolicyList::new(alloc)?;
-    let mut catalogue = Catalogue::new(vec![in alloc; Lomac::new()]?)?;
-    let mut numbers = SlotNumbers::new();
-    let _booted = list.boot(&mut fixed, &mut catalogue, &mut numbers, "mac_lomac");
-    Ok((fixed, list))
-}
 
 /// The root and the process t.
 fn population(rt: &impl Abort, alloc: Global) -> Result<Objects, AllocError> {
@@ -33,76 +20,64 @@ fn population(rt: &impl Abort, alloc: Global) -> Result<Objects, AllocError> {
 }
 
 fn booted(rt: &impl Abort, alloc: Global) -> Result<Machine<Lomac>, AllocError> {
-    let mut numbers = SlotNumbers::new();
-    let _number = numbers.take();
-    let state = State {
-        objects: population(rt, alloc)?,
-        specs: with_module(alloc, Module::Lomac, Spec::Lomac)?,
-        numbers,
-        booted: true,
-    };
-    let (fixed, list) = lists_of_lomac(alloc)?;
-    Ok(Machine { state, fixed, list })
+    let specs = with_module(alloc, Module::Lomac, Spec::Lomac)?;
+    let (specs, objects) = beside(specs, population(rt, alloc))?;
+    machine_with(alloc, objects, specs, Lomac::new(), "mac_lomac")
 }
 
 /// Who lowers himself writes nothing high any more, and doesn't rise again.
-const LOWERED: &[(&str, &str)] = &[
-    ("create /hi", "ok"),
-    ("write /hi x", "ok"),
-    ("setpmac lomac/5", "ok"),
-    ("write /hi x", "EACCES vnode_open_write 2"),
-    ("read /hi", "ok"),
-    ("setpmac lomac/high", "EPERM cred_relabel 1"),
-    ("setpmac biba/5", "EINVAL"),
-    ("setpmac lomac/4", "ok"),
-    ("getpmac", "ok"),
-];
+const LOWERED: &str = "create /hi -> ok
+write /hi x -> ok
+setpmac lomac/5 -> ok
+write /hi x -> EACCES vnode_open_write 2
+read /hi -> ok
+setpmac lomac/high -> EPERM cred_relabel 1
+setpmac biba/5 -> EINVAL
+setpmac lomac/4 -> ok
+getpmac -> ok
+";
 
 /// Nor does who is lowered by what he reads.
-const READS_DOWN: &[(&str, &str)] = &[
-    ("create /hi", "ok"),
-    ("create /lo", "ok"),
-    ("setfmac lomac/5 /lo", "ok"),
-    ("read /lo", "ok"),
-    ("write /hi x", "EACCES vnode_open_write 2"),
-    ("setpmac lomac/high", "EPERM cred_relabel 1"),
-    ("getpmac", "ok"),
-];
+const READS_DOWN: &str = "create /hi -> ok
+create /lo -> ok
+setfmac lomac/5 /lo -> ok
+read /lo -> ok
+write /hi x -> EACCES vnode_open_write 2
+setpmac lomac/high -> EPERM cred_relabel 1
+getpmac -> ok
+";
 
 /// A check finds the caller as those before it have lowered it, and so it stays where the call is denied.
-const DENIED: &[(&str, &str)] = &[
-    ("mkdir /d", "ok"),
-    ("create /d/f", "ok"),
-    ("setfmac lomac/6 /d", "ok"),
-    ("write /d/f x", "EACCES vnode_open_write 3"),
-];
+const DENIED: &str = "mkdir /d -> ok
+create /d/f -> ok
+setfmac lomac/6 /d -> ok
+write /d/f x -> EACCES vnode_open_write 3
+";
 
 /// And where it is refused; what the process makes then has the lowered element.
-const REFUSED: &[(&str, &str)] = &[
-    ("mkdir /d", "ok"),
-    ("setfmac lomac/3 /d", "ok"),
-    ("read /d/none", "ENOENT"),
-    ("pipe p", "ok"),
-    ("fork c", "ok"),
-    ("@c pwrite p x", "ok"),
-    ("@c setpmac lomac/4", "EPERM cred_relabel 1"),
-];
+const REFUSED: &str = "mkdir /d -> ok
+setfmac lomac/3 /d -> ok
+read /d/none -> ENOENT
+pipe p -> ok
+fork c -> ok
+@c pwrite p x -> ok
+@c setpmac lomac/4 -> EPERM cred_relabel 1
+";
 
 /// By what is read through an open file too; and what is written through one is tested each time.
-const OPEN: &[(&str, &str)] = &[
-    ("create /lo", "ok"),
-    ("create /hi", "ok"),
-    ("open /lo r", "ok fd 0"),
-    ("open /hi w", "ok fd 1"),
-    ("setfmac lomac/2 /lo", "ok"),
-    ("fwrite 1 x", "ok"),
-    ("fread 0", "ok"),
-    ("fwrite 1 x", "EACCES vnode_write 1"),
-    ("open /lo rw", "ok fd 2"),
-];
+const OPEN: &str = "create /lo -> ok
+create /hi -> ok
+open /lo r -> ok fd 0
+open /hi w -> ok fd 1
+setfmac lomac/2 /lo -> ok
+fwrite 1 x -> ok
+fread 0 -> ok
+fwrite 1 x -> EACCES vnode_write 1
+open /lo rw -> ok fd 2
+";
 
 /// Calls, and the grade to which they lower t.
-const CALLS: &[(&[(&str, &str)], u16)] = &[
+const CALLS: &[(&str, u16)] = &[
     (LOWERED, 4),
     (READS_DOWN, 5),
     (DENIED, 6),
@@ -110,20 +85,19 @@ const CALLS: &[(&[(&str, &str)], u16)] = &[
     (OPEN, 2),
 ];
 
+fn has_grade(objects: &Objects, grade: u16) -> bool {
+    let label = labelled(Elem::Grade(grade, Comps::empty()), None);
+    match objects.process("t") {
+        Some(t) => objects.label(t) == label,
+        None => false,
+    }
+}
+
 /// Whether t has this grade after the calls.
-fn sinks_to(
-    rt: &impl Abort,
-    alloc: Global,
-    calls: &[(&str, &str)],
-    grade: u16,
-) -> Result<bool, AllocError> {
+fn sinks_to(rt: &impl Abort, alloc: Global, calls: &str, grade: u16) -> Result<bool, AllocError> {
     let mut machine = booted(rt, alloc)?;
     run(rt, alloc, &mut machine, calls)?;
-    let label = labelled(Elem::Grade(grade, Comps::empty()), None);
-    Ok(match machine.state.objects.process("t") {
-        Some(t) => machine.state.objects.label(t) == label,
-        None => false,
-    })
+    Ok(has_grade(&machine.state.objects, grade))
 }
 
 #[test]

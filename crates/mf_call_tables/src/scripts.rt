@@ -12,17 +12,23 @@ pub fn wants(rt: &impl Abort, name: &str, holds: bool) {
     assert!(rt; holds, "{name}");
 }
 
+fn read(rt: &impl Abort, alloc: Global, text: &str) -> Result<Script, AllocError>
+    ensures { IfOk result (λ script. IsWellFormed script) }
+{
+    assert!(rt; text.len() <= SCRIPT_LIMIT);
+    match read_script(alloc, text.as_bytes()) {
+        Ok(script) => Ok(script),
+        Err(ScriptError::Memory) => Err(AllocError),
+        Err(ScriptError::Fault { .. }) => panic!(rt; "no script: {text}"),
+    }
+}
+
 /// Reads the script in which this line is all that the task t does.
 pub fn script_of(rt: &impl Abort, alloc: Global, line: &str) -> Result<Script, AllocError>
     ensures { IfOk result (λ script. IsWellFormed script) }
 {
     let text = format!(in alloc; "task t uid 0 gid 0 label -\n{line}\nend\n")?;
-    assert!(rt; text.len() <= SCRIPT_LIMIT);
-    match read_script(alloc, text.as_bytes()) {
-        Ok(script) => Ok(script),
-        Err(ScriptError::Memory) => Err(AllocError),
-        Err(ScriptError::Fault { .. }) => panic!(rt; "no line of a script: {line}"),
-    }
+    read(rt, alloc, text.as_str())
 }
 
 /// The name of the script's one task, and its one line.

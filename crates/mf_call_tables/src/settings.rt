@@ -13,91 +13,61 @@ use mf_policy::{Spec, SpecList, registration_of};
 use std::alloc::{AllocError, Global};
 use std::process::Abort;
 
-/// Each setting with a value, by its name behind `security.mac.`, and how root's call ends that gives it that.
-const ENDS: &[(&str, &str)] = &[
-    ("biba.revocation_enabled=1", "EPERM"),
-    ("biba.revocation_enabled=2", "EPERM"),
-    ("bsdextended.firstmatch_enabled=1", "ok"),
-    ("bsdextended.firstmatch_enabled=2", "EINVAL"),
-    ("seeotheruids.primarygroup_enabled=1", "ok"),
-    ("seeotheruids.primarygroup_enabled=2", "EINVAL"),
-    ("seeotheruids.specificgid_enabled=x", "EINVAL"),
-    ("seeotheruids.specificgid=4294967295", "ok"),
-    ("seeotheruids.specificgid=4294967296", "EINVAL"),
-    ("seeotheruids.suser_privileged=01", "EINVAL"),
-    ("seeotheruids.enabled=1", "ENOENT"),
-    ("portacl.port_high=65535", "ok"),
-    ("portacl.port_high=65536", "EINVAL"),
-    ("portacl.suser_exempt=-1", "EINVAL"),
-    ("portacl.autoport_exempt=", "EINVAL"),
-    ("portacl.rules=", "ok"),
-    ("portacl.rules=uid:80:tcp:80", "ok"),
-    ("portacl.rules=uid:80:tcp", "EINVAL"),
-    ("portacl.rules=80", "EINVAL"),
-    ("portacl.enabled=1", "ENOENT"),
-    ("portacl=1", "ENOENT"),
-];
+/// Root's call that gives a setting a value, and how it ends.
+const ENDS: &str = "sysctl security.mac.biba.revocation_enabled=1 -> EPERM
+sysctl security.mac.biba.revocation_enabled=2 -> EPERM
+sysctl security.mac.bsdextended.firstmatch_enabled=1 -> ok
+sysctl security.mac.bsdextended.firstmatch_enabled=2 -> EINVAL
+sysctl security.mac.seeotheruids.primarygroup_enabled=1 -> ok
+sysctl security.mac.seeotheruids.primarygroup_enabled=2 -> EINVAL
+sysctl security.mac.seeotheruids.specificgid_enabled=x -> EINVAL
+sysctl security.mac.seeotheruids.specificgid=4294967295 -> ok
+sysctl security.mac.seeotheruids.specificgid=4294967296 -> EINVAL
+sysctl security.mac.seeotheruids.suser_privileged=01 -> EINVAL
+sysctl security.mac.seeotheruids.enabled=1 -> ENOENT
+sysctl security.mac.portacl.port_high=65535 -> ok
+sysctl security.mac.portacl.port_high=65536 -> EINVAL
+sysctl security.mac.portacl.suser_exempt=-1 -> EINVAL
+sysctl security.mac.portacl.autoport_exempt= -> EINVAL
+sysctl security.mac.portacl.rules= -> ok
+sysctl security.mac.portacl.rules=uid:80:tcp:80 -> ok
+sysctl security.mac.portacl.rules=uid:80:tcp -> EINVAL
+sysctl security.mac.portacl.rules=80 -> EINVAL
+sysctl security.mac.portacl.enabled=1 -> ENOENT
+sysctl security.mac.portacl=1 -> ENOENT
+";
 
 /// The same where no policy is listed.
-const UNLISTED: &[(&str, &str)] = &[
-    ("biba.revocation_enabled=1", "ENOENT"),
-    ("bsdextended.firstmatch_enabled=1", "ENOENT"),
-    ("seeotheruids.suser_privileged=1", "ENOENT"),
-    ("seeotheruids.specificgid=x", "ENOENT"),
-    ("portacl.rules=uid:80:tcp:80", "ENOENT"),
-];
+const UNLISTED: &str = "sysctl security.mac.biba.revocation_enabled=1 -> ENOENT
+sysctl security.mac.bsdextended.firstmatch_enabled=1 -> ENOENT
+sysctl security.mac.seeotheruids.suser_privileged=1 -> ENOENT
+sysctl security.mac.seeotheruids.specificgid=x -> ENOENT
+sysctl security.mac.portacl.rules=uid:80:tcp:80 -> ENOENT
+";
 
 /// Calls of others than root.
-const OTHERS: &[(&str, &str)] = &[
-    ("@c sysctl security.mac.portacl.port_high=80", "EPERM"),
-    ("@c sysctl security.mac.portacl.port_high=x", "EPERM"),
-    ("@c sysctl security.mac.portacl.enabled=1", "EPERM"),
-    ("@d sysctl security.mac.portacl.port_high=80", "ESRCH"),
-];
+const OTHERS: &str = "@c sysctl security.mac.portacl.port_high=80 -> EPERM
+@c sysctl security.mac.portacl.port_high=x -> EPERM
+@c sysctl security.mac.portacl.enabled=1 -> EPERM
+@d sysctl security.mac.portacl.port_high=80 -> ESRCH
+";
 
-/// Each setting with a value, and the settings after root's call that gives it that: those of mac_bsdextended, mac_seeotheruids and mac_portacl.
-const AFTER: &[(&str, &str)] = &[
-    (
-        "bsdextended.firstmatch_enabled=0",
-        "false, false false 0 true, 1023 true true",
-    ),
-    (
-        "seeotheruids.primarygroup_enabled=1",
-        "true, true false 0 true, 1023 true true",
-    ),
-    (
-        "seeotheruids.specificgid_enabled=1",
-        "true, false true 0 true, 1023 true true",
-    ),
-    (
-        "seeotheruids.specificgid=7",
-        "true, false false 7 true, 1023 true true",
-    ),
-    (
-        "seeotheruids.suser_privileged=0",
-        "true, false false 0 false, 1023 true true",
-    ),
-    (
-        "portacl.port_high=80",
-        "true, false false 0 true, 80 true true",
-    ),
-    (
-        "portacl.suser_exempt=0",
-        "true, false false 0 true, 1023 false true",
-    ),
-    (
-        "portacl.autoport_exempt=0",
-        "true, false false 0 true, 1023 true false",
-    ),
-    (
-        "portacl.rules=uid:80:tcp:81,gid:82:udp:0",
-        "true, false false 0 true, 1023 true true, false 80 true 81, true 82 false 0",
-    ),
-    ("portacl.rules=", "true, false false 0 true, 1023 true true"),
-    ("portacl.port_high=x", "no change"),
-    ("portacl.enabled=1", "no change"),
-    ("biba.revocation_enabled=1", "no change"),
-];
+/// Root's call that gives a setting a value, and the settings after it: those of mac_bsdextended, mac_seeotheruids and mac_portacl.
+const AFTER: &str =
+    "sysctl security.mac.bsdextended.firstmatch_enabled=0 -> false, false false 0 true, 1023 true true
+sysctl security.mac.seeotheruids.primarygroup_enabled=1 -> true, true false 0 true, 1023 true true
+sysctl security.mac.seeotheruids.specificgid_enabled=1 -> true, false true 0 true, 1023 true true
+sysctl security.mac.seeotheruids.specificgid=7 -> true, false false 7 true, 1023 true true
+sysctl security.mac.seeotheruids.suser_privileged=0 -> true, false false 0 false, 1023 true true
+sysctl security.mac.portacl.port_high=80 -> true, false false 0 true, 80 true true
+sysctl security.mac.portacl.suser_exempt=0 -> true, false false 0 true, 1023 false true
+sysctl security.mac.portacl.autoport_exempt=0 -> true, false false 0 true, 1023 true false
+sysctl security.mac.portacl.rules=uid:80:tcp:81,gid:82:udp:0 -> true, false false 0 true, 1023 true true, false 80 true 81, true 82 false 0
+sysctl security.mac.portacl.rules= -> true, false false 0 true, 1023 true true
+sysctl security.mac.portacl.port_high=x -> no change
+sysctl security.mac.portacl.enabled=1 -> no change
+sysctl security.mac.biba.revocation_enabled=1 -> no change
+";
 
 /// Lists a module in its initial state.
 fn list_fresh(alloc: Global, specs: &mut SpecList, module: Module) -> Result<(), AllocError> {
@@ -105,44 +75,58 @@ fn list_fresh(alloc: Global, specs: &mut SpecList, module: Module) -> Result<(),
     specs.list(registration_of(module, false, 0), fresh)
 }
 
+/// The modules that have settings.
+const MODULES: &[Module] = &[
+    Module::Biba,
+    Module::Bsdextended,
+    Module::Seeotheruids,
+    Module::Portacl,
+];
+
+fn list_all(alloc: Global, specs: &mut SpecList) -> Result<(), AllocError> {
+    for module in MODULES {
+        list_fresh(alloc, specs, *module)?;
+    }
+    Ok(())
+}
+
 fn with_policies(rt: &impl Abort, alloc: Global) -> Result<State, AllocError> {
     let mut state = state_of(rt, alloc)?;
-    list_fresh(alloc, &mut state.specs, Module::Biba)?;
-    list_fresh(alloc, &mut state.specs, Module::Bsdextended)?;
-    list_fresh(alloc, &mut state.specs, Module::Seeotheruids)?;
-    list_fresh(alloc, &mut state.specs, Module::Portacl)?;
+    list_all(alloc, &mut state.specs)?;
     Ok(state)
 }
 
-/// The values of a spec's settings.
-fn spelled_of(alloc: Global, spec: &Spec) -> Result<String, AllocError> {
+/// Adds the values of a spec's settings.
+fn spell(text: &mut String, spec: &Spec) -> Result<(), AllocError> {
     match spec {
-        Spec::Bsdextended { first_match, .. } => format!(in alloc; "{first_match}"),
+        Spec::Bsdextended { first_match, .. } => write!(text, "{first_match}"),
         Spec::Seeotheruids {
             primarygroup,
             specific,
             gid,
             suser,
-        } => format!(in alloc; ", {primarygroup} {specific} {gid} {suser}"),
+        } => write!(text, ", {primarygroup} {specific} {gid} {suser}"),
         Spec::Portacl {
+            rules,
             port_high,
             suser,
             autoport,
-            ..
-        } => format!(in alloc; ", {port_high} {suser} {autoport}"),
-        _ => String::from_str(alloc, ""),
+        } => {
+            write!(text, ", {port_high} {suser} {autoport}")?;
+            for rule in rules.as_slice() {
+                let (group, id, tcp, port) = (rule.group, rule.id, rule.tcp, rule.port);
+                write!(text, ", {group} {id} {tcp} {port}")?;
+            }
+            Ok(())
+        }
+        _ => Ok(()),
     }
 }
 
-/// Adds them to a text, and then the rules about ports.
-fn spell(alloc: Global, text: &mut String, spec: &Spec) -> Result<(), AllocError> {
-    let settings = spelled_of(alloc, spec)?;
-    text.push_str(settings.as_str())?;
-    if let Spec::Portacl { rules, .. } = spec {
-        for rule in rules.as_slice() {
-            let (group, id, tcp, port) = (rule.group, rule.id, rule.tcp, rule.port);
-            let rule = format!(in alloc; ", {group} {id} {tcp} {port}")?;
-            text.push_str(rule.as_str())?;
+fn spell_all(text: &mut String, specs: &SpecList) -> Result<(), AllocError> {
+    for module in MODULES {
+        if let Some(spec) = specs.spec_of(*module) {
+            spell(text, spec)?;
         }
     }
     Ok(())
@@ -151,11 +135,7 @@ fn spell(alloc: Global, text: &mut String, spec: &Spec) -> Result<(), AllocError
 /// The settings of the policies.
 fn spelled(alloc: Global, specs: &SpecList) -> Result<String, AllocError> {
     let mut text = String::new(alloc);
-    for module in [Module::Bsdextended, Module::Seeotheruids, Module::Portacl] {
-        if let Some(spec) = specs.spec_of(module) {
-            spell(alloc, &mut text, spec)?;
-        }
-    }
+    spell_all(&mut text, specs)?;
     Ok(text)
 }
 
@@ -172,62 +152,53 @@ fn after_line(alloc: Global, state: &State, line: &Line) -> Result<String, Alloc
     }
 }
 
-/// The call that gives a setting a value.
-fn sysctl(alloc: Global, setting: &str) -> Result<String, AllocError> {
-    format!(in alloc; "sysctl security.mac.{setting}")
-}
-
-/// The settings after root's call that gives a setting a value.
+/// The settings after the call that is written as a script's line.
 fn after_text(
     rt: &impl Abort,
     alloc: Global,
     state: &State,
-    setting: &str,
+    text: &str,
 ) -> Result<String, AllocError> {
-    let text = sysctl(alloc, setting)?;
-    let script = script_of(rt, alloc, text.as_str())?;
+    let script = script_of(rt, alloc, text)?;
     let (_task, line) = only_line(rt, &script);
     after_line(alloc, state, line)
 }
 
-fn are_changed(rt: &impl Abort, alloc: Global, state: &State) -> Result<(), AllocError> {
-    for (setting, wanted) in AFTER {
-        let found = after_text(rt, alloc, state, setting)?;
-        wants(rt, setting, found.as_str() == *wanted);
-    }
-    Ok(())
-}
-
-/// Root's call that gives each setting its value ends so.
-fn end(
+fn is_changed(
     rt: &impl Abort,
     alloc: Global,
     state: &State,
-    rows: &[(&str, &str)],
+    text: &str,
+    wanted: &str,
 ) -> Result<(), AllocError> {
-    for (setting, wanted) in rows {
-        let text = sysctl(alloc, setting)?;
-        are_planned(rt, alloc, state, &[(text.as_str(), *wanted)])?;
+    let found = after_text(rt, alloc, state, text)?;
+    wants(rt, text, found.as_str() == wanted);
+    Ok(())
+}
+
+/// Each call changes the settings so.
+fn are_changed(rt: &impl Abort, alloc: Global, state: &State) -> Result<(), AllocError> {
+    for row in AFTER.lines() {
+        match row.split_once(" -> ") {
+            Some((text, wanted)) => is_changed(rt, alloc, state, text, wanted)?,
+            None => wants(rt, row, false),
+        }
     }
     Ok(())
 }
 
+/// The policies' settings are known, have such values, and are changed alone.
 #[test]
-fn a_setting_is_known_and_has_such_a_value(rt: HostRuntime) -> Result<(), AllocError> {
+fn settings_of_policies_that_are_listed(rt: HostRuntime) -> Result<(), AllocError> {
     let state = with_policies(&rt, rt.alloc())?;
-    end(&rt, rt.alloc(), &state, ENDS)?;
-    are_planned(&rt, rt.alloc(), &state, OTHERS)
+    are_planned(&rt, rt.alloc(), &state, ENDS)?;
+    are_planned(&rt, rt.alloc(), &state, OTHERS)?;
+    are_changed(&rt, rt.alloc(), &state)
 }
 
 #[test]
 fn a_policy_that_is_not_listed_has_no_setting(rt: HostRuntime) -> Result<(), AllocError> {
     let state = state_of(&rt, rt.alloc())?;
-    end(&rt, rt.alloc(), &state, UNLISTED)?;
+    are_planned(&rt, rt.alloc(), &state, UNLISTED)?;
     are_planned(&rt, rt.alloc(), &state, OTHERS)
-}
-
-#[test]
-fn a_setting_is_changed_alone(rt: HostRuntime) -> Result<(), AllocError> {
-    let state = with_policies(&rt, rt.alloc())?;
-    are_changed(&rt, rt.alloc(), &state)
 }

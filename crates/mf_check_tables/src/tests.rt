@@ -6,7 +6,6 @@ use mf_io::{MemSink, MemSource};
 use mf_top::run_check;
 use std::alloc::{AllocError, Global};
 use std::process::Abort;
-use std::test::Fail;
 
 /// A text that is judged for a script, and what must be told.
 #[derive(Clone, Copy)]
@@ -268,46 +267,45 @@ fn input_of(alloc: Global, row: &Row) -> Result<String, AllocError> {
     Ok(input)
 }
 
-/// Wants this status, and that this is told of the input.
-fn wants<R: Abort>(
-    rt: &R,
-    alloc: Global,
-    name: &str,
-    input: &str,
-    status: u8,
-    told: &str,
-) -> Result<(), AllocError> {
+fn source_of(alloc: Global, input: &str) -> Result<MemSource, AllocError> {
     let bytes = input.as_bytes().to_vec(alloc)?;
-    let mut source = MemSource::new(bytes, 65_536, Vec::new(alloc));
+    Ok(MemSource::new(bytes, 65_536, Vec::new(alloc)))
+}
+
+/// Whether the check of the input ends with this status, and tells this.
+fn is_told(alloc: Global, input: &str, status: u8, told: &str) -> Result<bool, AllocError> {
+    let mut source = source_of(alloc, input)?;
     let mut sink = MemSink::new(alloc, 1_000, 1_000, Vec::new(alloc))?;
     let ended = run_check(alloc, &mut source, &mut sink);
-    assert!(rt;
-        ended == status && sink.taken() == told.as_bytes(),
-        "{name}"
-    );
+    Ok(ended == status && sink.taken() == told.as_bytes())
+}
+
+/// Wants what is said of this to hold.
+fn wants(rt: &impl Abort, name: &str, holds: bool) {
+    assert!(rt; holds, "{name}");
+}
+
+/// Wants the row's text to be judged so.
+fn is_checked(rt: &impl Abort, alloc: Global, row: &Row) -> Result<(), AllocError> {
+    let input = input_of(alloc, row)?;
+    let is_told = is_told(alloc, input.as_str(), row.status, row.told)?;
+    wants(rt, row.name, is_told);
     Ok(())
 }
 
 #[test]
-fn texts_are_checked(rt: HostRuntime) -> Result<(), Fail> {
+fn texts_are_checked(rt: HostRuntime) -> Result<(), AllocError> {
     for row in ROWS {
-        let input = input_of(rt.alloc(), row)?;
-        wants(
-            &rt,
-            rt.alloc(),
-            row.name,
-            input.as_str(),
-            row.status,
-            row.told,
-        )?;
+        is_checked(&rt, rt.alloc(), row)?;
     }
     Ok(())
 }
 
 #[test]
-fn headers_are_read(rt: HostRuntime) -> Result<(), Fail> {
+fn headers_are_read(rt: HostRuntime) -> Result<(), AllocError> {
     for (input, status, told) in HEADERS {
-        wants(&rt, rt.alloc(), input, input, *status, told)?;
+        let is_told = is_told(rt.alloc(), input, *status, told)?;
+        wants(&rt, input, is_told);
     }
     Ok(())
 }
