@@ -6,13 +6,15 @@ ghost use Rattle.mf_core.specs.LegalHistory.{IsLegal};
 use mf_audit::{Audit, audit_history};
 use mf_calls::Script;
 use mf_chains::{Chain, ChainFault, ChainRow, Step, accepts, chains, print_chains};
-use mf_core::History;
+use mf_core::{History, Run};
 use mf_hist::read_history;
+use mf_matrix::{Matrix, Row, matrix_of};
 use mf_names::{Listing, SCRIPT_LIMIT};
 use mf_script::read_script;
 use std::alloc::{AllocError, Global};
 use std::process::Abort;
 use std::test::Fail;
+use std::thread::Threads;
 
 /// A process reads what is of higher integrity, and writes to a pipe that it makes.
 const HANDED_ON: &str =
@@ -141,5 +143,48 @@ fn a_step_through_another_check_is_no_step(rt: HostRuntime) -> Result<(), Fail> 
     let history = history_of(&rt, rt.alloc(), &script)?;
     let told = is_told_apart(&rt, rt.alloc(), &script, &history);
     assert!(rt; told.is_ok());
+    Ok(())
+}
+
+/// A process of high integrity, and a file of low.
+const DENIED: &str =
+    "boot mac_biba\nfile /a reg uid 0 gid 0 mode 644 label biba/low text hi\ntask t uid 0 gid 0 label biba/high\nread /a\nend\n";
+
+/// What the process may do to the root, to the file and to itself: of the file it may write alone.
+const PASSED: &[[bool; 4]] = &[
+    [true, true, true, true],
+    [false, true, false, false],
+    [true, true, true, true],
+];
+
+/// The matrix at the end of boot.
+fn matrix_at_boot<R: Threads + Sync>(
+    rt: &R,
+    alloc: Global,
+    script: &Script,
+) -> Result<Matrix, AllocError>
+    requires { IsWellFormed script.now }
+{
+    let run = Run::new(alloc, script)?;
+    matrix_of(rt, alloc, run.state())
+}
+
+fn have_passed(rows: &[Row], wanted: &[[bool; 4]]) -> bool {
+    if rows.len() != wanted.len() {
+        return false;
+    }
+    for (row, passed) in rows.iter().zip(wanted) {
+        if row.passed != *passed {
+            return false;
+        }
+    }
+    true
+}
+
+#[test]
+fn a_matrix_has_what_passes(rt: HostRuntime) -> Result<(), AllocError> {
+    let script = script_of(&rt, rt.alloc(), DENIED)?;
+    let matrix = matrix_at_boot(&rt, rt.alloc(), &script)?;
+    assert!(rt; have_passed(matrix.as_slice(), PASSED));
     Ok(())
 }
