@@ -28,7 +28,6 @@ use std::marker::Brand;
 use std::process::Abort;
 use std::sync::Wait;
 use std::sync::ledger::{Blank, Ledger};
-use std::test::Fail;
 
 /// What is done with a script's tasks.
 #[derive(Clone, Copy)]
@@ -140,14 +139,91 @@ fn over_modules<R: Wait + Abort>(
     )
 }
 
+fn read(rt: &impl Abort, alloc: Global, text: &str) -> Result<Script, AllocError>
+    ensures { IfOk result (λ script. IsWellFormed script) }
+{
+    assert!(rt; text.len() <= SCRIPT_LIMIT);
+    match read_script(alloc, text.as_bytes()) {
+        Ok(script) => Ok(script),
+        Err(_) => Err(AllocError),
+    }
+}
+
 /// The history over the modules that are built in of a script that is read.
-pub fn history_over_modules<R: Wait + Abort>(
+fn history_over_modules<R: Wait + Abort>(
     rt: &R,
     alloc: Global,
     script: &str,
     scenario: Scenario,
-) -> Result<String, Fail> {
-    assert!(rt; script.len() <= SCRIPT_LIMIT);
-    let script = read_script(alloc, script.as_bytes())?;
-    Ok(over_modules(rt, alloc, &script, scenario)?)
+) -> Result<String, AllocError> {
+    let script = read(rt, alloc, script)?;
+    over_modules(rt, alloc, &script, scenario)
+}
+
+/// What is done with a script's tasks, and the history of that.
+type Row = (Scenario, &'static str, &'static str);
+
+const HISTORIES: &[Row] = &[
+    (
+        Scenario::ChangedDuringACall,
+        kernel::RELABELLED,
+        kernel::DENIED_BY_THE_NEW_LABEL,
+    ),
+    (
+        Scenario::ChangedDuringACall,
+        kernel::SUNK,
+        kernel::ALLOWED_BY_THE_LOWER_LABEL,
+    ),
+    (
+        Scenario::ChangedDuringACall,
+        kernel::UNLINKED,
+        kernel::NO_FILE_IS_OPENED,
+    ),
+    (
+        Scenario::ChangeDuringEntry,
+        steps::UNLOADED_DURING_A_READ,
+        steps::UNLOADED_AFTER_THE_READ,
+    ),
+];
+
+/// A script of one task, and the replies to its lines.
+const REPLIES: &[(&str, &str)] = &[
+    (growths::GROWING, growths::REPLIES),
+    (growths::LOWERING, growths::LOWERED),
+    (growths::OPENING, growths::OPENED),
+];
+
+fn wants_history<R: Wait + Abort>(rt: &R, alloc: Global, row: &Row) -> Result<(), AllocError> {
+    let (scenario, script, wanted) = *row;
+    let history = history_over_modules(rt, alloc, script, scenario)?;
+    wants(rt, script, history.as_str() == wanted);
+    Ok(())
+}
+
+fn wants_replies<R: Wait + Abort>(
+    rt: &R,
+    alloc: Global,
+    script: &str,
+    replies: &str,
+) -> Result<(), AllocError> {
+    let history = history_over_modules(rt, alloc, script, Scenario::Growths)?;
+    let has_replies = growths::has_replies(history.as_str(), replies);
+    wants(rt, script, has_replies);
+    Ok(())
+}
+
+#[test]
+fn calls_and_changes_that_meet(rt: HostRuntime) -> Result<(), AllocError> {
+    for row in HISTORIES {
+        wants_history(&rt, rt.alloc(), row)?;
+    }
+    Ok(())
+}
+
+#[test]
+fn a_core_after_refused_growths(rt: HostRuntime) -> Result<(), AllocError> {
+    for (script, replies) in REPLIES {
+        wants_replies(&rt, rt.alloc(), script, replies)?;
+    }
+    Ok(())
 }

@@ -9,7 +9,7 @@ ghost use Rattle.mf_core.specs.AllModules.{AreAllModules};
 ghost use Rattle.mf_core.specs.CoreView.{specs_of};
 ghost use Rattle.mf_core.specs.Policies.{AreOf};
 
-use crate::tests::{Scenario, history_over_modules, history_text, wants};
+use crate::tests::{history_text, wants};
 use mf_calls::Script;
 use mf_core::{ChangeOutcome, Commit, Core, Turn};
 use mf_list::{Catalogue, Fixed, Listed, PolicyList};
@@ -17,12 +17,10 @@ use mf_plan::Plan;
 use mf_policy::Policy;
 use std::alloc::{AllocError, Global};
 use std::process::Abort;
-use std::sync::Wait;
-use std::test::Fail;
 
 /// The lines of a task that take memory: for an entity, for what it holds or hands back, for a
 /// label, or for a policy.
-const GROWING: &str = "boot mac_biba
+pub const GROWING: &str = "boot mac_biba
 boot mac_lomac
 file /f reg uid 0 gid 0 mode 644 label - text hi
 task t uid 0 gid 0 label biba/equal
@@ -57,36 +55,35 @@ end
 /// More than the task has lines.
 const MANY: u32 = 100;
 
-const REPLIES: &[&str] = &[
-    "done t 1 ok",
-    "done t 2 ok",
-    "done t 3 ok",
-    "done t 4 ok",
-    "done t 5 ok",
-    "done t 6 ok",
-    "done t 7 ok",
-    "done t 8 ok",
-    "done t 9 ok",
-    "done t 10 ok bytes 1 =x",
-    "done t 11 ok names 3 d,f,g",
-    "done t 12 ok label biba/equal(low-high),lomac/high",
-    "changed t 13 ok slot 2",
-    "done t 14 ok",
-    "done t 15 ok",
-    "done t 16 ok",
-    "changed t 17 ok slot -",
-    "changed t 18 ok rule 0",
-    "done t 19 ok rules 1 ; 0 subject uid 5 object mode n",
-    "changed t 20 ok",
-    "changed t 21 ok slot -",
-    "changed t 22 ok",
-    "changed t 23 ok",
-    "done t 24 no EPERM socket_bind mac_portacl 1",
-    "done t 25 ok",
-];
+pub const REPLIES: &str = "done t 1 ok
+done t 2 ok
+done t 3 ok
+done t 4 ok
+done t 5 ok
+done t 6 ok
+done t 7 ok
+done t 8 ok
+done t 9 ok
+done t 10 ok bytes 1 =x
+done t 11 ok names 3 d,f,g
+done t 12 ok label biba/equal(low-high),lomac/high
+changed t 13 ok slot 2
+done t 14 ok
+done t 15 ok
+done t 16 ok
+changed t 17 ok slot -
+changed t 18 ok rule 0
+done t 19 ok rules 1 ; 0 subject uid 5 object mode n
+changed t 20 ok
+changed t 21 ok slot -
+changed t 22 ok
+changed t 23 ok
+done t 24 no EPERM socket_bind mac_portacl 1
+done t 25 ok
+";
 
 /// A process that gives up its element, and doesn't get it back.
-const LOWERING: &str = "boot mac_lomac
+pub const LOWERING: &str = "boot mac_lomac
 file /hi reg uid 0 gid 0 mode 644 label -
 task t uid 0 gid 0 label -
 write /hi x
@@ -97,16 +94,15 @@ getpmac
 end
 ";
 
-const LOWERED: &[&str] = &[
-    "done t 1 ok",
-    "done t 2 ok",
-    "done t 3 no EACCES vnode_open_write mac_lomac 2",
-    "done t 4 no EPERM cred_relabel mac_lomac 1",
-    "done t 5 ok label lomac/5",
-];
+pub const LOWERED: &str = "done t 1 ok
+done t 2 ok
+done t 3 no EACCES vnode_open_write mac_lomac 2
+done t 4 no EPERM cred_relabel mac_lomac 1
+done t 5 ok label lomac/5
+";
 
 /// A file that is read and written through descriptors, with revocation, and goes.
-const OPENING: &str = "boot mac_biba
+pub const OPENING: &str = "boot mac_biba
 tunable security.mac.biba.revocation_enabled=1
 file /f reg uid 0 gid 0 mode 644 label biba/high text hi
 task t uid 0 gid 0 label biba/high
@@ -123,18 +119,17 @@ fread 0
 end
 ";
 
-const OPENED: &[&str] = &[
-    "done t 1 ok fd 0",
-    "done t 2 ok fd 1",
-    "done t 3 ok",
-    "done t 4 ok",
-    "done t 5 no EACCES vnode_read mac_biba 1",
-    "done t 6 ok",
-    "done t 7 ok",
-    "done t 8 ok bytes 4 =hi!!",
-    "done t 9 ok",
-    "done t 10 no EBADF - -",
-];
+pub const OPENED: &str = "done t 1 ok fd 0
+done t 2 ok fd 1
+done t 3 ok
+done t 4 ok
+done t 5 no EACCES vnode_read mac_biba 1
+done t 6 ok
+done t 7 ok
+done t 8 ok bytes 4 =hi!!
+done t 9 ok
+done t 10 no EBADF - -
+";
 
 /// A core of a script with a task, with its policies.
 #[derive(Drop)]
@@ -304,43 +299,16 @@ pub fn history_over<P: Policy>(
     do_lines(rt, alloc, script, &mut machine)
 }
 
-/// Whether the replies in a history are these.
-fn has_replies(text: &str, replies: &[&str]) -> bool {
-    let mut place = 0;
+/// Whether the replies in a history are these lines.
+pub fn has_replies(text: &str, replies: &str) -> bool {
+    let mut wanted = replies.lines();
     for line in text.lines() {
         if line.starts_with("done ") || line.starts_with("changed ") {
-            match replies.get(place) {
-                Some(reply) if *reply == line => place = place.saturating_add(1),
+            match wanted.next() {
+                Some(reply) if reply == line => {}
                 _ => return false,
             }
         }
     }
-    place == replies.len()
-}
-
-/// Wants the task's lines of this script to be replied to so.
-fn wants_lines<R: Wait + Abort>(
-    rt: &R,
-    alloc: Global,
-    script: &str,
-    replies: &[&str],
-) -> Result<(), Fail> {
-    let history = history_over_modules(rt, alloc, script, Scenario::Growths)?;
-    wants(rt, script, has_replies(history.as_str(), replies));
-    Ok(())
-}
-
-#[test]
-fn a_core_after_refused_growths(rt: HostRuntime) -> Result<(), Fail> {
-    wants_lines(&rt, rt.alloc(), GROWING, REPLIES)
-}
-
-#[test]
-fn a_process_that_lowers_itself(rt: HostRuntime) -> Result<(), Fail> {
-    wants_lines(&rt, rt.alloc(), LOWERING, LOWERED)
-}
-
-#[test]
-fn a_file_that_stays_open(rt: HostRuntime) -> Result<(), Fail> {
-    wants_lines(&rt, rt.alloc(), OPENING, OPENED)
+    wanted.next().is_none()
 }

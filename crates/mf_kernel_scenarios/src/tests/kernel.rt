@@ -8,7 +8,7 @@ ghost use Rattle.mf_core.specs.AllModules.{AreAllModules};
 ghost use Rattle.mf_share.specs.Passes.{ticket_for};
 ghost use Rattle.mf_top.specs.Passes.{IsSameTicket};
 
-use crate::tests::{Scenario, history_over_modules, history_text, wants};
+use crate::tests::history_text;
 use mf_calls::Script;
 use mf_core::{Commit, Turn};
 use mf_list::Listed;
@@ -20,10 +20,9 @@ use std::alloc::{AllocError, Global};
 use std::process::Abort;
 use std::sync::Wait;
 use std::sync::ledger::{Blank, Ledger};
-use std::test::Fail;
 
 /// Two tasks, of which the second relabels the file that the first reads.
-const RELABELLED: &str = "boot mac_biba
+pub const RELABELLED: &str = "boot mac_biba
 file /f reg uid 0 gid 0 mode 644 label biba/high text hi
 task a uid 0 gid 0 label biba/high
 read /f
@@ -33,7 +32,7 @@ setfmac biba/low /f
 end
 ";
 
-const DENIED_BY_THE_NEW_LABEL: &str = "boot mac_biba 0
+pub const DENIED_BY_THE_NEW_LABEL: &str = "boot mac_biba 0
 enter a
 enter b
 done b 1 ok
@@ -43,7 +42,7 @@ leave a
 ";
 
 /// Two tasks, of which the second sinks, by what it reads, to where the first may debug it.
-const SUNK: &str = "boot mac_lomac
+pub const SUNK: &str = "boot mac_lomac
 file /f reg uid 0 gid 0 mode 644 label lomac/5 text hi
 task a uid 0 gid 0 label lomac/7
 debug b
@@ -53,7 +52,7 @@ read /f
 end
 ";
 
-const ALLOWED_BY_THE_LOWER_LABEL: &str = "boot mac_lomac 0
+pub const ALLOWED_BY_THE_LOWER_LABEL: &str = "boot mac_lomac 0
 enter a
 enter b
 done b 1 ok bytes 2 =hi
@@ -63,7 +62,7 @@ leave a
 ";
 
 /// Two tasks, of which the second takes away the file that the first opens.
-const UNLINKED: &str = "file /f reg uid 0 gid 0 mode 644 label - text hi
+pub const UNLINKED: &str = "file /f reg uid 0 gid 0 mode 644 label - text hi
 task a uid 0 gid 0 label -
 open /f r
 end
@@ -72,20 +71,13 @@ unlink /f
 end
 ";
 
-const NO_FILE_IS_OPENED: &str = "enter a
+pub const NO_FILE_IS_OPENED: &str = "enter a
 enter b
 done b 1 ok
 leave b
 done a 1 no ENOENT - -
 leave a
 ";
-
-/// Each script, and its history.
-const CHANGED_DURING_A_CALL: &[(&str, &str)] = &[
-    (RELABELLED, DENIED_BY_THE_NEW_LABEL),
-    (SUNK, ALLOWED_BY_THE_LOWER_LABEL),
-    (UNLINKED, NO_FILE_IS_OPENED),
-];
 
 /// The history of the two tasks: after the second one's call the view of the object in the first one's plan is out of date.
 pub fn changed_during_a_call<P: Policy, J: Job, B: Ledger, R: Wait + Abort>(
@@ -174,14 +166,4 @@ fn commit_twice<P: Policy, J: Job, B: Ledger, R: Wait>(
         Ok(Commit::Done) => Err(AllocError),
         Err(error) => Err(error),
     }
-}
-
-#[test]
-fn a_plan_goes_stale(rt: HostRuntime) -> Result<(), Fail> {
-    for (script, wanted) in CHANGED_DURING_A_CALL {
-        let scenario = Scenario::ChangedDuringACall;
-        let history = history_over_modules(&rt, rt.alloc(), script, scenario)?;
-        wants(&rt, script, history.as_str() == *wanted);
-    }
-    Ok(())
 }

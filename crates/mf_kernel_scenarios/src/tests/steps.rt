@@ -7,7 +7,7 @@ ghost use Rattle.mf_core.specs.Policies.{AreOf};
 ghost use Rattle.mf_core.specs.AllModules.{AreAllModules};
 ghost use Rattle.mf_core.specs.CoreView.{specs_of};
 
-use crate::tests::{Scenario, history_over_modules, history_text, wants};
+use crate::tests::{history_text, wants};
 use mf_calls::Script;
 use mf_core::{ChangeOutcome, Commit, Core, Turn};
 use mf_list::{Catalogue, Fixed, Listed, PolicyList};
@@ -15,9 +15,8 @@ use mf_plan::Plan;
 use mf_policy::Policy;
 use std::alloc::{AllocError, Global};
 use std::process::Abort;
-use std::test::Fail;
 
-const UNLOADED_DURING_A_READ: &str = "boot mac_partition
+pub const UNLOADED_DURING_A_READ: &str = "boot mac_partition
 file /f reg uid 0 gid 0 mode 644 label - text hi
 task a uid 0 gid 0 label -
 read /f
@@ -27,7 +26,7 @@ kldunload mac_partition
 end
 ";
 
-const UNLOADED_AFTER_THE_READ: &str = "boot mac_partition 0
+pub const UNLOADED_AFTER_THE_READ: &str = "boot mac_partition 0
 enter a
 done a 1 ok bytes 2 =hi
 leave a
@@ -129,13 +128,4 @@ pub fn change_during_entry<P: Policy, R: Abort>(
         &mut list,
         &mut catalogue,
     )
-}
-
-#[test]
-fn a_change_waits_while_an_entry_is_open(rt: HostRuntime) -> Result<(), Fail> {
-    let scenario = Scenario::ChangeDuringEntry;
-    let history = history_over_modules(&rt, rt.alloc(), UNLOADED_DURING_A_READ, scenario)?;
-    let is_later = history.as_str() == UNLOADED_AFTER_THE_READ;
-    wants(&rt, "a change", is_later);
-    Ok(())
 }
