@@ -1,4 +1,3 @@
-pub mod Bytes
 pub mod Canonical
 pub mod Commas
 pub mod FirstFault

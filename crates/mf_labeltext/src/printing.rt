@@ -4,7 +4,6 @@ ghost use Rattle.std.specs.Fmt.{decimal};
 ghost use Rattle.std.specs.List.{join_with_byte};
 ghost use Rattle.std.specs.Str.{byte};
 ghost use Rattle.mf_text.specs.Appending.{Extends};
-ghost use Rattle.mf_labeltext.specs.Bytes.{comma};
 ghost use Rattle.mf_errno.specs.Names.{policy_text};
 ghost use Rattle.mf_elem.specs.Comps.{rising};
 ghost use Rattle.mf_elem.specs.declared.label.LabelValue.TheVariants.{Number};
@@ -102,7 +101,7 @@ fn push_parts_of(
 /// The elements of one or more parts, with a comma between each two.
 fn push_elements(parts: &[(Module, LabelValue)], out: &mut String) -> Result<(), AllocError>
     ensures ok { OnOk result (string_bytes out.new
-        ≡ string_bytes out.old ++ join_with_byte comma (map element_text parts.now)) }
+        ≡ string_bytes out.old ++ join_with_byte (byte ",") (map element_text parts.now)) }
     ensures err { OnErr result (Extends (string_bytes out.old) (string_bytes out.new)) }
 {
     for (place, part) in parts.iter().enumerate() {

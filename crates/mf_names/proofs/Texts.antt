@@ -2,16 +2,16 @@
 use Rattle.std.proofs.Common.{◌≡◌, ◌≢◌, ℕ, ◌<◌, ◌==◌, Bool, true, false, not, List, [], ◌∷◌, ◌++◌, length, Option, Some, None, Bor, ne_eqb, refl, ap, sym, ◌∙◌, arith, length-append, append_assoc}
 use Rattle.std.specs.Prelude.{MatchOption, is_some}
 use Rattle.std.specs.Bool.{Decides}
-use Rattle.std.specs.Str.{bytes_eq}
+use Rattle.std.specs.Str.{bytes_eq, byte}
 use Rattle.std.proofs.lemmas.Slice.Eq.{bytes_eq-Decides}
 use Rattle.std.specs.List.{slice_split, join_with_byte}
 use Rattle.std.proofs.lemmas.List.Splits.{length-slice_split, slice_split_none, join_with_byte-slice_split}
 use Rattle.mf_names.specs.declared.limits.TheConstants.{PATH_LIMIT}
-use Rattle.mf_names.specs.Paths.{slash, is_slash, HasNoSlash, components_behind, components_in, BeginsWithSlash, IsPathText}
+use Rattle.mf_names.specs.Paths.{is_slash, HasNoSlash, components_behind, components_in, BeginsWithSlash, IsPathText}
 use Rattle.mf_names.proofs.Splits.{part_more}
 
 -- the text behind the first slash has the components
-pub behind_first : (text : List ℕ) (rest : Option (Bor (List ℕ))) → BeginsWithSlash text → MatchOption rest ((behind : List ℕ) → text ≢ slash ∷ behind) (λ behind. text ≡ slash ∷ behind.now)
+pub behind_first : (text : List ℕ) (rest : Option (Bor (List ℕ))) → BeginsWithSlash text → MatchOption rest ((behind : List ℕ) → text ≢ byte "/" ∷ behind) (λ behind. text ≡ byte "/" ∷ behind.now)
     → components_behind rest ≡ components_in text
 behind_first [] None begins h = refl
 behind_first [] (Some behind) begins h = cc
@@ -19,23 +19,23 @@ behind_first (b ∷ text) None begins h = absurd (h text (ap (λ (b : ℕ). b �
 behind_first (b ∷ text) (Some behind) begins h = let same : text ≡ behind.now = cc in ap (slice_split is_slash) (sym same)
 
 -- a text with one component more
-pub one_more : (text component : List ℕ) → HasNoSlash component → components_in (text ++ slash ∷ component) ≡ components_in text ++ component ∷ []
+pub one_more : (text component : List ℕ) → HasNoSlash component → components_in (text ++ byte "/" ∷ component) ≡ components_in text ++ component ∷ []
 one_more [] component none = slice_split_none is_slash component none
-one_more (b ∷ text) component none = part_more is_slash text slash component refl none
+one_more (b ∷ text) component none = part_more is_slash text (byte "/") component refl none
 
-begins_longer : (text component : List ℕ) → BeginsWithSlash text → BeginsWithSlash (text ++ slash ∷ component)
+begins_longer : (text component : List ℕ) → BeginsWithSlash text → BeginsWithSlash (text ++ byte "/" ∷ component)
 begins_longer [] component begins = refl
 begins_longer (b ∷ text) component begins = begins
 
-pub longer_text : (text component : List ℕ) → HasNoSlash component → length (components_in text) < PATH_LIMIT → IsPathText text → IsPathText (text ++ slash ∷ component)
+pub longer_text : (text component : List ℕ) → HasNoSlash component → length (components_in text) < PATH_LIMIT → IsPathText text → IsPathText (text ++ byte "/" ∷ component)
 longer_text text component none few is = record {
   begins = begins_longer text component is.begins;
   few = omega (arith, ap length (one_more text component none), length-append (components_in text) (component ∷ []), few);
 }
 
 -- what stands there when a slash and then a component were appended
-pub appended : (text opened longer component : List ℕ) → opened ≡ text ++ slash ∷ [] → longer ≡ opened ++ component → longer ≡ text ++ slash ∷ component
-appended text opened longer component first second = second ∙ ap (λ (front : List ℕ). front ++ component) first ∙ append_assoc text (slash ∷ []) component
+pub appended : (text opened longer component : List ℕ) → opened ≡ text ++ byte "/" ∷ [] → longer ≡ opened ++ component → longer ≡ text ++ byte "/" ∷ component
+appended text opened longer component first second = second ∙ ap (λ (front : List ℕ). front ++ component) first ∙ append_assoc text (byte "/" ∷ []) component
 
 -- Texts that are left
 
@@ -49,7 +49,7 @@ none_left (Some text) true e = cc
 none_left (Some text) false e = sym (ne_eqb (length (slice_split is_slash text.now)) 0 (λ e. omega (arith, some_parts text.now)))
 
 same_text : (text other : List ℕ) → slice_split is_slash text ≡ slice_split is_slash other → text ≡ other
-same_text text other e = sym (join_with_byte-slice_split slash text) ∙ ap (join_with_byte slash) e ∙ join_with_byte-slice_split slash other
+same_text text other e = sym (join_with_byte-slice_split (byte "/") text) ∙ ap (join_with_byte (byte "/")) e ∙ join_with_byte-slice_split (byte "/") other
 
 pub nothing_decides : (text : List ℕ) → Decides false (slice_split is_slash text ≡ [])
 nothing_decides text = (λ e. cc, λ e. absurd (omega (arith, ap length e, some_parts text)))

@@ -1,14 +1,12 @@
 -- The text that a path is kept as: each component behind a slash, and nothing for the root directory. This is the model's own.
 use Rattle.std.specs.Prelude.{◌≡◌, ℕ, ◌≤◌, ◌==◌, Bool, false, List, [], ◌∷◌, length, Option, Some, None, All}
 use Rattle.std.specs.List.{slice_split}
+use Rattle.std.specs.Str.{byte}
 use Rattle.mf_names.specs.declared.limits.TheConstants.{PATH_LIMIT}
 use denote.Ref.{Bor}
 
-abbrev pub slash : ℕ
-slash = 47
-
 abbrev pub is_slash : ℕ → Bool
-is_slash b = b == slash
+is_slash b = b == byte "/"
 
 -- a text that can be a component
 abbrev pub HasNoSlash : List ℕ → Type 0
@@ -27,7 +25,7 @@ components_in (b ∷ text) = slice_split is_slash text
 -- no text, or a slash and more
 abbrev pub BeginsWithSlash : List ℕ → Type 0
 BeginsWithSlash [] = Unit {0}
-BeginsWithSlash (b ∷ text) = b ≡ slash
+BeginsWithSlash (b ∷ text) = b ≡ byte "/"
 
 -- the text of a path
 pub record IsPathText (text : List ℕ) : Type 0 where

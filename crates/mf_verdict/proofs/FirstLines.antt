@@ -2,8 +2,8 @@
 use Rattle.std.proofs.Common.{◌≡◌, ℕ, zero, suc, ◌-◌, ◌≤◌, Bool, true, false, ◌==◌, if◌then◌else◌, List, [], ◌∷◌, take, refl, ap, sym, ◌∙◌, arith}
 use Rattle.std.proofs.lemmas.List.{take-take}
 use Rattle.std.specs.List.{concat, onto_first}
+use Rattle.std.specs.Str.{byte}
 use Rattle.mf_calls.specs.declared.script.Script.{Script}
-use Rattle.mf_words.specs.Words.{newline}
 use Rattle.mf_verdict.specs.Pieces.{pieces}
 use Rattle.mf_verdict.specs.Verdict.{IsFirstWrong, TextBegins}
 
@@ -16,13 +16,13 @@ take_none (suc n) (line ∷ lines) is = absurd (cc)
 pub front_pieces : (n : ℕ) (text : List ℕ) → pieces (concat (take n (pieces text))) ≡ take n (pieces text)
 front_pieces zero text = refl
 front_pieces (suc n) [] = refl
-front_pieces (suc n) (b ∷ bs) = by_test (b == newline) refl (front_pieces n bs) (front_pieces (suc n) bs) where
-  by_lines : (lines : List (List ℕ)) → (b == newline) ≡ false → pieces (concat (take (suc n) lines)) ≡ take (suc n) lines
+front_pieces (suc n) (b ∷ bs) = by_test (b == byte "\n") refl (front_pieces n bs) (front_pieces (suc n) bs) where
+  by_lines : (lines : List (List ℕ)) → (b == byte "\n") ≡ false → pieces (concat (take (suc n) lines)) ≡ take (suc n) lines
       → pieces (concat (take (suc n) (onto_first b lines))) ≡ take (suc n) (onto_first b lines)
   by_lines [] other more = rw (take_none n [] refl) (rw other refl)
   by_lines (line ∷ lines) other more = rw other (ap (onto_first b) more)
 
-  by_test : (t : Bool) → (b == newline) ≡ t → pieces (concat (take n (pieces bs))) ≡ take n (pieces bs)
+  by_test : (t : Bool) → (b == byte "\n") ≡ t → pieces (concat (take n (pieces bs))) ≡ take n (pieces bs)
       → pieces (concat (take (suc n) (pieces bs))) ≡ take (suc n) (pieces bs)
       → pieces (concat (take (suc n) (if t then (b ∷ []) ∷ pieces bs else onto_first b (pieces bs)))) ≡ take (suc n) (if t then (b ∷ []) ∷ pieces bs else onto_first b (pieces bs))
   by_test true is fewer more = rw is (ap (λ (lines : List (List ℕ)). (b ∷ []) ∷ lines) fewer)

@@ -3,10 +3,10 @@ use Rattle.std.proofs.Common.{◌≡◌, ◌⊎◌, ℕ, zero, suc, ◌+◌, Lis
 use Rattle.std.proofs.lemmas.List.{length-map}
 use Rattle.std.proofs.lemmas.List.Concat.{flat_map-append, flat_map-cons}
 use Rattle.std.specs.List.{AllByRecursion, concat, flat_map}
+use Rattle.std.specs.Str.{byte}
 use Rattle.mf_text.proofs.Unescaping.{escaped_stands}
 use Rattle.mf_policy.specs.declared.registration.Registration.{Registration}
 use Rattle.mf_calls.specs.declared.script.Script.{Script}
-use Rattle.mf_words.specs.Words.{newline}
 use Rattle.mf_core.specs.declared.history.Event.{Event}
 use Rattle.mf_core.specs.declared.history.History.{History}
 use Rattle.mf_hist.specs.Found.{Lacks}
@@ -38,8 +38,8 @@ IsEntryRead s (inr e) = IsEvent s e
 
 pub record IsLine (text : List ℕ) : Type 0 where
   pub front : List ℕ
-  pub lacks : Lacks newline front
-  pub is : text ≡ front ++ newline ∷ []
+  pub lacks : Lacks (byte "\n") front
+  pub is : text ≡ front ++ byte "\n" ∷ []
 
 spoken_line : (text first : List ℕ) (more : List (List ℕ)) → Spoken text first more → IsLine text
 spoken_line text first more spoken = record {

@@ -6,17 +6,17 @@ use Rattle.std.proofs.lemmas.Slice.Eq.{bytes_eq-Decides}
 use Rattle.std.specs.Char.{digit_value}
 use Rattle.std.specs.Fmt.{decimal}
 use Rattle.std.specs.Str.Parse.{AllDigits}
-use Rattle.mf_words.specs.Words.{newline}
+use Rattle.std.specs.Str.{byte}
 use Rattle.mf_hist.specs.Found.{Lacks}
 
-digit_other : (c : ℕ) → digit_value c < 10 → c ≢ newline
+digit_other : (c : ℕ) → digit_value c < 10 → c ≢ byte "\n"
 digit_other c small = grind (arith, nat_tests)
 
-digits_lack : (text : List ℕ) → AllDigits 10 text → Lacks newline text
+digits_lack : (text : List ℕ) → AllDigits 10 text → Lacks (byte "\n") text
 digits_lack [] all = tt
 digits_lack (c ∷ cs) all = (digit_other c all.0, digits_lack cs all.1)
 
-pub decimal_lacks : (n : ℕ) → n < 2 ^ 64 → Lacks newline (decimal n)
+pub decimal_lacks : (n : ℕ) → n < 2 ^ 64 → Lacks (byte "\n") (decimal n)
 decimal_lacks n small = digits_lack (decimal n) (decimal_is_IsNumeral n small).0.1
 
 pub some_len : (line : List ℕ) → line ≢ [] → 0 < length line

@@ -3,7 +3,7 @@ use Rattle.std.proofs.Common.{◌≡◌, ◌≢◌, ℕ, suc, ◌≤◌, Bool, t
 use Rattle.std.proofs.lemmas.List.{drop_at}
 use Rattle.std.proofs.lemmas.List.Sums.{take_while-cons}
 use Rattle.std.specs.List.{concat, onto_first, take_while}
-use Rattle.mf_words.specs.Words.{newline}
+use Rattle.std.specs.Str.{byte}
 use Rattle.mf_verdict.specs.Pieces.{pieces, is_source, history_part, sources_part}
 use Rattle.mf_hist.specs.Found.{Lacks}
 use Rattle.mf_verdict.specs.Lines.{IsWholeLine, IsLastLine, IsFirstLine}
@@ -16,7 +16,7 @@ concat_onto b (line ∷ lines) = refl
 
 pub concat_pieces : (text : List ℕ) → concat (pieces text) ≡ text
 concat_pieces [] = refl
-concat_pieces (b ∷ bs) = by_test (b == newline) (concat_pieces bs) where
+concat_pieces (b ∷ bs) = by_test (b == byte "\n") (concat_pieces bs) where
   by_test : (t : Bool) → concat (pieces bs) ≡ bs → concat (if t then (b ∷ []) ∷ pieces bs else onto_first b (pieces bs)) ≡ b ∷ bs
   by_test true more = ap (λ (t : List ℕ). b ∷ t) more
   by_test false more = concat_onto b (pieces bs) ∙ ap (λ (t : List ℕ). b ∷ t) more
@@ -27,7 +27,7 @@ onto_few b (line ∷ lines) = omega arith
 
 pub few_pieces : (text : List ℕ) → length (pieces text) ≤ length text
 few_pieces [] = omega arith
-few_pieces (b ∷ bs) = by_test (b == newline) (few_pieces bs) (onto_few b (pieces bs)) where
+few_pieces (b ∷ bs) = by_test (b == byte "\n") (few_pieces bs) (onto_few b (pieces bs)) where
   by_test : (t : Bool) → length (pieces bs) ≤ length bs → length (onto_first b (pieces bs)) ≤ suc (length (pieces bs))
       → length (if t then (b ∷ []) ∷ pieces bs else onto_first b (pieces bs)) ≤ suc (length bs)
   by_test true few onto = omega (arith, few)
@@ -35,13 +35,13 @@ few_pieces (b ∷ bs) = by_test (b == newline) (few_pieces bs) (onto_few b (piec
 
 -- The first line
 
-pub whole_first : (front rest : List ℕ) → Lacks newline front → pieces ((front ++ newline ∷ []) ++ rest) ≡ (front ++ newline ∷ []) ∷ pieces rest
+pub whole_first : (front rest : List ℕ) → Lacks (byte "\n") front → pieces ((front ++ byte "\n" ∷ []) ++ rest) ≡ (front ++ byte "\n" ∷ []) ∷ pieces rest
 whole_first [] rest lacks = refl
-whole_first (b ∷ front) rest lacks = rw (ne_eqb b newline lacks.0) (ap (onto_first b) (whole_first front rest lacks.1))
+whole_first (b ∷ front) rest lacks = rw (ne_eqb b (byte "\n") lacks.0) (ap (onto_first b) (whole_first front rest lacks.1))
 
-last_first : (b : ℕ) (bs : List ℕ) → Lacks newline (b ∷ bs) → pieces (b ∷ bs) ≡ (b ∷ bs) ∷ []
-last_first b [] lacks = rw (ne_eqb b newline lacks.0) refl
-last_first b (c ∷ bs) lacks = rw (ne_eqb b newline lacks.0) (ap (onto_first b) (last_first c bs lacks.1))
+last_first : (b : ℕ) (bs : List ℕ) → Lacks (byte "\n") (b ∷ bs) → pieces (b ∷ bs) ≡ (b ∷ bs) ∷ []
+last_first b [] lacks = rw (ne_eqb b (byte "\n") lacks.0) refl
+last_first b (c ∷ bs) lacks = rw (ne_eqb b (byte "\n") lacks.0) (ap (onto_first b) (last_first c bs lacks.1))
 
 -- lines of which each has its newline: they stay apart from what is put behind them
 pub record AreWhole (front : List ℕ) : Type 0 where
@@ -50,10 +50,10 @@ pub record AreWhole (front : List ℕ) : Type 0 where
 pub whole_none : AreWhole []
 whole_none = record { apart = λ rest. refl }
 
-pub whole_one : (front : List ℕ) → Lacks newline front → pieces (front ++ newline ∷ []) ≡ (front ++ newline ∷ []) ∷ []
-whole_one front lacks = ap pieces (sym (append-nil (front ++ newline ∷ []))) ∙ whole_first front [] lacks
+pub whole_one : (front : List ℕ) → Lacks (byte "\n") front → pieces (front ++ byte "\n" ∷ []) ≡ (front ++ byte "\n" ∷ []) ∷ []
+whole_one front lacks = ap pieces (sym (append-nil (front ++ byte "\n" ∷ []))) ∙ whole_first front [] lacks
 
-pub whole_line : (front : List ℕ) → Lacks newline front → AreWhole (front ++ newline ∷ [])
+pub whole_line : (front : List ℕ) → Lacks (byte "\n") front → AreWhole (front ++ byte "\n" ∷ [])
 whole_line front lacks = record {
   apart = λ rest. whole_first front rest lacks ∙ ap (λ (lines : List (List ℕ)). lines ++ pieces rest) (sym (whole_one front lacks));
 }
@@ -74,7 +74,7 @@ pub record IsFirst (text line after : List ℕ) : Type 0 where
   pub some : line ≢ []
   pub whole : after ≢ [] → AreWhole line
 
-some_front : (front : List ℕ) → front ++ newline ∷ [] ≢ []
+some_front : (front : List ℕ) → front ++ byte "\n" ∷ [] ≢ []
 some_front [] e = cc
 some_front (b ∷ front) e = cc
 
@@ -87,11 +87,11 @@ first_whole text line after is = subst (λ (l : List ℕ). IsFirst text l after)
   whole = λ more. whole_line is.front is.lacks;
 })
 
-last_alone : (text : List ℕ) → text ≢ [] → Lacks newline text → pieces text ≡ text ∷ []
+last_alone : (text : List ℕ) → text ≢ [] → Lacks (byte "\n") text → pieces text ≡ text ∷ []
 last_alone [] some lacks = absurd (some refl)
 last_alone (b ∷ bs) some lacks = last_first b bs lacks
 
-first_all : (text : List ℕ) → text ≢ [] → Lacks newline text → IsFirst text text []
+first_all : (text : List ℕ) → text ≢ [] → Lacks (byte "\n") text → IsFirst text text []
 first_all text some lacks = record {
   parts = sym (append-nil text);
   lines = last_alone text some lacks;

@@ -2,7 +2,7 @@
 use Rattle.std.proofs.Common.{◌≡◌, ◌≢◌, ℕ, ◌+◌, ◌-◌, ◌≤◌, ◌<◌, List, [], ◌∷◌, ◌++◌, length, get_or, take, drop, refl, ap, sym, ◌∙◌, arith, append_assoc, append-nil, length-append, length-drop, take-append-drop, inl, inr}
 use Rattle.std.proofs.lemmas.List.{take_at, length-take-le, take_more, take_more_same, get_or-take, get_or-drop, drop-drop}
 use Rattle.std.specs.List.{concat}
-use Rattle.mf_words.specs.Words.{newline}
+use Rattle.std.specs.Str.{byte}
 use Rattle.mf_verdict.specs.Pieces.{pieces, IsFirstDifference}
 use Rattle.mf_hist.specs.Found.{Lacks}
 use Rattle.mf_verdict.specs.Lines.{IsFirstLine}
@@ -47,9 +47,9 @@ pub record IsNext (lines : List (List ℕ)) (n : ℕ) (line after : List ℕ) : 
 
 first_in : (left line after : List ℕ) → IsFirstLine left line after → (line ≡ get_or (pieces left) 0 []) × (pieces after ≡ drop 1 (pieces left))
 first_in [] line after (inl is) = absurd (nothing is.front line after is.with_newline is.parts) where
-  nothing : (front line after : List ℕ) → line ≡ front ++ newline ∷ [] → [] ≡ line ++ after → ⊥
+  nothing : (front line after : List ℕ) → line ≡ front ++ byte "\n" ∷ [] → [] ≡ line ++ after → ⊥
   nothing front [] after e parts = none front e where
-    none : (front : List ℕ) → [] ≡ front ++ newline ∷ [] → ⊥
+    none : (front : List ℕ) → [] ≡ front ++ byte "\n" ∷ [] → ⊥
     none [] e = cc
     none (b ∷ front) e = cc
   nothing front (b ∷ line) after e parts = cc
@@ -112,11 +112,11 @@ same_text text other n same none nothing =
     ∙ ap (λ (ls : List (List ℕ)). take n (pieces other) ++ ls) nothing ∙ take-append-drop n (pieces other)) ∙ concat_pieces other
 
 -- the first line that ends with its newline
-pub split_some : (text front after line rest : List ℕ) → text ≡ front ++ newline ∷ after → Lacks newline front → line ≡ take (length front + 1) text → text ≡ line ++ rest
+pub split_some : (text front after line rest : List ℕ) → text ≡ front ++ byte "\n" ∷ after → Lacks (byte "\n") front → line ≡ take (length front + 1) text → text ≡ line ++ rest
     → IsFirstLine text line rest
 split_some text front after line rest is lacks cut parts = inl (record {
   front = front;
   lacks = lacks;
-  with_newline = cut ∙ ap (take (length front + 1)) (is ∙ sym (append_assoc front (newline ∷ []) after)) ∙ take_at (front ++ newline ∷ []) after (length front + 1) (length-append front (newline ∷ []));
+  with_newline = cut ∙ ap (take (length front + 1)) (is ∙ sym (append_assoc front (byte "\n" ∷ []) after)) ∙ take_at (front ++ byte "\n" ∷ []) after (length front + 1) (length-append front (byte "\n" ∷ []));
   parts = parts;
 })

@@ -1,18 +1,18 @@
 -- What the readers of lines answer; inner contracts alone cite this.
 use Rattle.std.specs.Prelude.{◌≡◌, ◌⊎◌, ℕ, List, [], ◌∷◌, ◌++◌}
-use Rattle.mf_words.specs.Words.{newline}
+use Rattle.std.specs.Str.{byte}
 use Rattle.mf_hist.specs.Found.{Lacks}
 
 -- the line is the text up to the first newline, and with it
 pub record IsWholeLine (text line after : List ℕ) : Type 0 where
   pub front : List ℕ
-  pub lacks : Lacks newline front
-  pub with_newline : line ≡ front ++ newline ∷ []
+  pub lacks : Lacks (byte "\n") front
+  pub with_newline : line ≡ front ++ byte "\n" ∷ []
   pub parts : text ≡ line ++ after
 
 -- the text has no newline
 pub record IsLastLine (text line after : List ℕ) : Type 0 where
-  pub lacks : Lacks newline text
+  pub lacks : Lacks (byte "\n") text
   pub all : line ≡ text
   pub none : after ≡ []
 

@@ -1,12 +1,12 @@
 -- The lines of a text, and which of them are of a history and which of its sources.
 use Rattle.std.specs.Prelude.{◌≡◌, ◌≢◌, ℕ, ◌-◌, ◌<◌, Bool, not, ◌==◌, if◌then◌else◌, List, [], ◌∷◌, length, take, drop, codes}
 use Rattle.std.specs.List.{onto_first, starts_with, take_while}
-use Rattle.mf_words.specs.Words.{newline}
+use Rattle.std.specs.Str.{byte}
 
 -- each line with its newline, which the last one may lack
 abbrev pub pieces : List ℕ → List (List ℕ)
 pieces [] = []
-pieces (b ∷ bs) = if b == newline then (b ∷ []) ∷ pieces bs else onto_first b (pieces bs)
+pieces (b ∷ bs) = if b == byte "\n" then (b ∷ []) ∷ pieces bs else onto_first b (pieces bs)
 
 -- it begins as a line of the sources
 abbrev pub is_source : List ℕ → Bool

@@ -1,7 +1,7 @@
 //! The line in front of a script that is to be audited with a text.
+ghost use Rattle.std.specs.Str.{byte};
 ghost use Rattle.std.specs.Prelude.{◌≡◌, ◌≢◌, ℕ, ◌≤◌, List, ◌∷◌, ◌++◌, length, MatchOption};
 ghost use Rattle.std.specs.Fmt.{decimal};
-ghost use Rattle.mf_words.specs.Words.{newline};
 ghost use Rattle.mf_verdict.specs.Header.{IsCheckInput};
 
 use crate::lines::split_at_newline;
@@ -27,9 +27,9 @@ pub fn split_input(bytes: &[u8]) -> Option<(&[u8], &[u8])>
 /// The number whose digits are the first line, up to the greatest length of a script, and the text behind that line.
 fn split_number(text: &[u8]) -> Option<(usize, &[u8])>
     ensures { MatchOption result
-        ((n : ℕ) (rest : List ℕ) → n ≤ SCRIPT_LIMIT → text.now ≢ decimal n ++ newline ∷ rest)
+        ((n : ℕ) (rest : List ℕ) → n ≤ SCRIPT_LIMIT → text.now ≢ decimal n ++ byte "\n" ∷ rest)
         (λ found. (found.0 ≤ SCRIPT_LIMIT)
-        × (text.now ≡ decimal found.0 ++ newline ∷ found.1.now)) }
+        × (text.now ≡ decimal found.0 ++ byte "\n" ∷ found.1.now)) }
 {
     let (digits, rest) = split_at_newline(text)?;
     let number = number_of(digits)?;

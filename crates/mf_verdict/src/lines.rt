@@ -1,16 +1,16 @@
 //! The lines of a text.
+ghost use Rattle.std.specs.Str.{byte};
 ghost use Rattle.std.specs.Prelude.{◌≡◌, ◌<◌, ◌≤◌, ◌+◌, ◌-◌, ◌^◌, ◌∷◌, ◌++◌, length, take, MatchOption, IfSome};
 ghost use Rattle.std.specs.List.{concat};
-ghost use Rattle.mf_words.specs.Words.{newline};
 ghost use Rattle.mf_hist.specs.Found.{Lacks};
 ghost use Rattle.mf_verdict.specs.Pieces.{pieces, history_part, sources_part, IsFirstDifference};
 ghost use Rattle.mf_verdict.specs.Lines.{IsFirstLine};
 
 /// The text before the first newline, and the text behind it.
 pub(crate) fn split_at_newline(text: &[u8]) -> Option<(&[u8], &[u8])>
-    ensures { MatchOption result (Lacks newline text.now)
-        (λ halves. (text.now ≡ halves.0.now ++ newline ∷ halves.1.now)
-        × Lacks newline halves.0.now) }
+    ensures { MatchOption result (Lacks (byte "\n") text.now)
+        (λ halves. (text.now ≡ halves.0.now ++ byte "\n" ∷ halves.1.now)
+        × Lacks (byte "\n") halves.0.now) }
 {
     for (i, byte) in text.iter().enumerate() {
         if *byte == b'\n' {

@@ -1,7 +1,8 @@
 -- The first word and the first line.
 use Rattle.std.proofs.Common.{◌≡◌, ◌≢◌, ℕ, suc, ◌+◌, ◌≤◌, if◌then◌else◌, arith, length, Bool, true, false, not, ◌==◌, List, [], ◌∷◌, take, drop, refl, ap, sym, ◌∙◌, cond, add-one}
 use Rattle.std.specs.List.{onto_first}
-use Rattle.mf_words.specs.Words.{is_blank, newline, words_in, goes_on, lines_in}
+use Rattle.std.specs.Str.{byte}
+use Rattle.mf_words.specs.Words.{is_blank, words_in, goes_on, lines_in}
 use Rattle.mf_words.specs.Ends.{word_end, line_end}
 
 goes_on_word : (b : ℕ) (bs : List ℕ) → goes_on (b ∷ bs) ≡ true → is_blank b ≡ false
@@ -86,7 +87,7 @@ onto_few b (piece ∷ pieces) = omega arith
 
 pub few_lines : (bytes : List ℕ) → length (lines_in bytes) ≤ length bytes
 few_lines [] = omega arith
-few_lines (b ∷ bs) = by_test (b == newline) (few_lines bs) (onto_few b (lines_in bs)) where
+few_lines (b ∷ bs) = by_test (b == byte "\n") (few_lines bs) (onto_few b (lines_in bs)) where
   by_test : (t : Bool) → length (lines_in bs) ≤ length bs → length (onto_first b (lines_in bs)) ≤ suc (length (lines_in bs))
       → length (if t then [] ∷ lines_in bs else onto_first b (lines_in bs)) ≤ suc (length bs)
   by_test true few onto = omega (arith, few)

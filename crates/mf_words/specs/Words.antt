@@ -3,12 +3,6 @@ use Rattle.std.specs.List.{onto_first}
 use Rattle.std.specs.Str.{byte}
 use Rattle.std.specs.Prelude.{ℕ, Bool, false, not, ◌||◌, ◌==◌, if◌then◌else◌, List, [], ◌∷◌}
 
-abbrev pub newline : ℕ
-newline = 10
-
-abbrev pub space : ℕ
-space = 32
-
 abbrev pub is_blank : ℕ → Bool
 is_blank b = b == byte " " || b == byte "\t"
 

@@ -1,4 +1,4 @@
-use Rattle.mf_labeltext.specs.Bytes.{comma}
+use Rattle.std.specs.Str.{byte}
 use Rattle.mf_labeltext.specs.Reading.{parts}
 use Rattle.std.proofs.Common.{◌≡◌, [], length}
 use denote.Shadow.{shadow}
@@ -8,7 +8,7 @@ use Rattle.mf_rule.proofs.ports.read_listed.Given as goal
 
 abbrev pub invariant-loop-first : goal.invariant-loop-first
 invariant-loop-first l = record {
-  so_far : with_all l.rules (parts comma l.rest) ≡ with_all [] (parts comma l.text);
+  so_far : with_all l.rules (parts (byte ",") l.rest) ≡ with_all [] (parts (byte ",") l.text);
   text : shadow (Utf8 l.rest);
 }
 

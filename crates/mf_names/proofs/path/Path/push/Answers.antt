@@ -1,12 +1,12 @@
 use Rattle.std.proofs.Common.{◌≡◌, ◌++◌, ◌∷◌, [], arith}
 use Rattle.std.specs.Prelude.{string_bytes}
-use Rattle.mf_names.specs.Paths.{slash}
+use Rattle.std.specs.Str.{byte}
 use Rattle.mf_names.proofs.Texts.{appended, one_more, longer_text}
 use Rattle.mf_names.proofs.path.Path.push.Goals as goal
 
-text : (c : goal.In_ok-push_str) → string_bytes c.push_str.new.self ≡ string_bytes c.self.inside.text ++ slash ∷ c.args.component.now
+text : (c : goal.In_ok-push_str) → string_bytes c.push_str.new.self ≡ string_bytes c.self.inside.text ++ byte "/" ∷ c.args.component.now
 text c =
-    let opened : string_bytes c.push.new.self ≡ string_bytes c.self.inside.text ++ slash ∷ [] =
+    let opened : string_bytes c.push.new.self ≡ string_bytes c.self.inside.text ++ byte "/" ∷ [] =
     rw (← c.in_ok-reserve.ensures.bytes, ← c.in_ok-push.ensures.ascii (omega arith)) c.in_ok-push.ensures.bytes in
     appended (string_bytes c.self.inside.text) (string_bytes c.push.new.self) (string_bytes c.push_str.new.self) c.args.component.now opened c.in_ok-push_str.ensures.bytes
 
