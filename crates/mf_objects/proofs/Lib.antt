@@ -4,6 +4,7 @@ pub mod Zoned
 pub mod Relabelled
 pub mod Compared
 pub mod Rising
+pub mod Walking
 pub mod Finding
 pub mod Belonging
 pub mod Names

@@ -1,6 +1,7 @@
 //! Plans of calls: the checks that a call asks the policies for, in order, and how it ends where none is denied.
 #![tactic(auto)]
 
+mod asking;
 mod descriptors;
 mod files;
 mod found;

@@ -1,4 +1,4 @@
-use Rattle.mf_plan.proofs.planning.ask_on_socket.Goals as goal
+use Rattle.mf_plan.proofs.asking.ask_on_socket.Goals as goal
 
 pub returns-in-Setsockmac-clause-row : goal.returns-in-Setsockmac-clause-row
 returns-in-Setsockmac-clause-row c = rw c.in-Setsockmac.is c.relabel_named.ensures.row

@@ -4,7 +4,7 @@ use Rattle.mf_calls.specs.declared.script.Call.{Call}
 use Rattle.mf_calls.specs.declared.script.Call.TheVariants as call
 use Rattle.mf_plan.specs.declared.state.State.{State}
 use Rattle.mf_plan.specs.Ended.{Ended, end_by, end_for}
-use Rattle.mf_plan.proofs.planning.ask_on_file.Goals as goal
+use Rattle.mf_plan.proofs.asking.ask_on_file.Goals as goal
 
 -- `create` and `mkdir` end alike
 made : (s : State) (task : List ℕ) (me : Id) (path : List (List ℕ)) (c : Call) (end : Ended) → (c ≡ call.Create path) ⊎ (c ≡ call.Mkdir path)
