@@ -1,5 +1,5 @@
 //! What Biba, MLS and LOMAC share: the answer to a check, by the two directions of the policy.
-ghost use Rattle.std.specs.Prelude.{◌≡◌, ◌<◌, option_copied};
+ghost use Rattle.std.specs.Prelude.{◌≡◌, ◌<◌, Some, option_copied};
 ghost use Rattle.mf_policy.specs.Answer as spec;
 
 use crate::operations::{Test, row_of};
@@ -38,22 +38,43 @@ pub trait Lattice {
         ensures { result ≡ lattice.relabel_object subject.now label.now old.now asked.now };
 }
 
-/// What such a policy, which holds this slot, answers to an item.
+/// What such a policy, which holds this slot, answers to an item. No label is copied for it.
 pub fn lattice_answer<P: Lattice>(slot: u8, item: &Item) -> Errno
     requires { slot < SLOTS }
     ensures { result ≡ spec.lattice_answer P.lattice slot item.now }
 {
-    let subject = slot_label(&item.subject().label[slot as usize]);
-    let object = object_label(item.object(), slot);
-    let asked = part_of::<P>(item.request());
     let test = row_of(item.op()).test;
-    labels_answer::<P>(
-        test,
-        &subject,
-        &asked,
-        &subject.effective,
-        &object.effective,
-    )
+    match &item.subject().label[slot as usize] {
+        LabelValue::Range(label) => {
+            let object = object_element(item.object(), slot);
+            label_answer::<P>(test, label, item.request(), object)
+        }
+        LabelValue::Unset | LabelValue::Number(_) => Errno::Success,
+    }
+}
+
+/// The answer to a subject of this label with that request. Few checks have one.
+fn label_answer<P: Lattice>(
+    test: Test,
+    label: &RangeLabel,
+    request: Option<&Request>,
+    object: &Option<Elem>,
+) -> Errno
+    ensures { result ≡ spec.labels_answer P.lattice test label.now
+        (spec.part_of P.lattice (option_copied request.entry)) label.now.effective object.now }
+{
+    match request {
+        None => labels_answer::<P>(test, label, &nothing(), &label.effective, object),
+        Some(request) => {
+            labels_answer::<P>(
+                test,
+                label,
+                &part_of::<P>(request),
+                &label.effective,
+                object,
+            )
+        }
+    }
 }
 
 /// The answer to a subject of this label that asks for that one, by the elements of subject and object, each of which may be
@@ -110,24 +131,32 @@ pub fn slot_label(value: &LabelValue) -> RangeLabel
     }
 }
 
-/// The label in a slot of the object; an empty one where there is no object.
-fn object_label(object: Option<&ObjectView>, slot: u8) -> RangeLabel
-    requires { slot < SLOTS }
-    ensures { result ≡ spec.range_label (spec.object_slot (option_copied object.entry) slot) }
+/// The effective element of a slot's value, which may be unset.
+fn element_in(value: &LabelValue) -> &Option<Elem>
+    ensures { result.now ≡ (spec.range_label value.now).effective }
 {
-    match object {
-        Some(view) => slot_label(&view.label[slot as usize]),
-        None => nothing(),
+    match value {
+        LabelValue::Range(label) => &label.effective,
+        LabelValue::Unset | LabelValue::Number(_) => &None,
     }
 }
 
-fn part_of<P: Lattice>(request: Option<&Request>) -> RangeLabel
-    ensures { result ≡ spec.part_of P.lattice (option_copied request.entry) }
+/// That of the slot of the object; unset where there is no object.
+fn object_element(object: Option<&ObjectView>, slot: u8) -> &Option<Elem>
+    requires { slot < SLOTS }
+    ensures { result.now
+        ≡ (spec.range_label (spec.object_slot (option_copied object.entry) slot)).effective }
 {
-    match request {
-        None => nothing(),
-        Some(request) => P::part(request).unwrap_or(nothing()),
+    match object {
+        Some(view) => element_in(&view.label[slot as usize]),
+        None => &None,
     }
+}
+
+fn part_of<P: Lattice>(request: &Request) -> RangeLabel
+    ensures { result ≡ spec.part_of P.lattice (Some request.now) }
+{
+    P::part(request).unwrap_or(nothing())
 }
 
 /// Success where the test holds, else the error.
