@@ -3,12 +3,13 @@ use Rattle.std.proofs.Common.{◌≡◌, ℕ, zero, suc, ◌<◌, ◌≤◌, ◌
 use Rattle.std.specs.List.{list_all, AllByRecursion}
 use Rattle.std.specs.Str.Parse.{AllDigits}
 use Rattle.std.specs.Fmt.{decimal}
+use Rattle.std.specs.Str.{byte}
 use Rattle.std.proofs.lemmas.Bool.Decides.{nat_tests}
 use Rattle.std.proofs.lemmas.Bool.{or_left}
 use Rattle.std.proofs.lemmas.Fmt.{decimal_digit, decimal_step, decimal_injective, decimal_is_IsNumeral, length-decimal-le}
 use Rattle.std.proofs.lemmas.Str.Parse.{digit_from_value}
 use Rattle.std.proofs.lemmas.List.Elements.{All-from_recursion}
-use Rattle.mf_names.specs.Paths.{slash, is_slash, HasNoSlash}
+use Rattle.mf_names.specs.Paths.{is_slash, HasNoSlash}
 use Rattle.mf_calls.specs.Names.{is_name_byte, is_name, is_component_byte, is_component}
 use Rattle.mf_calls.specs.Generated.{task_name, directory_name, scratch_name}
 
@@ -70,7 +71,7 @@ scratch_component j few =
 
 no_slash : (ds : List ℕ) → AllDigits 10 ds → AllByRecursion (λ b. is_slash b ≡ false) ds
 no_slash [] each = tt
-no_slash (c ∷ ds) each = (ne_eqb c slash (λ e. omega (arith, e, digit_from_value c each.0)), no_slash ds each.1)
+no_slash (c ∷ ds) each = (ne_eqb c (byte "/") (λ e. omega (arith, e, digit_from_value c each.0)), no_slash ds each.1)
 
 plain_with_number : (letter n : ℕ) → is_slash letter ≡ false → n < 2 ^ 64 → HasNoSlash (letter ∷ decimal n)
 plain_with_number letter n plain small = All-from_recursion (λ b. is_slash b ≡ false) (letter ∷ decimal n) (plain, no_slash (decimal n) (decimal_is_IsNumeral n small).0.1)

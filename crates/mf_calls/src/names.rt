@@ -1,5 +1,6 @@
 //! Names and components of paths.
-ghost use Rattle.std.specs.Prelude.{◌≡◌};
+ghost use Rattle.std.specs.Prelude.{◌≡◌, ◌||◌, codes};
+ghost use Rattle.std.specs.Str.{bytes_eq};
 ghost use Rattle.std.specs.List.{list_all};
 ghost use Rattle.mf_calls.specs.Names.{is_name_byte, is_name, is_component_byte, is_component};
 
@@ -42,9 +43,12 @@ pub fn is_component(word: &str) -> bool
     ensures { result ≡ is_component word.now }
 {
     let bytes = word.as_bytes();
-    !bytes.is_empty()
-        && bytes.len() <= NAME_LIMIT
-        && are_component_bytes(bytes)
-        && word != "."
-        && word != ".."
+    !bytes.is_empty() && bytes.len() <= NAME_LIMIT && are_component_bytes(bytes) && !is_dots(bytes)
+}
+
+/// Whether these are the bytes of `.` or `..`.
+fn is_dots(bytes: &[u8]) -> bool
+    ensures { result ≡ (bytes_eq bytes.now (codes ".") || bytes_eq bytes.now (codes "..")) }
+{
+    matches!(bytes, [b'.'] | [b'.', b'.'])
 }
